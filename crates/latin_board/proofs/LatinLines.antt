@@ -1,0 +1,201 @@
+-- Latin squares by their lines, the rows and columns as one family.
+use Rattle.std.proofs.Common.{◌≡◌, ◌≢◌, ℕ, ◌+◌, ◌-◌, ◌*◌, ◌/◌, ◌%◌, ◌<◌, ◌≤◌, List, length, get_or, inl, inr, refl, sym, ◌∙◌, ap, arith}
+use Rattle.std.proofs.lemmas.Bool.{cases_lt, cases_order, lt-ltb, le-ltb}
+use Rattle.std.proofs.lemmas.List.FromFn.{length-map-range_with_len, get_or-map-range_with_len}
+use Rattle.std.proofs.lemmas.Map.Steps.{le-length_from_below}
+use Rattle.std.proofs.lemmas.Nat.{mul-add-lt, same_from_place, div-mul-add, mod-mul-add, div-add-mod', div_below, mod_below}
+use Rattle.latin_board.specs.Squares.{GridValue, IsGrid, IsFull, IsLatin, HasEachOnce, number_at, row_of, column_of}
+use Rattle.latin_board.specs.Lines.{line_cell, line_of, ArePeers, IsOnLine}
+use Rattle.latin_board.proofs.Counts.{twice_at_least, place_of_counted, among_at}
+
+-- ---- the squares of a line
+
+-- a grid that has a square has a width
+pub some_width : (w cell : ℕ) → cell < w * w → 0 < w
+some_width w cell inside =
+    elim (cases_lt 0 w) [
+      | inl some ↦ some
+      | inr none ↦
+          let nothing : w ≡ 0 = omega arith in
+          absurd (omega (arith, rw nothing at inside))
+    ]
+
+pub line_cell-row : (w row k : ℕ) → row < w → line_cell w row k ≡ row * w + k
+line_cell-row w row k low = rw (lt-ltb row w low) refl
+
+pub line_cell-column : (w column k : ℕ) → line_cell w (w + column) k ≡ k * w + column
+line_cell-column w column k =
+    let back : (w + column) - w ≡ column = omega arith in
+    rw (le-ltb (w + column) w (omega arith), back) refl
+
+pub line_cell_inside : (w line k : ℕ) → line < 2 * w → k < w → line_cell w line k < w * w
+line_cell_inside w line k below within =
+    elim (cases_lt line w) [
+      | inl row ↦ rw (lt-ltb line w row) (mul-add-lt line w k w row within)
+      | inr column ↦ rw (le-ltb line w column) (mul-add-lt k w (line - w) w within (omega arith))
+    ]
+
+pub line_of-row : (g : GridValue) (row : ℕ) → row < g.size → line_of g row ≡ row_of g row
+line_of-row g row low = rw (lt-ltb row g.size low) refl
+
+pub line_of-column : (g : GridValue) (column : ℕ) → line_of g (g.size + column) ≡ column_of g column
+line_of-column g column =
+    let back : (g.size + column) - g.size ≡ column = omega arith in
+    rw (le-ltb (g.size + column) g.size (omega arith), back) refl
+
+pub length-line_of : (g : GridValue) (line : ℕ) → length (line_of g line) ≡ g.size
+length-line_of g line = length-map-range_with_len (λ k. number_at g (line_cell g.size line k)) 0 g.size
+
+pub get_or-line_of : (g : GridValue) (line k : ℕ) → k < g.size → get_or (line_of g line) k 0 ≡ number_at g (line_cell g.size line k)
+get_or-line_of g line k within =
+    get_or-map-range_with_len (λ k. number_at g (line_cell g.size line k)) 0 g.size k k 0 within (omega arith)
+
+-- a square by its row, and by its column
+pub line_cell_of_row : (w cell : ℕ) → cell < w * w → line_cell w (cell / w) (cell % w) ≡ cell
+line_cell_of_row w cell inside =
+    line_cell-row w (cell / w) (cell % w) (div_below cell w w (some_width w cell inside) inside) ∙ div-add-mod' cell w
+
+pub line_cell_of_column : (w cell : ℕ) → line_cell w (w + cell % w) (cell / w) ≡ cell
+line_cell_of_column w cell = line_cell-column w (cell % w) (cell / w) ∙ div-add-mod' cell w
+
+-- ---- a Latin square by its lines
+
+pub latin_line : (g : GridValue) → IsLatin g → (line : ℕ) → line < 2 * g.size → HasEachOnce g.size (line_of g line)
+latin_line g latin line below =
+    elim (cases_lt line g.size) [
+      | inl row ↦ rw (line_of-row g line row) (latin.rows line row)
+      | inr column ↦
+          let split : line ≡ g.size + (line - g.size) = omega arith in
+          rw (split, line_of-column g (line - g.size)) (latin.columns (line - g.size) (omega arith))
+    ]
+
+pub latin_from_lines : (g : GridValue) → ((line : ℕ) → line < 2 * g.size → HasEachOnce g.size (line_of g line)) → IsLatin g
+latin_from_lines g lines = record {
+  rows = λ row below. rw (← line_of-row g row below) (lines row (omega arith));
+  columns = λ column below. rw (← line_of-column g column) (lines (g.size + column) (omega arith));
+}
+
+-- each number from 1 to the width stands somewhere in each line
+pub value_at : (g : GridValue) → IsLatin g → (line v : ℕ) → line < 2 * g.size → 1 ≤ v → v ≤ g.size → (k : ℕ) × (k < g.size) × (number_at g (line_cell g.size line k) ≡ v)
+value_at g latin line v below low high =
+    let found = place_of_counted v (line_of g line) (omega (arith, latin_line g latin line below v low high)) in
+    let within : found.0 < g.size = omega (arith, found.1, length-line_of g line) in
+    (found.0, within, sym (get_or-line_of g line found.0 within) ∙ found.2)
+
+-- ---- a Latin square is full
+
+no_blank : (w : ℕ) (line : List ℕ) → length line ≡ w → HasEachOnce w line → (k : ℕ) → k < w → get_or line k 0 ≡ 0 → ⊥
+no_blank w line len once k within blank =
+    let all : w + 1 ≤ length line = le-length_from_below line (w + 1) (λ v below. elim (cases_lt v 1) [
+      | inl low ↦ among_at v line k (omega arith) (omega arith)
+      | inr high ↦
+          let found = place_of_counted v line (omega (arith, once v high (omega arith))) in
+          among_at v line found.0 found.1 found.2
+    ]) in
+    omega arith
+
+pub line_full : (g : GridValue) → IsLatin g → (line k : ℕ) → line < 2 * g.size → k < g.size → 0 < number_at g (line_cell g.size line k)
+line_full g latin line k below within =
+    elim (cases_lt 0 (number_at g (line_cell g.size line k))) [
+      | inl filled ↦ filled
+      | inr blank ↦ absurd (no_blank g.size (line_of g line) (length-line_of g line) (latin_line g latin line below) k within
+          (get_or-line_of g line k within ∙ omega arith))
+    ]
+
+pub latin_full : (g : GridValue) → IsLatin g → IsFull g
+latin_full g latin = record {
+  each = λ cell inside.
+      let some = some_width g.size cell inside in
+      let row = div_below cell g.size g.size some inside in
+      let full = line_full g latin (cell / g.size) (cell % g.size) (omega arith) (mod_below cell g.size some) in
+      rw (line_cell_of_row g.size cell inside) at full;
+}
+
+-- ---- two squares of a line differ
+
+pub line_differs : (g : GridValue) → IsGrid g → IsLatin g → (line i j : ℕ) → line < 2 * g.size → i < g.size → j < g.size → i ≢ j → number_at g (line_cell g.size line i) ≢ number_at g (line_cell g.size line j)
+line_differs g valid latin line i j below first second apart = λ same.
+    let v = number_at g (line_cell g.size line i) in
+    let low : 1 ≤ v = line_full g latin line i below first in
+    let high : v ≤ g.size = valid.within (line_cell g.size line i) 0 (omega (arith, valid.count, line_cell_inside g.size line i below first)) in
+    let once = latin_line g latin line below v low high in
+    let at_i = get_or-line_of g line i first in
+    let at_j : get_or (line_of g line) j 0 ≡ v = get_or-line_of g line j second ∙ sym same in
+    let len = length-line_of g line in
+    elim (cases_order i j) [
+      | inl equal ↦ absurd (apart equal)
+      | inr order ↦ elim order [
+        | inl before ↦ omega (arith, twice_at_least v (line_of g line) i j before (omega arith) at_i at_j)
+        | inr after ↦ omega (arith, twice_at_least v (line_of g line) j i after (omega arith) at_j at_i)
+      ]
+    ]
+
+-- ---- squares that share a line
+
+peers_on_row : (w a b : ℕ) → 0 < w → ArePeers w a b → a / w ≡ b / w → IsOnLine w a b (a / w) (a % w) (b % w)
+peers_on_row w a b some peers rows =
+    let row = div_below a w w some peers.first in
+    let at_a = div-add-mod' a w in
+    let at_b : a / w * w + b % w ≡ b = rw rows (div-add-mod' b w) in
+    record {
+      line_is = omega arith;
+      first = mod_below a w some;
+      second = mod_below b w some;
+      apart = λ same. peers.apart (sym at_a ∙ ap (λ k. a / w * w + k) same ∙ at_b);
+      first_cell = line_cell-row w (a / w) (a % w) row ∙ at_a;
+      second_cell = line_cell-row w (a / w) (b % w) row ∙ at_b;
+    }
+
+peers_on_column : (w a b : ℕ) → 0 < w → ArePeers w a b → a % w ≡ b % w → IsOnLine w a b (w + a % w) (a / w) (b / w)
+peers_on_column w a b some peers columns =
+    let column = mod_below a w some in
+    let at_a = div-add-mod' a w in
+    let at_b : b / w * w + a % w ≡ b = rw columns (div-add-mod' b w) in
+    record {
+      line_is = omega arith;
+      first = div_below a w w some peers.first;
+      second = div_below b w w some peers.second;
+      apart = λ same. peers.apart (sym at_a ∙ ap (λ k. k * w + a % w) same ∙ at_b);
+      first_cell = line_cell-column w (a % w) (a / w) ∙ at_a;
+      second_cell = line_cell-column w (a % w) (b / w) ∙ at_b;
+    }
+
+-- two peers stand on a common line
+pub peers_on_line : (w a b : ℕ) → ArePeers w a b → (line : ℕ) × (i : ℕ) × (j : ℕ) × IsOnLine w a b line i j
+peers_on_line w a b peers =
+    let some = some_width w a peers.first in
+    elim peers.shared [
+      | inl rows ↦ (a / w, a % w, b % w, peers_on_row w a b some peers rows)
+      | inr columns ↦ (w + a % w, a / w, b / w, peers_on_column w a b some peers columns)
+    ]
+
+row_peers : (w row i j : ℕ) → row < w → i < w → j < w → i ≢ j → ArePeers w (row * w + i) (row * w + j)
+row_peers w row i j low first second apart = record {
+  first = mul-add-lt row w i w low first;
+  second = mul-add-lt row w j w low second;
+  apart = λ same. apart (same_from_place row i row j w first second same).1;
+  shared = inl (div-mul-add row w i first ∙ sym (div-mul-add row w j second));
+}
+
+column_peers : (w column i j : ℕ) → column < w → i < w → j < w → i ≢ j → ArePeers w (i * w + column) (j * w + column)
+column_peers w column i j low first second apart = record {
+  first = mul-add-lt i w column w first low;
+  second = mul-add-lt j w column w second low;
+  apart = λ same. apart (same_from_place i column j column w low low same).0;
+  shared = inr (mod-mul-add i w column low ∙ sym (mod-mul-add j w column low));
+}
+
+-- two places of a line are peers
+pub line_peers : (w line i j : ℕ) → line < 2 * w → i < w → j < w → i ≢ j → ArePeers w (line_cell w line i) (line_cell w line j)
+line_peers w line i j below first second apart =
+    elim (cases_lt line w) [
+      | inl row ↦ rw (lt-ltb line w row) (row_peers w line i j row first second apart)
+      | inr column ↦ rw (le-ltb line w column) (column_peers w (line - w) i j (omega arith) first second apart)
+    ]
+
+pub peers_differ : (g : GridValue) → IsGrid g → IsLatin g → (a b : ℕ) → ArePeers g.size a b → number_at g a ≢ number_at g b
+peers_differ g valid latin a b peers = λ same.
+    let found = peers_on_line g.size a b peers in
+    let on = found.3 in
+    line_differs g valid latin found.0 found.1 found.2 on.line_is on.first on.second on.apart
+    (ap (number_at g) on.first_cell ∙ same ∙ sym (ap (number_at g) on.second_cell))

@@ -1,0 +1,9 @@
+pub mod Squares
+pub mod Lines
+pub mod Marks
+pub mod Boards
+pub mod Changes
+pub mod Edges
+pub mod Sameness
+pub mod Fields
+pub mod Contents
