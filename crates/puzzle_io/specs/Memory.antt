@@ -1,0 +1,18 @@
+-- What a contract sees of the devices over memory.
+use Rattle.std.specs.Prelude.{ℕ, Bool, List}
+
+-- a source: the bytes to come, how many a read gives at most, and whether it has failed;
+-- the call number `fails_in` from here on fails, counted from 1, or none does where that is 0
+pub record SourceState : Type 0 where
+  pub to_come : List ℕ
+  pub piece : ℕ
+  pub fails_in : ℕ
+  pub failed : Bool
+
+-- a sink: the bytes taken, how many more there is room for, how many a write takes at most, and as for a source
+pub record SinkState : Type 0 where
+  pub taken : List ℕ
+  pub room : ℕ
+  pub piece : ℕ
+  pub fails_in : ℕ
+  pub failed : Bool

@@ -1,0 +1,83 @@
+ghost use Rattle.std.specs.Prelude.{◌≡◌, ◌≤◌, true, false, None, length, IfOk, IsErr, is_err};
+ghost use Rattle.std.specs.Io.KnownBytes.{Keeps, WriteAppends};
+ghost use Rattle.puzzle_io.specs.Device.{write_failed};
+ghost use Rattle.puzzle_io.specs.Stream.{StreamState};
+
+use crate::device::{DeviceFault, Sink};
+use std::io::Write;
+use std::marker::Model;
+
+/// The sink that hands what it takes to a writer of `std`, and tells nothing of its bytes.
+///
+/// Every error of the writer is `DeviceFault`, `Interrupted` too.
+#[derive(Drop)]
+pub struct ToWrite<W> {
+    writer: W,
+    failed: bool,
+}
+
+impl<W> Model for ToWrite<W> {
+    ghost Value = { StreamState W };
+
+    ghost view = { λ s. record { stream = s.writer; failed = s.failed } };
+}
+
+impl<W: Write> ToWrite<W> {
+    /// A sink over the writer that hasn't failed.
+    pub fn new(writer: W) -> ToWrite<W>
+        ensures { result ≡ record { stream = writer; failed = false } }
+    {
+        ToWrite {
+            writer,
+            failed: false,
+        }
+    }
+}
+
+impl<W: Write> Sink for ToWrite<W> {
+    ghost taken = { λ _. None };
+
+    ghost has_failed = { λ s. s.failed };
+
+    fn write(&mut self, bytes: &[u8]) -> Result<usize, DeviceFault>
+        ensures bound { IfOk result (λ n. n ≤ length bytes.now) }
+        ensures failed { self.new.failed ≡ write_failed result (length bytes.now) }
+        ensures stays_failed { self.old.failed ≡ true → IsErr result }
+
+        // What the writer itself tells of its bytes.
+        ensures writer { WriteAppends (W.contents self.old.stream) (W.contents self.new.stream) result bytes.now }
+    {
+        if self.failed {
+            return Err(DeviceFault::DeviceFault);
+        }
+        match self.writer.write(bytes) {
+            Ok(count) => {
+                self.failed = count == 0 && !bytes.is_empty();
+                Ok(count)
+            }
+            Err(_) => {
+                self.failed = true;
+                Err(DeviceFault::DeviceFault)
+            }
+        }
+    }
+
+    fn flush(&mut self) -> Result<(), DeviceFault>
+        ensures failed { self.new.failed ≡ is_err result }
+        ensures stays_failed { self.old.failed ≡ true → IsErr result }
+
+        // What the writer itself tells of its bytes.
+        ensures writer { Keeps (W.contents self.old.stream) (W.contents self.new.stream) }
+    {
+        if self.failed {
+            return Err(DeviceFault::DeviceFault);
+        }
+        match self.writer.flush() {
+            Ok(()) => Ok(()),
+            Err(_) => {
+                self.failed = true;
+                Err(DeviceFault::DeviceFault)
+            }
+        }
+    }
+}
