@@ -1,0 +1,63 @@
+-- The place at which a text is cut is what `position` answers.
+use Rattle.std.proofs.Common.{◌≡◌, ℕ, suc, ◌+◌, ◌-◌, ◌<◌, ◌≤◌, true, false, List, [], ◌∷◌, length, take, drop, Some, None, ◌==◌, cond, refl, sym, ap, ◌∙◌, arith, take_all}
+use Rattle.std.specs.List.{position, position_or_len}
+use Rattle.std.proofs.lemmas.Bool.Decides.{nat_tests}
+use Rattle.std.proofs.lemmas.Grind.{common_steps}
+use Rattle.byte_text.specs.Cuts.{before, behind}
+
+-- the place of the first separator, or the length
+abbrev place : ℕ → List ℕ → ℕ
+place c bs = position_or_len (λ b. b == c) bs
+
+place-cons_other : (c b : ℕ) (bs : List ℕ) → (b == c) ≡ false → place c (b ∷ bs) ≡ suc (place c bs)
+place-cons_other c b bs other = rw other (grind arith)
+
+take-place : (c : ℕ) (bs : List ℕ) → take (place c bs) bs ≡ before c bs
+take-place c [] = refl
+take-place c (b ∷ bs) =
+    elim (b == c) as (λ t. (b == c) ≡ t → take (place c (b ∷ bs)) (b ∷ bs) ≡ cond t [] (b ∷ before c bs)) [
+      | true ↦ λ same. rw same refl
+      | false ↦ λ other. rw (place-cons_other c b bs other) (ap (λ xs. b ∷ xs) (take-place c bs))
+    ] refl
+
+drop-place : (c : ℕ) (bs : List ℕ) → place c bs < length bs → Some (drop (suc (place c bs)) bs) ≡ behind c bs
+drop-place c [] = λ less. absurd (omega arith)
+drop-place c (b ∷ bs) =
+    elim (b == c) as (λ t. (b == c) ≡ t → place c (b ∷ bs) < suc (length bs) → Some (drop (suc (place c (b ∷ bs))) (b ∷ bs)) ≡ cond t (Some bs) (behind c bs)) [
+      | true ↦ λ same less. rw same refl
+      | false ↦ λ other less.
+          let rest : place c bs < length bs = omega (arith, place-cons_other c b bs other) in
+          rw (place-cons_other c b bs other) (drop-place c bs rest)
+    ] refl
+
+no-place : (c : ℕ) (bs : List ℕ) → length bs ≤ place c bs → None ≡ behind c bs
+no-place c [] = λ more. refl
+no-place c (b ∷ bs) =
+    elim (b == c) as (λ t. (b == c) ≡ t → suc (length bs) ≤ place c (b ∷ bs) → None ≡ cond t (Some bs) (behind c bs)) [
+      | true ↦ λ same more. let none : place c (b ∷ bs) ≡ 0 = rw same refl in absurd (omega arith)
+      | false ↦ λ other more. no-place c bs (omega (arith, place-cons_other c b bs other))
+    ] refl
+
+-- what `position` answers
+place_found : (c : ℕ) (bs : List ℕ) (i : ℕ) → Some i ≡ position (λ b. b == c) bs → (place c bs ≡ i) × (place c bs < length bs)
+place_found c bs i found = grind (arith, nat_tests)
+
+place_missing : (c : ℕ) (bs : List ℕ) → None ≡ position (λ b. b == c) bs → length bs ≤ place c bs
+place_missing c bs missing = grind (arith, nat_tests)
+
+pub before_place : (c : ℕ) (bs : List ℕ) (i : ℕ) → Some i ≡ position (λ b. b == c) bs → take i bs ≡ before c bs
+before_place c bs i found = ap (λ n. take n bs) (sym (place_found c bs i found).0) ∙ take-place c bs
+
+pub behind_place : (c : ℕ) (bs : List ℕ) (i : ℕ) → Some i ≡ position (λ b. b == c) bs → Some (take (length bs - (i + 1)) (drop (i + 1) bs)) ≡ behind c bs
+behind_place c bs i found =
+    let p = place_found c bs i found in
+    let whole : take (length bs - (i + 1)) (drop (i + 1) bs) ≡ drop (suc (place c bs)) bs = grind (arith, common_steps) in
+    ap Some whole ∙ drop-place c bs p.1
+
+pub before_none : (c : ℕ) (bs : List ℕ) → None ≡ position (λ b. b == c) bs → bs ≡ before c bs
+before_none c bs missing =
+    let all : take (place c bs) bs ≡ bs = take_all (place c bs) bs (place_missing c bs missing) in
+    sym all ∙ take-place c bs
+
+pub behind_none : (c : ℕ) (bs : List ℕ) → None ≡ position (λ b. b == c) bs → None ≡ behind c bs
+behind_none c bs missing = no-place c bs (place_missing c bs missing)

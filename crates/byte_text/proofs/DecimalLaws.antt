@@ -1,0 +1,138 @@
+-- Decimal numbers without leading zeros: what is read is std's `decimal` of the number, and `decimal` is read.
+use Rattle.std.proofs.Common.{◌≡◌, ◌≢◌, ℕ, ◌+◌, ◌-◌, ◌*◌, ◌^◌, ◌<◌, ◌≤◌, Bool, true, false, ◌&&◌, nat_le, List, [], ◌∷◌, length, get_or, Option, Some, None, option_and_then, ◌==◌, cond, refl, sym, ap, ◌∙◌, arith, rules, IfSome}
+use Rattle.std.specs.Fmt.{decimal}
+use Rattle.std.proofs.lemmas.Str.Parse.{IsNumeralModel, numerals_by_fold}
+use Rattle.std.proofs.lemmas.Fmt.{decimal-digits_value, digits_decimal, digits_value-decimal, decimal_nonempty, first_decimal, decimal_digit}
+use borrow.Author.Tests.{eqb-true, eqb-false, leb-true, le-leb, apart_eqb}
+use Rattle.byte_text.specs.Cuts.{Lacks}
+use Rattle.byte_text.specs.Decimals.{is_digit, begins_digit, digit_onto, number_from, has_leading_zero, number_at}
+
+-- all bytes are digits, and the number that they stand for behind n
+abbrev all_digits : List ℕ → Bool
+all_digits [] = true
+all_digits (b ∷ bs) = is_digit b && all_digits bs
+
+abbrev value_behind : ℕ → List ℕ → ℕ
+value_behind n [] = n
+value_behind n (b ∷ bs) = value_behind (n * 10 + (b - 48)) bs
+
+own : IsNumeralModel (λ ds. all_digits ds ≡ true) (value_behind 0)
+own = numerals_by_fold _ (search rules) value_behind (search rules)
+
+-- one more digit
+digit_onto_taken : (greatest n b m : ℕ) → digit_onto greatest n b ≡ Some m → (is_digit b ≡ true) × (m ≡ n * 10 + (b - 48)) × (m ≤ greatest)
+digit_onto_taken greatest n b m =
+    elim (is_digit b) as (λ t. cond (t && nat_le (n * 10 + (b - 48)) greatest) (Some (n * 10 + (b - 48))) None ≡ Some m → (t ≡ true) × (m ≡ n * 10 + (b - 48)) × (m ≤ greatest)) [
+      | true ↦ elim (nat_le (n * 10 + (b - 48)) greatest) as (λ t. nat_le (n * 10 + (b - 48)) greatest ≡ t → cond t (Some (n * 10 + (b - 48))) None ≡ Some m → (true ≡ true) × (m ≡ n * 10 + (b - 48)) × (m ≤ greatest)) [
+        | true ↦ λ within read. let e : m ≡ n * 10 + (b - 48) = cc in (refl, e, rw e (leb-true _ _ within))
+        | false ↦ λ above read. cc
+      ] refl
+      | false ↦ λ read. cc
+    ]
+
+digit_onto_again : (greatest n b : ℕ) → is_digit b ≡ true → n * 10 + (b - 48) ≤ greatest → digit_onto greatest n b ≡ Some (n * 10 + (b - 48))
+digit_onto_again greatest n b digit within = rw (digit, le-leb _ _ within) refl
+
+-- what was read are digits that stand for the number
+from_taken : (greatest n m : ℕ) (bs : List ℕ) → n ≤ greatest → number_from greatest n bs ≡ Some m → (all_digits bs ≡ true) × (value_behind n bs ≡ m) × (m ≤ greatest)
+from_taken greatest n m [] = λ within read. let e : n ≡ m = cc in (refl, e, omega arith)
+from_taken greatest n m (b ∷ bs) =
+    elim (digit_onto greatest n b) as (λ o. digit_onto greatest n b ≡ o → n ≤ greatest → option_and_then (λ k. number_from greatest k bs) o ≡ Some m → (all_digits (b ∷ bs) ≡ true) × (value_behind n (b ∷ bs) ≡ m) × (m ≤ greatest)) [
+      | None ↦ λ is within read. cc
+      | Some k ↦ λ is within read.
+          let one = digit_onto_taken greatest n b k is in
+          let more = from_taken greatest k m bs one.2 read in
+          let digits : (is_digit b && all_digits bs) ≡ true = rw (one.0, more.0) refl in
+          let value : value_behind (n * 10 + (b - 48)) bs ≡ m = ap (λ x. value_behind x bs) (sym one.1) ∙ more.1 in
+          (digits, value, more.2)
+    ] refl
+
+value_behind_ge : (n : ℕ) (bs : List ℕ) → n ≤ value_behind n bs
+value_behind_ge n [] = omega arith
+value_behind_ge n (b ∷ bs) = omega (arith, value_behind_ge (n * 10 + (b - 48)) bs)
+
+all_digits_first : (b : ℕ) (bs : List ℕ) → all_digits (b ∷ bs) ≡ true → (is_digit b ≡ true) × (all_digits bs ≡ true)
+all_digits_first b bs =
+    elim (is_digit b) as (λ t. (t && all_digits bs) ≡ true → (t ≡ true) × (all_digits bs ≡ true)) [
+      | true ↦ λ digits. (refl, digits)
+      | false ↦ λ digits. cc
+    ]
+
+all_begin : (bs : List ℕ) → 0 < length bs → all_digits bs ≡ true → begins_digit bs ≡ true
+all_begin [] some digits = absurd (omega arith)
+all_begin (b ∷ bs) some digits = (all_digits_first b bs digits).0
+
+all_lack : (c : ℕ) (bs : List ℕ) → is_digit c ≡ false → all_digits bs ≡ true → Lacks c bs
+all_lack c [] other digits = tt
+all_lack c (b ∷ bs) other digits =
+    let parts = all_digits_first b bs digits in
+    (λ same. let digit : is_digit c ≡ true = ap is_digit (sym same) ∙ parts.0 in cc, all_lack c bs other parts.1)
+
+-- digits are read, up to the greatest number
+from_again : (greatest n : ℕ) (bs : List ℕ) → all_digits bs ≡ true → value_behind n bs ≤ greatest → number_from greatest n bs ≡ Some (value_behind n bs)
+from_again greatest n [] digits within = refl
+from_again greatest n (b ∷ bs) digits within =
+    let parts = all_digits_first b bs digits in
+    let fits : n * 10 + (b - 48) ≤ greatest = omega (arith, value_behind_ge (n * 10 + (b - 48)) bs, within) in
+    rw (digit_onto_again greatest n b parts.0 fits) (from_again greatest (n * 10 + (b - 48)) bs parts.1 within)
+
+-- a zero in front stands alone
+single_zero : (bs : List ℕ) → has_leading_zero bs ≡ false → get_or bs 0 0 ≡ 48 → length bs ≡ 1
+single_zero [] none first = absurd (omega arith)
+single_zero (b ∷ []) none first = refl
+single_zero (b ∷ c ∷ bs) none first = absurd (eqb-false b 48 none first)
+
+no_leading_zero : (bs : List ℕ) → get_or bs 0 0 ≢ 48 → has_leading_zero bs ≡ false
+no_leading_zero [] other = refl
+no_leading_zero (b ∷ []) other = refl
+no_leading_zero (b ∷ c ∷ bs) other = apart_eqb b 48 other
+
+decimal_no_leading_zero : (m : ℕ) → m < 2 ^ 64 → has_leading_zero (decimal m) ≡ false
+decimal_no_leading_zero m fits =
+    elim (m == 0) as (λ t. (m == 0) ≡ t → has_leading_zero (decimal m) ≡ false) [
+      | true ↦ λ zero. rw (eqb-true m 0 zero, decimal_digit 0 (omega arith)) refl
+      | false ↦ λ other.
+          let positive : 0 < m = let apart = eqb-false m 0 other in omega arith in
+          let first = first_decimal m positive fits in
+          no_leading_zero (decimal m) (λ e. absurd (omega arith))
+    ] refl
+
+-- what is read is written so
+pub number_taken : (greatest m : ℕ) (bs : List ℕ) → greatest < 2 ^ 64 → number_at greatest bs ≡ Some m → (bs ≡ decimal m) × (m ≤ greatest)
+unfolding number_at
+number_taken greatest m [] = λ fits read. cc
+number_taken greatest m (b ∷ bs) =
+    elim (has_leading_zero (b ∷ bs)) as (λ t. has_leading_zero (b ∷ bs) ≡ t → greatest < 2 ^ 64 → cond t None (number_from greatest 0 (b ∷ bs)) ≡ Some m → (b ∷ bs ≡ decimal m) × (m ≤ greatest)) [
+      | true ↦ λ zero fits read. cc
+      | false ↦ λ none fits read.
+          let taken = from_taken greatest 0 m (b ∷ bs) (omega arith) read in
+          let value : value_behind 0 (b ∷ bs) ≡ m = taken.1 in
+          let below : value_behind 0 (b ∷ bs) < 2 ^ 64 = rw value (omega (arith, taken.2)) in
+          let written = decimal-digits_value own (b ∷ bs) taken.0 (omega arith) (single_zero (b ∷ bs) none) below in
+          (sym written ∙ ap decimal value, taken.2)
+    ] refl
+
+number_of_digits : (greatest : ℕ) (bs : List ℕ) → 0 < length bs → has_leading_zero bs ≡ false → number_at greatest bs ≡ number_from greatest 0 bs
+unfolding number_at
+number_of_digits greatest [] some none = absurd (omega arith)
+number_of_digits greatest (b ∷ bs) some none = rw none refl
+
+-- what is written so is read
+pub number_again : (greatest m : ℕ) → m ≤ greatest → greatest < 2 ^ 64 → number_at greatest (decimal m) ≡ Some m
+number_again greatest m within fits =
+    let below : m < 2 ^ 64 = omega arith in
+    let value = digits_value-decimal own m below in
+    let read = from_again greatest 0 (decimal m) (digits_decimal own m below) (rw value within) in
+    number_of_digits greatest (decimal m) (decimal_nonempty m below) (decimal_no_leading_zero m below) ∙ read ∙ ap Some value
+
+-- a decimal begins with a digit, and has no other bytes
+pub begins_digit_decimal : (m : ℕ) → m < 2 ^ 64 → begins_digit (decimal m) ≡ true
+begins_digit_decimal m fits = all_begin (decimal m) (decimal_nonempty m fits) (digits_decimal own m fits)
+
+pub lacks_decimal : (c m : ℕ) → m < 2 ^ 64 → is_digit c ≡ false → Lacks c (decimal m)
+lacks_decimal c m fits other = all_lack c (decimal m) other (digits_decimal own m fits)
+
+-- the same of an answer
+pub number_found : (greatest : ℕ) (bs : List ℕ) (answer : Option ℕ) → greatest < 2 ^ 64 → answer ≡ number_at greatest bs → IfSome answer (λ m. (bs ≡ decimal m) × (m ≤ greatest))
+number_found greatest bs None fits is = tt
+number_found greatest bs (Some m) fits is = number_taken greatest m bs fits (sym is)

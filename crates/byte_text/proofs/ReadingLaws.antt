@@ -1,0 +1,11 @@
+-- Steps that may fail, one after the other.
+use Rattle.std.proofs.Common.{◌≡◌, Result, Ok, Err, ap, refl}
+use Rattle.byte_text.specs.Reading.{◌>>=◌}
+
+-- where the whole succeeds, so did the first step, and the rest on its value
+pub bind_taken : {A B E : Type 0} (step : Result A E) (rest : A → Result B E) (whole : B) → step >>= rest ≡ Ok whole → (value : A) × (step ≡ Ok value) × (rest value ≡ Ok whole)
+bind_taken (Ok a) rest whole is = (a, refl, is)
+bind_taken (Err e) rest whole is = cc
+
+pub bind_again : {A B E : Type 0} (step : Result A E) (rest : A → Result B E) (value : A) → step ≡ Ok value → step >>= rest ≡ rest value
+bind_again step rest value is = ap (λ r. r >>= rest) is

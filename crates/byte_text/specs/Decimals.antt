@@ -1,0 +1,30 @@
+-- Digits, and numbers that are written in decimal without leading zeros.
+use Rattle.std.specs.Prelude.{ℕ, ◌+◌, ◌-◌, ◌*◌, Bool, false, List, [], ◌∷◌, Option, Some, None, option_and_then, if◌then◌else◌, ◌==◌, ◌&&◌, nat_le}
+
+-- the byte is one of `0` to `9`
+abbrev pub is_digit : ℕ → Bool
+is_digit b = nat_le 48 b && nat_le b 57
+
+abbrev pub begins_digit : List ℕ → Bool
+begins_digit [] = false
+begins_digit (b ∷ bs) = is_digit b
+
+-- n with one more digit behind it, up to the greatest number
+abbrev pub digit_onto : ℕ → ℕ → ℕ → Option ℕ
+digit_onto greatest n b =
+    if is_digit b && nat_le (n * 10 + (b - 48)) greatest then Some (n * 10 + (b - 48)) else None
+
+abbrev pub number_from : ℕ → ℕ → List ℕ → Option ℕ
+number_from greatest n [] = Some n
+number_from greatest n (b ∷ bs) = option_and_then (λ m. number_from greatest m bs) (digit_onto greatest n b)
+
+-- a number begins with a digit, and with 0 only where it is 0
+abbrev pub has_leading_zero : List ℕ → Bool
+has_leading_zero [] = false
+has_leading_zero (b ∷ []) = false
+has_leading_zero (b ∷ c ∷ bs) = b == 48
+
+-- the number from 0 to the greatest whose decimal is the text
+unfoldable pub number_at : ℕ → List ℕ → Option ℕ
+number_at greatest [] = None
+number_at greatest (b ∷ bs) = if has_leading_zero (b ∷ bs) then None else number_from greatest 0 (b ∷ bs)

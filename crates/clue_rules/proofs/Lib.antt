@@ -1,0 +1,9 @@
+pub mod GivensFilled
+pub mod TowersFull
+pub mod TowersKept
+pub mod TowersTables
+pub mod UnequalGivens
+pub mod UnequalSaid
+pub mod UnequalTable
+pub mod UnequalWritten
+pub mod ViewLines

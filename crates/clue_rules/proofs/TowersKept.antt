@@ -1,0 +1,20 @@
+-- What was read keeps what each Towers puzzle keeps.
+use Rattle.std.proofs.Common.{◌≡◌, ℕ, ◌*◌, ◌≤◌, List, take, Ok, sym, subst}
+use Rattle.std.proofs.lemmas.List.Elements.{All-from_recursion}
+use Rattle.latin_board.specs.Squares.{GridValue}
+use Rattle.clue_rules.specs.Filled.{IsFilledTo}
+use Rattle.clue_rules.specs.TowersFields.{KeepsTowers}
+use Rattle.clue_rules.specs.TowersReading.{clues_at}
+use Rattle.clue_rules.specs.CluePartLaws.{clues_taken}
+
+kept_at_size : (part clues : List ℕ) (givens : GridValue) → IsFilledTo 36 (4 * givens.size) clues → clues_at givens.size part ≡ Ok (take (4 * givens.size) clues) → KeepsTowers clues givens
+kept_at_size part clues givens filled read = record {
+  padded = filled;
+  within = All-from_recursion (λ clue. clue ≤ givens.size) (take (4 * givens.size) clues) (clues_taken givens.size part (take (4 * givens.size) clues) read).2;
+}
+
+pub towers_kept : (w : ℕ) (part clues : List ℕ) (givens : GridValue) → givens.size ≡ w → IsFilledTo 36 (4 * w) clues → clues_at w part ≡ Ok (take (4 * w) clues) → KeepsTowers clues givens
+towers_kept w part clues givens size filled read =
+    kept_at_size part clues givens
+    (subst (λ n. IsFilledTo 36 (4 * n) clues) (sym size) filled)
+    (subst (λ n. clues_at n part ≡ Ok (take (4 * n) clues)) (sym size) read)

@@ -1,0 +1,18 @@
+-- Both laws of game IDs, by what the game owes of its descriptions.
+use Rattle.std.proofs.Common.{◌∙◌}
+use Rattle.clue_rules.specs.ParamReading.{has_adjacent}
+use Rattle.clue_rules.specs.IdReading.{describes_at}
+use Rattle.clue_rules.specs.IdLaws.{id_found, id_again, game_reads}
+use Rattle.clue_rules.proofs.game_id.read_id.Goals as goal
+
+pub returns-clause-found : goal.returns-clause-found
+returns-clause-found g c =
+    let game = g.P.Game in
+    let rules = g.P.Rules in
+    id_found g.row.P.Denot game.letter_codes (has_adjacent game.title) game.desc_at (describes_at rules.puzzle rules.valid game.describes) c.args.text.now c.parse_id.result (game_reads g.row.P.Denot rules.puzzle rules.valid game.describes game.desc_at g.met.P.Game.desc_taken g.met.P.Game.desc_again) c.parse_id.ensures
+
+pub returns-clause-only : goal.returns-clause-only
+returns-clause-only g c = λ id text.
+    let game = g.P.Game in
+    let rules = g.P.Rules in
+    c.parse_id.ensures ∙ id_again g.row.P.Denot game.letter_codes (has_adjacent game.title) game.desc_at (describes_at rules.puzzle rules.valid game.describes) c.args.text.now id g.met.P.Game.plain_letters (game_reads g.row.P.Denot rules.puzzle rules.valid game.describes game.desc_at g.met.P.Game.desc_taken g.met.P.Game.desc_again) text

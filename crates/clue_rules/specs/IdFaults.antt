@@ -1,0 +1,36 @@
+-- The number and the name of each fault of an ID.
+use Rattle.std.specs.Prelude.{ℕ, List, codes}
+use Rattle.clue_rules.specs.declared.id_fault.IdFault.{IdFault}
+use Rattle.clue_rules.specs.declared.id_fault.IdFault.TheVariants.{BadSize, BadLetter, AdjacentMode, BadParams, ForeignSeed, NoDescription, BadSeed, BadClue, BadSquares, TooFew, TooMany, OffGrid, Contradiction, OutOfMemory}
+
+abbrev pub fault_number : IdFault → ℕ
+fault_number BadSize = 1
+fault_number BadLetter = 2
+fault_number AdjacentMode = 3
+fault_number BadParams = 4
+fault_number ForeignSeed = 5
+fault_number NoDescription = 6
+fault_number BadSeed = 7
+fault_number BadClue = 8
+fault_number BadSquares = 9
+fault_number TooFew = 10
+fault_number TooMany = 11
+fault_number OffGrid = 12
+fault_number Contradiction = 13
+fault_number OutOfMemory = 14
+
+abbrev pub fault_name : IdFault → List ℕ
+fault_name BadSize = codes "BadSize"
+fault_name BadLetter = codes "BadLetter"
+fault_name AdjacentMode = codes "AdjacentMode"
+fault_name BadParams = codes "BadParams"
+fault_name ForeignSeed = codes "ForeignSeed"
+fault_name NoDescription = codes "NoDescription"
+fault_name BadSeed = codes "BadSeed"
+fault_name BadClue = codes "BadClue"
+fault_name BadSquares = codes "BadSquares"
+fault_name TooFew = codes "TooFew"
+fault_name TooMany = codes "TooMany"
+fault_name OffGrid = codes "OffGrid"
+fault_name Contradiction = codes "Contradiction"
+fault_name OutOfMemory = codes "OutOfMemory"

@@ -1,0 +1,77 @@
+-- Lists of which only some items are kept: lengths, entries, two cuts as one, and the loss of one item.
+use Rattle.std.proofs.Common.{◌≡◌, ℕ, zero, suc, ◌+◌, ◌<◌, ◌≤◌, Bool, true, false, cond, eqb, ltb, not, ◌&&◌, List, [], ◌∷◌, length, get_or, set, refl, ap, arith}
+use Rattle.std.specs.List.{AllByRecursion}
+use Rattle.std.proofs.lemmas.Bool.{ne_eqb, eq-eqb}
+use Rattle.clue_rules.specs.KeptItems.{kept}
+
+pub length-kept : {X : Type 0} (empty : X) (keep : ℕ → Bool) (i : ℕ) (xs : List X) → length (kept empty keep i xs) ≡ length xs
+length-kept empty keep i [] = refl
+length-kept empty keep i (x ∷ xs) = ap suc (length-kept empty keep (i + 1) xs)
+
+same_either : {X : Type 0} (b : Bool) (x : X) → x ≡ cond b x x
+same_either true x = refl
+same_either false x = refl
+
+pub get_or-kept : {X : Type 0} (empty : X) (keep : ℕ → Bool) (i : ℕ) (xs : List X) (k j : ℕ) → i + k ≡ j → get_or (kept empty keep i xs) k empty ≡ cond (keep j) (get_or xs k empty) empty
+get_or-kept empty keep i [] k j e = same_either (keep j) empty
+get_or-kept empty keep i (x ∷ xs) zero j e = let here : i ≡ j = omega arith in rw here refl
+get_or-kept empty keep i (x ∷ xs) (suc k) j e = get_or-kept empty keep (i + 1) xs k j (omega arith)
+
+pub kept-all : {X : Type 0} (empty : X) (i : ℕ) (xs : List X) → kept empty (λ j. true) i xs ≡ xs
+kept-all empty i [] = refl
+kept-all empty i (x ∷ xs) = ap (λ ys. x ∷ ys) (kept-all empty (i + 1) xs)
+
+cond-and : {X : Type 0} (s t : Bool) (x y : X) → cond t (cond s x y) y ≡ cond (s && t) x y
+cond-and true true x y = refl
+cond-and true false x y = refl
+cond-and false true x y = refl
+cond-and false false x y = refl
+
+pub kept-kept : {X : Type 0} (empty : X) (first second : ℕ → Bool) (i : ℕ) (xs : List X) → kept empty second i (kept empty first i xs) ≡ kept empty (λ j. first j && second j) i xs
+kept-kept empty first second i [] = refl
+kept-kept empty first second i (x ∷ xs) =
+    rw (cond-and (first i) (second i) x empty, kept-kept empty first second (i + 1) xs) refl
+
+pub kept-agrees : {X : Type 0} (empty : X) (a b : ℕ → Bool) (i : ℕ) (xs : List X) → ((j : ℕ) → i ≤ j → j < i + length xs → a j ≡ b j) → kept empty a i xs ≡ kept empty b i xs
+kept-agrees empty a b i [] h = refl
+kept-agrees empty a b i (x ∷ xs) h =
+    rw (h i (omega arith) (omega arith), kept-agrees empty a b (i + 1) xs (λ j low high. h j (omega arith) (omega arith))) refl
+
+pub kept-past : {X : Type 0} (empty : X) (i d : ℕ) (xs : List X) → d < i → kept empty (λ j. not (eqb j d)) i xs ≡ xs
+kept-past empty i d [] h = refl
+kept-past empty i d (x ∷ xs) h =
+    let other : eqb i d ≡ false = ne_eqb i d (λ same. omega arith) in
+    rw (other, kept-past empty (i + 1) d xs (omega arith)) refl
+
+-- to keep all but one entry is to empty that one
+pub kept-but_one : {X : Type 0} (empty : X) (i d k : ℕ) (xs : List X) → i + k ≡ d → kept empty (λ j. not (eqb j d)) i xs ≡ set xs k empty
+kept-but_one empty i d k [] e = refl
+kept-but_one empty i d zero (x ∷ xs) e =
+    let here : eqb i d ≡ true = eq-eqb i d (omega arith) in
+    rw (here, kept-past empty (i + 1) d xs (omega arith)) refl
+kept-but_one empty i d (suc k) (x ∷ xs) e =
+    let other : eqb i d ≡ false = ne_eqb i d (λ same. omega arith) in
+    rw (other, kept-but_one empty (i + 1) d k xs (omega arith)) refl
+
+pub kept-before : {X : Type 0} (empty : X) (i d : ℕ) (xs : List X) → i + length xs ≤ d → kept empty (λ j. not (eqb j d)) i xs ≡ xs
+kept-before empty i d [] h = refl
+kept-before empty i d (x ∷ xs) h =
+    let other : eqb i d ≡ false = ne_eqb i d (λ same. omega arith) in
+    rw (other, kept-before empty (i + 1) d xs (omega arith)) refl
+
+pub kept-within : (w : ℕ) (keep : ℕ → Bool) (i : ℕ) (xs : List ℕ) → AllByRecursion (λ n. n ≤ w) xs → AllByRecursion (λ n. n ≤ w) (kept zero keep i xs)
+kept-within w keep i [] h = tt
+kept-within w keep i (x ∷ xs) h = (either (keep i) h.0, kept-within w keep (i + 1) xs h.1)
+  where
+    either : (b : Bool) → x ≤ w → cond b x zero ≤ w
+    either true h = h
+    either false h = omega arith
+
+pub positive-cond : (b : Bool) (n : ℕ) → ltb 0 (cond b n zero) ≡ (ltb 0 n && b)
+positive-cond true n = elim (ltb 0 n) as (λ t. t ≡ (t && true)) [ true ↦ refl | false ↦ refl ]
+positive-cond false n = elim (ltb 0 n) as (λ t. false ≡ (t && false)) [ true ↦ refl | false ↦ refl ]
+
+-- what an item asks for, it asks for still if it is kept
+pub asked_still : (b : Bool) (n m : ℕ) → (0 < n → m ≡ n) → 0 < cond b n zero → m ≡ cond b n zero
+asked_still true n m h low = h low
+asked_still false n m h low = absurd (omega arith)

@@ -1,0 +1,53 @@
+-- The descriptions of a Towers puzzle, as a grammar, and the one that is written.
+use Rattle.std.specs.Prelude.{◌≡◌, ℕ, ◌+◌, ◌-◌, ◌*◌, ◌/◌, ◌%◌, ◌≤◌, ◌⊎◌, Bool, true, false, ◌==◌, ◌&&◌, not, if◌then◌else◌, List, [], ◌∷◌, ◌++◌, map, replicate}
+use Rattle.std.specs.List.{join_with_byte, list_any}
+use Rattle.byte_text.specs.Decimals.{begins_digit}
+use Rattle.clue_rules.specs.TowersPuzzles.{TowersValue, IsTowers}
+
+-- a clue is one digit, and no clue is nothing
+abbrev pub clue_field : ℕ → List ℕ
+clue_field clue = if clue == 0 then [] else ((48 + clue) ∷ [])
+
+-- the clues in description order, with `/` between them
+abbrev pub clue_part : List ℕ → List ℕ
+clue_part clues = join_with_byte 47 (map clue_field clues)
+
+-- A letter is a run of 1 to 26 blank squares, a digit that ends its run of digits is a given, `_` is nothing.
+abbrev pub IsSquareText : ℕ → List ℕ → List ℕ → Type 0
+IsSquareText w [] squares = squares ≡ []
+IsSquareText w (b ∷ bs) squares =
+    ((b ≡ 95) × IsSquareText w bs squares)
+    ⊎ ((97 ≤ b) × (b ≤ 122) × ((more : List ℕ) × (squares ≡ replicate (b - 96) 0 ++ more) × IsSquareText w bs more))
+    ⊎ ((49 ≤ b) × (b ≤ 48 + w) × (begins_digit bs ≡ false) × ((more : List ℕ) × (squares ≡ (b - 48) ∷ more) × IsSquareText w bs more))
+
+-- The text describes the puzzle, whose size is w: the clues, and behind a `,` the squares, if any is given.
+pub record IsTowersText (w : ℕ) (p : TowersValue) (text : List ℕ) : Type 0 where
+  pub puzzle : IsTowers p
+  pub size_is : p.size ≡ w
+  pub parts : ((text ≡ clue_part p.clues) × (p.givens ≡ replicate (w * w) 0))
+      ⊎ ((part : List ℕ) × (text ≡ clue_part p.clues ++ 44 ∷ part) × IsSquareText w part p.givens)
+
+-- n blank squares: `z` for each 26 while more than 26 are left, and a letter for the rest
+abbrev pub blank_letters : ℕ → List ℕ
+blank_letters n = if n == 0 then [] else (replicate ((n - 1) / 26) 122 ++ ((97 + (n - 1) % 26) ∷ []))
+
+-- a given behind n blank squares and before them another given, or none: `_` stands only between two givens
+abbrev pub given_written : ℕ → Bool → ℕ → List ℕ
+given_written n after_given square =
+    blank_letters n ++ ((if (n == 0) && after_given then (95 ∷ []) else []) ++ ((48 + square) ∷ []))
+
+-- the squares behind n blank ones, and whether a given stands before those
+abbrev pub squares_written : ℕ → Bool → List ℕ → List ℕ
+squares_written n after_given [] = blank_letters n
+squares_written n after_given (square ∷ squares) =
+    if square == 0 then squares_written (n + 1) after_given squares
+    else (given_written n after_given square ++ squares_written 0 true squares)
+
+-- the squares, where any is given
+abbrev pub square_part : List ℕ → List ℕ
+square_part givens =
+    if list_any (λ n. not (n == 0)) givens then (44 ∷ squares_written 0 false givens) else []
+
+-- the description that is written
+abbrev pub towers_text : TowersValue → List ℕ
+towers_text p = clue_part p.clues ++ square_part p.givens

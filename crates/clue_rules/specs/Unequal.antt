@@ -1,0 +1,114 @@
+-- Unequal puzzles: signs between neighbouring squares, and the grids that hold them.
+use Rattle.std.specs.Prelude.{◌≡◌, ℕ, ◌+◌, ◌-◌, ◌*◌, ◌/◌, ◌%◌, ◌<◌, ◌⊎◌, ◌==◌, ◌&&◌, ◌||◌, nat_lt, Bool, true, false, if◌then◌else◌, List, length, slice_index_or, Option, Some, None}
+use Rattle.std.specs.Option.{option_map_or}
+use Rattle.std.specs.List.{range_with_len, list_all}
+use Rattle.latin_board.specs.Squares.{GridValue, IsGrid, number_at}
+use Rattle.clue_rules.specs.declared.unequal.sign.Sign.{Sign}
+use Rattle.clue_rules.specs.declared.unequal.sign.Sign.TheVariants.{Absent, FirstGreater, SecondGreater}
+
+-- a width, a sign for each two neighbouring squares, and a number for each square, 0 where none is given
+pub record UnequalValue : Type 0 where
+  pub size : ℕ
+  pub signs : List Sign
+  pub givens : List ℕ
+
+abbrev pub givens_of : UnequalValue → GridValue
+givens_of v = record { size = v.size; numbers = v.givens }
+
+-- how many pairs of neighbours stand in the rows, and as many in the columns
+abbrev pub pairs_across : ℕ → ℕ
+pairs_across w = w * (w - 1)
+
+abbrev pub sign_count : ℕ → ℕ
+sign_count w = 2 * pairs_across w
+
+-- what each puzzle of the program keeps
+pub record IsUnequal (v : UnequalValue) : Type 0 where
+  pub givens : IsGrid (givens_of v)
+  pub signs : length v.signs ≡ sign_count v.size
+
+-- the sign stands in a row, between its squares in the columns c and c + 1
+pub record IsAcross (w sign first second : ℕ) : Type 0 where
+  pub row : ℕ
+  pub column : ℕ
+  pub row_inside : row < w
+  pub column_inside : column + 1 < w
+  pub sign_is : sign ≡ row * (w - 1) + column
+  pub first_is : first ≡ row * w + column
+  pub second_is : second ≡ row * w + (column + 1)
+
+-- the sign stands in a column, between its squares in the rows r and r + 1
+pub record IsDown (w sign first second : ℕ) : Type 0 where
+  pub row : ℕ
+  pub column : ℕ
+  pub row_inside : row + 1 < w
+  pub column_inside : column < w
+  pub sign_is : sign ≡ pairs_across w + (row * w + column)
+  pub first_is : first ≡ row * w + column
+  pub second_is : second ≡ (row + 1) * w + column
+
+-- the sign stands between two neighbours, of which the left or the upper one is the first
+abbrev pub IsBetween : ℕ → ℕ → ℕ → ℕ → Type 0
+IsBetween w sign first second = IsAcross w sign first second ⊎ IsDown w sign first second
+
+-- the squares a and b are neighbours, whichever is the first
+pub record AreNeighbours (w a b : ℕ) : Type 0 where
+  pub sign : ℕ
+  pub between : IsBetween w sign a b ⊎ IsBetween w sign b a
+
+abbrev pub sign_at : UnequalValue → ℕ → Sign
+sign_at v sign = slice_index_or v.signs sign Absent
+
+-- the squares a and b are neighbours, and the sign between them says that a holds the greater number
+pub record IsGreater (v : UnequalValue) (a b : ℕ) : Type 0 where
+  pub sign : ℕ
+  pub says : (IsBetween v.size sign a b × (sign_at v sign ≡ FirstGreater))
+      ⊎ (IsBetween v.size sign b a × (sign_at v sign ≡ SecondGreater))
+
+-- the squares on both sides of a sign
+abbrev pub first_of : ℕ → ℕ → ℕ
+first_of w sign =
+    if nat_lt sign (pairs_across w) then sign / (w - 1) * w + sign % (w - 1) else sign - pairs_across w
+
+abbrev pub second_of : ℕ → ℕ → ℕ
+second_of w sign = if nat_lt sign (pairs_across w) then first_of w sign + 1 else first_of w sign + w
+
+-- two numbers hold a sign between them
+abbrev pub holds_sign : Sign → ℕ → ℕ → Bool
+holds_sign Absent x y = true
+holds_sign FirstGreater x y = nat_lt y x
+holds_sign SecondGreater x y = nat_lt x y
+
+-- the numbers of a grid hold every sign
+abbrev pub holds_signs : UnequalValue → GridValue → Bool
+holds_signs v g =
+    list_all (λ i. holds_sign (sign_at v i) (number_at g (first_of v.size i)) (number_at g (second_of v.size i)))
+    (range_with_len 0 (sign_count v.size))
+
+-- the grid's number at a is greater than that at b wherever the puzzle says so
+pub record HoldsSigns (v : UnequalValue) (g : GridValue) : Type 0 where
+  pub each : (a b : ℕ) → IsGreater v a b → number_at g b < number_at g a
+
+-- the sign between two neighbours, first the left or the upper one
+abbrev pub sign_between : ℕ → ℕ → ℕ → Option ℕ
+sign_between w first second =
+    if (second == first + 1) && nat_lt 0 (second % w) then Some (first / w * (w - 1) + first % w)
+    else (if second == first + w then Some (pairs_across w + first) else None)
+
+abbrev pub says_first : Sign → Bool
+says_first FirstGreater = true
+says_first Absent = false
+says_first SecondGreater = false
+
+abbrev pub says_second : Sign → Bool
+says_second SecondGreater = true
+says_second Absent = false
+says_second FirstGreater = false
+
+-- the sign of the first square to the second, absent where they are no such neighbours
+abbrev pub sign_of_pair : UnequalValue → ℕ → ℕ → Sign
+sign_of_pair v first second = option_map_or (λ i. sign_at v i) (sign_between v.size first second) Absent
+
+-- `IsGreater` as a test that computes
+abbrev pub is_greater : UnequalValue → ℕ → ℕ → Bool
+is_greater v a b = says_first (sign_of_pair v a b) || says_second (sign_of_pair v b a)

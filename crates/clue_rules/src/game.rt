@@ -1,0 +1,73 @@
+//! What the mid-end and the programs know of a game.
+ghost use Rattle.std.specs.Prelude.{◌≡◌, ℕ, ◌*◌, ◌≤◌, Bool, false, List, Result, Ok, IsTrue, ◌↔◌, IfOk, IfErr};
+ghost use Rattle.std.specs.Option.{option_map_or};
+ghost use Rattle.latin_board.specs.Edges.{edge_place};
+ghost use Rattle.clue_rules.specs.declared.id_fault.IdFault.{IdFault};
+ghost use Rattle.clue_rules.specs.IdReading.{LacksSeparators};
+
+use crate::id_fault::IdFault;
+use latin_board::Size;
+use std::alloc::Global;
+use trail_solver::Rules;
+
+/// A game of the collection: the rules of its puzzles, and the texts by which they are named.
+///
+/// All in which two games differ goes through this trait and the one above it.
+pub trait Game: Rules {
+    ghost title: { List ℕ };
+
+    ghost letter_codes: { List ℕ };
+
+    // Whether a clue stands at the edge place with a number.
+    ghost clued: { Self → ℕ → Bool };
+
+    // The text describes the puzzle.
+    ghost describes: { List ℕ → Self → Type 0 };
+
+    // The puzzle of a width that a text describes, or the text's first fault.
+    ghost desc_at: { ℕ → List ℕ → Result Self IdFault };
+
+    // The description in its written form.
+    ghost desc_of: { Self → List ℕ };
+
+    /// The game's name in save files.
+    fn name() -> &'static str
+        ensures { result.now ≡ title };
+
+    /// The letters of the difficulties that may stand behind `d` in the game's parameters.
+    fn letters() -> &'static str
+        ensures { result.now ≡ letter_codes };
+
+    /// Whether both are the same puzzle.
+    fn same(&self, other: &Self) -> bool
+        ensures { IsTrue result ↔ (self.now ≡ other.now) };
+
+    /// Whether an edge clue stands at (x, y), where the squares have x and y from 0 to the width less 1.
+    fn clue_at(&self, x: i8, y: i8) -> bool
+        ensures { result ≡ option_map_or (clued self.now) (edge_place (Self.puzzle self.now).size x y) false };
+
+    /// Reads a description of a puzzle of this size.
+    ///
+    /// The refusals are those of `IdFault` from `BadClue` to `Contradiction`, the first that applies to the whole text.
+    fn read_desc(size: Size, text: &[u8]) -> Result<Self, IdFault>
+        ensures { result ≡ desc_at size text.now };
+
+    /// The description of the puzzle in its written form. `OutOfMemory` is the only refusal.
+    fn write_desc(&self, alloc: Global) -> Result<Vec<u8>, IdFault>
+        ensures written { IfOk result (λ text. text.items ≡ desc_of self.now) }
+        ensures refused { IfErr result (λ fault. fault ≡ IdFault.OutOfMemory) };
+
+    // No letter is one of the bytes that end the parameters of a game ID.
+    ghost plain_letters: { LacksSeparators letter_codes };
+
+    // A puzzle that is read is described by the text, and has the width.
+    ghost desc_taken: { (w : ℕ) (text : List ℕ) (p : Self) → 3 ≤ w → w ≤ 9 → desc_at w text ≡ Ok p →
+        describes text p × Self.valid p × ((Self.puzzle p).size ≡ w) };
+
+    // What describes a puzzle is read as that puzzle.
+    ghost desc_again: { (text : List ℕ) (p : Self) → Self.valid p → describes text p →
+        desc_at (Self.puzzle p).size text ≡ Ok p };
+
+    // The written form describes its puzzle.
+    ghost desc_canonical: { (p : Self) → Self.valid p → describes (desc_of p) p };
+}

@@ -1,0 +1,189 @@
+//! Game IDs: parameters with the description of a puzzle, or with a seed for one.
+
+ghost use Rattle.std.specs.Prelude.{◌≡◌, List, ℕ, Ok, Err, IfOk, Result};
+ghost use Rattle.byte_text.specs.Reading.{Gives};
+ghost use Rattle.clue_rules.specs.declared.game_id.GameId.{GameId};
+ghost use Rattle.clue_rules.specs.IdTexts.{IsIdText, IsAnyText};
+ghost use Rattle.clue_rules.specs.ParamReading.{has_adjacent};
+ghost use Rattle.clue_rules.specs.IdReading.{id_at, describes_at, is_separator, params_part, from_separator, id_parts_at, id_map, LacksSeparators};
+
+use crate::game::Game;
+use crate::id_fault::IdFault;
+use crate::params::{Params, has_adjacent_mode, read_params};
+use byte_text::number;
+
+/// A game ID: the parameters with a puzzle of their size, or with the seed of one.
+#[derive(Clone, Copy, Debug, PartialEq, Eq, Drop)]
+pub enum GameId<P> {
+    /// The parameters and the puzzle that the ID describes.
+    Described(Params, P),
+    /// The parameters and the seed of a puzzle.
+    Seeded(Params, u64),
+}
+
+/// The ID that the text says, of the game `P`.
+///
+/// The refusals are, the first that applies: those of `Params::read` on what stands before the first `:`, `#` or `!`;
+/// `ForeignSeed` behind `#`; `NoDescription` where none of these stands; `BadSeed`; those of `Game::read_desc`.
+pub fn read_id<P: Game>(text: &[u8]) -> Result<GameId<P>, IdFault>
+    ensures value { result ≡ id_at P.letter_codes (has_adjacent P.title) P.desc_at text.now }
+    ensures found { IfOk result (λ id. IsIdText P.letter_codes (describes_at P.puzzle P.valid P.describes) id text.now) }
+    ensures only { (id : GameId P) → IsIdText P.letter_codes (describes_at P.puzzle P.valid P.describes) id text.now
+        → result ≡ Ok id }
+{
+    parse_id(text)
+}
+
+#[tactic(auto, unfolding(crate::specs::IdReading::id_at))]
+fn parse_id<P: Game>(text: &[u8]) -> Result<GameId<P>, IdFault>
+    ensures { result ≡ id_at P.letter_codes (has_adjacent P.title) P.desc_at text.now }
+{
+    match read_id_parts(P::letters(), has_adjacent_mode::<P>(), text) {
+        Ok(GameId::Described(params, description)) => {
+            let puzzle = P::read_desc(params.size, description)?;
+            Ok(GameId::Described(params, puzzle))
+        }
+        Ok(GameId::Seeded(params, seed)) => Ok(GameId::Seeded(params, seed)),
+        Err(fault) => Err(fault),
+    }
+}
+
+/// The ID that the text says, with its description as a text, of a game with these letters.
+///
+/// Refused, in this order, as the parameters are, `ForeignSeed` where the separator is `#`, `NoDescription` where there
+/// is none, and `BadSeed`. The description isn't read.
+pub(crate) fn read_id_parts<'a>(
+    letters: &str,
+    has_adjacent: bool,
+    text: &'a [u8],
+) -> Result<GameId<&'a [u8]>, IdFault>
+    ensures value { Gives (λ id. id_map (λ r. r.now) id) result (id_parts_at letters.now has_adjacent text.now) }
+    ensures found { IfOk result (λ id. IsIdText letters.now IsAnyText (id_map (λ r. r.now) id) text.now) }
+    ensures only { (id : GameId (List ℕ)) → LacksSeparators letters.now → IsIdText letters.now IsAnyText id text.now
+        → Gives (λ v. id_map (λ r. r.now) v) result (Ok id) }
+{
+    parse_id_parts(letters, has_adjacent, text)
+}
+
+#[tactic(auto, unfolding(crate::specs::IdReading::id_parts_at))]
+fn parse_id_parts<'a>(
+    letters: &str,
+    has_adjacent: bool,
+    text: &'a [u8],
+) -> Result<GameId<&'a [u8]>, IdFault>
+    ensures { Gives (λ id. id_map (λ r. r.now) id) result (id_parts_at letters.now has_adjacent text.now) }
+{
+    let (front, back) = split_at_separator(text);
+    let params = read_params(letters, has_adjacent, front)?;
+    match back {
+        [] => Err(IdFault::NoDescription),
+        [b'#', ..] => Err(IdFault::ForeignSeed),
+        [b'!', seed @ ..] => {
+            let seed = number(seed, u64::MAX).ok_or(IdFault::BadSeed)?;
+            Ok(GameId::Seeded(params, seed))
+        }
+        [_, description @ ..] => Ok(GameId::Described(params, description)),
+    }
+}
+
+// The bytes before the first separator, and those from it on.
+fn split_at_separator(text: &[u8]) -> (&[u8], &[u8])
+    ensures front { result.0.now ≡ params_part text.now }
+    ensures back { result.1.now ≡ from_separator text.now }
+{
+    for (place, byte) in text.iter().enumerate() {
+        if is_separator(*byte) {
+            return text.split_at(place);
+        }
+    }
+    text.split_at(text.len())
+}
+
+fn is_separator(byte: u8) -> bool
+    ensures { result ≡ is_separator byte }
+{
+    matches!(byte, b':' | b'#' | b'!')
+}
+
+#[cfg(test)]
+mod tests {
+    use super::*;
+
+    fn parts(text: &str) -> Result<GameId<&[u8]>, IdFault> {
+        read_id_parts("ehxu", false, text.as_bytes())
+    }
+
+    #[test]
+    fn reads_descriptions_as_texts(rt: HostRuntime) {
+        let rows = [
+            ("3:3//////3/////", "3", "3//////3/////"),
+            ("3de:3//////3/////", "3de", "3//////3/////"),
+            ("3:", "3", ""),
+            ("3:a:b#c!d", "3", "a:b#c!d"),
+        ];
+        for (text, params_text, wanted) in rows {
+            match parts(text) {
+                Ok(GameId::Described(params, description)) => {
+                    assert_eq!(rt; params.write().as_slice(), params_text.as_bytes(), "{text}");
+                    assert_eq!(rt; description, wanted.as_bytes(), "{text}");
+                }
+                _ => assert!(rt; false, "{text}"),
+            }
+        }
+    }
+
+    #[test]
+    fn reads_seeds(rt: HostRuntime) {
+        let rows = [
+            ("5!7", "5", 7),
+            ("5!0", "5", 0),
+            ("7!1", "7", 1),
+            ("7de!1", "7de", 1),
+            ("5de!7", "5de", 7),
+            ("5!18446744073709551615", "5", u64::MAX),
+        ];
+        for (text, params_text, wanted) in rows {
+            match parts(text) {
+                Ok(GameId::Seeded(params, seed)) => {
+                    assert_eq!(rt; params.write().as_slice(), params_text.as_bytes(), "{text}");
+                    assert_eq!(rt; seed, wanted, "{text}");
+                }
+                _ => assert!(rt; false, "{text}"),
+            }
+        }
+    }
+
+    #[test]
+    fn refuses_in_order(rt: HostRuntime) {
+        let rows = [
+            ("", IdFault::BadSize),
+            ("2:", IdFault::BadSize),
+            ("10:", IdFault::BadSize),
+            ("10!1", IdFault::BadSize),
+            ("2#7", IdFault::BadSize),
+            ("5dk:", IdFault::BadLetter),
+            ("5dk#7", IdFault::BadLetter),
+            ("5a:", IdFault::BadParams),
+            ("3//////3/////", IdFault::BadParams),
+            ("5#7", IdFault::ForeignSeed),
+            ("5de#7", IdFault::ForeignSeed),
+            ("5#7:3", IdFault::ForeignSeed),
+            ("3", IdFault::NoDescription),
+            ("3de", IdFault::NoDescription),
+            ("5!", IdFault::BadSeed),
+            ("5!007", IdFault::BadSeed),
+            ("5!00", IdFault::BadSeed),
+            ("5!+1", IdFault::BadSeed),
+            ("7!x", IdFault::BadSeed),
+            ("3!1:2", IdFault::BadSeed),
+            ("5!18446744073709551616", IdFault::BadSeed),
+            ("5!184467440737095516150", IdFault::BadSeed),
+        ];
+        for (text, fault) in rows {
+            match parts(text) {
+                Ok(_) => assert!(rt; false, "{text}"),
+                Err(answer) => assert_eq!(rt; answer, fault, "{text}"),
+            }
+        }
+    }
+}

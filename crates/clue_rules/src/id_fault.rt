@@ -1,0 +1,152 @@
+//! Why a parameter string, a description or a game ID is refused.
+
+ghost use Rattle.std.specs.Prelude.{◌≡◌};
+
+use std::alloc::{AllocError, AllocFailed};
+use thiserror::Error;
+
+/// Why a parameter string, a description or a game ID is refused, or a description couldn't be written.
+#[derive(Clone, Copy, Debug, PartialEq, Eq, Error)]
+pub enum IdFault {
+    /// The run of digits at the front isn't one digit from 3 to 9.
+    #[error("the size isn't one digit from 3 to 9")]
+    BadSize,
+    /// The byte behind `d` is missing or isn't a letter of the game.
+    #[error("the difficulty isn't a letter of the game")]
+    BadLetter,
+    /// Unequal's adjacent mode, which isn't supported.
+    #[error("the adjacent mode isn't supported")]
+    AdjacentMode,
+    /// Anything else that the parameters' grammar doesn't have.
+    #[error("the parameters aren't a size and a difficulty")]
+    BadParams,
+    /// A seed of the collection's own generator, behind `#`.
+    #[error("a seed behind # belongs to another generator")]
+    ForeignSeed,
+    /// No separator, and so no description and no seed.
+    #[error("there is no description and no seed")]
+    NoDescription,
+    /// The seed behind `!` isn't a decimal number without leading zeros below 2 to the 64.
+    #[error("the seed isn't a decimal number below 2^64")]
+    BadSeed,
+    /// Towers: a clue that isn't empty or one digit from 1 to the width. Unequal: a byte that is no sign.
+    #[error("a clue can't be read")]
+    BadClue,
+    /// A square's number that isn't a digit in range, or a byte that stands for no square.
+    #[error("a square can't be read")]
+    BadSquares,
+    /// Fewer clues or squares than the size has.
+    #[error("there are too few clues or squares")]
+    TooFew,
+    /// More clues or squares than the size has.
+    #[error("there are too many clues or squares")]
+    TooMany,
+    /// A sign that points out of the grid.
+    #[error("a sign points out of the grid")]
+    OffGrid,
+    /// Two squares of which each is said to be the greater.
+    #[error("two signs contradict each other")]
+    Contradiction,
+    /// Memory was refused.
+    #[error("out of memory")]
+    OutOfMemory,
+}
+
+impl IdFault {
+    ghost use Rattle.clue_rules.specs.IdFaults.{fault_number, fault_name};
+
+    /// The fault's number, from 1 to 14.
+    pub fn number(&self) -> u8
+        ensures { result ≡ fault_number self.now }
+    {
+        match self {
+            IdFault::BadSize => 1,
+            IdFault::BadLetter => 2,
+            IdFault::AdjacentMode => 3,
+            IdFault::BadParams => 4,
+            IdFault::ForeignSeed => 5,
+            IdFault::NoDescription => 6,
+            IdFault::BadSeed => 7,
+            IdFault::BadClue => 8,
+            IdFault::BadSquares => 9,
+            IdFault::TooFew => 10,
+            IdFault::TooMany => 11,
+            IdFault::OffGrid => 12,
+            IdFault::Contradiction => 13,
+            IdFault::OutOfMemory => 14,
+        }
+    }
+
+    /// The fault's name, as a program prints it.
+    pub fn name(&self) -> &'static str
+        ensures { result.now ≡ fault_name self.now }
+    {
+        match self {
+            IdFault::BadSize => "BadSize",
+            IdFault::BadLetter => "BadLetter",
+            IdFault::AdjacentMode => "AdjacentMode",
+            IdFault::BadParams => "BadParams",
+            IdFault::ForeignSeed => "ForeignSeed",
+            IdFault::NoDescription => "NoDescription",
+            IdFault::BadSeed => "BadSeed",
+            IdFault::BadClue => "BadClue",
+            IdFault::BadSquares => "BadSquares",
+            IdFault::TooFew => "TooFew",
+            IdFault::TooMany => "TooMany",
+            IdFault::OffGrid => "OffGrid",
+            IdFault::Contradiction => "Contradiction",
+            IdFault::OutOfMemory => "OutOfMemory",
+        }
+    }
+}
+
+impl From<AllocError> for IdFault {
+    ghost use Rattle.std.specs.Prelude.{◌≡◌};
+    ghost use Rattle.clue_rules.specs.declared.id_fault.IdFault.TheVariants.{OutOfMemory};
+
+    ghost from_gives = { λ _ e. e ≡ OutOfMemory };
+
+    fn from(_: AllocError) -> IdFault {
+        IdFault::OutOfMemory
+    }
+}
+
+impl<T: Drop> From<AllocFailed<T>> for IdFault {
+    ghost use Rattle.std.specs.Prelude.{◌≡◌};
+    ghost use Rattle.clue_rules.specs.declared.id_fault.IdFault.TheVariants.{OutOfMemory};
+
+    ghost from_gives = { λ _ e. e ≡ OutOfMemory };
+
+    fn from(_: AllocFailed<T>) -> IdFault {
+        IdFault::OutOfMemory
+    }
+}
+
+#[cfg(test)]
+mod tests {
+    use super::*;
+
+    #[test]
+    fn has_its_number_and_name(rt: HostRuntime) {
+        let rows = [
+            (IdFault::BadSize, 1, "BadSize"),
+            (IdFault::BadLetter, 2, "BadLetter"),
+            (IdFault::AdjacentMode, 3, "AdjacentMode"),
+            (IdFault::BadParams, 4, "BadParams"),
+            (IdFault::ForeignSeed, 5, "ForeignSeed"),
+            (IdFault::NoDescription, 6, "NoDescription"),
+            (IdFault::BadSeed, 7, "BadSeed"),
+            (IdFault::BadClue, 8, "BadClue"),
+            (IdFault::BadSquares, 9, "BadSquares"),
+            (IdFault::TooFew, 10, "TooFew"),
+            (IdFault::TooMany, 11, "TooMany"),
+            (IdFault::OffGrid, 12, "OffGrid"),
+            (IdFault::Contradiction, 13, "Contradiction"),
+            (IdFault::OutOfMemory, 14, "OutOfMemory"),
+        ];
+        for (fault, number, name) in rows {
+            assert_eq!(rt; fault.number(), number, "{fault:?}");
+            assert_eq!(rt; fault.name(), name, "{fault:?}");
+        }
+    }
+}

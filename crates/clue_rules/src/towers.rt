@@ -1,0 +1,70 @@
+//! The puzzles of Towers: a Latin square whose edge clues count the towers that are seen from there.
+
+ghost use Rattle.std.specs.Prelude.{◌≡◌, ◌↔◌, IsTrue};
+ghost use Rattle.std.specs.Cmp.{decided, partial_equiv_from_equiv};
+ghost use Rattle.clue_rules.specs.TowersPuzzles.{IsTowers};
+ghost use Rattle.clue_rules.specs.TowersSameness.{same_towers, same_towers_decides};
+
+use latin_board::Grid;
+use std::marker::Model;
+
+/// How many edge places the largest puzzle has.
+pub(crate) const PLACES: usize = 36;
+
+/// A Towers puzzle: a size, a clue or none at each edge place, and a given or none at each square.
+#[derive(Clone, Copy, Debug)]
+pub struct Towers {
+    // In description order, 0 for none, then 0.
+    pub(crate) clues: [u8; PLACES],
+    pub(crate) givens: Grid,
+}
+
+impl Model for Towers {
+    ghost use Rattle.std.specs.Prelude.{ℕ, ◌-◌, ◌*◌, ◌++◌, List, replicate};
+    ghost use Rattle.std.proofs.Common.{ap};
+    ghost use Rattle.clue_rules.specs.TowersPuzzles.{TowersValue};
+    ghost use Rattle.clue_rules.specs.TowersFields.{KeepsTowers, towers_value, places_and_rest};
+
+    ghost Value = { TowersValue };
+
+    ghost view = { λ t. towers_value t.clues t.givens };
+
+    ghost invariant = { λ t. KeepsTowers t.clues t.givens };
+
+    ghost inverse = { λ v. record {
+      clues = v.clues ++ replicate (36 - 4 * v.size) 0;
+      givens = record { size = v.size; numbers = v.givens };
+    } };
+
+    ghost inverse_ok = { λ a h. let f : List ℕ → Inside = λ xs. record { clues = xs; givens = a.givens } in
+        ap f (places_and_rest 36 (4 * a.givens.size) a.clues h.padded) };
+}
+
+impl Towers {
+    // The clues in description order, 0 for none.
+    pub(crate) fn clues(&self) -> &[u8]
+        ensures value { result.now ≡ self.now.clues }
+        ensures valid { IsTowers self.now }
+    {
+        let width = self.givens.size().get() as usize;
+        &self.clues[..4 * width]
+    }
+}
+
+/// Two puzzles are equal where their sizes, their clues and their givens are.
+impl PartialEq for Towers {
+    ghost eq = { same_towers };
+
+    ghost laws = { partial_equiv_from_equiv (decided same_towers same_towers_decides) };
+
+    fn eq(&self, other: &Towers) -> bool
+        ensures value { result ≡ same_towers self.now other.now }
+        ensures same { IsTrue result ↔ (self.now ≡ other.now) }
+    {
+        self.givens == other.givens && self.clues() == other.clues()
+    }
+}
+
+impl Eq for Towers {
+    ghost laws = { decided same_towers same_towers_decides };
+}

@@ -1,0 +1,206 @@
+//! The descriptions of Unequal puzzles.
+//!
+//! Each square in reading order has a piece: its number, 0 where none is given, and a letter `U`, `R`, `D` or `L` for
+//! each neighbour than which it is greater. Commas separate the pieces. This is the collection's form.
+
+ghost use Rattle.std.specs.Prelude.{◌≡◌, ◌*◌, ◌<◌, ◌++◌, [], ◌∷◌, true, false, length, IfSome, IfNone, Some, None, IfOk, IfErr, OnOk, Ok, if◌then◌else◌};
+ghost use Rattle.std.specs.List.{list_all, range_with_len};
+ghost use Rattle.clue_rules.specs.Unequal.{UnequalValue, sign_count};
+ghost use Rattle.clue_rules.specs.UnequalFields.{HoldsPlaces};
+ghost use Rattle.clue_rules.specs.UnequalText.{IsUnequalText, letter_of, is_greater_towards, piece_text, piece_of, unequal_text};
+ghost use Rattle.clue_rules.specs.UnequalReading.{texts_of, has_number, givens_grid, has_letters, points_inside, piece_at, sign_in, contradicts, puzzle_in, puzzle_at, unequal_at};
+
+use super::direction::Direction;
+use super::pieces::{has_letters, number_in, pieces_of, points_inside, says};
+use super::sign::{Sign, pairs_across, sign_count, squares};
+use super::{SIGNS, Unequal};
+use crate::id_fault::IdFault;
+use latin_board::{Grid, Size};
+use std::alloc::{AllocError, Global};
+use trail_solver::Rules;
+
+/// Reads the description of a puzzle of this size. Letters may stand in any order and repeat, and the last comma may be
+/// missing.
+///
+/// The refusals are, over the whole text and in this order: `TooFew` or `TooMany` pieces; `BadSquares`, where a piece
+/// doesn't begin with one digit from 0 to the width; `BadClue`, where a byte behind it is none of the letters;
+/// `OffGrid`, where a letter points out of the grid; `Contradiction`, where two squares are each said to be the greater.
+pub(crate) fn read_unequal(size: Size, text: &[u8]) -> Result<Unequal, IdFault>
+    // A puzzle is read only from a text that describes it.
+    ensures found { IfOk result (λ v. IsUnequalText v text.now × (v.size ≡ size)) }
+    // It is read from each such text, so a text describes one puzzle at most.
+    ensures only { (v : UnequalValue) → v.size ≡ size → IsUnequalText v text.now → result ≡ Ok v }
+    ensures value { result ≡ unequal_at size text.now }
+{
+    let _width = size.get();
+    read_parts(size, text)
+}
+
+#[tactic(auto, unfolding(crate::specs::UnequalReading::unequal_at))]
+fn read_parts(size: Size, text: &[u8]) -> Result<Unequal, IdFault>
+    ensures { result ≡ unequal_at size text.now }
+{
+    let width = size.get() as usize;
+    let pieces = pieces_of(text, width * width)?;
+    puzzle_in(size, pieces.as_slice())
+}
+
+// Each class of faults is looked for in all pieces before the next.
+fn puzzle_in(size: Size, pieces: &[&[u8]]) -> Result<Unequal, IdFault>
+    requires { length pieces.now ≡ size * size }
+    ensures { result ≡ puzzle_at size (texts_of pieces.now) }
+{
+    let Some(givens) = givens_in(size, pieces) else {
+        return Err(IdFault::BadSquares);
+    };
+    if !have_letters(pieces) {
+        return Err(IdFault::BadClue);
+    }
+    if !point_inside(size, pieces) {
+        return Err(IdFault::OffGrid);
+    }
+    let Some(signs) = signs_in(size, pieces) else {
+        return Err(IdFault::Contradiction);
+    };
+    Ok(Unequal { signs, givens })
+}
+
+// The grid of the pieces' numbers, or `None` where some piece begins with none.
+fn givens_in(size: Size, pieces: &[&[u8]]) -> Option<Grid>
+    requires { length pieces.now ≡ size * size }
+    ensures { result ≡ (if list_all (has_number size) (texts_of pieces.now)
+        then Some (givens_grid size (texts_of pieces.now)) else None) }
+{
+    let mut givens = Grid::blank(size);
+    for (cell, piece) in pieces.iter().enumerate() {
+        givens.set(cell, number_in(size, piece)?);
+    }
+    Some(givens)
+}
+
+fn have_letters(pieces: &[&[u8]]) -> bool
+    ensures { result ≡ list_all has_letters (texts_of pieces.now) }
+{
+    pieces.iter().all(|piece| has_letters(piece))
+}
+
+fn point_inside(size: Size, pieces: &[&[u8]]) -> bool
+    requires { length pieces.now ≡ size * size }
+    ensures { result ≡ list_all (points_inside size (texts_of pieces.now)) (range_with_len 0 (size * size)) }
+{
+    (0..pieces.len()).all(|cell| points_inside(size, cell, piece_at(pieces, cell)))
+}
+
+fn piece_at<'a>(pieces: &[&'a [u8]], cell: usize) -> &'a [u8]
+    requires { cell < length pieces.now }
+    ensures { result.now ≡ piece_at (texts_of pieces.now) cell }
+{
+    pieces[cell]
+}
+
+// The signs of all places, or `None` where the pieces contradict each other.
+fn signs_in(size: Size, pieces: &[&[u8]]) -> Option<[Sign; SIGNS]>
+    requires { length pieces.now ≡ size * size }
+    ensures agree { IfSome result (λ signs. contradicts size (texts_of pieces.now) ≡ false) }
+    ensures places { IfSome result (λ signs.
+        HoldsPlaces (sign_count size) (puzzle_in size (texts_of pieces.now)).signs signs) }
+    ensures none { IfNone result (contradicts size (texts_of pieces.now) ≡ true) }
+{
+    let mut signs = [Sign::Absent; SIGNS];
+    for sign in 0..sign_count(size) {
+        signs[sign] = sign_in(size, pieces, sign)?;
+    }
+    Some(signs)
+}
+
+// The sign that the pieces on both sides say, or `None` where each says that its square is the greater one.
+fn sign_in(size: Size, pieces: &[&[u8]], sign: usize) -> Option<Sign>
+    requires size { length pieces.now ≡ size * size }
+    requires sign { sign < sign_count size }
+    ensures { result ≡ sign_in size (texts_of pieces.now) sign }
+{
+    let (first, second) = squares(size, sign);
+    let (forth, back) = if sign < pairs_across(size) {
+        (Direction::Right, Direction::Left)
+    } else {
+        (Direction::Down, Direction::Up)
+    };
+    match (
+        says(piece_at(pieces, first), forth),
+        says(piece_at(pieces, second), back),
+    ) {
+        (true, true) => None,
+        (true, false) => Some(Sign::FirstGreater),
+        (false, true) => Some(Sign::SecondGreater),
+        (false, false) => Some(Sign::Absent),
+    }
+}
+
+/// The written form of a puzzle's description: for each square its number and, at the greater square of each sign, its
+/// letter, in the order `U`, `R`, `D`, `L`, and a comma.
+///
+/// `OutOfMemory` where there is no memory for the text.
+pub(crate) fn write_unequal(alloc: Global, puzzle: &Unequal) -> Result<Vec<u8>, IdFault>
+    ensures written { IfOk result (λ text. text.items ≡ unequal_text puzzle.now) }
+    // The text describes the puzzle.
+    ensures described { IfOk result (λ text. IsUnequalText puzzle.now text.items) }
+    ensures refused { IfErr result (λ fault. fault ≡ IdFault.OutOfMemory) }
+{
+    let _size = puzzle.size();
+    match written(alloc, puzzle) {
+        Ok(text) => Ok(text),
+        Err(_) => Err(IdFault::OutOfMemory),
+    }
+}
+
+fn written(alloc: Global, puzzle: &Unequal) -> Result<Vec<u8>, AllocError>
+    ensures { IfOk result (λ text. text.items ≡ unequal_text puzzle.now) }
+{
+    let width = puzzle.size().get() as usize;
+    let mut text = Vec::new(alloc);
+    for cell in 0..width * width {
+        push_piece(&mut text, puzzle, cell)?;
+    }
+    Ok(text)
+}
+
+// A square's number, its letters and a comma.
+fn push_piece(text: &mut Vec<u8>, puzzle: &Unequal, cell: usize) -> Result<(), AllocError>
+    requires { cell < puzzle.now.size * puzzle.now.size }
+    ensures { OnOk result (text.new.items ≡ text.old.items ++ (piece_text (piece_of puzzle.now cell) ++ 44 ∷ [])) }
+{
+    let _size = puzzle.size().get();
+    text.push(b'0' + puzzle.given(cell))?;
+    for direction in Direction::ALL {
+        push_letter(text, puzzle, cell, direction)?;
+    }
+    text.push(b',')?;
+    Ok(())
+}
+
+// The letter of a direction, where the square is greater than its neighbour there.
+fn push_letter(
+    text: &mut Vec<u8>,
+    puzzle: &Unequal,
+    cell: usize,
+    direction: Direction,
+) -> Result<(), AllocError>
+    requires { cell < puzzle.now.size * puzzle.now.size }
+    ensures { OnOk result (text.new.items ≡ text.old.items
+        ++ (if is_greater_towards puzzle.now cell direction then (letter_of direction ∷ []) else [])) }
+{
+    if is_greater_towards(puzzle, cell, direction) {
+        text.push(direction.letter())?;
+    }
+    Ok(())
+}
+
+fn is_greater_towards(puzzle: &Unequal, cell: usize, direction: Direction) -> bool
+    requires { cell < puzzle.now.size * puzzle.now.size }
+    ensures { result ≡ is_greater_towards puzzle.now cell direction }
+{
+    match direction.neighbour(puzzle.size(), cell) {
+        Some(other) => puzzle.greater(cell, other),
+        None => false,
+    }
+}

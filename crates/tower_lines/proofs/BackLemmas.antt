@@ -1,0 +1,215 @@
+-- The counts from which a start with a mask can show the clue, from those with one value more.
+use Rattle.std.proofs.Common.{◌≡◌, ℕ, ◌+◌, ◌-◌, ◌^◌, ◌<◌, ◌≤◌, inl, inr, ◌↔◌, true, false, not, ◌&&◌, ltb, cond, List, [], ◌∷◌, ◌++◌, length, get_or, set, refl, sym, ap, ◌∙◌, subst, arith, append_assoc, length-append, bit_or, count_ones}
+use Rattle.std.proofs.lemmas.Bool.{cases_eq, both_ways, and_parts, and_from, or_cases, or_left, or_right, ltb-true, lt-ltb, not-true, not_from_false, false_from_ne_true}
+use Rattle.std.proofs.lemmas.Nat.{ones-le}
+use Rattle.std.proofs.lemmas.List.{append-nil, nil_from_length, get_or-set_same, get_or-set_other}
+use Rattle.tower_lines.specs.TowersSeen.{seen, seen_after}
+use Rattle.tower_lines.specs.LineFillings.{has_mark, IsStart}
+use Rattle.tower_lines.specs.LineMasks.{IsMask, IsFront, IsEnd, IsBack, IsPassed}
+use Rattle.tower_lines.proofs.MarkLemmas.{added_with, added_without, added_lacks, added_other, added_ones, added_below, mark-zero, mark-or, mark-pow, mark-pow_same, below_from_marks, IsShared}
+use Rattle.tower_lines.proofs.MaskLemmas.{mask_in_table, mask_more, mask-ones, tower, seen-next}
+use Rattle.tower_lines.proofs.SeenLemmas.{seen-append}
+use Rattle.tower_lines.proofs.StartLemmas.{IsNextValue, start_front, start_next, start_more}
+
+-- k + 1 can come next after a start with the mask
+pub record IsNext (sets : List ℕ) (mask k : ℕ) : Type 0 where
+  pub fresh : has_mark mask k ≡ false
+  pub small : k < length sets
+  pub candidate : has_mark (get_or sets (count_ones mask) 0) (k + 1) ≡ true
+
+-- the counts from which a start with the mask can go on with k + 1 and show the clue
+pub record IsBackBy (sets : List ℕ) (clue mask k counts : ℕ) : Type 0 where
+  pub only : (p : List ℕ) → IsStart sets p → IsMask mask p → (c : ℕ) → has_mark counts c ≡ true → (s : List ℕ) × IsEnd sets clue c p ((k + 1) ∷ s)
+  pub all : (p s : List ℕ) (c : ℕ) → IsMask mask p → IsEnd sets clue c p ((k + 1) ∷ s) → has_mark counts c ≡ true
+
+-- the same for every next value that isn't left, and those of these values that a filling has
+pub record IsBackBut (sets : List ℕ) (clue mask left counts passed : ℕ) : Type 0 where
+  pub next : (k : ℕ) → has_mark left k ≡ true → IsNext sets mask k
+  pub only : (p : List ℕ) → IsStart sets p → IsMask mask p → (c : ℕ) → has_mark counts c ≡ true → (s : List ℕ) × IsEnd sets clue c p s
+  pub all : (p s : List ℕ) (k c : ℕ) → has_mark left k ≡ false → IsMask mask p → IsEnd sets clue c p ((k + 1) ∷ s) → has_mark counts c ≡ true
+  pub passed_only : (k : ℕ) → has_mark passed k ≡ true → IsPassed sets clue mask (k + 1)
+  pub passed_all : (k : ℕ) → has_mark left k ≡ false → IsPassed sets clue mask (k + 1) → has_mark passed k ≡ true
+
+-- a value that comes next in some line
+next_in : {sets : List ℕ} {mask : ℕ} (p : List ℕ) (k : ℕ) (s : List ℕ) → IsStart sets (p ++ (k + 1) ∷ s) → IsMask mask p → IsNext sets mask k
+next_in {sets} {mask} p k s start used =
+    let next = start_next p (k + 1) s start in
+    let n : count_ones mask ≡ length p = mask-ones p (start_front p ((k + 1) ∷ s) start) used in
+    record {
+      fresh = used.bits k ∙ next.fresh;
+      small = omega (arith, next.high);
+      candidate = rw n next.candidate;
+    }
+
+-- the mask with a next value is a place of the table
+pub next_in_table : {sets : List ℕ} {mask k : ℕ} (value : ℕ) → length sets ≤ 9 → mask < 2 ^ length sets → IsNext sets mask k → value ≡ 2 ^ k → mask + value < 512
+next_in_table {sets} {mask} {k} value short inside next is =
+    let a = added_with mask k (mask + value) next.fresh (ap (λ n. mask + n) is) in
+    mask_in_table (length sets) (mask + value) short (added_below a (length sets) inside next.small)
+
+pub back_step : {sets : List ℕ} {clue mask k after counts : ℕ} (value : ℕ) → mask < 2 ^ length sets → IsNext sets mask k → value ≡ 2 ^ k → IsBack sets clue (mask + value) after
+    → ((c : ℕ) → has_mark counts c ≡ has_mark after (c + cond (ltb mask value) 1 0)) → IsBackBy sets clue mask k counts
+back_step {sets} {clue} {mask} {k} {after} {counts} value inside next is table lowered =
+    let a = added_with mask k (mask + 2 ^ k) next.fresh refl in
+    let back : IsBack sets clue (mask + 2 ^ k) after = rw is at table in
+    let down : (c : ℕ) → has_mark counts c ≡ has_mark after (c + tower mask k) = rw is at lowered in
+    let n = added_ones a in
+    let most = ones-le (length sets) (mask + 2 ^ k) (added_below a (length sets) inside next.small) in
+    record {
+      only = λ p start used c e.
+          let long : count_ones mask ≡ length p = mask-ones p start used in
+          let value : IsNextValue sets p (k + 1) = record {
+            room = omega arith;
+            low = omega arith;
+            high = omega (arith, next.small);
+            candidate = rw (← long) next.candidate;
+            fresh = sym (used.bits k) ∙ next.fresh;
+          } in
+          let r = back.only (p ++ (k + 1) ∷ []) (start_more p (k + 1) start value) (mask_more p used a) (c + tower mask k) (sym (down c) ∙ e) in
+          let s = r.0 in
+          let whole : (p ++ (k + 1) ∷ []) ++ s ≡ p ++ (k + 1) ∷ s = append_assoc p ((k + 1) ∷ []) s in (
+            s,
+            record {
+              start = rw whole at r.1.start;
+              whole = rw whole at r.1.whole;
+              shown = omega (arith, seen-next p s k used, r.1.shown);
+            },
+          );
+      all = λ p s c used end.
+          let whole : (p ++ (k + 1) ∷ []) ++ s ≡ p ++ (k + 1) ∷ s = append_assoc p ((k + 1) ∷ []) s in
+          down c ∙ back.all (p ++ (k + 1) ∷ []) s (c + tower mask k) (mask_more p used a) record {
+            start = rw whole end.start;
+            whole = rw whole end.whole;
+            shown = omega (arith, seen-next p s k used, end.shown);
+          };
+    }
+
+-- a line without squares left
+pub back_full : {sets : List ℕ} {clue mask counts : ℕ} → count_ones mask ≡ length sets → counts ≡ 2 ^ clue → IsBack sets clue mask counts
+back_full {sets} {clue} {mask} {counts} full is = record {
+  only = λ p start used c e.
+      let same = mark-pow clue c (rw is at e) in
+      let n = mask-ones p start used in
+      ([], record { start = rw append-nil start; whole = rw append-nil (sym n ∙ full); shown = omega arith });
+  all = λ p s c used end.
+      let n = mask-ones p (start_front p s end.start) used in
+      let none : s ≡ [] = nil_from_length s (omega (arith, length-append p s, end.whole)) in
+      let shown : c + 0 ≡ clue = rw none at end.shown in
+      let same : c ≡ clue = omega arith in
+      rw (is, same) (mark-pow_same clue);
+}
+
+-- a mask that no start has
+pub back_unreached : {sets : List ℕ} {clue mask : ℕ} → IsFront sets mask 0 → IsBack sets clue mask 0
+back_unreached {sets} {clue} {mask} front = record {
+  only = λ p start used c e. absurd (both_ways (has_mark 0 c) (mark-zero c) e);
+  all = λ p s c used end. absurd (both_ways (has_mark 0 (seen p)) (mark-zero (seen p)) (front.all p (start_front p s end.start) used));
+}
+
+pub back_none : {sets : List ℕ} {clue mask left : ℕ}
+    → ((k : ℕ) → has_mark left k ≡ (has_mark (get_or sets (count_ones mask) 0) (k + 1) && (ltb k (length sets) && not (has_mark mask k))))
+    → IsBackBut sets clue mask left 0 0
+back_none {sets} {clue} {mask} {left} bits = record {
+  next = λ k e.
+      let parts = and_parts _ _ (sym (bits k) ∙ e) in
+      let rest = and_parts _ _ parts.1 in
+      record { fresh = not-true _ rest.1; small = ltb-true _ _ rest.0; candidate = parts.0 };
+  only = λ p start used c e. absurd (both_ways (has_mark 0 c) (mark-zero c) e);
+  all = λ p s k c e used end. absurd (both_ways (has_mark left k) e (here p k s end.start used));
+  passed_only = λ k e. absurd (both_ways (has_mark 0 k) (mark-zero k) e);
+  passed_all = λ k e h. absurd (both_ways (has_mark left k) e (here h.before k h.after h.filling.start h.used));
+}
+  where
+    here : (p : List ℕ) (k : ℕ) (s : List ℕ) → IsStart sets (p ++ (k + 1) ∷ s) → IsMask mask p → has_mark left k ≡ true
+    here p k s start used =
+        let next = next_in p k s start used in
+        bits k ∙ and_from _ _ next.candidate (and_from _ _ (lt-ltb k (length sets) next.small) (not_from_false _ next.fresh))
+
+-- the starts that show a count, and the counts from which the clue can be shown, meet in a filling
+pub passed_from_shared : {sets : List ℕ} {clue mask k reached counts : ℕ} → IsFront sets mask reached → IsBackBy sets clue mask k counts → IsShared reached counts → IsPassed sets clue mask (k + 1)
+passed_from_shared {sets} {clue} {mask} {k} front back shared =
+    let f = front.only shared.0 shared.1 in
+    let b = back.only f.0 f.1 f.2 shared.0 shared.2 in
+    record {
+      before = f.0;
+      after = b.0;
+      used = f.2;
+      filling = record {
+        start = b.1.start;
+        whole = b.1.whole;
+        shown = seen-append f.0 ((k + 1) ∷ b.0) ∙ ap (λ n. n + seen_after f.0 ((k + 1) ∷ b.0)) f.3 ∙ b.1.shown;
+      };
+    }
+
+pub shared_from_passed : {sets : List ℕ} {clue mask k reached counts : ℕ} → IsFront sets mask reached → IsBackBy sets clue mask k counts → IsPassed sets clue mask (k + 1) → IsShared reached counts
+shared_from_passed {sets} {clue} {mask} {k} front back h =
+    let f = h.filling in (
+      seen h.before,
+      front.all h.before (start_front h.before ((k + 1) ∷ h.after) f.start) h.used,
+      back.all h.before h.after (seen h.before) h.used record {
+        start = f.start;
+        whole = f.whole;
+        shown = sym (seen-append h.before ((k + 1) ∷ h.after)) ∙ f.shown;
+      },
+    )
+
+pub back_more : {sets : List ℕ} {clue mask left counts passed k more rest reached : ℕ} (value shared : ℕ) → has_mark left k ≡ true → value ≡ 2 ^ k → rest + value ≡ left
+    → IsBackBut sets clue mask left counts passed → IsFront sets mask reached → IsBackBy sets clue mask k more
+    → ((j : ℕ) → (has_mark shared j ≡ true) ↔ ((has_mark value j ≡ true) × IsShared reached more))
+    → IsBackBut sets clue mask rest (bit_or counts more) (bit_or passed shared)
+back_more {sets} {clue} {mask} {left} {counts} {passed} {k} {more} {rest} {reached} value shared used is sum back front by met =
+    let a = added_without rest k left used (rw is at sum) in
+    let value_is = λ (j : ℕ) (e : has_mark value j ≡ true). mark-pow k j (rw is at e) in
+    record {
+      next = λ j e. back.next j (elim (cases_eq j k) [
+        | inl same ↦ absurd (both_ways (has_mark rest k) (added_lacks a) (rw same at e))
+        | inr other ↦ added_other a j other ∙ e
+      ]);
+      only = λ p start m c e. elim (or_cases _ _ (sym (mark-or counts more c) ∙ e)) [
+        | inl f ↦ back.only p start m c f
+        | inr f ↦ (let r = by.only p start m c f in ((k + 1) ∷ r.0, r.1))
+      ];
+      all = λ p s j c e m end. mark-or counts more c ∙ elim (cases_eq j k) [
+        | inl same ↦ or_right _ _ (by.all p s c m (let P : ℕ → Type 0 = λ i. IsEnd sets clue c p ((i + 1) ∷ s) in subst P same end))
+        | inr other ↦ or_left _ _ (back.all p s j c (added_other a j other ∙ e) m end)
+      ];
+      passed_only = λ j e. elim (or_cases _ _ (sym (mark-or passed shared j) ∙ e)) [
+        | inl f ↦ back.passed_only j f
+        | inr f ↦ (let r = (met j).0 f in let P : ℕ → Type 0 = λ i. IsPassed sets clue mask (i + 1) in subst P (sym (value_is j r.0)) (passed_from_shared front by r.1))
+      ];
+      passed_all = λ j e h. mark-or passed shared j ∙ elim (cases_eq j k) [
+        | inl same ↦ or_right _ _ ((met j).1 (rw (same, is) (mark-pow_same k), shared_from_passed front by (let P : ℕ → Type 0 = λ i. IsPassed sets clue mask (i + 1) in subst P same h)))
+        | inr other ↦ or_left _ _ (back.passed_all j (added_other a j other ∙ e) h)
+      ];
+    }
+
+pub back_all : {sets : List ℕ} {clue mask counts passed : ℕ} → count_ones mask < length sets → IsBackBut sets clue mask 0 counts passed → IsBack sets clue mask counts
+back_all {sets} {clue} {mask} {counts} {passed} room back = record {
+  only = back.only;
+  all = λ p s c used end. each p s c used end;
+}
+  where
+    each : (p s : List ℕ) (c : ℕ) → IsMask mask p → IsEnd sets clue c p s → has_mark counts c ≡ true
+    each p [] c used end =
+        let n = mask-ones p (start_front p [] end.start) used in
+        absurd (omega (arith, rw append-nil at end.whole))
+    each p (v ∷ s) c used end =
+        let low = (start_next p v s end.start).low in
+        let e : v ≡ (v - 1) + 1 = omega arith in
+        let P : ℕ → Type 0 = λ i. IsEnd sets clue c p (i ∷ s) in
+        back.all p s (v - 1) c (mark-zero (v - 1)) used (subst P e end)
+
+pub passed_small : {sets : List ℕ} {clue mask counts passed : ℕ} → IsBackBut sets clue mask 0 counts passed → passed < 2 ^ length sets
+passed_small {sets} {clue} {mask} {counts} {passed} back =
+    below_from_marks passed (length sets) (λ j l. false_from_ne_true (has_mark passed j) (λ e.
+    let h = back.passed_only j e in
+    absurd (omega (arith, (next_in h.before j h.after h.filling.start h.used).small))))
+
+-- one more entry of the table, from above
+pub backs_more : {sets : List ℕ} {clue mask counts : ℕ} (back : List ℕ) → ((m : ℕ) → mask < m → m < 2 ^ length sets → IsBack sets clue m (get_or back m 0)) → mask < length back → IsBack sets clue mask counts
+    → (m : ℕ) → mask ≤ m → m < 2 ^ length sets → IsBack sets clue m (get_or (set back mask counts) m 0)
+backs_more {sets} {clue} {mask} {counts} back above inside here m from l =
+    elim (cases_eq m mask) [
+      | inl same ↦ rw same (rw (get_or-set_same back mask counts 0 inside) here)
+      | inr other ↦ rw (get_or-set_other back mask m counts 0 other) (above m (omega arith) l)
+    ]

@@ -1,0 +1,115 @@
+-- The values that are kept, mask by mask from the greatest down.
+use Rattle.std.proofs.Common.{◌≡◌, ◌≢◌, ℕ, ◌+◌, ◌-◌, ◌^◌, ◌<◌, inl, inr, ◌↔◌, true, List, ◌∷◌, ◌++◌, length, get_or, set, replicate, take, drop, sym, ap, ◌∙◌, subst, arith, bit_or, count_ones}
+use Rattle.std.proofs.lemmas.Bool.{cases_eq, cases_lt, both_ways, or_cases, or_left, or_right}
+use Rattle.std.proofs.lemmas.List.{get_or_at, get_or_past, get_or-replicate, length-replicate, get_or-set_same, get_or-set_other, take-append-drop, drop_more, length-take-le}
+use Rattle.tower_lines.specs.TowersSeen.{seen}
+use Rattle.tower_lines.specs.LineFillings.{has_mark, IsFilling, IsSupported}
+use Rattle.tower_lines.specs.LineMasks.{IsFront, IsPassed, IsKept}
+use Rattle.tower_lines.proofs.BackLemmas.{IsBackBut}
+use Rattle.tower_lines.proofs.MarkLemmas.{mark-zero, mark-or}
+use Rattle.tower_lines.proofs.MaskLemmas.{mask_of, mask-ones, mask_small}
+use Rattle.tower_lines.proofs.StartLemmas.{start_front, start_next}
+
+supported_from_passed : {sets : List ℕ} {clue mask value : ℕ} → IsPassed sets clue mask value → IsSupported sets clue (count_ones mask) value
+supported_from_passed {sets} {clue} {mask} {value} h =
+    let n = mask-ones h.before (start_front h.before (value ∷ h.after) h.filling.start) h.used in
+    record {
+      line = h.before ++ value ∷ h.after;
+      filling = h.filling;
+      inside = omega (arith, (start_next h.before value h.after h.filling.start).room);
+      here = get_or_at h.before value h.after 0 (count_ones mask) (sym n);
+    }
+
+passed_from_supported : {sets : List ℕ} {clue place value : ℕ} → IsSupported sets clue place value → (mask : ℕ) × (count_ones mask ≡ place) × IsPassed sets clue mask value
+passed_from_supported {sets} {clue} {place} {value} h =
+    let inside : place < length h.line = omega (arith, h.inside, h.filling.whole) in
+    let rest : drop place h.line ≡ value ∷ drop (place + 1) h.line = drop_more h.line place 0 inside ∙ ap (λ x. x ∷ drop (place + 1) h.line) h.here in
+    let whole : take place h.line ++ value ∷ drop (place + 1) h.line ≡ h.line = ap (λ s. take place h.line ++ s) (sym rest) ∙ take-append-drop place h.line in
+    let P : List ℕ → Type 0 = λ l. IsFilling sets clue l in
+    let filling = subst P (sym whole) h.filling in
+    let m = mask_of (take place h.line) (start_front (take place h.line) (value ∷ drop (place + 1) h.line) filling.start) in (
+      m.mask,
+      m.ones ∙ length-take-le place h.line (omega arith),
+      record { before = take place h.line; after = drop (place + 1) h.line; used = m.used; filling = filling },
+    )
+
+passed_small : {sets : List ℕ} {clue mask value : ℕ} → IsPassed sets clue mask value → mask < 2 ^ length sets
+passed_small {sets} {clue} {mask} {value} h = mask_small h.before (start_front h.before (value ∷ h.after) h.filling.start) h.used
+
+pub kept_none : {sets : List ℕ} {clue : ℕ} (kept : List ℕ) → ((place : ℕ) → get_or kept place 0 ≡ 0) → IsKept sets clue (2 ^ length sets) kept
+kept_none {sets} {clue} kept none = record {
+  only = λ place value e. absurd (both_ways (has_mark 0 value) (mark-zero value) (rw (none place) at e));
+  all = λ mask value from h. absurd (omega (arith, passed_small h));
+}
+
+-- a mask whose starts have no value next
+pub kept_same : {sets kept : List ℕ} {clue mask : ℕ} → ((value : ℕ) → IsPassed sets clue mask value → ⊥) → IsKept sets clue (mask + 1) kept → IsKept sets clue mask kept
+kept_same {sets} {kept} {clue} {mask} none h = record {
+  only = h.only;
+  all = λ m value from p. elim (cases_eq m mask) [
+    | inl same ↦ absurd (none value (let P : ℕ → Type 0 = λ i. IsPassed sets clue i value in subst P same p))
+    | inr other ↦ h.all m value (omega arith) p
+  ];
+}
+
+pub unpassed_full : {sets : List ℕ} {clue mask : ℕ} → count_ones mask ≡ length sets → (value : ℕ) → IsPassed sets clue mask value → ⊥
+unpassed_full {sets} {clue} {mask} full value h =
+    let n = mask-ones h.before (start_front h.before (value ∷ h.after) h.filling.start) h.used in
+    absurd (omega (arith, (start_next h.before value h.after h.filling.start).room))
+
+pub unpassed_unreached : {sets : List ℕ} {clue mask : ℕ} → IsFront sets mask 0 → (value : ℕ) → IsPassed sets clue mask value → ⊥
+unpassed_unreached {sets} {clue} {mask} front value h =
+    both_ways (has_mark 0 (seen h.before)) (mark-zero (seen h.before))
+    (front.all h.before (start_front h.before (value ∷ h.after) h.filling.start) h.used)
+
+passed_all : {sets : List ℕ} {clue mask counts passed : ℕ} → IsBackBut sets clue mask 0 counts passed → (value : ℕ) → IsPassed sets clue mask value → (k : ℕ) × (value ≡ k + 1) × (has_mark passed k ≡ true)
+passed_all {sets} {clue} {mask} {counts} {passed} back value h =
+    let low = (start_next h.before value h.after h.filling.start).low in
+    let e : value ≡ (value - 1) + 1 = omega arith in
+    let P : ℕ → Type 0 = λ i. IsPassed sets clue mask i in
+    (value - 1, e, back.passed_all (value - 1) (mark-zero (value - 1)) (subst P e h))
+
+pub kept_more : {sets kept : List ℕ} {clue mask counts passed place : ℕ} (values : ℕ) → place ≡ count_ones mask → place < length kept → IsBackBut sets clue mask 0 counts passed
+    → ((value : ℕ) → (has_mark values value ≡ true) ↔ ((k : ℕ) × (value ≡ k + 1) × (has_mark passed k ≡ true)))
+    → IsKept sets clue (mask + 1) kept → IsKept sets clue mask (set kept place (bit_or (get_or kept place 0) values))
+kept_more {sets} {kept} {clue} {mask} {counts} {passed} {place} values at inside back is h =
+    let more = set kept place (bit_or (get_or kept place 0) values) in
+    let here : get_or more place 0 ≡ bit_or (get_or kept place 0) values = get_or-set_same kept place _ 0 inside in
+    let other = λ (j : ℕ) (ne : j ≢ place). get_or-set_other kept place j (bit_or (get_or kept place 0) values) 0 ne in
+    let both = λ (v : ℕ). ap (λ n. has_mark n v) here ∙ mark-or (get_or kept place 0) values v in
+    record {
+      only = λ j value e. elim (cases_eq j place) [
+        | inl same ↦ (let P : ℕ → Type 0 = λ i. IsSupported sets clue i value in
+            let e' : has_mark (get_or more place 0) value ≡ true = rw same at e in
+            subst P (sym same) (elim (or_cases _ _ (sym (both value) ∙ e')) [
+              | inl f ↦ h.only place value f
+              | inr f ↦ (let r = (is value).0 f in subst P (sym at) (supported_from_passed (let Q : ℕ → Type 0 = λ i. IsPassed sets clue mask i in subst Q (sym r.1) (back.passed_only r.0 r.2))))
+            ]))
+        | inr ne ↦ h.only j value (ap (λ n. has_mark n value) (sym (other j ne)) ∙ e)
+      ];
+      all = λ m value from p. elim (cases_eq m mask) [
+        | inl same ↦ (let P : ℕ → Type 0 = λ i. IsPassed sets clue i value in
+            let place_is : count_ones m ≡ place = ap count_ones same ∙ sym at in
+            rw place_is (both value ∙ or_right _ _ ((is value).1 (passed_all back value (subst P same p)))))
+        | inr ne ↦ (let old = h.all m value (omega arith) p in
+            elim (cases_eq (count_ones m) place) [
+              | inl same ↦ (let old' : has_mark (get_or kept place 0) value ≡ true = rw same at old in rw same (both value ∙ or_left _ _ old'))
+              | inr apart ↦ ap (λ n. has_mark n value) (other (count_ones m) apart) ∙ old
+            ])
+      ];
+    }
+
+pub kept_all : {sets kept : List ℕ} {clue : ℕ} → IsKept sets clue 0 kept → (place value : ℕ) → (has_mark (get_or kept place 0) value ≡ true) ↔ IsSupported sets clue place value
+kept_all {sets} {kept} {clue} h place value = (
+  h.only place value,
+  λ s. (let r = passed_from_supported s in
+      let e = h.all r.0 value (omega arith) r.2 in rw r.1 at e),
+)
+
+pub get_or-zeros : (n i : ℕ) → get_or {A = ℕ} (replicate n 0) i 0 ≡ 0
+get_or-zeros n i =
+    let zero : ℕ = 0 in
+    elim (cases_lt i n) [
+      | inl inside ↦ get_or-replicate n i zero zero inside
+      | inr past ↦ get_or_past (replicate n zero) i zero (omega (arith, length-replicate n zero))
+    ]

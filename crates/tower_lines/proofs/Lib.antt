@@ -1,0 +1,7 @@
+pub mod BackLemmas
+pub mod FrontLemmas
+pub mod KeptLemmas
+pub mod MarkLemmas
+pub mod MaskLemmas
+pub mod SeenLemmas
+pub mod StartLemmas

@@ -1,0 +1,154 @@
+-- Masks of lists: one value more or less, the one mask of a list, the mask that each start has.
+use Rattle.std.proofs.Common.{◌≡◌, ◌≢◌, ℕ, ◌+◌, ◌-◌, ◌^◌, ◌<◌, ◌≤◌, inl, inr, Bool, true, false, ◌&&◌, ◌||◌, eqb, ltb, cond, List, [], ◌∷◌, ◌++◌, length, refl, sym, ap, ◌∙◌, arith, append_assoc, count_ones}
+use Rattle.std.specs.List.{list_all}
+use Rattle.std.proofs.lemmas.Bool.{eqb-true, eq-eqb, ne_eqb, lt-ltb, le-ltb, cases_eq, cases_lt, cases_Bool, false≢true, both_ways}
+use Rattle.std.proofs.Math.Nat.{pow-le-pow_right}
+use Rattle.std.proofs.lemmas.Nat.{pow_pos, ones_le_self}
+use Rattle.std.proofs.lemmas.List.{append-nil, length_push}
+use Rattle.std.proofs.lemmas.List.Folds.{list_any-append}
+use Rattle.tower_lines.specs.TowersSeen.{seen, seen_after}
+use Rattle.tower_lines.specs.LineFillings.{has_mark, IsStart}
+use Rattle.tower_lines.specs.LineMasks.{is_in, IsMask}
+use Rattle.tower_lines.proofs.MarkLemmas.{IsAdded, added_with, added_lacks, added_has, added_other, added_ones, added_below, mark-zero, below_from_mark, below_from_marks, same_from_marks}
+use Rattle.tower_lines.proofs.SeenLemmas.{seen-append}
+use Rattle.tower_lines.proofs.StartLemmas.{start_next}
+
+or_true : (b : Bool) → (b || true) ≡ true
+or_true true = refl
+or_true false = refl
+
+or_false : (b : Bool) → (b || false) ≡ b
+or_false true = refl
+or_false false = refl
+
+and_false : (b : Bool) → (b && false) ≡ false
+and_false true = refl
+and_false false = refl
+
+is_in-push : (p : List ℕ) (x y : ℕ) → is_in y (p ++ x ∷ []) ≡ (is_in y p || eqb x y)
+is_in-push p x y = list_any-append (λ z. eqb z y) p (x ∷ []) ∙ ap (λ b. is_in y p || b) (or_false (eqb x y))
+
+pub is_in-push_same : (p : List ℕ) (k : ℕ) → is_in (k + 1) (p ++ (k + 1) ∷ []) ≡ true
+is_in-push_same p k = is_in-push p (k + 1) (k + 1) ∙ ap (λ b. is_in (k + 1) p || b) (eq-eqb (k + 1) (k + 1) refl) ∙ or_true (is_in (k + 1) p)
+
+is_in-push_other : (p : List ℕ) (k j : ℕ) → j ≢ k → is_in (j + 1) (p ++ (k + 1) ∷ []) ≡ is_in (j + 1) p
+is_in-push_other p k j ne = is_in-push p (k + 1) (j + 1) ∙ ap (λ b. is_in (j + 1) p || b) (ne_eqb (k + 1) (j + 1) (λ e. ne (omega arith))) ∙ or_false (is_in (j + 1) p)
+
+pub mask_none : IsMask 0 []
+mask_none = record { bits = λ k. mark-zero k }
+
+-- only the empty list has the mask 0
+pub nil_from_mask : {sets : List ℕ} (p : List ℕ) → IsStart sets p → IsMask 0 p → p ≡ []
+nil_from_mask [] h m = refl
+nil_from_mask (x ∷ p) h m =
+    let low = (h.values 0 (omega arith)).0 in
+    let e : x ≡ (x - 1) + 1 = omega arith in
+    let used : is_in (x - 1 + 1) (x ∷ p) ≡ true = ap (λ b. b || is_in (x - 1 + 1) p) (eq-eqb x (x - 1 + 1) e) in
+    absurd (both_ways (has_mark 0 (x - 1)) (mark-zero (x - 1)) (m.bits (x - 1) ∙ used))
+
+pub mask_more : {m k n : ℕ} (p : List ℕ) → IsMask m p → IsAdded m k n → IsMask n (p ++ (k + 1) ∷ [])
+mask_more {m} {k} {n} p h a = record {
+  bits = λ j. elim (cases_eq j k) [
+    | inl same ↦ rw same (added_has a ∙ sym (is_in-push_same p k))
+    | inr other ↦ added_other a j other ∙ h.bits j ∙ sym (is_in-push_other p k j other)
+  ];
+}
+
+pub mask_less : {m k n : ℕ} (p : List ℕ) → IsMask n (p ++ (k + 1) ∷ []) → is_in (k + 1) p ≡ false → IsAdded m k n → IsMask m p
+mask_less {m} {k} {n} p h fresh a = record {
+  bits = λ j. elim (cases_eq j k) [
+    | inl same ↦ rw same (added_lacks a ∙ sym fresh)
+    | inr other ↦ sym (added_other a j other) ∙ h.bits j ∙ is_in-push_other p k j other
+  ];
+}
+
+pub mask_unique : {m n : ℕ} (p : List ℕ) → IsMask m p → IsMask n p → m ≡ n
+mask_unique {m} {n} p h i = same_from_marks m n (λ k. h.bits k ∙ sym (i.bits k))
+
+-- a list with its mask
+pub record IsMasked (sets p : List ℕ) : Type 0 where
+  pub mask : ℕ
+  pub used : IsMask mask p
+  pub ones : count_ones mask ≡ length p
+  pub small : mask < 2 ^ length sets
+
+masked_along : (sets s q : List ℕ) → IsStart sets (q ++ s) → IsMasked sets q → IsMasked sets (q ++ s)
+masked_along sets [] q h b = rw append-nil b
+masked_along sets (x ∷ s) q h b =
+    let next = start_next q x s h in
+    let low = next.low in let high = next.high in
+    let e : x ≡ (x - 1) + 1 = omega arith in
+    let fresh : has_mark b.mask (x - 1) ≡ false = b.used.bits (x - 1) ∙ ap (λ y. is_in y q) (sym e) ∙ next.fresh in
+    let a = added_with b.mask (x - 1) (b.mask + 2 ^ (x - 1)) fresh refl in
+    let used = mask_more q b.used a in
+    let whole : (q ++ x ∷ []) ++ s ≡ q ++ x ∷ s = append_assoc q (x ∷ []) s in
+    let more : IsMasked sets (q ++ x ∷ []) = record {
+      mask = b.mask + 2 ^ (x - 1);
+      used = rw (← e) at used;
+      ones = added_ones a ∙ ap (λ n. n + 1) b.ones ∙ sym (length_push q x);
+      small = added_below a (length sets) b.small (omega arith);
+    } in
+    rw whole at (masked_along sets s (q ++ x ∷ []) (rw whole h) more)
+
+pub mask_of : {sets : List ℕ} (p : List ℕ) → IsStart sets p → IsMasked sets p
+mask_of {sets} p h = masked_along sets p [] h record {
+  mask = 0;
+  used = mask_none;
+  ones = omega (arith, ones_le_self 0);
+  small = pow_pos (length sets);
+}
+
+pub mask-ones : {sets : List ℕ} {m : ℕ} (p : List ℕ) → IsStart sets p → IsMask m p → count_ones m ≡ length p
+mask-ones {sets} {m} p h used = let b = mask_of p h in rw (mask_unique p used b.used) b.ones
+
+pub mask_small : {sets : List ℕ} {m : ℕ} (p : List ℕ) → IsStart sets p → IsMask m p → m < 2 ^ length sets
+mask_small {sets} {m} p h used = let b = mask_of p h in rw (mask_unique p used b.used) b.small
+
+-- all of a list below k + 1, from its marks below k
+all_below : (p : List ℕ) (k : ℕ) → ((j : ℕ) → is_in (j + 1) p ≡ true → j < k) → list_all (λ y. ltb y (k + 1)) p ≡ true
+all_below [] k h = refl
+all_below (x ∷ p) k h =
+    let here : ltb x (k + 1) ≡ true = lt-ltb x (k + 1) (elim (cases_lt 0 x) [
+      | inl some ↦ (let e : x ≡ (x - 1) + 1 = omega arith in
+          let l = h (x - 1) (ap (λ b. b || is_in (x - 1 + 1) p) (eq-eqb x (x - 1 + 1) e)) in omega arith)
+      | inr none ↦ omega arith
+    ]) in
+    rw here (all_below p k (λ j e. h j (rw e (or_true (eqb x (j + 1))))))
+
+-- and a value not below k + 1
+some_above : (p : List ℕ) (k j : ℕ) → k ≤ j → is_in (j + 1) p ≡ true → list_all (λ y. ltb y (k + 1)) p ≡ false
+some_above [] k j l e = absurd (false≢true e)
+some_above (x ∷ p) k j l e =
+    elim (cases_Bool (eqb x (j + 1))) [
+      | inl here ↦ (let same = eqb-true x (j + 1) here in rw (le-ltb x (k + 1) (omega arith)) refl)
+      | inr other ↦ rw (some_above p k j l (rw other at e)) (and_false (ltb x (k + 1)))
+    ]
+
+-- a value is greater than all of a list where its power of two is greater than the list's mask
+pub tower_is : {mask : ℕ} (p : List ℕ) (k : ℕ) → IsMask mask p → list_all (λ y. ltb y (k + 1)) p ≡ ltb mask (2 ^ k)
+tower_is {mask} p k h =
+    elim (cases_lt mask (2 ^ k)) [
+      | inl small ↦ all_below p k (λ j e. below_from_mark mask k j small (h.bits j ∙ e)) ∙ sym (lt-ltb mask (2 ^ k) small)
+      | inr large ↦ (elim (cases_Bool (list_all (λ y. ltb y (k + 1)) p)) [
+        | inl all ↦ absurd (let small = below_from_marks mask k (λ j l. elim (cases_Bool (is_in (j + 1) p)) [
+          | inl e ↦ absurd (both_ways _ (some_above p k j l e) all)
+          | inr e ↦ h.bits j ∙ e
+        ]) in omega arith)
+        | inr some ↦ some ∙ sym (le-ltb mask (2 ^ k) large)
+      ])
+    ]
+
+-- 1 where the value is greater than all of the mask, and else 0
+abbrev pub tower : ℕ → ℕ → ℕ
+tower mask k = cond (ltb mask (2 ^ k)) 1 0
+
+pub seen-next : {mask : ℕ} (p s : List ℕ) (k : ℕ) → IsMask mask p
+    → seen_after p ((k + 1) ∷ s) ≡ tower mask k + seen_after (p ++ (k + 1) ∷ []) s
+seen-next p s k h = rw (tower_is p k h) refl
+
+pub seen-more : {mask : ℕ} (p : List ℕ) (k : ℕ) → IsMask mask p → seen (p ++ (k + 1) ∷ []) ≡ seen p + tower mask k
+seen-more p k h = seen-append p ((k + 1) ∷ []) ∙ ap (λ n. seen p + n) (seen-next p [] k h) ∙ omega arith
+
+-- masks of at most 9 values are places of the tables
+pub mask_in_table : (w mask : ℕ) → w ≤ 9 → mask < 2 ^ w → mask < 512
+mask_in_table w mask short inside = let most : 2 ^ w ≤ 2 ^ 9 = pow-le-pow_right (omega arith) short in omega arith

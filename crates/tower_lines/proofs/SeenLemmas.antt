@@ -1,0 +1,59 @@
+-- The towers seen along a line that is put together from parts.
+use Rattle.std.proofs.Common.{◌≡◌, ℕ, ◌+◌, ◌<◌, ◌≤◌, Bool, true, false, ltb, leb, cond, List, [], ◌∷◌, ◌++◌, length, refl, ◌∙◌, arith, append_assoc}
+use Rattle.std.specs.List.{list_all}
+use Rattle.std.proofs.lemmas.List.{append-nil}
+use Rattle.std.proofs.lemmas.List.Folds.{list_all-append}
+use Rattle.std.proofs.lemmas.Bool.{le-leb, lt-leb}
+use Rattle.std.proofs.lemmas.Bool.Decides.{nat_tests}
+use Rattle.tower_lines.specs.TowersSeen.{seen_after, seen}
+
+pub seen_after-append : (b p s : List ℕ) → seen_after b (p ++ s) ≡ seen_after b p + seen_after (b ++ p) s
+seen_after-append b [] s = rw append-nil (omega arith)
+seen_after-append b (x ∷ p) s =
+    let e = seen_after-append (b ++ x ∷ []) p s in
+    let f : (b ++ x ∷ []) ++ p ≡ b ++ x ∷ p = append_assoc b (x ∷ []) p in
+    let g = rw f at e in
+    omega (arith, g)
+
+pub seen-append : (p s : List ℕ) → seen (p ++ s) ≡ seen p + seen_after p s
+seen-append p s = seen_after-append [] p s
+
+step_most : (b : Bool) (n m : ℕ) → n ≤ m → cond b 1 0 + n ≤ m + 1
+step_most true n m h = omega arith
+step_most false n m h = omega arith
+
+pub seen_most : (b p : List ℕ) → seen_after b p ≤ length p
+seen_most b [] = omega arith
+seen_most b (x ∷ p) = omega (arith, step_most (list_all (λ y. ltb y x) b) _ (length p) (seen_most (b ++ x ∷ []) p))
+
+-- the first tower of a line is seen
+pub seen_some : (p : List ℕ) → 0 < length p → 0 < seen p
+seen_some [] h = absurd (omega arith)
+seen_some (x ∷ p) h = omega arith
+
+-- one more value at the end
+pub seen-push : (p : List ℕ) (x : ℕ) → seen (p ++ x ∷ []) ≡ seen p + cond (list_all (λ y. ltb y x) p) 1 0
+seen-push p x = seen-append p (x ∷ []) ∙ omega arith
+
+-- a height is greater than all of a list where it is at least the least height that is seen
+pub record IsLeastSeen (p : List ℕ) (least : ℕ) : Type 0 where
+  pub taller : (x : ℕ) → list_all (λ y. ltb y x) p ≡ leb least x
+
+pub least_seen_none : IsLeastSeen [] 0
+least_seen_none = record { taller = λ x. grind (arith, nat_tests) }
+
+pub least_seen_more : (p : List ℕ) (least height : ℕ) → IsLeastSeen p least → least ≤ height → IsLeastSeen (p ++ height ∷ []) (height + 1)
+least_seen_more p least height h l = record {
+  taller = λ x. list_all-append (λ y. ltb y x) p (height ∷ []) ∙ rw (h.taller x) (grind (arith, nat_tests));
+}
+
+pub least_seen_same : (p : List ℕ) (least height : ℕ) → IsLeastSeen p least → height < least → IsLeastSeen (p ++ height ∷ []) least
+least_seen_same p least height h l = record {
+  taller = λ x. list_all-append (λ y. ltb y x) p (height ∷ []) ∙ rw (h.taller x) (grind (arith, nat_tests));
+}
+
+pub seen-more_seen : (p : List ℕ) (least height : ℕ) → IsLeastSeen p least → least ≤ height → seen (p ++ height ∷ []) ≡ seen p + 1
+seen-more_seen p least height h l = seen-push p height ∙ rw (h.taller height) (rw (le-leb least height l) refl)
+
+pub seen-more_hidden : (p : List ℕ) (least height : ℕ) → IsLeastSeen p least → height < least → seen (p ++ height ∷ []) ≡ seen p
+seen-more_hidden p least height h l = seen-push p height ∙ rw (h.taller height) (rw (lt-leb least height l) (omega arith))

@@ -1,0 +1,3 @@
+pub mod LineFillings
+pub mod LineMasks
+pub mod TowersSeen

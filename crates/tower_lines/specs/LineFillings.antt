@@ -1,0 +1,28 @@
+-- The fillings of a line: candidates are sets of numbers, each a number whose bit n stands for n.
+use Rattle.std.specs.Prelude.{◌≡◌, ◌≢◌, ℕ, ◌<◌, ◌≤◌, Bool, true, List, length, slice_index, ◌==◌}
+use Rattle.std.specs.Int.{bit_at}
+use Rattle.tower_lines.specs.TowersSeen.{seen}
+
+-- whether a number is in a set
+abbrev pub has_mark : ℕ → ℕ → Bool
+has_mark m n = bit_at m n == 1
+
+-- values for the first squares of a line: each from 1 to the line's length and a candidate of its square, none twice
+pub record IsStart (sets line : List ℕ) : Type 0 where
+  pub room : length line ≤ length sets
+  pub values : (j : ℕ) → j < length line → (1 ≤ slice_index line j) × (slice_index line j ≤ length sets)
+  pub candidates : (j : ℕ) → j < length line → has_mark (slice_index sets j) (slice_index line j) ≡ true
+  pub apart : (i j : ℕ) → i < j → j < length line → slice_index line i ≢ slice_index line j
+
+-- values for all squares of the line, which show as many towers as the clue says
+pub record IsFilling (sets : List ℕ) (clue : ℕ) (line : List ℕ) : Type 0 where
+  pub start : IsStart sets line
+  pub whole : length line ≡ length sets
+  pub shown : seen line ≡ clue
+
+-- some filling has the value at the place
+pub record IsSupported (sets : List ℕ) (clue place value : ℕ) : Type 0 where
+  pub line : List ℕ
+  pub filling : IsFilling sets clue line
+  pub inside : place < length sets
+  pub here : slice_index line place ≡ value

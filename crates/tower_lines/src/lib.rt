@@ -1,0 +1,15 @@
+//! Lines of towers: the towers seen along a line, and the values that each square of a line with a
+//! clue can take.
+//!
+//! [`seen`] goes along the line once. [`supported`] goes over the sets of used values twice: a line
+//! of w squares costs at most w * 2^w steps, 24 for 3 squares and 4,608 for 9, and fewer where
+//! squares have few candidates. Neither takes memory from the heap.
+#![tactic(auto)]
+
+mod counts;
+mod line_fillings;
+mod masks;
+mod towers_seen;
+
+pub use line_fillings::supported;
+pub use towers_seen::seen;

@@ -1,0 +1,13 @@
+pub mod Trails
+pub mod BitSets
+pub mod KeptFields
+pub mod OneBit
+pub mod Earlier
+pub mod SolutionTests
+pub mod OneKept
+pub mod FilledGrids
+pub mod JoinedAnswers
+pub mod SearchSteps
+pub mod SettledSquares
+pub mod ListedSolutions
+pub mod ListingSteps

@@ -1,0 +1,80 @@
+-- The steps of a listing: what each does to the solutions that are to be listed.
+use Rattle.std.proofs.Common.{◌≡◌, ℕ, ◌+◌, ◌-◌, ◌*◌, ◌<◌, true, false, List, [], ◌∷◌, ◌++◌, length, sym, ◌∙◌, subst, inl, inr, ⊎_elim, arith}
+use Rattle.std.proofs.lemmas.Bool.{both_ways, cases_order}
+use Rattle.latin_board.specs.Squares.{GridValue, number_at}
+use Rattle.trail_solver.specs.Candidates.{CandidatesValue, IsEarlier, IsWithin, may_be}
+use Rattle.trail_solver.specs.Squares.{IsFilled, IsFirstOpen, KeepsOnly}
+use Rattle.trail_solver.specs.Puzzles.{Puzzle, Solves, IsAmong, IsAmongAt, IsAmongBelow}
+use Rattle.trail_solver.specs.Listings.{IsBelow, Lists}
+use Rattle.trail_solver.proofs.Earlier.{within_earlier}
+use Rattle.trail_solver.proofs.FilledGrids.{solution_pair, only_filled, filled_within}
+use Rattle.trail_solver.proofs.ListedSolutions.{first_none, first_full, first_only, lists_nothing, lists_same, lists_then}
+use Rattle.trail_solver.proofs.OneKept.{within_kept, value_kept}
+
+pub narrowed_lists : (p : Puzzle) (old new : CandidatesValue) (limit : ℕ) (xs ys : List GridValue) → IsEarlier old new → ((h : GridValue) → Solves p h → IsWithin old h → IsWithin new h) → Lists (IsAmong p new) limit xs ys → Lists (IsAmong p old) limit xs ys
+narrowed_lists p old new limit xs ys less keeps f =
+    lists_same (IsAmong p new) (IsAmong p old) limit xs ys (λ h s. (s.0, within_earlier old new h less s.1)) (λ h s. (s.0, keeps h s.0 s.1)) f
+
+pub refuted_lists : (p : Puzzle) (c : CandidatesValue) (limit : ℕ) (xs : List GridValue) → ((h : GridValue) → Solves p h → IsWithin c h → ⊥) → Lists (IsAmong p c) limit xs xs
+refuted_lists p c limit xs n = lists_nothing (IsAmong p c) limit xs (first_none (IsAmong p c) (limit - length xs) (λ h s. n h s.0 s.1))
+
+pub leaf_lists : (p : Puzzle) (c : CandidatesValue) (g : GridValue) (limit : ℕ) (xs ys : List GridValue) → c.size ≡ p.size → IsFilled c g → Solves p g → length xs < limit → ys ≡ xs ++ g ∷ [] → Lists (IsAmong p c) limit xs ys
+leaf_lists p c g limit xs ys size filled s room e = record {
+  more = g ∷ [];
+  whole = e;
+  first = first_only (IsAmong p c) (limit - length xs) g (s, filled_within c g filled) (λ h m. only_filled p c g h size filled m.0 m.1) (omega arith);
+}
+
+pub leaf_lists_none : (p : Puzzle) (c : CandidatesValue) (g : GridValue) (limit : ℕ) (xs : List GridValue) → c.size ≡ p.size → IsFilled c g → (Solves p g → ⊥) → Lists (IsAmong p c) limit xs xs
+leaf_lists_none p c g limit xs size filled n =
+    let P : GridValue → Type 0 = λ h. Solves p h in
+    refuted_lists p c limit xs (λ h s w. n (subst P (only_filled p c g h size filled s w) s))
+
+pub guess_lists : (p : Puzzle) (old kept : CandidatesValue) (cell value limit : ℕ) (xs ys : List GridValue) → old.size ≡ p.size → KeepsOnly old kept cell value → cell < old.size * old.size → Lists (IsAmong p kept) limit xs ys → Lists (IsAmongAt p old cell value) limit xs ys
+guess_lists p old kept cell value limit xs ys size k inside f =
+    lists_same (IsAmong p kept) (IsAmongAt p old cell value) limit xs ys
+    (λ h s. (s.0, (within_earlier old kept h k.less s.1, value_kept old kept cell value h k (solution_pair p h old.size cell s.0 size inside) s.1)))
+    (λ h s. (s.0, within_kept old kept cell value h k s.1.0 s.1.1)) f
+
+pub guess_lists_none : (p : Puzzle) (c : CandidatesValue) (cell value limit : ℕ) (xs : List GridValue) → cell < c.size * c.size → may_be c cell value ≡ false → Lists (IsAmongAt p c cell value) limit xs xs
+guess_lists_none p c cell value limit xs inside gone =
+    lists_nothing (IsAmongAt p c cell value) limit xs (first_none (IsAmongAt p c cell value) (limit - length xs) (λ h s.
+    let P : ℕ → Type 0 = λ v. may_be c cell v ≡ true in
+    both_ways (may_be c cell value) gone (subst P s.1.1 (s.1.0.each cell inside))))
+
+pub full_lists : (A : GridValue → Type 0) (limit : ℕ) (xs : List GridValue) → length xs ≡ limit → Lists A limit xs xs
+full_lists A limit xs full = lists_nothing A limit xs (first_full A (limit - length xs) (omega arith))
+
+-- ---- the values of the first open square, from 1 up
+
+pub value_lists_none : (p : Puzzle) (c : CandidatesValue) (cell limit : ℕ) (xs : List GridValue) → c.size ≡ p.size → cell < c.size * c.size → Lists (IsAmongBelow p c cell 1) limit xs xs
+value_lists_none p c cell limit xs size inside =
+    lists_nothing (IsAmongBelow p c cell 1) limit xs (first_none (IsAmongBelow p c cell 1) (limit - length xs) (λ h s.
+    let low = (solution_pair p h c.size cell s.0 size inside).low in omega (arith, s.1.1)))
+
+-- two solutions with a smaller and a greater number in the first open square
+below_at_first : (p : Puzzle) (c : CandidatesValue) (cell v : ℕ) (f g : GridValue) → c.size ≡ p.size → IsFirstOpen c cell → IsAmongBelow p c cell v f → IsAmongAt p c cell v g → IsBelow f g
+below_at_first p c cell v f g size first a b = record {
+  place = cell;
+  same = λ k less.
+      let only = (first.before k less).1 in
+      let inside : k < c.size * c.size = omega (arith, first.is_open.inside) in
+      let in_f = solution_pair p f c.size k a.0 size inside in
+      let in_g = solution_pair p g c.size k b.0 size inside in
+      only.alone (number_at f k) in_f.low in_f.high (a.1.0.each k inside) ∙ sym (only.alone (number_at g k) in_g.low in_g.high (b.1.0.each k inside));
+  less = omega (arith, a.1.1, b.1.1);
+}
+
+pub value_lists_more : (p : Puzzle) (c : CandidatesValue) (cell v limit : ℕ) (xs ys zs : List GridValue) → c.size ≡ p.size → IsFirstOpen c cell → Lists (IsAmongBelow p c cell v) limit xs ys → Lists (IsAmongAt p c cell v) limit ys zs → Lists (IsAmongBelow p c cell (v + 1)) limit xs zs
+value_lists_more p c cell v limit xs ys zs size first =
+    lists_then (IsAmongBelow p c cell v) (IsAmongAt p c cell v) (IsAmongBelow p c cell (v + 1)) limit xs ys zs
+    (λ h s. (s.0, (s.1.0, omega (arith, s.1.1))))
+    (λ h s. (s.0, (s.1.0, omega (arith, s.1.1))))
+    (λ h s. ⊎_elim (λ e. inr (s.0, (s.1.0, e))) (λ o. ⊎_elim (λ l. inl (s.0, (s.1.0, l))) (λ l. absurd (omega (arith, s.1.1))) o) (cases_order (number_at h cell) v))
+    (λ f g a b. below_at_first p c cell v f g size first a b)
+
+pub value_lists_all : (p : Puzzle) (c : CandidatesValue) (cell v limit : ℕ) (xs ys : List GridValue) → c.size ≡ p.size → cell < c.size * c.size → c.size < v → Lists (IsAmongBelow p c cell v) limit xs ys → Lists (IsAmong p c) limit xs ys
+value_lists_all p c cell v limit xs ys size inside all =
+    lists_same (IsAmongBelow p c cell v) (IsAmong p c) limit xs ys
+    (λ h s. (s.0, s.1.0))
+    (λ h s. let high = (solution_pair p h c.size cell s.0 size inside).high in (s.0, (s.1, omega arith)))

@@ -1,0 +1,16 @@
+use Rattle.std.proofs.Common.{◌≡◌, ◌+◌, ◌-◌, ◌*◌, length}
+use Rattle.trail_solver.specs.Listings.{Lists}
+use Rattle.trail_solver.specs.Puzzles.{IsAmongBelow}
+use Rattle.trail_solver.proofs.listing.+listing.Given as goal
+
+abbrev pub decreases-list_guess : goal.decreases-list_guess
+decreases-list_guess g l = 2 * (729 - length l.candidates.now.trail)
+
+abbrev pub decreases-list : goal.decreases-list
+decreases-list g l = 2 * (729 - length l.candidates.now.trail) + 1
+
+-- the solutions with a smaller value in the cell are listed
+abbrev pub invariant-list-loop-value : goal.invariant-list-loop-value
+invariant-list-loop-value g l =
+    (l.candidates ≡ l.initial.candidates)
+    × Lists (IsAmongBelow (g.P.Rules.puzzle l.p) l.initial.candidates l.cell l.value) l.limit l.initial.listed.items l.listed.items

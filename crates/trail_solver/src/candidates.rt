@@ -1,0 +1,180 @@
+ghost use Rattle.std.specs.Prelude.{◌≡◌, ℕ, ◌+◌, ◌-◌, ◌*◌, ◌<◌, ◌≤◌, ◌↔◌, true, List, [], length, take, MatchOption};
+ghost use Rattle.latin_board.specs.Marks.{has_mark};
+ghost use Rattle.trail_solver.specs.Pairs.{IsPair, with_pair};
+ghost use Rattle.trail_solver.specs.Candidates.{CandidatesValue, IsCandidates, IsOnly, IsEarlier, may_be};
+ghost use Rattle.trail_solver.specs.Fields.{FlipsBit};
+
+use arrayvec::ArrayVec;
+use latin_board::Size;
+use std::marker::Model;
+
+/// The squares of the largest grid.
+const CELLS: usize = 81;
+/// The pairs of a square and a value in the largest grid, and so the longest trail.
+const PAIRS: usize = 729;
+
+/// A place in the trail of `Candidates`, to give back what is removed from then on. Contracts see the trail's length.
+#[derive(Clone, Copy, PartialEq, Eq, Debug)]
+pub struct Mark {
+    len: usize,
+}
+
+impl Model for Mark {
+    ghost Value = { ℕ };
+
+    ghost view = { λ m. m.len };
+
+    ghost inverse = { λ n. record { len = n } };
+}
+
+impl Mark {
+    /// The trail's length when the mark was taken.
+    pub fn len(self) -> usize
+        ensures { result ≡ self }
+    {
+        self.len
+    }
+}
+
+/// Which values each square of a grid may still take.
+///
+/// Each square has a bit set of its candidates. The trail lists the pairs that were removed, in that order,
+/// so what was removed since a mark can be given back without a copy. It never allocates.
+#[derive(Debug, Drop)]
+pub struct Candidates {
+    size: Size,
+    // bit v of a cell's set: v may stand there
+    sets: [u16; CELLS],
+    trail: ArrayVec<(u8, u8), PAIRS>,
+}
+
+impl Model for Candidates {
+    ghost use Rattle.trail_solver.specs.Candidates.{CandidatesValue};
+    ghost use Rattle.trail_solver.specs.Fields.{IsKept};
+
+    ghost Value = { CandidatesValue };
+
+    ghost view = { λ c. record { size = c.size; trail = c.trail.items } };
+
+    ghost invariant = { λ c. IsKept c.size c.sets c.trail.items };
+}
+
+impl Candidates {
+    /// Every value of the size in every square.
+    pub fn all(size: Size) -> Candidates
+        ensures size { result.size ≡ size }
+        ensures trail { result.trail ≡ [] }
+    {
+        let full = (1 << (size.get() + 1)) - 2;
+        Candidates {
+            size,
+            sets: [full; CELLS],
+            trail: ArrayVec::new(),
+        }
+    }
+
+    /// The size of the grid.
+    pub fn size(&self) -> Size
+        ensures value { result ≡ self.now.size }
+        ensures valid { IsCandidates self.now }
+    {
+        self.size
+    }
+
+    /// Whether the value is a candidate of the cell; the cell is a square of the grid, and the value one of its numbers.
+    pub fn may(&self, cell: usize, value: u8) -> bool
+        requires { IsPair self.now.size cell value }
+        ensures { result ≡ may_be self.now cell value }
+    {
+        let sets = &self.sets;
+        sets[cell] >> value & 1 == 1
+    }
+
+    /// The candidates of the cell, a square of the grid, as a bit set: bit v is set where v is one.
+    pub fn values(&self, cell: usize) -> u16
+        requires { cell < self.now.size * self.now.size }
+        ensures { (v : ℕ) → (has_mark result v ≡ true)
+            ↔ (IsPair self.now.size cell v × (may_be self.now cell v ≡ true)) }
+    {
+        let sets = &self.sets;
+        sets[cell]
+    }
+
+    /// The only candidate of the cell, a square of the grid, where exactly one is left.
+    pub fn only(&self, cell: usize) -> Option<u8>
+        requires { cell < self.now.size * self.now.size }
+        ensures { MatchOption result ((v : ℕ) → IsOnly self.now cell v → ⊥) (IsOnly self.now cell) }
+    {
+        let set = self.values(cell);
+        if set == 0 {
+            return None;
+        }
+        let value = set.trailing_zeros() as u8;
+        if set == 1 << value { Some(value) } else { None }
+    }
+
+    /// The place in the trail that `give_back` restores.
+    pub fn mark(&self) -> Mark
+        ensures { result ≡ length self.now.trail }
+    {
+        Mark {
+            len: self.trail_len(),
+        }
+    }
+
+    /// How many pairs were removed: the length of the trail.
+    pub fn trail_len(&self) -> usize
+        ensures value { result ≡ length self.now.trail }
+        ensures bound { result ≤ self.now.size * self.now.size * self.now.size }
+    {
+        self.trail.len()
+    }
+
+    /// Takes the value from the cell's candidates. Does nothing where it is gone already. The cell is a square of the
+    /// grid, and the value one of its numbers.
+    pub fn remove(&mut self, cell: usize, value: u8)
+        requires { IsPair self.old.size cell value }
+        ensures size { self.new.size ≡ self.old.size }
+        ensures trail { self.new.trail ≡ with_pair self.old.trail cell value }
+    {
+        if !self.may(cell, value) {
+            return;
+        }
+        flip(&mut self.sets, cell, value);
+        self.trail.push((cell as u8, value));
+    }
+
+    /// Gives back each pair that was removed since the mark was taken. The mark isn't longer than the trail.
+    pub fn give_back(&mut self, mark: Mark)
+        requires { mark ≤ length self.old.trail }
+        ensures size { self.new.size ≡ self.old.size }
+        ensures trail { self.new.trail ≡ take mark self.old.trail }
+
+        // Where what stood at the mark is in front of what stands now, it stands again.
+        ensures restores { (earlier : CandidatesValue) → IsEarlier earlier self.old
+            → mark ≡ length earlier.trail → self.new ≡ earlier }
+    {
+        while self.trail_len() > mark.len() {
+            self.undo();
+        }
+    }
+
+    // Gives back the last pair of the trail.
+    fn undo(&mut self)
+        ensures size { self.new.size ≡ self.old.size }
+        ensures trail { self.new.trail ≡ take (length self.old.trail - 1) self.old.trail }
+    {
+        if let Some((cell, value)) = self.trail.pop() {
+            flip(&mut self.sets, cell as usize, value);
+        }
+    }
+}
+
+// Takes the value into the cell's set, or out of it.
+fn flip(sets: &mut [u16; CELLS], cell: usize, value: u8)
+    requires inside { cell < CELLS }
+    requires small { value < 16 }
+    ensures { FlipsBit sets.old sets.new cell value }
+{
+    sets[cell] ^= 1 << value;
+}

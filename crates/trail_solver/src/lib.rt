@@ -1,0 +1,24 @@
+//! Candidates of a Latin square's squares with a trail, and a solver for every puzzle on a Latin square.
+//!
+//! `Candidates` has a bit set for each square and a trail of what was removed, so a guess is taken back without a copy.
+//! A game writes `Rules`: its size, givens and clues, how it narrows candidates, and the laws that generic code builds
+//! on. Of that alone `solves` tells whether a grid is a solution, `solve` whether there are none, one or several, and
+//! `solutions` lists the first of them in order. Only `solutions` takes memory.
+#![tactic(auto)]
+
+mod answer;
+mod candidates;
+mod choice;
+mod listing;
+mod rules;
+mod solver;
+mod squares;
+
+pub use answer::Answer;
+pub use candidates::{Candidates, Mark};
+pub use listing::solutions;
+pub use rules::{Rules, solves};
+pub use solver::solve;
+
+#[cfg(test)]
+mod tests;

@@ -1,0 +1,104 @@
+ghost use Rattle.std.specs.Prelude.{◌≡◌, ◌<◌, ◌≤◌, length, IfOk, OnOk};
+ghost use Rattle.trail_solver.specs.Pairs.{IsPair};
+ghost use Rattle.trail_solver.specs.Candidates.{IsEarlier};
+ghost use Rattle.trail_solver.specs.Squares.{AreSettled, IsOpen};
+ghost use Rattle.trail_solver.specs.Puzzles.{IsAmong, IsAmongAt, Solves};
+ghost use Rattle.trail_solver.specs.Listings.{AreFirst, Lists};
+
+use crate::candidates::Candidates;
+use crate::choice::first_open;
+use crate::rules::{Rules, solves};
+use crate::squares::{filled, keep_only, with_givens};
+use latin_board::{Grid, OutOfMemory};
+use std::alloc::Global;
+
+/// The first solutions of the puzzle as lists of numbers in reading order, rising, each once; all of them where there
+/// are no more than the limit, which is from 1 to 100. `OutOfMemory` where a growth was refused.
+pub fn solutions<P: Rules>(alloc: Global, p: &P, limit: u8) -> Result<Vec<Grid>, OutOfMemory>
+    requires least { 1 ≤ limit }
+    requires most { limit ≤ 100 }
+    ensures { IfOk result (λ listed. AreFirst (Solves (P.puzzle p.now)) limit listed.items) }
+{
+    let mut candidates = with_givens(p);
+    let mut listed = Vec::new(alloc);
+    list(p, &mut candidates, limit, &mut listed)?;
+    Ok(listed)
+}
+
+// Lists the solutions among the candidates, while there is room.
+#[cycle(listing)]
+fn list<P: Rules>(
+    p: &P,
+    candidates: &mut Candidates,
+    limit: u8,
+    listed: &mut Vec<Grid>,
+) -> Result<(), OutOfMemory>
+    requires size { candidates.old.size ≡ (P.puzzle p.now).size }
+    requires room { length listed.old.items < limit }
+    ensures less { IsEarlier candidates.old candidates.new }
+    ensures lists { OnOk result
+        (Lists (IsAmong (P.puzzle p.now) candidates.old) limit listed.old.items listed.new.items) }
+{
+    if !p.narrow(candidates) {
+        return Ok(());
+    }
+    let Some(cell) = first_open(candidates) else {
+        return list_leaf(p, candidates, limit, listed);
+    };
+    let width = candidates.size().get();
+    for value in 1..width + 1 {
+        list_guess(p, candidates, cell, value, limit, listed)?;
+    }
+    Ok(())
+}
+
+// Lists those that have the value in the cell, and leaves the candidates as they were.
+#[cycle(listing)]
+fn list_guess<P: Rules>(
+    p: &P,
+    candidates: &mut Candidates,
+    cell: usize,
+    value: u8,
+    limit: u8,
+    listed: &mut Vec<Grid>,
+) -> Result<(), OutOfMemory>
+    requires size { candidates.old.size ≡ (P.puzzle p.now).size }
+    requires open_cell { IsOpen candidates.old cell }
+    requires pair { IsPair candidates.old.size cell value }
+    requires few { length listed.old.items ≤ limit }
+    ensures same { candidates.new ≡ candidates.old }
+    ensures lists { OnOk result
+        (Lists (IsAmongAt (P.puzzle p.now) candidates.old cell value) limit listed.old.items listed.new.items) }
+{
+    if listed.len() == limit as usize {
+        return Ok(());
+    }
+    if !candidates.may(cell, value) {
+        return Ok(());
+    }
+    let mark = candidates.mark();
+    keep_only(candidates, cell, value);
+    let done = list(p, candidates, limit, listed);
+    candidates.give_back(mark);
+    done
+}
+
+// Lists the only grid of the candidates, where it is a solution.
+fn list_leaf<P: Rules>(
+    p: &P,
+    candidates: &Candidates,
+    limit: u8,
+    listed: &mut Vec<Grid>,
+) -> Result<(), OutOfMemory>
+    requires size { candidates.now.size ≡ (P.puzzle p.now).size }
+    requires settled { AreSettled candidates.now }
+    requires room { length listed.old.items < limit }
+    ensures { OnOk result
+        (Lists (IsAmong (P.puzzle p.now) candidates.now) limit listed.old.items listed.new.items) }
+{
+    let grid = filled(candidates);
+    if solves(p, &grid) {
+        listed.push(grid)?;
+    }
+    Ok(())
+}

@@ -1,0 +1,144 @@
+ghost use Rattle.std.specs.Prelude.{◌≡◌, ℕ, ◌*◌, ◌<◌, ◌≤◌, ◌↔◌, ◌==◌, ◌&&◌, Bool, true, not, IsTrue};
+ghost use Rattle.std.specs.Bool.{OnFalse};
+ghost use Rattle.latin_board.specs.Squares.{GridValue, IsGrid, IsFull, IsLatin};
+ghost use Rattle.trail_solver.specs.Candidates.{IsEarlier, IsWithin};
+ghost use Rattle.trail_solver.specs.Puzzles.{Puzzle, Solves, HoldsGivens, solves_test};
+
+use crate::candidates::Candidates;
+use latin_board::{Grid, Size};
+
+/// A puzzle on a Latin square, as a solver and a generator see it.
+///
+/// A puzzle has a size, given numbers, and clues or signs. All of these are its items, numbered from 0; which item a
+/// number stands for is the puzzle's own affair. Generic code knows of them only what the laws below say.
+pub trait Rules: Copy {
+    // The size, the givens, and which grids meet the clues or signs.
+    ghost puzzle: { Self → Puzzle };
+
+    // What holds of every puzzle of the type.
+    ghost valid: { Self → Type 0 };
+
+    // How many items a puzzle of a size can have.
+    ghost items_of: { ℕ → ℕ };
+
+    // Whether the puzzle has an item.
+    ghost has: { Self → ℕ → Bool };
+
+    // The puzzle without its items outside a set.
+    ghost cut: { Self → (ℕ → Bool) → Self };
+
+    // The puzzle with every item, each with the grid's own value.
+    ghost full_of: { GridValue → Self };
+
+    /// The size of the grid.
+    fn size(&self) -> Size
+        ensures value { result ≡ (puzzle self.now).size }
+        ensures valid { valid self.now };
+
+    /// The given number of a square, 0 for none; the cell is one of the grid's.
+    fn given(&self, cell: usize) -> u8
+        requires { cell < (puzzle self.now).size * (puzzle self.now).size }
+        ensures value { result ≡ (puzzle self.now).given cell }
+        ensures within { result ≤ (puzzle self.now).size };
+
+    /// Whether a grid meets the clues or signs alone; the grid is full and of the puzzle's size.
+    fn holds(&self, grid: &Grid) -> bool
+        requires size { grid.now.size ≡ (puzzle self.now).size }
+        requires full { IsFull grid.now }
+        ensures { result ≡ (puzzle self.now).meets grid.now };
+
+    /// Removes candidates that no solution among them needs, and answers false only where there is no such solution;
+    /// the sizes are equal.
+    fn narrow(&self, candidates: &mut Candidates) -> bool
+        requires { candidates.old.size ≡ (puzzle self.now).size }
+        ensures less { IsEarlier candidates.old candidates.new }
+        ensures keeps { (g : GridValue) → Solves (puzzle self.now) g
+            → IsWithin candidates.old g → IsWithin candidates.new g }
+        ensures refutes { OnFalse result ((g : GridValue) → Solves (puzzle self.now) g
+            → IsWithin candidates.old g → ⊥) };
+
+    /// How many items a puzzle of this size can have.
+    fn item_count(size: Size) -> usize
+        ensures { result ≡ items_of size };
+
+    /// Whether the puzzle has the item; i is below the count.
+    fn has_item(&self, i: usize) -> bool
+        requires { i < items_of (puzzle self.now).size }
+        ensures { result ≡ has self.now i };
+
+    /// Takes the item away, where it is there; i is below the count.
+    fn drop_item(&mut self, i: usize)
+        requires { i < items_of (puzzle self.old).size }
+        ensures { self.new ≡ cut self.old (λ j. not (j == i)) };
+
+    /// The puzzle that has every item, each with the grid's own value; the grid is Latin.
+    fn full(grid: &Grid) -> Self
+        requires { IsLatin grid.now }
+        ensures { result ≡ full_of grid.now };
+
+    // The size is one that grids have, and a given is one of its numbers.
+    ghost valid_size: { (p : Self) → valid p → (3 ≤ (puzzle p).size) × ((puzzle p).size ≤ 9) };
+
+    ghost valid_given: { (p : Self) (cell : ℕ) → valid p → cell < (puzzle p).size * (puzzle p).size
+        → (puzzle p).given cell ≤ (puzzle p).size };
+
+    // A cut has the items that were there and are in the set. To cut with every item is to change nothing, two cuts
+    // are one, and only the items below the count matter.
+    ghost cut_valid: { (p : Self) (keep : ℕ → Bool) → valid p → valid (cut p keep) };
+
+    ghost cut_size: { (p : Self) (keep : ℕ → Bool) → valid p
+        → (puzzle (cut p keep)).size ≡ (puzzle p).size };
+
+    ghost cut_has: { (p : Self) (keep : ℕ → Bool) (i : ℕ) → valid p → i < items_of (puzzle p).size
+        → has (cut p keep) i ≡ (has p i && keep i) };
+
+    ghost cut_all: { (p : Self) → valid p → cut p (λ i. true) ≡ p };
+
+    ghost cut_cut: { (p : Self) (first second : ℕ → Bool) → valid p
+        → cut (cut p first) second ≡ cut p (λ i. first i && second i) };
+
+    ghost cut_agrees: { (p : Self) (a b : ℕ → Bool) → valid p
+        → ((i : ℕ) → i < items_of (puzzle p).size → a i ≡ b i) → cut p a ≡ cut p b };
+
+    // A cut loses no solution.
+    ghost cut_solved: { (p : Self) (keep : ℕ → Bool) (g : GridValue) → valid p
+        → Solves (puzzle p) g → Solves (puzzle (cut p keep)) g };
+
+    // The full puzzle of a Latin square has its size and every item, and the square solves it.
+    ghost full_valid: { (g : GridValue) → IsGrid g → IsLatin g → valid (full_of g) };
+
+    ghost full_size: { (g : GridValue) → IsGrid g → IsLatin g → (puzzle (full_of g)).size ≡ g.size };
+
+    ghost full_has: { (g : GridValue) (i : ℕ) → IsGrid g → IsLatin g → i < items_of g.size
+        → has (full_of g) i ≡ true };
+
+    ghost full_solved: { (g : GridValue) → IsGrid g → IsLatin g → Solves (puzzle (full_of g)) g };
+}
+
+/// Whether the grid is a solution of the puzzle: Latin, with the puzzle's givens, and meeting its clues or signs; the
+/// sizes are equal.
+pub fn solves<P: Rules>(p: &P, grid: &Grid) -> bool
+    requires { grid.now.size ≡ (P.puzzle p.now).size }
+    ensures rule { IsTrue result ↔ Solves (P.puzzle p.now) grid.now }
+    ensures test { result ≡ solves_test (P.puzzle p.now) grid.now }
+{
+    if !grid.is_latin() {
+        return false;
+    }
+    holds_givens(p, grid) && p.holds(grid)
+}
+
+// Whether each given stands in its square.
+fn holds_givens<P: Rules>(p: &P, grid: &Grid) -> bool
+    requires { grid.now.size ≡ (P.puzzle p.now).size }
+    ensures { IsTrue result ↔ HoldsGivens (P.puzzle p.now) grid.now }
+{
+    let width = grid.size().get() as usize;
+    for cell in 0..width * width {
+        let given = p.given(cell);
+        if given != 0 && grid.get(cell) != given {
+            return false;
+        }
+    }
+    true
+}

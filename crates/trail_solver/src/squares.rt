@@ -1,0 +1,59 @@
+ghost use Rattle.std.specs.Prelude.{◌≡◌, ◌≤◌, length};
+ghost use Rattle.latin_board.specs.Squares.{GridValue};
+ghost use Rattle.trail_solver.specs.Pairs.{IsPair};
+ghost use Rattle.trail_solver.specs.Candidates.{IsWithin};
+ghost use Rattle.trail_solver.specs.Squares.{AreSettled, IsFilled, KeepsOnly};
+ghost use Rattle.trail_solver.specs.Puzzles.{Solves};
+
+use crate::candidates::Candidates;
+use crate::rules::Rules;
+use latin_board::Grid;
+
+/// Takes all other values from a square's candidates.
+pub(crate) fn keep_only(candidates: &mut Candidates, cell: usize, value: u8)
+    requires { IsPair candidates.old.size cell value }
+    ensures kept { KeepsOnly candidates.old candidates.new cell value }
+    ensures bound { length candidates.new.trail ≤ 729 }
+{
+    let width = candidates.size().get();
+    for other in 1..width + 1 {
+        if other != value {
+            candidates.remove(cell, other);
+        }
+    }
+    // What a trail's length can be is a clause of `trail_len`.
+    let _bound = candidates.trail_len();
+}
+
+/// The candidates that the puzzle's givens leave.
+pub(crate) fn with_givens<P: Rules>(p: &P) -> Candidates
+    ensures size { result.size ≡ (P.puzzle p.now).size }
+    ensures keeps { (g : GridValue) → Solves (P.puzzle p.now) g → IsWithin result g }
+{
+    let size = p.size();
+    let width = size.get() as usize;
+    let mut candidates = Candidates::all(size);
+    for cell in 0..width * width {
+        let given = p.given(cell);
+        if given > 0 {
+            keep_only(&mut candidates, cell, given);
+        }
+    }
+    candidates
+}
+
+/// The grid of the candidates, where each square has just one.
+pub(crate) fn filled(candidates: &Candidates) -> Grid
+    requires { AreSettled candidates.now }
+    ensures { IsFilled candidates.now result }
+{
+    let size = candidates.size();
+    let width = size.get() as usize;
+    let mut grid = Grid::blank(size);
+    for cell in 0..width * width {
+        if let Some(value) = candidates.only(cell) {
+            grid.set(cell, value);
+        }
+    }
+    grid
+}
