@@ -1,0 +1,10 @@
+-- Lemmas on moves, their texts and histories.
+pub mod SolutionTexts
+pub mod MoveTextLaws
+pub mod BoardFilling
+pub mod Making
+pub mod Replaying
+pub mod Linking
+pub mod Viewing
+pub mod Playing
+pub mod SessionLaws

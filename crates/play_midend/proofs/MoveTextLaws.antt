@@ -1,0 +1,224 @@
+-- What is read of a text is the move that it spells, and each move's text is read.
+use Rattle.std.proofs.Common.{◌≡◌, ℕ, zero, ◌≤◌, ℤ, pos, negsuc, true, false, ◌==◌, cond, List, [], ◌∷◌, ◌++◌, codes, bytes_eq, Option, Some, None, option_map, option_and_then, Result, Ok, Err, IfOk, IfErr, ok_or, refl, sym, ap, ◌∙◌, subst, arith}
+use Rattle.std.specs.Fmt.{decimal}
+use Rattle.std.proofs.lemmas.Fmt.{decimal_digit}
+use Rattle.std.proofs.lemmas.Slice.Eq.{bytes_eq-Decides}
+use borrow.Author.Tests.{eqb-true}
+use Rattle.byte_text.specs.Cuts.{Lacks, before, behind}
+use Rattle.byte_text.specs.Decimals.{number_at}
+use Rattle.byte_text.proofs.CutLaws.{cut_parts, before_at, behind_at}
+use Rattle.byte_text.proofs.DecimalLaws.{number_taken, number_again, lacks_decimal}
+use Rattle.play_midend.specs.declared.moves.Move.{Move}
+use Rattle.play_midend.specs.declared.moves.Move.TheVariants.{Real, Pencil, MarkAll, Solve, Restart, Done}
+use Rattle.play_midend.specs.declared.fault.PlayFault.{PlayFault}
+use Rattle.play_midend.specs.MoveTexts.{byte_r, byte_p, byte_m, byte_s, byte_d, comma, three_text, coordinate_text, move_text, AreBytes, IsCoordinate, IsWritable, IsMoveText, move_fault, all_three, three_behind, three_at, coordinate_at, both, two_at, solution_at, nothing_more, move_by, move_at}
+use Rattle.play_midend.proofs.SolutionTexts.{solution_taken, solution_again}
+
+-- three numbers
+abbrev IsThree : List ℕ → ℕ × ℕ × ℕ → Type 0
+IsThree text t = AreBytes t.0 t.1 t.2 × (text ≡ three_text t.0 t.1 t.2)
+
+all_three_taken : (x y n : Option ℕ) (t : ℕ × ℕ × ℕ) → all_three x y n ≡ Some t → (x ≡ Some t.0) × (y ≡ Some t.1) × (n ≡ Some t.2)
+all_three_taken (Some x) (Some y) (Some n) t e =
+    let f : (x, y, n) ≡ t = cc in (ap (λ u. Some u.0) f, ap (λ u. Some u.1) f, ap (λ u. Some u.2) f)
+all_three_taken None y n t e = cc
+all_three_taken (Some x) None n t e = cc
+all_three_taken (Some x) (Some y) None t e = cc
+
+three_parts : (text rest last : List ℕ) (t : ℕ × ℕ × ℕ) → behind comma text ≡ Some rest → behind comma rest ≡ Some last → all_three (number_at 255 (before comma text)) (number_at 255 (before comma rest)) (number_at 255 last) ≡ Some t → IsThree text t
+three_parts text rest last t cut more read =
+    let each = all_three_taken _ _ _ t read in
+    let x = number_taken 255 t.0 (before comma text) (omega arith) each.0 in
+    let y = number_taken 255 t.1 (before comma rest) (omega arith) each.1 in
+    let n = number_taken 255 t.2 last (omega arith) each.2 in
+    let e : text ≡ before comma text ++ (comma ∷ rest) = cut_parts comma text rest cut in
+    let f : rest ≡ before comma rest ++ (comma ∷ last) = cut_parts comma rest last more in
+    let g : rest ≡ decimal t.1 ++ (comma ∷ decimal t.2) = f ∙ ap (λ front. front ++ (comma ∷ last)) y.0 ∙ ap (λ end. decimal t.1 ++ (comma ∷ end)) n.0 in (
+      record { x_is = x.1; y_is = y.1; n_is = n.1 },
+      e ∙ ap (λ front. front ++ (comma ∷ rest)) x.0 ∙ ap (λ end. decimal t.0 ++ (comma ∷ end)) g,
+    )
+
+three_taken : (text : List ℕ) (t : ℕ × ℕ × ℕ) → three_at text ≡ Some t → IsThree text t
+three_taken text t =
+    elim (behind comma text) as (λ o. behind comma text ≡ o → option_and_then (λ rest. three_behind (number_at 255 (before comma text)) rest) o ≡ Some t → IsThree text t) [
+      | None ↦ λ cut read. cc
+      | Some rest ↦ λ cut. elim (behind comma rest) as (λ o. behind comma rest ≡ o → option_and_then (λ last. all_three (number_at 255 (before comma text)) (number_at 255 (before comma rest)) (number_at 255 last)) o ≡ Some t → IsThree text t) [
+        | None ↦ λ more read. cc
+        | Some last ↦ λ more read. three_parts text rest last t cut more read
+      ] refl
+    ] refl
+
+three_again : (x y n : ℕ) → AreBytes x y n → three_at (three_text x y n) ≡ Some (x, y, n)
+three_again x y n h =
+    let lacks : (k : ℕ) → k ≤ 255 → Lacks comma (decimal k) = λ k within. lacks_decimal comma k (omega arith) refl in
+    let back : (k : ℕ) → k ≤ 255 → number_at 255 (decimal k) ≡ Some k = λ k within. number_again 255 k within (omega arith) in
+    let rest : List ℕ = decimal y ++ (comma ∷ decimal n) in
+    rw (behind_at comma (decimal x) rest (lacks x h.x_is), before_at comma (decimal x) rest (lacks x h.x_is), behind_at comma (decimal y) (decimal n) (lacks y h.y_is), before_at comma (decimal y) (decimal n) (lacks y h.y_is), back x h.x_is, back y h.y_is, back n h.n_is) refl
+
+-- the numbers of a done mark's place
+minus_one : coordinate_text (negsuc zero) ≡ codes "-1"
+minus_one = ap (λ ds. 45 ∷ ds) (decimal_digit 1 (omega arith))
+
+coordinate_taken : (text : List ℕ) (z : ℤ) → coordinate_at text ≡ Some z → IsCoordinate z × (text ≡ coordinate_text z)
+coordinate_taken text z =
+    elim (bytes_eq text (codes "-1")) as (λ t. bytes_eq text (codes "-1") ≡ t → cond t (Some (negsuc zero)) (option_map pos (number_at 127 text)) ≡ Some z → IsCoordinate z × (text ≡ coordinate_text z)) [
+      | true ↦ λ is read.
+          let e : negsuc zero ≡ z = cc in
+          let same : text ≡ codes "-1" = (bytes_eq-Decides text (codes "-1")).0 is in
+          subst (λ (v : ℤ). IsCoordinate v × (text ≡ coordinate_text v)) e (refl, same ∙ sym minus_one)
+      | false ↦ λ is. elim (number_at 127 text) as (λ o. number_at 127 text ≡ o → option_map pos o ≡ Some z → IsCoordinate z × (text ≡ coordinate_text z)) [
+        | None ↦ λ number read. cc
+        | Some n ↦ λ number read.
+            let e : pos n ≡ z = cc in
+            let taken = number_taken 127 n text (omega arith) number in
+            subst (λ (v : ℤ). IsCoordinate v × (text ≡ coordinate_text v)) e (taken.1, taken.0)
+      ] refl
+    ] refl
+
+not_minus : (text : List ℕ) → Lacks 45 text → bytes_eq text (codes "-1") ≡ false
+not_minus [] h = refl
+not_minus (b ∷ bs) h =
+    elim (bytes_eq (b ∷ bs) (codes "-1")) as (λ t. bytes_eq (b ∷ bs) (codes "-1") ≡ t → t ≡ false) [
+      | true ↦ λ is. let same : b ∷ bs ≡ 45 ∷ 49 ∷ [] = (bytes_eq-Decides (b ∷ bs) (codes "-1")).0 is in let first : b ≡ 45 = cc in absurd (h.0 first)
+      | false ↦ λ is. refl
+    ] refl
+
+coordinate_again : (z : ℤ) → IsCoordinate z → (Lacks comma (coordinate_text z)) × (coordinate_at (coordinate_text z) ≡ Some z)
+coordinate_again (pos n) h = (
+  lacks_decimal comma n (omega arith) refl,
+  rw (not_minus (decimal n) (lacks_decimal 45 n (omega arith) refl), number_again 127 n h (omega arith)) refl,
+)
+coordinate_again (negsuc n) h =
+    subst (λ (k : ℕ). Lacks comma (coordinate_text (negsuc k)) × (coordinate_at (coordinate_text (negsuc k)) ≡ Some (negsuc k))) (sym h)
+    (subst (λ (text : List ℕ). Lacks comma text × (coordinate_at text ≡ Some (negsuc zero))) (sym minus_one)
+    ((λ e. absurd (omega arith), (λ e. absurd (omega arith), tt)), refl))
+
+abbrev IsTwo : List ℕ → ℤ × ℤ → Type 0
+IsTwo text t = IsCoordinate t.0 × IsCoordinate t.1 × (text ≡ coordinate_text t.0 ++ (comma ∷ coordinate_text t.1))
+
+both_taken : (x y : Option ℤ) (t : ℤ × ℤ) → both x y ≡ Some t → (x ≡ Some t.0) × (y ≡ Some t.1)
+both_taken (Some x) (Some y) t e = let f : (x, y) ≡ t = cc in (ap (λ u. Some u.0) f, ap (λ u. Some u.1) f)
+both_taken None y t e = cc
+both_taken (Some x) None t e = cc
+
+two_taken : (text : List ℕ) (t : ℤ × ℤ) → two_at text ≡ Some t → IsTwo text t
+two_taken text t =
+    elim (behind comma text) as (λ o. behind comma text ≡ o → option_and_then (λ rest. both (coordinate_at (before comma text)) (coordinate_at rest)) o ≡ Some t → IsTwo text t) [
+      | None ↦ λ cut read. cc
+      | Some rest ↦ λ cut read.
+          let each = both_taken _ _ t read in
+          let x = coordinate_taken (before comma text) t.0 each.0 in
+          let y = coordinate_taken rest t.1 each.1 in
+          let e : text ≡ before comma text ++ (comma ∷ rest) = cut_parts comma text rest cut in
+          (x.0, y.0, e ∙ ap (λ front. front ++ (comma ∷ rest)) x.1 ∙ ap (λ end. coordinate_text t.0 ++ (comma ∷ end)) y.1)
+    ] refl
+
+two_again : (x y : ℤ) → IsCoordinate x → IsCoordinate y → two_at (coordinate_text x ++ (comma ∷ coordinate_text y)) ≡ Some (x, y)
+two_again x y hx hy =
+    let a = coordinate_again x hx in
+    let b = coordinate_again y hy in
+    rw (behind_at comma (coordinate_text x) (coordinate_text y) a.0, before_at comma (coordinate_text x) (coordinate_text y) a.0, a.1, b.1) refl
+
+-- the moves of each letter
+abbrev Reads : Option Move → ℕ → List ℕ → Move → Type 0
+Reads read b bs m = read ≡ Some m → IsMoveText m (b ∷ bs)
+
+real_taken : (bs : List ℕ) (m : Move) → Reads (option_map (λ t. Real t.0 t.1 t.2) (three_at bs)) byte_r bs m
+real_taken bs m =
+    elim (three_at bs) as (λ o. three_at bs ≡ o → Reads (option_map (λ t. Real t.0 t.1 t.2) o) byte_r bs m) [
+      | None ↦ λ is read. cc
+      | Some t ↦ λ is read.
+          let h = three_taken bs t is in
+          let e : Real t.0 t.1 t.2 ≡ m = cc in
+          subst (λ (k : Move). IsMoveText k (byte_r ∷ bs)) e (record { writable = h.0; spelled = ap (λ xs. byte_r ∷ xs) h.1 })
+    ] refl
+
+pencil_taken : (bs : List ℕ) (m : Move) → Reads (option_map (λ t. Pencil t.0 t.1 t.2) (three_at bs)) byte_p bs m
+pencil_taken bs m =
+    elim (three_at bs) as (λ o. three_at bs ≡ o → Reads (option_map (λ t. Pencil t.0 t.1 t.2) o) byte_p bs m) [
+      | None ↦ λ is read. cc
+      | Some t ↦ λ is read.
+          let h = three_taken bs t is in
+          let e : Pencil t.0 t.1 t.2 ≡ m = cc in
+          subst (λ (k : Move). IsMoveText k (byte_p ∷ bs)) e (record { writable = h.0; spelled = ap (λ xs. byte_p ∷ xs) h.1 })
+    ] refl
+
+mark_all_taken : (bs : List ℕ) (m : Move) → Reads (nothing_more bs) byte_m bs m
+mark_all_taken [] m read =
+    let e : MarkAll ≡ m = cc in
+    subst (λ (k : Move). IsMoveText k (byte_m ∷ [])) e (record { writable = tt; spelled = refl })
+mark_all_taken (b ∷ bs) m read = cc
+
+solve_taken : (bs : List ℕ) (m : Move) → Reads (option_map Solve (solution_at bs)) byte_s bs m
+solve_taken bs m =
+    elim (solution_at bs) as (λ o. solution_at bs ≡ o → Reads (option_map Solve o) byte_s bs m) [
+      | None ↦ λ is read. cc
+      | Some g ↦ λ is read.
+          let h = solution_taken bs g is in
+          let e : Solve g ≡ m = cc in
+          subst (λ (k : Move). IsMoveText k (byte_s ∷ bs)) e (record { writable = h.0; spelled = ap (λ xs. byte_s ∷ xs) h.1 })
+    ] refl
+
+done_taken : (bs : List ℕ) (m : Move) → Reads (option_map (λ t. Done t.0 t.1) (two_at bs)) byte_d bs m
+done_taken bs m =
+    elim (two_at bs) as (λ o. two_at bs ≡ o → Reads (option_map (λ t. Done t.0 t.1) o) byte_d bs m) [
+      | None ↦ λ is read. cc
+      | Some t ↦ λ is read.
+          let h = two_taken bs t is in
+          let e : Done t.0 t.1 ≡ m = cc in
+          subst (λ (k : Move). IsMoveText k (byte_d ∷ bs)) e (record { writable = (h.0, h.1); spelled = ap (λ xs. byte_d ∷ xs) h.2 })
+    ] refl
+
+-- what is read of a first byte is read of any byte that is equal
+by_byte : (read : Option Move) (b k : ℕ) (bs : List ℕ) (m : Move) → Reads read k bs m → (b == k) ≡ true → Reads read b bs m
+by_byte read b k bs m h is = subst (λ (x : ℕ). Reads read x bs m) (sym (eqb-true b k is)) h
+
+-- what is read of a text is the move that it spells
+pub move_taken : (text : List ℕ) (m : Move) → move_by text ≡ Some m → IsMoveText m text
+move_taken [] m = λ read. cc
+move_taken (b ∷ bs) m =
+    elim (b == byte_r) as (λ t. (b == byte_r) ≡ t → Reads (cond t (option_map (λ t. Real t.0 t.1 t.2) (three_at bs)) (cond (b == byte_p) (option_map (λ t. Pencil t.0 t.1 t.2) (three_at bs)) (cond (b == byte_m) (nothing_more bs) (cond (b == byte_s) (option_map Solve (solution_at bs)) (cond (b == byte_d) (option_map (λ t. Done t.0 t.1) (two_at bs)) None))))) b bs m) [
+      | true ↦ by_byte (option_map (λ t. Real t.0 t.1 t.2) (three_at bs)) b byte_r bs m (real_taken bs m)
+      | false ↦ λ _. elim (b == byte_p) as (λ t. (b == byte_p) ≡ t → Reads (cond t (option_map (λ t. Pencil t.0 t.1 t.2) (three_at bs)) (cond (b == byte_m) (nothing_more bs) (cond (b == byte_s) (option_map Solve (solution_at bs)) (cond (b == byte_d) (option_map (λ t. Done t.0 t.1) (two_at bs)) None)))) b bs m) [
+        | true ↦ by_byte (option_map (λ t. Pencil t.0 t.1 t.2) (three_at bs)) b byte_p bs m (pencil_taken bs m)
+        | false ↦ λ _. elim (b == byte_m) as (λ t. (b == byte_m) ≡ t → Reads (cond t (nothing_more bs) (cond (b == byte_s) (option_map Solve (solution_at bs)) (cond (b == byte_d) (option_map (λ t. Done t.0 t.1) (two_at bs)) None))) b bs m) [
+          | true ↦ by_byte (nothing_more bs) b byte_m bs m (mark_all_taken bs m)
+          | false ↦ λ _. elim (b == byte_s) as (λ t. (b == byte_s) ≡ t → Reads (cond t (option_map Solve (solution_at bs)) (cond (b == byte_d) (option_map (λ t. Done t.0 t.1) (two_at bs)) None)) b bs m) [
+            | true ↦ by_byte (option_map Solve (solution_at bs)) b byte_s bs m (solve_taken bs m)
+            | false ↦ λ _. elim (b == byte_d) as (λ t. (b == byte_d) ≡ t → Reads (cond t (option_map (λ t. Done t.0 t.1) (two_at bs)) None) b bs m) [
+              | true ↦ by_byte (option_map (λ t. Done t.0 t.1) (two_at bs)) b byte_d bs m (done_taken bs m)
+              | false ↦ λ _ read. cc
+            ] refl
+          ] refl
+        ] refl
+      ] refl
+    ] refl
+
+spelled_again : (m : Move) → IsWritable m → move_by (move_text m) ≡ Some m
+spelled_again (Real x y n) h = rw (three_again x y n h) refl
+spelled_again (Pencil x y n) h = rw (three_again x y n h) refl
+spelled_again MarkAll h = refl
+spelled_again (Solve g) h = rw (solution_again g h) refl
+spelled_again Restart h = absurd h
+spelled_again (Done x y) h = rw (two_again x y h.0 h.1) refl
+
+-- each move's text is read
+pub move_again : (text : List ℕ) (m : Move) → IsMoveText m text → move_by text ≡ Some m
+move_again text m h = rw h.spelled (spelled_again m h.writable)
+
+-- the clauses of a reader
+pub read_found : (text : List ℕ) (result : Result Move PlayFault) → result ≡ move_at text → IfOk result (λ m. IsMoveText m text)
+unfolding move_at
+read_found text (Ok m) is =
+    move_taken text m (elim (move_by text) as (λ o. Ok m ≡ ok_or o (move_fault text) → o ≡ Some m) [ None ↦ λ e. cc | Some k ↦ λ e. cc ] is)
+read_found text (Err e) is = tt
+
+pub read_only : (text : List ℕ) (result : Result Move PlayFault) → result ≡ move_at text → (m : Move) → IsMoveText m text → result ≡ Ok m
+unfolding move_at
+read_only text result is m h = is ∙ rw (move_again text m h) refl
+
+pub read_fault : (text : List ℕ) (result : Result Move PlayFault) → result ≡ move_at text → IfErr result (λ fault. fault ≡ move_fault text)
+unfolding move_at
+read_fault text (Ok m) is = tt
+read_fault text (Err e) is =
+    elim (move_by text) as (λ o. Err e ≡ ok_or o (move_fault text) → e ≡ move_fault text) [ None ↦ λ e. cc | Some k ↦ λ e. cc ] is

@@ -1,0 +1,128 @@
+-- The value of a session, and what each call makes of it.
+use Rattle.std.specs.Prelude.{◌≡◌, ◌≢◌, ◌⊎◌, ℕ, ◌+◌, ◌-◌, ◌≤◌, ◌==◌, if◌then◌else◌, List, [], ◌∷◌, ◌++◌, length, take, Option, Some, None, Result, Ok, Err, IsOk}
+use Rattle.std.specs.Option.{option_or}
+use Rattle.latin_board.specs.Squares.{GridValue}
+use Rattle.latin_board.specs.Boards.{BoardValue}
+use Rattle.trail_solver.specs.Puzzles.{Puzzle, Solves}
+use Rattle.clue_rules.specs.declared.params.Params.{Params}
+use Rattle.play_midend.specs.declared.extras.Extras.{Extras}
+use Rattle.play_midend.specs.declared.moves.Move.{Move}
+use Rattle.play_midend.specs.declared.moves.Move.TheVariants.{Solve, Restart}
+use Rattle.play_midend.specs.declared.fault.PlayFault.{PlayFault}
+use Rattle.play_midend.specs.declared.fault.PlayFault.TheVariants.{HistoryFull, OutOfMemory, NothingToUndo, NothingToRedo, NothingToRestart, NoSolution, SeveralSolutions}
+use Rattle.play_midend.specs.Steps.{Deal, is_restart, refusal_of, unless_refused, replay, IsLegal}
+
+-- a session as a value: the position is the number of the state that is shown, counted from 1
+pub record History (P : Type 0) : Type 0 where
+  pub puzzle : P
+  pub params : Params
+  pub next_params : Params
+  pub extras : Extras
+  pub moves : List Move
+  pub position : ℕ
+
+-- how many states a history may have, the first included
+abbrev pub most_states : ℕ
+most_states = 100000
+
+-- the moves that lead to the state that is shown, and its board
+abbrev pub past : {P : Type 0} → History P → List Move
+past h = take (h.position - 1) h.moves
+
+abbrev pub shown : {P : Type 0} → Deal → History P → BoardValue
+shown d h = replay d (past h)
+
+pub record IsValid {P : Type 0} (d : Deal) (h : History P) : Type 0 where
+  pub size : h.params.size ≡ d.puzzle.size
+  pub legal : IsLegal d h.moves
+  pub few : length h.moves + 1 ≤ most_states
+  pub first : 1 ≤ h.position
+  pub last : h.position ≤ length h.moves + 1
+
+-- a new session
+abbrev pub started : {P : Type 0} → P → Params → Params → Extras → History P
+started puzzle params next_params extras = record {
+  puzzle = puzzle;
+  params = params;
+  next_params = next_params;
+  extras = extras;
+  moves = [];
+  position = 1;
+}
+
+-- the state behind the one that is shown: a move drops those that stood there
+abbrev pub with_move : {P : Type 0} → History P → Move → History P
+with_move h m = record {
+  puzzle = h.puzzle;
+  params = h.params;
+  next_params = h.next_params;
+  extras = h.extras;
+  moves = past h ++ m ∷ [];
+  position = h.position + 1;
+}
+
+abbrev pub at_position : {P : Type 0} → History P → ℕ → History P
+at_position h position = record {
+  puzzle = h.puzzle;
+  params = h.params;
+  next_params = h.next_params;
+  extras = h.extras;
+  moves = h.moves;
+  position = position;
+}
+
+-- a restart at the first state is refused, and so is any move at the last position that a history has
+abbrev pub restart_refusal : ℕ → Option PlayFault
+restart_refusal position = if position == 1 then Some NothingToRestart else None
+
+abbrev pub full_refusal : ℕ → Option PlayFault
+full_refusal position = if position == most_states then Some HistoryFull else None
+
+-- the first refusal of a move at the state that is shown, want of memory left aside
+abbrev pub refusal_in : {P : Type 0} → Deal → History P → Move → Option PlayFault
+refusal_in d h m =
+    option_or (if is_restart m then restart_refusal h.position else None)
+    (option_or (refusal_of d (shown d h) m) (full_refusal h.position))
+
+abbrev pub played : {P : Type 0} → Deal → History P → Move → Result (History P) PlayFault
+played d h m = unless_refused (refusal_in d h m) (with_move h m)
+
+abbrev pub restarted : {P : Type 0} → History P → Result (History P) PlayFault
+restarted h = unless_refused (option_or (restart_refusal h.position) (full_refusal h.position)) (with_move h Restart)
+
+-- the solutions of a puzzle: none, several, or just one
+abbrev pub HasNoSolution : Puzzle → Type 0
+HasNoSolution p = (g : GridValue) → Solves p g → ⊥
+
+pub record HasSeveralSolutions (p : Puzzle) : Type 0 where
+  pub one : GridValue
+  pub other : GridValue
+  pub one_solves : Solves p one
+  pub other_solves : Solves p other
+  pub differ : one ≢ other
+
+pub record IsOnlySolution (p : Puzzle) (g : GridValue) : Type 0 where
+  pub solves : Solves p g
+  pub only : (h : GridValue) → Solves p h → h ≡ g
+
+-- solving: the only solution is a move, whatever the board shows
+abbrev pub SolveGives : {P : Type 0} → Deal → History P → Result (History P) PlayFault → Type 0
+SolveGives d h exact =
+    (HasNoSolution d.puzzle × (exact ≡ Err NoSolution))
+    ⊎ (HasSeveralSolutions d.puzzle × (exact ≡ Err SeveralSolutions))
+    ⊎ ((g : GridValue) × IsOnlySolution d.puzzle g
+    × (exact ≡ unless_refused (full_refusal h.position) (with_move h (Solve g))))
+
+abbrev pub undone : {P : Type 0} → History P → Result (History P) PlayFault
+undone h = if h.position == 1 then Err NothingToUndo else Ok (at_position h (h.position - 1))
+
+abbrev pub redone : {P : Type 0} → History P → Result (History P) PlayFault
+redone h = if h.position == length h.moves + 1 then Err NothingToRedo else Ok (at_position h (h.position + 1))
+
+-- a refusal of a call that takes memory: its own, or want of memory in place of success alone
+abbrev pub IsRefusal : {A : Type 0} → Result A PlayFault → PlayFault → Type 0
+IsRefusal exact OutOfMemory = IsOk exact
+IsRefusal exact fault = exact ≡ Err fault
+
+abbrev pub IsSolveRefusal : {P : Type 0} → Deal → History P → PlayFault → Type 0
+IsSolveRefusal {P} d h fault = (exact : Result (History P) PlayFault) × SolveGives d h exact × IsRefusal exact fault

@@ -1,0 +1,147 @@
+-- Moves as text: the grammar, the fault of a text that is no move, and reading as a function on lists.
+use Rattle.std.specs.Prelude.{◌≡◌, ℕ, zero, ◌+◌, ◌-◌, ◌≤◌, ℤ, pos, negsuc, ◌==◌, ◌||◌, ◌&&◌, nat_le, if◌then◌else◌, List, [], ◌∷◌, ◌++◌, length, map, codes, bytes_eq, Option, Some, None, option_map, option_and_then, Result, ok_or}
+use Rattle.std.specs.Fmt.{decimal}
+use Rattle.latin_board.specs.Squares.{GridValue, IsGrid, IsFull}
+use Rattle.byte_text.specs.Cuts.{before, behind}
+use Rattle.byte_text.specs.Decimals.{number_at}
+use Rattle.play_midend.specs.declared.moves.Move.{Move}
+use Rattle.play_midend.specs.declared.moves.Move.TheVariants.{Real, Pencil, MarkAll, Solve, Restart, Done}
+use Rattle.play_midend.specs.declared.fault.PlayFault.{PlayFault}
+use Rattle.play_midend.specs.declared.fault.PlayFault.TheVariants.{BadMove, Unsupported}
+
+-- the bytes of move texts
+abbrev pub byte_r : ℕ
+byte_r = 82
+
+abbrev pub byte_p : ℕ
+byte_p = 80
+
+abbrev pub byte_m : ℕ
+byte_m = 77
+
+abbrev pub byte_s : ℕ
+byte_s = 83
+
+abbrev pub byte_d : ℕ
+byte_d = 68
+
+abbrev pub byte_h : ℕ
+byte_h = 72
+
+abbrev pub byte_f : ℕ
+byte_f = 70
+
+abbrev pub comma : ℕ
+comma = 44
+
+-- three numbers in decimal, with commas
+abbrev pub three_text : ℕ → ℕ → ℕ → List ℕ
+three_text x y n = decimal x ++ (comma ∷ (decimal y ++ (comma ∷ decimal n)))
+
+-- one number of a done mark's place
+abbrev pub coordinate_text : ℤ → List ℕ
+coordinate_text (pos n) = decimal n
+coordinate_text (negsuc n) = 45 ∷ decimal (n + 1)
+
+-- a move as it is written; a restart has no text
+abbrev pub move_text : Move → List ℕ
+move_text (Real x y n) = byte_r ∷ three_text x y n
+move_text (Pencil x y n) = byte_p ∷ three_text x y n
+move_text MarkAll = byte_m ∷ []
+move_text (Solve g) = byte_s ∷ map (λ n. 48 + n) g.numbers
+move_text Restart = []
+move_text (Done x y) = byte_d ∷ (coordinate_text x ++ (comma ∷ coordinate_text y))
+
+-- the numbers are within what a text holds
+pub record AreBytes (x y n : ℕ) : Type 0 where
+  pub x_is : x ≤ 255
+  pub y_is : y ≤ 255
+  pub n_is : n ≤ 255
+
+pub record IsFullGrid (g : GridValue) : Type 0 where
+  pub grid : IsGrid g
+  pub full : IsFull g
+
+-- -1, or a number up to 127
+abbrev pub IsCoordinate : ℤ → Type 0
+IsCoordinate (pos n) = n ≤ 127
+IsCoordinate (negsuc n) = n ≡ 0
+
+-- the moves that have a text
+abbrev pub IsWritable : Move → Type 0
+IsWritable (Real x y n) = AreBytes x y n
+IsWritable (Pencil x y n) = AreBytes x y n
+IsWritable MarkAll = Unit {0}
+IsWritable (Solve g) = IsFullGrid g
+IsWritable Restart = ⊥
+IsWritable (Done x y) = IsCoordinate x × IsCoordinate y
+
+-- the text is this move's
+pub record IsMoveText (m : Move) (text : List ℕ) : Type 0 where
+  pub writable : IsWritable m
+  pub spelled : text ≡ move_text m
+
+-- the fault of a text that is no move: hints and spent signs are told by their first byte
+abbrev pub move_fault : List ℕ → PlayFault
+move_fault [] = BadMove
+move_fault (b ∷ bs) = if (b == byte_h) || (b == byte_f) then Unsupported else BadMove
+
+-- reading: the pieces round two commas, as numbers
+abbrev pub all_three : Option ℕ → Option ℕ → Option ℕ → Option (ℕ × ℕ × ℕ)
+all_three (Some x) (Some y) (Some n) = Some (x, y, n)
+all_three _ _ _ = None
+
+abbrev pub three_behind : Option ℕ → List ℕ → Option (ℕ × ℕ × ℕ)
+three_behind x rest =
+    option_and_then (λ last. all_three x (number_at 255 (before comma rest)) (number_at 255 last)) (behind comma rest)
+
+abbrev pub three_at : List ℕ → Option (ℕ × ℕ × ℕ)
+three_at text = option_and_then (λ rest. three_behind (number_at 255 (before comma text)) rest) (behind comma text)
+
+abbrev pub coordinate_at : List ℕ → Option ℤ
+coordinate_at text = if bytes_eq text (codes "-1") then Some (negsuc zero) else option_map pos (number_at 127 text)
+
+abbrev pub both : Option ℤ → Option ℤ → Option (ℤ × ℤ)
+both (Some x) (Some y) = Some (x, y)
+both _ _ = None
+
+abbrev pub two_at : List ℕ → Option (ℤ × ℤ)
+two_at text = option_and_then (λ rest. both (coordinate_at (before comma text)) (coordinate_at rest)) (behind comma text)
+
+-- the size of a grid with so many squares
+abbrev pub size_by_count : ℕ → Option ℕ
+size_by_count n =
+    if n == 9 then Some 3 else (if n == 16 then Some 4 else (if n == 25 then Some 5 else (if n == 36 then Some 6
+    else (if n == 49 then Some 7 else (if n == 64 then Some 8 else (if n == 81 then Some 9 else None))))))
+
+-- digits from 1 to w
+abbrev pub digit_at : ℕ → ℕ → Option ℕ
+digit_at w b = if nat_le 49 b && nat_le b (48 + w) then Some (b - 48) else None
+
+abbrev pub digits_at : ℕ → List ℕ → Option (List ℕ)
+digits_at w [] = Some []
+digits_at w (b ∷ bs) = option_and_then (λ n. option_map (λ ns. n ∷ ns) (digits_at w bs)) (digit_at w b)
+
+abbrev pub solution_of : List ℕ → ℕ → Option GridValue
+solution_of text w = option_map (λ ns. record { size = w; numbers = ns }) (digits_at w text)
+
+abbrev pub solution_at : List ℕ → Option GridValue
+solution_at text = option_and_then (λ w. solution_of text w) (size_by_count (length text))
+
+abbrev pub nothing_more : List ℕ → Option Move
+nothing_more [] = Some MarkAll
+nothing_more (b ∷ bs) = None
+
+-- the move that a text spells, by its first byte
+abbrev pub move_by : List ℕ → Option Move
+move_by [] = None
+move_by (b ∷ bs) =
+    if b == byte_r then option_map (λ t. Real t.0 t.1 t.2) (three_at bs)
+    else (if b == byte_p then option_map (λ t. Pencil t.0 t.1 t.2) (three_at bs)
+    else (if b == byte_m then nothing_more bs
+    else (if b == byte_s then option_map Solve (solution_at bs)
+    else (if b == byte_d then option_map (λ t. Done t.0 t.1) (two_at bs) else None))))
+
+-- reading a text: its move, or its fault
+unfoldable pub move_at : List ℕ → Result Move PlayFault
+move_at text = ok_or (move_by text) (move_fault text)

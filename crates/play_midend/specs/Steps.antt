@@ -1,0 +1,154 @@
+-- One move on a board, and a list of moves replayed from the start.
+use Rattle.std.specs.Prelude.{◌≡◌, ℕ, ◌+◌, ◌*◌, ℤ, Bool, true, false, not, ◌==◌, ◌&&◌, ◌||◌, nat_lt, if◌then◌else◌, List, [], ◌∷◌, map, replicate, slice_set, Option, Some, None, Result, Ok, Err, IsOk, IsTrue}
+use Rattle.std.specs.Option.{option_map_or, option_or}
+use Rattle.std.specs.List.{range_with_len}
+use Rattle.std.specs.Result.{result_unwrap_or}
+use Rattle.latin_board.specs.Squares.{GridValue, number_at}
+use Rattle.latin_board.specs.Marks.{no_marks, full_marks, flip_mark}
+use Rattle.latin_board.specs.Boards.{BoardValue, grid_of, marks_at, start_board, with_done_flipped}
+use Rattle.latin_board.specs.Changes.{ChangeValue, FitsBoard, board_after, change_after}
+use Rattle.latin_board.specs.Edges.{edge_place}
+use Rattle.trail_solver.specs.Puzzles.{Puzzle, solves_test}
+use Rattle.play_midend.specs.declared.moves.Move.{Move}
+use Rattle.play_midend.specs.declared.moves.Move.TheVariants.{Real, Pencil, MarkAll, Solve, Restart, Done}
+use Rattle.play_midend.specs.declared.fault.PlayFault.{PlayFault}
+use Rattle.play_midend.specs.declared.fault.PlayFault.TheVariants.{OffGrid, OffRange, GivenSquare, FilledSquare, BadSolution, OutOfMemory}
+
+-- what a move looks at besides the board: the puzzle, and which edge places have a clue
+pub record Deal : Type 0 where
+  pub puzzle : Puzzle
+  pub clued : ℕ → Bool
+
+abbrev pub deal_of : {P : Type 0} → (P → Puzzle) → (P → ℕ → Bool) → P → Deal
+deal_of puzzle clued p = record { puzzle = puzzle p; clued = clued p }
+
+-- the square at column x and row y
+abbrev pub cell_of : ℕ → ℕ → ℕ → ℕ
+cell_of w x y = y * w + x
+
+-- the first refusal of a number or a mark n at a square, which the board doesn't matter for
+abbrev pub entry_refusal : Puzzle → ℕ → ℕ → ℕ → Option PlayFault
+entry_refusal p x y n =
+    if not (nat_lt x p.size && nat_lt y p.size) then Some OffGrid
+    else (if nat_lt p.size n then Some OffRange
+    else (if p.given (cell_of p.size x y) == 0 then None else Some GivenSquare))
+
+-- a pencil mark is for an empty square
+abbrev pub mark_refusal : BoardValue → ℕ → ℕ → Option PlayFault
+mark_refusal b cell n = if (n == 0) || (number_at (grid_of b) cell == 0) then None else Some FilledSquare
+
+-- whether there is a clue at the edge place (x, y)
+abbrev pub has_clue : Deal → ℤ → ℤ → Bool
+has_clue d x y = option_map_or d.clued (edge_place d.puzzle.size x y) false
+
+-- the first refusal of a move, if any
+abbrev pub refusal_of : Deal → BoardValue → Move → Option PlayFault
+refusal_of d b (Real x y n) = entry_refusal d.puzzle x y n
+refusal_of d b (Pencil x y n) = option_or (entry_refusal d.puzzle x y n) (mark_refusal b (cell_of d.puzzle.size x y) n)
+refusal_of d b MarkAll = None
+refusal_of d b (Solve g) = if solves_test d.puzzle g then None else Some BadSolution
+refusal_of d b Restart = None
+refusal_of d b (Done x y) = if has_clue d x y then None else Some OffGrid
+
+-- the board with a number at a square and no marks there, completed if the numbers now solve the puzzle
+abbrev pub with_number : Puzzle → BoardValue → ℕ → ℕ → BoardValue
+with_number p b cell n = record b {
+  numbers = slice_set b.numbers cell n;
+  marks = slice_set b.marks cell no_marks;
+  completed = b.completed || solves_test p (record { size = b.size; numbers = slice_set b.numbers cell n });
+}
+
+-- the board with one pencil mark flipped
+abbrev pub with_mark_flipped : BoardValue → ℕ → ℕ → BoardValue
+with_mark_flipped b cell n = record b { marks = slice_set b.marks cell (flip_mark (marks_at b cell) n) }
+
+-- the board with all marks at each square without a number
+abbrev pub marks_of_all : BoardValue → ℕ → ℕ
+marks_of_all b cell = if number_at (grid_of b) cell == 0 then full_marks b.size else marks_at b cell
+
+abbrev pub all_marked : BoardValue → BoardValue
+all_marked b = record b { marks = map (marks_of_all b) (range_with_len 0 (b.size * b.size)) }
+
+-- the board with a solution filled in: done marks stay
+abbrev pub filled : BoardValue → GridValue → BoardValue
+filled b g = record b {
+  numbers = g.numbers;
+  marks = replicate (b.size * b.size) no_marks;
+  completed = true;
+  cheated = true;
+}
+
+-- the givens of a puzzle, and the board of a new game
+abbrev pub givens_of : Puzzle → GridValue
+givens_of p = record { size = p.size; numbers = map p.given (range_with_len 0 (p.size * p.size)) }
+
+abbrev pub start_of : Puzzle → BoardValue
+start_of p = start_board (givens_of p)
+
+-- the board after a move that isn't refused
+abbrev pub moved : Deal → BoardValue → Move → BoardValue
+moved d b (Real x y n) = with_number d.puzzle b (cell_of d.puzzle.size x y) n
+moved d b (Pencil x y n) =
+    if n == 0 then with_number d.puzzle b (cell_of d.puzzle.size x y) 0
+    else with_mark_flipped b (cell_of d.puzzle.size x y) n
+moved d b MarkAll = all_marked b
+moved d b (Solve g) = filled b g
+moved d b Restart = start_of d.puzzle
+moved d b (Done x y) = option_map_or (with_done_flipped b) (edge_place d.puzzle.size x y) b
+
+-- a refusal, where there is one, in place of a value
+abbrev pub unless_refused : {A : Type 0} → Option PlayFault → A → Result A PlayFault
+unless_refused None a = Ok a
+unless_refused (Some fault) a = Err fault
+
+-- one move: the first refusal, or the new board
+abbrev pub step : Deal → BoardValue → Move → Result BoardValue PlayFault
+step d b m = unless_refused (refusal_of d b m) (moved d b m)
+
+-- moves in turn, where a refused one changes nothing
+abbrev pub after_move : Deal → BoardValue → Move → BoardValue
+after_move d b m = result_unwrap_or (step d b m) b
+
+abbrev pub replay_from : Deal → BoardValue → List Move → BoardValue
+replay_from d b [] = b
+replay_from d b (m ∷ ms) = replay_from d (after_move d b m) ms
+
+abbrev pub replay : Deal → List Move → BoardValue
+replay d ms = replay_from d (start_of d.puzzle) ms
+
+-- no move is refused
+abbrev pub ArePlayable : Deal → BoardValue → List Move → Type 0
+ArePlayable d b [] = Unit {0}
+ArePlayable d b (m ∷ ms) = IsOk (step d b m) × ArePlayable d (after_move d b m) ms
+
+abbrev pub is_restart : Move → Bool
+is_restart Restart = true
+is_restart _ = false
+
+abbrev pub begins_with_restart : List Move → Bool
+begins_with_restart [] = false
+begins_with_restart (m ∷ ms) = is_restart m
+
+-- a list of moves of the puzzle: each can be made in turn, and the first isn't a restart
+pub record IsLegal (d : Deal) (ms : List Move) : Type 0 where
+  pub playable : ArePlayable d (start_of d.puzzle) ms
+  pub no_restart_first : begins_with_restart ms ≡ false
+
+-- the moves whose change is one square; any other may exchange the whole board
+abbrev pub takes_memory : Move → Bool
+takes_memory (Real x y n) = false
+takes_memory (Pencil x y n) = false
+takes_memory _ = true
+
+-- a refusal of a move that takes memory at most for its change: want of memory in place of success alone
+abbrev pub IsRefusalOf : Move → Result BoardValue PlayFault → PlayFault → Type 0
+IsRefusalOf m exact OutOfMemory = IsOk exact × IsTrue (takes_memory m)
+IsRefusalOf m exact fault = exact ≡ Err fault
+
+-- a change that makes a move on a board, and takes it back when it is exchanged once more
+pub record Makes (d : Deal) (b : BoardValue) (m : Move) (change : ChangeValue) : Type 0 where
+  pub fits : FitsBoard b change
+  pub made : step d b m ≡ Ok (board_after b change)
+  pub fits_again : FitsBoard (board_after b change) (change_after b change)
+  pub back : board_after (board_after b change) (change_after b change) ≡ b
+  pub change_back : change_after (board_after b change) (change_after b change) ≡ change

@@ -1,0 +1,24 @@
+//! The mid-end of Latin square puzzles: moves and their texts, and a session with undo, redo and restart.
+//!
+//! It knows no game: all that differs between games goes through `Game`. A session owns its history, which is the list of
+//! the moves, and shows one board. Each move is kept beside the one change that takes it back or makes it again.
+#![tactic(auto)]
+
+mod extras;
+mod fault;
+mod moves;
+mod session;
+mod session_laws;
+mod step;
+mod texts;
+
+pub use extras::{Extras, KeptBytes};
+pub use fault::PlayFault;
+pub use moves::Move;
+pub use session::Session;
+pub use session_laws::laws;
+pub use step::change_of;
+pub use texts::{read_move, write_move};
+
+#[cfg(test)]
+mod tests;

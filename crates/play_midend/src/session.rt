@@ -1,0 +1,288 @@
+//! A session: a puzzle, its history and the board that is shown.
+
+ghost use Rattle.std.specs.Prelude.{◌≡◌, ℕ, ◌+◌, ◌-◌, ◌≤◌, ◌<◌, ◌++◌, ◌∷◌, [], length, take, slice_get, if◌then◌else◌, Some, None, Ok, IfOk, IfErr, OnOk, OnErr};
+ghost use Rattle.play_midend.specs.Steps.{deal_of, is_restart};
+ghost use Rattle.play_midend.specs.Histories.{restart_refusal, full_refusal};
+
+use crate::extras::Extras;
+use crate::fault::PlayFault;
+use crate::moves::Move;
+use crate::step::{change_for, check, start};
+use clue_rules::{Game, Params};
+use latin_board::{Board, Change};
+use std::alloc::{AllocError, Global};
+use std::marker::Model;
+use trail_solver::{Answer, solve};
+
+/// How many states a history may have, the first included.
+const MOST_STATES: usize = 100_000;
+
+// A move, and the change that takes it back while it is past, or makes it again while it is later.
+#[derive(Drop, Debug)]
+struct Record {
+    made: Move,
+    change: Change,
+}
+
+/// A puzzle that is played: its history, which is a list of moves and the position of the state that is shown, and its board.
+/// It does what the mid-end of the collection does (its developer guide): a move drops the states behind the position, undo
+/// and redo go along them, and a restart is a move of its own.
+///
+/// Contracts see a session as a `History`: puzzle, parameters, kept bytes, moves and position. It keeps one board and beside
+/// each move one change, so that `undo` and `redo` are one exchange each and take no memory.
+#[derive(Drop)]
+pub struct Session<P: Game> {
+    puzzle: P,
+    params: Params,
+    next_params: Params,
+    extras: Extras,
+    board: Board,
+    records: Vec<Record>,
+    // How many of the records are past. Those behind them are later.
+    past: usize,
+}
+
+impl<P: Game> Model for Session<P> {
+    ghost use Rattle.std.specs.Prelude.{◌≡◌, ◌+◌};
+    ghost use Rattle.play_midend.specs.Steps.{deal_of};
+    ghost use Rattle.play_midend.specs.Histories.{History};
+    ghost use Rattle.play_midend.specs.Links.{moves_of, AreLinked};
+
+    ghost Value = { History P };
+
+    ghost view = { λ s. record {
+      puzzle = s.puzzle;
+      params = s.params;
+      next_params = s.next_params;
+      extras = s.extras;
+      moves = moves_of s.records.items;
+      position = s.past + 1;
+    } };
+
+    ghost invariant = { λ s. (s.params.size ≡ (P.puzzle s.puzzle).size)
+        × AreLinked (deal_of P.puzzle P.clued s.puzzle) s.records.items s.past s.board };
+}
+
+// A restart needs a move to take back.
+fn check_restart(past: usize, m: &Move) -> Result<(), PlayFault>
+    requires { past < 100000 }
+    ensures ok { OnOk result ((if is_restart m.now then restart_refusal (past + 1) else None) ≡ None) }
+    ensures err { IfErr result (λ fault. (if is_restart m.now then restart_refusal (past + 1) else None) ≡ Some fault) }
+{
+    match m {
+        Move::Restart if past == 0 => Err(PlayFault::NothingToRestart),
+        _ => Ok(()),
+    }
+}
+
+// A further state needs room in the history.
+fn check_room(past: usize) -> Result<(), PlayFault>
+    requires { past < 100000 }
+    ensures ok { OnOk result (full_refusal (past + 1) ≡ None) }
+    ensures err { IfErr result (λ fault. full_refusal (past + 1) ≡ Some fault) }
+{
+    if past + 1 == MOST_STATES {
+        return Err(PlayFault::HistoryFull);
+    }
+    Ok(())
+}
+
+// Puts a record behind the past ones, in place of all that stand there.
+fn put(records: &mut Vec<Record>, past: usize, last: Record) -> Result<(), AllocError>
+    requires { past ≤ length records.old.items }
+    ensures ok { OnOk result (records.new.items ≡ take past records.old.items ++ last ∷ []) }
+    ensures err { OnErr result (records.new.items ≡ records.old.items) }
+{
+    if past == records.len() {
+        records.push(last)?;
+    } else {
+        records[past] = last;
+        records.truncate(past + 1);
+    }
+    Ok(())
+}
+
+impl<P: Game> Session<P> {
+    ghost use Rattle.play_midend.specs.Histories.{History, IsValid, shown, started, at_position, refusal_in, played, restarted, SolveGives, undone, redone, IsRefusal, IsSolveRefusal};
+    ghost use Rattle.play_midend.specs.declared.moves.Move.{Move};
+
+    /// A session of the puzzle at its start. The size of `params` is the puzzle's.
+    ///
+    /// It makes room for one move: `OutOfMemory` alone.
+    pub fn new(
+        alloc: Global,
+        params: Params,
+        next_params: Params,
+        puzzle: P,
+        extras: Extras,
+    ) -> Result<Session<P>, PlayFault>
+        requires { params.size ≡ (P.puzzle puzzle).size }
+        ensures ok { IfOk result (λ s. s ≡ started puzzle params next_params extras) }
+        ensures only_memory { IfErr result (λ fault. fault ≡ PlayFault.OutOfMemory) }
+    {
+        let records = Vec::with_capacity(alloc, 1)?;
+        let board = start(&puzzle);
+        Ok(Session {
+            puzzle,
+            params,
+            next_params,
+            extras,
+            board,
+            records,
+            past: 0,
+        })
+    }
+
+    /// Makes a move: the states behind the one that is shown go, and the new one is shown.
+    ///
+    /// Refused, the first that applies, with nothing changed: `NothingToRestart` for a restart at position 1; `OffGrid`,
+    /// `OffRange`, `GivenSquare`, `FilledSquare` and `BadSolution` as the board has it; `HistoryFull` at position 100,000;
+    /// `OutOfMemory`.
+    pub fn play(&mut self, m: Move) -> Result<(), PlayFault>
+        ensures ok { OnOk result (played (deal_of P.puzzle P.clued self.old.puzzle) self.old m ≡ Ok self.new) }
+        ensures err { OnErr result (self.new ≡ self.old) }
+        ensures why { IfErr result (IsRefusal (played (deal_of P.puzzle P.clued self.old.puzzle) self.old m)) }
+    {
+        self.allow(&m)?;
+        let alloc = *self.records.allocator();
+        let change = change_for(alloc, &self.puzzle, &self.board, &m)?;
+        put(&mut self.records, self.past, Record { made: m, change })?;
+        self.forward();
+        Ok(())
+    }
+
+    /// Makes a move that sets the board back to the start.
+    ///
+    /// Refused, the first that applies, with nothing changed: `NothingToRestart` at position 1, `HistoryFull` at position
+    /// 100,000, `OutOfMemory`.
+    pub fn restart(&mut self) -> Result<(), PlayFault>
+        ensures ok { OnOk result (restarted self.old ≡ Ok self.new) }
+        ensures err { OnErr result (self.new ≡ self.old) }
+        ensures why { IfErr result (IsRefusal (restarted self.old)) }
+    {
+        self.play(Move::Restart)
+    }
+
+    /// Fills in the only solution of the starting puzzle, whatever the board shows: a move as by `play`.
+    ///
+    /// Refused, the first that applies, with nothing changed: `NoSolution`, `SeveralSolutions`, `HistoryFull` at position
+    /// 100,000, `OutOfMemory`.
+    pub fn solve(&mut self) -> Result<(), PlayFault>
+        ensures ok { OnOk result (SolveGives (deal_of P.puzzle P.clued self.old.puzzle) self.old (Ok self.new)) }
+        ensures err { OnErr result (self.new ≡ self.old) }
+        ensures why { IfErr result (IsSolveRefusal (deal_of P.puzzle P.clued self.old.puzzle) self.old) }
+    {
+        match solve(&self.puzzle) {
+            Answer::None => Err(PlayFault::NoSolution),
+            Answer::Several(_, _) => Err(PlayFault::SeveralSolutions),
+            Answer::One(grid) => self.play(Move::Solve(grid)),
+        }
+    }
+
+    /// Shows the state before; `NothingToUndo` at position 1 alone. It takes no memory.
+    pub fn undo(&mut self) -> Result<(), PlayFault>
+        ensures ok { OnOk result (undone self.old ≡ Ok self.new) }
+        ensures err { OnErr result (self.new ≡ self.old) }
+        ensures why { IfErr result (λ fault. undone self.old ≡ Err fault) }
+    {
+        if self.past == 0 {
+            return Err(PlayFault::NothingToUndo);
+        }
+        self.past -= 1;
+        self.board.swap(&mut self.records[self.past].change);
+        Ok(())
+    }
+
+    /// Shows the state behind; `NothingToRedo` at the last alone. It takes no memory.
+    pub fn redo(&mut self) -> Result<(), PlayFault>
+        ensures ok { OnOk result (redone self.old ≡ Ok self.new) }
+        ensures err { OnErr result (self.new ≡ self.old) }
+        ensures why { IfErr result (λ fault. redone self.old ≡ Err fault) }
+    {
+        if self.past == self.records.len() {
+            return Err(PlayFault::NothingToRedo);
+        }
+        self.forward();
+        Ok(())
+    }
+
+    // The first refusal of a move, memory left aside.
+    fn allow(&self, m: &Move) -> Result<(), PlayFault>
+        ensures ok { OnOk result (refusal_in (deal_of P.puzzle P.clued self.now.puzzle) self.now m.now ≡ None) }
+        ensures err { IfErr result (λ fault. refusal_in (deal_of P.puzzle P.clued self.now.puzzle) self.now m.now ≡ Some fault) }
+    {
+        check_restart(self.past, m)?;
+        check(&self.puzzle, &self.board, m)?;
+        check_room(self.past)?;
+        Ok(())
+    }
+
+    // Makes the next of the later moves again.
+    fn forward(&mut self)
+        requires { self.old.position ≤ length self.old.moves }
+        ensures { self.new ≡ at_position self.old (self.old.position + 1) }
+    {
+        self.board.swap(&mut self.records[self.past].change);
+        self.past += 1;
+    }
+
+    /// The puzzle as it was at the start.
+    pub fn puzzle(&self) -> &P
+        ensures { result.now ≡ self.now.puzzle }
+    {
+        &self.puzzle
+    }
+
+    /// The parameters of the current game.
+    pub fn params(&self) -> &Params
+        ensures { result.now ≡ self.now.params }
+    {
+        &self.params
+    }
+
+    /// The parameters of the next game.
+    pub fn next_params(&self) -> &Params
+        ensures { result.now ≡ self.now.next_params }
+    {
+        &self.next_params
+    }
+
+    /// The bytes that are kept for a save file.
+    pub fn extras(&self) -> &Extras
+        ensures { result.now ≡ self.now.extras }
+    {
+        &self.extras
+    }
+
+    /// The board that is shown: the past moves, replayed from the start.
+    pub fn board(&self) -> &Board
+        ensures shown { result.now ≡ shown (deal_of P.puzzle P.clued self.now.puzzle) self.now }
+        ensures size { result.now.size ≡ (P.puzzle self.now.puzzle).size }
+        ensures valid { IsValid (deal_of P.puzzle P.clued self.now.puzzle) self.now }
+    {
+        &self.board
+    }
+
+    /// The move that leads to state `i + 1`, for `i` from 1 to `states() - 1`.
+    pub fn move_at(&self, i: usize) -> &Move
+        requires first { 1 ≤ i }
+        requires last { i ≤ length self.now.moves }
+        ensures { slice_get self.now.moves (i - 1) ≡ Some result.now }
+    {
+        &self.records[i - 1].made
+    }
+
+    /// How many states there are, the first included.
+    pub fn states(&self) -> usize
+        ensures { result ≡ length self.now.moves + 1 }
+    {
+        self.records.len() + 1
+    }
+
+    /// The number of the state that is shown, from 1 to `states()`.
+    pub fn position(&self) -> usize
+        ensures { result ≡ self.now.position }
+    {
+        self.past + 1
+    }
+}
