@@ -1,0 +1,11 @@
+pub mod Ranges
+pub mod Coordinates
+pub mod SpacedLines
+pub mod DecimalDigits
+pub mod CommandLaws
+pub mod MoveReading
+pub mod LineLemmas
+pub mod ReadLemmas
+pub mod RunLemmas
+pub mod SendLemmas
+pub mod SolveRefusals

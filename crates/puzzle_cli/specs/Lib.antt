@@ -1,0 +1,16 @@
+pub mod Symbols
+pub mod TowersPicture
+pub mod UnequalPicture
+pub mod BoardTexts
+pub mod SolutionTexts
+pub mod Commands
+pub mod Refusals
+pub mod SessionReplies
+pub mod End
+pub mod LineBuffer
+pub mod LineFault
+pub mod Lines
+pub mod Replies
+pub mod Runs
+pub mod Steps
+pub mod Text

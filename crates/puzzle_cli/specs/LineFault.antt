@@ -1,0 +1,14 @@
+-- The numbers and the names of the faults of a line.
+use Rattle.std.specs.Prelude.{ℕ, List, codes}
+use Rattle.puzzle_cli.specs.declared.line_fault.LineFault.{LineFault}
+use Rattle.puzzle_cli.specs.declared.line_fault.LineFault.TheVariants.{LongLine, BadCommand, NoGame}
+
+abbrev pub line_fault_number : LineFault → ℕ
+line_fault_number LongLine = 1
+line_fault_number BadCommand = 2
+line_fault_number NoGame = 3
+
+abbrev pub line_fault_name : LineFault → List ℕ
+line_fault_name LongLine = codes "LongLine"
+line_fault_name BadCommand = codes "BadCommand"
+line_fault_name NoGame = codes "NoGame"

@@ -1,0 +1,35 @@
+//! Puzzles as text programs: a line that comes in is answered by the lines of its reply.
+//!
+//! [`run`] reads lines from a source and answers them to a sink. Each line is a command or is refused; a command begins a
+//! session, asks something of it, or ends the run. [`Draw`] is what a game adds to be played so: its picture. What is
+//! printed of a session can be had alone: [`picture`], [`marks_text`], [`status_text`] and [`done_text`].
+//!
+//! A reply is made whole before its first byte is written. A refused line leaves the session as it was.
+#![tactic(auto)]
+
+mod command;
+mod console;
+mod done_clues;
+mod draw;
+mod driver;
+mod line_buffer;
+mod line_fault;
+mod machine;
+mod pencil_marks;
+mod refusal;
+mod run_end;
+mod solution_list;
+mod solve_reply;
+mod status;
+mod symbols;
+mod text;
+mod towers_picture;
+mod unequal_picture;
+
+pub use console::run;
+pub use done_clues::done_text;
+pub use draw::{Draw, picture};
+pub use line_fault::LineFault;
+pub use pencil_marks::marks_text;
+pub use run_end::End;
+pub use status::status_text;

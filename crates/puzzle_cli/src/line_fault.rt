@@ -1,0 +1,42 @@
+ghost use Rattle.std.specs.Prelude.{◌≡◌};
+ghost use Rattle.puzzle_cli.specs.LineFault.{line_fault_number, line_fault_name};
+
+use thiserror::Error;
+
+/// Why a line was refused before its command was tried. It comes as a reply alone.
+#[derive(Clone, Copy, Debug, PartialEq, Eq, Error)]
+pub enum LineFault {
+    /// The line has more than 1,024 bytes.
+    #[error("the line is too long")]
+    LongLine,
+    /// The line is no command.
+    #[error("the line is no command")]
+    BadCommand,
+    /// The command needs a session, and there is none.
+    #[error("there is no game")]
+    NoGame,
+}
+
+impl LineFault {
+    /// The fault's number: 1 `LongLine`, 2 `BadCommand`, 3 `NoGame`.
+    pub fn number(&self) -> u8
+        ensures { result ≡ line_fault_number self.now }
+    {
+        match self {
+            LineFault::LongLine => 1,
+            LineFault::BadCommand => 2,
+            LineFault::NoGame => 3,
+        }
+    }
+
+    /// The fault's name, as the reply shows it.
+    pub fn name(&self) -> &'static str
+        ensures { result.now ≡ line_fault_name self.now }
+    {
+        match self {
+            LineFault::LongLine => "LongLine",
+            LineFault::BadCommand => "BadCommand",
+            LineFault::NoGame => "NoGame",
+        }
+    }
+}

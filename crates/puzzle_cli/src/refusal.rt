@@ -1,0 +1,82 @@
+ghost use Rattle.std.specs.Prelude.{◌≡◌, ◌≤◌, length};
+ghost use Rattle.puzzle_cli.specs.Refusals.{refusal_name};
+
+use crate::line_fault::LineFault;
+use clue_rules::IdFault;
+use latin_board::OutOfMemory;
+use play_midend::PlayFault;
+
+/// Why a line is refused.
+#[derive(Clone, Copy)]
+pub(crate) enum Refusal {
+    /// The line is no command, or there is no session.
+    Line(LineFault),
+    /// The game ID can't be read.
+    Id(IdFault),
+    /// The game ID has a seed.
+    NotYet,
+    /// The session refuses.
+    Play(PlayFault),
+    /// A growth was refused.
+    Memory,
+}
+
+impl Refusal {
+    /// The word by which the refusal is printed.
+    pub(crate) fn name(&self) -> &'static str
+        ensures name { result.now ≡ refusal_name self.now }
+        ensures short { length result.now ≤ 16 }
+    {
+        match self {
+            Refusal::Line(fault) => fault.name(),
+            Refusal::Id(fault) => fault.name(),
+            Refusal::NotYet => "NotYet",
+            Refusal::Play(fault) => fault.name(),
+            Refusal::Memory => OutOfMemory.name(),
+        }
+    }
+}
+
+impl From<LineFault> for Refusal {
+    ghost use Rattle.std.specs.Prelude.{◌≡◌};
+    ghost use Rattle.puzzle_cli.specs.declared.refusal.Refusal.TheVariants.{Line};
+
+    ghost from_gives = { λ fault refusal. refusal ≡ Line fault };
+
+    fn from(fault: LineFault) -> Refusal {
+        Refusal::Line(fault)
+    }
+}
+
+impl From<IdFault> for Refusal {
+    ghost use Rattle.std.specs.Prelude.{◌≡◌};
+    ghost use Rattle.puzzle_cli.specs.declared.refusal.Refusal.TheVariants.{Id};
+
+    ghost from_gives = { λ fault refusal. refusal ≡ Id fault };
+
+    fn from(fault: IdFault) -> Refusal {
+        Refusal::Id(fault)
+    }
+}
+
+impl From<PlayFault> for Refusal {
+    ghost use Rattle.std.specs.Prelude.{◌≡◌};
+    ghost use Rattle.puzzle_cli.specs.declared.refusal.Refusal.TheVariants.{Play};
+
+    ghost from_gives = { λ fault refusal. refusal ≡ Play fault };
+
+    fn from(fault: PlayFault) -> Refusal {
+        Refusal::Play(fault)
+    }
+}
+
+impl From<OutOfMemory> for Refusal {
+    ghost use Rattle.std.specs.Prelude.{◌≡◌};
+    ghost use Rattle.puzzle_cli.specs.declared.refusal.Refusal.TheVariants.{Memory};
+
+    ghost from_gives = { λ _ refusal. refusal ≡ Memory };
+
+    fn from(_memory: OutOfMemory) -> Refusal {
+        Refusal::Memory
+    }
+}

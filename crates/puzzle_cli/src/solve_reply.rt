@@ -1,0 +1,61 @@
+ghost use Rattle.std.specs.Prelude.{◌≡◌, ◌++◌, ◌∷◌, [], List, Some, Ok, IfOk, OnErr, IfErr};
+ghost use Rattle.latin_board.specs.Squares.{GridValue};
+ghost use Rattle.play_midend.specs.declared.moves.Move.{Move};
+ghost use Rattle.play_midend.specs.Steps.{deal_of};
+ghost use Rattle.puzzle_cli.specs.Text.{text_bytes};
+ghost use Rattle.puzzle_cli.specs.SolutionTexts.{last_move_line, move_line};
+ghost use Rattle.puzzle_cli.specs.SessionReplies.{SolveSays, PlaysSolution, Explains};
+
+use crate::refusal::Refusal;
+use crate::symbols::grid_digits;
+use crate::text::Text;
+use arrayvec::ArrayVec;
+use clue_rules::Game;
+use latin_board::Grid;
+use play_midend::{Move, PlayFault, Session};
+
+// `S`, at most 81 digits and a line feed.
+type SolveLine = ArrayVec<u8, 83>;
+
+/// Plays the only solution of the starting puzzle and writes that move, or says why there is none to play.
+///
+/// The text takes no memory, as the session has changed by then.
+pub(crate) fn solve_reply<P: Game>(session: &mut Session<P>) -> Result<Text, Refusal>
+    ensures ok { IfOk result (λ text. SolveSays (deal_of P.puzzle P.clued session.old.puzzle) session.old
+        (Ok (text_bytes text, Some session.new))) }
+    ensures err { OnErr result (session.new ≡ session.old) }
+    ensures why { IfErr result (Explains (SolveSays (deal_of P.puzzle P.clued session.old.puzzle) session.old)
+        (PlaysSolution (deal_of P.puzzle P.clued session.old.puzzle) session.old)) }
+{
+    match session.solve() {
+        Ok(()) => Ok(Text::Solved(last_move_line(session))),
+        Err(fault) => match fault {
+            PlayFault::NoSolution => Ok(Text::line("No solution exists for this puzzle")),
+            PlayFault::SeveralSolutions => {
+                Ok(Text::line("Multiple solutions exist for this puzzle"))
+            }
+            _ => Err(Refusal::Play(fault)),
+        },
+    }
+}
+
+// The line of the move to the last state, which fills in a solution.
+fn last_move_line<P: Game>(session: &Session<P>) -> SolveLine
+    requires { (before : List Move) × (g : GridValue) × (session.now.moves ≡ before ++ Move.Solve g ∷ []) }
+    ensures { result.items ≡ last_move_line session.now }
+{
+    match session.move_at(session.states() - 1) {
+        Move::Solve(grid) => solve_line(grid),
+        _ => unreachable!(),
+    }
+}
+
+fn solve_line(grid: &Grid) -> SolveLine
+    ensures { result.items ≡ move_line (Move.Solve grid.now) }
+{
+    let mut line = ArrayVec::new();
+    line.push(b'S');
+    line.try_extend_from_slice(&grid_digits(grid)).unwrap();
+    line.push(b'\n');
+    line
+}
