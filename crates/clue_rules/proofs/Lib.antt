@@ -7,3 +7,11 @@ pub mod UnequalSaid
 pub mod UnequalTable
 pub mod UnequalWritten
 pub mod ViewLines
+pub mod KeptCandidates
+pub mod LineSteps
+pub mod LineTallying
+pub mod Narrowings
+pub mod SingleSets
+pub mod ViewSteps
+pub mod SettledLines
+pub mod SignSteps

@@ -41,3 +41,8 @@ pub mod UnequalSigns
 pub mod UnequalText
 pub mod UnequalTextLaws
 pub mod UnequalWrittenForm
+pub mod Struck
+pub mod TowersStruck
+pub mod Narrowing
+pub mod LineTallies
+pub mod UnequalStruck

@@ -46,3 +46,7 @@ meets_clue v g place = (clue_of v place == 0) || (seen (view_of g place) == clue
 
 abbrev pub meets_clues : TowersValue → GridValue → Bool
 meets_clues v g = list_all (meets_clue v g) (range_with_len 0 (4 * v.size))
+
+-- the place before the first square of a line
+abbrev pub front_place : ℕ → ℕ → ℕ
+front_place w line = if nat_lt line w then 2 * w + line else line - w

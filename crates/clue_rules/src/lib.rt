@@ -4,16 +4,23 @@
 //! else.
 #![tactic(auto)]
 
+mod changed_lines;
 mod game;
 mod game_id;
+mod given_squares;
 mod id_fault;
+mod latin_lines;
+mod line_rules;
 mod params;
 mod towers;
 mod towers_description;
 mod towers_game;
+mod towers_lines;
 mod towers_rules;
 mod towers_views;
 mod unequal;
+mod value_sets;
+mod view_candidates;
 
 pub use game::Game;
 pub use game_id::{GameId, read_id};

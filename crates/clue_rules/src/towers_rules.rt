@@ -1,14 +1,18 @@
 //! The rules of Towers: its clues, and what a solver and a generator know of a puzzle.
 
-ghost use Rattle.std.specs.Prelude.{◌≡◌, ℕ, ◌+◌, ◌-◌, ◌*◌, ◌<◌, ◌≤◌, ◌↔◌, ◌==◌, ◌&&◌, IsTrue, not, slice_index};
-ghost use Rattle.std.specs.Bool.{OnFalse};
+ghost use Rattle.std.specs.Prelude.{◌≡◌, ℕ, ◌+◌, ◌-◌, ◌*◌, ◌<◌, ◌≤◌, ◌↔◌, ◌==◌, ◌&&◌, false, IsTrue, not, slice_index};
+ghost use Rattle.std.specs.Bool.{OnFalse, OnTrue};
 ghost use Rattle.latin_board.specs.Squares.{GridValue, IsGrid, IsFull, IsLatin};
-ghost use Rattle.trail_solver.specs.Candidates.{IsEarlier, IsWithin};
+ghost use Rattle.trail_solver.specs.Candidates.{IsEarlier, IsWithin, may_be};
+ghost use Rattle.trail_solver.specs.Pairs.{IsPair};
 ghost use Rattle.trail_solver.specs.Puzzles.{Solves};
 ghost use Rattle.clue_rules.specs.TowersPuzzles.{TowersValue, IsTowers};
 ghost use Rattle.clue_rules.specs.TowersViews.{clue_of, meets_clue, meets_clues, HoldsClues};
+ghost use Rattle.clue_rules.specs.TowersStruck.{IsTowersStruck};
 ghost use Rattle.clue_rules.specs.TowersItems.{towers_puzzle, towers_items, has_towers, cut_towers, full_towers};
 
+use crate::given_squares::keep_givens;
+use crate::line_rules::narrow_by_lines;
 use crate::towers::{PLACES, Towers};
 use crate::towers_views::seen_from;
 use latin_board::{Grid, Size};
@@ -24,6 +28,12 @@ impl Towers {
         ensures within { result ≤ self.now.size }
     {
         self.clues()[place as usize]
+    }
+
+    fn givens(&self) -> &Grid
+        ensures { result.now ≡ record { size = self.now.size; numbers = self.now.givens } }
+    {
+        &self.givens
     }
 
     // Whether as many towers are seen from a place as its clue says.
@@ -83,8 +93,16 @@ impl Rules for Towers {
         self.meets_clues(grid)
     }
 
-    fn narrow(&self, _candidates: &mut Candidates) -> bool {
-        true
+    /// Where it answers true, no pair is left that rows and columns or a clue rule out by the candidates that were given.
+    fn narrow(&self, candidates: &mut Candidates) -> bool
+        requires { candidates.old.size ≡ self.now.size }
+        ensures less { IsEarlier candidates.old candidates.new }
+        ensures keeps { (g : GridValue) → Solves (towers_puzzle self.now) g → IsWithin candidates.old g → IsWithin candidates.new g }
+        ensures refutes { OnFalse result ((g : GridValue) → Solves (towers_puzzle self.now) g → IsWithin candidates.old g → ⊥) }
+        ensures struck { OnTrue result ((cell value : ℕ) → IsPair candidates.old.size cell value → IsTowersStruck self.now candidates.old cell value → may_be candidates.new cell value ≡ false) }
+    {
+        keep_givens(candidates, self.givens());
+        narrow_by_lines(self, candidates)
     }
 
     fn item_count(size: Size) -> usize {
@@ -147,4 +165,111 @@ impl Rules for Towers {
     ghost full_has = { laws.full_has };
 
     ghost full_solved = { laws.full_solved };
+}
+
+#[cfg(test)]
+mod tests {
+    use super::*;
+    use crate::game::Game;
+    use crate::id_fault::IdFault;
+    use std::test::Fail;
+
+    // The puzzle of width 3 that a text describes.
+    fn puzzle(text: &str) -> Result<Towers, IdFault> {
+        let size = Size::new(3).ok_or(IdFault::BadSize)?;
+        Towers::read_desc(size, text.as_bytes())
+    }
+
+    // The grid that is given whole.
+    fn grid(text: &str) -> Result<Grid, IdFault> {
+        Ok(puzzle(text)?.givens)
+    }
+
+    fn clue(puzzle: &Towers, place: u8) -> u8 {
+        if place < 4 * puzzle.size().get() {
+            puzzle.clue(place)
+        } else {
+            0
+        }
+    }
+
+    // Whether a Latin square meets the puzzle's clues.
+    fn holds(puzzle: &Towers, grid: &Grid) -> bool {
+        grid.size().get() == puzzle.size().get() && grid.is_latin() && puzzle.holds(grid)
+    }
+
+    fn has(puzzle: &Towers, i: usize) -> bool {
+        i < Towers::item_count(puzzle.size()) && puzzle.has_item(i)
+    }
+
+    // The puzzle without an item.
+    fn without(puzzle: &Towers, i: usize) -> Towers {
+        let mut rest = *puzzle;
+        if i < Towers::item_count(puzzle.size()) {
+            rest.drop_item(i);
+        }
+        rest
+    }
+
+    // The full puzzle of a Latin square.
+    fn full_of(grid: &Grid) -> Option<Towers> {
+        if grid.is_latin() {
+            Some(Towers::full(grid))
+        } else {
+            None
+        }
+    }
+
+    #[test]
+    fn holds_the_worked_puzzle(rt: HostRuntime) -> Result<(), Fail> {
+        let towers = puzzle("3//////3/////")?;
+        assert_eq!(rt; clue(&towers, 0), 3);
+        assert_eq!(rt; clue(&towers, 1), 0);
+        assert_eq!(rt; clue(&towers, 6), 3);
+        assert_eq!(rt; clue(&towers, 11), 0);
+        assert!(rt; holds(&towers, &grid("///////////,1_2_3_2_3_1_3_1_2")?));
+        assert!(rt; !holds(&towers, &grid("///////////,1_3_2_2_1_3_3_2_1")?));
+        Ok(())
+    }
+
+    #[test]
+    fn counts_and_drops_items(rt: HostRuntime) -> Result<(), Fail> {
+        let towers = puzzle("3//////3/////,c2e")?;
+        assert_eq!(rt; Towers::item_count(towers.size()), 21);
+        for i in 0..21 {
+            assert_eq!(rt; has(&towers, i), i == 0 || i == 6 || i == 15);
+        }
+        assert!(rt; without(&towers, 1).same(&towers));
+        assert!(rt; without(&towers, 0).same(&puzzle("//////3/////,c2e")?));
+        assert!(rt; without(&towers, 6).same(&puzzle("3///////////,c2e")?));
+        assert!(rt; without(&towers, 15).same(&puzzle("3//////3/////")?));
+        assert!(rt; !without(&towers, 0).same(&towers));
+        Ok(())
+    }
+
+    #[test]
+    fn is_full_with_every_clue_and_given(rt: HostRuntime) -> Result<(), Fail> {
+        let square = grid("///////////,1_2_3_2_3_1_3_1_2")?;
+        let full = full_of(&square).ok_or("Latin")?;
+        let written = full.write_desc(rt.alloc())?;
+        assert_eq!(rt;
+            written.as_slice(),
+            b"3/2/1/1/2/2/3/2/1/1/2/2,1_2_3_2_3_1_3_1_2".as_slice()
+        );
+        assert_eq!(rt; full.given(0), 1);
+        assert!(rt; holds(&full, &square));
+        Ok(())
+    }
+
+    #[test]
+    fn tells_where_clues_are(rt: HostRuntime) -> Result<(), Fail> {
+        let towers = puzzle("3//////3/////")?;
+        assert!(rt; towers.clue_at(0, -1));
+        assert!(rt; towers.clue_at(-1, 0));
+        assert!(rt; !towers.clue_at(1, -1));
+        assert!(rt; !towers.clue_at(0, 3));
+        assert!(rt; !towers.clue_at(0, 0));
+        assert!(rt; !towers.clue_at(-1, -1));
+        Ok(())
+    }
 }

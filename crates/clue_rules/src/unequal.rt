@@ -1,22 +1,30 @@
 //! The puzzles of Unequal: a Latin square with signs between neighbours that say which of the two is the greater.
 
-ghost use Rattle.std.specs.Prelude.{◌≡◌, ℕ, ◌*◌, ◌<◌, ◌↔◌, IsTrue};
+ghost use Rattle.std.specs.Prelude.{◌≡◌, ℕ, ◌*◌, ◌<◌, ◌↔◌, false, IsTrue};
+ghost use Rattle.std.specs.Bool.{OnFalse, OnTrue};
 ghost use Rattle.std.specs.Cmp.{decided, partial_equiv_from_equiv};
-ghost use Rattle.latin_board.specs.Squares.{IsFull, IsLatin, number_at};
-ghost use Rattle.clue_rules.specs.Unequal.{IsUnequal, IsGreater, AreNeighbours, is_greater, holds_signs, HoldsSigns, holds_sign, sign_count, sign_at, sign_of_pair, first_of, second_of};
-ghost use Rattle.clue_rules.specs.UnequalItems.{full_unequal};
+ghost use Rattle.latin_board.specs.Squares.{GridValue, IsGrid, IsFull, IsLatin, number_at};
+ghost use Rattle.trail_solver.specs.Pairs.{IsPair};
+ghost use Rattle.trail_solver.specs.Candidates.{IsEarlier, IsWithin, may_be};
+ghost use Rattle.trail_solver.specs.Puzzles.{Solves};
+ghost use Rattle.clue_rules.specs.Unequal.{IsUnequal, givens_of, IsGreater, AreNeighbours, is_greater, holds_signs, HoldsSigns, holds_sign, sign_count, sign_at, sign_of_pair, first_of, second_of};
+ghost use Rattle.clue_rules.specs.UnequalItems.{puzzle_of, full_unequal};
 ghost use Rattle.clue_rules.specs.UnequalFields.{HoldsPlaces};
+ghost use Rattle.clue_rules.specs.UnequalStruck.{IsUnequalStruck};
 ghost use Rattle.clue_rules.specs.UnequalSameness.{same_unequal, same_unequal_decides};
 
 mod description;
 mod direction;
+mod lines;
 mod pieces;
 mod sign;
 #[cfg(test)]
 mod tests;
 
 use crate::game::Game;
+use crate::given_squares::keep_givens;
 use crate::id_fault::IdFault;
+use crate::line_rules::narrow_by_lines;
 use description::{read_unequal, write_unequal};
 use latin_board::{Grid, Size};
 use sign::{Sign, sign_between, sign_count, squares};
@@ -124,6 +132,14 @@ impl Unequal {
         }
     }
 
+    fn givens(&self) -> &Grid
+        ensures value { result.now ≡ givens_of self.now }
+        ensures valid { IsGrid result.now }
+    {
+        let _size = self.givens.size();
+        &self.givens
+    }
+
     // The signs of the places that the grid has.
     fn signs(&self) -> &[Sign]
         ensures value { result.now ≡ self.now.signs }
@@ -203,8 +219,16 @@ impl Rules for Unequal {
         self.holds_every_sign(grid)
     }
 
-    fn narrow(&self, _candidates: &mut Candidates) -> bool {
-        true
+    /// Where it answers true, no pair is left that rows and columns or a sign rule out by the candidates that were given.
+    fn narrow(&self, candidates: &mut Candidates) -> bool
+        requires { candidates.old.size ≡ self.now.size }
+        ensures less { IsEarlier candidates.old candidates.new }
+        ensures keeps { (g : GridValue) → Solves (puzzle_of self.now) g → IsWithin candidates.old g → IsWithin candidates.new g }
+        ensures refutes { OnFalse result ((g : GridValue) → Solves (puzzle_of self.now) g → IsWithin candidates.old g → ⊥) }
+        ensures struck { OnTrue result ((cell value : ℕ) → IsPair candidates.old.size cell value → IsUnequalStruck self.now candidates.old cell value → may_be candidates.new cell value ≡ false) }
+    {
+        keep_givens(candidates, self.givens());
+        narrow_by_lines(self, candidates)
     }
 
     fn item_count(size: Size) -> usize {

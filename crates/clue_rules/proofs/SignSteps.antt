@@ -1,0 +1,195 @@
+-- What a sign rules out in the squares on both its sides, and along a line.
+use Rattle.std.proofs.Common.{◌≡◌, ◌≢◌, ℕ, ◌+◌, ◌-◌, ◌*◌, ◌<◌, ◌≤◌, ◌↔◌, ◌⊎◌, Bool, true, false, not, eqb, inl, inr, refl, sym, ap, ◌∙◌, subst, arith}
+use Rattle.std.specs.Bool.{OnTrue, OnFalse}
+use Rattle.std.proofs.lemmas.Bool.{both_ways, false_from_ne_true, cases_eq, eq-eqb, ne_eqb, lt-ltb, le-ltb}
+use Rattle.latin_board.specs.Marks.{has_mark}
+use Rattle.latin_board.specs.Squares.{GridValue, number_at}
+use Rattle.tower_lines.proofs.MarkLemmas.{mark-zero}
+use Rattle.trail_solver.specs.Pairs.{IsPair}
+use Rattle.trail_solver.specs.Candidates.{CandidatesValue, IsEarlier, IsWithin, may_be}
+use Rattle.trail_solver.specs.Puzzles.{Puzzle, Solves}
+use Rattle.trail_solver.proofs.Earlier.{was_left}
+use Rattle.clue_rules.specs.Narrowing.{IsSquare, IsStruckByLines, KeepsOf, LacksStruck, Narrows, StruckBelow}
+use Rattle.clue_rules.specs.Unequal.{UnequalValue, IsBetween, IsAcross, IsDown, IsGreater, pairs_across, sign_count, sign_at, first_of, second_of}
+use Rattle.clue_rules.specs.UnequalItems.{puzzle_of}
+use Rattle.clue_rules.specs.UnequalPlaces.{AreSides, between_at, between_sides}
+use Rattle.clue_rules.specs.UnequalSigns.{signs_held}
+use Rattle.clue_rules.specs.UnequalStruck.{HasNoneAbove, HasNoneBelow, IsSignStruck, IsUnequalStruck, AreEnds, IsLowerStruck, IsUpperStruck, IsEndStruckBy, IsStruckAt, IsStruckAlong, line_sign}
+use Rattle.clue_rules.specs.declared.unequal.sign.Sign.{Sign}
+use Rattle.clue_rules.specs.declared.unequal.sign.Sign.TheVariants.{Absent, FirstGreater, SecondGreater}
+use Rattle.clue_rules.proofs.KeptCandidates.{within_kept}
+use Rattle.clue_rules.proofs.LineSteps.{grid_pair}
+use Rattle.clue_rules.proofs.Narrowings.{narrows_by, narrows_for, narrows_nothing}
+
+-- ---- a step at one square
+
+by_answer : (n : ℕ) (left : Bool) → left ≡ not (eqb n 0) → {P : Type 0} → (n ≡ 0 → P) → OnFalse left P
+by_answer n left is {P} f =
+    let Q : Bool → Type 0 = λ b. OnFalse b P in
+    elim (cases_eq n 0) [
+      | inl none ↦ subst Q (sym (is ∙ ap not (eq-eqb n 0 none))) (f none)
+      | inr some ↦ subst Q (sym (is ∙ ap not (ne_eqb n 0 some))) tt
+    ]
+
+on_either : (left : Bool) {P : Type 0} → P → OnTrue left P
+on_either true p = p
+on_either false p = tt
+
+square_narrows : {S : GridValue → Type 0} {T : CandidatesValue → ℕ → ℕ → Type 0} (old new : CandidatesValue) (cell kept : ℕ) (left : Bool)
+    → ((g : GridValue) → S g → g.size ≡ old.size → IsWithin old g → has_mark kept (number_at g cell) ≡ true)
+    → ((first : CandidatesValue) → IsEarlier first old → (at v : ℕ) → IsPair first.size at v → T first at v → (at ≡ cell) × (has_mark kept v ≡ false))
+    → KeepsOf old new cell kept → left ≡ not (eqb kept 0) → Narrows S T old new left
+square_narrows old new cell kept left solved struck k is = record {
+  less = k.less;
+  keeps = λ g s size w. within_kept old new cell kept g k w (solved g s size w);
+  refutes = by_answer kept left is (λ none g s size w.
+      let P : ℕ → Type 0 = λ m. has_mark m (number_at g cell) ≡ true in
+      both_ways (has_mark 0 (number_at g cell)) (mark-zero (number_at g cell)) (subst P none (solved g s size w)));
+  struck = on_either left (record {
+    each = λ first e at v pair s.
+        let gone = struck first e at v pair s in
+        let P : ℕ → Type 0 = λ i. IsPair old.size i v → may_be new i v ≡ false in
+        let here : IsPair old.size at v = subst (λ (w : ℕ). IsPair w at v) (sym e.size) pair in
+        subst P (sym gone.0) (λ p. k.gone v p gone.1) here;
+  });
+}
+
+-- ---- both squares of a sign
+
+-- the set is that of the cell's candidates
+abbrev pub IsSetOf : CandidatesValue → ℕ → ℕ → Type 0
+IsSetOf c cell set = (v : ℕ) → (has_mark set v ≡ true) ↔ (IsPair c.size cell v × (may_be c cell v ≡ true))
+
+-- the grids in which the one square holds the greater number
+abbrev pub HasGreater : ℕ → ℕ → GridValue → Type 0
+HasGreater upper lower g = IsSquare g × (number_at g lower < number_at g upper)
+
+in_set : (c : CandidatesValue) (cell set : ℕ) (g : GridValue) → IsSetOf c cell set → IsSquare g → g.size ≡ c.size → IsWithin c g → cell < c.size * c.size → has_mark set (number_at g cell) ≡ true
+in_set c cell set g is s size w inside = (is (number_at g cell)).1 (grid_pair g c.size cell s size inside, w.each cell inside)
+
+pub lower_narrows : (old new : CandidatesValue) (upper lower set kept : ℕ) (left : Bool) → upper < old.size * old.size → IsSetOf old upper set → ((v : ℕ) → (has_mark kept v ≡ true) ↔ ((u : ℕ) × (v < u) × (has_mark set u ≡ true))) → KeepsOf old new lower kept → left ≡ not (eqb kept 0) → Narrows (HasGreater upper lower) (IsLowerStruck upper lower) old new left
+lower_narrows old new upper lower set kept left inside is below k answer =
+    square_narrows old new lower kept left
+    (λ g s size w. (below (number_at g lower)).1 (number_at g upper, s.1, in_set old upper set g is s.0 size w inside))
+    (λ first e cell v pair s. (
+      s.here,
+      false_from_ne_true (has_mark kept v) (λ has.
+          let u = (below v).0 has in
+          let left = (is u.0).0 u.2 in
+          both_ways (may_be first upper u.0) (s.none u.0 u.1 (omega (arith, left.0.high, e.size))) (was_left first old upper u.0 e left.1)),
+    ))
+    k answer
+
+pub upper_narrows : (old new : CandidatesValue) (upper lower set kept : ℕ) (left : Bool) → old.size ≤ 9 → upper < old.size * old.size → lower < old.size * old.size → IsSetOf old lower set → ((v : ℕ) → v < 16 → (has_mark kept v ≡ true) ↔ ((u : ℕ) × (u < v) × (has_mark set u ≡ true))) → KeepsOf old new upper kept → left ≡ not (eqb kept 0) → Narrows (HasGreater upper lower) (IsUpperStruck upper lower) old new left
+upper_narrows old new upper lower set kept left small inside below_in is above k answer =
+    square_narrows old new upper kept left
+    (λ g s size w.
+    let pair = grid_pair g old.size upper s.0 size inside in
+    (above (number_at g upper) (omega (arith, pair.high))).1 (number_at g lower, s.1, in_set old lower set g is s.0 size w below_in))
+    (λ first e cell v pair s. (
+      s.here,
+      false_from_ne_true (has_mark kept v) (λ has.
+          let u = (above v (omega (arith, pair.high, e.size))).0 has in
+          let left = (is u.0).0 u.2 in
+          both_ways (may_be first lower u.0) (s.none u.0 left.0.low u.1) (was_left first old lower u.0 e left.1)),
+    ))
+    k answer
+
+-- ---- one sign of a puzzle
+
+ends_greater : (v : UnequalValue) (sign upper lower : ℕ) → 3 ≤ v.size → sign < sign_count v.size → AreEnds v sign upper lower → IsGreater v upper lower
+ends_greater v sign upper lower small inside ends =
+    let between = between_at v.size sign small inside in
+    let P : ℕ → ℕ → Type 0 = λ a b. IsBetween v.size sign a b in
+    record {
+      sign = sign;
+      says = elim ends.is [
+        | inl first ↦ inl (subst (λ a. P a lower) (sym first.1) (subst (P (first_of v.size sign)) (sym first.2) between), first.0)
+        | inr second ↦ inr (subst (λ a. P a upper) (sym second.2) (subst (P (first_of v.size sign)) (sym second.1) between), second.0)
+      ];
+    }
+
+-- a sign has its ends but once
+same_ends : (v : UnequalValue) (sign a b upper lower : ℕ) → AreEnds v sign a b → AreEnds v sign upper lower → (a ≡ upper) × (b ≡ lower)
+same_ends v sign a b upper lower one two = elim one.is [
+  | inl first ↦ elim two.is [
+    | inl same ↦ (first.1 ∙ sym same.1, first.2 ∙ sym same.2)
+    | inr other ↦ (cc, cc)
+  ]
+  | inr second ↦ elim two.is [
+    | inl other ↦ (cc, cc)
+    | inr same ↦ (second.1 ∙ sym same.1, second.2 ∙ sym same.2)
+  ]
+]
+
+pub sign_narrows : (v : UnequalValue) (sign upper lower : ℕ) (old new : CandidatesValue) (left : Bool) → 3 ≤ v.size → sign < sign_count v.size → AreEnds v sign upper lower → Narrows (HasGreater upper lower) (IsEndStruckBy upper lower) old new left → Narrows (λ g. Solves (puzzle_of v) g) (IsStruckAt v sign) old new left
+sign_narrows v sign upper lower old new left small inside ends h =
+    narrows_for (λ g s. (
+      record { is_grid = s.is_grid; latin = s.latin },
+      (signs_held v g small s.clues).each upper lower (ends_greater v sign upper lower small inside ends),
+    ))
+    (narrows_by (λ first e cell value pair s.
+    let same = same_ends v sign s.upper s.lower upper lower s.ends ends in
+    let P : ℕ → ℕ → Type 0 = λ a b. IsEndStruckBy a b first cell value in
+    subst (λ a. P a lower) same.0 (subst (P s.upper) same.1 s.struck)) h)
+
+pub no_sign_narrows : (v : UnequalValue) (sign : ℕ) (c : CandidatesValue) → sign_at v sign ≡ Absent → Narrows (λ g. Solves (puzzle_of v) g) (IsStruckAt v sign) c c true
+no_sign_narrows v sign c none =
+    narrows_by (λ first e cell value pair s. elim s.ends.is [
+      | inl one ↦ let clash : FirstGreater ≡ Absent = sym one.0 ∙ none in cc
+      | inr two ↦ let clash : SecondGreater ≡ Absent = sym two.0 ∙ none in cc
+    ])
+    (narrows_nothing (λ g. Solves (puzzle_of v) g) c)
+
+-- ---- all that a puzzle strikes
+
+between_line : (w sign a b : ℕ) → IsBetween w sign a b → (line : ℕ) × (k : ℕ) × (line < 2 * w) × (k < w - 1) × (line_sign w line k ≡ sign)
+between_line w sign a b between = elim between [
+  | inl across ↦ (
+    across.row,
+    across.column,
+    omega (arith, across.row_inside),
+    omega (arith, across.column_inside),
+    rw (lt-ltb across.row w across.row_inside) (sym across.sign_is),
+  )
+  | inr down ↦
+      let column : (w + down.column) - w ≡ down.column = omega arith in (
+        w + down.column,
+        down.row,
+        omega (arith, down.column_inside),
+        omega (arith, down.row_inside),
+        rw (le-ltb (w + down.column) w (omega arith), column) (sym down.sign_is),
+      )
+]
+
+-- the sign that says that a holds the greater number has them as its ends
+greater_ends : (v : UnequalValue) (a b : ℕ) → 3 ≤ v.size → (greater : IsGreater v a b) → AreEnds v greater.sign a b
+greater_ends v a b small greater = elim greater.says [
+  | inl one ↦
+      let sides = between_sides v.size greater.sign a b small one.0 in
+      record { upper_in = omega (arith, sides.order, sides.inside); lower_in = sides.inside; is = inl (one.1, sides.first, sides.second) }
+  | inr two ↦
+      let sides = between_sides v.size greater.sign b a small two.0 in
+      record { upper_in = sides.inside; lower_in = omega (arith, sides.order, sides.inside); is = inr (two.1, sides.second, sides.first) }
+]
+
+greater_line : (v : UnequalValue) (a b : ℕ) → (greater : IsGreater v a b) → (line : ℕ) × (k : ℕ) × (line < 2 * v.size) × (k < v.size - 1) × (line_sign v.size line k ≡ greater.sign)
+greater_line v a b greater = elim greater.says [
+  | inl one ↦ between_line v.size greater.sign a b one.0
+  | inr two ↦ between_line v.size greater.sign b a two.0
+]
+
+struck_along : (v : UnequalValue) (c : CandidatesValue) (a b cell value : ℕ) → 3 ≤ v.size → c.size ≡ v.size → (greater : IsGreater v a b) → IsEndStruckBy a b c cell value → StruckBelow (IsStruckAlong v) (2 * c.size) c cell value
+struck_along v c a b cell value small size greater struck =
+    let at = greater_line v a b greater in
+    let P : ℕ → Type 0 = λ i. IsStruckAt v i c cell value in
+    (at.0, omega (arith, at.2), (at.1, at.3, subst P (sym at.4) (record { upper = a; lower = b; ends = greater_ends v a b small greater; struck = struck })))
+
+pub unequal_by_lines : (v : UnequalValue) (c : CandidatesValue) (cell value : ℕ) → 3 ≤ v.size → c.size ≡ v.size → IsUnequalStruck v c cell value → IsStruckByLines (IsStruckAlong v) c cell value
+unequal_by_lines v c cell value small size struck = elim struck [
+  | inl latin ↦ inl latin
+  | inr sign ↦ inr (elim sign.why [
+    | inl lower ↦ struck_along v c sign.other cell cell value small size lower.0 (inl (record { here = refl; none = lower.1 }))
+    | inr upper ↦ struck_along v c cell sign.other cell value small size upper.0 (inr (record { here = refl; none = upper.1 }))
+  ])
+]
