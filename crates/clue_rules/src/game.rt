@@ -3,7 +3,7 @@ ghost use Rattle.std.specs.Prelude.{◌≡◌, ℕ, ◌*◌, ◌≤◌, Bool, fa
 ghost use Rattle.std.specs.Option.{option_map_or};
 ghost use Rattle.latin_board.specs.Edges.{edge_place};
 ghost use Rattle.clue_rules.specs.declared.id_fault.IdFault.{IdFault};
-ghost use Rattle.clue_rules.specs.IdReading.{LacksSeparators};
+ghost use Rattle.clue_rules.specs.GameIds.{LacksSeparators};
 ghost use Rattle.clue_rules.specs.IdFaults.{SparesMemory};
 
 use crate::id_fault::IdFault;

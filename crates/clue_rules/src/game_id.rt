@@ -3,10 +3,10 @@
 ghost use Rattle.std.specs.Prelude.{◌≡◌, List, ℕ, Ok, Err, IfOk, Result};
 ghost use Rattle.byte_text.specs.Reading.{Gives};
 ghost use Rattle.clue_rules.specs.declared.game_id.GameId.{GameId};
-ghost use Rattle.clue_rules.specs.IdTexts.{IsIdText, IsAnyText};
-ghost use Rattle.clue_rules.specs.ParamReading.{has_adjacent};
+ghost use Rattle.clue_rules.specs.GameIds.{IsIdText, IsAnyText};
+ghost use Rattle.clue_rules.specs.Parameters.{has_adjacent};
 ghost use Rattle.clue_rules.specs.IdFaults.{SparesMemory};
-ghost use Rattle.clue_rules.specs.IdReading.{id_at, describes_at, is_separator, params_part, from_separator, id_parts_at, id_map, LacksSeparators};
+ghost use Rattle.clue_rules.specs.GameIds.{id_at, describes_at, is_separator, params_part, from_separator, id_parts_at, id_map, LacksSeparators};
 
 use crate::game::Game;
 use crate::id_fault::IdFault;
@@ -37,7 +37,7 @@ pub fn read_id<P: Game>(text: &[u8]) -> Result<GameId<P>, IdFault>
     parse_id(text)
 }
 
-#[tactic(auto, unfolding(crate::specs::IdReading::id_at))]
+#[tactic(auto, unfolding(crate::specs::GameIds::id_at))]
 fn parse_id<P: Game>(text: &[u8]) -> Result<GameId<P>, IdFault>
     ensures { result ≡ id_at P.letter_codes (has_adjacent P.title) P.desc_at text.now }
 {
@@ -68,7 +68,7 @@ pub(crate) fn read_id_parts<'a>(
     parse_id_parts(letters, has_adjacent, text)
 }
 
-#[tactic(auto, unfolding(crate::specs::IdReading::id_parts_at))]
+#[tactic(auto, unfolding(crate::specs::GameIds::id_parts_at))]
 fn parse_id_parts<'a>(
     letters: &str,
     has_adjacent: bool,

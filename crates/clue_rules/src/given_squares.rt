@@ -3,7 +3,7 @@
 ghost use Rattle.std.specs.Prelude.{◌≡◌, ℕ, ◌*◌, ◌<◌, ◌≤◌};
 ghost use Rattle.latin_board.specs.Squares.{GridValue, number_at};
 ghost use Rattle.trail_solver.specs.Candidates.{IsEarlier, IsWithin};
-ghost use Rattle.clue_rules.specs.Narrowing.{Agrees};
+ghost use Rattle.clue_rules.specs.Inner.Narrowing.{Agrees};
 
 use crate::view_candidates::strike_missing;
 use latin_board::Grid;

@@ -2,10 +2,10 @@
 
 ghost use Rattle.std.specs.Prelude.{◌≡◌, ◌≢◌, ℕ, ◌+◌, ◌-◌, ◌*◌, ◌<◌, ◌≤◌, ◌&&◌, true, false, not, MatchOption, slice_index};
 ghost use Rattle.latin_board.specs.Lines.{line_cell};
-ghost use Rattle.clue_rules.specs.Narrowing.{IsSquare, Narrows, NoneStruck};
-ghost use Rattle.clue_rules.specs.LineTallies.{IsSingle, IsPossible, IsWholeTally, IsTally, IsCounted, IsClash, IsKeptOf, IsLineStruck};
+ghost use Rattle.clue_rules.specs.Inner.Narrowing.{IsSquare, Narrows, NoneStruck};
+ghost use Rattle.clue_rules.specs.Inner.LineTallies.{IsSingle, IsPossible, IsWholeTally, IsTally, IsCounted, IsClash, IsKeptOf, IsLineStruck};
 ghost use Rattle.clue_rules.specs.Struck.{IsLatinStruck};
-ghost use Rattle.clue_rules.specs.TowersViews.{view_cell, front_place};
+ghost use Rattle.clue_rules.specs.Views.{view_cell, front_place};
 
 use crate::changed_lines::ChangedLines;
 use crate::towers_views::LINE;
@@ -139,7 +139,7 @@ fn tally_of(sets: &[u16; LINE], width: usize) -> Option<Tally>
 
 impl Tally {
     ghost use Rattle.std.specs.Prelude.{◌≡◌, ℕ, ◌<◌, MatchOption, slice_index};
-    ghost use Rattle.clue_rules.specs.LineTallies.{IsCounted, IsClash, IsKeptOf};
+    ghost use Rattle.clue_rules.specs.Inner.LineTallies.{IsCounted, IsClash, IsKeptOf};
 
     // The tally with one set more, or none where the set is empty or its only value is alone in another set.
     fn with(self, set: u16) -> Option<Tally>

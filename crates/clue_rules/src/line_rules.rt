@@ -4,7 +4,7 @@
 ghost use Rattle.std.specs.Prelude.{◌≡◌, ℕ, ◌*◌, ◌<◌, ◌⊎◌};
 ghost use Rattle.latin_board.specs.Squares.{GridValue};
 ghost use Rattle.trail_solver.specs.Candidates.{CandidatesValue};
-ghost use Rattle.clue_rules.specs.Narrowing.{IsSquare, Narrows, NoneStruck, StruckBelow, IsStruckByLines};
+ghost use Rattle.clue_rules.specs.Inner.Narrowing.{IsSquare, Narrows, NoneStruck, StruckBelow, IsStruckByLines};
 
 use crate::changed_lines::ChangedLines;
 use crate::latin_lines::{narrow_latin, settle_latin};

@@ -7,11 +7,11 @@
 ghost use Rattle.std.specs.Prelude.{◌≡◌, ◌+◌, ◌*◌, ◌<◌, ◌≤◌, ◌==◌, ◌++◌, ◌&&◌, not, false, IsOkUnless, count_by, true, take, length, if◌then◌else◌, Some, None, Result, Ok, Err, IfOk, OnOk, IfSome, IfNone, All};
 ghost use Rattle.std.specs.List.{flat_map, list_any};
 ghost use Rattle.byte_text.specs.Reading.{Gives};
-ghost use Rattle.clue_rules.specs.Counted.{counted};
-ghost use Rattle.clue_rules.specs.Filled.{IsFilledTo};
-ghost use Rattle.clue_rules.specs.TowersPuzzles.{TowersValue};
-ghost use Rattle.clue_rules.specs.TowersTexts.{IsTowersText, clue_field, clue_part, given_written, blank_letters, squares_written, towers_text};
-ghost use Rattle.clue_rules.specs.TowersReading.{fields, is_clue_field, clue_in, clues_in, clues_at, is_square_byte, is_square_part, squares_of, givens_at, towers_at};
+ghost use Rattle.clue_rules.specs.IdFaults.{counted};
+ghost use Rattle.clue_rules.specs.Inner.Filled.{IsFilledTo};
+ghost use Rattle.clue_rules.specs.Towers.{TowersValue};
+ghost use Rattle.clue_rules.specs.TowersText.{IsTowersText, clue_field, clue_part, given_written, blank_letters, squares_written, towers_text};
+ghost use Rattle.clue_rules.specs.TowersText.{fields, is_clue_field, clue_in, clues_in, clues_at, is_square_byte, is_square_part, squares_of, givens_at, towers_at};
 
 use crate::id_fault::IdFault;
 use crate::towers::{PLACES, Towers};
@@ -31,7 +31,7 @@ pub(crate) fn read_towers(size: Size, text: &[u8]) -> Result<Towers, IdFault>
     parse_towers(size, text)
 }
 
-#[tactic(auto, unfolding(crate::specs::TowersReading::towers_at))]
+#[tactic(auto, unfolding(crate::specs::TowersText::towers_at))]
 fn parse_towers(size: Size, text: &[u8]) -> Result<Towers, IdFault>
     ensures { result ≡ towers_at size text.now }
 {
@@ -44,7 +44,7 @@ fn parse_towers(size: Size, text: &[u8]) -> Result<Towers, IdFault>
     Ok(Towers { clues, givens })
 }
 
-#[tactic(auto, unfolding(crate::specs::TowersReading::clues_at))]
+#[tactic(auto, unfolding(crate::specs::TowersText::clues_at))]
 fn read_clues(size: Size, part: &[u8]) -> Result<[u8; PLACES], IdFault>
     ensures value { Gives (λ clues. take (4 * size) clues) result (clues_at size part.now) }
     ensures filled { IfOk result (IsFilledTo 36 (4 * size)) }
@@ -60,7 +60,7 @@ fn read_clues(size: Size, part: &[u8]) -> Result<[u8; PLACES], IdFault>
     fill_clues(size, part)
 }
 
-#[tactic(auto, using(crate::specs::CluePartLaws::field_count_by))]
+#[tactic(auto, using(crate::proofs::CluePartLemmas::field_count_by))]
 fn field_count(part: &[u8]) -> usize
     ensures { result ≡ length (fields part.now) }
 {
@@ -102,7 +102,7 @@ fn read_clue(size: Size, field: &[u8]) -> Option<u8>
     }
 }
 
-#[tactic(auto, unfolding(crate::specs::TowersReading::givens_at))]
+#[tactic(auto, unfolding(crate::specs::TowersText::givens_at))]
 fn read_givens(size: Size, part: &[u8]) -> Result<Grid, IdFault>
     ensures value { Gives (λ givens. givens.numbers) result (givens_at size part.now) }
     ensures size { IfOk result (λ givens. givens.size ≡ size) }

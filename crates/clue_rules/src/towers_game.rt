@@ -9,12 +9,12 @@ use std::alloc::Global;
 use trail_solver::Rules;
 
 impl Game for Towers {
-    ghost use Rattle.clue_rules.specs.IdLaws.{towers_letters_lack};
+    ghost use Rattle.clue_rules.specs.Laws.GameIds.{towers_letters_lack};
     ghost use Rattle.std.specs.Prelude.{codes};
-    ghost use Rattle.clue_rules.specs.TowersTexts.{IsTowersText, towers_text};
-    ghost use Rattle.clue_rules.specs.TowersReading.{towers_at};
-    ghost use Rattle.clue_rules.specs.TowersGameLaws as laws;
-    ghost use Rattle.clue_rules.specs.SparedMemory.{towers_spares};
+    ghost use Rattle.clue_rules.specs.TowersText.{IsTowersText, towers_text};
+    ghost use Rattle.clue_rules.specs.TowersText.{towers_at};
+    ghost use Rattle.clue_rules.specs.Laws.TowersGame as laws;
+    ghost use Rattle.clue_rules.specs.Laws.SparedMemory.{towers_spares};
 
     ghost title = { codes "Towers" };
 

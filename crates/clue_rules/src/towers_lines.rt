@@ -8,10 +8,12 @@ ghost use Rattle.tower_lines.specs.LineFillings.{IsSupported};
 ghost use Rattle.tower_lines.specs.TowersSeen.{seen};
 ghost use Rattle.trail_solver.specs.Candidates.{CandidatesValue};
 ghost use Rattle.trail_solver.specs.Puzzles.{Solves};
-ghost use Rattle.clue_rules.specs.Narrowing.{IsSquare, Narrows};
-ghost use Rattle.clue_rules.specs.TowersItems.{towers_puzzle};
-ghost use Rattle.clue_rules.specs.TowersStruck.{IsViewStruck, IsEndStruck};
-ghost use Rattle.clue_rules.specs.TowersViews.{view_of, clue_of};
+ghost use Rattle.clue_rules.specs.Inner.Narrowing.{IsSquare, Narrows};
+ghost use Rattle.clue_rules.specs.Towers.{towers_puzzle};
+ghost use Rattle.clue_rules.specs.Struck.{IsViewStruck};
+ghost use Rattle.clue_rules.specs.Inner.TowersLines.{IsEndStruck};
+ghost use Rattle.clue_rules.specs.Views.{view_of};
+ghost use Rattle.clue_rules.specs.Towers.{clue_of};
 
 use crate::changed_lines::ChangedLines;
 use crate::latin_lines::front_place;
@@ -25,8 +27,8 @@ use trail_solver::{Candidates, Rules};
 
 impl LineRules for Towers {
     ghost use Rattle.trail_solver.specs.Puzzles.{Solves};
-    ghost use Rattle.clue_rules.specs.TowersItems.{towers_puzzle};
-    ghost use Rattle.clue_rules.specs.TowersStruck.{IsEndStruck};
+    ghost use Rattle.clue_rules.specs.Towers.{towers_puzzle};
+    ghost use Rattle.clue_rules.specs.Inner.TowersLines.{IsEndStruck};
 
     ghost width = { λ v. v.size };
 

@@ -6,10 +6,10 @@ ghost use Rattle.latin_board.specs.Squares.{GridValue, IsGrid, IsFull, IsLatin};
 ghost use Rattle.trail_solver.specs.Candidates.{IsEarlier, IsWithin, may_be};
 ghost use Rattle.trail_solver.specs.Pairs.{IsPair};
 ghost use Rattle.trail_solver.specs.Puzzles.{Solves};
-ghost use Rattle.clue_rules.specs.TowersPuzzles.{TowersValue, IsTowers};
-ghost use Rattle.clue_rules.specs.TowersViews.{clue_of, meets_clue, meets_clues, HoldsClues};
-ghost use Rattle.clue_rules.specs.TowersStruck.{IsTowersStruck};
-ghost use Rattle.clue_rules.specs.TowersItems.{towers_puzzle, towers_items, has_towers, cut_towers, full_towers};
+ghost use Rattle.clue_rules.specs.Towers.{TowersValue, IsTowers};
+ghost use Rattle.clue_rules.specs.Towers.{clue_of, meets_clue, meets_clues, HoldsClues};
+ghost use Rattle.clue_rules.specs.Struck.{IsTowersStruck};
+ghost use Rattle.clue_rules.specs.Towers.{towers_puzzle, towers_items, has_towers, cut_towers, full_towers};
 
 use crate::given_squares::keep_givens;
 use crate::line_rules::narrow_by_lines;
@@ -57,9 +57,9 @@ impl Towers {
 
 impl Rules for Towers {
     ghost use Rattle.std.specs.Prelude.{refl};
-    ghost use Rattle.clue_rules.specs.TowersPuzzles.{IsTowers};
-    ghost use Rattle.clue_rules.specs.TowersItems.{towers_puzzle, towers_items, has_towers, cut_towers, full_towers};
-    ghost use Rattle.clue_rules.specs.TowersItemLaws as laws;
+    ghost use Rattle.clue_rules.specs.Towers.{IsTowers};
+    ghost use Rattle.clue_rules.specs.Towers.{towers_puzzle, towers_items, has_towers, cut_towers, full_towers};
+    ghost use Rattle.clue_rules.specs.Laws.TowersItems as laws;
 
     ghost puzzle = { towers_puzzle };
 

@@ -2,7 +2,7 @@
 
 ghost use Rattle.std.specs.Prelude.{◌≡◌, ◌*◌, ◌<◌, ◌≤◌};
 ghost use Rattle.tower_lines.specs.TowersSeen.{seen};
-ghost use Rattle.clue_rules.specs.TowersViews.{view_of, view_cell};
+ghost use Rattle.clue_rules.specs.Views.{view_of, view_cell};
 
 use latin_board::{Grid, Size};
 use tower_lines::seen;

@@ -8,10 +8,10 @@ ghost use Rattle.trail_solver.specs.Pairs.{IsPair};
 ghost use Rattle.trail_solver.specs.Candidates.{IsEarlier, IsWithin, may_be};
 ghost use Rattle.trail_solver.specs.Puzzles.{Solves};
 ghost use Rattle.clue_rules.specs.Unequal.{IsUnequal, givens_of, IsGreater, AreNeighbours, is_greater, holds_signs, HoldsSigns, holds_sign, sign_count, sign_at, sign_of_pair, first_of, second_of};
-ghost use Rattle.clue_rules.specs.UnequalItems.{puzzle_of, full_unequal};
-ghost use Rattle.clue_rules.specs.UnequalFields.{HoldsPlaces};
-ghost use Rattle.clue_rules.specs.UnequalStruck.{IsUnequalStruck};
-ghost use Rattle.clue_rules.specs.UnequalSameness.{same_unequal, same_unequal_decides};
+ghost use Rattle.clue_rules.specs.Unequal.{puzzle_of, full_unequal};
+ghost use Rattle.clue_rules.specs.Inner.UnequalFields.{HoldsPlaces};
+ghost use Rattle.clue_rules.specs.Struck.{IsUnequalStruck};
+ghost use Rattle.clue_rules.specs.Laws.UnequalSameness.{same_unequal, same_unequal_decides};
 
 mod description;
 mod direction;
@@ -49,7 +49,7 @@ impl Model for Unequal {
     ghost use Rattle.clue_rules.specs.declared.unequal.sign.Sign.{Sign as SignValue};
     ghost use Rattle.clue_rules.specs.declared.unequal.sign.Sign.TheVariants.{Absent};
     ghost use Rattle.clue_rules.specs.Unequal.{UnequalValue, sign_count};
-    ghost use Rattle.clue_rules.specs.UnequalFields.{KeepsSigns, signs_and_rest};
+    ghost use Rattle.clue_rules.specs.Inner.UnequalFields.{KeepsSigns, signs_and_rest};
 
     ghost Value = { UnequalValue };
 
@@ -185,8 +185,8 @@ impl Eq for Unequal {
 impl Rules for Unequal {
     ghost use Rattle.std.specs.Prelude.{refl};
     ghost use Rattle.clue_rules.specs.Unequal.{IsUnequal};
-    ghost use Rattle.clue_rules.specs.UnequalItems.{puzzle_of, unequal_items, has_unequal, cut_unequal, full_unequal};
-    ghost use Rattle.clue_rules.specs.UnequalItemLaws as laws;
+    ghost use Rattle.clue_rules.specs.Unequal.{puzzle_of, unequal_items, has_unequal, cut_unequal, full_unequal};
+    ghost use Rattle.clue_rules.specs.Laws.UnequalItems as laws;
 
     ghost puzzle = { puzzle_of };
 
@@ -301,13 +301,13 @@ impl Rules for Unequal {
 }
 
 impl Game for Unequal {
-    ghost use Rattle.clue_rules.specs.IdLaws.{unequal_letters_lack};
+    ghost use Rattle.clue_rules.specs.Laws.GameIds.{unequal_letters_lack};
     ghost use Rattle.std.specs.Prelude.{codes};
     ghost use Rattle.clue_rules.specs.UnequalText.{IsUnequalText, unequal_text};
-    ghost use Rattle.clue_rules.specs.UnequalReading.{unequal_at};
-    ghost use Rattle.clue_rules.specs.UnequalTextLaws.{desc_taken as taken, unequal_again};
-    ghost use Rattle.clue_rules.specs.UnequalWrittenForm.{unequal_canonical};
-    ghost use Rattle.clue_rules.specs.SparedMemory.{unequal_spares};
+    ghost use Rattle.clue_rules.specs.UnequalText.{unequal_at};
+    ghost use Rattle.clue_rules.specs.Laws.UnequalText.{desc_taken as taken, unequal_again};
+    ghost use Rattle.clue_rules.specs.Laws.UnequalWritten.{unequal_canonical};
+    ghost use Rattle.clue_rules.specs.Laws.SparedMemory.{unequal_spares};
 
     ghost title = { codes "Unequal" };
 

@@ -3,7 +3,7 @@
 ghost use Rattle.std.specs.Prelude.{◌≡◌, ℕ, ◌<◌, ◌&&◌, ◌↔◌, true, not};
 ghost use Rattle.std.specs.Bool.{MatchBool};
 ghost use Rattle.latin_board.specs.Marks.{has_mark};
-ghost use Rattle.clue_rules.specs.LineTallies.{IsSingle};
+ghost use Rattle.clue_rules.specs.Inner.LineTallies.{IsSingle};
 
 /// Whether a value is in a set.
 pub(crate) fn has_value(set: u16, value: u8) -> bool

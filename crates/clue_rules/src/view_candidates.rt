@@ -3,8 +3,8 @@
 ghost use Rattle.std.specs.Prelude.{◌≡◌, ℕ, ◌*◌, ◌<◌, ◌≤◌, ◌==◌, not, length};
 ghost use Rattle.std.specs.Bool.{OnFalse};
 ghost use Rattle.trail_solver.specs.Pairs.{IsPair};
-ghost use Rattle.clue_rules.specs.Narrowing.{AreSetsOf, KeepsAlong, KeepsOf};
-ghost use Rattle.clue_rules.specs.TowersViews.{view_cell};
+ghost use Rattle.clue_rules.specs.Inner.Narrowing.{AreSetsOf, KeepsAlong, KeepsOf};
+ghost use Rattle.clue_rules.specs.Views.{view_cell};
 
 use crate::changed_lines::ChangedLines;
 use crate::towers_views::{LINE, view_cell};

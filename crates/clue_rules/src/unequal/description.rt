@@ -6,9 +6,10 @@
 ghost use Rattle.std.specs.Prelude.{◌≡◌, ◌*◌, ◌<◌, ◌++◌, [], ◌∷◌, true, false, length, IfSome, IfNone, Some, None, IfOk, IfErr, OnOk, Ok, if◌then◌else◌};
 ghost use Rattle.std.specs.List.{list_all, range_with_len};
 ghost use Rattle.clue_rules.specs.Unequal.{UnequalValue, sign_count};
-ghost use Rattle.clue_rules.specs.UnequalFields.{HoldsPlaces};
+ghost use Rattle.clue_rules.specs.Inner.UnequalFields.{HoldsPlaces};
 ghost use Rattle.clue_rules.specs.UnequalText.{IsUnequalText, letter_of, is_greater_towards, piece_text, piece_of, unequal_text};
-ghost use Rattle.clue_rules.specs.UnequalReading.{texts_of, has_number, givens_grid, has_letters, points_inside, piece_at, sign_in, contradicts, puzzle_in, puzzle_at, unequal_at};
+ghost use Rattle.clue_rules.specs.Inner.UnequalPieces.{texts_of, sign_in};
+ghost use Rattle.clue_rules.specs.UnequalText.{has_number, givens_grid, has_letters, points_inside, piece_at, contradicts, puzzle_in, puzzle_at, unequal_at};
 
 use super::direction::Direction;
 use super::pieces::{has_letters, number_in, pieces_of, points_inside, says};
@@ -36,7 +37,7 @@ pub(crate) fn read_unequal(size: Size, text: &[u8]) -> Result<Unequal, IdFault>
     read_parts(size, text)
 }
 
-#[tactic(auto, unfolding(crate::specs::UnequalReading::unequal_at))]
+#[tactic(auto, unfolding(crate::specs::UnequalText::unequal_at))]
 fn read_parts(size: Size, text: &[u8]) -> Result<Unequal, IdFault>
     ensures { result ≡ unequal_at size text.now }
 {

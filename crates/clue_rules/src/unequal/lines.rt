@@ -4,10 +4,10 @@ ghost use Rattle.std.specs.Prelude.{◌≡◌, ◌≢◌, ℕ, ◌+◌, ◌-◌,
 ghost use Rattle.latin_board.specs.Squares.{GridValue, number_at};
 ghost use Rattle.trail_solver.specs.Puzzles.{Solves};
 ghost use Rattle.clue_rules.specs.declared.unequal.sign.Sign.TheVariants.{Absent};
-ghost use Rattle.clue_rules.specs.Narrowing.{IsSquare, Narrows};
+ghost use Rattle.clue_rules.specs.Inner.Narrowing.{IsSquare, Narrows};
 ghost use Rattle.clue_rules.specs.Unequal.{sign_at, sign_count};
-ghost use Rattle.clue_rules.specs.UnequalItems.{puzzle_of};
-ghost use Rattle.clue_rules.specs.UnequalStruck.{AreEnds, IsLowerStruck, IsUpperStruck, IsEndStruckBy, IsStruckAt, IsStruckAlong, line_sign};
+ghost use Rattle.clue_rules.specs.Unequal.{puzzle_of};
+ghost use Rattle.clue_rules.specs.Inner.UnequalLines.{AreEnds, IsLowerStruck, IsUpperStruck, IsEndStruckBy, IsStruckAt, IsStruckAlong, line_sign};
 
 use crate::changed_lines::ChangedLines;
 use crate::line_rules::LineRules;
@@ -20,8 +20,8 @@ use trail_solver::Candidates;
 
 impl LineRules for Unequal {
     ghost use Rattle.trail_solver.specs.Puzzles.{Solves};
-    ghost use Rattle.clue_rules.specs.UnequalItems.{puzzle_of};
-    ghost use Rattle.clue_rules.specs.UnequalStruck.{IsStruckAlong};
+    ghost use Rattle.clue_rules.specs.Unequal.{puzzle_of};
+    ghost use Rattle.clue_rules.specs.Inner.UnequalLines.{IsStruckAlong};
 
     ghost width = { λ v. v.size };
 

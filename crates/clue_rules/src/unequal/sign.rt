@@ -2,7 +2,7 @@
 
 ghost use Rattle.std.specs.Prelude.{◌≡◌, ◌*◌, ◌<◌, ◌≤◌, IfSome};
 ghost use Rattle.clue_rules.specs.Unequal.{pairs_across, sign_count, first_of, second_of, sign_between};
-ghost use Rattle.clue_rules.specs.UnequalItems.{sign_of};
+ghost use Rattle.clue_rules.specs.Unequal.{sign_of};
 
 use latin_board::Size;
 use std::cmp::Ordering;

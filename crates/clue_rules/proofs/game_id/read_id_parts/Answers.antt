@@ -1,5 +1,5 @@
 -- Both laws of game IDs, at the parts that were read.
-use Rattle.clue_rules.specs.IdLaws.{id_parts_found, id_parts_only}
+use Rattle.clue_rules.proofs.GameIdLemmas.{id_parts_found, id_parts_only}
 use Rattle.clue_rules.proofs.game_id.read_id_parts.Goals as goal
 
 pub returns-clause-found : goal.returns-clause-found

@@ -1,5 +1,5 @@
 use Rattle.std.proofs.Common.{◌-◌, length, true}
-use Rattle.clue_rules.specs.Narrowing.{Narrows, IsSquare, NoneStruck}
+use Rattle.clue_rules.specs.Inner.Narrowing.{Narrows, IsSquare, NoneStruck}
 use Rattle.clue_rules.proofs.latin_lines.settle_latin.Given as goal
 
 abbrev pub invariant-loop-candidates : goal.invariant-loop-candidates

@@ -1,4 +1,4 @@
-use Rattle.clue_rules.specs.LineTallies.{IsTally}
+use Rattle.clue_rules.specs.Inner.LineTallies.{IsTally}
 use Rattle.clue_rules.proofs.latin_lines.tally_of.Given as goal
 
 abbrev pub invariant-loop-k : goal.invariant-loop-k

@@ -1,5 +1,5 @@
 use Rattle.std.proofs.Common.{◌-◌, length, true}
-use Rattle.clue_rules.specs.Narrowing.{Narrows, NoneStruck}
+use Rattle.clue_rules.specs.Inner.Narrowing.{Narrows, NoneStruck}
 use Rattle.clue_rules.proofs.line_rules.settle_rules.Given as goal
 
 abbrev pub invariant-loop-candidates : goal.invariant-loop-candidates

@@ -1,5 +1,5 @@
 use Rattle.std.proofs.Common.{true}
-use Rattle.clue_rules.specs.Narrowing.{Narrows, NoneStruck}
+use Rattle.clue_rules.specs.Inner.Narrowing.{Narrows, NoneStruck}
 use Rattle.clue_rules.proofs.line_rules.strike_changed_rules.Given as goal
 
 abbrev pub invariant-loop-line : goal.invariant-loop-line

@@ -1,5 +1,5 @@
 use Rattle.std.proofs.Common.{true}
-use Rattle.clue_rules.specs.Narrowing.{Narrows, StruckBelow}
+use Rattle.clue_rules.specs.Inner.Narrowing.{Narrows, StruckBelow}
 use Rattle.clue_rules.proofs.line_rules.strike_rules.Given as goal
 
 abbrev pub invariant-loop-line : goal.invariant-loop-line

@@ -1,6 +1,6 @@
 -- Both laws of parameters, at what was read.
 use Rattle.std.proofs.Common.{◌∙◌}
-use Rattle.clue_rules.specs.ParamLaws.{params_found, params_again}
+use Rattle.clue_rules.proofs.ParameterLemmas.{params_found, params_again}
 use Rattle.clue_rules.proofs.params.read_params.Goals as goal
 
 pub returns-clause-found : goal.returns-clause-found

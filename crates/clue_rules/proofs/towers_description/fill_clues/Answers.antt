@@ -1,7 +1,7 @@
 -- One more field: the clue that was read is the field's, and stands at its place.
 use Rattle.std.proofs.Common.{◌≡◌, ◌∙◌, ℕ, List, Option, Some, option_map, sym, subst, arith, refl}
-use Rattle.clue_rules.specs.TowersReading.{is_clue_field, clue_in}
-use Rattle.clue_rules.specs.CluePartLaws.{FillsClues, fields_step, fills_step, clue_read}
+use Rattle.clue_rules.specs.TowersText.{is_clue_field, clue_in}
+use Rattle.clue_rules.proofs.CluePartLemmas.{FillsClues, fields_step, fills_step, clue_read}
 use Rattle.clue_rules.proofs.towers_description.fill_clues.Goals as goal
 
 pub loop-rest-preserved : goal.loop-rest-preserved

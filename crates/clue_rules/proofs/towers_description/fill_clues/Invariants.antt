@@ -1,5 +1,5 @@
 use Rattle.std.proofs.Common.{length, option_map}
-use Rattle.clue_rules.specs.CluePartLaws.{fields_left, FillsClues}
+use Rattle.clue_rules.proofs.CluePartLemmas.{fields_left, FillsClues}
 use Rattle.clue_rules.proofs.towers_description.fill_clues.Given as goal
 
 abbrev pub invariant-loop-rest : goal.invariant-loop-rest

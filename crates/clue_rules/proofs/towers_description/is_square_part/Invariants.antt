@@ -1,5 +1,5 @@
 use Rattle.std.proofs.Common.{◌≡◌, length}
-use Rattle.clue_rules.specs.TowersReading.{is_square_part}
+use Rattle.clue_rules.specs.TowersText.{is_square_part}
 use Rattle.clue_rules.proofs.towers_description.is_square_part.Given as goal
 
 abbrev pub invariant-loop-rest : goal.invariant-loop-rest

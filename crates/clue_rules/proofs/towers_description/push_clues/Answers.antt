@@ -1,8 +1,8 @@
 -- The clues are the first and the others.
 use Rattle.std.proofs.Common.{◌≡◌, ◌≤◌, ◌++◌, ◌∷◌, ◌∙◌, take, All, sym, ap, subst, arith, append_assoc, take_all}
 use Rattle.std.proofs.lemmas.List.Elements.{All-tail, All-get_or}
-use Rattle.clue_rules.specs.TowersTexts.{clue_field, clue_part}
-use Rattle.clue_rules.specs.CluePartLaws.{slashed, clue_part_slashed}
+use Rattle.clue_rules.specs.TowersText.{clue_field, clue_part}
+use Rattle.clue_rules.proofs.CluePartLemmas.{slashed, clue_part_slashed}
 use Rattle.clue_rules.proofs.towers_description.push_clues.Goals as goal
 
 pub push_clue-requires-in-loop-clue : goal.push_clue-requires-in-loop-clue

@@ -1,5 +1,5 @@
 use Rattle.std.proofs.Common.{◌≡◌, ◌++◌, take}
-use Rattle.clue_rules.specs.CluePartLaws.{slashed}
+use Rattle.clue_rules.proofs.CluePartLemmas.{slashed}
 use Rattle.clue_rules.proofs.towers_description.push_clues.Given as goal
 
 abbrev pub invariant-loop-clue : goal.invariant-loop-clue

@@ -1,5 +1,5 @@
 use Rattle.std.proofs.Common.{◌≡◌, ◌≤◌, ◌++◌, false, drop}
-use Rattle.clue_rules.specs.TowersTexts.{squares_written}
+use Rattle.clue_rules.specs.TowersText.{squares_written}
 use Rattle.clue_rules.proofs.towers_description.push_squares.Given as goal
 
 abbrev pub invariant-loop-cell : goal.invariant-loop-cell

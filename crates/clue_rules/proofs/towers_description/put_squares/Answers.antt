@@ -1,9 +1,9 @@
 -- A letter leaves its run of squares at 0, and a digit sets one square.
 use Rattle.std.proofs.Common.{◌≡◌, ◌+◌, ◌-◌, ◌*◌, ◌++◌, take, replicate, sym, ap, ◌∙◌, arith}
-use Rattle.clue_rules.specs.TowersReading.{squares_of}
-use Rattle.clue_rules.specs.FilledLaws.{filled_run, filled_one}
+use Rattle.clue_rules.specs.TowersText.{squares_of}
+use Rattle.clue_rules.proofs.FilledLemmas.{filled_run, filled_one}
 use Rattle.clue_rules.proofs.GivensFilled.{digit_within}
-use Rattle.clue_rules.specs.SquarePartLaws.{squares_of_letter}
+use Rattle.clue_rules.specs.Laws.SquarePart.{squares_of_letter}
 use Rattle.clue_rules.proofs.towers_description.put_squares.Goals as goal
 
 pub set-requires-clause-fits : goal.set-requires-clause-fits

@@ -1,6 +1,7 @@
 -- Both laws of Towers descriptions, at the puzzle that was read.
 use Rattle.std.proofs.Common.{◌∙◌, arith}
-use Rattle.clue_rules.specs.TowersTextLaws.{towers_found, towers_again}
+use Rattle.clue_rules.proofs.TowersTextLemmas.{towers_found}
+use Rattle.clue_rules.specs.Laws.TowersText.{towers_again}
 use Rattle.clue_rules.proofs.towers_description.read_towers.Goals as goal
 
 pub returns-clause-found : goal.returns-clause-found

@@ -1,8 +1,8 @@
 -- The written description is one of the puzzle.
 use Rattle.std.proofs.Common.{◌≡◌, sym, subst, arith}
 use Rattle.std.proofs.lemmas.Grind.{common_steps}
-use Rattle.clue_rules.specs.TowersTexts.{IsTowersText, towers_text}
-use Rattle.clue_rules.specs.TowersTextLaws.{towers_text_is}
+use Rattle.clue_rules.specs.TowersText.{IsTowersText, towers_text}
+use Rattle.clue_rules.specs.Laws.TowersText.{towers_text_is}
 use Rattle.clue_rules.proofs.towers_description.write_towers.Goals as goal
 
 pub returns-clause-readable : goal.returns-clause-readable

@@ -1,6 +1,6 @@
 use Rattle.latin_board.specs.Squares.{number_at}
 use Rattle.clue_rules.specs.Unequal.{sign_count, first_of, second_of}
-use Rattle.clue_rules.specs.UnequalItems.{sign_of}
+use Rattle.clue_rules.specs.Unequal.{sign_of}
 use Rattle.clue_rules.proofs.UnequalTable.{IsFilled}
 use Rattle.clue_rules.proofs.unequal.signs_of.Given as goal
 

@@ -1,5 +1,5 @@
 use Rattle.std.proofs.Common.{◌≡◌, ℕ, ◌<◌, length, get_or}
-use Rattle.clue_rules.specs.LineTallies.{IsKeptOf}
+use Rattle.clue_rules.specs.Inner.LineTallies.{IsKeptOf}
 use Rattle.clue_rules.proofs.latin_lines.Tally.kept_along.Given as goal
 
 abbrev pub invariant-loop-k : goal.invariant-loop-k

@@ -1,5 +1,5 @@
 use Rattle.std.proofs.Common.{length, ap, arith}
-use Rattle.clue_rules.specs.TowersPuzzles.{TowersValue}
+use Rattle.clue_rules.specs.Towers.{TowersValue}
 use Rattle.clue_rules.proofs.TowersTables.{clue_dropped, given_dropped}
 use Rattle.clue_rules.proofs.towers_rules.TowersRules.drop_item.Goals as goal
 

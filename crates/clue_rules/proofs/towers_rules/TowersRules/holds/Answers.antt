@@ -1,4 +1,4 @@
-use Rattle.clue_rules.specs.TowersItemLaws.{clues_decide}
+use Rattle.clue_rules.specs.Laws.TowersItems.{clues_decide}
 use Rattle.clue_rules.proofs.towers_rules.TowersRules.holds.Goals as goal
 
 pub returns-clause-rule : goal.returns-clause-rule

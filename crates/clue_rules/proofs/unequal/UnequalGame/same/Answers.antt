@@ -1,5 +1,5 @@
 use Rattle.std.proofs.lemmas.Bool.Decides.{Decides-at}
-use Rattle.clue_rules.specs.UnequalSameness.{same_unequal_decides}
+use Rattle.clue_rules.specs.Laws.UnequalSameness.{same_unequal_decides}
 use Rattle.clue_rules.proofs.unequal.UnequalGame.same.Goals as goal
 
 pub returns : goal.returns

@@ -2,7 +2,7 @@ use Rattle.std.proofs.Common.{◌↔◌, ◌<◌, List, sym, subst}
 use Rattle.latin_board.specs.Squares.{number_at}
 use Rattle.clue_rules.specs.declared.unequal.sign.Sign.{Sign}
 use Rattle.clue_rules.specs.Unequal.{IsGreater, AreNeighbours}
-use Rattle.clue_rules.specs.UnequalItemLaws.{full_greater}
+use Rattle.clue_rules.proofs.UnequalFullLemmas.{full_greater}
 use Rattle.clue_rules.proofs.unequal.UnequalRules.full.Goals as goal
 
 pub returns-clause-signs : goal.returns-clause-signs

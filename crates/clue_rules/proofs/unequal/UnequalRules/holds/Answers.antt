@@ -1,4 +1,4 @@
-use Rattle.clue_rules.specs.UnequalSigns.{signs_held, held_signs}
+use Rattle.clue_rules.proofs.SignLemmas.{signs_held, held_signs}
 use Rattle.clue_rules.proofs.unequal.UnequalRules.holds.Goals as goal
 
 pub returns-clause-rule : goal.returns-clause-rule

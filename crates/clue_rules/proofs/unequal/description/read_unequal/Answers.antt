@@ -2,8 +2,8 @@ use Rattle.std.proofs.Common.{◌≡◌, ℕ, ◌≤◌, List, Result, Ok, Err, 
 use Rattle.clue_rules.specs.declared.id_fault.IdFault.{IdFault}
 use Rattle.clue_rules.specs.Unequal.{UnequalValue}
 use Rattle.clue_rules.specs.UnequalText.{IsUnequalText}
-use Rattle.clue_rules.specs.UnequalReading.{unequal_at}
-use Rattle.clue_rules.specs.UnequalTextLaws.{unequal_taken, unequal_again}
+use Rattle.clue_rules.specs.UnequalText.{unequal_at}
+use Rattle.clue_rules.specs.Laws.UnequalText.{unequal_taken, unequal_again}
 use Rattle.clue_rules.proofs.unequal.description.read_unequal.Goals as goal
 
 found : (w : ℕ) (text : List ℕ) (r : Result UnequalValue IdFault) → 3 ≤ w → w ≤ 9 → r ≡ unequal_at w text → IfOk r (λ v. IsUnequalText v text × (v.size ≡ w))

@@ -1,7 +1,8 @@
 use Rattle.std.proofs.Common.{◌≡◌, ◌∙◌, true, refl, sym, arith}
 use Rattle.clue_rules.specs.Unequal.{sign_count}
-use Rattle.clue_rules.specs.UnequalReading.{texts_of, contradicts}
-use Rattle.clue_rules.specs.UnequalRangeTests.{none_more, range_some}
+use Rattle.clue_rules.specs.Inner.UnequalPieces.{texts_of}
+use Rattle.clue_rules.specs.UnequalText.{contradicts}
+use Rattle.clue_rules.proofs.RangeLemmas.{none_more, range_some}
 use Rattle.clue_rules.proofs.UnequalTable.{filled_none, filled_more}
 use Rattle.clue_rules.proofs.UnequalSaid.{said_some, said_none}
 use Rattle.clue_rules.proofs.unequal.description.signs_in.Goals as goal

@@ -1,4 +1,4 @@
-use Rattle.clue_rules.specs.UnequalWrittenForm.{unequal_canonical}
+use Rattle.clue_rules.specs.Laws.UnequalWritten.{unequal_canonical}
 use Rattle.clue_rules.proofs.unequal.description.write_unequal.Goals as goal
 
 pub returns-in-Ok-clause-described : goal.returns-in-Ok-clause-described

@@ -1,0 +1,20 @@
+-- What the steps of reading pieces give.
+use Rattle.std.specs.Prelude.{◌≡◌, ◌≢◌, ◌⊎◌, ◌++◌, ℕ, ◌+◌, ◌-◌, ◌&&◌, if◌then◌else◌, List, [], ◌∷◌, map, Option, Some, None}
+use Rattle.std.specs.Borrow.{Bor}
+use Rattle.clue_rules.specs.declared.unequal.sign.Sign.{Sign}
+use Rattle.clue_rules.specs.UnequalText.{says, first_says, second_says, said_sign}
+
+-- the texts that references point to
+abbrev pub texts_of : List (Bor (List ℕ)) → List (List ℕ)
+texts_of pieces = map (λ p. p.now) pieces
+
+-- the rest is the text without one comma at its end, where there is one
+abbrev pub IsWithoutLastComma : List ℕ → List ℕ → Type 0
+IsWithoutLastComma text rest =
+    (text ≡ rest ++ 44 ∷ []) ⊎ ((text ≡ rest) × ((front : List ℕ) → text ≢ front ++ 44 ∷ []))
+
+-- the sign that the pieces on both sides say, unless each says that its square is the greater one
+abbrev pub sign_in : ℕ → List (List ℕ) → ℕ → Option Sign
+sign_in w pieces sign =
+    if first_says w pieces sign && second_says w pieces sign then None
+    else Some (said_sign (first_says w pieces sign) (second_says w pieces sign))
