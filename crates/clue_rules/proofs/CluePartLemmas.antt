@@ -1,5 +1,5 @@
 -- What is known while the clue part of a Towers description is read field by field.
-use Rattle.std.proofs.Common.{◌≡◌, ℕ, ◌+◌, ◌-◌, ◌*◌, ◌≤◌, Bool, true, false, ◌==◌, List, [], ◌∷◌, length, map, cond, refl, sym, ap, ◌∙◌, arith, ◌++◌, suc, count_by, take, set, Option, Some, None, append_assoc, append-nil}
+use Rattle.std.proofs.Common.{◌≡◌, ℕ, ◌+◌, ◌*◌, ◌≤◌, Bool, true, false, ◌==◌, List, [], ◌∷◌, length, map, cond, refl, sym, ap, ◌∙◌, arith, ◌++◌, suc, count_by, take, set, Option, Some, None, append_assoc, append-nil}
 use Rattle.std.specs.List.{flat_map, list_all}
 use Rattle.std.proofs.lemmas.List.Splits.{length-slice_split}
 use Rattle.byte_text.specs.Cuts.{before, behind}

@@ -20,7 +20,7 @@ use Rattle.byte_text.proofs.DecimalLaws.{number_taken, number_again}
 use Rattle.byte_text.proofs.ReadingLaws.{bind_taken, bind_again}
 use Rattle.clue_rules.specs.Laws.JoinedTests.{one_from_or}
 use Rattle.clue_rules.proofs.ParameterLemmas.{params_taken, params_again}
-use Rattle.byte_text.specs.Cuts.{before, behind}
+use Rattle.byte_text.specs.Cuts.{behind}
 use Rattle.clue_rules.specs.IdFaults.{SparesMemory}
 use Rattle.clue_rules.specs.Laws.SparedMemory.{spares-then, spares-if}
 

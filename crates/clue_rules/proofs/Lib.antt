@@ -17,7 +17,6 @@ pub mod SingleSets
 pub mod TowersFull
 pub mod TowersKept
 pub mod TowersTables
-pub mod TowersTextLemmas
 pub mod UnequalFullLemmas
 pub mod UnequalGivens
 pub mod UnequalSaid

@@ -13,7 +13,7 @@ use Rattle.clue_rules.specs.Inner.Narrowing.{AreSetsOf, IsSquare, KeepsAlong, Na
 use Rattle.clue_rules.specs.Inner.LineTallies.{IsSingle, IsPossible, IsWholeTally, IsKeptOf, IsLineStruck}
 use Rattle.clue_rules.specs.Struck.{IsOnePlace, IsPeerStruck, IsPlaceStruck, IsLatinStruck}
 use Rattle.clue_rules.specs.Views.{view_cell}
-use Rattle.clue_rules.specs.declared.latin_lines.Tally.{Tally}
+use Rattle.clue_rules.specs.declared.lines.latin.Tally.{Tally}
 use Rattle.clue_rules.proofs.Narrowings.{on_true, on_false, narrows_by}
 use Rattle.clue_rules.proofs.LineTallying.{possible_stays, taken_goes, displaced_goes}
 

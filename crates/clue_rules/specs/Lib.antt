@@ -3,23 +3,18 @@
 -- the squares and numbers that both games look at from the edges of a grid, and the items of a puzzle
 pub mod Views
 pub mod Items
-
 -- the puzzles: what they are, which grids meet their clues or signs, and their items
 pub mod Towers
 pub mod Unequal
-
 -- what narrowing rules out
 pub mod Struck
-
 -- the texts: for each its grammar, the form that is written, and what is read; and the faults of reading
 pub mod IdFaults
 pub mod Parameters
 pub mod GameIds
 pub mod TowersText
 pub mod UnequalText
-
 -- words that the contracts of private functions alone use
 pub mod Inner
-
 -- lemmas for the laws of the traits that the games keep
 pub mod Laws

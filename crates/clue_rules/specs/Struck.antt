@@ -1,5 +1,5 @@
 -- What narrowing rules out, by the candidates alone: by rows and columns, by the clues of Towers, by the signs of Unequal.
-use Rattle.std.specs.Prelude.{◌≡◌, ◌≢◌, ℕ, ◌*◌, ◌<◌, ◌≤◌, ◌⊎◌, true, List, length, slice_index, ◌-◌, false}
+use Rattle.std.specs.Prelude.{◌≡◌, ◌≢◌, ℕ, ◌*◌, ◌<◌, ◌≤◌, ◌⊎◌, true, List, length, slice_index, false}
 use Rattle.latin_board.specs.Lines.{line_cell, ArePeers}
 use Rattle.trail_solver.specs.Candidates.{CandidatesValue, IsOnly, may_be}
 use Rattle.tower_lines.specs.TowersSeen.{seen}

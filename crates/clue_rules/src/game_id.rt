@@ -55,21 +55,8 @@ fn parse_id<P: Game>(text: &[u8]) -> Result<GameId<P>, IdFault>
 ///
 /// Refused, in this order, as the parameters are, `ForeignSeed` where the separator is `#`, `NoDescription` where there
 /// is none, and `BadSeed`. The description isn't read.
-pub(crate) fn read_id_parts<'a>(
-    letters: &str,
-    has_adjacent: bool,
-    text: &'a [u8],
-) -> Result<GameId<&'a [u8]>, IdFault>
-    ensures value { Gives (λ id. id_map (λ r. r.now) id) result (id_parts_at letters.now has_adjacent text.now) }
-    ensures found { IfOk result (λ id. IsIdText letters.now IsAnyText (id_map (λ r. r.now) id) text.now) }
-    ensures only { (id : GameId (List ℕ)) → LacksSeparators letters.now → IsIdText letters.now IsAnyText id text.now
-        → Gives (λ v. id_map (λ r. r.now) v) result (Ok id) }
-{
-    parse_id_parts(letters, has_adjacent, text)
-}
-
 #[tactic(auto, unfolding(crate::specs::GameIds::id_parts_at))]
-fn parse_id_parts<'a>(
+pub(crate) fn read_id_parts<'a>(
     letters: &str,
     has_adjacent: bool,
     text: &'a [u8],

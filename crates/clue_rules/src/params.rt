@@ -60,16 +60,8 @@ pub(crate) fn has_adjacent_mode<P: Game>() -> bool
 /// The parameters that the text says, of a game with these letters.
 ///
 /// Refused, in this order, as `BadSize`, `AdjacentMode` where the game has that mode, `BadLetter`, `BadParams`.
-pub(crate) fn read_params(letters: &str, has_adjacent: bool, text: &[u8]) -> Result<Params, IdFault>
-    ensures value { result ≡ params_at letters.now has_adjacent text.now }
-    ensures found { IfOk result (λ p. IsParamText letters.now p text.now) }
-    ensures only { (p : Params) → IsParamText letters.now p text.now → result ≡ Ok p }
-{
-    parse_params(letters, has_adjacent, text)
-}
-
 #[tactic(auto, unfolding(crate::specs::Parameters::params_at))]
-fn parse_params(letters: &str, has_adjacent: bool, text: &[u8]) -> Result<Params, IdFault>
+pub(crate) fn read_params(letters: &str, has_adjacent: bool, text: &[u8]) -> Result<Params, IdFault>
     ensures { result ≡ params_at letters.now has_adjacent text.now }
 {
     let [digit, rest @ ..] = text else {

@@ -5,6 +5,11 @@ ghost use Rattle.std.specs.Cmp.{decided, partial_equiv_from_equiv};
 ghost use Rattle.clue_rules.specs.Towers.{IsTowers};
 ghost use Rattle.clue_rules.specs.Laws.TowersSameness.{same_towers, same_towers_decides};
 
+mod description;
+mod game;
+mod lines;
+mod rules;
+
 use latin_board::Grid;
 use std::marker::Model;
 

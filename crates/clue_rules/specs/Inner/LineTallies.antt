@@ -4,7 +4,7 @@ use Rattle.latin_board.specs.Lines.{line_cell}
 use Rattle.latin_board.specs.Marks.{has_mark}
 use Rattle.trail_solver.specs.Candidates.{CandidatesValue, IsOnly}
 use Rattle.clue_rules.specs.Struck.{IsOnePlace}
-use Rattle.clue_rules.specs.declared.latin_lines.Tally.{Tally}
+use Rattle.clue_rules.specs.declared.lines.latin.Tally.{Tally}
 
 -- the value is the set's only one
 pub record IsSingle (set value : ℕ) : Type 0 where

@@ -1,8 +1,8 @@
 -- What the steps of reading pieces give.
-use Rattle.std.specs.Prelude.{◌≡◌, ◌≢◌, ◌⊎◌, ◌++◌, ℕ, ◌+◌, ◌-◌, ◌&&◌, if◌then◌else◌, List, [], ◌∷◌, map, Option, Some, None}
+use Rattle.std.specs.Prelude.{◌≡◌, ◌≢◌, ◌⊎◌, ◌++◌, ℕ, ◌&&◌, if◌then◌else◌, List, [], ◌∷◌, map, Option, Some, None}
 use Rattle.std.specs.Borrow.{Bor}
 use Rattle.clue_rules.specs.declared.unequal.sign.Sign.{Sign}
-use Rattle.clue_rules.specs.UnequalText.{says, first_says, second_says, said_sign}
+use Rattle.clue_rules.specs.UnequalText.{first_says, second_says, said_sign}
 
 -- the texts that references point to
 abbrev pub texts_of : List (Bor (List ℕ)) → List (List ℕ)

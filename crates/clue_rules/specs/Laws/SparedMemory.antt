@@ -1,5 +1,5 @@
 -- No reading answers want of memory.
-use Rattle.std.proofs.Common.{◌-◌, ◌*◌, ℕ, Bool, true, false, cond, ltb, not, List, length, Option, Some, None, Result, Ok, Err}
+use Rattle.std.proofs.Common.{◌*◌, ℕ, Bool, true, false, cond, ltb, not, List, length, Option, Some, None, Result, Ok, Err}
 use Rattle.std.specs.List.{range_with_len, list_all, flat_map}
 use Rattle.byte_text.specs.Cuts.{before, behind}
 use Rattle.byte_text.specs.Reading.{◌>>=◌}

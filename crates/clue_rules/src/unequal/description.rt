@@ -26,19 +26,8 @@ use trail_solver::Rules;
 /// The refusals are, over the whole text and in this order: `TooFew` or `TooMany` pieces; `BadSquares`, where a piece
 /// doesn't begin with one digit from 0 to the width; `BadClue`, where a byte behind it is none of the letters;
 /// `OffGrid`, where a letter points out of the grid; `Contradiction`, where two squares are each said to be the greater.
-pub(crate) fn read_unequal(size: Size, text: &[u8]) -> Result<Unequal, IdFault>
-    // A puzzle is read only from a text that describes it.
-    ensures found { IfOk result (λ v. IsUnequalText v text.now × (v.size ≡ size)) }
-    // It is read from each such text, so a text describes one puzzle at most.
-    ensures only { (v : UnequalValue) → v.size ≡ size → IsUnequalText v text.now → result ≡ Ok v }
-    ensures value { result ≡ unequal_at size text.now }
-{
-    let _width = size.get();
-    read_parts(size, text)
-}
-
 #[tactic(auto, unfolding(crate::specs::UnequalText::unequal_at))]
-fn read_parts(size: Size, text: &[u8]) -> Result<Unequal, IdFault>
+pub(crate) fn read_unequal(size: Size, text: &[u8]) -> Result<Unequal, IdFault>
     ensures { result ≡ unequal_at size text.now }
 {
     let width = size.get() as usize;
@@ -143,11 +132,8 @@ fn sign_in(size: Size, pieces: &[&[u8]], sign: usize) -> Option<Sign>
 /// `OutOfMemory` where there is no memory for the text.
 pub(crate) fn write_unequal(alloc: Global, puzzle: &Unequal) -> Result<Vec<u8>, IdFault>
     ensures written { IfOk result (λ text. text.items ≡ unequal_text puzzle.now) }
-    // The text describes the puzzle.
-    ensures described { IfOk result (λ text. IsUnequalText puzzle.now text.items) }
     ensures refused { IfErr result (λ fault. fault ≡ IdFault.OutOfMemory) }
 {
-    let _size = puzzle.size();
     match written(alloc, puzzle) {
         Ok(text) => Ok(text),
         Err(_) => Err(IdFault::OutOfMemory),

@@ -9,12 +9,12 @@ ghost use Rattle.clue_rules.specs.Unequal.{sign_at, sign_count};
 ghost use Rattle.clue_rules.specs.Unequal.{puzzle_of};
 ghost use Rattle.clue_rules.specs.Inner.UnequalLines.{AreEnds, IsLowerStruck, IsUpperStruck, IsEndStruckBy, IsStruckAt, IsStruckAlong, line_sign};
 
-use crate::changed_lines::ChangedLines;
-use crate::line_rules::LineRules;
+use crate::lines::changed::ChangedLines;
+use crate::lines::narrowing::LineRules;
+use crate::lines::value_sets::{above_least, below_greatest};
+use crate::lines::view_candidates::keep_of;
 use crate::unequal::Unequal;
 use crate::unequal::sign::{Sign, pairs_across, squares};
-use crate::value_sets::{above_least, below_greatest};
-use crate::view_candidates::keep_of;
 use latin_board::Size;
 use trail_solver::Candidates;
 
