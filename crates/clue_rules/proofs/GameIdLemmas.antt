@@ -1,6 +1,6 @@
 -- Game IDs: what is read has the grammar, what has the grammar is read, and reading spares memory.
 use Rattle.std.specs.Prelude.{◌≡◌, ℕ, ◌≤◌, Bool, false, ◌==◌, ◌||◌, List, [], ◌∷◌, Option, Some, None, Result, Ok, Err}
-use Rattle.byte_text.specs.Decimals.{number_at}
+use Rattle.byte_text.specs.Decimals.{decimal_value}
 use Rattle.byte_text.specs.Reading.{Gives}
 use Rattle.clue_rules.specs.declared.id_fault.IdFault.{IdFault}
 use Rattle.clue_rules.specs.declared.id_fault.IdFault.TheVariants.{ForeignSeed, BadSize, BadLetter, AdjacentMode, BadParams}
@@ -70,7 +70,7 @@ abbrev Behind : Params → List ℕ → GameId (List ℕ) → Type 0
 Behind p bs (Described q desc) = (q ≡ p) × ((separator : ℕ) × (bs ≡ separator ∷ desc) × (separator ≢ 35) × (separator ≢ 33))
 Behind p bs (Seeded q seed) = (q ≡ p) × (seed < 2 ^ 64) × (bs ≡ 33 ∷ decimal seed)
 
-seed_taken : (p : Params) (bs : List ℕ) (seed : Option ℕ) (parts : GameId (List ℕ)) → number_at 18446744073709551615 bs ≡ seed → seeded p seed ≡ Ok parts → Behind p (33 ∷ bs) parts
+seed_taken : (p : Params) (bs : List ℕ) (seed : Option ℕ) (parts : GameId (List ℕ)) → decimal_value 18446744073709551615 bs ≡ seed → seeded p seed ≡ Ok parts → Behind p (33 ∷ bs) parts
 seed_taken p bs None parts number read = cc
 seed_taken p bs (Some seed) parts number read =
     let is : Seeded p seed ≡ parts = cc in
@@ -80,11 +80,11 @@ seed_taken p bs (Some seed) parts number read =
 behind_taken : (p : Params) (bs : List ℕ) (parts : GameId (List ℕ)) → behind_params p bs ≡ Ok parts → Behind p bs parts
 behind_taken p [] parts = λ read. cc
 behind_taken p (b ∷ bs) parts =
-    elim (b == 35) as (λ t. (b == 35) ≡ t → cond t (Err ForeignSeed) (cond (b == 33) (seeded p (number_at 18446744073709551615 bs)) (Ok (Described p bs))) ≡ Ok parts → Behind p (b ∷ bs) parts) [
+    elim (b == 35) as (λ t. (b == 35) ≡ t → cond t (Err ForeignSeed) (cond (b == 33) (seeded p (decimal_value 18446744073709551615 bs)) (Ok (Described p bs))) ≡ Ok parts → Behind p (b ∷ bs) parts) [
       | true ↦ λ foreign read. cc
       | false ↦ λ own.
-          elim (b == 33) as (λ t. (b == 33) ≡ t → cond t (seeded p (number_at 18446744073709551615 bs)) (Ok (Described p bs)) ≡ Ok parts → Behind p (b ∷ bs) parts) [
-            | true ↦ λ seed read. rw (eqb-true b 33 seed) (seed_taken p bs (number_at 18446744073709551615 bs) parts refl read)
+          elim (b == 33) as (λ t. (b == 33) ≡ t → cond t (seeded p (decimal_value 18446744073709551615 bs)) (Ok (Described p bs)) ≡ Ok parts → Behind p (b ∷ bs) parts) [
+            | true ↦ λ seed read. rw (eqb-true b 33 seed) (seed_taken p bs (decimal_value 18446744073709551615 bs) parts refl read)
             | false ↦ λ described read.
                 let is : Described p bs ≡ parts = cc in
                 subst (Behind p (b ∷ bs)) is (refl, (b, refl, eqb-false b 35 own, eqb-false b 33 described))
@@ -136,7 +136,7 @@ id_parts_again letters has_adjacent text (Described p desc) lacks h =
     let text_is : text ≡ params_text p ++ 58 ∷ desc = h.1.1 ∙ ap (λ xs. params_text p ++ 58 ∷ xs) (sym h.1.2) in
     ap (id_parts_at letters has_adjacent) text_is ∙ parts_again letters has_adjacent p 58 desc lacks h.0 refl
 id_parts_again letters has_adjacent text (Seeded p seed) lacks h =
-    let read : number_at 18446744073709551615 (decimal seed) ≡ Some seed = number_again 18446744073709551615 seed (omega (arith, h.1)) (omega arith) in
+    let read : decimal_value 18446744073709551615 (decimal seed) ≡ Some seed = number_again 18446744073709551615 seed (omega (arith, h.1)) (omega arith) in
     ap (id_parts_at letters has_adjacent) h.2 ∙ (parts_again letters has_adjacent p 33 (decimal seed) lacks h.0 refl ∙ ap (seeded p) read)
 
 -- the ID with its description read
@@ -215,7 +215,7 @@ parts_spare : (p : Params) (bs : List ℕ) → SparesMemory (behind_params p bs)
 parts_spare p [] = λ e. cc
 parts_spare p (b ∷ bs) =
     spares-if (b == 35) (Err ForeignSeed) _ (λ e. cc)
-    (spares-if (b == 33) _ (Ok (Described p bs)) (seed_spares p (number_at 18446744073709551615 bs)) tt)
+    (spares-if (b == 33) _ (Ok (Described p bs)) (seed_spares p (decimal_value 18446744073709551615 bs)) tt)
 
 description_spares : {D : Type 0} (desc_at : ℕ → List ℕ → Result D IdFault) → ((w : ℕ) (text : List ℕ) → SparesMemory (desc_at w text)) → (id : GameId (List ℕ)) → SparesMemory (with_description desc_at id)
 description_spares desc_at spares (Described p desc) = spares-then (desc_at p.size desc) _ (spares p.size desc) (λ d. tt)

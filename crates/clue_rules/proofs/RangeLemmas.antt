@@ -9,15 +9,3 @@ none_more p n before here = range_none p 0 (n + 1) (λ i low high. elim (cases_l
   | inl below ↦ none_in_range p 0 n i before low (omega arith)
   | inr same ↦ let last : i ≡ n = omega arith in rw last here
 ])
-
--- a test that holds of some number of a range
-pub range_some : (p : ℕ → Bool) (a n i : ℕ) → a ≤ i → i < a + n → p i ≡ true → list_any p (range_with_len a n) ≡ true
-range_some p a zero i low high h = absurd (omega arith)
-range_some p a (suc n) i low high h = elim (cases_lt a i) [
-  | inl below ↦ rw (range_some p (a + 1) n i (omega arith) (omega arith) h) (either (p a))
-  | inr same ↦ let here : p a ≡ true = let e : a ≡ i = omega arith in rw e h in rw here refl
-]
-  where
-    either : (s : Bool) → (s || true) ≡ true
-    either true = refl
-    either false = refl

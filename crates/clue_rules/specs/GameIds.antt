@@ -4,7 +4,7 @@ use Rattle.std.specs.Fmt.{decimal}
 use Rattle.clue_rules.specs.declared.game_id.GameId.{GameId}
 use Rattle.clue_rules.specs.declared.game_id.GameId.TheVariants.{Described, Seeded}
 use Rattle.clue_rules.specs.Parameters.{IsParams, params_text, params_at}
-use Rattle.byte_text.specs.Decimals.{number_at}
+use Rattle.byte_text.specs.Decimals.{decimal_value}
 use Rattle.byte_text.specs.Reading.{◌>>=◌}
 use Rattle.clue_rules.specs.declared.id_fault.IdFault.{IdFault}
 use Rattle.clue_rules.specs.declared.id_fault.IdFault.TheVariants.{ForeignSeed, NoDescription, BadSeed}
@@ -44,7 +44,7 @@ abbrev pub behind_params : Params → List ℕ → Result (GameId (List ℕ)) Id
 behind_params p [] = Err NoDescription
 behind_params p (separator ∷ bs) =
     if separator == 35 then Err ForeignSeed
-    else (if separator == 33 then seeded p (number_at 18446744073709551615 bs) else Ok (Described p bs))
+    else (if separator == 33 then seeded p (decimal_value 18446744073709551615 bs) else Ok (Described p bs))
 
 -- the ID with its description as a text
 unfoldable pub id_parts_at : List ℕ → Bool → List ℕ → Result (GameId (List ℕ)) IdFault

@@ -5,7 +5,7 @@ use Rattle.latin_board.specs.Squares.{GridValue}
 use Rattle.tower_lines.specs.TowersSeen.{seen}
 use Rattle.clue_rules.specs.Views.{view_of}
 use Rattle.trail_solver.specs.Puzzles.{Puzzle}
-use Rattle.clue_rules.specs.Items.{kept}
+use Rattle.clue_rules.specs.Items.{kept_items}
 
 pub record TowersValue : Type 0 where
   pub size : ℕ
@@ -58,8 +58,8 @@ has_towers v item =
 abbrev pub cut_towers : TowersValue → (ℕ → Bool) → TowersValue
 cut_towers v keep = record {
   size = v.size;
-  clues = kept zero keep 0 v.clues;
-  givens = kept zero keep (4 * v.size) v.givens;
+  clues = kept_items zero keep 0 v.clues;
+  givens = kept_items zero keep (4 * v.size) v.givens;
 }
 
 -- the puzzle that has every item of a grid: at each place as many towers as are seen from there, and each square's number

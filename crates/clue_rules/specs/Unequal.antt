@@ -5,7 +5,7 @@ use Rattle.std.specs.List.{range_with_len, list_all}
 use Rattle.latin_board.specs.Squares.{GridValue, IsGrid, number_at}
 use Rattle.clue_rules.specs.declared.unequal.sign.Sign.{Sign}
 use Rattle.clue_rules.specs.declared.unequal.sign.Sign.TheVariants.{Absent, FirstGreater, SecondGreater}
-use Rattle.clue_rules.specs.Items.{kept}
+use Rattle.clue_rules.specs.Items.{kept_items}
 use Rattle.trail_solver.specs.Puzzles.{Puzzle}
 
 -- a width, a sign for each two neighbouring squares, and a number for each square, 0 where none is given
@@ -142,8 +142,8 @@ has_unequal v item =
 abbrev pub cut_unequal : UnequalValue → (ℕ → Bool) → UnequalValue
 cut_unequal v keep = record {
   size = v.size;
-  signs = kept Absent keep 0 v.signs;
-  givens = kept zero keep (sign_count v.size) v.givens;
+  signs = kept_items Absent keep 0 v.signs;
+  givens = kept_items zero keep (sign_count v.size) v.givens;
 }
 
 -- the sign that two numbers give

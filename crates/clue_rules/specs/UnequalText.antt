@@ -138,9 +138,16 @@ said_sign true second = FirstGreater
 said_sign false true = SecondGreater
 said_sign false false = Absent
 
--- some two squares are each said to be the greater one
+-- a letter at the square a says that it is greater than b
+abbrev pub says_greater : ℕ → List (List ℕ) → ℕ → ℕ → Bool
+says_greater w pieces a b =
+    list_any (λ d. says pieces a d && option_map_or (λ c. c == b) (neighbour w a d) false) directions
+
+-- two squares are each said to be the greater one
 abbrev pub contradicts : ℕ → List (List ℕ) → Bool
-contradicts w pieces = list_any (λ i. first_says w pieces i && second_says w pieces i) (range_with_len 0 (sign_count w))
+contradicts w pieces =
+    list_any (λ a. list_any (λ b. says_greater w pieces a b && says_greater w pieces b a) (range_with_len 0 (w * w)))
+    (range_with_len 0 (w * w))
 
 abbrev pub givens_grid : ℕ → List (List ℕ) → GridValue
 givens_grid w pieces = record { size = w; numbers = map (λ piece. unwrap_or (number_in w piece) 0) pieces }

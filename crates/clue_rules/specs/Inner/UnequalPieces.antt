@@ -1,8 +1,10 @@
 -- What the steps of reading pieces give.
-use Rattle.std.specs.Prelude.{◌≡◌, ◌≢◌, ◌⊎◌, ◌++◌, ℕ, ◌&&◌, if◌then◌else◌, List, [], ◌∷◌, map, Option, Some, None}
+use Rattle.std.specs.Prelude.{Bool, ◌≡◌, ◌≢◌, ◌⊎◌, ◌++◌, ℕ, ◌&&◌, if◌then◌else◌, List, [], ◌∷◌, map, Option, Some, None}
 use Rattle.std.specs.Borrow.{Bor}
 use Rattle.clue_rules.specs.declared.unequal.sign.Sign.{Sign}
 use Rattle.clue_rules.specs.UnequalText.{first_says, second_says, said_sign}
+use Rattle.std.specs.List.{list_any, range_with_len}
+use Rattle.clue_rules.specs.Unequal.{sign_count}
 
 -- the texts that references point to
 abbrev pub texts_of : List (Bor (List ℕ)) → List (List ℕ)
@@ -18,3 +20,7 @@ abbrev pub sign_in : ℕ → List (List ℕ) → ℕ → Option Sign
 sign_in w pieces sign =
     if first_says w pieces sign && second_says w pieces sign then None
     else Some (said_sign (first_says w pieces sign) (second_says w pieces sign))
+
+-- the letters on both sides of some sign each say that their square is the greater one
+abbrev pub signs_contradict : ℕ → List (List ℕ) → Bool
+signs_contradict w pieces = list_any (λ i. first_says w pieces i && second_says w pieces i) (range_with_len 0 (sign_count w))

@@ -2,9 +2,9 @@
 use Rattle.std.proofs.Common.{◌≡◌, ℕ, zero, suc, ◌+◌, ◌<◌, ◌≤◌, Bool, true, false, cond, ltb, ◌&&◌, List, [], ◌∷◌, length, get_or, refl, sym, ap, subst, ◌∙◌, inl, inr, arith}
 use Rattle.std.specs.List.{AllByRecursion}
 use Rattle.std.proofs.lemmas.Bool.{lt-ltb, cases_lt}
-use Rattle.clue_rules.specs.Items.{kept}
+use Rattle.clue_rules.specs.Items.{kept_items}
 
-pub length-kept : {X : Type 0} (empty : X) (keep : ℕ → Bool) (i : ℕ) (xs : List X) → length (kept empty keep i xs) ≡ length xs
+pub length-kept : {X : Type 0} (empty : X) (keep : ℕ → Bool) (i : ℕ) (xs : List X) → length (kept_items empty keep i xs) ≡ length xs
 length-kept empty keep i [] = refl
 length-kept empty keep i (x ∷ xs) = ap suc (length-kept empty keep (i + 1) xs)
 
@@ -12,12 +12,12 @@ same_either : {X : Type 0} (b : Bool) (x : X) → x ≡ cond b x x
 same_either true x = refl
 same_either false x = refl
 
-pub get_or-kept : {X : Type 0} (empty : X) (keep : ℕ → Bool) (i : ℕ) (xs : List X) (k j : ℕ) → i + k ≡ j → get_or (kept empty keep i xs) k empty ≡ cond (keep j) (get_or xs k empty) empty
+pub get_or-kept : {X : Type 0} (empty : X) (keep : ℕ → Bool) (i : ℕ) (xs : List X) (k j : ℕ) → i + k ≡ j → get_or (kept_items empty keep i xs) k empty ≡ cond (keep j) (get_or xs k empty) empty
 get_or-kept empty keep i [] k j e = same_either (keep j) empty
 get_or-kept empty keep i (x ∷ xs) zero j e = let here : i ≡ j = omega arith in rw here refl
 get_or-kept empty keep i (x ∷ xs) (suc k) j e = get_or-kept empty keep (i + 1) xs k j (omega arith)
 
-pub kept-all : {X : Type 0} (empty : X) (i : ℕ) (xs : List X) → kept empty (λ j. true) i xs ≡ xs
+pub kept-all : {X : Type 0} (empty : X) (i : ℕ) (xs : List X) → kept_items empty (λ j. true) i xs ≡ xs
 kept-all empty i [] = refl
 kept-all empty i (x ∷ xs) = ap (λ ys. x ∷ ys) (kept-all empty (i + 1) xs)
 
@@ -27,13 +27,13 @@ cond-and true false x y = refl
 cond-and false true x y = refl
 cond-and false false x y = refl
 
-pub kept-kept : {X : Type 0} (empty : X) (first second : ℕ → Bool) (i : ℕ) (xs : List X) → kept empty second i (kept empty first i xs) ≡ kept empty (λ j. first j && second j) i xs
+pub kept-kept : {X : Type 0} (empty : X) (first second : ℕ → Bool) (i : ℕ) (xs : List X) → kept_items empty second i (kept_items empty first i xs) ≡ kept_items empty (λ j. first j && second j) i xs
 kept-kept empty first second i [] = refl
 kept-kept empty first second i (x ∷ xs) =
     rw (cond-and (first i) (second i) x empty, kept-kept empty first second (i + 1) xs) refl
 
 -- only the entries that say something matter to what is kept
-pub kept-agrees : {X : Type 0} (empty : X) (present : X → Bool) → ((x : X) → present x ≡ false → x ≡ empty) → (a b : ℕ → Bool) (i : ℕ) (xs : List X) → ((k : ℕ) → k < length xs → present (get_or xs k empty) ≡ true → a (i + k) ≡ b (i + k)) → kept empty a i xs ≡ kept empty b i xs
+pub kept-agrees : {X : Type 0} (empty : X) (present : X → Bool) → ((x : X) → present x ≡ false → x ≡ empty) → (a b : ℕ → Bool) (i : ℕ) (xs : List X) → ((k : ℕ) → k < length xs → present (get_or xs k empty) ≡ true → a (i + k) ≡ b (i + k)) → kept_items empty a i xs ≡ kept_items empty b i xs
 kept-agrees empty present gone a b i [] h = refl
 kept-agrees {X} empty present gone a b i (x ∷ xs) h =
     let first : present x ≡ true → a i ≡ b i = λ here. (let e : i + 0 ≡ i = omega arith in rw e at (h 0 (omega arith) here)) in
@@ -48,7 +48,7 @@ kept-agrees {X} empty present gone a b i (x ∷ xs) h =
     later : (k : ℕ) → a (i + suc k) ≡ b (i + suc k) → a (i + 1 + k) ≡ b (i + 1 + k)
     later k same = let e : i + 1 + k ≡ i + suc k = omega arith in rw e same
 
-pub kept-within : (w : ℕ) (keep : ℕ → Bool) (i : ℕ) (xs : List ℕ) → AllByRecursion (λ n. n ≤ w) xs → AllByRecursion (λ n. n ≤ w) (kept zero keep i xs)
+pub kept-within : (w : ℕ) (keep : ℕ → Bool) (i : ℕ) (xs : List ℕ) → AllByRecursion (λ n. n ≤ w) xs → AllByRecursion (λ n. n ≤ w) (kept_items zero keep i xs)
 kept-within w keep i [] h = tt
 kept-within w keep i (x ∷ xs) h = (either (keep i) h.0, kept-within w keep (i + 1) xs h.1)
   where

@@ -8,7 +8,8 @@ use Rattle.clue_rules.specs.declared.unequal.sign.Sign.{Sign}
 use Rattle.clue_rules.specs.declared.unequal.sign.Sign.TheVariants.{Absent, FirstGreater, SecondGreater}
 use Rattle.clue_rules.specs.Unequal.{UnequalValue, pairs_across, IsBetween, IsGreater, sign_at, sign_between, sign_of_pair, says_first, says_second, is_greater}
 use Rattle.clue_rules.specs.Laws.SignPlaces.{AreSides, between_sides, same_sign, across_from, down_from}
-use Rattle.clue_rules.specs.Laws.RangeTests.{and_true, some_if}
+use Rattle.clue_rules.specs.Laws.RangeTests.{some_if}
+use Rattle.clue_rules.specs.Laws.JoinedTests.{both_from_and, one_from_or, or_from_second}
 
 -- no two squares are each the greater one
 pub never_both : (v : UnequalValue) (a b : ℕ) → 3 ≤ v.size → IsGreater v a b → IsGreater v b a → ⊥
@@ -48,7 +49,7 @@ pub between_found : (w a b i : ℕ) → 3 ≤ w → a < w * w → b < w * w → 
 between_found w a b i small a_in b_in e =
     elim (some_if ((eqb b (a + 1)) && (ltb 0 (b % w))) (a / w * (w - 1) + a % w) i (cond (eqb b (a + w)) (Some (pairs_across w + a)) None) e) [
       | inl row ↦
-          let tests = and_true (eqb b (a + 1)) (ltb 0 (b % w)) row.0 in
+          let tests = both_from_and (eqb b (a + 1)) (ltb 0 (b % w)) row.0 in
           let next : b ≡ a + 1 = eqb-true b (a + 1) tests.0 in
           let column : 0 < b % w = ltb-true 0 (b % w) tests.1 in
           let room : a % w + 1 < w = next_column w a small (rw next at column) in
@@ -86,17 +87,9 @@ sign_pair_second v a b small a_in b_in h =
     is_second Absent e = absurd (false≢true e)
     is_second FirstGreater e = absurd (false≢true e)
 
-or_true : (s t : Bool) → (s || t) ≡ true → (s ≡ true) ⊎ (t ≡ true)
-or_true true t e = inl refl
-or_true false t e = inr e
-
-or_right : (s t : Bool) → t ≡ true → (s || t) ≡ true
-or_right true t e = refl
-or_right false t e = e
-
 pub greater_found : (v : UnequalValue) (a b : ℕ) → 3 ≤ v.size → a < v.size * v.size → b < v.size * v.size → is_greater v a b ≡ true → IsGreater v a b
 greater_found v a b small a_in b_in h =
-    elim (or_true (says_first (sign_of_pair v a b)) (says_second (sign_of_pair v b a)) h) [
+    elim (one_from_or (says_first (sign_of_pair v a b)) (says_second (sign_of_pair v b a)) h) [
       | inl t ↦ let there = sign_pair_first v a b small a_in b_in t in record { sign = there.0; says = inl (there.1, there.2) }
       | inr t ↦ let there = sign_pair_second v b a small b_in a_in t in record { sign = there.0; says = inr (there.1, there.2) }
     ]
@@ -110,5 +103,5 @@ greater_tested v a b small h = elim h.says [
   | inr (between, e) ↦
       let sides = between_sides v.size h.sign b a small between in
       let there : sign_of_pair v b a ≡ SecondGreater = rw (sides.between) e in
-      or_right (says_first (sign_of_pair v a b)) (says_second (sign_of_pair v b a)) (rw there refl)
+      or_from_second (says_first (sign_of_pair v a b)) (says_second (sign_of_pair v b a)) (rw there refl)
 ]

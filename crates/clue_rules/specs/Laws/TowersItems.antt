@@ -13,7 +13,7 @@ use Rattle.latin_board.proofs.LatinTest.{all_in_range}
 use Rattle.tower_lines.specs.TowersSeen.{seen}
 use Rattle.tower_lines.proofs.SeenLemmas.{seen_most, seen_some}
 use Rattle.trail_solver.specs.Puzzles.{Solves}
-use Rattle.clue_rules.specs.Items.{kept}
+use Rattle.clue_rules.specs.Items.{kept_items}
 use Rattle.clue_rules.specs.Laws.KeptItems.{length-kept, get_or-kept, kept-all, kept-kept, kept-agrees, kept-within, positive-cond, asked_still, not_positive, small_widths}
 use Rattle.clue_rules.specs.Towers.{TowersValue, IsTowers, clue_of, HoldsClues, meets_clue, meets_clues, towers_puzzle, towers_items, has_towers, cut_towers, full_towers}
 use Rattle.clue_rules.specs.Views.{view_of}
@@ -45,9 +45,9 @@ valid_given v cell h inside = h.givens_within cell 0 (rw h.given_count inside)
 
 -- ---- cuts
 
-all_kept : (w : ℕ) (keep : ℕ → Bool) (i : ℕ) (xs : List ℕ) → All (λ n. n ≤ w) xs → All (λ n. n ≤ w) (kept zero keep i xs)
+all_kept : (w : ℕ) (keep : ℕ → Bool) (i : ℕ) (xs : List ℕ) → All (λ n. n ≤ w) xs → All (λ n. n ≤ w) (kept_items zero keep i xs)
 all_kept w keep i xs h =
-    All-from_recursion (λ n. n ≤ w) (kept zero keep i xs) (kept-within w keep i xs (recursion_from_All (λ n. n ≤ w) xs h))
+    All-from_recursion (λ n. n ≤ w) (kept_items zero keep i xs) (kept-within w keep i xs (recursion_from_All (λ n. n ≤ w) xs h))
 
 pub cut_valid : (v : TowersValue) (keep : ℕ → Bool) → IsTowers v → IsTowers (cut_towers v keep)
 cut_valid v keep h = record {
@@ -89,10 +89,10 @@ has_given v cell =
 
 pub cut_agrees : (v : TowersValue) (a b : ℕ → Bool) → IsTowers v → ((i : ℕ) → i < towers_items v.size → has_towers v i ≡ true → a i ≡ b i) → cut_towers v a ≡ cut_towers v b
 cut_agrees v a b h same =
-    let clues : kept zero a 0 v.clues ≡ kept zero b 0 v.clues =
+    let clues : kept_items zero a 0 v.clues ≡ kept_items zero b 0 v.clues =
     kept-agrees zero (ltb 0) not_positive a b 0 v.clues (λ k inside here.
     at_zero k (same k (omega (arith, h.clue_count)) (has_clue v k (omega (arith, h.clue_count)) ∙ here))) in
-    let givens : kept zero a (4 * v.size) v.givens ≡ kept zero b (4 * v.size) v.givens =
+    let givens : kept_items zero a (4 * v.size) v.givens ≡ kept_items zero b (4 * v.size) v.givens =
     kept-agrees zero (ltb 0) not_positive a b (4 * v.size) v.givens (λ k inside here.
     same (4 * v.size + k) (omega (arith, h.given_count)) (has_given v k ∙ here)) in
     rw (clues, givens) refl

@@ -11,7 +11,7 @@ use Rattle.trail_solver.specs.Puzzles.{Solves}
 use Rattle.clue_rules.specs.declared.unequal.sign.Sign.{Sign}
 use Rattle.clue_rules.specs.declared.unequal.sign.Sign.TheVariants.{Absent, FirstGreater, SecondGreater}
 use Rattle.clue_rules.specs.Unequal.{UnequalValue, IsUnequal, IsAcross, IsDown, sign_count, sign_at, first_of, second_of, holds_sign, puzzle_of, unequal_items, is_present, has_unequal, cut_unequal, sign_of, full_unequal}
-use Rattle.clue_rules.specs.Items.{kept}
+use Rattle.clue_rules.specs.Items.{kept_items}
 use Rattle.clue_rules.specs.Laws.KeptItems.{length-kept, get_or-kept, kept-all, kept-kept, kept-agrees, kept-within, positive-cond, asked_still, not_positive, small_widths}
 use Rattle.clue_rules.specs.Laws.SignPlaces.{sides_at, between_at}
 use Rattle.clue_rules.specs.Laws.RangeTests.{all_in_range, range_all}
@@ -75,10 +75,10 @@ has_given v cell =
 
 pub cut_agrees : (v : UnequalValue) (a b : ℕ → Bool) → IsUnequal v → ((i : ℕ) → i < unequal_items v.size → has_unequal v i ≡ true → a i ≡ b i) → cut_unequal v a ≡ cut_unequal v b
 cut_agrees v a b h same =
-    let signs : kept Absent a 0 v.signs ≡ kept Absent b 0 v.signs =
+    let signs : kept_items Absent a 0 v.signs ≡ kept_items Absent b 0 v.signs =
     kept-agrees Absent is_present not_present a b 0 v.signs (λ k inside here.
     at_zero k (same k (omega (arith, h.signs)) (has_sign v k (omega (arith, h.signs)) ∙ here))) in
-    let givens : kept zero a (sign_count v.size) v.givens ≡ kept zero b (sign_count v.size) v.givens =
+    let givens : kept_items zero a (sign_count v.size) v.givens ≡ kept_items zero b (sign_count v.size) v.givens =
     kept-agrees zero (ltb 0) not_positive a b (sign_count v.size) v.givens (λ k inside here.
     same (sign_count v.size + k) (omega (arith, h.givens.count)) (has_given v k ∙ here)) in
     rw (signs, givens) refl

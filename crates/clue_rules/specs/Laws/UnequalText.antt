@@ -11,6 +11,7 @@ use Rattle.clue_rules.specs.IdFaults.{counted}
 use Rattle.clue_rules.specs.Unequal.{UnequalValue, IsUnequal, IsGreater, sign_count, sign_at, first_of, second_of}
 use Rattle.clue_rules.specs.UnequalText.{Piece, Says, IsUnequalText, piece_text, directions_at, pieces_of, number_in, points_inside, first_says, second_says, said_sign, contradicts, puzzle_in, unequal_at}
 use Rattle.clue_rules.specs.Laws.RangeTests.{all_in_range, range_all, none_in_range, range_none}
+use Rattle.clue_rules.specs.Laws.Contradiction.{contradicts_signs}
 use Rattle.clue_rules.specs.Laws.Signs.{never_both}
 use Rattle.clue_rules.specs.Laws.Letters.{letters_at, directions_inside, read_piece}
 use Rattle.clue_rules.specs.Laws.SaidSigns.{first_from_says, says_from_first, second_from_says, says_from_second, greater_first, greater_second, first_greater, second_greater, SaysSigns, greater_says, says_greater}
@@ -36,21 +37,21 @@ read_sign : (w i : ℕ) (bytes : List (List ℕ)) → i < sign_count w → sign_
 read_sign w i bytes inside = get_or-map-range_with_len _ 0 (sign_count w) i i Absent inside (omega arith)
 
 -- what was read says the signs of its puzzle
-read_signs : (w : ℕ) (pieces : List Piece) → contradicts w (map piece_text pieces) ≡ false → SaysSigns (puzzle_in w (map piece_text pieces)) pieces
-read_signs w pieces agree =
+read_signs : (w : ℕ) (pieces : List Piece) → 3 ≤ w → contradicts w (map piece_text pieces) ≡ false → SaysSigns (puzzle_in w (map piece_text pieces)) pieces
+read_signs w pieces small agree =
     let bytes : List (List ℕ) = map piece_text pieces in
     record {
       first_said = λ i inside e. said_first _ (second_says w bytes i) (sym (read_sign w i bytes inside) ∙ e);
       second_said = λ i inside e. said_second (first_says w bytes i) _ (sym (read_sign w i bytes inside) ∙ e);
       first_there = λ i inside e. read_sign w i bytes inside ∙ ap (λ s. said_sign s (second_says w bytes i)) e;
-      second_there = λ i inside e. read_sign w i bytes inside ∙ second_said (first_says w bytes i) (second_says w bytes i) (none_in_range _ 0 (sign_count w) i agree (omega arith) (omega arith)) e;
+      second_there = λ i inside e. read_sign w i bytes inside ∙ second_said (first_says w bytes i) (second_says w bytes i) (none_in_range _ 0 (sign_count w) i (sym (contradicts_signs w bytes small) ∙ agree) (omega arith) (omega arith)) e;
     }
 
 -- what is read describes the puzzle
 
 read_text : (w : ℕ) (text : List ℕ) (pieces : List Piece) → 3 ≤ w → w ≤ 9 → length pieces ≡ w * w → pieces_of text ≡ map piece_text pieces → AreGood w (map piece_text pieces) → map (λ p. p.number) pieces ≡ (puzzle_in w (map piece_text pieces)).givens → IsUnequalText (puzzle_in w (map piece_text pieces)) text
 read_text w text pieces small large count split good numbers =
-    let signs = read_signs w pieces good.agree in
+    let signs = read_signs w pieces small good.agree in
     let v : UnequalValue = puzzle_in w (map piece_text pieces) in
     record {
       puzzle = read_valid w (map piece_text pieces) small large (length-map pieces piece_text ∙ count);
@@ -136,7 +137,7 @@ again_pieces v text h =
         numbers = good_numbers w pieces within;
         letters = good_letters pieces;
         inside = range_all (points_inside w bytes) 0 (w * w) (λ cell low high. rw (letters_at pieces cell) (inside_letters w cell (directions_at pieces cell) (h.inside cell)));
-        agree = range_none _ 0 (sign_count w) (λ i low high.
+        agree = contradicts_signs w bytes small ∙ range_none _ 0 (sign_count w) (λ i low high.
             let s = said i (omega arith) in
             not_both (first_says w bytes i) (second_says w bytes i) (λ f g. never_both v _ _ small (s.first f) (s.second g)));
       },
