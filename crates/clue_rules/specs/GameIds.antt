@@ -10,13 +10,14 @@ use Rattle.clue_rules.specs.declared.id_fault.IdFault.{IdFault}
 use Rattle.clue_rules.specs.declared.id_fault.IdFault.TheVariants.{ForeignSeed, NoDescription, BadSeed}
 use Rattle.clue_rules.specs.declared.params.Params.{Params}
 use Rattle.trail_solver.specs.Puzzles.{Puzzle}
+use Rattle.clue_rules.specs.Bytes.{colon, hash, exclamation}
 
 -- The text says the ID, where IsDesc w d desc is that desc describes the puzzle d, of size w.
 abbrev pub IsIdText : {D : Type 0} → List ℕ → (ℕ → D → List ℕ → Type 0) → GameId D → List ℕ → Type 0
 IsIdText letters IsDesc (Described p d) text =
-    IsParams letters p × ((desc : List ℕ) × (text ≡ params_text p ++ 58 ∷ desc) × IsDesc p.size d desc)
+    IsParams letters p × ((desc : List ℕ) × (text ≡ params_text p ++ colon ∷ desc) × IsDesc p.size d desc)
 IsIdText letters IsDesc (Seeded p seed) text =
-    IsParams letters p × (seed < 2 ^ 64) × (text ≡ params_text p ++ 33 ∷ decimal seed)
+    IsParams letters p × (seed < 2 ^ 64) × (text ≡ params_text p ++ exclamation ∷ decimal seed)
 
 -- a description that may be any text, and stands for itself
 abbrev pub IsAnyText : ℕ → List ℕ → List ℕ → Type 0
@@ -24,7 +25,7 @@ IsAnyText w desc text = desc ≡ text
 
 -- `:`, `#` and `!`
 abbrev pub is_separator : ℕ → Bool
-is_separator b = (b == 58) || ((b == 35) || (b == 33))
+is_separator b = (b == colon) || ((b == hash) || (b == exclamation))
 
 -- what stands before the first separator, and what stands from it on
 abbrev pub params_part : List ℕ → List ℕ
@@ -43,8 +44,8 @@ seeded p (Some seed) = Ok (Seeded p seed)
 abbrev pub behind_params : Params → List ℕ → Result (GameId (List ℕ)) IdFault
 behind_params p [] = Err NoDescription
 behind_params p (separator ∷ bs) =
-    if separator == 35 then Err ForeignSeed
-    else (if separator == 33 then seeded p (decimal_value 18446744073709551615 bs) else Ok (Described p bs))
+    if separator == hash then Err ForeignSeed
+    else (if separator == exclamation then seeded p (decimal_value 18446744073709551615 bs) else Ok (Described p bs))
 
 -- the ID with its description as a text
 unfoldable pub id_parts_at : List ℕ → Bool → List ℕ → Result (GameId (List ℕ)) IdFault

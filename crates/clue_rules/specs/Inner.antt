@@ -1,4 +1,5 @@
 -- Words that the contracts of private functions alone use.
+pub mod ChangedLines
 pub mod Filled
 pub mod LineTallies
 pub mod Narrowing

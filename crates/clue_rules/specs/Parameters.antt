@@ -6,6 +6,7 @@ use Rattle.std.specs.Str.{bytes_eq}
 use Rattle.byte_text.specs.Decimals.{begins_digit}
 use Rattle.clue_rules.specs.declared.id_fault.IdFault.{IdFault}
 use Rattle.clue_rules.specs.declared.id_fault.IdFault.TheVariants.{BadSize, BadLetter, AdjacentMode, BadParams}
+use Rattle.clue_rules.specs.Bytes.{digit_zero, letter_a, letter_d}
 
 -- parameters of a game with these letters
 pub record IsParams (letters : List ℕ) (p : Params) : Type 0 where
@@ -15,11 +16,11 @@ pub record IsParams (letters : List ℕ) (p : Params) : Type 0 where
 
 abbrev pub letter_part : Option ℕ → List ℕ
 letter_part None = []
-letter_part (Some letter) = 100 ∷ letter ∷ []
+letter_part (Some letter) = letter_d ∷ letter ∷ []
 
 -- the text that is written
 abbrev pub params_text : Params → List ℕ
-params_text p = (48 + p.size) ∷ letter_part p.letter
+params_text p = (digit_zero + p.size) ∷ letter_part p.letter
 
 -- the text says the parameters
 pub record IsParamText (letters : List ℕ) (p : Params) (text : List ℕ) : Type 0 where
@@ -39,17 +40,17 @@ letter_at letters w (letter ∷ bs) =
 abbrev pub behind_size : List ℕ → Bool → ℕ → List ℕ → Result Params IdFault
 behind_size letters has_adjacent w [] = Ok (record { size = w; letter = None })
 behind_size letters has_adjacent w (b ∷ bs) =
-    if has_adjacent && (b == 97) then Err AdjacentMode
-    else (if b == 100 then letter_at letters w bs else Err BadParams)
+    if has_adjacent && (b == letter_a) then Err AdjacentMode
+    else (if b == letter_d then letter_at letters w bs else Err BadParams)
 
 -- the digits in front are one digit from 3 to 9
 abbrev pub is_size : ℕ → List ℕ → Bool
-is_size b bs = nat_le 51 b && (nat_le b 57 && not (begins_digit bs))
+is_size b bs = nat_le (digit_zero + 3) b && (nat_le b (digit_zero + 9) && not (begins_digit bs))
 
 unfoldable pub params_at : List ℕ → Bool → List ℕ → Result Params IdFault
 params_at letters has_adjacent [] = Err BadSize
 params_at letters has_adjacent (b ∷ bs) =
-    if is_size b bs then behind_size letters has_adjacent (b - 48) bs else Err BadSize
+    if is_size b bs then behind_size letters has_adjacent (b - digit_zero) bs else Err BadSize
 
 -- the game of this name has an adjacent mode: Unequal alone
 abbrev pub has_adjacent : List ℕ → Bool

@@ -1,12 +1,14 @@
 -- What narrowing rules out, by the candidates alone: by rows and columns, by the clues of Towers, by the signs of Unequal.
 use Rattle.std.specs.Prelude.{◌≡◌, ◌≢◌, ℕ, ◌*◌, ◌<◌, ◌≤◌, ◌⊎◌, true, List, length, slice_index, false}
 use Rattle.latin_board.specs.Lines.{line_cell, ArePeers}
-use Rattle.trail_solver.specs.Candidates.{CandidatesValue, IsOnly, may_be}
+use Rattle.trail_solver.specs.Candidates.{CandidatesValue, IsOnly, IsWithin, may_be}
 use Rattle.tower_lines.specs.TowersSeen.{seen}
 use Rattle.trail_solver.specs.Pairs.{IsPair}
 use Rattle.clue_rules.specs.Towers.{TowersValue, clue_of}
 use Rattle.clue_rules.specs.Views.{view_cell}
 use Rattle.clue_rules.specs.Unequal.{UnequalValue, IsGreater}
+use Rattle.latin_board.specs.Squares.{GridValue}
+use Rattle.trail_solver.specs.Puzzles.{Puzzle, Solves}
 
 -- the line's k-th square is the one place of the value in the line
 pub record IsOnePlace (c : CandidatesValue) (line value k : ℕ) : Type 0 where
@@ -82,3 +84,17 @@ pub record IsSignStruck (v : UnequalValue) (c : CandidatesValue) (cell value : �
 -- what an Unequal puzzle rules out
 abbrev pub IsUnequalStruck : UnequalValue → CandidatesValue → ℕ → ℕ → Type 0
 IsUnequalStruck v c cell value = IsLatinStruck c cell value ⊎ IsSignStruck v c cell value
+
+-- ---- what narrowing the old candidates to the new ones keeps and leaves
+
+-- each solution of the puzzle within the old candidates is within the new ones
+abbrev pub KeepsSolutions : Puzzle → CandidatesValue → CandidatesValue → Type 0
+KeepsSolutions p old new = (g : GridValue) → Solves p g → IsWithin old g → IsWithin new g
+
+-- no solution of the puzzle is within the candidates
+abbrev pub HasNoSolution : Puzzle → CandidatesValue → Type 0
+HasNoSolution p c = (g : GridValue) → Solves p g → IsWithin c g → ⊥
+
+-- no pair is left that is struck by the old candidates
+abbrev pub NoneLeft : (CandidatesValue → ℕ → ℕ → Type 0) → CandidatesValue → CandidatesValue → Type 0
+NoneLeft Struck old new = (cell value : ℕ) → IsPair old.size cell value → Struck old cell value → may_be new cell value ≡ false

@@ -13,13 +13,14 @@ use Rattle.clue_rules.specs.declared.id_fault.IdFault.TheVariants.{BadClue, BadS
 use Rattle.clue_rules.specs.declared.unequal.sign.Sign.{Sign}
 use Rattle.clue_rules.specs.declared.unequal.sign.Sign.TheVariants.{Absent, FirstGreater, SecondGreater}
 use Rattle.clue_rules.specs.IdFaults.{counted}
+use Rattle.clue_rules.specs.Bytes.{comma, digit_zero, capital_u, capital_r, capital_d, capital_l}
 
 -- the letters U, R, D, L
 abbrev pub letter_of : Direction → ℕ
-letter_of Up = 85
-letter_of Right = 82
-letter_of Down = 68
-letter_of Left = 76
+letter_of Up = capital_u
+letter_of Right = capital_r
+letter_of Down = capital_d
+letter_of Left = capital_l
 
 -- the neighbour of a square in a direction, where the grid has one
 abbrev pub neighbour : ℕ → ℕ → Direction → Option ℕ
@@ -34,7 +35,7 @@ pub record Piece : Type 0 where
   pub greater : List Direction
 
 abbrev pub piece_text : Piece → List ℕ
-piece_text p = (48 + p.number) ∷ map letter_of p.greater
+piece_text p = (digit_zero + p.number) ∷ map letter_of p.greater
 
 -- the directions that stand at a square, none past the last
 abbrev pub directions_at : List Piece → ℕ → List Direction
@@ -51,8 +52,8 @@ pub record Says (w : ℕ) (pieces : List Piece) (a b : ℕ) : Type 0 where
 pub record IsUnequalText (v : UnequalValue) (text : List ℕ) : Type 0 where
   pub puzzle : IsUnequal v
   pub pieces : List Piece
-  pub written : (text ≡ join_with_byte 44 (map piece_text pieces))
-      ⊎ (text ≡ join_with_byte 44 (map piece_text pieces) ++ 44 ∷ [])
+  pub written : (text ≡ join_with_byte comma (map piece_text pieces))
+      ⊎ (text ≡ join_with_byte comma (map piece_text pieces) ++ comma ∷ [])
   pub numbers : map (λ p. p.number) pieces ≡ v.givens
   pub inside : (cell : ℕ) (d : Direction) → Contains (directions_at pieces cell) d → IsSome (neighbour v.size cell d)
   pub signs : (a b : ℕ) → IsGreater v a b ↔ Says v.size pieces a b
@@ -72,9 +73,13 @@ piece_of v cell = record {
   greater = filter (is_greater_towards v cell) directions;
 }
 
--- the written form: a comma ends each piece, the last one too
+-- a comma ends it
+abbrev pub piece_written : UnequalValue → ℕ → List ℕ
+piece_written v cell = piece_text (piece_of v cell) ++ comma ∷ []
+
+-- the written form: the pieces of all squares
 abbrev pub unequal_text : UnequalValue → List ℕ
-unequal_text v = flat_map (λ cell. piece_text (piece_of v cell) ++ 44 ∷ []) (range_with_len 0 (v.size * v.size))
+unequal_text v = flat_map (piece_written v) (range_with_len 0 (v.size * v.size))
 
 -- where the last piece is empty it is dropped
 abbrev pub without_empty_last : List (List ℕ) → List (List ℕ)
@@ -85,20 +90,20 @@ without_empty_last (p ∷ q ∷ ps) = p ∷ without_empty_last (q ∷ ps)
 
 -- what commas separate
 abbrev pub pieces_of : List ℕ → List (List ℕ)
-pieces_of text = without_empty_last (slice_split (λ b. b == 44) text)
+pieces_of text = without_empty_last (slice_split (λ b. b == comma) text)
 
 -- the digit from 0 to w with which the piece begins, where no other stands behind it
 abbrev pub number_in : ℕ → List ℕ → Option ℕ
 number_in w [] = None
-number_in w (b ∷ bs) = if nat_le 48 b && nat_le b (48 + w) && not (begins_digit bs) then Some (b - 48) else None
+number_in w (b ∷ bs) = if nat_le digit_zero b && nat_le b (digit_zero + w) && not (begins_digit bs) then Some (b - digit_zero) else None
 
 abbrev pub has_number : ℕ → List ℕ → Bool
 has_number w piece = is_some (number_in w piece)
 
 abbrev pub direction_of : ℕ → Option Direction
 direction_of b =
-    if b == 85 then Some Up
-    else (if b == 82 then Some Right else (if b == 68 then Some Down else (if b == 76 then Some Left else None)))
+    if b == capital_u then Some Up
+    else (if b == capital_r then Some Right else (if b == capital_d then Some Down else (if b == capital_l then Some Left else None)))
 
 -- all bytes behind the digit are letters
 abbrev pub has_letters : List ℕ → Bool
@@ -144,7 +149,7 @@ says_greater w pieces a b =
     list_any (λ d. says pieces a d && option_map_or (λ c. c == b) (neighbour w a d) false) directions
 
 -- two squares are each said to be the greater one
-abbrev pub contradicts : ℕ → List (List ℕ) → Bool
+unfoldable pub contradicts : ℕ → List (List ℕ) → Bool
 contradicts w pieces =
     list_any (λ a. list_any (λ b. says_greater w pieces a b && says_greater w pieces b a) (range_with_len 0 (w * w)))
     (range_with_len 0 (w * w))

@@ -29,8 +29,10 @@ pub enum GameId<P> {
 /// memory, so `OutOfMemory` is never among them.
 pub fn read_id<P: Game>(text: &[u8]) -> Result<GameId<P>, IdFault>
     ensures value { result ≡ id_at P.letter_codes (has_adjacent P.title) P.desc_at text.now }
-    ensures found { IfOk result (λ id. IsIdText P.letter_codes (describes_at P.puzzle P.valid P.describes) id text.now) }
-    ensures only { (id : GameId P) → IsIdText P.letter_codes (describes_at P.puzzle P.valid P.describes) id text.now
+    ensures found { IfOk result (λ id.
+        IsIdText P.letter_codes (describes_at P.puzzle P.valid P.describes) id text.now) }
+    ensures only { (id : GameId P)
+        → IsIdText P.letter_codes (describes_at P.puzzle P.valid P.describes) id text.now
         → result ≡ Ok id }
     ensures without_memory { SparesMemory result }
 {
@@ -61,7 +63,8 @@ pub(crate) fn read_id_parts<'a>(
     has_adjacent: bool,
     text: &'a [u8],
 ) -> Result<GameId<&'a [u8]>, IdFault>
-    ensures { Gives (λ id. id_map (λ r. r.now) id) result (id_parts_at letters.now has_adjacent text.now) }
+    ensures { Gives (λ id. id_map (λ r. r.now) id) result
+        (id_parts_at letters.now has_adjacent text.now) }
 {
     let (front, back) = split_at_separator(text);
     let params = read_params(letters, has_adjacent, front)?;

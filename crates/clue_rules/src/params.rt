@@ -37,7 +37,8 @@ impl Params {
     /// The text of the parameters: the size, and `d` and the letter where there is one.
     pub fn write(&self) -> ArrayVec<u8, 3>
         ensures written { result.items ≡ params_text self.now }
-        ensures readable { (letters : List ℕ) → IfSome self.now.letter (λ letter. Contains letters letter)
+        ensures readable { (letters : List ℕ)
+            → IfSome self.now.letter (λ letter. Contains letters letter)
             → IsParamText letters self.now result.items }
     {
         let mut text = ArrayVec::new();

@@ -114,7 +114,6 @@ impl Unequal {
         ensures value { result.now ≡ givens_of self.now }
         ensures valid { IsGrid result.now }
     {
-        let _size = self.givens.size();
         &self.givens
     }
 

@@ -17,6 +17,10 @@ pub record IsPossible (sets : List ℕ) (n : ℕ) (number : ℕ → ℕ) : Type 
   pub apart : (i j : ℕ) → i < n → j < n → i ≢ j → number i ≢ number j
   pub all : (v : ℕ) → 1 ≤ v → v ≤ n → (k : ℕ) × (k < n) × (number k ≡ v)
 
+-- there are no such numbers
+abbrev pub AreImpossible : List ℕ → ℕ → Type 0
+AreImpossible sets n = (number : ℕ → ℕ) → IsPossible sets n number → ⊥
+
 -- the tally of the first n sets: which values are in one of them, in two, and alone in one; none of the sets is empty,
 -- and no value is alone in two
 pub record IsTally (sets : List ℕ) (n : ℕ) (t : Tally) : Type 0 where

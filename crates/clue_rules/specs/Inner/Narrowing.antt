@@ -19,6 +19,10 @@ pub record Narrows (Sought : GridValue → Type 0) (Struck : CandidatesValue →
   pub refutes : OnFalse left ((g : GridValue) → Sought g → g.size ≡ old.size → IsWithin old g → ⊥)
   pub struck : OnTrue left (LacksStruck Struck old new)
 
+-- each grid that is sought within the old candidates is within the new ones
+abbrev pub KeepsEach : (GridValue → Type 0) → CandidatesValue → CandidatesValue → Type 0
+KeepsEach Sought old new = (g : GridValue) → Sought g → IsWithin old g → IsWithin new g
+
 -- no pair at all
 abbrev pub NoneStruck : CandidatesValue → ℕ → ℕ → Type 0
 NoneStruck c cell value = ⊥

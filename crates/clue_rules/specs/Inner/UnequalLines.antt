@@ -5,6 +5,8 @@ use Rattle.clue_rules.specs.declared.unequal.sign.Sign.TheVariants.{FirstGreater
 use Rattle.clue_rules.specs.Inner.Narrowing.{StruckBelow}
 use Rattle.clue_rules.specs.Struck.{HasNoneAbove, HasNoneBelow}
 use Rattle.clue_rules.specs.Unequal.{UnequalValue, pairs_across, sign_at, first_of, second_of}
+use Rattle.latin_board.specs.Squares.{GridValue, number_at}
+use Rattle.clue_rules.specs.Inner.Narrowing.{IsSquare}
 
 -- the squares on both sides of a sign, the one that holds the greater number first
 pub record AreEnds (v : UnequalValue) (sign upper lower : ℕ) : Type 0 where
@@ -40,3 +42,7 @@ line_sign w line k = if nat_lt line w then line * (w - 1) + k else pairs_across 
 -- what the signs along a line rule out
 abbrev pub IsStruckAlong : UnequalValue → ℕ → CandidatesValue → ℕ → ℕ → Type 0
 IsStruckAlong v line c cell value = StruckBelow (λ k. IsStruckAt v (line_sign v.size line k)) (v.size - 1) c cell value
+
+-- a Latin square whose number is greater in the one square than in the other
+abbrev pub HoldsGreater : ℕ → ℕ → GridValue → Type 0
+HoldsGreater upper lower g = IsSquare g × (number_at g lower < number_at g upper)

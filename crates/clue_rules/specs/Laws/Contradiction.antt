@@ -79,6 +79,7 @@ signs_from_squares w pieces a b small inside e f =
     ]
 
 squares_from_signs : (w : ℕ) (pieces : List (List ℕ)) (i : ℕ) → 3 ≤ w → i < sign_count w → first_says w pieces i ≡ true → second_says w pieces i ≡ true → contradicts w pieces ≡ true
+unfolding contradicts
 squares_from_signs w pieces i small inside first second =
     let sides = sides_at w i small inside in
     range_some _ 0 (w * w) (first_of w i) (omega arith) (omega (arith, sides.order, sides.inside))
@@ -94,6 +95,7 @@ same_tests false true f g = g refl
 same_tests false false f g = refl
 
 pub contradicts_signs : (w : ℕ) (pieces : List (List ℕ)) → 3 ≤ w → contradicts w pieces ≡ signs_contradict w pieces
+unfolding contradicts
 contradicts_signs w pieces small =
     same_tests (contradicts w pieces) (signs_contradict w pieces)
     (λ e.

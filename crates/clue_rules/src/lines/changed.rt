@@ -1,5 +1,6 @@
 //! Which rows and columns have to be looked at again.
 
+ghost use Rattle.clue_rules.specs.Inner.ChangedLines.{GainsLine, GainsLinesOf, LosesLine};
 ghost use Rattle.std.specs.Prelude.{◌≡◌, ℕ, ◌+◌, ◌*◌, ◌/◌, ◌%◌, ◌<◌, ◌==◌, ◌||◌, ◌&&◌, not};
 ghost use Rattle.latin_board.specs.Marks.{has_mark, no_marks};
 
@@ -42,7 +43,7 @@ impl Lines {
 
     fn insert(&mut self, line: u8)
         requires { line < 32 }
-        ensures { (k : ℕ) → has_mark self.new k ≡ (has_mark self.old k || (k == line)) }
+        ensures { GainsLine line self.old self.new }
     {
         self.bits |= 1 << line;
     }
@@ -51,7 +52,7 @@ impl Lines {
     fn take(&mut self, line: u8) -> bool
         requires { line < 32 }
         ensures was { result ≡ has_mark self.old line }
-        ensures rest { (k : ℕ) → has_mark self.new k ≡ (has_mark self.old k && not (k == line)) }
+        ensures rest { LosesLine line self.old self.new }
     {
         if !self.has(line) {
             return false;
@@ -83,8 +84,8 @@ impl ChangedLines {
     /// Notes that a square of the grid lost candidates.
     pub fn note(&mut self, size: Size, cell: usize)
         requires { cell < size * size }
-        ensures latin { (k : ℕ) → has_mark self.new.latin k ≡ (has_mark self.old.latin k || (k == cell / size) || (k == size + cell % size)) }
-        ensures rule { (k : ℕ) → has_mark self.new.rule k ≡ (has_mark self.old.rule k || (k == cell / size) || (k == size + cell % size)) }
+        ensures latin { GainsLinesOf size cell self.old.latin self.new.latin }
+        ensures rule { GainsLinesOf size cell self.old.rule self.new.rule }
     {
         let width = size.get() as usize;
         let row = (cell / width) as u8;
@@ -113,7 +114,7 @@ impl ChangedLines {
     pub fn take_latin(&mut self, line: u8) -> bool
         requires { line < 32 }
         ensures was { result ≡ has_mark self.old.latin line }
-        ensures rest { (k : ℕ) → has_mark self.new.latin k ≡ (has_mark self.old.latin k && not (k == line)) }
+        ensures rest { LosesLine line self.old.latin self.new.latin }
         ensures rule { self.new.rule ≡ self.old.rule }
     {
         self.latin.take(line)
@@ -123,7 +124,7 @@ impl ChangedLines {
     pub fn take_rule(&mut self, line: u8) -> bool
         requires { line < 32 }
         ensures was { result ≡ has_mark self.old.rule line }
-        ensures rest { (k : ℕ) → has_mark self.new.rule k ≡ (has_mark self.old.rule k && not (k == line)) }
+        ensures rest { LosesLine line self.old.rule self.new.rule }
         ensures latin { self.new.latin ≡ self.old.latin }
     {
         self.rule.take(line)

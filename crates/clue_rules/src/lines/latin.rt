@@ -3,7 +3,7 @@
 ghost use Rattle.std.specs.Prelude.{◌≡◌, ◌≢◌, ℕ, ◌+◌, ◌-◌, ◌*◌, ◌<◌, ◌≤◌, ◌&&◌, true, false, not, MatchOption, slice_index};
 ghost use Rattle.latin_board.specs.Lines.{line_cell};
 ghost use Rattle.clue_rules.specs.Inner.Narrowing.{IsSquare, Narrows, NoneStruck};
-ghost use Rattle.clue_rules.specs.Inner.LineTallies.{IsSingle, IsPossible, IsWholeTally, IsTally, IsCounted, IsClash, IsKeptOf, IsLineStruck};
+ghost use Rattle.clue_rules.specs.Inner.LineTallies.{IsSingle, AreImpossible, IsWholeTally, IsTally, IsCounted, IsClash, IsKeptOf, IsLineStruck};
 ghost use Rattle.clue_rules.specs.Struck.{IsLatinStruck};
 ghost use Rattle.clue_rules.specs.Views.{view_cell, front_place};
 
@@ -39,6 +39,7 @@ fn strike_lines(candidates: &mut Candidates, changed: &mut ChangedLines) -> bool
 pub(crate) fn settle_latin(candidates: &mut Candidates, changed: &mut ChangedLines) -> bool
     ensures { Narrows IsSquare NoneStruck candidates.old candidates.new result }
 {
+    // The proof learns here that the width is from 3 to 9.
     let _size = candidates.size();
     loop {
         if changed.latin_is_settled() {
@@ -71,6 +72,7 @@ fn strike_if_changed(candidates: &mut Candidates, line: u8, changed: &mut Change
     requires { line < 2 * candidates.old.size }
     ensures { Narrows IsSquare NoneStruck candidates.old candidates.new result }
 {
+    // The proof learns here that the width is from 3 to 9.
     let _size = candidates.size();
     if !changed.take_latin(line) {
         return true;
@@ -105,7 +107,7 @@ struct Tally {
 // The tally of a line's sets, or none where they can't be the candidates of a row or column.
 fn tally_of(sets: &[u16; LINE], width: usize) -> Option<Tally>
     requires { width ≤ 9 }
-    ensures { MatchOption result ((number : ℕ → ℕ) → IsPossible sets.now width number → ⊥) (IsWholeTally sets.now width) }
+    ensures { MatchOption result (AreImpossible sets.now width) (IsWholeTally sets.now width) }
 {
     let mut tally = Tally {
         once: 0,
@@ -147,7 +149,8 @@ impl Tally {
     // The values that may stay in each square.
     fn kept_along(self, sets: &[u16; LINE], width: usize) -> [u16; LINE]
         requires { width ≤ 9 }
-        ensures { (k : ℕ) → k < width → IsKeptOf self (slice_index sets.now k) (slice_index result k) }
+        ensures { (k : ℕ) → k < width
+            → IsKeptOf self (slice_index sets.now k) (slice_index result k) }
     {
         let mut kept = [0; LINE];
         for k in 0..width {

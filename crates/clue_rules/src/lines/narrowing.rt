@@ -29,7 +29,8 @@ pub(crate) trait LineRules {
     ) -> bool
         requires size { candidates.old.size ≡ width self.now }
         requires line { line < 2 * candidates.old.size }
-        ensures { Narrows (sought self.now) (rules_out self.now line) candidates.old candidates.new result };
+        ensures { Narrows (sought self.now) (rules_out self.now line)
+            candidates.old candidates.new result };
 
     // A solution is a Latin square.
     ghost squares: { (p : Self) (g : GridValue) → sought p g → IsSquare g };
@@ -39,7 +40,8 @@ pub(crate) trait LineRules {
 /// where nothing is left for some square or value.
 pub(crate) fn narrow_by_lines<P: LineRules>(p: &P, candidates: &mut Candidates) -> bool
     requires { candidates.old.size ≡ P.width p.now }
-    ensures { Narrows (P.sought p.now) (IsStruckByLines (P.rules_out p.now)) candidates.old candidates.new result }
+    ensures { Narrows (P.sought p.now) (IsStruckByLines (P.rules_out p.now))
+        candidates.old candidates.new result }
 {
     let mut changed = ChangedLines::none();
     if !narrow_latin(candidates, &mut changed) {
@@ -58,7 +60,8 @@ fn strike_rules<P: LineRules>(
     changed: &mut ChangedLines,
 ) -> bool
     requires { candidates.old.size ≡ P.width p.now }
-    ensures { Narrows (P.sought p.now) (StruckBelow (P.rules_out p.now) (2 * candidates.old.size)) candidates.old candidates.new result }
+    ensures { Narrows (P.sought p.now) (StruckBelow (P.rules_out p.now) (2 * candidates.old.size))
+        candidates.old candidates.new result }
 {
     let width = candidates.size().get();
     for line in 0..2 * width {
@@ -79,6 +82,7 @@ fn settle_rules<P: LineRules>(
     requires { candidates.old.size ≡ P.width p.now }
     ensures { Narrows (P.sought p.now) NoneStruck candidates.old candidates.new result }
 {
+    // The proof learns here that the width is from 3 to 9.
     let _size = candidates.size();
     loop {
         if changed.rule_is_settled() {
@@ -122,6 +126,7 @@ fn strike_rule_if_changed<P: LineRules>(
     requires line { line < 2 * candidates.old.size }
     ensures { Narrows (P.sought p.now) NoneStruck candidates.old candidates.new result }
 {
+    // The proof learns here that the width is from 3 to 9.
     let _size = candidates.size();
     if !changed.take_rule(line) {
         return true;
@@ -138,7 +143,8 @@ fn strike_rule<P: LineRules>(
 ) -> bool
     requires size { candidates.old.size ≡ P.width p.now }
     requires line { line < 2 * candidates.old.size }
-    ensures { Narrows (P.sought p.now) (P.rules_out p.now line) candidates.old candidates.new result }
+    ensures { Narrows (P.sought p.now) (P.rules_out p.now line)
+        candidates.old candidates.new result }
 {
     p.strike_along(candidates, line, changed) && settle_latin(candidates, changed)
 }

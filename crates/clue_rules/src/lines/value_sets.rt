@@ -39,7 +39,8 @@ pub(crate) fn below_greatest(set: u16) -> u16
 
 /// The values above the least of a set.
 pub(crate) fn above_least(set: u16) -> u16
-    ensures { (v : ℕ) → v < 16 → (has_mark result v ≡ true) ↔ ((u : ℕ) × (u < v) × (has_mark set u ≡ true)) }
+    ensures { (v : ℕ) → v < 16
+        → (has_mark result v ≡ true) ↔ ((u : ℕ) × (u < v) × (has_mark set u ≡ true)) }
 {
     if set == 0 {
         return 0;

@@ -4,6 +4,7 @@
 //! squares in reading order: a letter for a run of 1 to 26 blank squares, a digit for a given, and `_` between two
 //! givens that stand side by side. This is the collection's form.
 
+ghost use Rattle.clue_rules.specs.Bytes.{slash};
 ghost use Rattle.std.specs.Prelude.{◌≡◌, ◌+◌, ◌*◌, ◌<◌, ◌≤◌, ◌==◌, ◌++◌, ◌&&◌, not, false, IsOkUnless, count_by, true, take, length, if◌then◌else◌, Some, None, Result, Ok, Err, IfOk, OnOk, IfSome, IfNone, All};
 ghost use Rattle.std.specs.List.{flat_map, list_any};
 ghost use Rattle.byte_text.specs.Reading.{Gives};
@@ -59,7 +60,7 @@ fn field_count(part: &[u8]) -> usize
 }
 
 fn slash_count(part: &[u8]) -> usize
-    ensures value { result ≡ count_by (λ b. b == 47) part.now }
+    ensures value { result ≡ count_by (λ b. b == slash) part.now }
     ensures bound { result ≤ length part.now }
 {
     part.iter().filter(|b| **b == b'/').count()
@@ -67,10 +68,10 @@ fn slash_count(part: &[u8]) -> usize
 
 fn fill_clues(size: Size, part: &[u8]) -> Result<[u8; PLACES], IdFault>
     requires { length (fields part.now) ≡ 4 * size }
-    ensures value { Gives (λ clues. take (4 * size) clues) result (clues_in size (fields part.now)) }
+    ensures value { Gives (λ clues. take (4 * size) clues) result
+        (clues_in size (fields part.now)) }
     ensures filled { IfOk result (IsFilledTo 36 (4 * size)) }
 {
-    let _width = size.get();
     let mut clues = [0; PLACES];
     let mut place = 0;
     let mut rest = Some(part);
@@ -129,7 +130,8 @@ fn is_square_byte(size: Size, byte: u8, after: &[u8]) -> bool
 
 fn fill_givens(size: Size, part: &[u8]) -> Result<Grid, IdFault>
     requires { is_square_part size part.now ≡ true }
-    ensures value { Gives (λ givens. givens.numbers) result (counted (size * size) (flat_map squares_of part.now)) }
+    ensures value { Gives (λ givens. givens.numbers) result
+        (counted (size * size) (flat_map squares_of part.now)) }
     ensures size { IfOk result (λ givens. givens.size ≡ size) }
 {
     let width = size.get() as usize;
@@ -156,7 +158,8 @@ fn put_squares(givens: &mut Grid, cell: usize, byte: u8) -> Option<usize>
         IsFilledTo (givens.old.size * givens.old.size) next givens.new.numbers) }
     ensures numbers { IfSome result (λ next.
         take next givens.new.numbers ≡ take cell givens.old.numbers ++ squares_of byte) }
-    ensures full { IfNone result (givens.old.size * givens.old.size < cell + length (squares_of byte)) }
+    ensures full { IfNone result
+        (givens.old.size * givens.old.size < cell + length (squares_of byte)) }
 {
     let width = givens.size().get() as usize;
     let left = width * width - cell;
@@ -231,7 +234,8 @@ fn has_given(givens: &Grid) -> bool
 }
 
 fn push_squares(text: &mut Vec<u8>, givens: &Grid) -> Result<(), AllocError>
-    ensures { OnOk result (text.new.items ≡ text.old.items ++ squares_written 0 false givens.now.numbers) }
+    ensures { OnOk result (text.new.items
+        ≡ text.old.items ++ squares_written 0 false givens.now.numbers) }
 {
     let width = givens.size().get() as usize;
     let mut blanks = 0;
@@ -257,7 +261,8 @@ fn push_given(
     square: u8,
 ) -> Result<(), AllocError>
     requires { square ≤ 9 }
-    ensures { OnOk result (text.new.items ≡ text.old.items ++ given_written blanks after_given square) }
+    ensures { OnOk result (text.new.items
+        ≡ text.old.items ++ given_written blanks after_given square) }
 {
     push_blanks(text, blanks)?;
     if blanks == 0 && after_given {

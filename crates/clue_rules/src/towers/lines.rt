@@ -11,7 +11,7 @@ ghost use Rattle.trail_solver.specs.Puzzles.{Solves};
 ghost use Rattle.clue_rules.specs.Inner.Narrowing.{IsSquare, Narrows};
 ghost use Rattle.clue_rules.specs.Towers.{towers_puzzle};
 ghost use Rattle.clue_rules.specs.Struck.{IsViewStruck};
-ghost use Rattle.clue_rules.specs.Inner.TowersLines.{IsEndStruck};
+ghost use Rattle.clue_rules.specs.Inner.TowersLines.{IsEndStruck, IsClueStruck, ShowsClue, HoldValuesTo, AreSupported};
 ghost use Rattle.clue_rules.specs.Views.{view_of};
 ghost use Rattle.clue_rules.specs.Towers.{clue_of};
 
@@ -27,7 +27,7 @@ use trail_solver::{Candidates, Rules};
 impl LineRules for Towers {
     ghost use Rattle.trail_solver.specs.Puzzles.{Solves};
     ghost use Rattle.clue_rules.specs.Towers.{towers_puzzle};
-    ghost use Rattle.clue_rules.specs.Inner.TowersLines.{IsEndStruck};
+    ghost use Rattle.clue_rules.specs.Inner.TowersLines.{IsEndStruck, IsClueStruck, ShowsClue, HoldValuesTo, AreSupported};
 
     ghost width = { λ v. v.size };
 
@@ -63,8 +63,10 @@ impl Towers {
         requires size { candidates.old.size ≡ self.now.size }
         requires place { place < 4 * candidates.old.size }
         requires line { line < 2 * candidates.old.size }
-        ensures { Narrows (λ g. Solves (towers_puzzle self.now) g) (λ c cell v. (0 < clue_of self.now place) × IsViewStruck place (clue_of self.now place) c cell v) candidates.old candidates.new result }
+        ensures { Narrows (Solves (towers_puzzle self.now)) (IsClueStruck self.now place)
+            candidates.old candidates.new result }
     {
+        // The proof learns here that the width is from 3 to 9.
         let _size = candidates.size();
         let before = candidates.trail_len();
         let left = self.strike_view(candidates, place, changed);
@@ -83,9 +85,9 @@ impl Towers {
     ) -> bool
         requires size { candidates.old.size ≡ self.now.size }
         requires place { place < 4 * candidates.old.size }
-        ensures { Narrows (λ g. Solves (towers_puzzle self.now) g) (λ c cell v. (0 < clue_of self.now place) × IsViewStruck place (clue_of self.now place) c cell v) candidates.old candidates.new result }
+        ensures { Narrows (Solves (towers_puzzle self.now)) (IsClueStruck self.now place)
+            candidates.old candidates.new result }
     {
-        let _size = self.size();
         let clue = self.clue(place);
         if clue == 0 {
             return true;
@@ -99,7 +101,7 @@ impl Towers {
 fn narrow_view(candidates: &mut Candidates, place: u8, clue: u8, changed: &mut ChangedLines) -> bool
     requires place { place < 4 * candidates.old.size }
     requires clue { clue ≤ candidates.old.size }
-    ensures { Narrows (λ g. IsSquare g × (seen (view_of g place) ≡ clue)) (IsViewStruck place clue) candidates.old candidates.new result }
+    ensures { Narrows (ShowsClue place clue) (IsViewStruck place clue) candidates.old candidates.new result }
 {
     let width = candidates.size().get() as usize;
     let sets = view_sets(candidates, place);
@@ -113,8 +115,8 @@ fn narrow_view(candidates: &mut Candidates, place: u8, clue: u8, changed: &mut C
 // Whether each set has one value, all different, and these show as many towers as the clue says.
 fn shows_alone(sets: &[u16; LINE], width: usize, clue: u8) -> bool
     requires width { width ≤ 9 }
-    requires values { (k v : ℕ) → k < width → has_mark (slice_index sets.now k) v ≡ true → (1 ≤ v) × (v ≤ width) }
-    ensures { OnTrue result ((k v : ℕ) → k < width → has_mark (slice_index sets.now k) v ≡ true → IsSupported (take width sets.now) clue k v) }
+    requires values { HoldValuesTo width sets.now }
+    ensures { OnTrue result (AreSupported width clue sets.now) }
 {
     let mut line = [0; LINE];
     let mut used = 0;

@@ -10,7 +10,7 @@ ghost use Rattle.trail_solver.specs.Pairs.{IsPair};
 ghost use Rattle.trail_solver.specs.Puzzles.{Solves};
 ghost use Rattle.clue_rules.specs.Towers.{TowersValue, IsTowers};
 ghost use Rattle.clue_rules.specs.Towers.{clue_of, meets_clue, meets_clues, HoldsClues};
-ghost use Rattle.clue_rules.specs.Struck.{IsTowersStruck};
+ghost use Rattle.clue_rules.specs.Struck.{IsTowersStruck, KeepsSolutions, HasNoSolution, NoneLeft};
 ghost use Rattle.clue_rules.specs.Towers.{towers_puzzle, towers_items, has_towers, cut_towers, full_towers};
 
 use crate::lines::given_squares::keep_givens;
@@ -92,12 +92,10 @@ impl Rules for Towers {
     ghost full_of = { full_towers };
 
     fn size(&self) -> Size {
-        let _clues = self.clues();
         self.givens.size()
     }
 
     fn given(&self, cell: usize) -> u8 {
-        let _size = self.givens.size();
         self.givens.get(cell)
     }
 
@@ -115,9 +113,9 @@ impl Rules for Towers {
     fn narrow(&self, candidates: &mut Candidates) -> bool
         requires { candidates.old.size ≡ self.now.size }
         ensures less { IsEarlier candidates.old candidates.new }
-        ensures keeps { (g : GridValue) → Solves (towers_puzzle self.now) g → IsWithin candidates.old g → IsWithin candidates.new g }
-        ensures refutes { OnFalse result ((g : GridValue) → Solves (towers_puzzle self.now) g → IsWithin candidates.old g → ⊥) }
-        ensures struck { OnTrue result ((cell value : ℕ) → IsPair candidates.old.size cell value → IsTowersStruck self.now candidates.old cell value → may_be candidates.new cell value ≡ false) }
+        ensures keeps { KeepsSolutions (towers_puzzle self.now) candidates.old candidates.new }
+        ensures refutes { OnFalse result (HasNoSolution (towers_puzzle self.now) candidates.old) }
+        ensures struck { OnTrue result (NoneLeft (IsTowersStruck self.now) candidates.old candidates.new) }
     {
         keep_givens(candidates, self.givens());
         narrow_by_lines(self, candidates)

@@ -7,7 +7,7 @@ ghost use Rattle.std.specs.Prelude.{◌≡◌, ◌*◌, ◌<◌, ◌++◌, [], �
 ghost use Rattle.std.specs.List.{list_all, range_with_len};
 ghost use Rattle.clue_rules.specs.Unequal.{UnequalValue, sign_count};
 ghost use Rattle.clue_rules.specs.Inner.UnequalFields.{HoldsPlaces};
-ghost use Rattle.clue_rules.specs.UnequalText.{IsUnequalText, letter_of, is_greater_towards, piece_text, piece_of, unequal_text};
+ghost use Rattle.clue_rules.specs.UnequalText.{IsUnequalText, letter_of, is_greater_towards, piece_written, unequal_text};
 ghost use Rattle.clue_rules.specs.Inner.UnequalPieces.{texts_of, sign_in};
 ghost use Rattle.clue_rules.specs.UnequalText.{has_number, givens_grid, has_letters, points_inside, piece_at, contradicts, puzzle_in, puzzle_at, unequal_at};
 
@@ -76,7 +76,8 @@ fn have_letters(pieces: &[&[u8]]) -> bool
 
 fn point_inside(size: Size, pieces: &[&[u8]]) -> bool
     requires { length pieces.now ≡ size * size }
-    ensures { result ≡ list_all (points_inside size (texts_of pieces.now)) (range_with_len 0 (size * size)) }
+    ensures { result ≡ list_all (points_inside size (texts_of pieces.now))
+        (range_with_len 0 (size * size)) }
 {
     (0..pieces.len()).all(|cell| points_inside(size, cell, piece_at(pieces, cell)))
 }
@@ -154,8 +155,9 @@ fn written(alloc: Global, puzzle: &Unequal) -> Result<Vec<u8>, AllocError>
 // A square's number, its letters and a comma.
 fn push_piece(text: &mut Vec<u8>, puzzle: &Unequal, cell: usize) -> Result<(), AllocError>
     requires { cell < puzzle.now.size * puzzle.now.size }
-    ensures { OnOk result (text.new.items ≡ text.old.items ++ (piece_text (piece_of puzzle.now cell) ++ 44 ∷ [])) }
+    ensures { OnOk result (text.new.items ≡ text.old.items ++ piece_written puzzle.now cell) }
 {
+    // The proof learns here that the width is from 3 to 9.
     let _size = puzzle.size().get();
     text.push(b'0' + puzzle.given(cell))?;
     for direction in Direction::ALL {

@@ -10,7 +10,7 @@ ghost use Rattle.trail_solver.specs.Puzzles.{Solves};
 ghost use Rattle.clue_rules.specs.Unequal.{IsUnequal, givens_of, IsGreater, AreNeighbours, is_greater, holds_signs, HoldsSigns, holds_sign, sign_count, sign_at, sign_of_pair, first_of, second_of};
 ghost use Rattle.clue_rules.specs.Unequal.{puzzle_of, full_unequal};
 ghost use Rattle.clue_rules.specs.Inner.UnequalFields.{HoldsPlaces};
-ghost use Rattle.clue_rules.specs.Struck.{IsUnequalStruck};
+ghost use Rattle.clue_rules.specs.Struck.{IsUnequalStruck, KeepsSolutions, HasNoSolution, NoneLeft};
 ghost use Rattle.clue_rules.specs.Laws.UnequalSameness.{same_unequal, same_unequal_decides};
 
 use crate::lines::given_squares::keep_givens;
@@ -84,7 +84,6 @@ impl Rules for Unequal {
     }
 
     fn given(&self, cell: usize) -> u8 {
-        let _size = self.givens.size();
         self.givens.get(cell)
     }
 
@@ -102,9 +101,9 @@ impl Rules for Unequal {
     fn narrow(&self, candidates: &mut Candidates) -> bool
         requires { candidates.old.size ≡ self.now.size }
         ensures less { IsEarlier candidates.old candidates.new }
-        ensures keeps { (g : GridValue) → Solves (puzzle_of self.now) g → IsWithin candidates.old g → IsWithin candidates.new g }
-        ensures refutes { OnFalse result ((g : GridValue) → Solves (puzzle_of self.now) g → IsWithin candidates.old g → ⊥) }
-        ensures struck { OnTrue result ((cell value : ℕ) → IsPair candidates.old.size cell value → IsUnequalStruck self.now candidates.old cell value → may_be candidates.new cell value ≡ false) }
+        ensures keeps { KeepsSolutions (puzzle_of self.now) candidates.old candidates.new }
+        ensures refutes { OnFalse result (HasNoSolution (puzzle_of self.now) candidates.old) }
+        ensures struck { OnTrue result (NoneLeft (IsUnequalStruck self.now) candidates.old candidates.new) }
     {
         keep_givens(candidates, self.givens());
         narrow_by_lines(self, candidates)
@@ -141,6 +140,7 @@ impl Rules for Unequal {
             ↔ (AreNeighbours grid.now.size a b × (number_at grid.now b < number_at grid.now a)) }
         ensures givens { result.givens ≡ grid.now.numbers }
     {
+        // The proof learns here that the width is from 3 to 9.
         let _size = grid.size();
         Unequal {
             signs: signs_of(grid),
