@@ -22,7 +22,9 @@ test:
 	$(RT) ci
 
 # The front is for a terminal; in a pipe the program plays by itself.
-play: all
+play:
+	@case '$(GAME)' in towers|unequal) ;; *) echo 'make: GAME is towers or unequal' >&2; exit 2 ;; esac
+	@$(MAKE) --no-print-directory all
 	@if [ -t 0 ] && [ -t 1 ]; then exec tools/play '$(GAME)' '$(ID)'; else exec build/puzzles '$(GAME)' $(if $(ID),--id '$(ID)'); fi
 
 test-tools: all
