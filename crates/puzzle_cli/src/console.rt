@@ -13,6 +13,7 @@ use crate::command::{Command, Request, read_command};
 use crate::done_clues::done_text;
 use crate::draw::{Draw, picture};
 use crate::driver::run_machine;
+use crate::facts::Facts;
 use crate::line_fault::LineFault;
 use crate::machine::Machine;
 use crate::pencil_marks::marks_text;
@@ -47,7 +48,7 @@ pub fn run<P: Draw, R: Source, W: Sink>(
 ) -> (Option<Session<P>>, End)
     requires source { R.has_failed source.old ≡ false }
     requires sink { W.has_failed sink.old ≡ false }
-    ensures { Ends (Replies (Reply (facts_of P.puzzle P.clued P.title P.letter_codes P.desc_at P.desc_of P.drawing)))
+    ensures { Ends (Replies (Reply (⟦<P as Facts>⟧.facts)))
         (quits is_quit) result.1 (R.to_come source.old) (R.to_come source.new) (R.has_failed source.new)
         session result.0 (W.taken sink.old) (W.taken sink.new) (W.has_failed sink.new) }
 {
@@ -57,7 +58,7 @@ pub fn run<P: Draw, R: Source, W: Sink>(
 }
 
 impl<P: Draw> Machine for Option<Session<P>> {
-    ghost reply = { Reply (facts_of P.puzzle P.clued P.title P.letter_codes P.desc_at P.desc_of P.drawing) };
+    ghost reply = { Reply (⟦<P as Facts>⟧.facts) };
 
     ghost is_quit = { is_quit };
 
@@ -82,13 +83,13 @@ fn obey<P: Draw>(
     requires goes_on { is_quit_command command ≡ false }
     requires bound { IfSome command IsCommand }
     ensures ok { IfOk result (λ text. CommandGives
-        (facts_of P.puzzle P.clued P.title P.letter_codes P.desc_at P.desc_of P.drawing) session.old
+        (⟦<P as Facts>⟧.facts) session.old
         (option_map (command_map (λ text. text.now)) command.entry) (Ok (text_bytes text, session.new))) }
     ensures err { OnErr result (session.new ≡ session.old) }
     ensures why { IfErr result (Explains (CommandGives
-        (facts_of P.puzzle P.clued P.title P.letter_codes P.desc_at P.desc_of P.drawing) session.old
+        (⟦<P as Facts>⟧.facts) session.old
         (option_map (command_map (λ text. text.now)) command.entry)) (CommandTakesMemory
-        (facts_of P.puzzle P.clued P.title P.letter_codes P.desc_at P.desc_of P.drawing) session.old
+        (⟦<P as Facts>⟧.facts) session.old
         (option_map (command_map (λ text. text.now)) command.entry))) }
 {
     match command {
@@ -144,13 +145,13 @@ fn ask<P: Draw>(
 ) -> Result<Text, Refusal>
     requires { IsRequest request }
     ensures ok { IfOk result (λ text. RequestGives
-        (facts_of P.puzzle P.clued P.title P.letter_codes P.desc_at P.desc_of P.drawing) session.old
+        (⟦<P as Facts>⟧.facts) session.old
         (request_map (λ text. text.now) request.entry) (Ok (text_bytes text, Some session.new))) }
     ensures err { OnErr result (session.new ≡ session.old) }
     ensures why { IfErr result (Explains (RequestGives
-        (facts_of P.puzzle P.clued P.title P.letter_codes P.desc_at P.desc_of P.drawing) session.old
+        (⟦<P as Facts>⟧.facts) session.old
         (request_map (λ text. text.now) request.entry)) (RequestTakesMemory
-        (facts_of P.puzzle P.clued P.title P.letter_codes P.desc_at P.desc_of P.drawing) session.old
+        (⟦<P as Facts>⟧.facts) session.old
         (request_map (λ text. text.now) request.entry))) }
 {
     match request {
@@ -190,7 +191,7 @@ fn move_of(text: &[u8]) -> Result<Move, PlayFault>
 // The ID of the game that is played, as a line.
 fn id_text<P: Draw>(alloc: Global, session: &Session<P>) -> Result<Vec<u8>, OutOfMemory>
     ensures { IfOk result (λ text. text.items
-        ≡ id_line (facts_of P.puzzle P.clued P.title P.letter_codes P.desc_at P.desc_of P.drawing) session.now) }
+        ≡ id_line (⟦<P as Facts>⟧.facts) session.now) }
 {
     let mut text = Vec::new(alloc);
     text.extend_from_slice(&session.params().write())?;

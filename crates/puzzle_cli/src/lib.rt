@@ -12,6 +12,7 @@ mod console;
 mod done_clues;
 mod draw;
 mod driver;
+mod facts;
 mod line_buffer;
 mod line_fault;
 mod machine;
