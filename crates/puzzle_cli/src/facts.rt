@@ -1,16 +1,24 @@
-//! What a reply knows of a game, as one word for contracts.
+//! What replies know of a game, as one word for contracts.
 
 use crate::draw::Draw;
 
-/// The facts of a game that replies are told by. It has no call: contracts alone name it.
-pub trait Facts {
-    ghost use Rattle.puzzle_cli.specs.SessionReplies.{GameFacts};
+/// The facts of a game by which replies are told. It has no call, since contracts alone name it.
+pub(crate) trait Facts {
+    ghost use Rattle.puzzle_cli.specs.GameFacts.{GameFacts};
 
     ghost facts: { GameFacts Self };
 }
 
 impl<P: Draw> Facts for P {
-    ghost use Rattle.puzzle_cli.specs.SessionReplies.{facts_of};
-
-    ghost facts = { facts_of P.puzzle P.clued P.title P.letter_codes P.desc_at P.desc_of P.drawing };
+    ghost facts = { record {
+        title = P.title;
+        letters = P.letter_codes;
+        puzzle = P.puzzle;
+        clued = P.clued;
+        valid = P.valid;
+        describes = P.describes;
+        desc_at = P.desc_at;
+        desc_of = P.desc_of;
+        drawing = P.drawing;
+    } };
 }

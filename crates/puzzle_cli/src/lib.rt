@@ -8,17 +8,19 @@
 #![tactic(auto)]
 
 mod command;
-mod console;
+mod answers;
 mod done_clues;
 mod draw;
-mod driver;
 mod facts;
 mod line_buffer;
 mod line_fault;
+mod line_loop;
 mod machine;
+mod new_session;
 mod pencil_marks;
 mod refusal;
 mod run_end;
+mod session_run;
 mod solution_list;
 mod solve_reply;
 mod status;
@@ -27,10 +29,10 @@ mod text;
 mod towers_picture;
 mod unequal_picture;
 
-pub use console::run;
 pub use done_clues::done_text;
 pub use draw::{Draw, picture};
 pub use line_fault::LineFault;
 pub use pencil_marks::marks_text;
 pub use run_end::End;
+pub use session_run::run;
 pub use status::status_text;
