@@ -1,5 +1,5 @@
 -- Steps over bytes that were read, one list of bytes after another, and the ends of a run that they come to.
-use Rattle.std.proofs.Common.{◌≡◌, ℕ, ◌<◌, ◌≤◌, Bool, true, false, Option, Some, List, [], ◌∷◌, ◌++◌, length, sym, ap, ◌∙◌, subst, append-nil, ◌⊎◌, inl, inr, refl, take}
+use Rattle.std.proofs.Common.{◌≡◌, ℕ, Bool, true, false, Option, Some, List, [], ◌∷◌, ◌++◌, length, sym, ap, ◌∙◌, subst, append-nil, ◌⊎◌, inl, inr, refl, take}
 use Rattle.std.proofs.KnownBytes.{Consumes-trans}
 use Rattle.std.specs.Io.KnownBytes.{Consumes}
 use Rattle.puzzle_cli.specs.Lines.{Line, line_of, all_lines, ended_lines}

@@ -1,5 +1,5 @@
 -- A line is a command exactly where it is that command's line, so it is read in one way.
-use Rattle.std.proofs.Common.{◌≡◌, ◌≢◌, ℕ, ◌≤◌, ◌==◌, Bool, ◌⊎◌, inl, inr, if◌then◌else◌, true, false, cond, List, [], ◌∷◌, ◌++◌, length, take, drop, codes, bytes_eq, Option, Some, None, option_map, option_and_then, Result, Ok, Err, ok_or, IfOk, IfSome, Contains, refl, ap, sym, ◌∙◌, subst, arith, take-append-drop}
+use Rattle.std.proofs.Common.{◌≡◌, ◌≢◌, ℕ, ◌≤◌, ◌==◌, Bool, inl, inr, if◌then◌else◌, true, false, cond, List, [], ◌∷◌, ◌++◌, length, take, drop, codes, bytes_eq, Option, Some, None, option_map, option_and_then, Result, Ok, Err, ok_or, IfOk, IfSome, refl, ap, sym, ◌∙◌, subst, arith, take-append-drop}
 use Rattle.std.specs.Option.{option_or}
 use Rattle.std.specs.Fmt.{decimal}
 use Rattle.std.proofs.lemmas.Bool.Decides.{nat_tests}
@@ -9,11 +9,10 @@ use Rattle.byte_text.proofs.DecimalLaws.{number_taken, number_again}
 use Rattle.puzzle_cli.specs.declared.command.Command.{Command}
 use Rattle.puzzle_cli.specs.declared.command.Command.TheVariants.{New, Quit, Ask}
 use Rattle.puzzle_cli.specs.declared.command.Request.TheVariants.{Move, Solutions, Plain}
-use Rattle.puzzle_cli.specs.declared.command.Word.{Word}
 use Rattle.puzzle_cli.specs.declared.line_fault.LineFault.{LineFault}
 use Rattle.puzzle_cli.specs.declared.line_fault.LineFault.TheVariants.{LongLine, BadCommand, NoGame}
 use Rattle.puzzle_cli.specs.Lines.{Line}
-use Rattle.puzzle_cli.specs.Commands.{words, IsEntry, IsCommandLine, IsRead, IsCommandInRange, command_map, read_map}
+use Rattle.puzzle_cli.specs.Commands.{words, IsEntry, is_quit, IsCommandLine, IsRead, IsCommandInRange, command_map, read_map}
 use Rattle.puzzle_cli.specs.CommandReading.{rest_behind, entry_at, nonzero, limit_at, word_at, other_command_at, command_at, read_at}
 
 -- the line is that of a command, and a list is of so many
@@ -257,3 +256,17 @@ read_range view line (Ok (Some c)) h =
     let found : IsRead line (Ok (Some (command_map view c))) = read_found view line (Ok (Some c)) h in
     unmapped view c (in_range (command_map view c) found.0 found.2)
 read_range view line (Err fault) h = tt
+
+-- ---- the line that ends a run
+
+quit_text : (text : List ℕ) → bytes_eq text (codes "quit") ≡ true → text ≡ codes "quit"
+quit_text text h = (bytes_eq-Decides text (codes "quit")).0 h
+
+pub unread_goes_on : (line : Line) (fault : LineFault) → IsRead line (Err fault) → is_quit line ≡ false
+unread_goes_on line LongLine read = rw read refl
+unread_goes_on line BadCommand read =
+    elim (bytes_eq read.0 (codes "quit")) as (λ t. bytes_eq read.0 (codes "quit") ≡ t → is_quit line ≡ false) [
+      | true ↦ λ same. absurd (read.3 Quit (quit_text read.0 same))
+      | false ↦ λ other. rw read.1 other
+    ] refl
+unread_goes_on line NoGame read = absurd read

@@ -8,3 +8,4 @@ pub mod BytesRead
 pub mod RunsInTurn
 pub mod BytesSent
 pub mod SolveRefusals
+pub mod RefusedLines

@@ -1,9 +1,8 @@
 -- What the replies know of a game, in one record.
-use Rattle.std.specs.Prelude.{ℕ, Bool, List, Result}
+use Rattle.std.specs.Prelude.{ℕ, List, Result}
 use Rattle.latin_board.specs.Boards.{BoardValue}
 use Rattle.clue_rules.specs.declared.id_fault.IdFault.{IdFault}
 use Rattle.trail_solver.specs.Puzzles.{Puzzle}
-use Rattle.play_midend.specs.Steps.{Deal, deal_of}
 
 -- a game's name and letters; what generic code knows of its puzzles; the grammar, the reading and the written form of their
 -- descriptions; the pictures of their boards
@@ -11,13 +10,8 @@ pub record GameFacts (P : Type 0) : Type 1 where
   pub title : List ℕ
   pub letters : List ℕ
   pub puzzle : P → Puzzle
-  pub clued : P → ℕ → Bool
   pub valid : P → Type 0
   pub describes : List ℕ → P → Type 0
   pub desc_at : ℕ → List ℕ → Result P IdFault
   pub desc_of : P → List ℕ
   pub drawing : P → BoardValue → List ℕ
-
--- what a move in a session looks at
-abbrev pub deal_in : {P : Type 0} → GameFacts P → P → Deal
-deal_in f p = deal_of f.puzzle f.clued p

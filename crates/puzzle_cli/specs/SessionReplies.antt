@@ -1,17 +1,16 @@
 -- What a session says to a request, and the session that is left.
-use Rattle.std.specs.Prelude.{◌≡◌, ◌⊎◌, ℕ, ◌+◌, List, [], ◌∷◌, ◌++◌, length, codes, Option, Some, Result, Ok, Err}
+use Rattle.std.specs.Prelude.{◌≡◌, ℕ, ◌+◌, List, [], ◌∷◌, ◌++◌, length, codes, Option, Some, Result, Ok, Err, IsOk}
 use Rattle.latin_board.specs.Squares.{GridValue}
 use Rattle.latin_board.specs.Boards.{BoardValue}
 use Rattle.byte_text.specs.Reading.{◌>>=◌}
 use Rattle.clue_rules.specs.ParamTexts.{params_text}
-use Rattle.trail_solver.specs.Puzzles.{Solves}
+use Rattle.trail_solver.specs.Puzzles.{Puzzle, Solves}
 use Rattle.trail_solver.specs.Listings.{AreFirst}
 use Rattle.play_midend.specs.declared.fault.PlayFault.{PlayFault}
 use Rattle.play_midend.specs.declared.fault.PlayFault.TheVariants.{NoSolution, SeveralSolutions}
 use Rattle.play_midend.specs.declared.moves.Move.{Move}
 use Rattle.play_midend.specs.declared.moves.Move.TheVariants.{Solve as ToSolution}
 use Rattle.play_midend.specs.MoveTexts.{IsMoveText, move_fault}
-use Rattle.play_midend.specs.Steps.{Deal}
 use Rattle.play_midend.specs.Histories.{History, shown, played, restarted, with_move, SolveGives, undone, redone}
 use Rattle.puzzle_cli.specs.declared.command.Request.{Request}
 use Rattle.puzzle_cli.specs.declared.command.Request.TheVariants.{Move as Make, Solutions, Plain}
@@ -22,7 +21,7 @@ use Rattle.puzzle_cli.specs.declared.refusal.Refusal.TheVariants.{Play}
 use Rattle.puzzle_cli.specs.Symbols.{line_feed, colon}
 use Rattle.puzzle_cli.specs.BoardTexts.{marks_lines, status_words, done_lines}
 use Rattle.puzzle_cli.specs.SolutionTexts.{listed_lines, move_line, no_solution_line, several_solutions_line}
-use Rattle.puzzle_cli.specs.GameFacts.{GameFacts, deal_in}
+use Rattle.puzzle_cli.specs.GameFacts.{GameFacts}
 
 abbrev pub ok_line : List ℕ
 ok_line = codes "ok" ++ line_feed ∷ []
@@ -42,7 +41,7 @@ text_outcome h text = Ok (text, Some h)
 
 -- the board that a session shows
 abbrev pub shown_board : {P : Type 0} → GameFacts P → History P → BoardValue
-shown_board f h = shown (deal_in f h.puzzle) h
+shown_board f h = shown (f.puzzle h.puzzle) h
 
 -- the ID of the game that is played, in its written form
 abbrev pub id_line : {P : Type 0} → GameFacts P → History P → List ℕ
@@ -54,8 +53,8 @@ IsMoveRead text (Ok m) = IsMoveText m text
 IsMoveRead text (Err fault) = ((m : Move) → IsMoveText m text → ⊥) × (fault ≡ move_fault text)
 
 -- what playing the move that a text spells makes of a session
-abbrev pub TextPlays : {P : Type 0} → Deal → History P → List ℕ → Result (History P) PlayFault → Type 0
-TextPlays d h text exact = (read : Result Move PlayFault) × IsMoveRead text read × ((read >>= played d h) ≡ exact)
+abbrev pub TextPlays : {P : Type 0} → Puzzle → History P → List ℕ → Result (History P) PlayFault → Type 0
+TextPlays p h text exact = (read : Result Move PlayFault) × IsMoveRead text read × ((read >>= played p h) ≡ exact)
 
 -- what `solve` says of the step that it is: the text of the move that was made, or why there is none
 abbrev pub SolveSays : {P : Type 0} → History P → Result (History P) PlayFault → Outcome P → Type 0
@@ -65,8 +64,8 @@ SolveSays h (Err NoSolution) outcome = text_outcome h no_solution_line ≡ outco
 SolveSays h (Err SeveralSolutions) outcome = text_outcome h several_solutions_line ≡ outcome
 SolveSays h (Err fault) outcome = Err (Play fault) ≡ outcome
 
-abbrev pub SolveReplies : {P : Type 0} → Deal → History P → Outcome P → Type 0
-SolveReplies {P} d h outcome = (exact : Result (History P) PlayFault) × SolveGives d h exact × SolveSays h exact outcome
+abbrev pub SolveReplies : {P : Type 0} → Puzzle → History P → Outcome P → Type 0
+SolveReplies {P} p h outcome = (exact : Result (History P) PlayFault) × SolveGives p h exact × SolveSays h exact outcome
 
 -- what a word alone is answered with ample memory
 abbrev pub WordGives : {P : Type 0} → GameFacts P → History P → Word → Outcome P → Type 0
@@ -79,12 +78,12 @@ WordGives f h Status outcome =
     text_outcome h (status_words (shown_board f h) h.position (length h.moves + 1) ++ line_feed ∷ []) ≡ outcome
 WordGives f h Id outcome = text_outcome h (id_line f h) ≡ outcome
 WordGives f h Done outcome = text_outcome h (done_lines (shown_board f h)) ≡ outcome
-WordGives f h Solve outcome = SolveReplies (deal_in f h.puzzle) h outcome
+WordGives f h Solve outcome = SolveReplies (f.puzzle h.puzzle) h outcome
 
 -- what is said to a request with ample memory: to `list` the first solutions of the starting puzzle, so many at most
 abbrev pub RequestGives : {P : Type 0} → GameFacts P → History P → Request (List ℕ) → Outcome P → Type 0
 RequestGives {P} f h (Make text) outcome =
-    (exact : Result (History P) PlayFault) × TextPlays (deal_in f h.puzzle) h text exact × (call_outcome exact ≡ outcome)
+    (exact : Result (History P) PlayFault) × TextPlays (f.puzzle h.puzzle) h text exact × (call_outcome exact ≡ outcome)
 RequestGives f h (Solutions n) outcome =
     (listed : List GridValue) × AreFirst (Solves (f.puzzle h.puzzle)) n listed × (text_outcome h (listed_lines listed) ≡ outcome)
 RequestGives f h (Plain word) outcome = WordGives f h word outcome
@@ -93,16 +92,16 @@ RequestGives f h (Plain word) outcome = WordGives f h word outcome
 abbrev pub WordTakesMemory : {P : Type 0} → GameFacts P → History P → Word → Type 0
 WordTakesMemory f h Undo = ⊥
 WordTakesMemory f h Redo = ⊥
-WordTakesMemory {P} f h Restart = (new : History P) × (restarted h ≡ Ok new)
+WordTakesMemory f h Restart = IsOk (restarted h)
 WordTakesMemory f h Show = Unit {0}
 WordTakesMemory f h Marks = Unit {0}
 WordTakesMemory f h Status = ⊥
 WordTakesMemory f h Id = Unit {0}
 WordTakesMemory f h Done = ⊥
-WordTakesMemory {P} f h Solve = (new : History P) × SolveGives (deal_in f h.puzzle) h (Ok new)
+WordTakesMemory {P} f h Solve = (new : History P) × SolveGives (f.puzzle h.puzzle) h (Ok new)
 
 -- The request's answer takes memory, and nothing else refuses it.
 abbrev pub RequestTakesMemory : {P : Type 0} → GameFacts P → History P → Request (List ℕ) → Type 0
-RequestTakesMemory {P} f h (Make text) = (new : History P) × TextPlays (deal_in f h.puzzle) h text (Ok new)
+RequestTakesMemory {P} f h (Make text) = (new : History P) × TextPlays (f.puzzle h.puzzle) h text (Ok new)
 RequestTakesMemory f h (Solutions n) = Unit {0}
 RequestTakesMemory f h (Plain word) = WordTakesMemory f h word

@@ -1,11 +1,9 @@
 //! The answers to lines: what a line makes of a session, or of none, and what is said to it.
-ghost use Rattle.std.specs.Prelude.{◌≡◌, Some, Ok, IfOk, OnOk, IfErr, OnErr};
+ghost use Rattle.std.specs.Prelude.{◌≡◌, Some, Ok, IfOk, IfErr, OnErr};
 ghost use Rattle.std.specs.Option.{option_copied};
-ghost use Rattle.play_midend.specs.Histories.{History, IsRefusal};
 ghost use Rattle.puzzle_cli.specs.Text.{text_bytes};
 ghost use Rattle.puzzle_cli.specs.Commands.{is_quit, request_map, IsInRange};
-ghost use Rattle.puzzle_cli.specs.GameFacts.{deal_in};
-ghost use Rattle.puzzle_cli.specs.SessionReplies.{id_line, TextPlays, WordGives, WordTakesMemory, RequestGives, RequestTakesMemory};
+ghost use Rattle.puzzle_cli.specs.SessionReplies.{id_line, WordGives, WordTakesMemory, RequestGives, RequestTakesMemory};
 ghost use Rattle.puzzle_cli.specs.Replies.{Reply, Explains};
 ghost use Rattle.puzzle_cli.specs.Answers.{Says, IsLineRefusal};
 ghost use Rattle.puzzle_cli.specs.Machines.{IsAnswer};
@@ -25,7 +23,7 @@ use crate::status::status_text;
 use crate::text::Text;
 use clue_rules::Game;
 use latin_board::OutOfMemory;
-use play_midend::{PlayFault, Session, read_move};
+use play_midend::{Session, read_move};
 use std::alloc::Global;
 
 impl<P: Draw> Machine for Option<Session<P>> {
@@ -52,16 +50,14 @@ fn obey<P: Draw>(
     ensures err { OnErr result (session.new ≡ session.old) }
     ensures why { IfErr result (IsLineRefusal ⟦<P as Facts>⟧.facts session.old (option_copied line.entry)) }
 {
-    let Some(command) = read_command(line)? else {
-        return Ok(Answer::Silence);
-    };
-    match command {
-        Command::Quit => Ok(Answer::Quit),
-        Command::New(id) => {
+    match read_command(line)? {
+        None => Ok(Answer::Silence),
+        Some(Command::Quit) => Ok(Answer::Quit),
+        Some(Command::New(id)) => {
             *session = Some(new_session(alloc, id)?);
             Ok(Answer::Reply(Text::line("ok")))
         }
-        Command::Ask(request) => match session {
+        Some(Command::Ask(request)) => match session {
             None => Err(Refusal::Line(LineFault::NoGame)),
             Some(session) => Ok(Answer::Reply(ask(alloc, session, request)?)),
         },
@@ -83,10 +79,7 @@ fn ask<P: Draw>(
         (RequestTakesMemory ⟦<P as Facts>⟧.facts session.old (request_map (λ text. text.now) request.entry))) }
 {
     match request {
-        Request::Move(text) => {
-            play_text(session, text)?;
-            Ok(Text::line("ok"))
-        }
+        Request::Move(text) => play_text(session, text),
         Request::Solutions(limit) => Ok(Text::Long(solution_list(alloc, session, limit)?)),
         Request::Plain(word) => say(alloc, session, word),
     }
@@ -123,13 +116,16 @@ fn say<P: Draw>(alloc: Global, session: &mut Session<P>, word: Word) -> Result<T
 }
 
 // Makes the move that a text spells.
-fn play_text<P: Draw>(session: &mut Session<P>, text: &[u8]) -> Result<(), PlayFault>
-    ensures ok { OnOk result (TextPlays (deal_in ⟦<P as Facts>⟧.facts session.old.puzzle) session.old text.now (Ok session.new)) }
+fn play_text<P: Draw>(session: &mut Session<P>, text: &[u8]) -> Result<Text, Refusal>
+    ensures ok { IfOk result (λ said. RequestGives ⟦<P as Facts>⟧.facts session.old (Request.Move text.now)
+        (Ok (text_bytes said, Some session.new))) }
     ensures err { OnErr result (session.new ≡ session.old) }
-    ensures why { IfErr result (λ fault. (exact : Result (History P) PlayFault)
-        × TextPlays (deal_in ⟦<P as Facts>⟧.facts session.old.puzzle) session.old text.now exact × IsRefusal exact fault) }
+    ensures why { IfErr result (Explains
+        (RequestGives ⟦<P as Facts>⟧.facts session.old (Request.Move text.now))
+        (RequestTakesMemory ⟦<P as Facts>⟧.facts session.old (Request.Move text.now))) }
 {
-    session.play(read_move(text)?)
+    session.play(read_move(text)?)?;
+    Ok(Text::line("ok"))
 }
 
 // The ID of the game that is played, as a line.

@@ -14,7 +14,6 @@ impl<P: Draw> Facts for P {
         title = P.title;
         letters = P.letter_codes;
         puzzle = P.puzzle;
-        clued = P.clued;
         valid = P.valid;
         describes = P.describes;
         desc_at = P.desc_at;

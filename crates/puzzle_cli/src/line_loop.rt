@@ -162,11 +162,11 @@ fn answer_line<M: Machine, W: Sink>(
         (record { session = machine.new; taken = W.taken sink.new; failed = W.has_failed sink.new }) }
 {
     match machine.answer(alloc, line) {
-        Answer::Quit => Status::Quit,
-        Answer::Silence => Status::More,
+        Answer::Quit => return Status::Quit,
+        Answer::Silence => return Status::More,
         Answer::Reply(text) => match send(sink, text.as_bytes()) {
-            Ok(()) => Status::More,
-            Err(_) => Status::Fault,
+            Ok(()) => return Status::More,
+            Err(_) => return Status::Fault,
         },
     }
 }

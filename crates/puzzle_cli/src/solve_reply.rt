@@ -2,7 +2,6 @@
 ghost use Rattle.std.specs.Prelude.{◌≡◌, ◌-◌, ◌++◌, ◌∷◌, [], List, Some, Ok, length, slice_get, IfOk, OnErr, IfErr};
 ghost use Rattle.latin_board.specs.Squares.{GridValue};
 ghost use Rattle.play_midend.specs.declared.moves.Move.{Move};
-ghost use Rattle.play_midend.specs.Steps.{deal_of};
 ghost use Rattle.play_midend.specs.Histories.{History, SolveGives};
 ghost use Rattle.puzzle_cli.specs.Text.{text_bytes};
 ghost use Rattle.puzzle_cli.specs.SolutionTexts.{move_line};
@@ -24,11 +23,11 @@ type SolveLine = ArrayVec<u8, 83>;
 ///
 /// The text takes no memory, as the session has changed by then.
 pub(crate) fn solve_reply<P: Game>(session: &mut Session<P>) -> Result<Text, Refusal>
-    ensures ok { IfOk result (λ text. SolveReplies (deal_of P.puzzle P.clued session.old.puzzle) session.old
+    ensures ok { IfOk result (λ text. SolveReplies (P.puzzle session.old.puzzle) session.old
         (Ok (text_bytes text, Some session.new))) }
     ensures err { OnErr result (session.new ≡ session.old) }
-    ensures why { IfErr result (Explains (SolveReplies (deal_of P.puzzle P.clued session.old.puzzle) session.old)
-        ((new : History P) × SolveGives (deal_of P.puzzle P.clued session.old.puzzle) session.old (Ok new))) }
+    ensures why { IfErr result (Explains (SolveReplies (P.puzzle session.old.puzzle) session.old)
+        ((new : History P) × SolveGives (P.puzzle session.old.puzzle) session.old (Ok new))) }
 {
     match session.solve() {
         Ok(()) => Ok(Text::Solved(solution_line(session))),
