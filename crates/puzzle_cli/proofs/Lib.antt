@@ -9,3 +9,6 @@ pub mod RunsInTurn
 pub mod BytesSent
 pub mod SolveRefusals
 pub mod RefusedLines
+pub mod ListedOnce
+pub mod RepliesOnce
+pub mod ReplyLaws

@@ -18,4 +18,5 @@ pub mod Lines
 pub mod Machines
 pub mod Runs
 pub mod Steps
+pub mod RunLaws
 pub mod Text
