@@ -1,5 +1,5 @@
 -- Two lists of the first solutions of a puzzle are equal.
-use Rattle.std.proofs.Common.{◌≡◌, ℕ, zero, suc, ◌+◌, ◌-◌, ◌<◌, ◌≤◌, ◌⊎◌, inl, inr, List, [], ◌∷◌, length, All, AllPairs, Contains, slice_index, refl, sym, ap, ◌∙◌, subst, arith}
+use Rattle.std.proofs.Common.{◌≡◌, ℕ, zero, suc, ◌-◌, ◌<◌, ◌⊎◌, inl, inr, List, [], ◌∷◌, All, AllPairs, Contains, slice_index, refl, sym, ap, ◌∙◌, subst, arith}
 use Rattle.std.proofs.lemmas.Bool.{cases_order}
 use Rattle.std.proofs.lemmas.List.Elements.{All-head, All-tail}
 use Rattle.latin_board.specs.Squares.{GridValue}
@@ -15,9 +15,9 @@ below_not_above f g a b =
           subst (λ k. slice_index g.numbers k < slice_index f.numbers k) (sym is) b.less in
           let here = a.less in omega (arith, less)
       | inr order ↦ elim order [
-          | inl before ↦ let same = b.same a.place before in let less = a.less in omega (arith, same)
-          | inr behind ↦ let same = a.same b.place behind in let less = b.less in omega (arith, same)
-        ]
+        | inl before ↦ let same = b.same a.place before in let less = a.less in omega (arith, same)
+        | inr behind ↦ let same = a.same b.place behind in let less = b.less in omega (arith, same)
+      ]
     ]
 
 below_itself : (f : GridValue) → IsBelow f f → ⊥
@@ -47,9 +47,9 @@ first_rest A limit x xs f = record {
   rising = rising_rest x xs f.rising;
   others = λ g h. elim (f.others g h.0) [
     | inl listed ↦ elim (first_or_rest x g xs listed) [
-        | inl is ↦ absurd (below_itself x (subst (λ (y : GridValue). IsBelow x y) (sym is) h.1))
-        | inr rest ↦ inl rest
-      ]
+      | inl is ↦ absurd (below_itself x (subst (λ (y : GridValue). IsBelow x y) (sym is) h.1))
+      | inr rest ↦ inl rest
+    ]
     | inr full ↦ inr (let long = full.0 in omega arith, All-tail (λ y. IsBelow y g) x xs full.1)
   ];
 }
@@ -60,9 +60,9 @@ least : (A : GridValue → Type 0) (limit : ℕ) (x : GridValue) (xs : List Grid
 least A limit x xs g f a =
     elim (f.others g a) [
       | inl listed ↦ elim (first_or_rest x g xs listed) [
-          | inl is ↦ inl is
-          | inr rest ↦ inr (contained (IsBelow x) xs g (below_rest x xs f.rising) rest)
-        ]
+        | inl is ↦ inl is
+        | inr rest ↦ inr (contained (IsBelow x) xs g (below_rest x xs f.rising) rest)
+      ]
       | inr full ↦ inr (All-head (λ y. IsBelow y g) x xs full.1)
     ]
 
@@ -71,9 +71,9 @@ same_first A limit x y xs ys f g =
     elim (least A limit x xs y f (All-head A y ys g.solutions)) [
       | inl is ↦ is
       | inr below ↦ elim (least A limit y ys x g (All-head A x xs f.solutions)) [
-          | inl is ↦ sym is
-          | inr above ↦ absurd (below_not_above x y below above)
-        ]
+        | inl is ↦ sym is
+        | inr above ↦ absurd (below_not_above x y below above)
+      ]
     ]
 
 none_or_full : (A : GridValue → Type 0) (limit : ℕ) (y : GridValue) (ys : List GridValue) → AreFirst A limit [] → AreFirst A limit (y ∷ ys) → ⊥

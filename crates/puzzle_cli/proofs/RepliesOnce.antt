@@ -1,5 +1,5 @@
 -- With ample memory there is one reply to each line.
-use Rattle.std.proofs.Common.{◌≡◌, ◌≢◌, ℕ, ◌++◌, List, [], ◌∷◌, Option, Some, None, Result, Ok, Err, refl, sym, ap, ◌∙◌, subst, inl, inr}
+use Rattle.std.proofs.Common.{◌≡◌, ℕ, ◌++◌, List, [], ◌∷◌, Option, Some, None, Result, Ok, Err, refl, sym, ap, ◌∙◌, subst, inl, inr}
 use Rattle.latin_board.specs.Squares.{GridValue}
 use Rattle.trail_solver.specs.Puzzles.{Puzzle, Solves}
 use Rattle.clue_rules.specs.declared.id_fault.IdFault.{IdFault}
@@ -8,11 +8,10 @@ use Rattle.clue_rules.specs.ParamReading.{has_adjacent}
 use Rattle.clue_rules.specs.IdTexts.{IsIdText}
 use Rattle.clue_rules.specs.IdReading.{id_at, describes_at}
 use Rattle.play_midend.specs.declared.fault.PlayFault.{PlayFault}
-use Rattle.play_midend.specs.declared.fault.PlayFault.TheVariants.{BadMove, Unsupported, OffGrid, OffRange, GivenSquare, FilledSquare, BadSolution, HistoryFull, OutOfMemory, NothingToUndo, NothingToRedo, NothingToRestart, NoSolution, SeveralSolutions}
 use Rattle.play_midend.specs.declared.moves.Move.{Move}
 use Rattle.play_midend.specs.declared.moves.Move.TheVariants.{Restart as Back, Solve as Filling}
-use Rattle.play_midend.specs.MoveTexts.{IsMoveText, move_by}
-use Rattle.play_midend.specs.Histories.{History, with_move, full_refusal, played, past, HasNoSolution, HasSeveralSolutions, IsOnlySolution, SolveGives}
+use Rattle.play_midend.specs.MoveTexts.{move_by}
+use Rattle.play_midend.specs.Histories.{History, with_move, full_refusal, played, past, SolveGives}
 use Rattle.byte_text.specs.Reading.{◌>>=◌}
 use Rattle.play_midend.specs.Steps.{unless_refused}
 use Rattle.play_midend.proofs.MoveTextLaws.{move_again}
@@ -25,7 +24,6 @@ use Rattle.puzzle_cli.specs.declared.command.Word.TheVariants.{Undo, Redo, Resta
 use Rattle.puzzle_cli.specs.declared.line_fault.LineFault.{LineFault}
 use Rattle.puzzle_cli.specs.declared.refusal.Refusal.{Refusal}
 use Rattle.puzzle_cli.specs.Lines.{Line}
-use Rattle.puzzle_cli.specs.Commands.{IsRead}
 use Rattle.puzzle_cli.specs.GameFacts.{GameFacts}
 use Rattle.puzzle_cli.specs.NewSessions.{IsIdRead, TextBegins, id_session}
 use Rattle.puzzle_cli.specs.SessionReplies.{Outcome, IsMoveRead, TextPlays, SolveSays, SolveReplies, WordGives, RequestGives, call_outcome, text_outcome}

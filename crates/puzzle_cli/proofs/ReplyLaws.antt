@@ -1,5 +1,5 @@
 -- The laws of replies, out of the laws of a session's calls.
-use Rattle.std.proofs.Common.{◌≡◌, ◌≢◌, ◌⊎◌, ℕ, ◌==◌, ◌&&◌, ◌||◌, nat_lt, not, if◌then◌else◌, true, false, List, [], ◌∷◌, ◌++◌, get_or, codes, Option, Some, None, unwrap_or, Result, Ok, Err, IsOk, ◌-◌, ◌+◌, length, refl, sym, ap, ◌∙◌, subst, inl, inr, arith}
+use Rattle.std.proofs.Common.{◌≡◌, ◌≢◌, ◌⊎◌, ℕ, ◌==◌, ◌&&◌, ◌||◌, nat_lt, not, if◌then◌else◌, true, false, List, [], get_or, codes, Option, Some, None, unwrap_or, Result, Ok, Err, IsOk, ◌-◌, ◌+◌, length, refl, sym, ap, ◌∙◌, subst, inl, inr, arith}
 use Rattle.std.specs.Option.{IsSomeAnd, option_or}
 use Rattle.std.specs.Result.{IsOkAnd}
 use Rattle.latin_board.specs.Squares.{GridValue}
@@ -13,21 +13,19 @@ use Rattle.play_midend.specs.declared.fault.PlayFault.TheVariants.{BadMove, Unsu
 use Rattle.play_midend.specs.declared.moves.Move.{Move}
 use Rattle.play_midend.specs.declared.moves.Move.TheVariants.{Real, Pencil, MarkAll, Solve as Filling, Restart as Back, Done as Marking}
 use Rattle.play_midend.specs.Faults.{name_of}
-use Rattle.play_midend.specs.MoveTexts.{IsMoveText, move_by}
+use Rattle.play_midend.specs.MoveTexts.{IsMoveText}
 use Rattle.latin_board.specs.Squares.{number_at}
 use Rattle.latin_board.specs.Boards.{grid_of}
 use Rattle.play_midend.specs.Steps.{entry_refusal, mark_refusal, refusal_of, has_clue, cell_of, is_restart, unless_refused}
 use Rattle.play_midend.specs.Histories.{at_position, most_states, shown, with_move, refusal_in, restart_refusal, full_refusal, History, IsValid, IsStorable, IsRefusal, started, played, restarted, SolveGives, undone, redone}
 use Rattle.play_midend.specs.Laws.{Call, Play, FromStart, ToSolution, CallGives, Answered, IsSameBack, may_want_memory}
 use Rattle.play_midend.specs.Laws.{Undo as ToUndo, Redo as ToRedo}
-use Rattle.play_midend.proofs.MoveTextLaws.{move_again}
 use Rattle.play_midend.proofs.SessionLaws.{undo_takes_back, undo_takes_restart_back, undo_takes_solve_back, redo_takes_undo_back}
 use Rattle.play_midend.proofs.StorableLaws.{starts_storable, storable_called}
 use Rattle.puzzle_cli.specs.declared.command.Command.{Command}
 use Rattle.puzzle_cli.specs.declared.command.Command.TheVariants.{New, Quit, Ask}
 use Rattle.puzzle_cli.specs.declared.command.Request.{Request}
 use Rattle.puzzle_cli.specs.declared.command.Request.TheVariants.{Move as Make, Solutions, Plain}
-use Rattle.puzzle_cli.specs.declared.command.Word.{Word}
 use Rattle.puzzle_cli.specs.declared.command.Word.TheVariants.{Undo, Redo, Restart, Show, Marks, Status, Id, Done, Solve}
 use Rattle.puzzle_cli.specs.declared.line_fault.LineFault.{LineFault}
 use Rattle.puzzle_cli.specs.declared.line_fault.LineFault.TheVariants.{NoGame}
@@ -38,10 +36,10 @@ use Rattle.puzzle_cli.specs.Commands.{IsRead}
 use Rattle.puzzle_cli.specs.GameFacts.{GameFacts}
 use Rattle.puzzle_cli.specs.NewSessions.{no_extras, IsIdRead, TextBegins, id_session}
 use Rattle.puzzle_cli.specs.SolutionTexts.{move_line, no_solution_line, several_solutions_line, solve_sentence, listed_lines}
-use Rattle.puzzle_cli.specs.SessionReplies.{text_outcome, TextPlays, sentence_outcome, Outcome, ok_line, IsMoveRead, SolveSays, WordGives, RequestGives, WordTakesMemory, RequestTakesMemory, call_outcome}
+use Rattle.puzzle_cli.specs.SessionReplies.{text_outcome, TextPlays, sentence_outcome, ok_line, IsMoveRead, SolveSays, RequestGives, call_outcome}
 use Rattle.puzzle_cli.specs.Refusals.{refusal_name}
-use Rattle.puzzle_cli.specs.Replies.{refusal_line, Writes, ReadGives, ReadTakesMemory, CommandGives, Reply, begun}
-use Rattle.puzzle_cli.specs.RunLaws.{Asks, IsRefusalLine, IsNoneOrStorable, IsWordCall, IsCallOf, IsMade, IsRefused, IsToldOf, undo_line, redo_line, RefusedLinesLeave, RepliesStayStorable, RepliesAreCalls, OtherRequestsLeave, UndoLineTakesBack, RedoLineTakesUndoBack}
+use Rattle.puzzle_cli.specs.Replies.{refusal_line, Writes, ReadGives, ReadTakesMemory, Reply, begun}
+use Rattle.puzzle_cli.specs.RunLaws.{Asks, IsNoneOrStorable, IsCallOf, IsMade, IsRefused, IsToldOf, undo_line, redo_line, RefusedLinesLeave, RepliesStayStorable, RepliesAreCalls, OtherRequestsLeave, UndoLineTakesBack, RedoLineTakesUndoBack}
 use Rattle.puzzle_cli.proofs.CommandLaws.{read_once}
 use Rattle.puzzle_cli.proofs.RepliesOnce.{move_read_once, outcome_parts, said_or_refused, refusal_parts}
 use Rattle.byte_text.specs.Reading.{◌>>=◌}
@@ -118,9 +116,9 @@ entry_spares p x y n =
     else (if nat_lt p.size n then Some OffRange else (if p.given (cell_of p.size x y) == 0 then None else Some GivenSquare))) ≢ Some OutOfMemory) [
       | false ↦ λ e. cc
       | true ↦ elim (nat_lt p.size n) as (λ t. (if t then Some OffRange else (if p.given (cell_of p.size x y) == 0 then None else Some GivenSquare)) ≢ Some OutOfMemory) [
-          | true ↦ λ e. cc
-          | false ↦ elim (p.given (cell_of p.size x y) == 0) as (λ t. (if t then None else Some GivenSquare) ≢ Some OutOfMemory) [ true ↦ λ e. cc | false ↦ λ e. cc ]
-        ]
+        | true ↦ λ e. cc
+        | false ↦ elim (p.given (cell_of p.size x y) == 0) as (λ t. (if t then None else Some GivenSquare) ≢ Some OutOfMemory) [ true ↦ λ e. cc | false ↦ λ e. cc ]
+      ]
     ]
 
 either_spares : (first second : Option PlayFault) → first ≢ Some OutOfMemory → second ≢ Some OutOfMemory → option_or first second ≢ Some OutOfMemory

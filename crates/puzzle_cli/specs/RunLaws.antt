@@ -1,5 +1,5 @@
 -- Laws of the replies to lines, over what is written and what is left: any run's, since a run writes nothing but replies.
-use Rattle.std.specs.Prelude.{◌≡◌, ◌⊎◌, ℕ, Bool, true, codes, List, ◌∷◌, Option, Some, None, unwrap_or, Result, Ok, Err}
+use Rattle.std.specs.Prelude.{◌≡◌, ℕ, true, codes, List, Option, Some, None, unwrap_or, Result, Ok, Err}
 use Rattle.std.specs.Option.{IsSomeAnd}
 use Rattle.latin_board.specs.Squares.{GridValue}
 use Rattle.play_midend.specs.declared.fault.PlayFault.{PlayFault}

@@ -7,8 +7,8 @@
 //! A reply is made whole before its first byte is written. A refused line leaves the session as it was.
 #![tactic(auto)]
 
-mod command;
 mod answers;
+mod command;
 mod done_clues;
 mod draw;
 mod facts;

@@ -1,10 +1,6 @@
-use Rattle.std.proofs.Common.{ℕ, List, Result, ◌≡◌}
-use Rattle.clue_rules.specs.declared.id_fault.IdFault.{IdFault}
-use Rattle.clue_rules.specs.declared.game_id.GameId.{GameId}
 use Rattle.clue_rules.specs.ParamReading.{has_adjacent}
 use Rattle.clue_rules.specs.IdReading.{describes_at}
 use Rattle.clue_rules.specs.IdLaws.{id_again, game_reads}
-use Rattle.puzzle_cli.specs.Lines.{Line}
 use Rattle.puzzle_cli.specs.GameFacts.{GameFacts}
 use Rattle.puzzle_cli.specs.CommandReading.{read_at}
 use Rattle.puzzle_cli.proofs.CommandLaws.{line_is_read, read_once}
