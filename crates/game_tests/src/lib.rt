@@ -20,4 +20,6 @@ mod pictures;
 #[cfg(test)]
 mod script;
 #[cfg(test)]
+mod sessions;
+#[cfg(test)]
 mod solving;

@@ -7,17 +7,21 @@
 //! A reply is made whole before its first byte is written. A refused line leaves the session as it was.
 #![tactic(auto)]
 
+mod answers;
 mod command;
-mod console;
 mod done_clues;
 mod draw;
-mod driver;
+mod facts;
 mod line_buffer;
 mod line_fault;
+mod line_loop;
 mod machine;
+mod new_session;
 mod pencil_marks;
 mod refusal;
 mod run_end;
+mod run_laws;
+mod session_run;
 mod solution_list;
 mod solve_reply;
 mod status;
@@ -26,10 +30,11 @@ mod text;
 mod towers_picture;
 mod unequal_picture;
 
-pub use console::run;
 pub use done_clues::done_text;
 pub use draw::{Draw, picture};
 pub use line_fault::LineFault;
 pub use pencil_marks::marks_text;
 pub use run_end::End;
+pub use run_laws::laws;
+pub use session_run::run;
 pub use status::status_text;
