@@ -1,0 +1,4 @@
+-- Save files: their records, the saves of a session, what is written, and the first fault of a text.
+pub mod Faults
+pub mod Records
+pub mod Views

@@ -1,0 +1,8 @@
+//! Save files of the collection, version 1: their records, saving and loading a session.
+#![tactic(auto)]
+
+mod fault;
+mod record;
+
+pub use fault::LoadFault;
+pub use record::{Record, next_record};
