@@ -1,7 +1,7 @@
 //! A session: a puzzle, its history and the board that is shown.
 
 ghost use Rattle.std.specs.Prelude.{◌≡◌, ℕ, ◌+◌, ◌-◌, ◌≤◌, ◌<◌, ◌++◌, ◌∷◌, [], length, take, slice_get, if◌then◌else◌, Some, None, Ok, IfOk, IfErr, OnOk, OnErr};
-ghost use Rattle.play_midend.specs.Steps.{deal_of, is_restart};
+ghost use Rattle.play_midend.specs.Steps.{is_restart};
 ghost use Rattle.play_midend.specs.Histories.{restart_refusal, full_refusal};
 
 use crate::extras::Extras;
@@ -44,7 +44,6 @@ pub struct Session<P: Game> {
 
 impl<P: Game> Model for Session<P> {
     ghost use Rattle.std.specs.Prelude.{◌≡◌, ◌+◌};
-    ghost use Rattle.play_midend.specs.Steps.{deal_of};
     ghost use Rattle.play_midend.specs.Histories.{History};
     ghost use Rattle.play_midend.specs.Links.{moves_of, AreLinked};
 
@@ -60,7 +59,7 @@ impl<P: Game> Model for Session<P> {
     } };
 
     ghost invariant = { λ s. (s.params.size ≡ (P.puzzle s.puzzle).size)
-        × AreLinked (deal_of P.puzzle P.clued s.puzzle) s.records.items s.past s.board };
+        × AreLinked (P.puzzle s.puzzle) s.records.items s.past s.board };
 }
 
 // A restart needs a move to take back.
@@ -139,9 +138,9 @@ impl<P: Game> Session<P> {
     /// `OffRange`, `GivenSquare`, `FilledSquare` and `BadSolution` as the board has it; `HistoryFull` at position 100,000;
     /// `OutOfMemory`.
     pub fn play(&mut self, m: Move) -> Result<(), PlayFault>
-        ensures ok { OnOk result (played (deal_of P.puzzle P.clued self.old.puzzle) self.old m ≡ Ok self.new) }
+        ensures ok { OnOk result (played (P.puzzle self.old.puzzle) self.old m ≡ Ok self.new) }
         ensures err { OnErr result (self.new ≡ self.old) }
-        ensures why { IfErr result (IsRefusal (played (deal_of P.puzzle P.clued self.old.puzzle) self.old m)) }
+        ensures why { IfErr result (IsRefusal (played (P.puzzle self.old.puzzle) self.old m)) }
     {
         self.allow(&m)?;
         let alloc = *self.records.allocator();
@@ -168,9 +167,9 @@ impl<P: Game> Session<P> {
     /// Refused, the first that applies, with nothing changed: `NoSolution`, `SeveralSolutions`, `HistoryFull` at position
     /// 100,000, `OutOfMemory`.
     pub fn solve(&mut self) -> Result<(), PlayFault>
-        ensures ok { OnOk result (SolveGives (deal_of P.puzzle P.clued self.old.puzzle) self.old (Ok self.new)) }
+        ensures ok { OnOk result (SolveGives (P.puzzle self.old.puzzle) self.old (Ok self.new)) }
         ensures err { OnErr result (self.new ≡ self.old) }
-        ensures why { IfErr result (IsSolveRefusal (deal_of P.puzzle P.clued self.old.puzzle) self.old) }
+        ensures why { IfErr result (IsSolveRefusal (P.puzzle self.old.puzzle) self.old) }
     {
         match solve(&self.puzzle) {
             Answer::None => Err(PlayFault::NoSolution),
@@ -208,8 +207,8 @@ impl<P: Game> Session<P> {
 
     // The first refusal of a move, memory left aside.
     fn allow(&self, m: &Move) -> Result<(), PlayFault>
-        ensures ok { OnOk result (refusal_in (deal_of P.puzzle P.clued self.now.puzzle) self.now m.now ≡ None) }
-        ensures err { IfErr result (λ fault. refusal_in (deal_of P.puzzle P.clued self.now.puzzle) self.now m.now ≡ Some fault) }
+        ensures ok { OnOk result (refusal_in (P.puzzle self.now.puzzle) self.now m.now ≡ None) }
+        ensures err { IfErr result (λ fault. refusal_in (P.puzzle self.now.puzzle) self.now m.now ≡ Some fault) }
     {
         check_restart(self.past, m)?;
         check(&self.puzzle, &self.board, m)?;
@@ -256,9 +255,9 @@ impl<P: Game> Session<P> {
 
     /// The board that is shown: the past moves, replayed from the start.
     pub fn board(&self) -> &Board
-        ensures shown { result.now ≡ shown (deal_of P.puzzle P.clued self.now.puzzle) self.now }
+        ensures shown { result.now ≡ shown (P.puzzle self.now.puzzle) self.now }
         ensures size { result.now.size ≡ (P.puzzle self.now.puzzle).size }
-        ensures valid { IsValid (deal_of P.puzzle P.clued self.now.puzzle) self.now }
+        ensures valid { IsValid (P.puzzle self.now.puzzle) self.now }
     {
         &self.board
     }
