@@ -2,3 +2,7 @@
 pub mod Faults
 pub mod Records
 pub mod Views
+pub mod Keys
+pub mod Lines
+pub mod SaveTexts
+pub mod Written

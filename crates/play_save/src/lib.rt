@@ -2,6 +2,7 @@
 #![tactic(auto)]
 
 mod fault;
+mod key;
 mod record;
 
 pub use fault::LoadFault;
