@@ -6,3 +6,5 @@ pub mod Keys
 pub mod Lines
 pub mod SaveTexts
 pub mod Written
+pub mod FirstFaults
+pub mod Taking

@@ -4,6 +4,7 @@ use Rattle.std.specs.Fmt.{decimal}
 use Rattle.trail_solver.specs.Puzzles.{Puzzle}
 use Rattle.clue_rules.specs.declared.id_fault.IdFault.{IdFault}
 use Rattle.clue_rules.specs.ParamTexts.{IsParamText}
+use Rattle.clue_rules.specs.IdReading.{describes_at}
 use Rattle.play_midend.specs.declared.moves.Move.{Move}
 use Rattle.play_midend.specs.declared.moves.Move.TheVariants.{Solve, Restart}
 use Rattle.play_midend.specs.MoveTexts.{IsMoveText}
@@ -15,13 +16,27 @@ use Rattle.play_save.specs.declared.key.Key.TheVariants.{SaveFile, FormatVersion
 use Rattle.play_save.specs.Records.{Entry, BeginsWith}
 use Rattle.play_save.specs.Lines.{Line, StateLine, BeginsWithAll, values_of, states_in, StandsOnce, once_if_kept, CountsStandFirst, EndsWithState}
 
--- What saves ask of a game: its name and letters, what its puzzles are, and which text describes which puzzle of which width.
+-- What saves ask of a game: its name and letters, what its puzzles are, which text describes which puzzle of which width, the
+-- puzzle that is read of a description, and the description that is written.
 pub record SavedGame (P : Type 0) : Type 1 where
   pub title : List ℕ
   pub letters : List ℕ
   pub puzzle : P → Puzzle
   pub Describes : ℕ → P → List ℕ → Type 0
   pub desc_at : ℕ → List ℕ → Result P IdFault
+  pub desc_of : P → List ℕ
+
+-- the same, of the ghost members of a game
+abbrev pub saved_game : {P : Type 0} → List ℕ → List ℕ → (P → Puzzle) → (P → Type 0) → (List ℕ → P → Type 0)
+    → (ℕ → List ℕ → Result P IdFault) → (P → List ℕ) → SavedGame P
+saved_game title letters puzzle of_game describes desc_at desc_of = record {
+  title = title;
+  letters = letters;
+  puzzle = puzzle;
+  Describes = describes_at puzzle of_game describes;
+  desc_at = desc_at;
+  desc_of = desc_of;
+}
 
 -- the value of the first record, which names the format
 abbrev pub collection : List ℕ
