@@ -2,3 +2,7 @@
 pub mod OptionSteps
 pub mod RecordLaws
 pub mod RecordAnswers
+pub mod LineLists
+pub mod Meeting
+pub mod RightLists
+pub mod ReadingOn

@@ -4,7 +4,9 @@
 mod fault;
 mod found;
 mod key;
+mod loading;
 mod record;
 
 pub use fault::LoadFault;
+pub use loading::load;
 pub use record::{Record, next_record};
