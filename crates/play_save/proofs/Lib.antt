@@ -6,3 +6,6 @@ pub mod LineLists
 pub mod Meeting
 pub mod RightLists
 pub mod ReadingOn
+pub mod Counting
+pub mod GameTexts
+pub mod StatesPlayed

@@ -12,3 +12,7 @@ and_then_taken f (Some x) y is = (x, refl, is)
 pub ok_or_taken : {A E : Type 0} (o : Option A) (e : E) (y : A) → ok_or o e ≡ Ok y → o ≡ Some y
 ok_or_taken None e y is = cc
 ok_or_taken (Some x) e y is = cc
+
+pub error_of_none : {A E : Type 0} (o : Option A) (e fault : E) → Err e ≡ ok_or o fault → o ≡ None → e ≡ fault
+error_of_none None e fault is none = cc
+error_of_none (Some x) e fault is none = cc

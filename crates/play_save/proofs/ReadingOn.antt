@@ -9,7 +9,7 @@ use Rattle.play_save.specs.Lines.{Line, line_of}
 use Rattle.play_save.specs.SaveTexts.{SavedGame}
 use Rattle.play_save.specs.FirstFaults.{Met, met, fault_by, is_complete, Listing, nothing, broken, first, listed, listing_within, records_of, unless, needed, met_in}
 use Rattle.play_save.specs.Taking.{nothing_met, added}
-use Rattle.play_save.proofs.RecordLaws.{record_shorter, end_again}
+use Rattle.play_save.proofs.RecordLaws.{record_shorter, end_again, record_fault}
 use Rattle.play_save.proofs.Meeting.{met_added}
 
 -- some records before the rest have no fault, and what is needed of all is what is needed from there on
@@ -92,3 +92,16 @@ reads_more game text rest m new e after r undone read none is =
       now = is ∙ ap (λ (x : Met). added game x (key_of e.key) e.value) r.now ∙ sym (met_added game r.before (key_of e.key) e.value none_here);
       same = sym step ∙ r.same;
     }
+
+-- the answers at the three places where the loop ends early
+
+pub given_broken : {P F : Type 0} (game : SavedGame P) (view : F → Met) (text rest : List ℕ) (m : Met) (fault : LoadFault) → Reads game text rest m → is_complete m ≡ false → record_at rest ≡ Err fault → GivesUnless OutOfMemory view (let r : Result F LoadFault = Err fault in r) (met_in game (records_of text))
+given_broken game view text rest m fault r undone read =
+    inr (reads_broken game text rest m fault r undone read ∙ ap Err (sym (record_fault rest fault read)))
+
+pub given_end : {P F : Type 0} (game : SavedGame P) (view : F → Met) (text rest : List ℕ) (m : Met) → Reads game text rest m → is_complete m ≡ false → record_at rest ≡ Ok None → GivesUnless OutOfMemory view (let r : Result F LoadFault = Err Missing in r) (met_in game (records_of text))
+given_end game view text rest m r undone read = inr (reads_end game text rest m r undone read)
+
+pub given_fault : {P F : Type 0} (game : SavedGame P) (view : F → Met) (text rest after : List ℕ) (m : Met) (e : Entry) (fault : LoadFault) → Reads game text rest m → is_complete m ≡ false → record_at rest ≡ Ok (Some (e, after)) → (fault ≡ OutOfMemory) ⊎ (fault_by game m (key_of e.key) e.value ≡ Some fault) → GivesUnless OutOfMemory view (let r : Result F LoadFault = Err fault in r) (met_in game (records_of text))
+given_fault game view text rest after m e fault r undone read (inl memory) = inl memory
+given_fault game view text rest after m e fault r undone read (inr has) = inr (reads_fault game text rest m e after fault r undone read has)

@@ -145,6 +145,7 @@ fn go_back<P: Game>(session: &mut Session<P>, position: usize)
     }
 }
 
+#[tactic(auto, unfolding(crate::specs::FirstFaults::session_of))]
 fn session<P: Game>(alloc: Global, found: &Found) -> Result<Session<P>, LoadFault>
     requires { IsPlayable (met_of found.now) }
     ensures { GivesUnless LoadFault.OutOfMemory (λ s. s) result
