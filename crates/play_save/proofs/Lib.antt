@@ -9,3 +9,4 @@ pub mod ReadingOn
 pub mod Counting
 pub mod GameTexts
 pub mod StatesPlayed
+pub mod SavedTaken

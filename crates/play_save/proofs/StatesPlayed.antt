@@ -1,5 +1,5 @@
 -- State records and their moves: what is played of the records is played of the moves.
-use Rattle.std.proofs.Common.{◌≡◌, ◌≢◌, ℕ, suc, ◌+◌, ◌≤◌, Bool, true, false, List, [], ◌∷◌, length, Option, Some, None, option_and_then, Result, Ok, Err, ok_or, cond, refl, sym, ap, ◌∙◌, subst, arith}
+use Rattle.std.proofs.Common.{◌≡◌, ◌≢◌, ℕ, suc, add-zero, ◌+◌, ◌≤◌, Bool, true, false, List, [], ◌∷◌, length, Option, Some, None, option_and_then, Result, Ok, Err, ok_or, cond, refl, sym, ap, ◌∙◌, subst, arith}
 use Rattle.std.specs.Result.{result_ok}
 use Rattle.byte_text.specs.Reading.{◌>>=◌}
 use Rattle.byte_text.proofs.ReadingLaws.{bind_taken, bind_again}
@@ -138,3 +138,18 @@ pub other_restart : {P : Type 0} (game : SavedGame P) (p q : P) (value : List �
 other_restart game p q value owes d other is =
     let w = (game.puzzle p).size in
     rw is (other_puzzle game w p q d.text value owes d.described (owes.reads.taken w value q d.smallest d.largest is) other)
+
+-- each state record leads on by one position
+pub position_played : {P : Type 0} (game : SavedGame P) (h last : History P) (i : ℕ) (ss : List StateLine) → states_played game h i ss ≡ Ok last → last.position ≡ h.position + length ss
+position_played game h last i [] is = let same : h ≡ last = cc in ap (λ k. k.position) (sym same) ∙ sym (add-zero h.position)
+position_played {P} game h last i (s ∷ ss) is =
+    let step = bind_taken (state_played game h i (state_move game h.puzzle s.key s.value)) (λ next. states_played game next (i + 1) ss) last is in
+    let one = one_on (state_move game h.puzzle s.key s.value) step.0 step.1 in
+    let rest = position_played game step.0 last (i + 1) ss step.2 in
+    omega arith
+  where
+    one_on : (o : Option Move) (next : History P) → state_played game h i o ≡ Ok next → next.position ≡ h.position + 1
+    one_on None next made = cc
+    one_on (Some m) next made =
+        let played_is = ok_taken (played (game.puzzle h.puzzle) h m) next (ok_or_taken (result_ok (played (game.puzzle h.puzzle) h m)) (BadState i) next made) in
+        ap (λ k. k.position) (sym (accepted (refusal_in (game.puzzle h.puzzle) h m) (with_move h m) next played_is).1)

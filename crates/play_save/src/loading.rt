@@ -1,8 +1,9 @@
 //! Loading: a save text is read record by record, and its session is played.
 
-ghost use Rattle.std.specs.Prelude.{◌≡◌, ◌⊎◌, ℕ, ◌+◌, ◌-◌, ◌<◌, ◌≤◌, Some, None, Ok, Err, IfOk, IfErr, OnOk, IfSome, length, map};
+ghost use Rattle.std.specs.Prelude.{◌≡◌, ◌⊎◌, ℕ, ◌+◌, ◌-◌, ◌<◌, ◌≤◌, Some, None, Ok, Err, ok_or, IfOk, IfErr, OnOk, IfSome, length, map};
+ghost use Rattle.std.specs.Result.{result_ok};
 ghost use Rattle.byte_text.specs.Reading.{Gives, GivesUnless};
-ghost use Rattle.play_midend.specs.Histories.{History, at_position};
+ghost use Rattle.play_midend.specs.Histories.{History, started, at_position};
 ghost use Rattle.play_save.specs.Records.{record_at};
 ghost use Rattle.play_save.specs.SaveTexts.{saved_game, is_solve, SaveText};
 ghost use Rattle.play_save.specs.FirstFaults.{behind_head, records_of, extras_in, met_in, state_move, state_played, states_played, session_of, load_at};
@@ -12,7 +13,8 @@ use crate::fault::LoadFault;
 use crate::found::{Found, StateRecord};
 use crate::key::{Key, StateKey};
 use crate::record::next_record;
-use clue_rules::Game;
+use clue_rules::{Game, Params};
+use latin_board::Size;
 use play_midend::{Extras, KeptBytes, Move, PlayFault, Session, read_move};
 use std::alloc::{AllocError, Global};
 
@@ -145,6 +147,36 @@ fn go_back<P: Game>(session: &mut Session<P>, position: usize)
     }
 }
 
+fn read_puzzle<P: Game>(size: Size, desc: &[u8]) -> Result<P, LoadFault>
+    ensures value { result ≡ ok_or (result_ok (P.desc_at size desc.now)) LoadFault.BadDesc }
+    ensures size { IfOk result (λ puzzle. size ≡ (P.puzzle puzzle).size) }
+{
+    match P::read_desc(size, desc) {
+        Ok(puzzle) => Ok(puzzle),
+        Err(_) => Err(LoadFault::BadDesc),
+    }
+}
+
+// The session at its start, with the bytes that are kept.
+fn start<P: Game>(
+    alloc: Global,
+    params: Params,
+    next_params: Params,
+    puzzle: P,
+    found: &Found,
+) -> Result<Session<P>, LoadFault>
+    requires { params.size ≡ (P.puzzle puzzle).size }
+    ensures ok { IfOk result (λ s. s ≡ started puzzle params next_params (extras_in (met_of found.now))) }
+    ensures err { IfErr result (λ fault. fault ≡ LoadFault.OutOfMemory) }
+{
+    let extras = extras(alloc, found)?;
+    match Session::new(alloc, params, next_params, puzzle, extras) {
+        Ok(session) => Ok(session),
+        Err(_) => Err(LoadFault::OutOfMemory),
+    }
+}
+
+// What the records say, as a session at their position.
 #[tactic(auto, unfolding(crate::specs::FirstFaults::session_of))]
 fn session<P: Game>(alloc: Global, found: &Found) -> Result<Session<P>, LoadFault>
     requires { IsPlayable (met_of found.now) }
@@ -158,9 +190,8 @@ fn session<P: Game>(alloc: Global, found: &Found) -> Result<Session<P>, LoadFaul
     let params = found.params.ok_or(LoadFault::Missing)?;
     let desc = found.desc.ok_or(LoadFault::Missing)?;
     let position = found.position.ok_or(LoadFault::Missing)?;
-    let puzzle = P::read_desc(params.size, desc).map_err(|_| LoadFault::BadDesc)?;
-    let extras = extras(alloc, found)?;
-    let mut session = Session::new(alloc, params, next_params, puzzle, extras).map_err(|_| LoadFault::OutOfMemory)?;
+    let puzzle = read_puzzle::<P>(params.size, desc)?;
+    let mut session = start(alloc, params, next_params, puzzle, found)?;
     play_states(&mut session, &found.states)?;
     go_back(&mut session, position);
     Ok(session)
