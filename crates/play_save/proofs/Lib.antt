@@ -10,3 +10,5 @@ pub mod Counting
 pub mod GameTexts
 pub mod StatesPlayed
 pub mod SavedTaken
+pub mod SavedAgain
+pub mod LoadAnswers
