@@ -43,8 +43,8 @@ drop_there : (records : List Record) (n : ℕ) (r : Record) → n < length recor
 drop_there records n r inside is =
     rw add-one (drop-cons records n r inside ∙ ap (λ x. x ∷ drop (suc n) records) (sym is))
 
-pub moves_of-set : (records : List Record) (n : ℕ) (r : Record) (change : ChangeValue) → r ≡ get_or records n r → moves_of (set records n (record { made = r.made; change = change })) ≡ moves_of records
-moves_of-set records n r change is = map-set_same (λ q. q.made) records n (record { made = r.made; change = change }) r (ap (λ q. q.made) is)
+pub moves_of-set : (records : List Record) (n : ℕ) (r q : Record) → r ≡ get_or records n r → q.made ≡ r.made → moves_of (set records n q) ≡ moves_of records
+moves_of-set records n r q is made = map-set_same (λ (k : Record). k.made) records n q r (made ∙ ap (λ (k : Record). k.made) is)
 
 -- the record that stands before the position
 pub last_back : (p : Puzzle) (records : List Record) (n : ℕ) (board : BoardValue) (r : Record) → AreLinked p records (n + 1) board → r ≡ get_or records n r → LastBack p (start_of p) (take n records) r board
@@ -52,18 +52,17 @@ last_back p records n board r h is =
     past_last p (start_of p) (take n records) r board
     (subst (λ (rs : List Record). ArePast p (start_of p) rs board) (take_there records n r (let i = h.inside in omega arith) is) h.past)
 
-pub linked_back : (p : Puzzle) (records : List Record) (n : ℕ) (board : BoardValue) (r : Record) (new : BoardValue) (change : ChangeValue) → AreLinked p records (n + 1) board → r ≡ get_or records n r → new ≡ board_after board r.change → FitsBoard new change → board_after new change ≡ board → AreLinked p (set records n (record { made = r.made; change = change })) n new
-linked_back p records n board r new change h is at fits back =
+pub linked_back : (p : Puzzle) (records : List Record) (n : ℕ) (board : BoardValue) (r q : Record) (new : BoardValue) → AreLinked p records (n + 1) board → r ≡ get_or records n r → new ≡ board_after board r.change → q.made ≡ r.made → FitsBoard new q.change → board_after new q.change ≡ board → AreLinked p (set records n q) n new
+linked_back p records n board r q new h is at made fits back =
     let last = last_back p records n board r h is in
     let inside : n < length records = let i = h.inside in omega arith in
-    let q : Record = record { made = r.made; change = change } in
     let e : new ≡ last.before = at ∙ last.is_back.back in
-    let stepped : step p new r.made ≡ Ok board = rw e last.is_back.stepped in
+    let stepped : step p new q.made ≡ Ok board = rw (e, made) last.is_back.stepped in
     record {
       size = at_size p board r.change new h.size last.is_back.fits at;
       inside = rw (length-set records n q) (omega arith);
       few = rw (length-set records n q) h.few;
-      no_restart_first = rw (moves_of-set records n r change is) h.no_restart_first;
+      no_restart_first = rw (moves_of-set records n r q is made) h.no_restart_first;
       past = rw (take-set records n q, e) last.past;
       later = rw (drop-set records n q inside) (board, record { stepped = stepped; fits = fits; ahead = back }, h.later);
     }
@@ -82,12 +81,11 @@ first_ahead p records n board r h inside is =
     let later : AreLater p board (r ∷ drop (n + 1) records) = subst (λ (rs : List Record). AreLater p board rs) (drop_there records n r inside is) h.later in
     record { next = later.0; is_ahead = later.1; later = later.2 }
 
-pub linked_ahead : (p : Puzzle) (records : List Record) (n : ℕ) (board : BoardValue) (r : Record) (new : BoardValue) (change : ChangeValue) → AreLinked p records n board → n < length records → r ≡ get_or records n r → new ≡ board_after board r.change → FitsBoard new change → board_after new change ≡ board → AreLinked p (set records n (record { made = r.made; change = change })) (n + 1) new
-linked_ahead p records n board r new change h inside is at fits back =
+pub linked_ahead : (p : Puzzle) (records : List Record) (n : ℕ) (board : BoardValue) (r q : Record) (new : BoardValue) → AreLinked p records n board → n < length records → r ≡ get_or records n r → new ≡ board_after board r.change → q.made ≡ r.made → FitsBoard new q.change → board_after new q.change ≡ board → AreLinked p (set records n q) (n + 1) new
+linked_ahead p records n board r q new h inside is at made fits back =
     let first = first_ahead p records n board r h inside is in
-    let q : Record = record { made = r.made; change = change } in
     let e : new ≡ first.next = at ∙ first.is_ahead.ahead in
-    let stepped : step p board r.made ≡ Ok new = rw e first.is_ahead.stepped in
+    let stepped : step p board q.made ≡ Ok new = rw (e, made) first.is_ahead.stepped in
     let long : n < length (set records n q) = rw (length-set records n q) inside in
     let there : get_or (set records n q) n q ≡ q = get_or-set_same records n q q inside in
     let front : take (n + 1) (set records n q) ≡ take n records ++ q ∷ [] =
@@ -96,7 +94,7 @@ linked_ahead p records n board r new change h inside is at fits back =
       size = ap (λ (b : BoardValue). b.size) at ∙ size_after board r.change first.is_ahead.fits ∙ h.size;
       inside = rw (length-set records n q) (omega arith);
       few = rw (length-set records n q) h.few;
-      no_restart_first = rw (moves_of-set records n r change is) h.no_restart_first;
+      no_restart_first = rw (moves_of-set records n r q is made) h.no_restart_first;
       past = subst (λ (rs : List Record). ArePast p (start_of p) rs new) (sym front)
           (past_more p (start_of p) (take n records) q board new h.past (record { stepped = stepped; fits = fits; back = back }));
       later = subst (λ (rs : List Record). AreLater p new rs) (sym (drop-set-lt (n + 1) records n q (omega arith)))

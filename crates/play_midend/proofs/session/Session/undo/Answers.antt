@@ -3,8 +3,8 @@ use Rattle.play_midend.proofs.Linking.{last_back, linked_back, with_one_less, mo
 use Rattle.play_midend.proofs.Viewing.{undone_viewed}
 use Rattle.play_midend.proofs.session.Session.undo.Goals as goal
 
-pub swap-requires : goal.swap-requires
-swap-requires g c =
+pub exchange-requires : goal.exchange-requires
+exchange-requires g c =
     let s = c.self.inside in
     let p = g.P.Rules.puzzle s.puzzle in
     let linked = with_one_less p s.records.items s.past s.board c.self.invariant.1 c.if-self-eq0.false in
@@ -16,10 +16,10 @@ invariant_of-self g c =
     let s = c.self.inside in
     let p = g.P.Rules.puzzle s.puzzle in
     let linked = with_one_less p s.records.items s.past s.board c.self.invariant.1 c.if-self-eq0.false in
-    (c.self.invariant.0, linked_back p s.records.items (s.past - 1) s.board c.index_mut.result.now c.swap.new.self c.swap.new.change linked c.index_mut.ensures.value c.swap.ensures.board c.swap.ensures.fits c.swap.ensures.twice.0)
+    (c.self.invariant.0, linked_back p s.records.items (s.past - 1) s.board c.index_mut.result.now c.exchange.new.kept c.exchange.new.board linked c.index_mut.ensures.value c.exchange.ensures.board c.exchange.ensures.made c.exchange.ensures.fits c.exchange.ensures.restores)
 
 pub returns-clause-ok : goal.returns-clause-ok
 returns-clause-ok g c =
     let s = c.self.inside in
-    let moves = moves_of-set s.records.items (s.past - 1) c.index_mut.result.now c.swap.new.change c.index_mut.ensures.value in
+    let moves = moves_of-set s.records.items (s.past - 1) c.index_mut.result.now c.exchange.new.kept c.index_mut.ensures.value c.exchange.ensures.made in
     rw (← c.self.view_is) (undone_viewed s.puzzle s.params s.next_params s.extras _ _ s.past c.if-self-eq0.false moves)
