@@ -1,0 +1,2 @@
+pub mod OrderPlaces
+pub mod CombinedSquares
