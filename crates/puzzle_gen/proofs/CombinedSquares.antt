@@ -1,10 +1,10 @@
 -- The square that is combined of three orders is Latin.
-use Rattle.std.proofs.Common.{◌≡◌, ℕ, ◌+◌, ◌-◌, ◌*◌, ◌/◌, ◌%◌, ◌<◌, ◌≤◌, List, length, get_or, map, refl, sym, ◌∙◌, ap, arith, add_comm}
+use Rattle.std.proofs.Common.{◌≡◌, ℕ, ◌+◌, ◌-◌, ◌*◌, ◌%◌, ◌<◌, List, length, get_or, map, sym, ◌∙◌, ap, arith, add_comm}
 use Rattle.std.specs.List.{range_with_len}
 use Rattle.std.proofs.Math.Nat.{mod-add-mod, add-mod-mod, add-mod_right, mod-eq_of_lt}
 use Rattle.std.proofs.lemmas.Nat.{mul-add-lt, div-mul-add, mod-mul-add, mod_below}
 use Rattle.std.proofs.lemmas.List.FromFn.{get_or-map-range_with_len, fill_by_all}
-use Rattle.latin_board.specs.Squares.{GridValue, IsGrid, IsLatin, HasEachOnce, number_at, times_in}
+use Rattle.latin_board.specs.Squares.{GridValue, IsGrid, IsLatin, HasEachOnce, number_at}
 use Rattle.puzzle_gen.specs.Orders.{place_in, IsOrder}
 use Rattle.puzzle_gen.specs.SeededSquares.{number_of, combined}
 use Rattle.puzzle_gen.proofs.OrderPlaces.{once_at}

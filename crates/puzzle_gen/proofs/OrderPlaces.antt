@@ -1,5 +1,5 @@
 -- A permutation of the numbers below n is an order of them, each at one place.
-use Rattle.std.proofs.Common.{◌≡◌, ℕ, zero, suc, ◌+◌, ◌<◌, ◌≤◌, List, [], ◌∷◌, length, get_or, eqb, cond, map, All, IsPermutation, inl, inr, refl, sym, ◌∙◌, ap, arith, eq-eqb}
+use Rattle.std.proofs.Common.{◌≡◌, ℕ, zero, suc, ◌<◌, ◌≤◌, List, [], ◌∷◌, length, get_or, eqb, cond, map, All, IsPermutation, inl, inr, refl, sym, ◌∙◌, ap, arith, eq-eqb, subst, add-one}
 use Rattle.std.specs.List.{range_with_len}
 use Rattle.std.proofs.lemmas.Bool.{cases_eq, cases_lt, ne_eqb}
 use Rattle.std.proofs.lemmas.List.FromFn.{length-range_with_len, get_or-range_with_len, fill_by_all}
@@ -25,13 +25,16 @@ place_found x (y ∷ ys) (suc k) within here =
 none_so_far : (f : ℕ → ℕ) (v n : ℕ) → ((j : ℕ) → j < n → f j ≡ v → ⊥) → 0 ≡ times_in v (map f (range_with_len 0 n))
 none_so_far f v zero none = refl
 none_so_far f v (suc n) none =
-    times_in_more_no f v n 0 (none_so_far f v n (λ j below. none j (omega arith))) (none n (omega arith))
+    let None : ℕ → Type 0 = λ m. 0 ≡ times_in v (map f (range_with_len 0 m)) in
+    subst None (add-one n)
+    (times_in_more_no f v n 0 (none_so_far f v n (λ j below. none j (omega arith))) (none n (omega arith)))
 
 -- a value that stands at just one place of a list that is made by places is there once
 pub once_at : (f : ℕ → ℕ) (v k n : ℕ) → k < n → f k ≡ v → ((j : ℕ) → j < n → f j ≡ v → j ≡ k) → 1 ≡ times_in v (map f (range_with_len 0 n))
 once_at f v k zero within here only = absurd (omega arith)
 once_at f v k (suc n) within here only =
-    elim (cases_eq n k) [
+    let Once : ℕ → Type 0 = λ m. 1 ≡ times_in v (map f (range_with_len 0 m)) in
+    subst Once (add-one n) (elim (cases_eq n k) [
       | inl last ↦
           times_in_more_yes f v n 0
           (none_so_far f v n (λ j below there. let same : j ≡ k = only j (omega arith) there in omega arith))
@@ -40,15 +43,18 @@ once_at f v k (suc n) within here only =
           times_in_more_no f v n 1
           (once_at f v k n (omega arith) here (λ j below. only j (omega arith)))
           (λ there. other (only n (omega arith) there))
-    ]
+    ])
+
+-- the numbers below n are a list that is made by places
+pub range_made : (n : ℕ) → range_with_len 0 n ≡ map (λ k. k) (range_with_len 0 n)
+range_made n =
+    fill_by_all (λ k. k) (range_with_len 0 n) n 0 (length-range_with_len 0 n)
+    (λ k inside. let at = get_or-range_with_len 0 n k 0 inside in omega (arith, at))
 
 range_once : (n v : ℕ) → v < n → 1 ≡ times_in v (range_with_len 0 n)
 range_once n v below =
-    let made : range_with_len 0 n ≡ map (λ k. k) (range_with_len 0 n) =
-        fill_by_all (λ k. k) (range_with_len 0 n) n 0 (length-range_with_len 0 n)
-        (λ k inside. let at = get_or-range_with_len 0 n k 0 inside in omega (arith, at)) in
     let once : 1 ≡ times_in v (map (λ k. k) (range_with_len 0 n)) = once_at (λ k. k) v v n below refl (λ j less same. same) in
-    once ∙ sym (ap (times_in v) made)
+    once ∙ sym (ap (times_in v) (range_made n))
 
 -- ---- orders
 

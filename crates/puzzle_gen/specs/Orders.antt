@@ -1,5 +1,5 @@
 -- Orders of the numbers below n, as lists.
-use Rattle.std.specs.Prelude.{◌≡◌, ℕ, zero, suc, ◌<◌, ◌==◌, if◌then◌else◌, List, [], ◌∷◌, length, slice_index}
+use Rattle.std.specs.Prelude.{◌≡◌, ℕ, suc, ◌<◌, ◌==◌, if◌then◌else◌, List, [], ◌∷◌, length, slice_index}
 
 -- the first place of a number in a list, or the list's length where it isn't there
 abbrev pub place_in : ℕ → List ℕ → ℕ

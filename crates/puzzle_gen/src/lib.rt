@@ -6,6 +6,11 @@
 #![tactic(auto)]
 
 mod draws;
+mod gen_fault;
+mod generator;
+mod pruning;
 mod seeded_square;
 
+pub use gen_fault::GenFault;
+pub use generator::generate;
 pub use seeded_square::square;
