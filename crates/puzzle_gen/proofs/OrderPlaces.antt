@@ -1,8 +1,9 @@
 -- A permutation of the numbers below n is an order of them, each at one place.
-use Rattle.std.proofs.Common.{◌≡◌, ℕ, zero, suc, ◌<◌, ◌≤◌, List, [], ◌∷◌, length, get_or, eqb, cond, map, All, IsPermutation, inl, inr, refl, sym, ◌∙◌, ap, arith, eq-eqb, subst, add-one}
-use Rattle.std.specs.List.{range_with_len}
+use Rattle.std.proofs.Common.{◌≡◌, ℕ, zero, suc, ◌+◌, ◌<◌, ◌≤◌, List, [], ◌∷◌, ◌++◌, length, drop, get_or, eqb, cond, map, All, IsPermutation, inl, inr, refl, sym, ◌∙◌, ap, arith, eq-eqb, subst, add-one}
+use Rattle.std.specs.List.{range_with_len, refill}
+use Rattle.std.proofs.Math.Seq.{take-append_seam}
 use Rattle.std.proofs.lemmas.Bool.{cases_eq, cases_lt, ne_eqb}
-use Rattle.std.proofs.lemmas.List.FromFn.{length-range_with_len, get_or-range_with_len, fill_by_all}
+use Rattle.std.proofs.lemmas.List.FromFn.{length-range_with_len, get_or-range_with_len, fill_by_all, map-range_with_len_more}
 use Rattle.std.proofs.lemmas.List.Sorted.{All-permutation, length_permutation, sum_by-IsPermutation}
 use Rattle.latin_board.specs.Squares.{times_in}
 use Rattle.latin_board.proofs.Counts.{times_in_more_yes, times_in_more_no, twice_at_least, place_of_counted}
@@ -51,6 +52,11 @@ range_made n =
     fill_by_all (λ k. k) (range_with_len 0 n) n 0 (length-range_with_len 0 n)
     (λ k inside. let at = get_or-range_with_len 0 n k 0 inside in omega (arith, at))
 
+-- and one more
+pub range_more : (n : ℕ) → range_with_len 0 (n + 1) ≡ range_with_len 0 n ++ n ∷ []
+range_more n =
+    range_made (n + 1) ∙ map-range_with_len_more (λ k. k) 0 n n (omega arith) ∙ ap (λ (xs : List ℕ). xs ++ n ∷ []) (sym (range_made n))
+
 range_once : (n v : ℕ) → v < n → 1 ≡ times_in v (range_with_len 0 n)
 range_once n v below =
     let once : 1 ≡ times_in v (map (λ k. k) (range_with_len 0 n)) = once_at (λ k. k) v v n below refl (λ j less same. same) in
@@ -87,3 +93,12 @@ order_of_permutation n xs same =
       inside = λ i small. let at = found i small in omega (arith, at.1, (place_found i xs at.0 at.1 at.2).0);
       back = λ i small. let at = found i small in (place_found i xs at.0 at.1 at.2).1;
     }
+
+-- ---- lists that are filled up in place
+
+pub length_range_made : (n : ℕ) (xs : List ℕ) → xs ≡ range_with_len 0 n → length xs ≡ n
+length_range_made n xs made = ap length made ∙ length-range_with_len 0 n
+
+-- a list that is written over as a whole
+pub refill_whole : (xs ws : List ℕ) → length ws ≡ length xs → refill (length xs) xs ws ≡ ws
+refill_whole xs ws same = rw (← same) (take-append_seam ws (drop (length ws) xs))

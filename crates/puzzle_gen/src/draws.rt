@@ -6,9 +6,13 @@ ghost use Rattle.rand_chacha.specs.ChaCha.{of_seed};
 ghost use Rattle.puzzle_gen.specs.Orders.{IsOrder};
 ghost use Rattle.puzzle_gen.specs.SeededSquares.{key_bytes, drawn_order};
 
+use arrayvec::ArrayVec;
 use rand::seq::SliceRandom;
 use rand_chacha::ChaCha20Rng;
 use rand_core::{Rng, SeedableRng};
+
+/// How many items a puzzle of size 6 can have, in the game that has the most.
+pub(crate) const ITEMS: usize = 96;
 
 /// The generator of random words of a seed.
 pub(crate) fn rng_of(seed: u64) -> ChaCha20Rng
@@ -19,22 +23,34 @@ pub(crate) fn rng_of(seed: u64) -> ChaCha20Rng
     ChaCha20Rng::from_seed(key)
 }
 
-/// Fills the slice with the numbers from 0 up, in an order that is drawn.
+/// The items below the count, in an order that is drawn.
+pub(crate) fn draw_items<R: Rng>(rng: &mut R, count: usize) -> ArrayVec<u8, ITEMS>
+    requires { count ≤ ITEMS }
+    ensures order { IsOrder count result.items }
+    ensures drawn { (result.items, R.stream rng.new) ≡ drawn_order count (R.stream rng.old) }
+{
+    let mut items = first_items(count);
+    draw_order(rng, items.as_mut_slice());
+    items
+}
+
+// The items below the count.
+fn first_items(count: usize) -> ArrayVec<u8, ITEMS>
+    requires { count ≤ ITEMS }
+    ensures { result.items ≡ range_with_len 0 count }
+{
+    let mut items = ArrayVec::new();
+    for item in 0..count {
+        items.push(item as u8);
+    }
+    items
+}
+
+/// Puts the numbers from 0 up into an order that is drawn.
 pub(crate) fn draw_order<R: Rng>(rng: &mut R, items: &mut [u8])
-    requires { length items.old ≤ 255 }
+    requires { items.old ≡ range_with_len 0 (length items.old) }
     ensures order { IsOrder (length items.old) items.new }
     ensures drawn { (items.new, R.stream rng.new) ≡ drawn_order (length items.old) (R.stream rng.old) }
 {
-    number(items);
     items.shuffle(rng);
-}
-
-// Writes 0, 1, 2 and so on.
-fn number(items: &mut [u8])
-    requires { length items.old ≤ 255 }
-    ensures { items.new ≡ range_with_len 0 (length items.old) }
-{
-    for k in 0..items.len() {
-        items[k] = k as u8;
-    }
 }

@@ -7,7 +7,7 @@ ghost use Rattle.puzzle_gen.specs.Pruning.{HasTwo, IsOnlySolution, IsPruned, ite
 ghost use Rattle.puzzle_gen.specs.declared.gen_fault.GenFault.{GenFault};
 ghost use Rattle.puzzle_gen.specs.Generating.{Generates};
 
-use crate::draws::{draw_order, rng_of};
+use crate::draws::{draw_items, rng_of};
 use crate::gen_fault::GenFault;
 use crate::pruning::pruned;
 use crate::seeded_square::draw_square;
@@ -15,9 +15,6 @@ use clue_rules::{Game, Params};
 use latin_board::{Grid, Size};
 use rand_core::Rng;
 use trail_solver::Rules;
-
-/// How many items a puzzle of size 6 can have, in the game that has the most.
-const ITEMS: usize = 96;
 
 /// The puzzle of these parameters and this seed.
 ///
@@ -83,8 +80,6 @@ fn pruned_next<P: Rules, R: Rng>(grid: &Grid, rng: &mut R) -> P
     ensures size { (P.puzzle result).size ≡ grid.now.size }
 {
     let count = P::item_count(grid.size());
-    let mut order = [0; ITEMS];
-    let items = &mut order[..count];
-    draw_order(rng, items);
-    pruned(grid, items)
+    let order = draw_items(rng, count);
+    pruned(grid, order.as_slice())
 }

@@ -5,7 +5,7 @@ ghost use Rattle.latin_board.specs.Squares.{IsLatin};
 ghost use Rattle.puzzle_gen.specs.Orders.{IsOrder};
 ghost use Rattle.puzzle_gen.specs.SeededSquares.{combined, drawn_square, square_of};
 
-use crate::draws::{draw_order, rng_of};
+use crate::draws::{draw_items, rng_of};
 use latin_board::{Grid, Size};
 use rand_core::Rng;
 
@@ -24,13 +24,10 @@ pub(crate) fn draw_square<R: Rng>(size: Size, rng: &mut R) -> Grid
     ensures latin { IsLatin result }
 {
     let width = size.get() as usize;
-    let mut rows = [0; 9];
-    let mut columns = [0; 9];
-    let mut symbols = [0; 9];
-    draw_order(rng, &mut rows[..width]);
-    draw_order(rng, &mut columns[..width]);
-    draw_order(rng, &mut symbols[..width]);
-    combine(size, &rows[..width], &columns[..width], &symbols[..width])
+    let rows = draw_items(rng, width);
+    let columns = draw_items(rng, width);
+    let symbols = draw_items(rng, width);
+    combine(size, rows.as_slice(), columns.as_slice(), symbols.as_slice())
 }
 
 // The square with the symbol at place (rows[r] + columns[c]) mod w in row r, column c.
