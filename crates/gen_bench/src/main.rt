@@ -73,7 +73,11 @@ fn measure<P: Game, R: Clock + Print>(rt: &R, size: Size) -> io::Result<()> {
     let name = P::name();
     let width = size.get();
     let mean = total / SEEDS;
-    print!(rt; "{name:<8} size {width}  items {:>2}.{}  ", items / SEEDS, items * 10 / SEEDS % 10)?;
+    print!(rt;
+        "{name:<8} size {width}  items {:>2}.{}  ",
+        items / SEEDS,
+        items % SEEDS * 10 / SEEDS
+    )?;
     println!(rt;
         "mean {:>5}.{}  slowest {:>5}.{}",
         mean / 1000,

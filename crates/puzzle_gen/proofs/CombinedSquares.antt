@@ -34,17 +34,17 @@ line_once w d turns symbols f some step in_turn in_symbols made = λ v low high.
     let k = place_in turn turns in
     let k_small : k < w = in_turn.inside turn turn_small in
     let there : (d + get_or turns k 0) % w ≡ place =
-        ap (λ (n : ℕ). (d + n) % w) (in_turn.back turn turn_small) ∙ turned_back w d place step place_small in
+    ap (λ (n : ℕ). (d + n) % w) (in_turn.back turn turn_small) ∙ turned_back w d place step place_small in
     let read : get_or symbols ((d + get_or turns k 0) % w) 0 ≡ v - 1 =
-        ap (λ (n : ℕ). get_or symbols n 0) there ∙ in_symbols.back (v - 1) symbol in
+    ap (λ (n : ℕ). get_or symbols n 0) there ∙ in_symbols.back (v - 1) symbol in
     let here : f k ≡ v = omega (arith, made k k_small, read) in
     sym (once_at f v k w k_small here (λ j j_small same.
     let read_j : get_or symbols ((d + get_or turns j 0) % w) 0 ≡ v - 1 = omega (arith, made j j_small, same) in
     let at_j : (d + get_or turns j 0) % w < w = mod_below (d + get_or turns j 0) w some in
     let place_j : (d + get_or turns j 0) % w ≡ place =
-        sym (in_symbols.places ((d + get_or turns j 0) % w) at_j) ∙ ap (λ (n : ℕ). place_in n symbols) read_j in
+    sym (in_symbols.places ((d + get_or turns j 0) % w) at_j) ∙ ap (λ (n : ℕ). place_in n symbols) read_j in
     let turn_j : get_or turns j 0 ≡ turn =
-        sym (turned w d (get_or turns j 0) step (in_turn.items j j_small)) ∙ ap (λ (n : ℕ). (n + (w - d)) % w) place_j in
+    sym (turned w d (get_or turns j 0) step (in_turn.items j j_small)) ∙ ap (λ (n : ℕ). (n + (w - d)) % w) place_j in
     sym (in_turn.places j j_small) ∙ ap (λ (n : ℕ). place_in n turns) turn_j))
 
 -- ---- the square

@@ -49,7 +49,7 @@ cuts_of_full {P} f valid g laws grid latin =
     let is_valid = laws.full_valid g grid latin in
     let size = laws.full_size g grid latin in
     let wide : (i : ℕ) → i < f.count g.size → i < f.count (f.puzzle (f.full g)).size =
-        λ i below. subst (λ (n : ℕ). i < f.count n) (sym size) below in
+    λ i below. subst (λ (n : ℕ). i < f.count n) (sym size) below in
     record {
       has_cut = λ keep i below.
           laws.cut_has (f.full g) keep i is_valid (wide i below)

@@ -75,9 +75,9 @@ order_of_permutation n xs same =
     let count : length xs ≡ n = length_permutation (range_with_len 0 n) xs same ∙ length-range_with_len 0 n in
     let below = All-permutation (λ i. i < n) (range_with_len 0 n) xs same (range_below n) in
     let once : (v : ℕ) → v < n → times_in v xs ≡ 1 = λ v small.
-        sum_by-IsPermutation (λ x. cond (eqb x v) 1 0) (range_with_len 0 n) xs same ∙ sym (range_once n v small) in
+    sum_by-IsPermutation (λ x. cond (eqb x v) 1 0) (range_with_len 0 n) xs same ∙ sym (range_once n v small) in
     let found : (i : ℕ) → i < n → (k : ℕ) × (k < length xs) × (get_or xs k 0 ≡ i) = λ i small.
-        place_of_counted i xs (omega (arith, once i small)) in
+    place_of_counted i xs (omega (arith, once i small)) in
     record {
       count = count;
       items = λ k small. below k 0 (omega arith);
@@ -85,9 +85,11 @@ order_of_permutation n xs same =
           let within : k < length xs = omega arith in
           let first = place_found (get_or xs k 0) xs k within refl in
           elim (cases_lt (place_in (get_or xs k 0) xs) k) [
-            | inl before ↦ absurd (omega (arith,
-                twice_at_least (get_or xs k 0) xs (place_in (get_or xs k 0) xs) k before within first.1 refl,
-                once (get_or xs k 0) (below k 0 within)))
+            | inl before ↦ absurd (omega (
+              arith,
+              twice_at_least (get_or xs k 0) xs (place_in (get_or xs k 0) xs) k before within first.1 refl,
+              once (get_or xs k 0) (below k 0 within),
+            ))
             | inr here ↦ omega (arith, first.0)
           ];
       inside = λ i small. let at = found i small in omega (arith, at.1, (place_found i xs at.0 at.1 at.2).0);

@@ -126,7 +126,7 @@ pub record IsPrunedTo {P : Type 0} (f : Items P) (g : GridValue) (order : List �
 pub pruned_none : {P : Type 0} (f : Items P) (g : GridValue) (order : List ℕ) → AreCuts f g → IsPrunedTo f g order 0 (f.full g)
 pruned_none f g order cuts =
     let has_full : (i : ℕ) → i < f.count g.size → f.has (f.full g) i ≡ true =
-        λ i below. ap (λ (p : _). f.has p i) (sym cuts.all) ∙ cuts.has_cut (λ j. true) i below in
+    λ i below. ap (λ (p : _). f.has p i) (sym cuts.all) ∙ cuts.has_cut (λ j. true) i below in
     record {
       is_cut = sym cuts.all ∙ cuts.agrees (λ i. true) (f.has (f.full g)) (λ i below. sym (has_full i below));
       tried = λ i below before. absurd (omega arith);
@@ -150,9 +150,10 @@ pruned_stays {P} f g order k i p cuts is_order small here so_far two = record {
         let itself : j ≡ i = place_apart (f.count g.size) order is_order j i small_j small (last ∙ sym here) in
         let Tried : ℕ → Type 0 = λ l. IsTrue (f.has p l) ↔ HasTwo (f.puzzle (rest_puzzle f g order p l)) in
         let Two : P → Type 0 = λ q. HasTwo (f.puzzle q) in
-        subst Tried (sym itself)
-        (λ there. subst Two (next_is_rest f g order k i p cuts is_order small here so_far) two,
-          λ both. so_far.untried i small (omega arith))
+        subst Tried (sym itself) (
+          λ there. subst Two (next_is_rest f g order k i p cuts is_order small here so_far) two,
+          λ both. so_far.untried i small (omega arith),
+        )
     | inr earlier ↦ so_far.tried j small_j (omega arith)
   ];
   untried = λ j small_j after. so_far.untried j small_j (omega arith);
@@ -164,22 +165,22 @@ pub pruned_goes : {P : Type 0} (f : Items P) (g : GridValue) (order : List ℕ) 
 pruned_goes {P} f g order k i p q cuts is_order small here so_far single gone =
     let n = f.count g.size in
     let cut : q ≡ f.cut (f.full g) (λ j. f.has p j && but i j) =
-        gone ∙ ap (λ (r : P). f.cut r (but i)) so_far.is_cut ∙ cuts.again (f.has p) (but i) in
+    gone ∙ ap (λ (r : P). f.cut r (but i)) so_far.is_cut ∙ cuts.again (f.has p) (but i) in
     let kept : (j : ℕ) → j < n → f.has q j ≡ (f.has p j && but i j) = λ j small_j.
-        ap (λ (r : P). f.has r j) cut ∙ cuts.has_cut (λ l. f.has p l && but i l) j small_j in
+    ap (λ (r : P). f.has r j) cut ∙ cuts.has_cut (λ l. f.has p l && but i l) j small_j in
     let kept_other : (j : ℕ) → j < n → j ≢ i → f.has q j ≡ f.has p j = λ j small_j other.
-        kept j small_j ∙ ap (λ (b : Bool). f.has p j && b) (but_other i j other) ∙ and_true (f.has p j) in
+    kept j small_j ∙ ap (λ (b : Bool). f.has p j && b) (but_other i j other) ∙ and_true (f.has p j) in
     let lost : f.has q i ≡ false = kept i small ∙ ap (λ (b : Bool). f.has p i && b) (but_itself i) ∙ and_false (f.has p i) in
     let earlier_kept : (j l : ℕ) → place_in j order ≤ k → l < n → place_in l order < place_in j order → f.has q l ≡ f.has p l =
-        λ j l last small_l before. kept_other l small_l
-        (λ same. let e : place_in l order ≡ place_in i order = ap (λ (m : ℕ). place_in m order) same in omega arith) in
+    λ j l last small_l before. kept_other l small_l
+    (λ same. let e : place_in l order ≡ place_in i order = ap (λ (m : ℕ). place_in m order) same in omega arith) in
     let same_rest : (j : ℕ) → j < n → place_in j order ≤ k → rest_puzzle f g order q j ≡ rest_puzzle f g order p j =
-        λ j small_j last. cuts.agrees (rest order (f.has q) j) (rest order (f.has p) j)
-        (rest_agrees n order (f.has q) (f.has p) j is_order small_j (λ l small_l before. earlier_kept j l last small_l before)) in
+    λ j small_j last. cuts.agrees (rest order (f.has q) j) (rest order (f.has p) j)
+    (rest_agrees n order (f.has q) (f.has p) j is_order small_j (λ l small_l before. earlier_kept j l last small_l before)) in
     let Two : P → Type 0 = λ r. HasTwo (f.puzzle r) in
     let Sol : P → Type 0 = λ r. Solves (f.puzzle r) g in
     let still : Solves (f.puzzle q) g = subst Sol (sym cut)
-        (cuts.loses_none (f.has p) (but i) g (subst Sol so_far.is_cut so_far.only.solution)) in
+    (cuts.loses_none (f.has p) (but i) g (subst Sol so_far.is_cut so_far.only.solution)) in
     record {
       is_cut = cut ∙ cuts.agrees (λ j. f.has p j && but i j) (f.has q) (λ j small_j. sym (kept j small_j));
       tried = λ j small_j before. elim (cases_eq (place_in j order) k) [
@@ -187,10 +188,11 @@ pruned_goes {P} f g order k i p q cuts is_order small here so_far single gone =
             let itself : j ≡ i = place_apart n order is_order j i small_j small (last ∙ sym here) in
             let Tried : ℕ → Type 0 = λ l. IsTrue (f.has q l) ↔ HasTwo (f.puzzle (rest_puzzle f g order q l)) in
             let back : rest_puzzle f g order q i ≡ f.cut p (but i) =
-                same_rest i small (omega arith) ∙ sym (next_is_rest f g order k i p cuts is_order small here so_far) in
-            subst Tried (sym itself)
-            (λ there. absurd (let e : true ≡ false = sym there ∙ lost in cc),
-              λ both. absurd (single (subst Two back both)))
+            same_rest i small (omega arith) ∙ sym (next_is_rest f g order k i p cuts is_order small here so_far) in
+            subst Tried (sym itself) (
+              λ there. absurd (let e : true ≡ false = sym there ∙ lost in cc),
+              λ both. absurd (single (subst Two back both)),
+            )
         | inr earlier ↦
             let is_earlier : place_in j order < k = omega arith in
             let other : j ≢ i = λ same. (let e : place_in j order ≡ place_in i order = ap (λ (m : ℕ). place_in m order) same in omega arith) in
@@ -224,9 +226,9 @@ same_kept : {P : Type 0} (f : Items P) (g : GridValue) (order : List ℕ) (p q :
 same_kept f g order p q cuts is_order first second zero i small before = absurd (omega arith)
 same_kept {P} f g order p q cuts is_order first second (suc k) i small before =
     let same : rest_puzzle f g order p i ≡ rest_puzzle f g order q i =
-        cuts.agrees (rest order (f.has p) i) (rest order (f.has q) i)
-        (rest_agrees (f.count g.size) order (f.has p) (f.has q) i is_order small
-        (λ j small_j earlier. same_kept f g order p q cuts is_order first second k j small_j (omega arith))) in
+    cuts.agrees (rest order (f.has p) i) (rest order (f.has q) i)
+    (rest_agrees (f.count g.size) order (f.has p) (f.has q) i is_order small
+    (λ j small_j earlier. same_kept f g order p q cuts is_order first second k j small_j (omega arith))) in
     let Rest : P → Type 0 = λ r. IsTrue (f.has q i) ↔ HasTwo (f.puzzle r) in
     same_bool (f.has p i) (f.has q i) (HasTwo (f.puzzle (rest_puzzle f g order p i))) (first.each i small)
     (subst Rest (sym same) (second.each i small))
@@ -244,12 +246,12 @@ pub pruned_needed : {P : Type 0} (f : Items P) (g : GridValue) (order : List ℕ
 pruned_needed {P} f g order p cuts is_order pruned i small there =
     let two = (pruned.each i small).0 there in
     let fewer : f.cut (f.full g) (λ j. rest order (f.has p) i j && (f.has p j && but i j)) ≡ f.cut p (but i) =
-        cuts.agrees (λ j. rest order (f.has p) i j && (f.has p j && but i j)) (λ j. f.has p j && but i j)
-        (within_rest (f.count g.size) order (f.has p) i is_order small)
-        ∙ sym (cuts.again (f.has p) (but i)) ∙ ap (λ (q : P). f.cut q (but i)) (sym pruned.is_cut) in
+    cuts.agrees (λ j. rest order (f.has p) i j && (f.has p j && but i j)) (λ j. f.has p j && but i j)
+    (within_rest (f.count g.size) order (f.has p) i is_order small)
+    ∙ sym (cuts.again (f.has p) (but i)) ∙ ap (λ (q : P). f.cut q (but i)) (sym pruned.is_cut) in
     let solved : (h : GridValue) → Solves (f.puzzle (rest_puzzle f g order p i)) h → Solves (f.puzzle (f.cut p (but i))) h = λ h s.
-        subst (λ (q : P). Solves (f.puzzle q) h) fewer
-        (cuts.loses_none (rest order (f.has p) i) (λ j. f.has p j && but i j) h s) in
+    subst (λ (q : P). Solves (f.puzzle q) h) fewer
+    (cuts.loses_none (rest order (f.has p) i) (λ j. f.has p j && but i j) h s) in
     record {
       first = two.first;
       second = two.second;

@@ -14,3 +14,6 @@ mod seeded_square;
 pub use gen_fault::GenFault;
 pub use generator::generate;
 pub use seeded_square::square;
+
+#[cfg(test)]
+mod tests;

@@ -27,7 +27,12 @@ pub(crate) fn draw_square<R: Rng>(size: Size, rng: &mut R) -> Grid
     let rows = draw_items(rng, width);
     let columns = draw_items(rng, width);
     let symbols = draw_items(rng, width);
-    combine(size, rows.as_slice(), columns.as_slice(), symbols.as_slice())
+    combine(
+        size,
+        rows.as_slice(),
+        columns.as_slice(),
+        symbols.as_slice(),
+    )
 }
 
 // The square with the symbol at place (rows[r] + columns[c]) mod w in row r, column c.

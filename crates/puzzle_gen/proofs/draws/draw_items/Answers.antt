@@ -1,6 +1,5 @@
-use Rattle.std.proofs.Common.{◌≡◌, ℕ, ◌∙◌, List, length, ap, sym, subst, arith}
-use Rattle.std.specs.List.{range_with_len, refill}
-use Rattle.rand_core.specs.Stream.{Stream}
+use Rattle.std.proofs.Common.{◌≡◌, ℕ, ◌∙◌, List, length, ap, sym, subst}
+use Rattle.std.specs.List.{range_with_len}
 use Rattle.puzzle_gen.specs.Orders.{IsOrder}
 use Rattle.puzzle_gen.specs.SeededSquares.{drawn_order}
 use Rattle.puzzle_gen.proofs.OrderPlaces.{length_range_made, refill_whole}

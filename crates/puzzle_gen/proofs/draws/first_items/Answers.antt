@@ -1,5 +1,4 @@
-use Rattle.std.proofs.Common.{◌≡◌, ℕ, ◌<◌, List, ◌++◌, ◌∷◌, [], length, ap, ◌∙◌, sym, arith, lit<}
-use Rattle.std.specs.List.{range_with_len}
+use Rattle.std.proofs.Common.{ℕ, List, ◌++◌, ◌∷◌, [], ap, ◌∙◌, sym, arith, lit<}
 use Rattle.puzzle_gen.proofs.OrderPlaces.{length_range_made, range_more}
 use Rattle.puzzle_gen.proofs.draws.first_items.Goals as goal
 
