@@ -2,3 +2,4 @@ pub mod OrderPlaces
 pub mod CombinedSquares
 pub mod ItemLaws
 pub mod PruningSteps
+pub mod GeneratedOnce

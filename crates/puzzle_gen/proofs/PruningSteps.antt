@@ -1,7 +1,7 @@
 -- How the pruned puzzle comes about, item by item, and that there is just one.
 use Rattle.std.proofs.Common.{◌≡◌, ◌≢◌, ◌↔◌, ℕ, zero, suc, ◌+◌, ◌<◌, ◌≤◌, Bool, true, false, not, ◌&&◌, eqb, List, get_or, IsTrue, inl, inr, refl, sym, ◌∙◌, ap, subst, arith, eq-eqb}
 use Rattle.std.proofs.lemmas.Bool.{cases_eq, cases_order, ne_eqb, lt-ltb, le-ltb}
-use Rattle.latin_board.specs.Squares.{GridValue}
+use Rattle.latin_board.specs.Squares.{GridValue, IsGrid, IsLatin}
 use Rattle.latin_board.specs.Sameness.{same_grid, same_grid_decides}
 use Rattle.trail_solver.specs.Puzzles.{Puzzle, Solves}
 use Rattle.puzzle_gen.specs.Orders.{place_in, IsOrder}
@@ -208,8 +208,11 @@ pruned_goes {P} f g order k i p q cuts is_order small here so_far single gone =
     }
 
 -- all were tried
-pub pruned_all : {P : Type 0} (f : Items P) (g : GridValue) (order : List ℕ) (k : ℕ) (p : P) → IsOrder (f.count g.size) order → f.count g.size ≤ k → IsPrunedTo f g order k p → IsPruned f g order p
-pruned_all f g order k p is_order whole so_far = record {
+pub pruned_all : {P : Type 0} (f : Items P) (g : GridValue) (order : List ℕ) (k : ℕ) (p : P) → IsGrid g → IsLatin g → IsOrder (f.count g.size) order → f.count g.size ≤ k → IsPrunedTo f g order k p → IsPruned f g order p
+pruned_all f g order k p grid latin is_order whole so_far = record {
+  is_grid = grid;
+  is_latin = latin;
+  is_order = is_order;
   is_cut = so_far.is_cut;
   each = λ i small. so_far.tried i small (omega (arith, is_order.inside i small));
 }
@@ -222,32 +225,32 @@ same_bool true false A first second = sym (second.1 (first.0 refl))
 same_bool false true A first second = first.1 (second.0 refl)
 same_bool false false A first second = refl
 
-same_kept : {P : Type 0} (f : Items P) (g : GridValue) (order : List ℕ) (p q : P) → AreCuts f g → IsOrder (f.count g.size) order → IsPruned f g order p → IsPruned f g order q → (k i : ℕ) → i < f.count g.size → place_in i order < k → f.has p i ≡ f.has q i
-same_kept f g order p q cuts is_order first second zero i small before = absurd (omega arith)
-same_kept {P} f g order p q cuts is_order first second (suc k) i small before =
+same_kept : {P : Type 0} (f : Items P) (g : GridValue) (order : List ℕ) (p q : P) → AreCuts f g → IsPruned f g order p → IsPruned f g order q → (k i : ℕ) → i < f.count g.size → place_in i order < k → f.has p i ≡ f.has q i
+same_kept f g order p q cuts first second zero i small before = absurd (omega arith)
+same_kept {P} f g order p q cuts first second (suc k) i small before =
     let same : rest_puzzle f g order p i ≡ rest_puzzle f g order q i =
     cuts.agrees (rest order (f.has p) i) (rest order (f.has q) i)
-    (rest_agrees (f.count g.size) order (f.has p) (f.has q) i is_order small
-    (λ j small_j earlier. same_kept f g order p q cuts is_order first second k j small_j (omega arith))) in
+    (rest_agrees (f.count g.size) order (f.has p) (f.has q) i first.is_order small
+    (λ j small_j earlier. same_kept f g order p q cuts first second k j small_j (omega arith))) in
     let Rest : P → Type 0 = λ r. IsTrue (f.has q i) ↔ HasTwo (f.puzzle r) in
     same_bool (f.has p i) (f.has q i) (HasTwo (f.puzzle (rest_puzzle f g order p i))) (first.each i small)
     (subst Rest (sym same) (second.each i small))
 
-pub pruned_one : {P : Type 0} (f : Items P) (g : GridValue) (order : List ℕ) (p q : P) → AreCuts f g → IsOrder (f.count g.size) order → IsPruned f g order p → IsPruned f g order q → p ≡ q
-pruned_one f g order p q cuts is_order first second =
+pub pruned_one : {P : Type 0} (f : Items P) (g : GridValue) (order : List ℕ) (p q : P) → AreCuts f g → IsPruned f g order p → IsPruned f g order q → p ≡ q
+pruned_one f g order p q cuts first second =
     first.is_cut
     ∙ cuts.agrees (f.has p) (f.has q)
-    (λ i small. same_kept f g order p q cuts is_order first second (f.count g.size) i small (is_order.inside i small))
+    (λ i small. same_kept f g order p q cuts first second (f.count g.size) i small (first.is_order.inside i small))
     ∙ sym second.is_cut
 
 -- ---- without any item that is kept there are two solutions
 
-pub pruned_needed : {P : Type 0} (f : Items P) (g : GridValue) (order : List ℕ) (p : P) → AreCuts f g → IsOrder (f.count g.size) order → IsPruned f g order p → (i : ℕ) → i < f.count g.size → IsTrue (f.has p i) → HasTwo (f.puzzle (f.cut p (but i)))
-pruned_needed {P} f g order p cuts is_order pruned i small there =
+pub pruned_needed : {P : Type 0} (f : Items P) (g : GridValue) (order : List ℕ) (p : P) → AreCuts f g → IsPruned f g order p → (i : ℕ) → i < f.count g.size → IsTrue (f.has p i) → HasTwo (f.puzzle (f.cut p (but i)))
+pruned_needed {P} f g order p cuts pruned i small there =
     let two = (pruned.each i small).0 there in
     let fewer : f.cut (f.full g) (λ j. rest order (f.has p) i j && (f.has p j && but i j)) ≡ f.cut p (but i) =
     cuts.agrees (λ j. rest order (f.has p) i j && (f.has p j && but i j)) (λ j. f.has p j && but i j)
-    (within_rest (f.count g.size) order (f.has p) i is_order small)
+    (within_rest (f.count g.size) order (f.has p) i pruned.is_order small)
     ∙ sym (cuts.again (f.has p) (but i)) ∙ ap (λ (q : P). f.cut q (but i)) (sym pruned.is_cut) in
     let solved : (h : GridValue) → Solves (f.puzzle (rest_puzzle f g order p i)) h → Solves (f.puzzle (f.cut p (but i))) h = λ h s.
     subst (λ (q : P). Solves (f.puzzle q) h) fewer

@@ -1,8 +1,8 @@
 -- The pruned puzzle of a Latin square and an order of the items.
 use Rattle.std.specs.Prelude.{◌≡◌, ◌≢◌, ◌↔◌, ℕ, ◌<◌, Bool, nat_lt, if◌then◌else◌, List, IsTrue}
-use Rattle.latin_board.specs.Squares.{GridValue}
+use Rattle.latin_board.specs.Squares.{GridValue, IsGrid, IsLatin}
 use Rattle.trail_solver.specs.Puzzles.{Puzzle, Solves}
-use Rattle.puzzle_gen.specs.Orders.{place_in}
+use Rattle.puzzle_gen.specs.Orders.{place_in, IsOrder}
 
 -- the items of a kind of puzzles: how many a size can have, which a puzzle has, a puzzle without those outside a set, and
 -- the puzzle of a Latin square that has them all
@@ -39,7 +39,11 @@ rest order keep i j =
 abbrev pub rest_puzzle : {P : Type 0} → Items P → GridValue → List ℕ → P → ℕ → P
 rest_puzzle f g order p i = f.cut (f.full g) (rest order (f.has p) i)
 
--- a cut of the square's full puzzle that has an item exactly where the rest has two different solutions
+-- the pruned puzzle of a Latin square and an order of its items: a cut of the square's full puzzle that has an item exactly
+-- where the rest has two different solutions
 pub record IsPruned {P : Type 0} (f : Items P) (g : GridValue) (order : List ℕ) (p : P) : Type 0 where
+  pub is_grid : IsGrid g
+  pub is_latin : IsLatin g
+  pub is_order : IsOrder (f.count g.size) order
   pub is_cut : p ≡ f.cut (f.full g) (f.has p)
   pub each : (i : ℕ) → i < f.count g.size → IsTrue (f.has p i) ↔ HasTwo (f.puzzle (rest_puzzle f g order p i))

@@ -79,11 +79,13 @@ loop-k-preserved g c =
 pub returns-clause-just_one : goal.returns-clause-just_one
 returns-clause-just_one g c = λ other pruned.
     pruned_one (items g) c.args.grid.now c.args.order.now other c.loop-k.puzzle
-    (cuts g c.args.grid.now c.size-size.ensures.valid c.requires.latin) c.requires.order pruned
-    (pruned_all (items g) c.args.grid.now c.args.order.now c.loop-k.k c.loop-k.puzzle c.requires.order (omega arith) c.loop-k.invariant.pruned)
+    (cuts g c.args.grid.now c.size-size.ensures.valid c.requires.latin) pruned
+    (pruned_all (items g) c.args.grid.now c.args.order.now c.loop-k.k c.loop-k.puzzle c.size-size.ensures.valid c.requires.latin
+    c.requires.order (omega arith) c.loop-k.invariant.pruned)
 
 pub returns-clause-needed : goal.returns-clause-needed
 returns-clause-needed g c =
     pruned_needed (items g) c.args.grid.now c.args.order.now c.loop-k.puzzle
-    (cuts g c.args.grid.now c.size-size.ensures.valid c.requires.latin) c.requires.order
-    (pruned_all (items g) c.args.grid.now c.args.order.now c.loop-k.k c.loop-k.puzzle c.requires.order (omega arith) c.loop-k.invariant.pruned)
+    (cuts g c.args.grid.now c.size-size.ensures.valid c.requires.latin)
+    (pruned_all (items g) c.args.grid.now c.args.order.now c.loop-k.k c.loop-k.puzzle c.size-size.ensures.valid c.requires.latin
+    c.requires.order (omega arith) c.loop-k.invariant.pruned)
