@@ -5,7 +5,7 @@ use Rattle.latin_board.specs.Squares.{GridValue, IsGrid, IsLatin}
 use Rattle.latin_board.specs.Sameness.{same_grid, same_grid_decides}
 use Rattle.trail_solver.specs.Puzzles.{Puzzle, Solves}
 use Rattle.puzzle_gen.specs.Orders.{place_in, IsOrder}
-use Rattle.puzzle_gen.specs.Pruning.{Items, HasTwo, IsOnlySolution, IsPruned, rest, rest_puzzle}
+use Rattle.puzzle_gen.specs.Pruning.{Items, HasTwo, IsOnlySolution, IsPruned, IsPrunedTo, rest, rest_puzzle}
 use Rattle.puzzle_gen.proofs.ItemLaws.{AreCuts}
 
 -- all items but one
@@ -113,14 +113,6 @@ only_of_not_two p g s single = record {
 }
 
 -- ---- the pruning
-
--- the first k items of the order were tried
-pub record IsPrunedTo {P : Type 0} (f : Items P) (g : GridValue) (order : List ℕ) (k : ℕ) (p : P) : Type 0 where
-  pub is_cut : p ≡ f.cut (f.full g) (f.has p)
-  pub tried : (i : ℕ) → i < f.count g.size → place_in i order < k
-      → IsTrue (f.has p i) ↔ HasTwo (f.puzzle (rest_puzzle f g order p i))
-  pub untried : (i : ℕ) → i < f.count g.size → k ≤ place_in i order → f.has p i ≡ true
-  pub only : IsOnlySolution (f.puzzle p) g
 
 -- the full puzzle, before any
 pub pruned_none : {P : Type 0} (f : Items P) (g : GridValue) (order : List ℕ) → AreCuts f g → IsPrunedTo f g order 0 (f.full g)

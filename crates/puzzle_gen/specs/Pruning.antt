@@ -1,5 +1,5 @@
 -- The pruned puzzle of a Latin square and an order of the items.
-use Rattle.std.specs.Prelude.{◌≡◌, ◌≢◌, ◌↔◌, ℕ, ◌<◌, Bool, nat_lt, if◌then◌else◌, List, IsTrue}
+use Rattle.std.specs.Prelude.{◌≡◌, ◌≢◌, ◌↔◌, ℕ, ◌<◌, ◌≤◌, Bool, true, nat_lt, if◌then◌else◌, List, IsTrue}
 use Rattle.latin_board.specs.Squares.{GridValue, IsGrid, IsLatin}
 use Rattle.trail_solver.specs.Puzzles.{Puzzle, Solves}
 use Rattle.puzzle_gen.specs.Orders.{place_in, IsOrder}
@@ -47,3 +47,11 @@ pub record IsPruned {P : Type 0} (f : Items P) (g : GridValue) (order : List ℕ
   pub is_order : IsOrder (f.count g.size) order
   pub is_cut : p ≡ f.cut (f.full g) (f.has p)
   pub each : (i : ℕ) → i < f.count g.size → IsTrue (f.has p i) ↔ HasTwo (f.puzzle (rest_puzzle f g order p i))
+
+-- what stands when the first k items of the order were tried
+pub record IsPrunedTo {P : Type 0} (f : Items P) (g : GridValue) (order : List ℕ) (k : ℕ) (p : P) : Type 0 where
+  pub is_cut : p ≡ f.cut (f.full g) (f.has p)
+  pub tried : (i : ℕ) → i < f.count g.size → place_in i order < k
+      → IsTrue (f.has p i) ↔ HasTwo (f.puzzle (rest_puzzle f g order p i))
+  pub untried : (i : ℕ) → i < f.count g.size → k ≤ place_in i order → f.has p i ≡ true
+  pub only : IsOnlySolution (f.puzzle p) g

@@ -1,9 +1,9 @@
 //! The removal of items: each is tried once, and goes where the rest still has just one solution.
 
-ghost use Rattle.std.specs.Prelude.{◌≡◌, ℕ, ◌<◌, ◌==◌, not, ◌⊎◌, IsTrue};
+ghost use Rattle.std.specs.Prelude.{◌≡◌, ℕ, ◌+◌, ◌<◌, ◌==◌, not, ◌⊎◌, List, length, slice_index, IsTrue};
 ghost use Rattle.latin_board.specs.Squares.{IsLatin};
 ghost use Rattle.puzzle_gen.specs.Orders.{IsOrder};
-ghost use Rattle.puzzle_gen.specs.Pruning.{HasTwo, IsOnlySolution, IsPruned, items_by};
+ghost use Rattle.puzzle_gen.specs.Pruning.{HasTwo, IsOnlySolution, IsPruned, IsPrunedTo, items_by};
 
 use latin_board::Grid;
 use trail_solver::{Answer, Rules, solve};
@@ -22,11 +22,58 @@ pub(crate) fn pruned<P: Rules>(grid: &Grid, order: &[u8]) -> P
     ensures size { (P.puzzle result).size ≡ grid.now.size }
 {
     let _size = grid.size();
-    let mut puzzle = P::full(grid);
+    all_tried(grid, order)
+}
+
+// The puzzle that is left when every item was tried.
+fn all_tried<P: Rules>(grid: &Grid, order: &[u8]) -> P
+    requires latin { IsLatin grid.now }
+    requires order { IsOrder (P.items_of grid.now.size) order.now }
+    ensures pruned { IsPrunedTo (items_by P.puzzle P.items_of P.has P.cut P.full_of)
+        grid.now order.now (P.items_of grid.now.size) result }
+    ensures valid { P.valid result }
+    ensures size { (P.puzzle result).size ≡ grid.now.size }
+{
+    let mut puzzle = full_puzzle(grid);
     for k in 0..order.len() {
-        puzzle = tried(puzzle, order[k] as usize);
+        puzzle = next_tried(puzzle, grid, order, k);
     }
     puzzle
+}
+
+// The puzzle before any item is tried.
+fn full_puzzle<P: Rules>(grid: &Grid) -> P
+    requires { IsLatin grid.now }
+    ensures pruned { (order : List ℕ)
+        → IsPrunedTo (items_by P.puzzle P.items_of P.has P.cut P.full_of) grid.now order 0 result }
+    ensures valid { P.valid result }
+    ensures size { (P.puzzle result).size ≡ grid.now.size }
+{
+    let _size = grid.size();
+    P::full(grid)
+}
+
+// The puzzle that is left when the item at place k is tried too.
+fn next_tried<P: Rules>(puzzle: P, grid: &Grid, order: &[u8], k: usize) -> P
+    requires latin { IsLatin grid.now }
+    requires order { IsOrder (P.items_of grid.now.size) order.now }
+    requires place { k < length order.now }
+    requires so_far { IsPrunedTo (items_by P.puzzle P.items_of P.has P.cut P.full_of) grid.now order.now k puzzle }
+    requires size { (P.puzzle puzzle).size ≡ grid.now.size }
+    ensures pruned { IsPrunedTo (items_by P.puzzle P.items_of P.has P.cut P.full_of) grid.now order.now (k + 1) result }
+    ensures valid { P.valid result }
+    ensures size { (P.puzzle result).size ≡ grid.now.size }
+{
+    let _sizes = (grid.size(), puzzle.size());
+    tried(puzzle, item_at(order, k))
+}
+
+// The item that is tried at place k.
+fn item_at(order: &[u8], k: usize) -> usize
+    requires { k < length order.now }
+    ensures { result ≡ slice_index order.now k }
+{
+    order[k] as usize
 }
 
 // The puzzle without the item, where that has just one solution, or else the puzzle itself.

@@ -1,8 +1,8 @@
-use Rattle.std.proofs.Common.{◌≡◌, ◌+◌, ◌<◌, get_or, inl, inr, sym, ◌∙◌, subst, arith}
+use Rattle.std.proofs.Common.{◌≡◌, ℕ, ◌≤◌, arith}
 use Rattle.latin_board.specs.Squares.{GridValue, IsGrid, IsLatin}
-use Rattle.puzzle_gen.specs.Pruning.{Items, items_by}
+use Rattle.puzzle_gen.specs.Pruning.{Items, IsPruned, IsPrunedTo, items_by}
 use Rattle.puzzle_gen.proofs.ItemLaws.{ItemLaws, AreCuts, cuts_of_full}
-use Rattle.puzzle_gen.proofs.PruningSteps.{IsPrunedTo, but, pruned_none, pruned_stays, pruned_goes, pruned_all, pruned_one, pruned_needed}
+use Rattle.puzzle_gen.proofs.PruningSteps.{pruned_all, pruned_one, pruned_needed}
 use Rattle.puzzle_gen.proofs.pruning.pruned.Given.{Over}
 use Rattle.puzzle_gen.proofs.pruning.pruned.Goals as goal
 
@@ -31,61 +31,17 @@ laws g =
 cuts : (g : Over) (square : GridValue) → IsGrid square → IsLatin square → AreCuts (items g) square
 cuts g square grid latin = cuts_of_full (items g) g.P.Rules.valid square (laws g) grid latin
 
-pub loop-k-init : goal.loop-k-init
-loop-k-init g c =
-    let square = c.args.grid.now in
-    let grid = c.size-size.ensures.valid in
-    let latin = c.requires.latin in
-    let full = sym c.full-puzzle.ensures in
-    let family = cuts g square grid latin in
-    let Start : g.row.P.Denot → Type 0 = λ p. IsPrunedTo (items g) square c.args.order.now 0 p in
-    let Size : g.row.P.Denot → Type 0 = λ p. (g.P.Rules.puzzle p).size ≡ square.size in
-    record {
-      pruned = subst Start full (pruned_none (items g) square c.args.order.now family);
-      size = subst Size full (g.met.P.Rules.full_size square grid latin);
-      valid = subst g.P.Rules.valid full (g.met.P.Rules.full_valid square grid latin);
-    }
-
-pub loop-k-preserved : goal.loop-k-preserved
-loop-k-preserved g c =
-    let square = c.args.grid.now in
-    let order = c.args.order.now in
-    let k = c.loop-k.k in
-    let is_order = c.requires.order in
-    let so_far = c.loop-k.invariant in
-    let family = cuts g square c.size-size.ensures.valid c.requires.latin in
-    let within : k < g.P.Rules.items_of square.size = omega arith in
-    let small = is_order.items k within in
-    let here = is_order.places k within in
-    elim c.tried-puzzle.ensures [
-      | inl stays ↦
-          let To : g.row.P.Denot → Type 0 = λ p. IsPrunedTo (items g) square order (k + 1) p in
-          let Size : g.row.P.Denot → Type 0 = λ p. (g.P.Rules.puzzle p).size ≡ square.size in
-          record {
-            pruned = subst To (sym stays.0)
-                (pruned_stays (items g) square order k (get_or order k 0) c.loop-k.puzzle family is_order small here so_far.pruned stays.1);
-            size = subst Size (sym stays.0) so_far.size;
-            valid = subst g.P.Rules.valid (sym stays.0) so_far.valid;
-          }
-      | inr goes ↦
-          let Size : g.row.P.Denot → Type 0 = λ p. (g.P.Rules.puzzle p).size ≡ square.size in
-          record {
-            pruned = pruned_goes (items g) square order k (get_or order k 0) c.loop-k.puzzle c.tried-puzzle.result family is_order small here so_far.pruned goes.1 goes.0;
-            size = subst Size (sym goes.0) (g.met.P.Rules.cut_size c.loop-k.puzzle (but (get_or order k 0)) so_far.valid ∙ so_far.size);
-            valid = subst g.P.Rules.valid (sym goes.0) (g.met.P.Rules.cut_valid c.loop-k.puzzle (but (get_or order k 0)) so_far.valid);
-          }
-    ]
+pub returns-clause-pruned : goal.returns-clause-pruned
+returns-clause-pruned g c =
+    pruned_all (items g) c.args.grid.now c.args.order.now (g.P.Rules.items_of c.args.grid.now.size) c.all_tried.result
+    c.size-size.ensures.valid c.requires.latin c.requires.order (omega arith) c.all_tried.ensures.pruned
 
 pub returns-clause-just_one : goal.returns-clause-just_one
 returns-clause-just_one g c = λ other pruned.
-    pruned_one (items g) c.args.grid.now c.args.order.now other c.loop-k.puzzle
-    (cuts g c.args.grid.now c.size-size.ensures.valid c.requires.latin) pruned
-    (pruned_all (items g) c.args.grid.now c.args.order.now c.loop-k.k c.loop-k.puzzle c.size-size.ensures.valid c.requires.latin
-    c.requires.order (omega arith) c.loop-k.invariant.pruned)
+    pruned_one (items g) c.args.grid.now c.args.order.now other c.all_tried.result
+    (cuts g c.args.grid.now c.size-size.ensures.valid c.requires.latin) pruned (returns-clause-pruned g c)
 
 pub returns-clause-needed : goal.returns-clause-needed
 returns-clause-needed g c =
-    pruned_needed (items g) c.args.grid.now c.args.order.now c.loop-k.puzzle
-    (cuts g c.args.grid.now c.size-size.ensures.valid c.requires.latin)
-    (pruned_all (items g) c.args.grid.now c.args.order.now c.loop-k.k c.loop-k.puzzle c.size-size.ensures.valid c.requires.latin
-    c.requires.order (omega arith) c.loop-k.invariant.pruned)
+    pruned_needed (items g) c.args.grid.now c.args.order.now c.all_tried.result
+    (cuts g c.args.grid.now c.size-size.ensures.valid c.requires.latin) (returns-clause-pruned g c)

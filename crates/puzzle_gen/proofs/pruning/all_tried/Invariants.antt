@@ -1,7 +1,6 @@
 use Rattle.std.proofs.Common.{◌≡◌}
-use Rattle.puzzle_gen.specs.Pruning.{items_by}
-use Rattle.puzzle_gen.proofs.PruningSteps.{IsPrunedTo}
-use Rattle.puzzle_gen.proofs.pruning.pruned.Given as goal
+use Rattle.puzzle_gen.specs.Pruning.{IsPrunedTo, items_by}
+use Rattle.puzzle_gen.proofs.pruning.all_tried.Given as goal
 
 abbrev pub invariant-loop-k : goal.invariant-loop-k
 invariant-loop-k g l = record {
