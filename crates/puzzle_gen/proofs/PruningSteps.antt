@@ -4,9 +4,9 @@ use Rattle.std.proofs.lemmas.Bool.{cases_eq, cases_order, ne_eqb, lt-ltb, le-ltb
 use Rattle.latin_board.specs.Squares.{GridValue, IsGrid, IsLatin}
 use Rattle.latin_board.specs.Sameness.{same_grid, same_grid_decides}
 use Rattle.trail_solver.specs.Puzzles.{Puzzle, Solves}
+use Rattle.trail_solver.specs.declared.rules.Rules.{Ghosts}
 use Rattle.puzzle_gen.specs.Orders.{place_in, IsOrder}
-use Rattle.puzzle_gen.specs.Pruning.{Items, HasTwo, IsOnlySolution, IsPruned, IsPrunedTo, rest, rest_puzzle}
-use Rattle.puzzle_gen.proofs.ItemLaws.{AreCuts}
+use Rattle.puzzle_gen.specs.Pruning.{AreCuts, HasTwo, IsOnlySolution, IsPruned, IsPrunedTo, rest, rest_puzzle}
 
 -- all items but one
 abbrev pub but : ℕ → ℕ → Bool
@@ -115,31 +115,31 @@ only_of_not_two p g s single = record {
 -- ---- the pruning
 
 -- the full puzzle, before any
-pub pruned_none : {P : Type 0} (f : Items P) (g : GridValue) (order : List ℕ) → AreCuts f g → IsPrunedTo f g order 0 (f.full g)
+pub pruned_none : {P : Type 0} (f : Ghosts P) (g : GridValue) (order : List ℕ) → AreCuts f g → IsPrunedTo f g order 0 (f.full_of g)
 pruned_none f g order cuts =
-    let has_full : (i : ℕ) → i < f.count g.size → f.has (f.full g) i ≡ true =
+    let has_full : (i : ℕ) → i < f.items_of g.size → f.has (f.full_of g) i ≡ true =
     λ i below. ap (λ (p : _). f.has p i) (sym cuts.all) ∙ cuts.has_cut (λ j. true) i below in
     record {
-      is_cut = sym cuts.all ∙ cuts.agrees (λ i. true) (f.has (f.full g)) (λ i below. sym (has_full i below));
+      is_cut = sym cuts.all ∙ cuts.agrees (λ i. true) (f.has (f.full_of g)) (λ i below. sym (has_full i below));
       tried = λ i below before. absurd (omega arith);
       untried = λ i below after. has_full i below;
       only = cuts.only_full;
     }
 
 -- the puzzle without the next item is the rest
-next_is_rest : {P : Type 0} (f : Items P) (g : GridValue) (order : List ℕ) (k i : ℕ) (p : P) → AreCuts f g → IsOrder (f.count g.size) order → i < f.count g.size → place_in i order ≡ k → IsPrunedTo f g order k p → f.cut p (but i) ≡ rest_puzzle f g order p i
+next_is_rest : {P : Type 0} (f : Ghosts P) (g : GridValue) (order : List ℕ) (k i : ℕ) (p : P) → AreCuts f g → IsOrder (f.items_of g.size) order → i < f.items_of g.size → place_in i order ≡ k → IsPrunedTo f g order k p → f.cut p (but i) ≡ rest_puzzle f g order p i
 next_is_rest {P} f g order k i p cuts is_order small here so_far =
     ap (λ (q : P). f.cut q (but i)) so_far.is_cut ∙ cuts.again (f.has p) (but i)
     ∙ cuts.agrees (λ j. f.has p j && but i j) (rest order (f.has p) i)
-    (rest_is_but (f.count g.size) order (f.has p) i is_order small (λ j small_j after. so_far.untried j small_j (omega arith)))
+    (rest_is_but (f.items_of g.size) order (f.has p) i is_order small (λ j small_j after. so_far.untried j small_j (omega arith)))
 
 -- an item without which there are two solutions stays
-pub pruned_stays : {P : Type 0} (f : Items P) (g : GridValue) (order : List ℕ) (k i : ℕ) (p : P) → AreCuts f g → IsOrder (f.count g.size) order → i < f.count g.size → place_in i order ≡ k → IsPrunedTo f g order k p → HasTwo (f.puzzle (f.cut p (but i))) → IsPrunedTo f g order (k + 1) p
+pub pruned_stays : {P : Type 0} (f : Ghosts P) (g : GridValue) (order : List ℕ) (k i : ℕ) (p : P) → AreCuts f g → IsOrder (f.items_of g.size) order → i < f.items_of g.size → place_in i order ≡ k → IsPrunedTo f g order k p → HasTwo (f.puzzle (f.cut p (but i))) → IsPrunedTo f g order (k + 1) p
 pruned_stays {P} f g order k i p cuts is_order small here so_far two = record {
   is_cut = so_far.is_cut;
   tried = λ j small_j before. elim (cases_eq (place_in j order) k) [
     | inl last ↦
-        let itself : j ≡ i = place_apart (f.count g.size) order is_order j i small_j small (last ∙ sym here) in
+        let itself : j ≡ i = place_apart (f.items_of g.size) order is_order j i small_j small (last ∙ sym here) in
         let Tried : ℕ → Type 0 = λ l. IsTrue (f.has p l) ↔ HasTwo (f.puzzle (rest_puzzle f g order p l)) in
         let Two : P → Type 0 = λ q. HasTwo (f.puzzle q) in
         subst Tried (sym itself) (
@@ -153,10 +153,10 @@ pruned_stays {P} f g order k i p cuts is_order small here so_far two = record {
 }
 
 -- any other goes
-pub pruned_goes : {P : Type 0} (f : Items P) (g : GridValue) (order : List ℕ) (k i : ℕ) (p q : P) → AreCuts f g → IsOrder (f.count g.size) order → i < f.count g.size → place_in i order ≡ k → IsPrunedTo f g order k p → (HasTwo (f.puzzle (f.cut p (but i))) → ⊥) → q ≡ f.cut p (but i) → IsPrunedTo f g order (k + 1) q
+pub pruned_goes : {P : Type 0} (f : Ghosts P) (g : GridValue) (order : List ℕ) (k i : ℕ) (p q : P) → AreCuts f g → IsOrder (f.items_of g.size) order → i < f.items_of g.size → place_in i order ≡ k → IsPrunedTo f g order k p → (HasTwo (f.puzzle (f.cut p (but i))) → ⊥) → q ≡ f.cut p (but i) → IsPrunedTo f g order (k + 1) q
 pruned_goes {P} f g order k i p q cuts is_order small here so_far single gone =
-    let n = f.count g.size in
-    let cut : q ≡ f.cut (f.full g) (λ j. f.has p j && but i j) =
+    let n = f.items_of g.size in
+    let cut : q ≡ f.cut (f.full_of g) (λ j. f.has p j && but i j) =
     gone ∙ ap (λ (r : P). f.cut r (but i)) so_far.is_cut ∙ cuts.again (f.has p) (but i) in
     let kept : (j : ℕ) → j < n → f.has q j ≡ (f.has p j && but i j) = λ j small_j.
     ap (λ (r : P). f.has r j) cut ∙ cuts.has_cut (λ l. f.has p l && but i l) j small_j in
@@ -200,7 +200,7 @@ pruned_goes {P} f g order k i p q cuts is_order small here so_far single gone =
     }
 
 -- all were tried
-pub pruned_all : {P : Type 0} (f : Items P) (g : GridValue) (order : List ℕ) (k : ℕ) (p : P) → IsGrid g → IsLatin g → IsOrder (f.count g.size) order → f.count g.size ≤ k → IsPrunedTo f g order k p → IsPruned f g order p
+pub pruned_all : {P : Type 0} (f : Ghosts P) (g : GridValue) (order : List ℕ) (k : ℕ) (p : P) → IsGrid g → IsLatin g → IsOrder (f.items_of g.size) order → f.items_of g.size ≤ k → IsPrunedTo f g order k p → IsPruned f g order p
 pruned_all f g order k p grid latin is_order whole so_far = record {
   is_grid = grid;
   is_latin = latin;
@@ -217,32 +217,32 @@ same_bool true false A first second = sym (second.1 (first.0 refl))
 same_bool false true A first second = first.1 (second.0 refl)
 same_bool false false A first second = refl
 
-same_kept : {P : Type 0} (f : Items P) (g : GridValue) (order : List ℕ) (p q : P) → AreCuts f g → IsPruned f g order p → IsPruned f g order q → (k i : ℕ) → i < f.count g.size → place_in i order < k → f.has p i ≡ f.has q i
+same_kept : {P : Type 0} (f : Ghosts P) (g : GridValue) (order : List ℕ) (p q : P) → AreCuts f g → IsPruned f g order p → IsPruned f g order q → (k i : ℕ) → i < f.items_of g.size → place_in i order < k → f.has p i ≡ f.has q i
 same_kept f g order p q cuts first second zero i small before = absurd (omega arith)
 same_kept {P} f g order p q cuts first second (suc k) i small before =
     let same : rest_puzzle f g order p i ≡ rest_puzzle f g order q i =
     cuts.agrees (rest order (f.has p) i) (rest order (f.has q) i)
-    (rest_agrees (f.count g.size) order (f.has p) (f.has q) i first.is_order small
+    (rest_agrees (f.items_of g.size) order (f.has p) (f.has q) i first.is_order small
     (λ j small_j earlier. same_kept f g order p q cuts first second k j small_j (omega arith))) in
     let Rest : P → Type 0 = λ r. IsTrue (f.has q i) ↔ HasTwo (f.puzzle r) in
     same_bool (f.has p i) (f.has q i) (HasTwo (f.puzzle (rest_puzzle f g order p i))) (first.each i small)
     (subst Rest (sym same) (second.each i small))
 
-pub pruned_one : {P : Type 0} (f : Items P) (g : GridValue) (order : List ℕ) (p q : P) → AreCuts f g → IsPruned f g order p → IsPruned f g order q → p ≡ q
+pub pruned_one : {P : Type 0} (f : Ghosts P) (g : GridValue) (order : List ℕ) (p q : P) → AreCuts f g → IsPruned f g order p → IsPruned f g order q → p ≡ q
 pruned_one f g order p q cuts first second =
     first.is_cut
     ∙ cuts.agrees (f.has p) (f.has q)
-    (λ i small. same_kept f g order p q cuts first second (f.count g.size) i small (first.is_order.inside i small))
+    (λ i small. same_kept f g order p q cuts first second (f.items_of g.size) i small (first.is_order.inside i small))
     ∙ sym second.is_cut
 
 -- ---- without any item that is kept there are two solutions
 
-pub pruned_needed : {P : Type 0} (f : Items P) (g : GridValue) (order : List ℕ) (p : P) → AreCuts f g → IsPruned f g order p → (i : ℕ) → i < f.count g.size → IsTrue (f.has p i) → HasTwo (f.puzzle (f.cut p (but i)))
+pub pruned_needed : {P : Type 0} (f : Ghosts P) (g : GridValue) (order : List ℕ) (p : P) → AreCuts f g → IsPruned f g order p → (i : ℕ) → i < f.items_of g.size → IsTrue (f.has p i) → HasTwo (f.puzzle (f.cut p (but i)))
 pruned_needed {P} f g order p cuts pruned i small there =
     let two = (pruned.each i small).0 there in
-    let fewer : f.cut (f.full g) (λ j. rest order (f.has p) i j && (f.has p j && but i j)) ≡ f.cut p (but i) =
+    let fewer : f.cut (f.full_of g) (λ j. rest order (f.has p) i j && (f.has p j && but i j)) ≡ f.cut p (but i) =
     cuts.agrees (λ j. rest order (f.has p) i j && (f.has p j && but i j)) (λ j. f.has p j && but i j)
-    (within_rest (f.count g.size) order (f.has p) i pruned.is_order small)
+    (within_rest (f.items_of g.size) order (f.has p) i pruned.is_order small)
     ∙ sym (cuts.again (f.has p) (but i)) ∙ ap (λ (q : P). f.cut q (but i)) (sym pruned.is_cut) in
     let solved : (h : GridValue) → Solves (f.puzzle (rest_puzzle f g order p i)) h → Solves (f.puzzle (f.cut p (but i))) h = λ h s.
     subst (λ (q : P). Solves (f.puzzle q) h) fewer

@@ -1,21 +1,9 @@
--- The pruned puzzle of a Latin square and an order of the items.
-use Rattle.std.specs.Prelude.{◌≡◌, ◌≢◌, ◌↔◌, ℕ, ◌<◌, ◌≤◌, Bool, true, nat_lt, if◌then◌else◌, List, IsTrue}
+-- The pruned puzzle of a Latin square and an order of the items, over the ghost members of `Rules`.
+use Rattle.std.specs.Prelude.{◌≡◌, ◌≢◌, ◌↔◌, ℕ, ◌<◌, ◌≤◌, Bool, true, nat_lt, ◌&&◌, if◌then◌else◌, List, IsTrue}
 use Rattle.latin_board.specs.Squares.{GridValue, IsGrid, IsLatin}
 use Rattle.trail_solver.specs.Puzzles.{Puzzle, Solves}
+use Rattle.trail_solver.specs.declared.rules.Rules.{Ghosts}
 use Rattle.puzzle_gen.specs.Orders.{place_in, IsOrder}
-
--- the items of a kind of puzzles: how many a size can have, which a puzzle has, a puzzle without those outside a set, and
--- the puzzle of a Latin square that has them all
-pub record Items (P : Type 0) : Type 0 where
-  pub puzzle : P → Puzzle
-  pub count : ℕ → ℕ
-  pub has : P → ℕ → Bool
-  pub cut : P → (ℕ → Bool) → P
-  pub full : GridValue → P
-
--- the same, of the ghost members of `Rules`
-abbrev pub items_by : {P : Type 0} → (P → Puzzle) → (ℕ → ℕ) → (P → ℕ → Bool) → (P → (ℕ → Bool) → P) → (GridValue → P) → Items P
-items_by puzzle count has cut full = record { puzzle = puzzle; count = count; has = has; cut = cut; full = full }
 
 -- two different grids solve the puzzle
 pub record HasTwo (p : Puzzle) : Type 0 where
@@ -36,22 +24,34 @@ rest order keep i j =
     if nat_lt (place_in j order) (place_in i order) then keep j else nat_lt (place_in i order) (place_in j order)
 
 -- the full puzzle of the square, cut down to those items
-abbrev pub rest_puzzle : {P : Type 0} → Items P → GridValue → List ℕ → P → ℕ → P
-rest_puzzle f g order p i = f.cut (f.full g) (rest order (f.has p) i)
+abbrev pub rest_puzzle : {P : Type 0} → Ghosts P → GridValue → List ℕ → P → ℕ → P
+rest_puzzle f g order p i = f.cut (f.full_of g) (rest order (f.has p) i)
 
 -- the pruned puzzle of a Latin square and an order of its items: a cut of the square's full puzzle that has an item exactly
 -- where the rest has two different solutions
-pub record IsPruned {P : Type 0} (f : Items P) (g : GridValue) (order : List ℕ) (p : P) : Type 0 where
+pub record IsPruned {P : Type 0} (f : Ghosts P) (g : GridValue) (order : List ℕ) (p : P) : Type 0 where
   pub is_grid : IsGrid g
   pub is_latin : IsLatin g
-  pub is_order : IsOrder (f.count g.size) order
-  pub is_cut : p ≡ f.cut (f.full g) (f.has p)
-  pub each : (i : ℕ) → i < f.count g.size → IsTrue (f.has p i) ↔ HasTwo (f.puzzle (rest_puzzle f g order p i))
+  pub is_order : IsOrder (f.items_of g.size) order
+  pub is_cut : p ≡ f.cut (f.full_of g) (f.has p)
+  pub each : (i : ℕ) → i < f.items_of g.size → IsTrue (f.has p i) ↔ HasTwo (f.puzzle (rest_puzzle f g order p i))
 
 -- what stands when the first k items of the order were tried
-pub record IsPrunedTo {P : Type 0} (f : Items P) (g : GridValue) (order : List ℕ) (k : ℕ) (p : P) : Type 0 where
-  pub is_cut : p ≡ f.cut (f.full g) (f.has p)
-  pub tried : (i : ℕ) → i < f.count g.size → place_in i order < k
+pub record IsPrunedTo {P : Type 0} (f : Ghosts P) (g : GridValue) (order : List ℕ) (k : ℕ) (p : P) : Type 0 where
+  pub is_cut : p ≡ f.cut (f.full_of g) (f.has p)
+  pub tried : (i : ℕ) → i < f.items_of g.size → place_in i order < k
       → IsTrue (f.has p i) ↔ HasTwo (f.puzzle (rest_puzzle f g order p i))
-  pub untried : (i : ℕ) → i < f.count g.size → k ≤ place_in i order → f.has p i ≡ true
+  pub untried : (i : ℕ) → i < f.items_of g.size → k ≤ place_in i order → f.has p i ≡ true
   pub only : IsOnlySolution (f.puzzle p) g
+
+-- the cuts of the full puzzle of a Latin square: each set of items gives one, which has just those items
+pub record AreCuts {P : Type 0} (f : Ghosts P) (g : GridValue) : Type 0 where
+  pub has_cut : (keep : ℕ → Bool) (i : ℕ) → i < f.items_of g.size → f.has (f.cut (f.full_of g) keep) i ≡ keep i
+  pub agrees : (a b : ℕ → Bool) → ((i : ℕ) → i < f.items_of g.size → a i ≡ b i) → f.cut (f.full_of g) a ≡ f.cut (f.full_of g) b
+  pub again : (a b : ℕ → Bool) → f.cut (f.cut (f.full_of g) a) b ≡ f.cut (f.full_of g) (λ i. a i && b i)
+  pub valid : (keep : ℕ → Bool) → f.valid (f.cut (f.full_of g) keep)
+  pub size : (keep : ℕ → Bool) → (f.puzzle (f.cut (f.full_of g) keep)).size ≡ g.size
+  pub all : f.cut (f.full_of g) (λ i. true) ≡ f.full_of g
+  pub loses_none : (a b : ℕ → Bool) (h : GridValue) → Solves (f.puzzle (f.cut (f.full_of g) a)) h
+      → Solves (f.puzzle (f.cut (f.full_of g) (λ i. a i && b i))) h
+  pub only_full : IsOnlySolution (f.puzzle (f.full_of g)) g

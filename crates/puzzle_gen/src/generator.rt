@@ -3,7 +3,7 @@
 ghost use Rattle.std.specs.Prelude.{◌≡◌, ℕ, ◌<◌, ◌≤◌, ◌==◌, not, Result, IfOk, IsTrue};
 ghost use Rattle.latin_board.specs.Squares.{IsLatin};
 ghost use Rattle.puzzle_gen.specs.SeededSquares.{drawn_order, square_of, trial_order};
-ghost use Rattle.puzzle_gen.specs.Pruning.{HasTwo, IsOnlySolution, IsPruned, items_by};
+ghost use Rattle.puzzle_gen.specs.Pruning.{HasTwo, IsOnlySolution, IsPruned};
 ghost use Rattle.puzzle_gen.specs.declared.gen_fault.GenFault.{GenFault};
 ghost use Rattle.puzzle_gen.specs.Generating.{Generates};
 
@@ -20,11 +20,11 @@ use trail_solver::Rules;
 ///
 /// Refused as `SizeTooLarge` where the size is above 6, or else as `Graded` where there is a letter. It takes no memory.
 pub fn generate<P: Game>(params: &Params, seed: u64) -> Result<P, GenFault>
-    ensures generates { Generates (items_by P.puzzle P.items_of P.has P.cut P.full_of) params.now seed result }
+    ensures generates { Generates ⟦<P as Rules>⟧ params.now seed result }
 
     // There is no other.
     ensures just_one { (other : Result P GenFault)
-        → Generates (items_by P.puzzle P.items_of P.has P.cut P.full_of) params.now seed other → other ≡ result }
+        → Generates ⟦<P as Rules>⟧ params.now seed other → other ≡ result }
     ensures valid { IfOk result (λ p. P.valid p) }
     ensures size { IfOk result (λ p. (P.puzzle p).size ≡ params.now.size) }
     ensures only_solution { IfOk result (λ p. IsOnlySolution (P.puzzle p) (square_of params.now.size seed)) }
@@ -50,9 +50,9 @@ pub fn generate<P: Game>(params: &Params, seed: u64) -> Result<P, GenFault>
 // The pruned puzzle of a seed.
 fn seeded<P: Rules>(size: Size, seed: u64) -> P
     requires { size ≤ 6 }
-    ensures pruned { IsPruned (items_by P.puzzle P.items_of P.has P.cut P.full_of)
+    ensures pruned { IsPruned ⟦<P as Rules>⟧
         (square_of size seed) (trial_order (P.items_of size) size seed) result }
-    ensures just_one { (other : P) → IsPruned (items_by P.puzzle P.items_of P.has P.cut P.full_of)
+    ensures just_one { (other : P) → IsPruned ⟦<P as Rules>⟧
         (square_of size seed) (trial_order (P.items_of size) size seed) other → other ≡ result }
     ensures only { IsOnlySolution (P.puzzle result) (square_of size seed) }
     ensures needed { (i : ℕ) → i < P.items_of size → IsTrue (P.has result i)
@@ -69,9 +69,9 @@ fn seeded<P: Rules>(size: Size, seed: u64) -> P
 fn pruned_next<P: Rules, R: Rng>(grid: &Grid, rng: &mut R) -> P
     requires small { grid.now.size ≤ 6 }
     requires latin { IsLatin grid.now }
-    ensures pruned { IsPruned (items_by P.puzzle P.items_of P.has P.cut P.full_of)
+    ensures pruned { IsPruned ⟦<P as Rules>⟧
         grid.now (drawn_order (P.items_of grid.now.size) (R.stream rng.old)).0 result }
-    ensures just_one { (other : P) → IsPruned (items_by P.puzzle P.items_of P.has P.cut P.full_of)
+    ensures just_one { (other : P) → IsPruned ⟦<P as Rules>⟧
         grid.now (drawn_order (P.items_of grid.now.size) (R.stream rng.old)).0 other → other ≡ result }
     ensures only { IsOnlySolution (P.puzzle result) grid.now }
     ensures needed { (i : ℕ) → i < P.items_of grid.now.size → IsTrue (P.has result i)

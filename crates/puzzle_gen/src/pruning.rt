@@ -3,7 +3,7 @@
 ghost use Rattle.std.specs.Prelude.{◌≡◌, ℕ, ◌+◌, ◌<◌, ◌==◌, not, ◌⊎◌, List, length, slice_index, IsTrue};
 ghost use Rattle.latin_board.specs.Squares.{IsLatin};
 ghost use Rattle.puzzle_gen.specs.Orders.{IsOrder};
-ghost use Rattle.puzzle_gen.specs.Pruning.{HasTwo, IsOnlySolution, IsPruned, IsPrunedTo, items_by};
+ghost use Rattle.puzzle_gen.specs.Pruning.{HasTwo, IsOnlySolution, IsPruned, IsPrunedTo, AreCuts};
 
 use latin_board::Grid;
 use trail_solver::{Answer, Rules, solve};
@@ -12,9 +12,8 @@ use trail_solver::{Answer, Rules, solve};
 pub(crate) fn pruned<P: Rules>(grid: &Grid, order: &[u8]) -> P
     requires latin { IsLatin grid.now }
     requires order { IsOrder (P.items_of grid.now.size) order.now }
-    ensures pruned { IsPruned (items_by P.puzzle P.items_of P.has P.cut P.full_of) grid.now order.now result }
-    ensures just_one { (other : P)
-        → IsPruned (items_by P.puzzle P.items_of P.has P.cut P.full_of) grid.now order.now other → other ≡ result }
+    ensures pruned { IsPruned ⟦<P as Rules>⟧ grid.now order.now result }
+    ensures just_one { (other : P) → IsPruned ⟦<P as Rules>⟧ grid.now order.now other → other ≡ result }
     ensures only { IsOnlySolution (P.puzzle result) grid.now }
     ensures needed { (i : ℕ) → i < P.items_of grid.now.size → IsTrue (P.has result i)
         → HasTwo (P.puzzle (P.cut result (λ j. not (j == i)))) }
@@ -29,8 +28,8 @@ pub(crate) fn pruned<P: Rules>(grid: &Grid, order: &[u8]) -> P
 fn all_tried<P: Rules>(grid: &Grid, order: &[u8]) -> P
     requires latin { IsLatin grid.now }
     requires order { IsOrder (P.items_of grid.now.size) order.now }
-    ensures pruned { IsPrunedTo (items_by P.puzzle P.items_of P.has P.cut P.full_of)
-        grid.now order.now (P.items_of grid.now.size) result }
+    ensures cuts { AreCuts ⟦<P as Rules>⟧ grid.now }
+    ensures pruned { IsPrunedTo ⟦<P as Rules>⟧ grid.now order.now (P.items_of grid.now.size) result }
     ensures valid { P.valid result }
     ensures size { (P.puzzle result).size ≡ grid.now.size }
 {
@@ -44,8 +43,8 @@ fn all_tried<P: Rules>(grid: &Grid, order: &[u8]) -> P
 // The puzzle before any item is tried.
 fn full_puzzle<P: Rules>(grid: &Grid) -> P
     requires { IsLatin grid.now }
-    ensures pruned { (order : List ℕ)
-        → IsPrunedTo (items_by P.puzzle P.items_of P.has P.cut P.full_of) grid.now order 0 result }
+    ensures cuts { AreCuts ⟦<P as Rules>⟧ grid.now }
+    ensures pruned { (order : List ℕ) → IsPrunedTo ⟦<P as Rules>⟧ grid.now order 0 result }
     ensures valid { P.valid result }
     ensures size { (P.puzzle result).size ≡ grid.now.size }
 {
@@ -55,16 +54,16 @@ fn full_puzzle<P: Rules>(grid: &Grid) -> P
 
 // The puzzle that is left when the item at place k is tried too.
 fn next_tried<P: Rules>(puzzle: P, grid: &Grid, order: &[u8], k: usize) -> P
-    requires latin { IsLatin grid.now }
+    requires cuts { AreCuts ⟦<P as Rules>⟧ grid.now }
     requires order { IsOrder (P.items_of grid.now.size) order.now }
     requires place { k < length order.now }
-    requires so_far { IsPrunedTo (items_by P.puzzle P.items_of P.has P.cut P.full_of) grid.now order.now k puzzle }
+    requires so_far { IsPrunedTo ⟦<P as Rules>⟧ grid.now order.now k puzzle }
     requires size { (P.puzzle puzzle).size ≡ grid.now.size }
-    ensures pruned { IsPrunedTo (items_by P.puzzle P.items_of P.has P.cut P.full_of) grid.now order.now (k + 1) result }
+    ensures pruned { IsPrunedTo ⟦<P as Rules>⟧ grid.now order.now (k + 1) result }
     ensures valid { P.valid result }
     ensures size { (P.puzzle result).size ≡ grid.now.size }
 {
-    let _sizes = (grid.size(), puzzle.size());
+    let _size = puzzle.size();
     tried(puzzle, item_at(order, k))
 }
 

@@ -1,16 +1,12 @@
-use Rattle.std.proofs.Common.{◌≡◌, ℕ, List, sym, subst}
-use Rattle.latin_board.specs.Squares.{GridValue, IsGrid, IsLatin}
-use Rattle.puzzle_gen.specs.Pruning.{Items, IsPruned, IsPrunedTo, items_by}
-use Rattle.puzzle_gen.proofs.ItemLaws.{ItemLaws, AreCuts, cuts_of_full}
+use Rattle.std.proofs.Common.{◌≡◌, sym, subst}
+use Rattle.puzzle_gen.specs.Pruning.{IsPrunedTo}
+use Rattle.puzzle_gen.proofs.ItemLaws.{ItemLaws, cuts_of_full}
 use Rattle.puzzle_gen.proofs.PruningSteps.{pruned_none}
 use Rattle.puzzle_gen.proofs.pruning.full_puzzle.Given.{Over}
 use Rattle.puzzle_gen.proofs.pruning.full_puzzle.Goals as goal
 
--- the items of the puzzles, and their laws
-abbrev items : (g : Over) → Items g.row.P.Denot
-items g = items_by g.P.Rules.puzzle g.P.Rules.items_of g.P.Rules.has g.P.Rules.cut g.P.Rules.full_of
-
-laws : (g : Over) → ItemLaws (items g) g.P.Rules.valid
+-- the laws of `Rules` on items
+laws : (g : Over) → ItemLaws g.P.Rules
 laws g =
     let met = g.met.P.Rules in
     record {
@@ -28,14 +24,13 @@ laws g =
       full_solved = met.full_solved;
     }
 
-cuts : (g : Over) (square : GridValue) → IsGrid square → IsLatin square → AreCuts (items g) square
-cuts g square grid latin = cuts_of_full (items g) g.P.Rules.valid square (laws g) grid latin
+pub returns-clause-cuts : goal.returns-clause-cuts
+returns-clause-cuts g c = cuts_of_full g.P.Rules c.args.grid.now (laws g) c.size-size.ensures.valid c.requires
 
 pub returns-clause-pruned : goal.returns-clause-pruned
 returns-clause-pruned g c = λ order.
-    let Start : g.row.P.Denot → Type 0 = λ p. IsPrunedTo (items g) c.args.grid.now order 0 p in
-    subst Start (sym c.full.ensures)
-    (pruned_none (items g) c.args.grid.now order (cuts g c.args.grid.now c.size-size.ensures.valid c.requires))
+    let Start : g.row.P.Denot → Type 0 = λ p. IsPrunedTo g.P.Rules c.args.grid.now order 0 p in
+    subst Start (sym c.full.ensures) (pruned_none g.P.Rules c.args.grid.now order (returns-clause-cuts g c))
 
 pub returns-clause-valid : goal.returns-clause-valid
 returns-clause-valid g c =
