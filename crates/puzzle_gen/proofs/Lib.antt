@@ -3,3 +3,4 @@ pub mod CombinedSquares
 pub mod ItemLaws
 pub mod PruningSteps
 pub mod GeneratedOnce
+pub mod ForcedNumbers

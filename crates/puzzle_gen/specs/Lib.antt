@@ -3,3 +3,4 @@ pub mod SeededSquares
 pub mod Pruning
 pub mod GenFaults
 pub mod Generating
+pub mod ForcedSquares

@@ -6,6 +6,7 @@
 #![tactic(auto)]
 
 mod draws;
+mod forced_squares;
 mod gen_fault;
 mod generator;
 mod pruning;

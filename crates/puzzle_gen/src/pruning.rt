@@ -1,10 +1,13 @@
 //! The removal of items: each is tried once, and goes where the rest still has just one solution.
 
 ghost use Rattle.std.specs.Prelude.{◌≡◌, ℕ, ◌+◌, ◌<◌, ◌==◌, not, ◌⊎◌, List, length, slice_index, IsTrue};
+ghost use Rattle.std.specs.Bool.{OnTrue, OnFalse};
 ghost use Rattle.latin_board.specs.Squares.{IsLatin};
+ghost use Rattle.trail_solver.specs.Puzzles.{Solves};
 ghost use Rattle.puzzle_gen.specs.Orders.{IsOrder};
 ghost use Rattle.puzzle_gen.specs.Pruning.{HasTwo, IsOnlySolution, IsPruned, IsPrunedTo, AreCuts};
 
+use crate::forced_squares::is_forced;
 use latin_board::Grid;
 use trail_solver::{Answer, Rules, solve};
 
@@ -64,7 +67,7 @@ fn next_tried<P: Rules>(puzzle: P, grid: &Grid, order: &[u8], k: usize) -> P
     ensures size { (P.puzzle result).size ≡ grid.now.size }
 {
     let _size = puzzle.size();
-    tried(puzzle, item_at(order, k))
+    tried(puzzle, grid, item_at(order, k))
 }
 
 // The item that is tried at place k.
@@ -76,17 +79,30 @@ fn item_at(order: &[u8], k: usize) -> usize
 }
 
 // The puzzle without the item, where that has just one solution, or else the puzzle itself.
-fn tried<P: Rules>(puzzle: P, item: usize) -> P
-    requires { item < P.items_of (P.puzzle puzzle).size }
+fn tried<P: Rules>(puzzle: P, grid: &Grid, item: usize) -> P
+    requires inside { item < P.items_of (P.puzzle puzzle).size }
+    requires solved { Solves (P.puzzle puzzle) grid.now }
     ensures { ((result ≡ puzzle) × HasTwo (P.puzzle (P.cut puzzle (λ j. not (j == item)))))
         ⊎ ((result ≡ P.cut puzzle (λ j. not (j == item))) × (HasTwo (P.puzzle (P.cut puzzle (λ j. not (j == item)))) → ⊥)) }
 {
     let _size = puzzle.size();
     let mut fewer = puzzle;
     fewer.drop_item(item);
-    match solve(&fewer) {
-        Answer::None => fewer,
-        Answer::One(_) => fewer,
-        Answer::Several(_, _) => puzzle,
+    if has_two(&fewer, grid) { puzzle } else { fewer }
+}
+
+// Whether two different grids solve the puzzle; the grid is one that does.
+fn has_two<P: Rules>(puzzle: &P, grid: &Grid) -> bool
+    requires { Solves (P.puzzle puzzle.now) grid.now }
+    ensures two { OnTrue result (HasTwo (P.puzzle puzzle.now)) }
+    ensures one { OnFalse result (HasTwo (P.puzzle puzzle.now) → ⊥) }
+{
+    if is_forced(puzzle, grid) {
+        return false;
+    }
+    match solve(puzzle) {
+        Answer::None => false,
+        Answer::One(_) => false,
+        Answer::Several(_, _) => true,
     }
 }
