@@ -69,7 +69,7 @@ forced_value found h cell value inside forced grid latin same has =
           let at = forced.others (number_at h cell) low high other in
           let peers : ArePeers h.size cell at.peer = subst (λ (n : ℕ). ArePeers n cell at.peer) (sym same) at.are_peers in
           let found_there : number_at h at.peer ≡ number_at found at.peer =
-              has.each at.peer at.are_peers.second (omega (arith, at.stands)) in
+          has.each at.peer at.are_peers.second (omega (arith, at.stands)) in
           absurd (peers_differ h grid latin cell at.peer peers (sym (found_there ∙ at.stands)))
     ]
 
@@ -79,12 +79,12 @@ found_more found new h cell value inside blank forced size count written grid la
     | inl here ↦
         let there : cell < h.size * h.size = subst (λ (n : ℕ). cell < n * n) (sym same) inside in
         let is_value : number_at new cell ≡ value =
-            ap (λ (xs : List ℕ). get_or xs cell 0) written ∙ get_or-set_same found.numbers cell value 0 (omega (arith, count)) in
+        ap (λ (xs : List ℕ). get_or xs cell 0) written ∙ get_or-set_same found.numbers cell value 0 (omega (arith, count)) in
         let Here : ℕ → Type 0 = λ k. number_at h k ≡ number_at new k in
         subst Here (sym here) (forced_value found h cell value inside forced grid latin same has ∙ sym is_value)
     | inr other ↦
         let kept : number_at new c ≡ number_at found c =
-            ap (λ (xs : List ℕ). get_or xs c 0) written ∙ get_or-set_other found.numbers cell c value 0 other in
+        ap (λ (xs : List ℕ). get_or xs c 0) written ∙ get_or-set_other found.numbers cell c value 0 other in
         let low : c < found.size * found.size = subst (λ (n : ℕ). c < n * n) size within in
         has.each c low (omega (arith, kept)) ∙ sym kept
   ];
@@ -98,7 +98,7 @@ full_is_only p found full size has two =
     let b = has two.second two.solves_second in
     two.differ (same_numbers two.first two.second two.solves_first.is_grid two.solves_second.is_grid same_size (λ cell inside.
     let within : cell < found.size * found.size =
-        subst (λ (n : ℕ). cell < n * n) (two.solves_first.same_size ∙ sym size) inside in
+    subst (λ (n : ℕ). cell < n * n) (two.solves_first.same_size ∙ sym size) inside in
     a.each cell within (full.each cell within) ∙ sym (b.each cell within (full.each cell within))))
 
 -- ---- steps of the loops

@@ -1,4 +1,4 @@
-use Rattle.std.proofs.Common.{◌≡◌, ℕ, sym, subst, arith}
+use Rattle.std.proofs.Common.{◌≡◌, sym, subst, arith}
 use Rattle.latin_board.specs.Squares.{number_at}
 use Rattle.puzzle_gen.specs.ForcedSquares.{IsForced}
 use Rattle.puzzle_gen.proofs.ForcedNumbers.{found_more}

@@ -1,7 +1,4 @@
-use Rattle.std.proofs.Common.{◌≡◌, ◌∙◌, sym, subst}
-use Rattle.latin_board.specs.Squares.{GridValue}
-use Rattle.trail_solver.specs.Puzzles.{Solves}
-use Rattle.puzzle_gen.specs.ForcedSquares.{HasFound}
+use Rattle.std.proofs.Common.{sym, subst}
 use Rattle.puzzle_gen.proofs.ForcedNumbers.{FoundOf, on_true, full_is_only, find_keeps}
 use Rattle.puzzle_gen.proofs.forced_squares.is_forced.Goals as goal
 use Rattle.puzzle_gen.proofs.forced_squares.is_forced.Goals.{else-loop-pass-test, then-loop-pass-test+then-not-find_more}

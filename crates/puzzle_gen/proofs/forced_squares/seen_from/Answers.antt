@@ -1,4 +1,4 @@
-use Rattle.std.proofs.Common.{◌≡◌, ℕ, ◌<◌, arith, slice_set, true}
+use Rattle.std.proofs.Common.{◌≡◌, ◌<◌, arith, slice_set, true}
 use Rattle.puzzle_gen.proofs.ForcedNumbers.{seen_more, row_read, column_read}
 use Rattle.puzzle_gen.proofs.forced_squares.seen_from.Goals as goal
 

@@ -12,7 +12,7 @@ returns-clause-pruned g c =
     let within : c.args.k < g.P.Rules.items_of square.size = omega (arith, c.requires.order.count) in
     let small : item < g.P.Rules.items_of square.size = omega (arith, c.requires.order.items c.args.k within, c.item_at.ensures) in
     let here : place_in item order ≡ c.args.k =
-        ap (λ (i : ℕ). place_in i order) c.item_at.ensures ∙ c.requires.order.places c.args.k within in
+    ap (λ (i : ℕ). place_in i order) c.item_at.ensures ∙ c.requires.order.places c.args.k within in
     elim c.tried.ensures [
       | inl stays ↦
           let To : g.row.P.Denot → Type 0 = λ p. IsPrunedTo g.P.Rules square order (c.args.k + 1) p in
