@@ -5,7 +5,7 @@ use Rattle.latin_board.proofs.LatinLines.{latin_full}
 use Rattle.latin_board.proofs.Numbers.{same_numbers}
 use Rattle.trail_solver.specs.Puzzles.{Solves}
 use Rattle.trail_solver.specs.declared.rules.Rules.{Ghosts}
-use Rattle.puzzle_gen.specs.Pruning.{AreCuts}
+use Rattle.puzzle_gen.specs.Removal.{AreCuts}
 
 pub record ItemLaws {P : Type 0} (f : Ghosts P) : Type 0 where
   pub cut_valid : (p : P) (keep : ℕ → Bool) → f.valid p → f.valid (f.cut p keep)
@@ -48,8 +48,6 @@ cuts_of_full {P} f g laws grid latin =
       agrees = λ a b same. laws.cut_agrees (f.full_of g) a b is_valid (λ i below there.
           same i (subst (λ (n : ℕ). i < f.items_of n) size below));
       again = λ a b. laws.cut_cut (f.full_of g) a b is_valid;
-      valid = λ keep. laws.cut_valid (f.full_of g) keep is_valid;
-      size = λ keep. laws.cut_size (f.full_of g) keep is_valid ∙ size;
       all = laws.cut_all (f.full_of g) is_valid;
       loses_none = λ a b h s.
           subst (λ (p : P). Solves (f.puzzle p) h) (laws.cut_cut (f.full_of g) a b is_valid)

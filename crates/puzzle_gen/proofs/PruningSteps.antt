@@ -6,7 +6,8 @@ use Rattle.latin_board.specs.Sameness.{same_grid, same_grid_decides}
 use Rattle.trail_solver.specs.Puzzles.{Puzzle, Solves}
 use Rattle.trail_solver.specs.declared.rules.Rules.{Ghosts}
 use Rattle.puzzle_gen.specs.Orders.{place_in, IsOrder}
-use Rattle.puzzle_gen.specs.Pruning.{AreCuts, HasTwo, IsOnlySolution, IsPruned, IsPrunedTo, rest, rest_puzzle}
+use Rattle.puzzle_gen.specs.Pruning.{HasTwo, IsOnlySolution, IsPruned, rest, rest_puzzle}
+use Rattle.puzzle_gen.specs.Removal.{AreCuts, IsPrunedTo}
 
 -- all items but one
 abbrev pub but : ℕ → ℕ → Bool

@@ -5,7 +5,8 @@ ghost use Rattle.std.specs.Bool.{OnTrue, OnFalse};
 ghost use Rattle.latin_board.specs.Squares.{IsLatin};
 ghost use Rattle.trail_solver.specs.Puzzles.{Solves};
 ghost use Rattle.puzzle_gen.specs.Orders.{IsOrder};
-ghost use Rattle.puzzle_gen.specs.Pruning.{HasTwo, IsOnlySolution, IsPruned, IsPrunedTo, AreCuts};
+ghost use Rattle.puzzle_gen.specs.Pruning.{HasTwo, IsOnlySolution, IsPruned};
+ghost use Rattle.puzzle_gen.specs.Removal.{AreCuts, IsPrunedTo};
 
 use crate::forced_squares::is_forced;
 use latin_board::Grid;

@@ -1,5 +1,5 @@
 use Rattle.std.proofs.Common.{◌≡◌}
-use Rattle.puzzle_gen.specs.Pruning.{IsPrunedTo}
+use Rattle.puzzle_gen.specs.Removal.{IsPrunedTo}
 use Rattle.puzzle_gen.proofs.pruning.all_tried.Given as goal
 
 abbrev pub invariant-loop-k : goal.invariant-loop-k

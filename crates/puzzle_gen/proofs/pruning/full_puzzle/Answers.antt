@@ -1,5 +1,5 @@
 use Rattle.std.proofs.Common.{◌≡◌, sym, subst}
-use Rattle.puzzle_gen.specs.Pruning.{IsPrunedTo}
+use Rattle.puzzle_gen.specs.Removal.{IsPrunedTo}
 use Rattle.puzzle_gen.proofs.ItemLaws.{ItemLaws, cuts_of_full}
 use Rattle.puzzle_gen.proofs.PruningSteps.{pruned_none}
 use Rattle.puzzle_gen.proofs.pruning.full_puzzle.Given.{Over}

@@ -1,6 +1,6 @@
 use Rattle.std.proofs.Common.{◌≡◌, ℕ, ◌+◌, ◌<◌, inl, inr, sym, ◌∙◌, ap, subst, arith}
 use Rattle.puzzle_gen.specs.Orders.{place_in}
-use Rattle.puzzle_gen.specs.Pruning.{IsPrunedTo}
+use Rattle.puzzle_gen.specs.Removal.{IsPrunedTo}
 use Rattle.puzzle_gen.proofs.PruningSteps.{but, pruned_stays, pruned_goes}
 use Rattle.puzzle_gen.proofs.pruning.next_tried.Goals as goal
 
