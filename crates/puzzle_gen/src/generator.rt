@@ -3,7 +3,8 @@
 ghost use Rattle.std.specs.Prelude.{◌≡◌, ℕ, ◌<◌, ◌≤◌, ◌==◌, not, Result, IfOk, IsTrue};
 ghost use Rattle.latin_board.specs.Squares.{IsLatin};
 ghost use Rattle.puzzle_gen.specs.SeededSquares.{drawn_order, square_of, trial_order};
-ghost use Rattle.puzzle_gen.specs.Pruning.{HasTwo, IsOnlySolution, IsPruned};
+ghost use Rattle.puzzle_gen.specs.Pruning.{HasTwo, IsOnlySolution};
+ghost use Rattle.puzzle_gen.specs.Removal.{IsOnePruned};
 ghost use Rattle.puzzle_gen.specs.declared.gen_fault.GenFault.{GenFault};
 ghost use Rattle.puzzle_gen.specs.Generating.{Generates};
 
@@ -50,15 +51,7 @@ pub fn generate<P: Game>(params: &Params, seed: u64) -> Result<P, GenFault>
 // The pruned puzzle of a seed.
 fn seeded<P: Rules>(size: Size, seed: u64) -> P
     requires { size ≤ 6 }
-    ensures pruned { IsPruned ⟦<P as Rules>⟧
-        (square_of size seed) (trial_order (P.items_of size) size seed) result }
-    ensures just_one { (other : P) → IsPruned ⟦<P as Rules>⟧
-        (square_of size seed) (trial_order (P.items_of size) size seed) other → other ≡ result }
-    ensures only { IsOnlySolution (P.puzzle result) (square_of size seed) }
-    ensures needed { (i : ℕ) → i < P.items_of size → IsTrue (P.has result i)
-        → HasTwo (P.puzzle (P.cut result (λ j. not (j == i)))) }
-    ensures valid { P.valid result }
-    ensures size { (P.puzzle result).size ≡ size }
+    ensures { IsOnePruned ⟦<P as Rules>⟧ (square_of size seed) (trial_order (P.items_of size) size seed) result }
 {
     let mut rng = rng_of(seed);
     let grid = draw_square(size, &mut rng);
@@ -69,15 +62,7 @@ fn seeded<P: Rules>(size: Size, seed: u64) -> P
 fn pruned_next<P: Rules, R: Rng>(grid: &Grid, rng: &mut R) -> P
     requires small { grid.now.size ≤ 6 }
     requires latin { IsLatin grid.now }
-    ensures pruned { IsPruned ⟦<P as Rules>⟧
-        grid.now (drawn_order (P.items_of grid.now.size) (R.stream rng.old)).0 result }
-    ensures just_one { (other : P) → IsPruned ⟦<P as Rules>⟧
-        grid.now (drawn_order (P.items_of grid.now.size) (R.stream rng.old)).0 other → other ≡ result }
-    ensures only { IsOnlySolution (P.puzzle result) grid.now }
-    ensures needed { (i : ℕ) → i < P.items_of grid.now.size → IsTrue (P.has result i)
-        → HasTwo (P.puzzle (P.cut result (λ j. not (j == i)))) }
-    ensures valid { P.valid result }
-    ensures size { (P.puzzle result).size ≡ grid.now.size }
+    ensures { IsOnePruned ⟦<P as Rules>⟧ grid.now (drawn_order (P.items_of grid.now.size) (R.stream rng.old)).0 result }
 {
     let count = P::item_count(grid.size());
     let order = draw_items(rng, count);

@@ -1,12 +1,12 @@
 //! The removal of items: each is tried once, and goes where the rest still has just one solution.
 
-ghost use Rattle.std.specs.Prelude.{◌≡◌, ℕ, ◌+◌, ◌<◌, ◌==◌, not, ◌⊎◌, List, length, slice_index, IsTrue};
+ghost use Rattle.std.specs.Prelude.{◌≡◌, ℕ, ◌+◌, ◌<◌, ◌==◌, not, ◌⊎◌, List, length, slice_index};
 ghost use Rattle.std.specs.Bool.{OnTrue, OnFalse};
 ghost use Rattle.latin_board.specs.Squares.{IsLatin};
 ghost use Rattle.trail_solver.specs.Puzzles.{Solves};
 ghost use Rattle.puzzle_gen.specs.Orders.{IsOrder};
-ghost use Rattle.puzzle_gen.specs.Pruning.{HasTwo, IsOnlySolution, IsPruned};
-ghost use Rattle.puzzle_gen.specs.Removal.{AreCuts, IsPrunedTo};
+ghost use Rattle.puzzle_gen.specs.Pruning.{HasTwo};
+ghost use Rattle.puzzle_gen.specs.Removal.{AreCuts, IsOnePruned, IsPrunedTo};
 
 use crate::forced_squares::is_forced;
 use latin_board::Grid;
@@ -16,13 +16,7 @@ use trail_solver::{Answer, Rules, solve};
 pub(crate) fn pruned<P: Rules>(grid: &Grid, order: &[u8]) -> P
     requires latin { IsLatin grid.now }
     requires order { IsOrder (P.items_of grid.now.size) order.now }
-    ensures pruned { IsPruned ⟦<P as Rules>⟧ grid.now order.now result }
-    ensures just_one { (other : P) → IsPruned ⟦<P as Rules>⟧ grid.now order.now other → other ≡ result }
-    ensures only { IsOnlySolution (P.puzzle result) grid.now }
-    ensures needed { (i : ℕ) → i < P.items_of grid.now.size → IsTrue (P.has result i)
-        → HasTwo (P.puzzle (P.cut result (λ j. not (j == i)))) }
-    ensures valid { P.valid result }
-    ensures size { (P.puzzle result).size ≡ grid.now.size }
+    ensures { IsOnePruned ⟦<P as Rules>⟧ grid.now order.now result }
 {
     let _size = grid.size();
     all_tried(grid, order)
