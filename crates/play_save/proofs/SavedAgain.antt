@@ -11,8 +11,8 @@ use Rattle.byte_text.specs.Reading.{◌>>=◌}
 use Rattle.byte_text.proofs.ReadingLaws.{bind_again}
 use Rattle.clue_rules.specs.declared.id_fault.IdFault.{IdFault}
 use Rattle.clue_rules.specs.declared.params.Params.{Params}
-use Rattle.clue_rules.specs.ParamTexts.{IsParamText}
-use Rattle.clue_rules.specs.ParamReading.{has_adjacent}
+use Rattle.clue_rules.specs.Parameters.{IsParamText}
+use Rattle.clue_rules.specs.Parameters.{has_adjacent}
 use Rattle.clue_rules.specs.ParamLaws.{params_again}
 use Rattle.play_midend.specs.declared.extras.Extras.{Extras}
 use Rattle.play_midend.specs.declared.moves.Move.{Move}

@@ -1,11 +1,11 @@
 -- Reading a save text: the session, or the first fault.
 use Rattle.std.specs.Prelude.{ℕ, zero, suc, ◌+◌, ◌≤◌, Bool, true, false, ◌&&◌, nat_lt, nat_le, bytes_eq, is_some, if◌then◌else◌, List, [], ◌∷◌, ◌++◌, length, codes, Option, Some, None, option_map, option_and_then, Result, Ok, Err, ok_or}
 use Rattle.std.specs.Result.{result_ok}
-use Rattle.byte_text.specs.Decimals.{number_at}
+use Rattle.byte_text.specs.Decimals.{decimal_value}
 use Rattle.byte_text.specs.Reading.{◌>>=◌}
 use Rattle.clue_rules.specs.declared.id_fault.IdFault.{IdFault}
 use Rattle.clue_rules.specs.declared.params.Params.{Params}
-use Rattle.clue_rules.specs.ParamReading.{params_at, has_adjacent}
+use Rattle.clue_rules.specs.Parameters.{params_at, has_adjacent}
 use Rattle.play_midend.specs.declared.extras.Extras.{Extras}
 use Rattle.play_midend.specs.declared.moves.Move.{Move}
 use Rattle.play_midend.specs.declared.moves.Move.TheVariants.{Restart}
@@ -32,7 +32,7 @@ positive zero = None
 positive (suc n) = Some (suc n)
 
 abbrev pub count_at : List ℕ → Option ℕ
-count_at value = option_and_then positive (number_at most_states value)
+count_at value = option_and_then positive (decimal_value most_states value)
 
 -- What some records say: for each key the first value, parameters and counts as they read.
 pub record Met : Type 0 where

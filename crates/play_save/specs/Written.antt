@@ -1,7 +1,7 @@
 -- The save text that is written for a session.
 use Rattle.std.specs.Prelude.{ℕ, ◌+◌, List, [], ◌∷◌, ◌++◌, length, map, codes, Option, Some, None}
 use Rattle.std.specs.Fmt.{decimal}
-use Rattle.clue_rules.specs.ParamTexts.{params_text}
+use Rattle.clue_rules.specs.Parameters.{params_text}
 use Rattle.play_midend.specs.declared.moves.Move.{Move}
 use Rattle.play_midend.specs.declared.moves.Move.TheVariants.{Solve, Restart}
 use Rattle.play_midend.specs.MoveTexts.{move_text}
