@@ -11,4 +11,9 @@ pub mod SolveRefusals
 pub mod RefusedLines
 pub mod ListedOnce
 pub mod RepliesOnce
-pub mod ReplyLaws
+pub mod ReplyTexts
+pub mod SparedMemory
+pub mod CallReplies
+pub mod RefusedReplies
+pub mod UndoReplies
+pub mod StorableReplies

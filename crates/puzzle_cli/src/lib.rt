@@ -4,7 +4,8 @@
 //! session, asks something of it, or ends the run. [`Draw`] is what a game adds to be played so: its picture. What is
 //! printed of a session can be had alone: [`picture`], [`marks_text`], [`status_text`] and [`done_text`].
 //!
-//! A reply is made whole before its first byte is written. A refused line leaves the session as it was.
+//! A reply is made whole before its first byte is written. A refused line leaves the session as it was. [`laws`] has what holds
+//! of the replies in turn: `undo` and `redo`, refusals, and that each reply is a step of the session's own calls.
 #![tactic(auto)]
 
 mod answers;

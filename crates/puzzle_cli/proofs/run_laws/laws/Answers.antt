@@ -5,7 +5,10 @@ use Rattle.puzzle_cli.specs.GameFacts.{GameFacts}
 use Rattle.puzzle_cli.specs.CommandReading.{read_at}
 use Rattle.puzzle_cli.proofs.CommandLaws.{line_is_read, read_once}
 use Rattle.puzzle_cli.proofs.RepliesOnce.{IdsAreReadOnce, ids_once, output_once}
-use Rattle.puzzle_cli.proofs.ReplyLaws.{refused_lines_leave, replies_stay_storable, replies_are_calls, other_requests_leave, undo_line_takes_back, redo_line_takes_undo_back}
+use Rattle.puzzle_cli.proofs.RefusedReplies.{refused_lines_leave}
+use Rattle.puzzle_cli.proofs.StorableReplies.{replies_stay_storable}
+use Rattle.puzzle_cli.proofs.CallReplies.{replies_are_calls, other_requests_leave}
+use Rattle.puzzle_cli.proofs.UndoReplies.{undo_line_takes_back, redo_line_takes_undo_back}
 use Rattle.puzzle_cli.proofs.run_laws.laws.Goals as goal
 
 pub returns-clause-read_once : goal.returns-clause-read_once
