@@ -4,8 +4,9 @@ use Rattle.std.specs.Result.{result_ok}
 use Rattle.std.proofs.lemmas.Slice.Eq.{bytes_eq-Decides}
 use Rattle.trail_solver.specs.Puzzles.{Puzzle}
 use Rattle.clue_rules.specs.declared.id_fault.IdFault.{IdFault}
-use Rattle.clue_rules.specs.GameIds.{ReadsGrammar, describes_at}
-use Rattle.clue_rules.specs.IdLaws.{game_reads}
+use Rattle.clue_rules.specs.GameIds.{describes_at}
+use Rattle.clue_rules.proofs.GameIdLemmas.{ReadsGrammar}
+use Rattle.clue_rules.proofs.GameIdLemmas.{game_reads}
 use Rattle.play_midend.specs.declared.moves.Move.{Move}
 use Rattle.play_midend.specs.declared.moves.Move.TheVariants.{Restart}
 use Rattle.play_save.specs.SaveTexts.{SavedGame, saved_game}

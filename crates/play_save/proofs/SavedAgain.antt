@@ -13,7 +13,7 @@ use Rattle.clue_rules.specs.declared.id_fault.IdFault.{IdFault}
 use Rattle.clue_rules.specs.declared.params.Params.{Params}
 use Rattle.clue_rules.specs.Parameters.{IsParamText}
 use Rattle.clue_rules.specs.Parameters.{has_adjacent}
-use Rattle.clue_rules.specs.ParamLaws.{params_again}
+use Rattle.clue_rules.proofs.ParameterLemmas.{params_again}
 use Rattle.play_midend.specs.declared.extras.Extras.{Extras}
 use Rattle.play_midend.specs.declared.moves.Move.{Move}
 use Rattle.play_midend.specs.Histories.{History, IsValid, started, at_position, most_states}

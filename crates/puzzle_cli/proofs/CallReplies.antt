@@ -14,7 +14,7 @@ use Rattle.puzzle_cli.specs.declared.command.Command.{Command}
 use Rattle.puzzle_cli.specs.declared.command.Command.TheVariants.{Ask}
 use Rattle.puzzle_cli.specs.declared.command.Request.{Request}
 use Rattle.puzzle_cli.specs.declared.command.Request.TheVariants.{Move as Make, Solutions, Plain}
-use Rattle.puzzle_cli.specs.declared.command.Word.TheVariants.{Undo, Redo, Restart, Show, Marks, Status, Id, Done, Solve}
+use Rattle.puzzle_cli.specs.declared.command.Word.TheVariants.{Undo, Redo, Restart, Show, Marks, Status, Id, Done, Solve, Save}
 use Rattle.puzzle_cli.specs.declared.line_fault.LineFault.{LineFault}
 use Rattle.puzzle_cli.specs.declared.refusal.Refusal.{Refusal}
 use Rattle.puzzle_cli.specs.declared.refusal.Refusal.TheVariants.{Play as OfPlay}
@@ -53,7 +53,7 @@ said_to {P} f old line read bytes new is (inr (r, scan, takes, name, stays)) =
 module _ {P : Type 0} (f : GameFacts P) (h : History P) where
   abbrev IsAnswered : Call → List ℕ → Option (History P) → Type 0
   IsAnswered call bytes new =
-      IsSomeAnd new (λ k. (answer : Result (Unit {0}) PlayFault) × Answered (f.puzzle h.puzzle) h call answer k × IsToldOf call answer bytes)
+      IsSomeAnd new (λ k. (answer : Result (Unit {0}) PlayFault) × Answered (f.rules.puzzle h.puzzle) h call answer k × IsToldOf call answer bytes)
 
   -- the calls but solving
   abbrev IsPlain : Call → Type 0
@@ -83,13 +83,13 @@ module _ {P : Type 0} (f : GameFacts P) (h : History P) where
   refused_so ToUndo fault n = refl
   refused_so ToRedo fault n = refl
 
-  refused_call : (call : Call) (fault : PlayFault) (bytes : List ℕ) (new : Option (History P)) → CallGives (f.puzzle h.puzzle) h call (Err fault)
+  refused_call : (call : Call) (fault : PlayFault) (bytes : List ℕ) (new : Option (History P)) → CallGives (f.rules.puzzle h.puzzle) h call (Err fault)
       → fault ≢ OutOfMemory → IsRefused call fault bytes → new ≡ Some h → IsAnswered call bytes new
   refused_call call fault bytes new gives spares told stays =
       subst (λ (s : Option (History P)). IsAnswered call bytes s) (sym stays) (Err fault, (refl, (Err fault, gives, refused_so call fault spares)), told)
 
   called : (call : Call) (exact : Result (History P) PlayFault) (bytes : List ℕ) (new : Option (History P)) → IsPlain call
-      → CallGives (f.puzzle h.puzzle) h call exact → (exact ≢ Err OutOfMemory) → Writes (λ o. call_outcome exact ≡ o) (Some h) bytes new
+      → CallGives (f.rules.puzzle h.puzzle) h call exact → (exact ≢ Err OutOfMemory) → Writes (λ o. call_outcome exact ≡ o) (Some h) bytes new
       → IsAnswered call bytes new
   called call (Ok k) bytes new plain gives spares (inl e) =
       let parts = outcome_parts ok_line bytes (Some k) new e in
@@ -102,7 +102,7 @@ module _ {P : Type 0} (f : GameFacts P) (h : History P) where
       (refusal_told call plain fault bytes (name ∙ ap (λ (r : Refusal). refusal_line (refusal_name r)) (sym is))) stays
 
   -- want of memory in place of success
-  lacking : (call : Call) (k : History P) (bytes : List ℕ) (new : Option (History P)) → may_want_memory call ≡ true → CallGives (f.puzzle h.puzzle) h call (Ok k)
+  lacking : (call : Call) (k : History P) (bytes : List ℕ) (new : Option (History P)) → may_want_memory call ≡ true → CallGives (f.rules.puzzle h.puzzle) h call (Ok k)
       → bytes ≡ refusal_line (codes "OutOfMemory") → new ≡ Some h → IsAnswered call bytes new
   lacking (Play m) k bytes new wants gives name stays =
       subst (λ (s : Option (History P)). IsAnswered (Play m) bytes s) (sym stays) (Err OutOfMemory, (refl, (Ok k, gives, refl)), name)
@@ -114,28 +114,28 @@ module _ {P : Type 0} (f : GameFacts P) (h : History P) where
   lacking ToRedo k bytes new wants gives name stays = cc
 
   -- a move
-  move_called : (text : List ℕ) (m : Move) (exact : Result (History P) PlayFault) → IsMoveText m text → TextPlays (f.puzzle h.puzzle) h text exact
-      → exact ≡ played (f.puzzle h.puzzle) h m
+  move_called : (text : List ℕ) (m : Move) (exact : Result (History P) PlayFault) → IsMoveText m text → TextPlays (f.rules.puzzle h.puzzle) h text exact
+      → exact ≡ played (f.rules.puzzle h.puzzle) h m
   move_called text m exact spelled (read, is, gives) =
-      sym gives ∙ ap (λ (r : Result Move PlayFault). r >>= played (f.puzzle h.puzzle) h) (move_read_once text read (Ok m) is spelled)
+      sym gives ∙ ap (λ (r : Result Move PlayFault). r >>= played (f.rules.puzzle h.puzzle) h) (move_read_once text read (Ok m) is spelled)
 
   play_answered : (text : List ℕ) (m : Move) (bytes : List ℕ) (new : Option (History P)) → IsMoveText m text
       → ReadSays f (Some h) (Ok (Some (Ask (Make text)))) bytes new → IsAnswered (Play m) bytes new
   play_answered text m bytes new spelled (inl (inl (exact, plays, out))) =
       let is = move_called text m exact spelled plays in
-      called (Play m) exact bytes new tt is (λ e. played_spares (f.puzzle h.puzzle) h m (sym is ∙ e)) (inl out)
+      called (Play m) exact bytes new tt is (λ e. played_spares (f.rules.puzzle h.puzzle) h m (sym is ∙ e)) (inl out)
   play_answered text m bytes new spelled (inl (inr (refusal, (exact, plays, out), name, stays))) =
       let is = move_called text m exact spelled plays in
-      called (Play m) exact bytes new tt is (λ e. played_spares (f.puzzle h.puzzle) h m (sym is ∙ e)) (inr (refusal, out, name, stays))
+      called (Play m) exact bytes new tt is (λ e. played_spares (f.rules.puzzle h.puzzle) h m (sym is ∙ e)) (inr (refusal, out, name, stays))
   play_answered text m bytes new spelled (inr ((k, plays), name, stays)) =
       lacking (Play m) k bytes new refl (move_called text m (Ok k) spelled plays) name stays
 
   -- solving
-  spared : (fault : PlayFault) → SolveGives (f.puzzle h.puzzle) h (Err fault) → fault ≢ OutOfMemory
-  spared fault gives is = solved_spares (f.puzzle h.puzzle) h (subst (λ (e : PlayFault). SolveGives (f.puzzle h.puzzle) h (Err e)) is gives)
+  spared : (fault : PlayFault) → SolveGives (f.rules.puzzle h.puzzle) h (Err fault) → fault ≢ OutOfMemory
+  spared fault gives is = solved_spares (f.rules.puzzle h.puzzle) h (subst (λ (e : PlayFault). SolveGives (f.rules.puzzle h.puzzle) h (Err e)) is gives)
 
   unsolved : (fault : PlayFault) (sentence : Option (List ℕ)) → solve_sentence fault ≡ sentence → (bytes : List ℕ) (new : Option (History P))
-      → SolveGives (f.puzzle h.puzzle) h (Err fault)
+      → SolveGives (f.rules.puzzle h.puzzle) h (Err fault)
       → Writes (λ o. sentence_outcome h (solve_sentence fault) fault ≡ o) (Some h) bytes new → IsAnswered ToSolution bytes new
   unsolved fault (Some text) is bytes new gives (inl e) =
       let parts = outcome_parts text bytes (Some h) new (ap (λ (s : Option (List ℕ)). sentence_outcome h s fault) (sym is) ∙ e) in
@@ -150,7 +150,7 @@ module _ {P : Type 0} (f : GameFacts P) (h : History P) where
       refused_call ToSolution fault bytes new gives (spared fault gives)
       (name ∙ ap (λ (r : Refusal). refusal_line (refusal_name r)) (sym called) ∙ ap (λ (s : Option (List ℕ)). unwrap_or s (refusal_line (name_of fault))) (sym is)) stays
 
-  solved : (exact : Result (History P) PlayFault) (bytes : List ℕ) (new : Option (History P)) → SolveGives (f.puzzle h.puzzle) h exact
+  solved : (exact : Result (History P) PlayFault) (bytes : List ℕ) (new : Option (History P)) → SolveGives (f.rules.puzzle h.puzzle) h exact
       → Writes (SolveSays h exact) (Some h) bytes new → IsAnswered ToSolution bytes new
   solved (Ok k) bytes new gives (inl (g, with, e)) =
       let parts = outcome_parts (move_line (Filling g)) bytes (Some k) new e in
@@ -196,6 +196,7 @@ module _ {P : Type 0} (f : GameFacts P) (h : History P) where
   answered (Plain Restart) call bytes new is says = subst (λ (c : Call). IsAnswered c bytes new) (sym is) (restart_answered bytes new says)
   answered (Plain Solve) call bytes new is says = subst (λ (c : Call). IsAnswered c bytes new) (sym is) (solve_answered bytes new says)
   answered (Plain Show) call bytes new never says = absurd never
+  answered (Plain Save) call bytes new never says = absurd never
   answered (Plain Marks) call bytes new never says = absurd never
   answered (Plain Status) call bytes new never says = absurd never
   answered (Plain Id) call bytes new never says = absurd never
@@ -215,7 +216,7 @@ module _ {P : Type 0} (f : GameFacts P) (h : History P) (bytes : List ℕ) (new 
   text_stays text e = sym (outcome_parts text bytes (Some h) new e).1
 
   no_move_stays : (text : List ℕ) (exact : Result (History P) PlayFault) (read : Result Move PlayFault) → IsNoCall (Make text) → IsMoveRead text read
-      → (read >>= played (f.puzzle h.puzzle) h) ≡ exact → call_outcome exact ≡ Ok (bytes, new) → new ≡ Some h
+      → (read >>= played (f.rules.puzzle h.puzzle) h) ≡ exact → call_outcome exact ≡ Ok (bytes, new) → new ≡ Some h
   no_move_stays text exact (Ok m) none is gives e = absurd (none (Play m) (m, is, refl))
   no_move_stays text exact (Err fault) none is gives e = absurd (said_or_refused bytes new (OfPlay fault) (sym (ap call_outcome gives ∙ e)))
 
@@ -227,6 +228,7 @@ module _ {P : Type 0} (f : GameFacts P) (h : History P) (bytes : List ℕ) (new 
   other_stays (Plain Restart) none e = absurd (none FromStart refl)
   other_stays (Plain Solve) none e = absurd (none ToSolution refl)
   other_stays (Plain Show) none e = text_stays _ e
+  other_stays (Plain Save) none e = text_stays _ e
   other_stays (Plain Marks) none e = text_stays _ e
   other_stays (Plain Status) none e = text_stays _ e
   other_stays (Plain Id) none e = text_stays _ e

@@ -39,21 +39,21 @@ module _ {P : Type 0} (f : GameFacts P) (h : History P) (text : List ℕ) where
       inl (Err fault, (Err fault, ((λ m spelled. apart m (only m spelled)), is), refl), ap Err (sym refused))
 
   -- a move that is made
-  pub move_made : (m : Move) (new : History P) → IsMoveText m text → played (f.puzzle h.puzzle) h m ≡ Ok new
+  pub move_made : (m : Move) (new : History P) → IsMoveText m text → played (f.rules.puzzle h.puzzle) h m ≡ Ok new
       → RequestGives f h (Make text) (Ok (ok_line, Some new))
   move_made m new spelled made = (Ok new, (Ok m, spelled, made), refl)
 
   -- a move that is refused, or that finds no memory
-  refused_exactly : (m : Move) (fault : PlayFault) → IsMoveText m text → played (f.puzzle h.puzzle) h m ≡ Err fault
+  refused_exactly : (m : Move) (fault : PlayFault) → IsMoveText m text → played (f.rules.puzzle h.puzzle) h m ≡ Err fault
       → Explains (RequestGives f h (Make text)) (RequestTakesMemory f h (Make text)) (Play fault)
   refused_exactly m fault spelled is = inl (Err fault, (Ok m, spelled, is), refl)
 
-  lacks_memory : (m : Move) (exact : Result (History P) PlayFault) → IsMoveText m text → played (f.puzzle h.puzzle) h m ≡ exact → IsOk exact
+  lacks_memory : (m : Move) (exact : Result (History P) PlayFault) → IsMoveText m text → played (f.rules.puzzle h.puzzle) h m ≡ exact → IsOk exact
       → Explains (RequestGives f h (Make text)) (RequestTakesMemory f h (Make text)) (Play OutOfMemory)
   lacks_memory m (Ok new) spelled is ok = inr ((new, (Ok m, spelled, is)), refl)
   lacks_memory m (Err fault) spelled is ok = cc
 
-  by_fault : (m : Move) (fault : PlayFault) → IsMoveText m text → IsRefusal (played (f.puzzle h.puzzle) h m) fault
+  by_fault : (m : Move) (fault : PlayFault) → IsMoveText m text → IsRefusal (played (f.rules.puzzle h.puzzle) h m) fault
       → Explains (RequestGives f h (Make text)) (RequestTakesMemory f h (Make text)) (Play fault)
   by_fault m BadMove spelled why = refused_exactly m BadMove spelled why
   by_fault m Unsupported spelled why = refused_exactly m Unsupported spelled why
@@ -63,14 +63,14 @@ module _ {P : Type 0} (f : GameFacts P) (h : History P) (text : List ℕ) where
   by_fault m FilledSquare spelled why = refused_exactly m FilledSquare spelled why
   by_fault m BadSolution spelled why = refused_exactly m BadSolution spelled why
   by_fault m HistoryFull spelled why = refused_exactly m HistoryFull spelled why
-  by_fault m OutOfMemory spelled why = lacks_memory m (played (f.puzzle h.puzzle) h m) spelled refl why
+  by_fault m OutOfMemory spelled why = lacks_memory m (played (f.rules.puzzle h.puzzle) h m) spelled refl why
   by_fault m NothingToUndo spelled why = refused_exactly m NothingToUndo spelled why
   by_fault m NothingToRedo spelled why = refused_exactly m NothingToRedo spelled why
   by_fault m NothingToRestart spelled why = refused_exactly m NothingToRestart spelled why
   by_fault m NoSolution spelled why = refused_exactly m NoSolution spelled why
   by_fault m SeveralSolutions spelled why = refused_exactly m SeveralSolutions spelled why
 
-  pub move_refused : (m : Move) (refusal : Refusal) (fault : PlayFault) → refusal ≡ Play fault → IsMoveText m text → IsRefusal (played (f.puzzle h.puzzle) h m) fault
+  pub move_refused : (m : Move) (refusal : Refusal) (fault : PlayFault) → refusal ≡ Play fault → IsMoveText m text → IsRefusal (played (f.rules.puzzle h.puzzle) h m) fault
       → Explains (RequestGives f h (Make text)) (RequestTakesMemory f h (Make text)) refusal
   move_refused m refusal fault refused spelled why =
       subst (λ (r : Refusal). Explains (RequestGives f h (Make text)) (RequestTakesMemory f h (Make text)) r) (sym refused) (by_fault m fault spelled why)

@@ -7,7 +7,7 @@ use Rattle.puzzle_cli.specs.declared.command.Command.{Command}
 use Rattle.puzzle_cli.specs.declared.command.Command.TheVariants.{New, Quit, Ask}
 use Rattle.puzzle_cli.specs.declared.command.Request.{Request}
 use Rattle.puzzle_cli.specs.declared.command.Request.TheVariants.{Move as Make, Solutions, Plain}
-use Rattle.puzzle_cli.specs.declared.command.Word.TheVariants.{Undo, Redo, Restart, Show, Marks, Status, Id, Done, Solve}
+use Rattle.puzzle_cli.specs.declared.command.Word.TheVariants.{Undo, Redo, Restart, Show, Marks, Status, Id, Done, Solve, Save}
 use Rattle.puzzle_cli.specs.declared.line_fault.LineFault.{LineFault}
 use Rattle.puzzle_cli.specs.declared.line_fault.LineFault.TheVariants.{NoGame}
 use Rattle.puzzle_cli.specs.declared.refusal.Refusal.{Refusal}
@@ -44,6 +44,7 @@ module _ {P : Type 0} (f : GameFacts P) (bytes name : List ℕ) (new : Option (H
   request_refused h (Plain Restart) e = call_refused h (restarted h) e
   request_refused h (Plain Solve) (exact, gives, says) = solve_refused h exact says
   request_refused h (Plain Show) e = text_stays f h bytes new _ e
+  request_refused h (Plain Save) e = text_stays f h bytes new _ e
   request_refused h (Plain Marks) e = text_stays f h bytes new _ e
   request_refused h (Plain Status) e = text_stays f h bytes new _ e
   request_refused h (Plain Id) e = text_stays f h bytes new _ e

@@ -20,7 +20,7 @@ use Rattle.puzzle_cli.specs.declared.command.Command.TheVariants.{New, Quit, Ask
 use Rattle.puzzle_cli.specs.declared.command.Request.{Request}
 use Rattle.puzzle_cli.specs.declared.command.Request.TheVariants.{Move as Make, Solutions, Plain}
 use Rattle.puzzle_cli.specs.declared.command.Word.{Word}
-use Rattle.puzzle_cli.specs.declared.command.Word.TheVariants.{Undo, Redo, Restart, Show, Marks, Status, Id, Done, Solve}
+use Rattle.puzzle_cli.specs.declared.command.Word.TheVariants.{Undo, Redo, Restart, Show, Marks, Status, Id, Done, Solve, Save}
 use Rattle.puzzle_cli.specs.declared.line_fault.LineFault.{LineFault}
 use Rattle.puzzle_cli.specs.declared.refusal.Refusal.{Refusal}
 use Rattle.puzzle_cli.specs.Lines.{Line}
@@ -109,7 +109,7 @@ IdsAreReadOnce {P} f = (text : List ℕ) (one other : Result (GameId P) IdFault)
 
 -- the grammar of IDs has at most one ID for a text, and reading finds it
 pub ids_once : {P : Type 0} (f : GameFacts P)
-    → ((text : List ℕ) (id : GameId P) → IsIdText f.letters (describes_at f.puzzle f.valid f.describes) id text
+    → ((text : List ℕ) (id : GameId P) → IsIdText f.letters (describes_at f.rules.puzzle f.rules.valid f.describes) id text
     → id_at f.letters (has_adjacent f.title) f.desc_at text ≡ Ok id) → IdsAreReadOnce f
 ids_once f again text (Ok a) (Ok b) h k = sym (again text a h) ∙ again text b k
 ids_once f again text (Ok a) (Err b) h k = sym (again text a h) ∙ k
@@ -122,17 +122,18 @@ module _ {P : Type 0} (f : GameFacts P) (ids : IdsAreReadOnce f) where
   word_once h Redo one other is so = sym is ∙ so
   word_once h Restart one other is so = sym is ∙ so
   word_once h Show one other is so = sym is ∙ so
+  word_once h Save one other is so = sym is ∙ so
   word_once h Marks one other is so = sym is ∙ so
   word_once h Status one other is so = sym is ∙ so
   word_once h Id one other is so = sym is ∙ so
   word_once h Done one other is so = sym is ∙ so
-  word_once h Solve one other is so = solve_once (f.puzzle h.puzzle) h one other is so
+  word_once h Solve one other is so = solve_once (f.rules.puzzle h.puzzle) h one other is so
 
   request_once : (h : History P) (request : Request (List ℕ)) (one other : Outcome P) → RequestGives f h request one → RequestGives f h request other → one ≡ other
   request_once h (Make text) one other (e, plays, is) (d, does, so) =
-      sym is ∙ ap call_outcome (plays_once (f.puzzle h.puzzle) h text e d plays does) ∙ so
+      sym is ∙ ap call_outcome (plays_once (f.rules.puzzle h.puzzle) h text e d plays does) ∙ so
   request_once h (Solutions n) one other (xs, first, is) (ys, least, so) =
-      sym is ∙ ap (λ l. text_outcome h (listed_lines l)) (first_once (Solves (f.puzzle h.puzzle)) n xs ys first least) ∙ so
+      sym is ∙ ap (λ l. text_outcome h (listed_lines l)) (first_once (Solves (f.rules.puzzle h.puzzle)) n xs ys first least) ∙ so
   request_once h (Plain word) one other is so = word_once h word one other is so
 
   begins_once : (text : List ℕ) (one other : Result (History P) Refusal) → TextBegins f text one → TextBegins f text other → one ≡ other

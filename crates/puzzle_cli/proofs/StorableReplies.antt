@@ -14,7 +14,7 @@ use Rattle.puzzle_cli.specs.declared.command.Command.{Command}
 use Rattle.puzzle_cli.specs.declared.command.Command.TheVariants.{New, Quit, Ask}
 use Rattle.puzzle_cli.specs.declared.command.Request.{Request}
 use Rattle.puzzle_cli.specs.declared.command.Request.TheVariants.{Move as Make, Solutions, Plain}
-use Rattle.puzzle_cli.specs.declared.command.Word.TheVariants.{Undo, Redo, Restart, Show, Marks, Status, Id, Done, Solve}
+use Rattle.puzzle_cli.specs.declared.command.Word.TheVariants.{Undo, Redo, Restart, Show, Marks, Status, Id, Done, Solve, Save}
 use Rattle.puzzle_cli.specs.declared.line_fault.LineFault.{LineFault}
 use Rattle.puzzle_cli.specs.declared.line_fault.LineFault.TheVariants.{NoGame}
 use Rattle.puzzle_cli.specs.declared.refusal.Refusal.{Refusal}
@@ -39,14 +39,14 @@ module _ {P : Type 0} (f : GameFacts P) (bytes : List ℕ) (new : Option (Histor
   text_storable h text s e = kept_storable (Some h) (text_stays f h bytes new text e) s
 
   call_storable : (h : History P) (call : Call) (exact : Result (History P) PlayFault) → IsNoneOrStorable f (Some h)
-      → CallGives (f.puzzle h.puzzle) h call exact → call_outcome exact ≡ Ok (bytes, new) → IsNoneOrStorable f new
+      → CallGives (f.rules.puzzle h.puzzle) h call exact → call_outcome exact ≡ Ok (bytes, new) → IsNoneOrStorable f new
   call_storable h call (Ok k) s gives e =
       subst (λ (o : Option (History P)). IsNoneOrStorable f o) (outcome_parts ok_line bytes (Some k) new e).1
-      (storable_called f.puzzle f.valid f.letters h k call s gives)
+      (storable_called f.rules.puzzle f.rules.valid f.letters h k call s gives)
   call_storable h call (Err fault) s gives e = absurd (said_or_refused bytes new (OfPlay fault) (sym e))
 
   move_storable : (h : History P) (exact : Result (History P) PlayFault) (read : Result Move PlayFault) → IsNoneOrStorable f (Some h)
-      → (read >>= played (f.puzzle h.puzzle) h) ≡ exact → call_outcome exact ≡ Ok (bytes, new) → IsNoneOrStorable f new
+      → (read >>= played (f.rules.puzzle h.puzzle) h) ≡ exact → call_outcome exact ≡ Ok (bytes, new) → IsNoneOrStorable f new
   move_storable h exact (Ok m) s gives e = call_storable h (Play m) exact s (sym gives) e
   move_storable h exact (Err fault) s gives e = absurd (said_or_refused bytes new (OfPlay fault) (sym (ap call_outcome gives ∙ e)))
 
@@ -55,11 +55,11 @@ module _ {P : Type 0} (f : GameFacts P) (bytes : List ℕ) (new : Option (Histor
   sentence_storable h fault (Some text) s e = text_storable h text s e
   sentence_storable h fault None s e = absurd (said_or_refused bytes new (OfPlay fault) (sym e))
 
-  solve_storable : (h : History P) (exact : Result (History P) PlayFault) → IsNoneOrStorable f (Some h) → SolveGives (f.puzzle h.puzzle) h exact
+  solve_storable : (h : History P) (exact : Result (History P) PlayFault) → IsNoneOrStorable f (Some h) → SolveGives (f.rules.puzzle h.puzzle) h exact
       → SolveSays h exact (Ok (bytes, new)) → IsNoneOrStorable f new
   solve_storable h (Ok k) s gives (g, with, e) =
       subst (λ (o : Option (History P)). IsNoneOrStorable f o) (outcome_parts (move_line (Filling g)) bytes (Some k) new e).1
-      (storable_called f.puzzle f.valid f.letters h k ToSolution s gives)
+      (storable_called f.rules.puzzle f.rules.valid f.letters h k ToSolution s gives)
   solve_storable h (Err fault) s gives e = sentence_storable h fault (solve_sentence fault) s e
 
   request_storable : (h : History P) (request : Request (List ℕ)) → IsNoneOrStorable f (Some h) → RequestGives f h request (Ok (bytes, new)) → IsNoneOrStorable f new
@@ -70,16 +70,17 @@ module _ {P : Type 0} (f : GameFacts P) (bytes : List ℕ) (new : Option (Histor
   request_storable h (Plain Restart) s e = call_storable h FromStart (restarted h) s refl e
   request_storable h (Plain Solve) s (exact, gives, says) = solve_storable h exact s gives says
   request_storable h (Plain Show) s e = text_storable h _ s e
+  request_storable h (Plain Save) s e = text_storable h _ s e
   request_storable h (Plain Marks) s e = text_storable h _ s e
   request_storable h (Plain Status) s e = text_storable h _ s e
   request_storable h (Plain Id) s e = text_storable h _ s e
   request_storable h (Plain Done) s e = text_storable h _ s e
 
-  begins_storable : (text : List ℕ) (k : History P) (read : Result (GameId P) IdFault) → IsIdRead f text read → id_session read ≡ Ok k → IsStorable f.puzzle f.valid f.letters k
+  begins_storable : (text : List ℕ) (k : History P) (read : Result (GameId P) IdFault) → IsIdRead f text read → id_session read ≡ Ok k → IsStorable f.rules.puzzle f.rules.valid f.letters k
   begins_storable text k (Ok (Described params puzzle)) (letters, (desc, spelled, (describes, valid, size))) e =
       let same : started puzzle params params no_extras ≡ k = cc in
-      subst (λ (h : History P). IsStorable f.puzzle f.valid f.letters h) same
-      (starts_storable f.puzzle f.valid f.letters puzzle params params no_extras valid letters letters (sym size))
+      subst (λ (h : History P). IsStorable f.rules.puzzle f.rules.valid f.letters h) same
+      (starts_storable f.rules.puzzle f.rules.valid f.letters puzzle params params no_extras valid letters letters (sym size))
   begins_storable text k (Ok (Seeded params seed)) is e = cc
   begins_storable text k (Err fault) is e = cc
 

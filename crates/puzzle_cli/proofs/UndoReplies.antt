@@ -27,11 +27,11 @@ redo_asks : Asks redo_line (Plain Redo)
 redo_asks = (codes "redo", refl, inr (inl (refl, refl)))
 
 -- a call that is made and then undone
-taken_back : {P : Type 0} (f : GameFacts P) (h k : History P) (call : Call) → IsValid (f.puzzle h.puzzle) h → may_want_memory call ≡ true
-    → CallGives (f.puzzle h.puzzle) h call (Ok k) → IsOkAnd (undone k) (IsSameBack (f.puzzle h.puzzle) h)
-taken_back f h k (Play m) valid wants gives = undo_takes_back f.puzzle h k m valid (sym gives)
-taken_back f h k FromStart valid wants gives = undo_takes_restart_back f.puzzle h k valid (sym gives)
-taken_back f h k ToSolution valid wants gives = undo_takes_solve_back f.puzzle h k valid gives
+taken_back : {P : Type 0} (f : GameFacts P) (h k : History P) (call : Call) → IsValid (f.rules.puzzle h.puzzle) h → may_want_memory call ≡ true
+    → CallGives (f.rules.puzzle h.puzzle) h call (Ok k) → IsOkAnd (undone k) (IsSameBack (f.rules.puzzle h.puzzle) h)
+taken_back f h k (Play m) valid wants gives = undo_takes_back f.rules.puzzle h k m valid (sym gives)
+taken_back f h k FromStart valid wants gives = undo_takes_restart_back f.rules.puzzle h k valid (sym gives)
+taken_back f h k ToSolution valid wants gives = undo_takes_solve_back f.rules.puzzle h k valid gives
 taken_back f h k ToUndo valid wants gives = cc
 taken_back f h k ToRedo valid wants gives = cc
 
@@ -46,12 +46,12 @@ undo_said {P} p q h k said (Some z) back (Err fault, (stays, (exact, gives, is))
     absurd (subst (λ (r : Result (History P) PlayFault). IsOkAnd r (IsSameBack p h)) (sym gives ∙ is) back)
 
 after_made : {P : Type 0} (f : GameFacts P) (h : History P) (call : Call) (bytes said : List ℕ) (new last : Option (History P))
-    → IsValid (f.puzzle h.puzzle) h → may_want_memory call ≡ true → IsMade call bytes
-    → IsSomeAnd new (λ k. (answer : Result (Unit {0}) PlayFault) × Answered (f.puzzle h.puzzle) h call answer k × IsToldOf call answer bytes)
-    → Reply f new undo_line said last → (said ≡ ok_line) × IsSomeAnd last (IsSameBack (f.puzzle h.puzzle) h)
+    → IsValid (f.rules.puzzle h.puzzle) h → may_want_memory call ≡ true → IsMade call bytes
+    → IsSomeAnd new (λ k. (answer : Result (Unit {0}) PlayFault) × Answered (f.rules.puzzle h.puzzle) h call answer k × IsToldOf call answer bytes)
+    → Reply f new undo_line said last → (said ≡ ok_line) × IsSomeAnd last (IsSameBack (f.rules.puzzle h.puzzle) h)
 after_made f h call bytes said None last valid wants made answer reply = absurd answer
 after_made f h call bytes said (Some k) last valid wants made (Ok u, gives, told) reply =
-    undo_said (f.puzzle h.puzzle) (f.puzzle k.puzzle) h k said last (taken_back f h k call valid wants gives)
+    undo_said (f.rules.puzzle h.puzzle) (f.rules.puzzle k.puzzle) h k said last (taken_back f h k call valid wants gives)
     (replies_are_calls f k undo_line (Plain Undo) ToUndo said last undo_asks refl reply)
 after_made f h call bytes said (Some k) last valid wants made (Err fault, gives, told) reply =
     let no_ok : IsOk {T = Unit {0}} {E = PlayFault} (Err fault) = told_made call (Err fault) bytes told made in cc
@@ -68,12 +68,12 @@ redo_said q h k said None back told = absurd told
 redo_said {P} q h k said (Some z) back (Ok u, gives, told) = let same : z ≡ h = cc in (told, ap Some same)
 redo_said {P} q h k said (Some z) back (Err fault, (stays, (exact, gives, is)), told) = cc
 
-after_undo : {P : Type 0} (f : GameFacts P) (h : History P) (said : List ℕ) (new last : Option (History P)) → IsValid (f.puzzle h.puzzle) h
-    → IsSomeAnd new (λ k. (answer : Result (Unit {0}) PlayFault) × Answered (f.puzzle h.puzzle) h ToUndo answer k × IsToldOf ToUndo answer ok_line)
+after_undo : {P : Type 0} (f : GameFacts P) (h : History P) (said : List ℕ) (new last : Option (History P)) → IsValid (f.rules.puzzle h.puzzle) h
+    → IsSomeAnd new (λ k. (answer : Result (Unit {0}) PlayFault) × Answered (f.rules.puzzle h.puzzle) h ToUndo answer k × IsToldOf ToUndo answer ok_line)
     → Reply f new redo_line said last → (said ≡ ok_line) × (last ≡ Some h)
 after_undo f h said None last valid answer reply = absurd answer
 after_undo f h said (Some k) last valid (Ok u, gives, told) reply =
-    redo_said (f.puzzle k.puzzle) h k said last (redo_takes_undo_back f.puzzle h k valid (sym gives))
+    redo_said (f.rules.puzzle k.puzzle) h k said last (redo_takes_undo_back f.rules.puzzle h k valid (sym gives))
     (replies_are_calls f k redo_line (Plain Redo) ToRedo said last redo_asks refl reply)
 after_undo f h said (Some k) last valid (Err fault, gives, told) reply = absurd (not_ok ok_line (name_of fault) refl told)
 

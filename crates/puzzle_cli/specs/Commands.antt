@@ -6,7 +6,7 @@ use Rattle.puzzle_cli.specs.declared.command.Command.TheVariants.{New, Quit, Ask
 use Rattle.puzzle_cli.specs.declared.command.Request.{Request}
 use Rattle.puzzle_cli.specs.declared.command.Request.TheVariants.{Move, Solutions, Plain}
 use Rattle.puzzle_cli.specs.declared.command.Word.{Word}
-use Rattle.puzzle_cli.specs.declared.command.Word.TheVariants.{Undo, Redo, Restart, Show, Marks, Status, Id, Done, Solve}
+use Rattle.puzzle_cli.specs.declared.command.Word.TheVariants.{Undo, Redo, Restart, Show, Marks, Status, Id, Done, Solve, Save}
 use Rattle.puzzle_cli.specs.declared.line_fault.LineFault.{LineFault}
 use Rattle.puzzle_cli.specs.declared.line_fault.LineFault.TheVariants.{LongLine, BadCommand, NoGame}
 use Rattle.puzzle_cli.specs.Lines.{Line}
@@ -23,6 +23,7 @@ words =
     ∷ (codes "id", Id)
     ∷ (codes "done", Done)
     ∷ (codes "solve", Solve)
+    ∷ (codes "save", Save)
     ∷ []
 
 -- the table has the entry under this line

@@ -14,7 +14,7 @@ use Rattle.puzzle_cli.specs.GameFacts.{GameFacts}
 
 -- the text says the ID, or has this fault first
 abbrev pub IsIdRead : {P : Type 0} → GameFacts P → List ℕ → Result (GameId P) IdFault → Type 0
-IsIdRead f text (Ok id) = IsIdText f.letters (describes_at f.puzzle f.valid f.describes) id text
+IsIdRead f text (Ok id) = IsIdText f.letters (describes_at f.rules.puzzle f.rules.valid f.describes) id text
 IsIdRead f text (Err fault) = id_at f.letters (has_adjacent f.title) f.desc_at text ≡ Err fault
 
 abbrev pub no_extras : Extras

@@ -57,7 +57,7 @@ OutputIsOne {P} f =
 -- a session that can be stored, or none
 abbrev pub IsNoneOrStorable : {P : Type 0} → GameFacts P → Option (History P) → Type 0
 IsNoneOrStorable f None = Unit {0}
-IsNoneOrStorable f (Some h) = IsStorable f.puzzle f.valid f.letters h
+IsNoneOrStorable f (Some h) = IsStorable f.rules.puzzle f.rules.valid f.letters h
 
 -- each reply leaves one where it began with one
 abbrev pub RepliesStayStorable : {P : Type 0} → GameFacts P → Type 0
@@ -98,7 +98,7 @@ abbrev pub RepliesAreCalls : {P : Type 0} → GameFacts P → Type 0
 RepliesAreCalls {P} f =
     (h : History P) (line : Line) (request : Request (List ℕ)) (call : Call) (bytes : List ℕ) (new : Option (History P))
     → Asks line request → IsCallOf request call → Reply f (Some h) line bytes new
-    → IsSomeAnd new (λ k. (answer : Result (Unit {0}) PlayFault) × Answered (f.puzzle h.puzzle) h call answer k × IsToldOf call answer bytes)
+    → IsSomeAnd new (λ k. (answer : Result (Unit {0}) PlayFault) × Answered (f.rules.puzzle h.puzzle) h call answer k × IsToldOf call answer bytes)
 
 -- a line that asks for no call leaves the session
 abbrev pub OtherRequestsLeave : {P : Type 0} → GameFacts P → Type 0
@@ -119,12 +119,12 @@ redo_line = Some (codes "redo")
 abbrev pub UndoLineTakesBack : {P : Type 0} → GameFacts P → Type 0
 UndoLineTakesBack {P} f =
     (h : History P) (line : Line) (request : Request (List ℕ)) (call : Call) (bytes said : List ℕ) (new last : Option (History P))
-    → IsValid (f.puzzle h.puzzle) h → Asks line request → IsCallOf request call → may_want_memory call ≡ true → IsMade call bytes
+    → IsValid (f.rules.puzzle h.puzzle) h → Asks line request → IsCallOf request call → may_want_memory call ≡ true → IsMade call bytes
     → Reply f (Some h) line bytes new → Reply f new undo_line said last
-    → (said ≡ ok_line) × IsSomeAnd last (IsSameBack (f.puzzle h.puzzle) h)
+    → (said ≡ ok_line) × IsSomeAnd last (IsSameBack (f.rules.puzzle h.puzzle) h)
 
 -- `undo` that answered `ok`, and then `redo`: it answers `ok`, and the whole session is as before, later moves included
 abbrev pub RedoLineTakesUndoBack : {P : Type 0} → GameFacts P → Type 0
 RedoLineTakesUndoBack {P} f =
-    (h : History P) (said : List ℕ) (new last : Option (History P)) → IsValid (f.puzzle h.puzzle) h
+    (h : History P) (said : List ℕ) (new last : Option (History P)) → IsValid (f.rules.puzzle h.puzzle) h
     → Reply f (Some h) undo_line ok_line new → Reply f new redo_line said last → (said ≡ ok_line) × (last ≡ Some h)

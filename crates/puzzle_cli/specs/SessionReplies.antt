@@ -14,12 +14,13 @@ use Rattle.play_midend.specs.Histories.{History, shown, played, restarted, with_
 use Rattle.puzzle_cli.specs.declared.command.Request.{Request}
 use Rattle.puzzle_cli.specs.declared.command.Request.TheVariants.{Move as Make, Solutions, Plain}
 use Rattle.puzzle_cli.specs.declared.command.Word.{Word}
-use Rattle.puzzle_cli.specs.declared.command.Word.TheVariants.{Undo, Redo, Restart, Show, Marks, Status, Id, Done, Solve}
+use Rattle.puzzle_cli.specs.declared.command.Word.TheVariants.{Undo, Redo, Restart, Show, Marks, Status, Id, Done, Solve, Save}
 use Rattle.puzzle_cli.specs.declared.refusal.Refusal.{Refusal}
 use Rattle.puzzle_cli.specs.declared.refusal.Refusal.TheVariants.{Play}
 use Rattle.puzzle_cli.specs.Symbols.{line_feed, colon}
 use Rattle.puzzle_cli.specs.BoardTexts.{marks_lines, status_words, done_lines}
 use Rattle.puzzle_cli.specs.SolutionTexts.{listed_lines, move_line, solve_sentence}
+use Rattle.play_save.specs.Written.{save_of}
 use Rattle.puzzle_cli.specs.GameFacts.{GameFacts}
 
 abbrev pub ok_line : List ℕ
@@ -40,7 +41,7 @@ text_outcome h text = Ok (text, Some h)
 
 -- the board that a session shows
 abbrev pub shown_board : {P : Type 0} → GameFacts P → History P → BoardValue
-shown_board f h = shown (f.puzzle h.puzzle) h
+shown_board f h = shown (f.rules.puzzle h.puzzle) h
 
 -- the ID of the game that is played, in its written form
 abbrev pub id_line : {P : Type 0} → GameFacts P → History P → List ℕ
@@ -80,14 +81,15 @@ WordGives f h Status outcome =
     text_outcome h (status_words (shown_board f h) h.position (length h.moves + 1) ++ line_feed ∷ []) ≡ outcome
 WordGives f h Id outcome = text_outcome h (id_line f h) ≡ outcome
 WordGives f h Done outcome = text_outcome h (done_lines (shown_board f h)) ≡ outcome
-WordGives f h Solve outcome = SolveReplies (f.puzzle h.puzzle) h outcome
+WordGives f h Save outcome = text_outcome h (save_of f.title f.desc_of h) ≡ outcome
+WordGives f h Solve outcome = SolveReplies (f.rules.puzzle h.puzzle) h outcome
 
 -- what is said to a request with ample memory: to `list` the first solutions of the starting puzzle, so many at most
 abbrev pub RequestGives : {P : Type 0} → GameFacts P → History P → Request (List ℕ) → Outcome P → Type 0
 RequestGives {P} f h (Make text) outcome =
-    (exact : Result (History P) PlayFault) × TextPlays (f.puzzle h.puzzle) h text exact × (call_outcome exact ≡ outcome)
+    (exact : Result (History P) PlayFault) × TextPlays (f.rules.puzzle h.puzzle) h text exact × (call_outcome exact ≡ outcome)
 RequestGives f h (Solutions n) outcome =
-    (listed : List GridValue) × AreFirst (Solves (f.puzzle h.puzzle)) n listed × (text_outcome h (listed_lines listed) ≡ outcome)
+    (listed : List GridValue) × AreFirst (Solves (f.rules.puzzle h.puzzle)) n listed × (text_outcome h (listed_lines listed) ≡ outcome)
 RequestGives f h (Plain word) outcome = WordGives f h word outcome
 
 -- The word's answer takes memory, and nothing else refuses it.
@@ -100,10 +102,11 @@ WordTakesMemory f h Marks = Unit {0}
 WordTakesMemory f h Status = ⊥
 WordTakesMemory f h Id = Unit {0}
 WordTakesMemory f h Done = ⊥
-WordTakesMemory {P} f h Solve = (new : History P) × SolveGives (f.puzzle h.puzzle) h (Ok new)
+WordTakesMemory f h Save = Unit {0}
+WordTakesMemory {P} f h Solve = (new : History P) × SolveGives (f.rules.puzzle h.puzzle) h (Ok new)
 
 -- The request's answer takes memory, and nothing else refuses it.
 abbrev pub RequestTakesMemory : {P : Type 0} → GameFacts P → History P → Request (List ℕ) → Type 0
-RequestTakesMemory {P} f h (Make text) = (new : History P) × TextPlays (f.puzzle h.puzzle) h text (Ok new)
+RequestTakesMemory {P} f h (Make text) = (new : History P) × TextPlays (f.rules.puzzle h.puzzle) h text (Ok new)
 RequestTakesMemory f h (Solutions n) = Unit {0}
 RequestTakesMemory f h (Plain word) = WordTakesMemory f h word

@@ -1,6 +1,7 @@
 //! The answers to lines: what a line makes of a session, or of none, and what is said to it.
 ghost use Rattle.std.specs.Prelude.{◌≡◌, Some, Ok, IfOk, IfErr, OnErr};
 ghost use Rattle.std.specs.Option.{option_copied};
+ghost use Rattle.play_save.specs.Written.{save_of};
 ghost use Rattle.puzzle_cli.specs.Text.{text_bytes};
 ghost use Rattle.puzzle_cli.specs.Commands.{is_quit, request_map, IsInRange};
 ghost use Rattle.puzzle_cli.specs.SessionReplies.{id_line, WordGives, WordTakesMemory, RequestGives, RequestTakesMemory};
@@ -24,6 +25,7 @@ use crate::text::Text;
 use clue_rules::Game;
 use latin_board::OutOfMemory;
 use play_midend::{Session, read_move};
+use play_save::save;
 use std::alloc::Global;
 
 impl<P: Draw> Machine for Option<Session<P>> {
@@ -112,6 +114,7 @@ fn say<P: Draw>(alloc: Global, session: &mut Session<P>, word: Word) -> Result<T
         Word::Id => Ok(Text::Long(id_text(alloc, session)?)),
         Word::Done => Ok(Text::Clues(done_text(session))),
         Word::Solve => solve_reply(session),
+        Word::Save => Ok(Text::Long(save_text(alloc, session)?)),
     }
 }
 
@@ -139,4 +142,11 @@ fn id_text<P: Draw>(alloc: Global, session: &Session<P>) -> Result<Vec<u8>, OutO
     text.extend_from_slice(&description)?;
     text.push(b'\n')?;
     Ok(text)
+}
+
+// The save text of the session.
+fn save_text<P: Draw>(alloc: Global, session: &Session<P>) -> Result<Vec<u8>, OutOfMemory>
+    ensures { IfOk result (λ text. text.items ≡ save_of P.title P.desc_of session.now) }
+{
+    save(alloc, session).map_err(|_| OutOfMemory)
 }

@@ -46,6 +46,8 @@ pub(crate) enum Word {
     Done,
     /// Fill in the only solution of the starting puzzle.
     Solve,
+    /// Write the save text.
+    Save,
 }
 
 /// What is asked of a session by a word alone, or `None` where the line is no such word.
@@ -70,6 +72,8 @@ fn read_word(line: &[u8]) -> Option<Word>
         Word::Done
     } else if line == b"solve".as_slice() {
         Word::Solve
+    } else if line == b"save".as_slice() {
+        Word::Save
     } else {
         return None;
     };

@@ -1,6 +1,6 @@
 use Rattle.clue_rules.specs.Parameters.{has_adjacent}
 use Rattle.clue_rules.specs.GameIds.{describes_at}
-use Rattle.clue_rules.specs.IdLaws.{id_again, game_reads}
+use Rattle.clue_rules.proofs.GameIdLemmas.{id_again, game_reads}
 use Rattle.puzzle_cli.specs.GameFacts.{GameFacts}
 use Rattle.puzzle_cli.specs.CommandReading.{read_at}
 use Rattle.puzzle_cli.proofs.CommandLaws.{line_is_read, read_once}
@@ -16,7 +16,7 @@ returns-clause-read_once g c = λ line. (read_at line, line_is_read line, λ oth
 
 pub returns-clause-one_output : goal.returns-clause-one_output
 returns-clause-one_output g c =
-    let f : GameFacts g.row.P.Denot = record { title = g.P.Game.title; letters = g.P.Game.letter_codes; puzzle = g.P.Rules.puzzle; valid = g.P.Rules.valid; describes = g.P.Game.describes; desc_at = g.P.Game.desc_at; desc_of = g.P.Game.desc_of; drawing = g.P.Draw.drawing } in
+    let f : GameFacts g.row.P.Denot = record { title = g.P.Game.title; letters = g.P.Game.letter_codes; rules = g.P.Rules; describes = g.P.Game.describes; desc_at = g.P.Game.desc_at; desc_of = g.P.Game.desc_of; drawing = g.P.Draw.drawing } in
     let D = g.row.P.Denot in
     let is_desc = describes_at g.P.Rules.puzzle g.P.Rules.valid g.P.Game.describes in
     let reads = game_reads D g.P.Rules.puzzle g.P.Rules.valid g.P.Game.describes g.P.Game.desc_at g.met.P.Game.desc_taken g.met.P.Game.desc_again in
@@ -24,19 +24,19 @@ returns-clause-one_output g c =
     λ lines old one other written spelled. output_once f ids lines old one other written spelled
 
 pub returns-clause-stays_storable : goal.returns-clause-stays_storable
-returns-clause-stays_storable g c = let f : GameFacts g.row.P.Denot = record { title = g.P.Game.title; letters = g.P.Game.letter_codes; puzzle = g.P.Rules.puzzle; valid = g.P.Rules.valid; describes = g.P.Game.describes; desc_at = g.P.Game.desc_at; desc_of = g.P.Game.desc_of; drawing = g.P.Draw.drawing } in replies_stay_storable f
+returns-clause-stays_storable g c = let f : GameFacts g.row.P.Denot = record { title = g.P.Game.title; letters = g.P.Game.letter_codes; rules = g.P.Rules; describes = g.P.Game.describes; desc_at = g.P.Game.desc_at; desc_of = g.P.Game.desc_of; drawing = g.P.Draw.drawing } in replies_stay_storable f
 
 pub returns-clause-refused : goal.returns-clause-refused
-returns-clause-refused g c = let f : GameFacts g.row.P.Denot = record { title = g.P.Game.title; letters = g.P.Game.letter_codes; puzzle = g.P.Rules.puzzle; valid = g.P.Rules.valid; describes = g.P.Game.describes; desc_at = g.P.Game.desc_at; desc_of = g.P.Game.desc_of; drawing = g.P.Draw.drawing } in refused_lines_leave f
+returns-clause-refused g c = let f : GameFacts g.row.P.Denot = record { title = g.P.Game.title; letters = g.P.Game.letter_codes; rules = g.P.Rules; describes = g.P.Game.describes; desc_at = g.P.Game.desc_at; desc_of = g.P.Game.desc_of; drawing = g.P.Draw.drawing } in refused_lines_leave f
 
 pub returns-clause-calls : goal.returns-clause-calls
-returns-clause-calls g c = let f : GameFacts g.row.P.Denot = record { title = g.P.Game.title; letters = g.P.Game.letter_codes; puzzle = g.P.Rules.puzzle; valid = g.P.Rules.valid; describes = g.P.Game.describes; desc_at = g.P.Game.desc_at; desc_of = g.P.Game.desc_of; drawing = g.P.Draw.drawing } in replies_are_calls f
+returns-clause-calls g c = let f : GameFacts g.row.P.Denot = record { title = g.P.Game.title; letters = g.P.Game.letter_codes; rules = g.P.Rules; describes = g.P.Game.describes; desc_at = g.P.Game.desc_at; desc_of = g.P.Game.desc_of; drawing = g.P.Draw.drawing } in replies_are_calls f
 
 pub returns-clause-others : goal.returns-clause-others
-returns-clause-others g c = let f : GameFacts g.row.P.Denot = record { title = g.P.Game.title; letters = g.P.Game.letter_codes; puzzle = g.P.Rules.puzzle; valid = g.P.Rules.valid; describes = g.P.Game.describes; desc_at = g.P.Game.desc_at; desc_of = g.P.Game.desc_of; drawing = g.P.Draw.drawing } in other_requests_leave f
+returns-clause-others g c = let f : GameFacts g.row.P.Denot = record { title = g.P.Game.title; letters = g.P.Game.letter_codes; rules = g.P.Rules; describes = g.P.Game.describes; desc_at = g.P.Game.desc_at; desc_of = g.P.Game.desc_of; drawing = g.P.Draw.drawing } in other_requests_leave f
 
 pub returns-clause-undone : goal.returns-clause-undone
-returns-clause-undone g c = let f : GameFacts g.row.P.Denot = record { title = g.P.Game.title; letters = g.P.Game.letter_codes; puzzle = g.P.Rules.puzzle; valid = g.P.Rules.valid; describes = g.P.Game.describes; desc_at = g.P.Game.desc_at; desc_of = g.P.Game.desc_of; drawing = g.P.Draw.drawing } in undo_line_takes_back f
+returns-clause-undone g c = let f : GameFacts g.row.P.Denot = record { title = g.P.Game.title; letters = g.P.Game.letter_codes; rules = g.P.Rules; describes = g.P.Game.describes; desc_at = g.P.Game.desc_at; desc_of = g.P.Game.desc_of; drawing = g.P.Draw.drawing } in undo_line_takes_back f
 
 pub returns-clause-redone : goal.returns-clause-redone
-returns-clause-redone g c = let f : GameFacts g.row.P.Denot = record { title = g.P.Game.title; letters = g.P.Game.letter_codes; puzzle = g.P.Rules.puzzle; valid = g.P.Rules.valid; describes = g.P.Game.describes; desc_at = g.P.Game.desc_at; desc_of = g.P.Game.desc_of; drawing = g.P.Draw.drawing } in redo_line_takes_undo_back f
+returns-clause-redone g c = let f : GameFacts g.row.P.Denot = record { title = g.P.Game.title; letters = g.P.Game.letter_codes; rules = g.P.Rules; describes = g.P.Game.describes; desc_at = g.P.Game.desc_at; desc_of = g.P.Game.desc_of; drawing = g.P.Draw.drawing } in redo_line_takes_undo_back f
