@@ -8,3 +8,4 @@ pub mod SaveTexts
 pub mod Written
 pub mod FirstFaults
 pub mod Taking
+pub mod Laws
