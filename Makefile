@@ -1,7 +1,7 @@
 # make            proves and builds the program, and leaves it as build/puzzles
 # make test       the gate: every proof from nothing, wrong bodies, tests and stored runs
 # make play       a game on the terminal; GAME=towers (the default) or GAME=unequal
-# make bench      how long the solver takes, class by class; no part of the gate
+# make bench      how long the solver and the generator take, class by class; no part of the gate
 # make clean      takes build/ away; what the checks keep stays
 
 RT ?= rt
@@ -31,6 +31,8 @@ play:
 bench:
 	cd crates/solver_bench && $(RT) run < /dev/null
 	@cat bench/puzzles.txt bench/several_and_none.txt | crates/solver_bench/out/solver_bench
+	cd crates/gen_bench && $(RT) run < /dev/null
+	@crates/gen_bench/out/gen_bench < bench/generated.txt
 
 clean:
 	rm -rf build
