@@ -1,7 +1,8 @@
-//! Generates puzzles of both games for each size and the seeds from 0 to 199, and prints how long one took, in the mean and
-//! in the slowest case, in microseconds, and how many items were kept in the mean.
+//! Generates puzzles of the games and sizes of standard input, for the seeds from 0 to 199, and prints how many items were kept
+//! in the mean, and how long one took, in the mean and in the slowest case, in microseconds.
 //!
-//! Each puzzle is generated some times in a row, and the mean of these is its time.
+//! A line is a game and a size, with a space between; a line that begins with # is skipped. Each puzzle is generated some
+//! times in a row, and the mean of these is its time.
 #![tactic(auto)]
 
 use clue_rules::{Game, Params, Towers, Unequal};
@@ -87,16 +88,23 @@ fn measure<P: Game, R: Clock + Print>(rt: &R, size: Size) -> io::Result<()> {
     )
 }
 
-fn main(rt: HostRuntime) -> io::Result<()> {
-    for width in 3..7 {
-        if let Some(size) = Size::new(width) {
-            measure::<Towers, HostRuntime>(&rt, size)?;
-        }
+/// Measures the game and the size of one line; a line that can't be read is told on standard error.
+fn measure_line<R: Clock + Print + Eprint>(rt: &R, line: &str) -> io::Result<()> {
+    if line.starts_with('#') {
+        return Ok(());
     }
-    for width in 3..7 {
-        if let Some(size) = Size::new(width) {
-            measure::<Unequal, HostRuntime>(&rt, size)?;
-        }
+    let (game, width) = line.split_once(' ').unwrap_or((line, ""));
+    let size = width.parse().ok().and_then(Size::new);
+    match (game, size) {
+        ("towers", Some(size)) => measure::<Towers, R>(rt, size),
+        ("unequal", Some(size)) => measure::<Unequal, R>(rt, size),
+        _ => eprintln!(rt; "cannot read {line}"),
+    }
+}
+
+fn main(rt: HostRuntime) -> io::Result<()> {
+    for line in rt.lines(rt.alloc()) {
+        measure_line(&rt, line?.as_str())?;
     }
     Ok(())
 }
