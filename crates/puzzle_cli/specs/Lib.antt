@@ -4,6 +4,8 @@ pub mod UnequalPicture
 pub mod BoardTexts
 pub mod SolutionTexts
 pub mod Commands
+pub mod CommandFault
+pub mod CommandLine
 pub mod Refusals
 pub mod SessionReplies
 pub mod End

@@ -8,10 +8,13 @@
 #![tactic(auto)]
 
 mod command;
+mod command_fault;
+mod command_line;
 mod console;
 mod done_clues;
 mod draw;
 mod driver;
+mod help;
 mod line_buffer;
 mod line_fault;
 mod machine;
@@ -26,6 +29,8 @@ mod text;
 mod towers_picture;
 mod unequal_picture;
 
+pub use command_fault::CommandFault;
+pub use command_line::{Args, GameName, read_words};
 pub use console::run;
 pub use done_clues::done_text;
 pub use draw::{Draw, picture};
