@@ -14,5 +14,6 @@ pub mod LineFault
 pub mod Lines
 pub mod Replies
 pub mod Runs
+pub mod StartFault
 pub mod Steps
 pub mod Text
