@@ -10,7 +10,7 @@ use Rattle.clue_rules.specs.declared.unequal.sign.Sign.{Sign}
 use Rattle.clue_rules.specs.declared.unequal.sign.Sign.TheVariants.{Absent}
 use Rattle.clue_rules.specs.Unequal.{UnequalValue, sign_count, first_of, second_of}
 use Rattle.clue_rules.specs.UnequalItems.{cut_unequal, sign_of}
-use Rattle.clue_rules.specs.UnequalItemLaws.{kept-but_one, kept-past, kept-before}
+use Rattle.clue_rules.specs.KeptItemLaws.{kept-but_one, kept-past, kept-before}
 use Rattle.clue_rules.specs.UnequalFields.{KeepsSigns}
 
 -- the first i of n signs are f's, and those past the n-th are absent

@@ -1,5 +1,5 @@
 -- The number and the name of each fault of an ID.
-use Rattle.std.specs.Prelude.{ℕ, List, codes}
+use Rattle.std.specs.Prelude.{◌≢◌, ℕ, List, codes, Result, IfErr}
 use Rattle.clue_rules.specs.declared.id_fault.IdFault.{IdFault}
 use Rattle.clue_rules.specs.declared.id_fault.IdFault.TheVariants.{BadSize, BadLetter, AdjacentMode, BadParams, ForeignSeed, NoDescription, BadSeed, BadClue, BadSquares, TooFew, TooMany, OffGrid, Contradiction, OutOfMemory}
 
@@ -34,3 +34,7 @@ fault_name TooMany = codes "TooMany"
 fault_name OffGrid = codes "OffGrid"
 fault_name Contradiction = codes "Contradiction"
 fault_name OutOfMemory = codes "OutOfMemory"
+
+-- the answer isn't want of memory
+abbrev pub SparesMemory : {A : Type 0} → Result A IdFault → Type 0
+SparesMemory answer = IfErr answer (λ fault. fault ≢ OutOfMemory)

@@ -1,7 +1,7 @@
 -- Lists of which only some items are kept: lengths, entries, two cuts as one, and the loss of one item.
-use Rattle.std.proofs.Common.{◌≡◌, ℕ, zero, suc, ◌+◌, ◌<◌, ◌≤◌, Bool, true, false, cond, eqb, ltb, not, ◌&&◌, List, [], ◌∷◌, length, get_or, set, refl, ap, arith}
+use Rattle.std.proofs.Common.{◌≡◌, ℕ, zero, suc, ◌+◌, ◌<◌, ◌≤◌, Bool, true, false, cond, eqb, ltb, not, ◌&&◌, List, [], ◌∷◌, length, get_or, set, refl, sym, ap, subst, ◌∙◌, inl, inr, arith}
 use Rattle.std.specs.List.{AllByRecursion}
-use Rattle.std.proofs.lemmas.Bool.{ne_eqb, eq-eqb}
+use Rattle.std.proofs.lemmas.Bool.{lt-ltb, ne_eqb, eq-eqb, cases_lt}
 use Rattle.clue_rules.specs.KeptItems.{kept}
 
 pub length-kept : {X : Type 0} (empty : X) (keep : ℕ → Bool) (i : ℕ) (xs : List X) → length (kept empty keep i xs) ≡ length xs
@@ -32,10 +32,21 @@ kept-kept empty first second i [] = refl
 kept-kept empty first second i (x ∷ xs) =
     rw (cond-and (first i) (second i) x empty, kept-kept empty first second (i + 1) xs) refl
 
-pub kept-agrees : {X : Type 0} (empty : X) (a b : ℕ → Bool) (i : ℕ) (xs : List X) → ((j : ℕ) → i ≤ j → j < i + length xs → a j ≡ b j) → kept empty a i xs ≡ kept empty b i xs
-kept-agrees empty a b i [] h = refl
-kept-agrees empty a b i (x ∷ xs) h =
-    rw (h i (omega arith) (omega arith), kept-agrees empty a b (i + 1) xs (λ j low high. h j (omega arith) (omega arith))) refl
+-- only the entries that say something matter to what is kept
+pub kept-agrees : {X : Type 0} (empty : X) (present : X → Bool) → ((x : X) → present x ≡ false → x ≡ empty) → (a b : ℕ → Bool) (i : ℕ) (xs : List X) → ((k : ℕ) → k < length xs → present (get_or xs k empty) ≡ true → a (i + k) ≡ b (i + k)) → kept empty a i xs ≡ kept empty b i xs
+kept-agrees empty present gone a b i [] h = refl
+kept-agrees {X} empty present gone a b i (x ∷ xs) h =
+    let first : present x ≡ true → a i ≡ b i = λ here. (let e : i + 0 ≡ i = omega arith in rw e at (h 0 (omega arith) here)) in
+    rw (one_agrees first, kept-agrees empty present gone a b (i + 1) xs (λ k inside here. later k (h (suc k) (omega arith) here))) refl
+  where
+    one_agrees : (present x ≡ true → a i ≡ b i) → cond (a i) x empty ≡ cond (b i) x empty
+    one_agrees same = elim (present x) as (λ t. present x ≡ t → cond (a i) x empty ≡ cond (b i) x empty) [
+      | true ↦ λ here. rw (same here) refl
+      | false ↦ λ here. rw (gone x here) (sym (same_either (a i) empty) ∙ same_either (b i) empty)
+    ] refl
+
+    later : (k : ℕ) → a (i + suc k) ≡ b (i + suc k) → a (i + 1 + k) ≡ b (i + 1 + k)
+    later k same = let e : i + 1 + k ≡ i + suc k = omega arith in rw e same
 
 pub kept-past : {X : Type 0} (empty : X) (i d : ℕ) (xs : List X) → d < i → kept empty (λ j. not (eqb j d)) i xs ≡ xs
 kept-past empty i d [] h = refl
@@ -75,3 +86,22 @@ positive-cond false n = elim (ltb 0 n) as (λ t. false ≡ (t && false)) [ true 
 pub asked_still : (b : Bool) (n m : ℕ) → (0 < n → m ≡ n) → 0 < cond b n zero → m ≡ cond b n zero
 asked_still true n m h low = h low
 asked_still false n m h low = absurd (omega arith)
+
+-- a number that isn't positive is none
+pub not_positive : (n : ℕ) → ltb 0 n ≡ false → n ≡ zero
+not_positive zero h = refl
+not_positive (suc n) h = cc (lt-ltb 0 (suc n) (omega arith))
+
+-- what holds at the widths 3 to 6 holds at each that is generated
+pub small_widths : (Holds : ℕ → Type 0) → Holds 3 → Holds 4 → Holds 5 → Holds 6 → (w : ℕ) → 3 ≤ w → w ≤ 6 → Holds w
+small_widths Holds three four five six w low high =
+    elim (cases_lt w 4) [
+      | inl below ↦ let e : 3 ≡ w = omega arith in subst Holds e three
+      | inr from_four ↦ elim (cases_lt w 5) [
+        | inl below ↦ let e : 4 ≡ w = omega arith in subst Holds e four
+        | inr from_five ↦ elim (cases_lt w 6) [
+          | inl below ↦ let e : 5 ≡ w = omega arith in subst Holds e five
+          | inr from_six ↦ let e : 6 ≡ w = omega arith in subst Holds e six
+        ]
+      ]
+    ]

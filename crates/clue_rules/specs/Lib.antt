@@ -13,6 +13,7 @@ pub mod KeptItems
 pub mod ParamLaws
 pub mod ParamReading
 pub mod ParamTexts
+pub mod SparedMemory
 pub mod SquarePartLaws
 pub mod SquaresWritten
 pub mod TowersFields

@@ -1,7 +1,7 @@
 -- The laws of items: what a cut keeps, what two cuts make, and that the full puzzle of a Latin square is solved by it.
-use Rattle.std.proofs.Common.{◌≡◌, ◌↔◌, ℕ, zero, ◌+◌, ◌-◌, ◌*◌, ◌<◌, ◌≤◌, Bool, true, eqb, ltb, ◌&&◌, ◌||◌, List, [], length, get_or, map, refl, sym, ◌∙◌, inl, inr, arith}
+use Rattle.std.proofs.Common.{◌≡◌, ℕ, zero, ◌+◌, ◌-◌, ◌*◌, ◌<◌, ◌≤◌, Bool, true, eqb, ltb, ◌&&◌, ◌||◌, List, [], length, get_or, refl, sym, ◌∙◌, inl, inr, arith}
 use Rattle.std.specs.Bool.{Decides}
-use Rattle.std.specs.List.{range_with_len, list_all, All}
+use Rattle.std.specs.List.{range_with_len, All}
 use Rattle.std.proofs.lemmas.Bool.{lt-ltb, le-ltb, cases_lt}
 use Rattle.std.proofs.lemmas.Bool.Decides.{Decides-like, Decides-or, Decides-eqb}
 use Rattle.std.proofs.lemmas.List.{length-reverse}
@@ -12,9 +12,9 @@ use Rattle.latin_board.proofs.LatinLines.{latin_full}
 use Rattle.latin_board.proofs.LatinTest.{all_in_range}
 use Rattle.tower_lines.specs.TowersSeen.{seen}
 use Rattle.tower_lines.proofs.SeenLemmas.{seen_most, seen_some}
-use Rattle.trail_solver.specs.Puzzles.{Puzzle, Solves}
+use Rattle.trail_solver.specs.Puzzles.{Solves}
 use Rattle.clue_rules.specs.KeptItems.{kept}
-use Rattle.clue_rules.specs.KeptItemLaws.{length-kept, get_or-kept, kept-all, kept-kept, kept-agrees, kept-within, positive-cond, asked_still}
+use Rattle.clue_rules.specs.KeptItemLaws.{length-kept, get_or-kept, kept-all, kept-kept, kept-agrees, kept-within, positive-cond, asked_still, not_positive, small_widths}
 use Rattle.clue_rules.specs.TowersPuzzles.{TowersValue, IsTowers}
 use Rattle.clue_rules.specs.TowersViews.{view_of, clue_of, HoldsClues, meets_clue, meets_clues}
 use Rattle.clue_rules.specs.TowersItems.{towers_puzzle, towers_items, has_towers, cut_towers, full_towers}
@@ -77,13 +77,29 @@ cut_all v = rw (kept-all zero 0 v.clues, kept-all zero (4 * v.size) v.givens) re
 pub cut_cut : (v : TowersValue) (first second : ℕ → Bool) → cut_towers (cut_towers v first) second ≡ cut_towers v (λ i. first i && second i)
 cut_cut v first second = rw (kept-kept zero first second 0 v.clues, kept-kept zero first second (4 * v.size) v.givens) refl
 
-pub cut_agrees : (v : TowersValue) (a b : ℕ → Bool) → IsTowers v → ((i : ℕ) → i < towers_items v.size → a i ≡ b i) → cut_towers v a ≡ cut_towers v b
+pub few_items : (w : ℕ) → 3 ≤ w → w ≤ 6 → towers_items w ≤ 96
+few_items w low high = small_widths (λ n. towers_items n ≤ 96) (omega arith) (omega arith) (omega arith) (omega arith) w low high
+
+has_clue : (v : TowersValue) (place : ℕ) → place < 4 * v.size → has_towers v place ≡ ltb 0 (clue_of v place)
+has_clue v place inside = rw (lt-ltb place (4 * v.size) inside) refl
+
+has_given : (v : TowersValue) (cell : ℕ) → has_towers v (4 * v.size + cell) ≡ ltb 0 (get_or v.givens cell 0)
+has_given v cell =
+    let back : 4 * v.size + cell - 4 * v.size ≡ cell = omega arith in
+    rw (le-ltb (4 * v.size + cell) (4 * v.size) (omega arith), back) refl
+
+pub cut_agrees : (v : TowersValue) (a b : ℕ → Bool) → IsTowers v → ((i : ℕ) → i < towers_items v.size → has_towers v i ≡ true → a i ≡ b i) → cut_towers v a ≡ cut_towers v b
 cut_agrees v a b h same =
     let clues : kept zero a 0 v.clues ≡ kept zero b 0 v.clues =
-    kept-agrees zero a b 0 v.clues (λ j low high. same j (omega (arith, h.clue_count))) in
+    kept-agrees zero (ltb 0) not_positive a b 0 v.clues (λ k inside here.
+    at_zero k (same k (omega (arith, h.clue_count)) (has_clue v k (omega (arith, h.clue_count)) ∙ here))) in
     let givens : kept zero a (4 * v.size) v.givens ≡ kept zero b (4 * v.size) v.givens =
-    kept-agrees zero a b (4 * v.size) v.givens (λ j low high. same j (omega (arith, h.given_count))) in
+    kept-agrees zero (ltb 0) not_positive a b (4 * v.size) v.givens (λ k inside here.
+    same (4 * v.size + k) (omega (arith, h.given_count)) (has_given v k ∙ here)) in
     rw (clues, givens) refl
+  where
+    at_zero : (k : ℕ) → a k ≡ b k → a (0 + k) ≡ b (0 + k)
+    at_zero k e = let back : 0 + k ≡ k = omega arith in rw back e
 
 -- a cut loses no solution
 pub cut_solved : (v : TowersValue) (keep : ℕ → Bool) (g : GridValue) → Solves (towers_puzzle v) g → Solves (towers_puzzle (cut_towers v keep)) g

@@ -10,7 +10,12 @@ use Rattle.clue_rules.specs.TowersViews.{view_of, clue_of, meets_clues}
 
 -- what generic code knows of the puzzle
 abbrev pub towers_puzzle : TowersValue → Puzzle
-towers_puzzle v = record { size = v.size; given = λ cell. slice_index v.givens cell; meets = meets_clues v }
+towers_puzzle v = record {
+  size = v.size;
+  given = λ cell. slice_index v.givens cell;
+  meets = meets_clues v;
+  clued = λ place. nat_lt 0 (clue_of v place);
+}
 
 abbrev pub towers_items : ℕ → ℕ
 towers_items w = 4 * w + w * w

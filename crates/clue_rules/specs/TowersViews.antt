@@ -1,7 +1,7 @@
 -- What is seen of a grid from its edge places, and which grids meet the clues of a Towers puzzle.
 use Rattle.std.specs.Prelude.{◌≡◌, ℕ, ◌+◌, ◌-◌, ◌*◌, ◌<◌, Bool, ◌==◌, ◌||◌, nat_lt, if◌then◌else◌, List, reverse, slice_index}
 use Rattle.std.specs.List.{range_with_len, list_all}
-use Rattle.latin_board.specs.Squares.{GridValue, number_at, row_of, column_of}
+use Rattle.latin_board.specs.Squares.{GridValue, row_of, column_of}
 use Rattle.latin_board.specs.Lines.{line_cell}
 use Rattle.tower_lines.specs.TowersSeen.{seen}
 use Rattle.clue_rules.specs.TowersPuzzles.{TowersValue}

@@ -1,8 +1,7 @@
 -- The laws of items: what a cut keeps, what two cuts make, and that the full puzzle of a Latin square is solved by it.
-use Rattle.std.proofs.Common.{◌≡◌, ◌≢◌, ℕ, zero, suc, ◌+◌, ◌-◌, ◌*◌, ◌/◌, ◌%◌, ◌<◌, ◌≤◌, Bool, true, false, cond, eqb, ltb, not, ◌&&◌, List, [], ◌∷◌, length, get_or, set, refl, sym, ap, ◌∙◌, inl, inr, arith, ◌↔◌}
+use Rattle.std.proofs.Common.{◌≡◌, ◌≢◌, ℕ, zero, ◌+◌, ◌-◌, ◌*◌, ◌/◌, ◌%◌, ◌<◌, ◌≤◌, Bool, true, false, cond, ltb, ◌&&◌, get_or, refl, sym, ◌∙◌, inl, inr, arith, ◌↔◌}
 use Rattle.std.proofs.lemmas.Nat.{div-mul-add, mod-mul-add}
-use Rattle.std.specs.List.{AllByRecursion}
-use Rattle.std.proofs.lemmas.Bool.{lt-ltb, le-ltb, eq-eqb, ne_eqb, cases_lt}
+use Rattle.std.proofs.lemmas.Bool.{lt-ltb, le-ltb, cases_lt}
 use Rattle.std.proofs.lemmas.List.Elements.{All-from_recursion, recursion_from_All}
 use Rattle.std.proofs.lemmas.List.FromFn.{length-map-range_with_len, get_or-map-range_with_len}
 use Rattle.latin_board.specs.Squares.{GridValue, IsGrid, IsLatin, number_at}
@@ -13,74 +12,10 @@ use Rattle.clue_rules.specs.declared.unequal.sign.Sign.{Sign}
 use Rattle.clue_rules.specs.declared.unequal.sign.Sign.TheVariants.{Absent, FirstGreater, SecondGreater}
 use Rattle.clue_rules.specs.Unequal.{UnequalValue, IsUnequal, IsAcross, IsDown, sign_count, sign_at, first_of, second_of, holds_sign, IsGreater, AreNeighbours}
 use Rattle.clue_rules.specs.KeptItems.{kept}
+use Rattle.clue_rules.specs.KeptItemLaws.{length-kept, get_or-kept, kept-all, kept-kept, kept-agrees, kept-within, positive-cond, asked_still, not_positive, small_widths}
 use Rattle.clue_rules.specs.UnequalItems.{puzzle_of, unequal_items, is_present, has_unequal, cut_unequal, sign_of, full_unequal}
 use Rattle.clue_rules.specs.UnequalPlaces.{sides_at, between_at, AreSides, between_sides}
 use Rattle.clue_rules.specs.UnequalRangeTests.{all_in_range, range_all}
-
--- lists whose entries are kept or become empty
-
-pub length-kept : {X : Type 0} (empty : X) (keep : ℕ → Bool) (i : ℕ) (xs : List X) → length (kept empty keep i xs) ≡ length xs
-length-kept empty keep i [] = refl
-length-kept empty keep i (x ∷ xs) = ap suc (length-kept empty keep (i + 1) xs)
-
-same_either : {X : Type 0} (b : Bool) (x : X) → x ≡ cond b x x
-same_either true x = refl
-same_either false x = refl
-
-pub get_or-kept : {X : Type 0} (empty : X) (keep : ℕ → Bool) (i : ℕ) (xs : List X) (k j : ℕ) → i + k ≡ j → get_or (kept empty keep i xs) k empty ≡ cond (keep j) (get_or xs k empty) empty
-get_or-kept empty keep i [] k j e = same_either (keep j) empty
-get_or-kept empty keep i (x ∷ xs) zero j e = let here : i ≡ j = omega arith in rw here refl
-get_or-kept empty keep i (x ∷ xs) (suc k) j e = get_or-kept empty keep (i + 1) xs k j (omega arith)
-
-pub kept-all : {X : Type 0} (empty : X) (i : ℕ) (xs : List X) → kept empty (λ j. true) i xs ≡ xs
-kept-all empty i [] = refl
-kept-all empty i (x ∷ xs) = ap (λ ys. x ∷ ys) (kept-all empty (i + 1) xs)
-
-cond-and : {X : Type 0} (s t : Bool) (x y : X) → cond t (cond s x y) y ≡ cond (s && t) x y
-cond-and true true x y = refl
-cond-and true false x y = refl
-cond-and false true x y = refl
-cond-and false false x y = refl
-
-pub kept-kept : {X : Type 0} (empty : X) (first second : ℕ → Bool) (i : ℕ) (xs : List X) → kept empty second i (kept empty first i xs) ≡ kept empty (λ j. first j && second j) i xs
-kept-kept empty first second i [] = refl
-kept-kept empty first second i (x ∷ xs) =
-    rw (cond-and (first i) (second i) x empty, kept-kept empty first second (i + 1) xs) refl
-
-pub kept-agrees : {X : Type 0} (empty : X) (a b : ℕ → Bool) (i : ℕ) (xs : List X) → ((j : ℕ) → i ≤ j → j < i + length xs → a j ≡ b j) → kept empty a i xs ≡ kept empty b i xs
-kept-agrees empty a b i [] h = refl
-kept-agrees empty a b i (x ∷ xs) h =
-    rw (h i (omega arith) (omega arith), kept-agrees empty a b (i + 1) xs (λ j low high. h j (omega arith) (omega arith))) refl
-
-pub kept-past : {X : Type 0} (empty : X) (i d : ℕ) (xs : List X) → d < i → kept empty (λ j. not (eqb j d)) i xs ≡ xs
-kept-past empty i d [] h = refl
-kept-past empty i d (x ∷ xs) h =
-    let other : eqb i d ≡ false = ne_eqb i d (λ same. omega arith) in
-    rw (other, kept-past empty (i + 1) d xs (omega arith)) refl
-
--- to keep all but one entry is to empty that one
-pub kept-but_one : {X : Type 0} (empty : X) (i d k : ℕ) (xs : List X) → i + k ≡ d → kept empty (λ j. not (eqb j d)) i xs ≡ set xs k empty
-kept-but_one empty i d k [] e = refl
-kept-but_one empty i d zero (x ∷ xs) e =
-    let here : eqb i d ≡ true = eq-eqb i d (omega arith) in
-    rw (here, kept-past empty (i + 1) d xs (omega arith)) refl
-kept-but_one empty i d (suc k) (x ∷ xs) e =
-    let other : eqb i d ≡ false = ne_eqb i d (λ same. omega arith) in
-    rw (other, kept-but_one empty (i + 1) d k xs (omega arith)) refl
-
-pub kept-before : {X : Type 0} (empty : X) (i d : ℕ) (xs : List X) → i + length xs ≤ d → kept empty (λ j. not (eqb j d)) i xs ≡ xs
-kept-before empty i d [] h = refl
-kept-before empty i d (x ∷ xs) h =
-    let other : eqb i d ≡ false = ne_eqb i d (λ same. omega arith) in
-    rw (other, kept-before empty (i + 1) d xs (omega arith)) refl
-
-kept_within : (w : ℕ) (keep : ℕ → Bool) (i : ℕ) (xs : List ℕ) → AllByRecursion (λ n. n ≤ w) xs → AllByRecursion (λ n. n ≤ w) (kept zero keep i xs)
-kept_within w keep i [] h = tt
-kept_within w keep i (x ∷ xs) h = (either (keep i) h.0, kept_within w keep (i + 1) xs h.1)
-  where
-    either : (b : Bool) → x ≤ w → cond b x zero ≤ w
-    either true h = h
-    either false h = omega arith
 
 -- what holds of every puzzle
 
@@ -98,7 +33,7 @@ cut_valid v keep h = record {
     smallest = h.givens.smallest;
     largest = h.givens.largest;
     count = length-kept zero keep (sign_count v.size) v.givens ∙ h.givens.count;
-    within = All-from_recursion (λ n. n ≤ v.size) _ (kept_within v.size keep (sign_count v.size) v.givens (recursion_from_All (λ n. n ≤ v.size) v.givens h.givens.within));
+    within = All-from_recursion (λ n. n ≤ v.size) _ (kept-within v.size keep (sign_count v.size) v.givens (recursion_from_All (λ n. n ≤ v.size) v.givens h.givens.within));
   };
   signs = length-kept Absent keep 0 v.signs ∙ h.signs;
 }
@@ -111,14 +46,10 @@ present-cond false Absent = refl
 present-cond false FirstGreater = refl
 present-cond false SecondGreater = refl
 
-given-cond : (b : Bool) (n : ℕ) → ltb 0 (cond b n zero) ≡ (ltb 0 n && b)
-given-cond true n = elim (ltb 0 n) as (λ t. t ≡ (t && true)) [ true ↦ refl | false ↦ refl ]
-given-cond false n = elim (ltb 0 n) as (λ t. false ≡ (t && false)) [ true ↦ refl | false ↦ refl ]
-
 pub cut_has : (v : UnequalValue) (keep : ℕ → Bool) (i : ℕ) → has_unequal (cut_unequal v keep) i ≡ (has_unequal v i && keep i)
 cut_has v keep i = elim (cases_lt i (sign_count v.size)) [
   | inl low ↦ rw (lt-ltb i (sign_count v.size) low, get_or-kept Absent keep 0 v.signs i i (omega arith)) (present-cond (keep i) (sign_at v i))
-  | inr high ↦ rw (le-ltb i (sign_count v.size) high, get_or-kept zero keep (sign_count v.size) v.givens (i - sign_count v.size) i (omega arith)) (given-cond (keep i) (get_or v.givens (i - sign_count v.size) 0))
+  | inr high ↦ rw (le-ltb i (sign_count v.size) high, get_or-kept zero keep (sign_count v.size) v.givens (i - sign_count v.size) i (omega arith)) (positive-cond (keep i) (get_or v.givens (i - sign_count v.size) 0))
 ]
 
 pub cut_all : (v : UnequalValue) → cut_unequal v (λ i. true) ≡ v
@@ -127,20 +58,38 @@ cut_all v = rw (kept-all Absent 0 v.signs, kept-all zero (sign_count v.size) v.g
 pub cut_cut : (v : UnequalValue) (first second : ℕ → Bool) → cut_unequal (cut_unequal v first) second ≡ cut_unequal v (λ i. first i && second i)
 cut_cut v first second = rw (kept-kept Absent first second 0 v.signs, kept-kept zero first second (sign_count v.size) v.givens) refl
 
-pub cut_agrees : (v : UnequalValue) (a b : ℕ → Bool) → IsUnequal v → ((i : ℕ) → i < unequal_items v.size → a i ≡ b i) → cut_unequal v a ≡ cut_unequal v b
+pub few_items : (w : ℕ) → 3 ≤ w → w ≤ 6 → unequal_items w ≤ 96
+few_items w low high = small_widths (λ n. unequal_items n ≤ 96) (omega arith) (omega arith) (omega arith) (omega arith) w low high
+
+not_present : (s : Sign) → is_present s ≡ false → s ≡ Absent
+not_present Absent h = refl
+not_present FirstGreater h = cc
+not_present SecondGreater h = cc
+
+has_sign : (v : UnequalValue) (i : ℕ) → i < sign_count v.size → has_unequal v i ≡ is_present (sign_at v i)
+has_sign v i inside = rw (lt-ltb i (sign_count v.size) inside) refl
+
+has_given : (v : UnequalValue) (cell : ℕ) → has_unequal v (sign_count v.size + cell) ≡ ltb 0 (get_or v.givens cell 0)
+has_given v cell =
+    let back : sign_count v.size + cell - sign_count v.size ≡ cell = omega arith in
+    rw (le-ltb (sign_count v.size + cell) (sign_count v.size) (omega arith), back) refl
+
+pub cut_agrees : (v : UnequalValue) (a b : ℕ → Bool) → IsUnequal v → ((i : ℕ) → i < unequal_items v.size → has_unequal v i ≡ true → a i ≡ b i) → cut_unequal v a ≡ cut_unequal v b
 cut_agrees v a b h same =
-    let signs : kept Absent a 0 v.signs ≡ kept Absent b 0 v.signs = kept-agrees Absent a b 0 v.signs (λ j low high. same j (omega (arith, h.signs))) in
+    let signs : kept Absent a 0 v.signs ≡ kept Absent b 0 v.signs =
+    kept-agrees Absent is_present not_present a b 0 v.signs (λ k inside here.
+    at_zero k (same k (omega (arith, h.signs)) (has_sign v k (omega (arith, h.signs)) ∙ here))) in
     let givens : kept zero a (sign_count v.size) v.givens ≡ kept zero b (sign_count v.size) v.givens =
-    kept-agrees zero a b (sign_count v.size) v.givens (λ j low high. same j (omega (arith, h.givens.count))) in
+    kept-agrees zero (ltb 0) not_positive a b (sign_count v.size) v.givens (λ k inside here.
+    same (sign_count v.size + k) (omega (arith, h.givens.count)) (has_given v k ∙ here)) in
     rw (signs, givens) refl
+  where
+    at_zero : (k : ℕ) → a k ≡ b k → a (0 + k) ≡ b (0 + k)
+    at_zero k e = let back : 0 + k ≡ k = omega arith in rw back e
 
 sign_lost : (b : Bool) (s : Sign) (x y : ℕ) → holds_sign s x y ≡ true → holds_sign (cond b s Absent) x y ≡ true
 sign_lost true s x y h = h
 sign_lost false s x y h = refl
-
-given_lost : (b : Bool) (n m : ℕ) → (0 < n → m ≡ n) → 0 < cond b n zero → m ≡ cond b n zero
-given_lost true n m h low = h low
-given_lost false n m h low = absurd (omega arith)
 
 -- a cut loses no solution
 pub cut_solved : (v : UnequalValue) (keep : ℕ → Bool) (g : GridValue) → Solves (puzzle_of v) g → Solves (puzzle_of (cut_unequal v keep)) g
@@ -150,7 +99,7 @@ cut_solved v keep g h = record {
   latin = h.latin;
   givens = λ cell inside.
       let here = get_or-kept zero keep (sign_count v.size) v.givens cell (sign_count v.size + cell) refl in
-      rw here (given_lost (keep (sign_count v.size + cell)) (get_or v.givens cell 0) (number_at g cell) (h.givens cell inside));
+      rw here (asked_still (keep (sign_count v.size + cell)) (get_or v.givens cell 0) (number_at g cell) (h.givens cell inside));
   clues = range_all _ 0 (sign_count v.size) (λ i low high.
       let here = get_or-kept Absent keep 0 v.signs i i (omega arith) in
       rw here (sign_lost (keep i) (sign_at v i) _ _ (all_in_range _ 0 (sign_count v.size) i h.clues low high)));

@@ -1,5 +1,5 @@
 -- The items of an Unequal puzzle, numbered: the signs under their own numbers, then the given of each square.
-use Rattle.std.specs.Prelude.{ℕ, zero, ◌+◌, ◌-◌, ◌*◌, nat_lt, Bool, true, false, if◌then◌else◌, List, [], ◌∷◌, map, slice_index}
+use Rattle.std.specs.Prelude.{ℕ, zero, ◌+◌, ◌-◌, ◌*◌, nat_lt, Bool, true, false, if◌then◌else◌, map, slice_index}
 use Rattle.std.specs.List.{range_with_len}
 use Rattle.clue_rules.specs.KeptItems.{kept}
 use Rattle.latin_board.specs.Squares.{GridValue, number_at}
@@ -8,9 +8,14 @@ use Rattle.clue_rules.specs.declared.unequal.sign.Sign.TheVariants.{Absent, Firs
 use Rattle.clue_rules.specs.Unequal.{UnequalValue, sign_count, sign_at, first_of, second_of, holds_signs}
 use Rattle.trail_solver.specs.Puzzles.{Puzzle}
 
--- what generic code knows of the puzzle
+-- what generic code knows of the puzzle: no edge has a clue
 abbrev pub puzzle_of : UnequalValue → Puzzle
-puzzle_of v = record { size = v.size; given = λ cell. slice_index v.givens cell; meets = holds_signs v }
+puzzle_of v = record {
+  size = v.size;
+  given = λ cell. slice_index v.givens cell;
+  meets = holds_signs v;
+  clued = λ place. false;
+}
 
 abbrev pub unequal_items : ℕ → ℕ
 unequal_items w = sign_count w + w * w

@@ -5,6 +5,7 @@ ghost use Rattle.byte_text.specs.Reading.{Gives};
 ghost use Rattle.clue_rules.specs.declared.game_id.GameId.{GameId};
 ghost use Rattle.clue_rules.specs.IdTexts.{IsIdText, IsAnyText};
 ghost use Rattle.clue_rules.specs.ParamReading.{has_adjacent};
+ghost use Rattle.clue_rules.specs.IdFaults.{SparesMemory};
 ghost use Rattle.clue_rules.specs.IdReading.{id_at, describes_at, is_separator, params_part, from_separator, id_parts_at, id_map, LacksSeparators};
 
 use crate::game::Game;
@@ -24,12 +25,14 @@ pub enum GameId<P> {
 /// The ID that the text says, of the game `P`.
 ///
 /// The refusals are, the first that applies: those of `Params::read` on what stands before the first `:`, `#` or `!`;
-/// `ForeignSeed` behind `#`; `NoDescription` where none of these stands; `BadSeed`; those of `Game::read_desc`.
+/// `ForeignSeed` behind `#`; `NoDescription` where none of these stands; `BadSeed`; those of `Game::read_desc`. It takes no
+/// memory, so `OutOfMemory` is never among them.
 pub fn read_id<P: Game>(text: &[u8]) -> Result<GameId<P>, IdFault>
     ensures value { result ≡ id_at P.letter_codes (has_adjacent P.title) P.desc_at text.now }
     ensures found { IfOk result (λ id. IsIdText P.letter_codes (describes_at P.puzzle P.valid P.describes) id text.now) }
     ensures only { (id : GameId P) → IsIdText P.letter_codes (describes_at P.puzzle P.valid P.describes) id text.now
         → result ≡ Ok id }
+    ensures without_memory { SparesMemory result }
 {
     parse_id(text)
 }

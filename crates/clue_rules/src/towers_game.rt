@@ -10,17 +10,15 @@ use trail_solver::Rules;
 
 impl Game for Towers {
     ghost use Rattle.clue_rules.specs.IdLaws.{towers_letters_lack};
-    ghost use Rattle.std.specs.Prelude.{codes, nat_lt};
+    ghost use Rattle.std.specs.Prelude.{codes};
     ghost use Rattle.clue_rules.specs.TowersTexts.{IsTowersText, towers_text};
     ghost use Rattle.clue_rules.specs.TowersReading.{towers_at};
-    ghost use Rattle.clue_rules.specs.TowersViews.{clue_of};
     ghost use Rattle.clue_rules.specs.TowersGameLaws as laws;
+    ghost use Rattle.clue_rules.specs.SparedMemory.{towers_spares};
 
     ghost title = { codes "Towers" };
 
     ghost letter_codes = { codes "ehxu" };
-
-    ghost clued = { λ p place. nat_lt 0 (clue_of p place) };
 
     ghost describes = { λ text p. IsTowersText p.size p text };
 
@@ -59,6 +57,8 @@ impl Game for Towers {
     ghost plain_letters = { towers_letters_lack };
 
     ghost desc_taken = { λ w text p large small read. laws.desc_taken w text p large small read };
+
+    ghost desc_spares = { towers_spares };
 
     ghost desc_again = { λ text p valid text_is. laws.desc_again text p text_is };
 

@@ -144,6 +144,8 @@ impl Rules for Towers {
 
     ghost valid_given = { laws.valid_given };
 
+    ghost few_items = { laws.few_items };
+
     ghost cut_valid = { laws.cut_valid };
 
     ghost cut_size = { λ p keep h. refl };
@@ -161,6 +163,8 @@ impl Rules for Towers {
     ghost full_valid = { λ g is_grid latin. laws.full_valid g is_grid };
 
     ghost full_size = { λ g is_grid latin. refl };
+
+    ghost full_given = { λ g cell is_grid latin inside. refl };
 
     ghost full_has = { laws.full_has };
 

@@ -273,6 +273,8 @@ impl Rules for Unequal {
 
     ghost valid_given = { laws.valid_given };
 
+    ghost few_items = { laws.few_items };
+
     ghost cut_valid = { laws.cut_valid };
 
     ghost cut_size = { λ p keep h. refl };
@@ -291,6 +293,8 @@ impl Rules for Unequal {
 
     ghost full_size = { λ g is_grid latin. refl };
 
+    ghost full_given = { λ g cell is_grid latin inside. refl };
+
     ghost full_has = { laws.full_has };
 
     ghost full_solved = { laws.full_solved };
@@ -298,17 +302,16 @@ impl Rules for Unequal {
 
 impl Game for Unequal {
     ghost use Rattle.clue_rules.specs.IdLaws.{unequal_letters_lack};
-    ghost use Rattle.std.specs.Prelude.{codes, false};
+    ghost use Rattle.std.specs.Prelude.{codes};
     ghost use Rattle.clue_rules.specs.UnequalText.{IsUnequalText, unequal_text};
     ghost use Rattle.clue_rules.specs.UnequalReading.{unequal_at};
     ghost use Rattle.clue_rules.specs.UnequalTextLaws.{desc_taken as taken, unequal_again};
     ghost use Rattle.clue_rules.specs.UnequalWrittenForm.{unequal_canonical};
+    ghost use Rattle.clue_rules.specs.SparedMemory.{unequal_spares};
 
     ghost title = { codes "Unequal" };
 
     ghost letter_codes = { codes "tekxr" };
-
-    ghost clued = { λ p place. false };
 
     ghost describes = { λ text p. IsUnequalText p text };
 
@@ -345,6 +348,8 @@ impl Game for Unequal {
     ghost plain_letters = { unequal_letters_lack };
 
     ghost desc_taken = { taken };
+
+    ghost desc_spares = { unequal_spares };
 
     ghost desc_again = { λ text p valid described. unequal_again text p described };
 

@@ -1,4 +1,3 @@
-use Rattle.std.proofs.Common.{◌≡◌, ◌*◌, arith}
 use Rattle.clue_rules.proofs.Narrowings.{below_more}
 use Rattle.clue_rules.proofs.line_rules.strike_rules.Goals as goal
 

@@ -1,4 +1,4 @@
-use Rattle.std.proofs.Common.{◌≡◌, ◌<◌, ◌^◌, refl, arith, w16}
+use Rattle.std.proofs.Common.{◌<◌, refl, w16}
 use Rattle.std.specs.Int.{trailing_zeros}
 use Rattle.std.proofs.lemmas.Nat.{one_shl}
 use Rattle.clue_rules.proofs.SingleSets.{above_bottom, mark-every, trailing_low}

@@ -1,5 +1,3 @@
-use Rattle.std.proofs.Common.{◌≡◌, ◌≢◌, ℕ, ◌-◌, Bool, true, false, inl, inr, bit_and, eqb}
-use Rattle.std.specs.Bool.{MatchBool}
 use Rattle.clue_rules.proofs.SingleSets.{single_test}
 use Rattle.clue_rules.proofs.value_sets.is_single.Goals as goal
 

@@ -1,5 +1,4 @@
-use Rattle.std.proofs.Common.{◌≡◌, ◌∙◌, ◌+◌, ap, arith}
-use Rattle.clue_rules.specs.TowersViews.{front_place}
+use Rattle.std.proofs.Common.{◌∙◌, ◌+◌, ap}
 use Rattle.clue_rules.proofs.ViewSteps.{ends_narrow}
 use Rattle.clue_rules.proofs.towers_lines.TowersLineRules.strike_along.Goals as goal
 

@@ -1,5 +1,5 @@
 use Rattle.std.proofs.Common.{◌≡◌, ◌*◌, arith}
-use Rattle.clue_rules.proofs.TowersFull.{no_clues, one_clue_more, full_kept, full_is}
+use Rattle.clue_rules.proofs.TowersFull.{no_clues, one_clue_more, full_kept}
 use Rattle.clue_rules.proofs.towers_rules.TowersRules.full.Goals as goal
 
 pub loop-place-init : goal.loop-place-init

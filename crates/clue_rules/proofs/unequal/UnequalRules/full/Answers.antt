@@ -1,4 +1,4 @@
-use Rattle.std.proofs.Common.{◌≡◌, ◌↔◌, ◌<◌, List, sym, subst}
+use Rattle.std.proofs.Common.{◌↔◌, ◌<◌, List, sym, subst}
 use Rattle.latin_board.specs.Squares.{number_at}
 use Rattle.clue_rules.specs.declared.unequal.sign.Sign.{Sign}
 use Rattle.clue_rules.specs.Unequal.{IsGreater, AreNeighbours}

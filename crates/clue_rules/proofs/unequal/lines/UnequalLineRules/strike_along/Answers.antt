@@ -1,4 +1,4 @@
-use Rattle.std.proofs.Common.{◌≡◌, ℕ, ◌∙◌, ap, subst, true}
+use Rattle.std.proofs.Common.{◌≡◌, ℕ, ◌∙◌, subst, true}
 use Rattle.trail_solver.specs.Puzzles.{Solves}
 use Rattle.clue_rules.specs.Narrowing.{Narrows}
 use Rattle.clue_rules.specs.UnequalItems.{puzzle_of}

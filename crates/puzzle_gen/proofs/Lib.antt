@@ -1,0 +1,4 @@
+pub mod OrderPlaces
+pub mod CombinedSquares
+pub mod ItemLaws
+pub mod PruningSteps
