@@ -15,5 +15,6 @@ pub mod Lines
 pub mod Replies
 pub mod Runs
 pub mod StartFault
+pub mod Starts
 pub mod Steps
 pub mod Text

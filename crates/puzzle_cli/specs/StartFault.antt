@@ -2,7 +2,7 @@
 use Rattle.std.specs.Prelude.{ℕ, List, ◌∷◌, [], ◌++◌, codes}
 use Rattle.std.specs.Fmt.{decimal}
 use Rattle.clue_rules.specs.IdFaults.{fault_name}
-use Rattle.puzzle_gen.specs.Faults.{gen_fault_name}
+use Rattle.puzzle_gen.specs.GenFaults.{fault_name as gen_fault_name}
 use Rattle.play_save.specs.declared.fault.LoadFault.{LoadFault}
 use Rattle.play_save.specs.declared.fault.LoadFault.TheVariants.{BadState}
 use Rattle.play_save.specs.Faults.{load_fault_name}

@@ -76,7 +76,7 @@ impl StartFault {
         line.push_str(self.short_name());
         if let StartFault::Load(LoadFault::BadState(index)) = self {
             line.push_str(" ");
-            line.push_str(&decimal_text(*index));
+            line.push_str(&decimal_text(*index as usize));
         }
         line
     }
@@ -87,5 +87,44 @@ impl StartFault {
         ensures short { length result.now ≤ 13 }
     {
         self.name()
+    }
+}
+
+impl From<IdFault> for StartFault {
+    ghost use Rattle.std.specs.Prelude.{◌≡◌};
+    ghost use Rattle.puzzle_cli.specs.Starts.{id_refusal};
+
+    ghost from_gives = { λ fault start. start ≡ id_refusal fault };
+
+    fn from(fault: IdFault) -> StartFault {
+        match fault {
+            IdFault::OutOfMemory => StartFault::OutOfMemory,
+            fault => StartFault::Id(fault),
+        }
+    }
+}
+
+impl From<GenFault> for StartFault {
+    ghost use Rattle.std.specs.Prelude.{◌≡◌};
+    ghost use Rattle.puzzle_cli.specs.declared.start_fault.StartFault.TheVariants.{Gen};
+
+    ghost from_gives = { λ fault start. start ≡ Gen fault };
+
+    fn from(fault: GenFault) -> StartFault {
+        StartFault::Gen(fault)
+    }
+}
+
+impl From<LoadFault> for StartFault {
+    ghost use Rattle.std.specs.Prelude.{◌≡◌};
+    ghost use Rattle.puzzle_cli.specs.Starts.{load_refusal};
+
+    ghost from_gives = { λ fault start. start ≡ load_refusal fault };
+
+    fn from(fault: LoadFault) -> StartFault {
+        match fault {
+            LoadFault::OutOfMemory => StartFault::OutOfMemory,
+            fault => StartFault::Load(fault),
+        }
     }
 }
