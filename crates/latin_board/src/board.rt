@@ -1,3 +1,5 @@
+//! Boards: numbers, pencil marks, two flags and done marks, and the exchange with a change.
+
 ghost use Rattle.std.specs.Prelude.{◌≡◌, ℕ, ◌+◌, ◌*◌, ◌<◌, ◌≤◌, ◌↔◌, ◌==◌, not, IsTrue, if◌then◌else◌, slice_set, replicate};
 ghost use Rattle.std.specs.Cmp.{decided, partial_equiv_from_equiv};
 ghost use Rattle.latin_board.specs.Squares.{number_at};
@@ -68,9 +70,11 @@ impl Model for Board {
 
 impl Board {
     /// The board of a new game: these numbers, no pencil marks, both flags off, no edge clue done.
+    #[tactic(auto, using(crate::proofs::Padding::take_empty))]
     pub fn start(grid: &Grid) -> Board
         ensures { result ≡ start_board grid.now }
     {
+        // `size` tells that the grid is a valid one.
         let _size = grid.size();
         Board {
             grid: *grid,

@@ -1,4 +1,6 @@
-ghost use Rattle.std.specs.Prelude.{◌≡◌, ℕ, ◌+◌, ◌*◌, ◌<◌, ◌≤◌, ◌↔◌, IsTrue, slice_set};
+//! Grids of numbers, and the Latin rule.
+
+ghost use Rattle.std.specs.Prelude.{◌≡◌, ℕ, ◌+◌, ◌*◌, ◌<◌, ◌≤◌, ◌↔◌, IsTrue, slice_set, replicate};
 ghost use Rattle.std.specs.Bool.{OnTrue};
 ghost use Rattle.std.specs.Cmp.{decided, partial_equiv_from_equiv};
 ghost use Rattle.latin_board.specs.Squares.{blank_grid, number_at, times_in, HasEachOnce, IsGrid, IsFull, IsLatin, latin_test};
@@ -47,7 +49,7 @@ impl Grid {
         let _width = size.get();
         Grid {
             size,
-            cells: [0; CELLS],
+            cells: no_numbers(),
         }
     }
 
@@ -132,6 +134,13 @@ impl Grid {
         let width = self.size.get() as usize;
         &self.cells[..width * width]
     }
+}
+
+// The places of a blank grid.
+fn no_numbers() -> [u8; CELLS]
+    ensures { result ≡ replicate CELLS 0 }
+{
+    [0; CELLS]
 }
 
 // The square at a place of a line: the rows from the top are the first lines, the columns from the left the others.
