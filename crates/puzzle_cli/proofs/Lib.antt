@@ -9,3 +9,4 @@ pub mod ReadLemmas
 pub mod RunLemmas
 pub mod SendLemmas
 pub mod SolveRefusals
+pub mod Starting

@@ -8,6 +8,7 @@ use Rattle.clue_rules.specs.declared.game_id.GameId.TheVariants.{Described, Seed
 use Rattle.puzzle_gen.specs.declared.gen_fault.GenFault.{GenFault}
 use Rattle.puzzle_gen.specs.Pruning.{Items}
 use Rattle.puzzle_gen.specs.Generating.{Generates}
+use Rattle.play_midend.specs.declared.extras.Extras.{Extras}
 use Rattle.play_midend.specs.Histories.{History, started}
 use Rattle.play_save.specs.declared.fault.LoadFault.{LoadFault}
 use Rattle.play_save.specs.declared.fault.LoadFault.TheVariants.{OutOfMemory as LoadMemory}
@@ -23,9 +24,12 @@ abbrev pub load_refusal : LoadFault → StartFault
 load_refusal LoadMemory = OutOfMemory
 load_refusal fault = Load fault
 
+abbrev pub no_extras : Extras
+no_extras = record { seed = None; auxinfo = None; ui = None; time = None }
+
 -- a new session, with nothing kept for a save
 abbrev pub new_game : {P : Type 0} → Params → P → History P
-new_game params puzzle = started puzzle params params (record { seed = None; auxinfo = None; ui = None; time = None })
+new_game params puzzle = started puzzle params params no_extras
 
 abbrev pub seeded_start : {P : Type 0} → Params → Result P GenFault → Result (History P) StartFault
 seeded_start params (Ok puzzle) = Ok (new_game params puzzle)

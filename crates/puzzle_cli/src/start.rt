@@ -1,11 +1,13 @@
 //! The first session: of a game ID, of a file, or none.
 
-ghost use Rattle.std.specs.Prelude.{◌≡◌, Ok, IfOk, IfErr};
+ghost use Rattle.std.specs.Prelude.{◌≡◌, Ok, None, IfOk, IfErr, IfSome, IsSomeAnd};
 ghost use Rattle.clue_rules.specs.IdReading.{id_at};
 ghost use Rattle.clue_rules.specs.ParamReading.{has_adjacent};
 ghost use Rattle.puzzle_gen.specs.Pruning.{items_by};
+ghost use Rattle.play_save.specs.declared.fault.LoadFault.{LoadFault};
+ghost use Rattle.play_save.specs.Faults.{IsSave, IsSaveFault};
 ghost use Rattle.puzzle_cli.specs.CommandLine.{NotBoth};
-ghost use Rattle.puzzle_cli.specs.Starts.{new_game, IdStarts, IsStartRefusal};
+ghost use Rattle.puzzle_cli.specs.Starts.{no_extras, new_game, load_refusal, IdStarts, IsStartRefusal};
 
 use crate::start_fault::StartFault;
 use clue_rules::{Game, GameId, Params, read_id};
@@ -14,12 +16,27 @@ use play_save::load;
 use puzzle_gen::generate;
 use std::alloc::Global;
 
+/// The first session: the new one of a game ID, the one that was saved to a file, or none where neither is there.
+///
+/// An ID is refused as `read_id` refuses its text, or as `generate` refuses its seed; a file as `load` refuses its bytes; and
+/// either for want of memory, which is `StartFault::OutOfMemory` also where the fault inside says so.
 pub fn begin<P: Game>(
     alloc: Global,
     id: Option<&[u8]>,
     file: Option<&[u8]>,
 ) -> Result<Option<Session<P>>, StartFault>
     requires { NotBoth id file }
+    ensures none { id.entry ≡ None → file.entry ≡ None → result ≡ Ok None }
+    ensures of_id { IfSome id.entry (λ text. IfOk result (λ first. IsSomeAnd first (λ session.
+        IdStarts (items_by P.puzzle P.items_of P.has P.cut P.full_of)
+        (id_at P.letter_codes (has_adjacent P.title) P.desc_at text.now) (Ok session)))) }
+    ensures id_refused { IfSome id.entry (λ text. IfErr result (IsStartRefusal
+        (IdStarts (items_by P.puzzle P.items_of P.has P.cut P.full_of)
+        (id_at P.letter_codes (has_adjacent P.title) P.desc_at text.now)))) }
+    ensures of_file { IfSome file.entry (λ bytes. IfOk result (λ first. IsSomeAnd first (λ session.
+        IsSave session bytes.now))) }
+    ensures file_refused { IfSome file.entry (λ bytes. IfErr result (λ fault.
+        (inner : LoadFault) × IsSaveFault inner bytes.now × (fault ≡ load_refusal inner))) }
 {
     match (id, file) {
         (Some(id), _) => Ok(Some(session_of_id(alloc, id)?)),
@@ -37,10 +54,7 @@ pub(crate) fn session_of_id<P: Game>(alloc: Global, id: &[u8]) -> Result<Session
 {
     match read_id::<P>(id)? {
         GameId::Described(params, puzzle) => new_session(alloc, params, puzzle),
-        GameId::Seeded(params, seed) => {
-            let puzzle = generate::<P>(&params, seed)?;
-            new_session(alloc, params, puzzle)
-        }
+        GameId::Seeded(params, seed) => new_session(alloc, params, generate(&params, seed)?),
     }
 }
 
@@ -50,14 +64,17 @@ fn new_session<P: Game>(alloc: Global, params: Params, puzzle: P) -> Result<Sess
     ensures ok { IfOk result (λ session. session ≡ new_game params puzzle) }
     ensures why { IfErr result (λ fault. fault ≡ StartFault.OutOfMemory) }
 {
-    let nothing = Extras {
+    let next_params = params;
+    Session::new(alloc, params, next_params, puzzle, no_extras()).map_err(|_| StartFault::OutOfMemory)
+}
+
+fn no_extras() -> Extras
+    ensures { result ≡ no_extras }
+{
+    Extras {
         seed: None,
         auxinfo: None,
         ui: None,
         time: None,
-    };
-    match Session::new(alloc, params, params, puzzle, nothing) {
-        Ok(session) => Ok(session),
-        Err(_) => Err(StartFault::OutOfMemory),
     }
 }
