@@ -21,3 +21,5 @@ mod pictures;
 mod script;
 #[cfg(test)]
 mod solving;
+#[cfg(test)]
+mod starts;

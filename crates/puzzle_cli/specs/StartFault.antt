@@ -5,7 +5,7 @@ use Rattle.clue_rules.specs.IdFaults.{fault_name}
 use Rattle.puzzle_gen.specs.GenFaults.{fault_name as gen_fault_name}
 use Rattle.play_save.specs.declared.fault.LoadFault.{LoadFault}
 use Rattle.play_save.specs.declared.fault.LoadFault.TheVariants.{BadState}
-use Rattle.play_save.specs.Faults.{load_fault_name}
+use Rattle.play_save.specs.Faults.{name_of as load_fault_name}
 use Rattle.puzzle_cli.specs.declared.start_fault.StartFault.{StartFault}
 use Rattle.puzzle_cli.specs.declared.start_fault.StartFault.TheVariants.{Id, Gen, Load, OutOfMemory}
 

@@ -50,3 +50,7 @@ IdStarts f (Err fault) outcome = Err (id_refusal fault) ≡ outcome
 abbrev pub IsStartRefusal : {P : Type 0} → (Result (History P) StartFault → Type 0) → StartFault → Type 0
 IsStartRefusal {P} Comes fault =
     Comes (Err fault) ⊎ ((fault ≡ OutOfMemory) × ((session : History P) × Comes (Ok session)))
+
+-- The refusal is the first fault of a text that is no save, or want of memory.
+abbrev pub IsFileRefusal : {P : Type 0} → Result (History P) LoadFault → StartFault → Type 0
+IsFileRefusal read fault = (fault ≡ OutOfMemory) ⊎ ((inner : LoadFault) × (read ≡ Err inner) × (fault ≡ Load inner))

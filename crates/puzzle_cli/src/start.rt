@@ -4,10 +4,10 @@ ghost use Rattle.std.specs.Prelude.{◌≡◌, Ok, None, IfOk, IfErr, IfSome, Is
 ghost use Rattle.clue_rules.specs.IdReading.{id_at};
 ghost use Rattle.clue_rules.specs.ParamReading.{has_adjacent};
 ghost use Rattle.puzzle_gen.specs.Pruning.{items_by};
-ghost use Rattle.play_save.specs.declared.fault.LoadFault.{LoadFault};
-ghost use Rattle.play_save.specs.Faults.{IsSave, IsSaveFault};
+ghost use Rattle.play_save.specs.SaveTexts.{saved_game, SaveText};
+ghost use Rattle.play_save.specs.FirstFaults.{load_at};
 ghost use Rattle.puzzle_cli.specs.CommandLine.{NotBoth};
-ghost use Rattle.puzzle_cli.specs.Starts.{no_extras, new_game, load_refusal, IdStarts, IsStartRefusal};
+ghost use Rattle.puzzle_cli.specs.Starts.{no_extras, new_game, IdStarts, IsStartRefusal, IsFileRefusal};
 
 use crate::start_fault::StartFault;
 use clue_rules::{Game, GameId, Params, read_id};
@@ -33,10 +33,10 @@ pub fn begin<P: Game>(
     ensures id_refused { IfSome id.entry (λ text. IfErr result (IsStartRefusal
         (IdStarts (items_by P.puzzle P.items_of P.has P.cut P.full_of)
         (id_at P.letter_codes (has_adjacent P.title) P.desc_at text.now)))) }
-    ensures of_file { IfSome file.entry (λ bytes. IfOk result (λ first. IsSomeAnd first (λ session.
-        IsSave session bytes.now))) }
-    ensures file_refused { IfSome file.entry (λ bytes. IfErr result (λ fault.
-        (inner : LoadFault) × IsSaveFault inner bytes.now × (fault ≡ load_refusal inner))) }
+    ensures of_file { IfSome file.entry (λ bytes. IfOk result (λ first. IsSomeAnd first (λ session. SaveText
+        (saved_game P.title P.letter_codes P.puzzle P.valid P.describes P.desc_at P.desc_of) session bytes.now))) }
+    ensures file_refused { IfSome file.entry (λ bytes. IfErr result (IsFileRefusal (load_at
+        (saved_game P.title P.letter_codes P.puzzle P.valid P.describes P.desc_at P.desc_of) bytes.now))) }
 {
     match (id, file) {
         (Some(id), _) => Ok(Some(session_of_id(alloc, id)?)),
