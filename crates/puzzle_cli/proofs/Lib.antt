@@ -3,10 +3,10 @@ pub mod Coordinates
 pub mod SpacedLines
 pub mod DecimalDigits
 pub mod CommandLaws
-pub mod MoveReading
-pub mod LineLemmas
-pub mod ReadLemmas
-pub mod RunLemmas
-pub mod SendLemmas
+pub mod LinesCut
+pub mod BytesRead
+pub mod RunsInTurn
+pub mod BytesSent
 pub mod SolveRefusals
 pub mod Starting
+pub mod RefusedLines

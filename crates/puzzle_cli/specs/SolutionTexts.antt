@@ -1,11 +1,9 @@
 -- What the commands `solve` and `list` print.
-use Rattle.std.specs.Prelude.{ℕ, ◌-◌, List, [], ◌∷◌, ◌++◌, length, map, codes, slice_get}
+use Rattle.std.specs.Prelude.{ℕ, List, [], ◌∷◌, ◌++◌, map, codes}
 use Rattle.std.specs.List.{flat_map}
-use Rattle.std.specs.Option.{option_map_or}
 use Rattle.latin_board.specs.Squares.{GridValue}
 use Rattle.play_midend.specs.declared.moves.Move.{Move}
 use Rattle.play_midend.specs.MoveTexts.{move_text}
-use Rattle.play_midend.specs.Histories.{History}
 use Rattle.puzzle_cli.specs.Symbols.{line_feed, digit}
 use Rattle.puzzle_cli.specs.BoardTexts.{lines_or}
 
@@ -22,10 +20,6 @@ listed_lines listed = lines_or (codes "none") (flat_map grid_line listed)
 -- the text of a move, as a line
 abbrev pub move_line : Move → List ℕ
 move_line m = move_text m ++ line_feed ∷ []
-
--- the line of the move that leads to the last state
-abbrev pub last_move_line : {P : Type 0} → History P → List ℕ
-last_move_line h = option_map_or move_line (slice_get h.moves (length h.moves - 1)) []
 
 abbrev pub no_solution_line : List ℕ
 no_solution_line = codes "No solution exists for this puzzle" ++ line_feed ∷ []

@@ -7,21 +7,24 @@
 //! A reply is made whole before its first byte is written. A refused line leaves the session as it was.
 #![tactic(auto)]
 
+mod answers;
 mod command;
 mod command_fault;
 mod command_line;
-mod console;
 mod decimal_text;
 mod done_clues;
 mod draw;
-mod driver;
+mod facts;
 mod help;
 mod line_buffer;
 mod line_fault;
+mod line_loop;
 mod machine;
+mod new_session;
 mod pencil_marks;
 mod refusal;
 mod run_end;
+mod session_run;
 mod solution_list;
 mod solve_reply;
 mod start;
@@ -34,12 +37,12 @@ mod unequal_picture;
 
 pub use command_fault::CommandFault;
 pub use command_line::{Args, GameName, read_words};
-pub use console::run;
 pub use done_clues::done_text;
 pub use draw::{Draw, picture};
 pub use line_fault::LineFault;
 pub use pencil_marks::marks_text;
 pub use run_end::End;
+pub use session_run::run;
 pub use start::begin;
 pub use start_fault::StartFault;
 pub use status::status_text;

@@ -1,14 +1,14 @@
 -- The lines that are cut byte by byte are those that LF separates.
-use Rattle.std.proofs.Common.{◌≡◌, ℕ, ◌-◌, ◌==◌, true, false, if◌then◌else◌, Option, Some, List, [], ◌∷◌, ◌++◌, length, map, take, refl, sym, ap, ◌∙◌, append_assoc, append-nil, arith}
+use Rattle.std.proofs.Common.{◌≡◌, ℕ, ◌-◌, ◌==◌, true, false, if◌then◌else◌, Some, List, [], ◌∷◌, ◌++◌, length, map, take, refl, sym, ap, ◌∙◌, append_assoc, append-nil, arith}
 use Rattle.std.proofs.Math.Seq.{take-append_seam}
 use Rattle.std.proofs.lemmas.List.{length_push}
 use Rattle.std.proofs.lemmas.Bool.Decides.{nat_tests}
-use Rattle.puzzle_cli.specs.Lines.{onto, pieces, kept, line_of, all_lines, ended_lines}
+use Rattle.puzzle_cli.specs.Lines.{Line, onto, pieces, kept, line_of, all_lines, ended_lines}
 use Rattle.puzzle_cli.specs.LineBuffer.{pushed, ended_from, last_from}
 
 -- ---- one list of bytes after another
 
-pub ended_from-append : (part : Option (List ℕ)) (xs ys : List ℕ) → ended_from part (xs ++ ys) ≡ ended_from part xs ++ ended_from (last_from part xs) ys
+pub ended_from-append : (part : Line) (xs ys : List ℕ) → ended_from part (xs ++ ys) ≡ ended_from part xs ++ ended_from (last_from part xs) ys
 ended_from-append part [] ys = refl
 ended_from-append part (b ∷ xs) ys =
     elim (b == 10) as (λ t. (if t then line_of part ∷ ended_from (Some []) (xs ++ ys) else ended_from (pushed part b) (xs ++ ys))
@@ -16,7 +16,7 @@ ended_from-append part (b ∷ xs) ys =
     ++ ended_from (if t then last_from (Some []) xs else last_from (pushed part b) xs) ys)
     [ true ↦ ap (λ l. line_of part ∷ l) (ended_from-append (Some []) xs ys) | false ↦ ended_from-append (pushed part b) xs ys ]
 
-pub last_from-append : (part : Option (List ℕ)) (xs ys : List ℕ) → last_from part (xs ++ ys) ≡ last_from (last_from part xs) ys
+pub last_from-append : (part : Line) (xs ys : List ℕ) → last_from part (xs ++ ys) ≡ last_from (last_from part xs) ys
 last_from-append part [] ys = refl
 last_from-append part (b ∷ xs) ys =
     elim (b == 10) as (λ t. (if t then last_from (Some []) (xs ++ ys) else last_from (pushed part b) (xs ++ ys))
@@ -30,7 +30,7 @@ abbrev join : List ℕ → List (List ℕ) → List (List ℕ)
 join front [] = front ∷ []
 join front (piece ∷ rest) = (front ++ piece) ∷ rest
 
-abbrev lines_of : List (List ℕ) → List (Option (List ℕ))
+abbrev lines_of : List (List ℕ) → List (Line)
 lines_of ps = map (λ piece. line_of (kept piece)) ps
 
 join-pieces : (bytes : List ℕ) → join [] (pieces bytes) ≡ pieces bytes
@@ -61,7 +61,7 @@ lines_of-join front (b ∷ bs) =
 pub all_lines-by-parts : (bytes : List ℕ) → all_lines bytes ≡ ended_from (Some []) bytes ++ line_of (last_from (Some []) bytes) ∷ []
 all_lines-by-parts bytes = ap lines_of (sym (join-pieces bytes)) ∙ lines_of-join [] bytes
 
-front-push : (lines : List (Option (List ℕ))) (line : Option (List ℕ)) → take (length (lines ++ line ∷ []) - 1) (lines ++ line ∷ []) ≡ lines
+front-push : (lines : List (Line)) (line : Line) → take (length (lines ++ line ∷ []) - 1) (lines ++ line ∷ []) ≡ lines
 front-push lines line =
     let n : length (lines ++ line ∷ []) - 1 ≡ length lines = omega (arith, length_push lines line) in
     ap (λ k. take k (lines ++ line ∷ [])) n ∙ take-append_seam lines (line ∷ [])

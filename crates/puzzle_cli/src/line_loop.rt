@@ -1,18 +1,16 @@
-ghost use Rattle.std.specs.Prelude.{◌≡◌, ℕ, ◌+◌, ◌≤◌, ◌∷◌, [], Some, true, false, length, take, is_err, IfOk, OnOk, OnErr, IsNone, MatchOption, ◌↔◌};
+//! The loop of a run: bytes are read, cut into lines, and each line is answered by a machine.
+
+ghost use Rattle.std.specs.Prelude.{◌≡◌, ℕ, ◌+◌, ◌≤◌, ◌∷◌, [], Some, true, false, length, take, is_err, IfOk, OnOk, OnErr};
 ghost use Rattle.std.specs.Option.{option_copied};
 ghost use Rattle.std.specs.Io.KnownBytes.{Appends, Consumes, IsAtEnd, Keeps};
 ghost use Rattle.puzzle_cli.specs.Lines.{line_of};
 ghost use Rattle.puzzle_cli.specs.LineBuffer.{ended_from, last_from};
-ghost use Rattle.puzzle_cli.specs.Replies.{Replies, quits};
 ghost use Rattle.puzzle_cli.specs.Runs.{Ends};
 ghost use Rattle.puzzle_cli.specs.Steps.{Goes};
-ghost use Rattle.puzzle_cli.specs.Text.{text_bytes};
 
 use crate::line_buffer::LineBuffer;
-use crate::line_fault::LineFault;
-use crate::machine::Machine;
+use crate::machine::{Answer, Machine};
 use crate::run_end::End;
-use crate::text::Text;
 use puzzle_io::{DeviceFault, Sink, Source};
 use std::alloc::Global;
 
@@ -42,8 +40,11 @@ pub(crate) fn run_machine<M: Machine, R: Source, W: Sink>(
 ) -> End
     requires source { R.has_failed source.old ≡ false }
     requires sink { W.has_failed sink.old ≡ false }
-    ensures { Ends (Replies M.reply) (quits M.is_quit) result (R.to_come source.old) (R.to_come source.new) (R.has_failed source.new)
-        machine.old machine.new (W.taken sink.old) (W.taken sink.new) (W.has_failed sink.new) }
+    ensures { Ends M.reply M.is_quit result
+        (record { session = machine.old; to_come = R.to_come source.old; read_failed = R.has_failed source.old;
+            taken = W.taken sink.old; write_failed = W.has_failed sink.old })
+        (record { session = machine.new; to_come = R.to_come source.new; read_failed = R.has_failed source.new;
+            taken = W.taken sink.new; write_failed = W.has_failed sink.new }) }
 {
     let mut line = LineBuffer::new();
     let mut piece = [0; PIECE_BYTES];
@@ -95,8 +96,9 @@ fn take_piece<M: Machine, W: Sink>(
     sink: &mut W,
 ) -> Status
     requires { W.has_failed sink.old ≡ false }
-    ensures goes { Goes (Replies M.reply) (quits M.is_quit) result (ended_from line.old piece.now)
-        machine.old machine.new (W.taken sink.old) (W.taken sink.new) (W.has_failed sink.new) }
+    ensures goes { Goes M.reply M.is_quit result (ended_from line.old piece.now)
+        (record { session = machine.old; taken = W.taken sink.old; failed = W.has_failed sink.old })
+        (record { session = machine.new; taken = W.taken sink.new; failed = W.has_failed sink.new }) }
     ensures line { result ≡ Status.More → line.new ≡ last_from line.old piece.now }
 {
     for byte in piece {
@@ -117,8 +119,9 @@ fn take_byte<M: Machine, W: Sink>(
     sink: &mut W,
 ) -> Status
     requires { W.has_failed sink.old ≡ false }
-    ensures goes { Goes (Replies M.reply) (quits M.is_quit) result (ended_from line.old (byte ∷ []))
-        machine.old machine.new (W.taken sink.old) (W.taken sink.new) (W.has_failed sink.new) }
+    ensures goes { Goes M.reply M.is_quit result (ended_from line.old (byte ∷ []))
+        (record { session = machine.old; taken = W.taken sink.old; failed = W.has_failed sink.old })
+        (record { session = machine.new; taken = W.taken sink.new; failed = W.has_failed sink.new }) }
     ensures line { line.new ≡ last_from line.old (byte ∷ []) }
 {
     if byte == b'\n' {
@@ -136,8 +139,9 @@ fn end_line<M: Machine, W: Sink>(
     sink: &mut W,
 ) -> Status
     requires { W.has_failed sink.old ≡ false }
-    ensures goes { Goes (Replies M.reply) (quits M.is_quit) result (line_of line.old ∷ [])
-        machine.old machine.new (W.taken sink.old) (W.taken sink.new) (W.has_failed sink.new) }
+    ensures goes { Goes M.reply M.is_quit result (line_of line.old ∷ [])
+        (record { session = machine.old; taken = W.taken sink.old; failed = W.has_failed sink.old })
+        (record { session = machine.new; taken = W.taken sink.new; failed = W.has_failed sink.new }) }
     ensures line { line.new ≡ Some [] }
 {
     let status = answer_line(alloc, line.line(), machine, sink);
@@ -145,6 +149,7 @@ fn end_line<M: Machine, W: Sink>(
     status
 }
 
+/// Has the line answered, and sends its reply where it has one.
 fn answer_line<M: Machine, W: Sink>(
     alloc: Global,
     line: Option<&[u8]>,
@@ -152,43 +157,17 @@ fn answer_line<M: Machine, W: Sink>(
     sink: &mut W,
 ) -> Status
     requires { W.has_failed sink.old ≡ false }
-    ensures { Goes (Replies M.reply) (quits M.is_quit) result (option_copied line.entry ∷ [])
-        machine.old machine.new (W.taken sink.old) (W.taken sink.new) (W.has_failed sink.new) }
+    ensures { Goes M.reply M.is_quit result (option_copied line.entry ∷ [])
+        (record { session = machine.old; taken = W.taken sink.old; failed = W.has_failed sink.old })
+        (record { session = machine.new; taken = W.taken sink.new; failed = W.has_failed sink.new }) }
 {
-    if quits(machine, line) {
-        return Status::Quit;
-    }
-    let Some(text) = reply_to(alloc, line, machine) else {
-        return Status::More;
-    };
-    match send(sink, text.as_bytes()) {
-        Ok(()) => return Status::More,
-        Err(_) => return Status::Fault,
-    }
-}
-
-/// Whether the line ends the run.
-fn quits<M: Machine>(machine: &M, line: Option<&[u8]>) -> bool
-    ensures { result ≡ quits M.is_quit (option_copied line.entry) }
-{
-    match line {
-        None => false,
-        Some(line) => machine.is_quit(line),
-    }
-}
-
-/// The reply to the line, or `None` where it has none.
-#[tactic(auto, unfolding(crate::specs::Replies::Replies))]
-fn reply_to<M: Machine>(alloc: Global, line: Option<&[u8]>, machine: &mut M) -> Option<Text>
-    requires { quits M.is_quit (option_copied line) ≡ false }
-    ensures none { IsNone result ↔ (option_copied line.entry ≡ Some []) }
-    ensures reply { MatchOption result (Replies M.reply machine.old (option_copied line.entry) [] machine.new)
-        (λ text. Replies M.reply machine.old (option_copied line.entry) (text_bytes text) machine.new) }
-{
-    match line {
-        None => Some(Text::refused(LineFault::LongLine.name())),
-        Some(line) if line.is_empty() => None,
-        Some(line) => Some(machine.answer(alloc, line)),
+    match machine.answer(alloc, line) {
+        Answer::Quit => return Status::Quit,
+        Answer::Silence => return Status::More,
+        Answer::Reply(text) => match send(sink, text.as_bytes()) {
+            Ok(()) => return Status::More,
+            Err(_) => return Status::Fault,
+        },
     }
 }
 

@@ -1,6 +1,6 @@
 use Rattle.std.proofs.Common.{rules, arith}
-use Rattle.puzzle_cli.proofs.SendLemmas.{Appends-piece}
-use Rattle.puzzle_cli.proofs.driver.send.Goals as goal
+use Rattle.puzzle_cli.proofs.BytesSent.{Appends-piece}
+use Rattle.puzzle_cli.proofs.line_loop.send.Goals as goal
 
 pub loop-sent-preserved : goal.loop-sent-preserved
 loop-sent-preserved g c = (

@@ -1,6 +1,6 @@
 use Rattle.std.proofs.Common.{length, ◌-◌, ◌≡◌, ◌≤◌, false, take}
 use Rattle.std.specs.Io.KnownBytes.{Appends}
-use Rattle.puzzle_cli.proofs.driver.send.Given as goal
+use Rattle.puzzle_cli.proofs.line_loop.send.Given as goal
 
 -- the bytes so far were taken
 abbrev pub invariant-loop-sent : goal.invariant-loop-sent

@@ -1,7 +1,8 @@
-ghost use Rattle.std.specs.Prelude.{◌≡◌, codes, ⊤};
-ghost use Rattle.std.specs.Str.{bytes_eq};
+ghost use Rattle.std.specs.Prelude.{◌≡◌, ⊤};
+ghost use Rattle.puzzle_cli.specs.Commands.{is_quit};
 
 use super::*;
+use crate::text::Text;
 use puzzle_io::{FromRead, MemorySink, MemorySource, ToWrite};
 use std::io;
 use std::io::{ErrorKind, Read, Write};
@@ -17,19 +18,30 @@ struct Counter {
 impl Machine for Counter {
     ghost reply = { λ _ _ _ _. ⊤ };
 
-    ghost is_quit = { λ line. bytes_eq line (codes "quit") };
+    ghost is_quit = { is_quit };
 
-    fn is_quit(&self, line: &[u8]) -> bool {
-        line == b"quit".as_slice()
+    fn answer(&mut self, alloc: Global, line: Option<&[u8]>) -> Answer {
+        let Some(line) = line else {
+            return Answer::Reply(Text::refused("LongLine"));
+        };
+        if line == b"quit".as_slice() {
+            return Answer::Quit;
+        }
+        if line.is_empty() {
+            return Answer::Silence;
+        }
+        Answer::Reply(self.say(alloc, line))
     }
+}
 
-    fn answer(&mut self, alloc: Global, line: &[u8]) -> Text {
+impl Counter {
+    fn say(&mut self, alloc: Global, line: &[u8]) -> Text {
         if line == b"up".as_slice() {
             self.number = self.number.saturating_add(1);
             return Text::line("ok");
         }
         if line != b"show".as_slice() {
-            return Text::refused(LineFault::BadCommand.name());
+            return Text::refused("BadCommand");
         }
         let number = self.number;
         match format!(in alloc; "{number}\n") {
