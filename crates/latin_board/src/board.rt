@@ -1,4 +1,6 @@
 //! Boards: numbers, pencil marks, two flags and done marks, and the exchange with a change.
+//!
+//! A line `let _size = ..` is there for the contract of `size`, which tells the check that the board or grid is a valid one.
 
 ghost use Rattle.std.specs.Prelude.{◌≡◌, ℕ, ◌+◌, ◌*◌, ◌<◌, ◌≤◌, ◌↔◌, ◌==◌, not, IsTrue, if◌then◌else◌, slice_set, replicate};
 ghost use Rattle.std.specs.Cmp.{decided, partial_equiv_from_equiv};
@@ -74,7 +76,6 @@ impl Board {
     pub fn start(grid: &Grid) -> Board
         ensures { result ≡ start_board grid.now }
     {
-        // `size` tells that the grid is a valid one.
         let _size = grid.size();
         Board {
             grid: *grid,
@@ -209,6 +210,17 @@ impl Board {
         mem::swap(&mut self.cheated, &mut square.cheated);
     }
 
+    #[tactic(auto, using(std::proofs::lemmas::Grind::common_steps))]
+    fn has_same_content(&self, other: &Board) -> bool
+        ensures { result ≡ same_board self.now other.now }
+    {
+        self.grid == other.grid
+            && self.square_marks() == other.square_marks()
+            && self.completed == other.completed
+            && self.cheated == other.cheated
+            && self.done == other.done
+    }
+
     // The marks of the board's squares alone.
     fn square_marks(&self) -> &[Marks]
         ensures { result.now ≡ self.now.marks }
@@ -235,11 +247,7 @@ impl PartialEq for Board {
         ensures value { result ≡ same_board self.now other.now }
         ensures same { IsTrue result ↔ (self.now ≡ other.now) }
     {
-        self.grid == other.grid
-            && self.square_marks() == other.square_marks()
-            && self.completed == other.completed
-            && self.cheated == other.cheated
-            && self.done == other.done
+        self.has_same_content(other)
     }
 }
 

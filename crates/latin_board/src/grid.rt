@@ -35,9 +35,13 @@ impl Model for Grid {
 
     ghost invariant = { λ g. KeepsNumbers g.size g.cells };
 
-    ghost inverse = { λ v. record { size = v.size; cells = v.numbers ++ replicate (81 - v.size * v.size) 0 } };
+    ghost inverse = { λ v. record {
+      size = v.size;
+      cells = v.numbers ++ replicate (81 - v.size * v.size) 0;
+    } };
 
-    ghost inverse_ok = { λ a h. let f : List ℕ → Inside = λ xs. record { size = a.size; cells = xs } in
+    ghost inverse_ok = { λ a h.
+        let f : List ℕ → Inside = λ xs. record { size = a.size; cells = xs } in
         ap f (front_and_rest a.size a.cells h.padded) };
 }
 
@@ -46,6 +50,7 @@ impl Grid {
     pub fn blank(size: Size) -> Grid
         ensures { result ≡ blank_grid size }
     {
+        // `get` tells that the size is one from 3 to 9.
         let _width = size.get();
         Grid {
             size,

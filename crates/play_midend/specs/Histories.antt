@@ -61,24 +61,10 @@ started puzzle params next_params extras = record {
 
 -- the state behind the one that is shown: a move drops those that stood there
 abbrev pub with_move : {P : Type 0} → History P → Move → History P
-with_move h m = record {
-  puzzle = h.puzzle;
-  params = h.params;
-  next_params = h.next_params;
-  extras = h.extras;
-  moves = past h ++ m ∷ [];
-  position = h.position + 1;
-}
+with_move h m = record h { moves = past h ++ m ∷ []; position = h.position + 1 }
 
 abbrev pub at_position : {P : Type 0} → History P → ℕ → History P
-at_position h position = record {
-  puzzle = h.puzzle;
-  params = h.params;
-  next_params = h.next_params;
-  extras = h.extras;
-  moves = h.moves;
-  position = position;
-}
+at_position h position = record h { position = position }
 
 -- at the first state a restart is refused, and any move at the last position that a history has
 abbrev pub restart_refusal : ℕ → Option PlayFault

@@ -191,8 +191,8 @@ impl<P: Game> Session<P> {
     {
         match solve(&self.puzzle) {
             Answer::None => Err(PlayFault::NoSolution),
-            Answer::Several(_, _) => Err(PlayFault::SeveralSolutions),
             Answer::One(grid) => self.play(Move::Solve(grid)),
+            Answer::Several(_, _) => Err(PlayFault::SeveralSolutions),
         }
     }
 
