@@ -18,7 +18,7 @@ all:
 	cp -f crates/puzzles/out/puzzles build/puzzles
 
 test:
-	$(RT) ci
+	@RT='$(RT)' tools/gate
 
 play:
 	@case '$(GAME)' in towers|unequal) ;; *) echo 'make: GAME is towers or unequal' >&2; exit 2 ;; esac
