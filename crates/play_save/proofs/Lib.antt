@@ -12,3 +12,4 @@ pub mod StatesPlayed
 pub mod SavedTaken
 pub mod SavedAgain
 pub mod LoadAnswers
+pub mod WrittenLists

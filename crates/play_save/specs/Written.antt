@@ -1,20 +1,20 @@
 -- The save text that is written for a session.
-use Rattle.std.specs.Prelude.{ℕ, ◌+◌, List, [], ◌∷◌, ◌++◌, length, map, codes, Option, Some, None}
+use Rattle.std.specs.Prelude.{ℕ, ◌+◌, List, [], ◌∷◌, ◌++◌, length, map, codes, if◌then◌else◌, Option, Some, None}
 use Rattle.std.specs.Fmt.{decimal}
 use Rattle.clue_rules.specs.ParamTexts.{params_text}
 use Rattle.play_midend.specs.declared.moves.Move.{Move}
-use Rattle.play_midend.specs.declared.moves.Move.TheVariants.{Solve, Restart}
 use Rattle.play_midend.specs.MoveTexts.{move_text}
+use Rattle.play_midend.specs.Steps.{is_restart}
 use Rattle.play_midend.specs.Histories.{History}
 use Rattle.play_save.specs.declared.key.StateKey.TheVariants.{AnyMove, SolveMove, RestartMove}
 use Rattle.play_save.specs.declared.key.Key.{Key}
 use Rattle.play_save.specs.declared.key.Key.TheVariants.{SaveFile, FormatVersion, GameName, NextParams, CurrentParams, Seed, Desc, AuxInfo, Ui, Time, StateCount, Position, State}
 use Rattle.play_save.specs.Keys.{key_name, padded}
 use Rattle.play_save.specs.Lines.{Line}
-use Rattle.play_save.specs.SaveTexts.{collection}
+use Rattle.play_save.specs.SaveTexts.{collection, is_solve}
 
 -- a record as it is written
-abbrev pub record_text : Line → List ℕ
+unfoldable pub record_text : Line → List ℕ
 record_text l = padded (key_name l.key) ++ (58 ∷ (decimal (length l.value) ++ (58 ∷ (l.value ++ (10 ∷ [])))))
 
 abbrev pub records_text : List Line → List ℕ
@@ -31,9 +31,9 @@ kept_line k (Some value) = with_value k value ∷ []
 
 -- the state record of a move, with the description of the puzzle for a restart
 abbrev pub state_line : List ℕ → Move → Line
-state_line desc (Solve g) = with_value (State SolveMove) (move_text (Solve g))
-state_line desc Restart = with_value (State RestartMove) desc
-state_line desc m = with_value (State AnyMove) (move_text m)
+state_line desc m =
+    if is_restart m then with_value (State RestartMove) desc
+    else with_value (State (if is_solve m then SolveMove else AnyMove)) (move_text m)
 
 -- the records in their order, of a game with this name
 abbrev pub head_lines : {P : Type 0} → List ℕ → History P → List Line

@@ -1,7 +1,7 @@
 //! What a record is about, by its key.
 
 ghost use Rattle.std.specs.Prelude.{◌≡◌};
-ghost use Rattle.play_save.specs.Keys.{key_of, header_key_of, kept_key_of};
+ghost use Rattle.play_save.specs.Keys.{key_of, header_key_of, kept_key_of, key_name, padded};
 
 /// What a state record holds: the key says how the state was reached.
 #[derive(Clone, Copy, Debug, PartialEq, Eq)]
@@ -107,6 +107,31 @@ impl Key {
             Key::Time
         } else {
             Key::Other
+        }
+    }
+
+    /// The key with this meaning as it is written, eight bytes.
+    pub(crate) fn padded(self) -> &'static [u8]
+        ensures { result.now ≡ padded (key_name self) }
+    {
+        match self {
+            Key::SaveFile => b"SAVEFILE",
+            Key::FormatVersion => b"VERSION ",
+            Key::GameName => b"GAME    ",
+            Key::NextParams => b"PARAMS  ",
+            Key::CurrentParams => b"CPARAMS ",
+            Key::Seed => b"SEED    ",
+            Key::Desc => b"DESC    ",
+            Key::PrivateDesc => b"PRIVDESC",
+            Key::AuxInfo => b"AUXINFO ",
+            Key::Ui => b"UI      ",
+            Key::Time => b"TIME    ",
+            Key::StateCount => b"NSTATES ",
+            Key::Position => b"STATEPOS",
+            Key::State(StateKey::AnyMove) => b"MOVE    ",
+            Key::State(StateKey::SolveMove) => b"SOLVE   ",
+            Key::State(StateKey::RestartMove) => b"RESTART ",
+            Key::Other => b"        ",
         }
     }
 }

@@ -6,7 +6,9 @@ mod found;
 mod key;
 mod loading;
 mod record;
+mod saving;
 
 pub use fault::LoadFault;
 pub use loading::load;
 pub use record::{Record, next_record};
+pub use saving::save;
