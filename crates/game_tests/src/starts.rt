@@ -96,7 +96,11 @@ fn words_that_are_refused(rt: HostRuntime) {
     check_refused(&rt, alloc, &[]);
     check_refused(&rt, alloc, &["puzzles"]);
     check_refused(&rt, alloc, &["puzzles", "chess"]);
-    check_refused(&rt, alloc, &["puzzles", "towers", "--id", "3", "--load", "f"]);
+    check_refused(
+        &rt,
+        alloc,
+        &["puzzles", "towers", "--id", "3", "--load", "f"],
+    );
 }
 
 fn check_help(rt: &impl Abort, alloc: Global, word: &str, part: &str) {
@@ -123,7 +127,11 @@ fn words_that_ask_for_help(rt: HostRuntime) {
     check_help(&rt, alloc, "-V", "puzzles 1.0");
 }
 
-fn begun<P: Game>(alloc: Global, id: Option<&str>, file: Option<&str>) -> Result<Option<Session<P>>, StartFault> {
+fn begun<P: Game>(
+    alloc: Global,
+    id: Option<&str>,
+    file: Option<&str>,
+) -> Result<Option<Session<P>>, StartFault> {
     match (id, file) {
         (Some(id), _) => begin::<P>(alloc, Some(id.as_bytes()), None),
         (None, Some(file)) => begin::<P>(alloc, None, Some(file.as_bytes())),
@@ -138,7 +146,10 @@ fn sessions_that_begin(rt: HostRuntime) -> Result<(), Fail> {
 
     let new = begun::<Towers>(alloc, Some(SMALL_ID), None)?.expect(&rt, "a session");
     assert_eq!(rt; (new.position(), new.states()), (1, 1));
-    assert_eq!(rt; new.puzzle().write_desc(alloc)?.as_slice(), b"3//////3/////".as_slice());
+    assert_eq!(rt;
+        new.puzzle().write_desc(alloc)?.as_slice(),
+        b"3//////3/////".as_slice()
+    );
 
     let loaded = begun::<Towers>(alloc, None, Some(SAVED))?.expect(&rt, "a session");
     assert_eq!(rt; (loaded.position(), loaded.states()), (2, 3));
@@ -187,10 +198,42 @@ fn check_start<P: Game>(
 #[test]
 fn starts_that_are_refused(rt: HostRuntime) {
     let alloc = rt.alloc();
-    check_start::<Towers>(&rt, alloc, Some("5#7"), None, 1, "ForeignSeed", "refused: ForeignSeed");
-    check_start::<Towers>(&rt, alloc, Some("7!1"), None, 2, "SizeTooLarge", "refused: SizeTooLarge");
-    check_start::<Unequal>(&rt, alloc, None, Some(SAVED), 3, "WrongGame", "refused: WrongGame");
-    check_start::<Towers>(&rt, alloc, None, Some(BAD_SECOND_MOVE), 3, "BadState", "refused: BadState 2");
+    check_start::<Towers>(
+        &rt,
+        alloc,
+        Some("5#7"),
+        None,
+        1,
+        "ForeignSeed",
+        "refused: ForeignSeed",
+    );
+    check_start::<Towers>(
+        &rt,
+        alloc,
+        Some("7!1"),
+        None,
+        2,
+        "SizeTooLarge",
+        "refused: SizeTooLarge",
+    );
+    check_start::<Unequal>(
+        &rt,
+        alloc,
+        None,
+        Some(SAVED),
+        3,
+        "WrongGame",
+        "refused: WrongGame",
+    );
+    check_start::<Towers>(
+        &rt,
+        alloc,
+        None,
+        Some(BAD_SECOND_MOVE),
+        3,
+        "BadState",
+        "refused: BadState 2",
+    );
 }
 
 #[test]
@@ -201,5 +244,8 @@ fn want_of_memory(rt: HostRuntime) {
     assert_eq!(rt; StartFault::OutOfMemory.number(), 4);
     assert_eq!(rt; StartFault::OutOfMemory.name(), "OutOfMemory");
     assert_eq!(rt; StartFault::OutOfMemory.status(), 1);
-    assert_eq!(rt; StartFault::OutOfMemory.fault_line().as_str(), "out of memory");
+    assert_eq!(rt;
+        StartFault::OutOfMemory.fault_line().as_str(),
+        "out of memory"
+    );
 }

@@ -32,12 +32,17 @@ pub struct Args {
 }
 
 const PROGRAM: &str = "puzzles";
+
 const GAME: &str = "game";
+
 const ID: &str = "id";
+
 const LOAD: &str = "load";
+
 const SAVE: &str = "save";
 
 static GAMES: [&str; 2] = ["towers", "unequal"];
+
 static NO_WORDS: [&str; 1] = [PROGRAM];
 
 /// Reads the words of a command line, `puzzles GAME [--id ID] [--load FILE] [--save FILE]`.
@@ -80,14 +85,15 @@ fn command<'a>(alloc: Global) -> Result<Command<'a>, AllocError> {
         .long("load")
         .value_name("FILE")
         .help("Begin with the session that was saved to this file");
-    let save = Arg::new(alloc, SAVE)
-        .long("save")
-        .value_name("FILE")
-        .help("Save the session to this file once the commands are at their end");
+    let save = Arg::new(alloc, SAVE).long("save").value_name("FILE").help(
+        "Save the session to this file once the commands are at their end",
+    );
     Command::new(alloc, PROGRAM)
         .bin_name(PROGRAM)?
         .version("1.0")
-        .about("Towers and Unequal, two puzzles played by commands, one a line, from standard input")
+        .about(
+            "Towers and Unequal, two puzzles played by commands, one a line, from standard input",
+        )
         .after_help(MORE_HELP)
         .arg(game)?
         .arg(id)?

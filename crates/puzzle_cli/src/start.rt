@@ -65,7 +65,9 @@ fn new_session<P: Game>(alloc: Global, params: Params, puzzle: P) -> Result<Sess
     ensures why { IfErr result (λ fault. fault ≡ StartFault.OutOfMemory) }
 {
     let next_params = params;
-    Session::new(alloc, params, next_params, puzzle, no_extras()).map_err(|_| StartFault::OutOfMemory)
+    Session::new(alloc, params, next_params, puzzle, no_extras()).map_err(
+        |_| StartFault::OutOfMemory,
+    )
 }
 
 fn no_extras() -> Extras

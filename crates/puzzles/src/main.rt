@@ -36,9 +36,7 @@ fn main(rt: HostRuntime) -> ExitCode {
 }
 
 // Reads the command line and plays its game.
-fn start(
-    rt: &(impl Env + Files + Input + Print + Eprint + AllocGlobal),
-) -> Result<(), Fault> {
+fn start(rt: &(impl Env + Files + Input + Print + Eprint + AllocGlobal)) -> Result<(), Fault> {
     let args = args(rt).map_err(Fault::Words)?;
     match args.game {
         GameName::Towers => play::<Towers>(rt, &args),
@@ -56,10 +54,7 @@ fn args(rt: &(impl Env + AllocGlobal)) -> Result<Args, CommandFault>
             return Err(CommandFault::OutOfMemory);
         }
         Err(_) => {
-            return Err(CommandFault::BadWords(String::from_str(
-                rt.alloc(),
-                NO_TEXT,
-            )?));
+            return Err(CommandFault::BadWords(String::from_str(rt.alloc(), NO_TEXT)?));
         }
     };
     let mut words = Vec::new(rt.alloc());
@@ -70,10 +65,7 @@ fn args(rt: &(impl Env + AllocGlobal)) -> Result<Args, CommandFault>
 }
 
 // Plays a game, from its first session to the file that the last one is saved to.
-fn play<P: Draw>(
-    rt: &(impl Files + Input + Print + AllocGlobal),
-    args: &Args,
-) -> Result<(), Fault>
+fn play<P: Draw>(rt: &(impl Files + Input + Print + AllocGlobal), args: &Args) -> Result<(), Fault>
     requires { NotBoth args.now.id args.now.load }
 {
     let session = first_session::<P>(rt, args)?;

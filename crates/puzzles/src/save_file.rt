@@ -4,13 +4,12 @@
 //! name, so that a save that fails or is broken off leaves the old one whole. A pipe, a device or an open stream is written
 //! as it is.
 
-use std::fs;
 use std::fs::{File, Metadata, OpenFile, OpenOptions};
-use std::io;
 use std::io::{ErrorKind, Write};
 use std::os::unix::fs::{MetadataExt, OpenOptionsExt, chown};
 use std::path::Path;
 use std::rt::Files;
+use std::{fs, io};
 
 /// How many names are tried for the new file.
 const MOST_NAMES: u32 = 100;
