@@ -10,3 +10,11 @@ pub mod BytesSent
 pub mod SolveRefusals
 pub mod Starting
 pub mod RefusedLines
+pub mod ListedOnce
+pub mod RepliesOnce
+pub mod ReplyTexts
+pub mod SparedMemory
+pub mod CallReplies
+pub mod RefusedReplies
+pub mod UndoReplies
+pub mod StorableReplies

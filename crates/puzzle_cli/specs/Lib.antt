@@ -1,3 +1,5 @@
+-- What the contracts of this crate cite. A line and its command: Lines, Commands; what is said and left: GameFacts, NewSessions,
+-- SessionReplies, Replies; the run: Runs; its laws: RunLaws. The others are texts, faults and private steps.
 pub mod Symbols
 pub mod TowersPicture
 pub mod UnequalPicture
@@ -22,4 +24,5 @@ pub mod Runs
 pub mod StartFault
 pub mod Starts
 pub mod Steps
+pub mod RunLaws
 pub mod Text

@@ -1,5 +1,5 @@
 -- What a session says to a request, and the session that is left.
-use Rattle.std.specs.Prelude.{◌≡◌, ℕ, ◌+◌, List, [], ◌∷◌, ◌++◌, length, codes, Option, Some, Result, Ok, Err, IsOk}
+use Rattle.std.specs.Prelude.{◌≡◌, ℕ, ◌+◌, List, [], ◌∷◌, ◌++◌, length, codes, Option, Some, None, Result, Ok, Err, IsOk}
 use Rattle.latin_board.specs.Squares.{GridValue}
 use Rattle.latin_board.specs.Boards.{BoardValue}
 use Rattle.byte_text.specs.Reading.{◌>>=◌}
@@ -7,7 +7,6 @@ use Rattle.clue_rules.specs.ParamTexts.{params_text}
 use Rattle.trail_solver.specs.Puzzles.{Puzzle, Solves}
 use Rattle.trail_solver.specs.Listings.{AreFirst}
 use Rattle.play_midend.specs.declared.fault.PlayFault.{PlayFault}
-use Rattle.play_midend.specs.declared.fault.PlayFault.TheVariants.{NoSolution, SeveralSolutions}
 use Rattle.play_midend.specs.declared.moves.Move.{Move}
 use Rattle.play_midend.specs.declared.moves.Move.TheVariants.{Solve as ToSolution}
 use Rattle.play_midend.specs.MoveTexts.{IsMoveText, move_fault}
@@ -20,7 +19,7 @@ use Rattle.puzzle_cli.specs.declared.refusal.Refusal.{Refusal}
 use Rattle.puzzle_cli.specs.declared.refusal.Refusal.TheVariants.{Play}
 use Rattle.puzzle_cli.specs.Symbols.{line_feed, colon}
 use Rattle.puzzle_cli.specs.BoardTexts.{marks_lines, status_words, done_lines}
-use Rattle.puzzle_cli.specs.SolutionTexts.{listed_lines, move_line, no_solution_line, several_solutions_line}
+use Rattle.puzzle_cli.specs.SolutionTexts.{listed_lines, move_line, solve_sentence}
 use Rattle.puzzle_cli.specs.GameFacts.{GameFacts}
 
 abbrev pub ok_line : List ℕ
@@ -56,13 +55,16 @@ IsMoveRead text (Err fault) = ((m : Move) → IsMoveText m text → ⊥) × (fau
 abbrev pub TextPlays : {P : Type 0} → Puzzle → History P → List ℕ → Result (History P) PlayFault → Type 0
 TextPlays p h text exact = (read : Result Move PlayFault) × IsMoveRead text read × ((read >>= played p h) ≡ exact)
 
+-- a sentence, or else the refusal
+abbrev pub sentence_outcome : {P : Type 0} → History P → Option (List ℕ) → PlayFault → Outcome P
+sentence_outcome h (Some sentence) fault = text_outcome h sentence
+sentence_outcome h None fault = Err (Play fault)
+
 -- what `solve` says of the step that it is: the text of the move that was made, or why there is none
 abbrev pub SolveSays : {P : Type 0} → History P → Result (History P) PlayFault → Outcome P → Type 0
 SolveSays h (Ok new) outcome =
     (g : GridValue) × (with_move h (ToSolution g) ≡ new) × (text_outcome new (move_line (ToSolution g)) ≡ outcome)
-SolveSays h (Err NoSolution) outcome = text_outcome h no_solution_line ≡ outcome
-SolveSays h (Err SeveralSolutions) outcome = text_outcome h several_solutions_line ≡ outcome
-SolveSays h (Err fault) outcome = Err (Play fault) ≡ outcome
+SolveSays h (Err fault) outcome = sentence_outcome h (solve_sentence fault) fault ≡ outcome
 
 abbrev pub SolveReplies : {P : Type 0} → Puzzle → History P → Outcome P → Type 0
 SolveReplies {P} p h outcome = (exact : Result (History P) PlayFault) × SolveGives p h exact × SolveSays h exact outcome

@@ -1,8 +1,10 @@
 -- What the commands `solve` and `list` print.
-use Rattle.std.specs.Prelude.{ℕ, List, [], ◌∷◌, ◌++◌, map, codes}
+use Rattle.std.specs.Prelude.{ℕ, List, [], ◌∷◌, ◌++◌, map, codes, Option, Some, None}
 use Rattle.std.specs.List.{flat_map}
 use Rattle.latin_board.specs.Squares.{GridValue}
 use Rattle.play_midend.specs.declared.moves.Move.{Move}
+use Rattle.play_midend.specs.declared.fault.PlayFault.{PlayFault}
+use Rattle.play_midend.specs.declared.fault.PlayFault.TheVariants.{NoSolution, SeveralSolutions}
 use Rattle.play_midend.specs.MoveTexts.{move_text}
 use Rattle.puzzle_cli.specs.Symbols.{line_feed, digit}
 use Rattle.puzzle_cli.specs.BoardTexts.{lines_or}
@@ -26,3 +28,9 @@ no_solution_line = codes "No solution exists for this puzzle" ++ line_feed ∷ [
 
 abbrev pub several_solutions_line : List ℕ
 several_solutions_line = codes "Multiple solutions exist for this puzzle" ++ line_feed ∷ []
+
+-- the sentence that stands for a refusal of `solve`, if any
+abbrev pub solve_sentence : PlayFault → Option (List ℕ)
+solve_sentence NoSolution = Some no_solution_line
+solve_sentence SeveralSolutions = Some several_solutions_line
+solve_sentence _ = None

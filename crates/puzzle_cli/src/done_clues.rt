@@ -1,3 +1,5 @@
+//! The edge clues that are done, as lines.
+
 ghost use Rattle.std.specs.Prelude.{◌≡◌, ◌+◌, ◌*◌, ◌<◌, ◌≤◌, ◌++◌, ℤ, pos, negsuc, ◌≤ℤ◌, zero, length};
 ghost use Rattle.arrayvec.specs.ArrayVec.{array_vec_len};
 ghost use Rattle.play_midend.specs.Histories.{shown};

@@ -1,3 +1,5 @@
+//! What a game adds to be played as text: the picture of its boards.
+
 ghost use Rattle.std.specs.Prelude.{◌≡◌, ℕ, List, IfOk};
 ghost use Rattle.latin_board.specs.Boards.{BoardValue};
 ghost use Rattle.play_midend.specs.Histories.{shown};

@@ -11,13 +11,13 @@ pub(crate) trait Facts {
 
 impl<P: Draw> Facts for P {
     ghost facts = { record {
-        title = P.title;
-        letters = P.letter_codes;
-        puzzle = P.puzzle;
-        valid = P.valid;
-        describes = P.describes;
-        desc_at = P.desc_at;
-        desc_of = P.desc_of;
-        drawing = P.drawing;
+      title = P.title;
+      letters = P.letter_codes;
+      puzzle = P.puzzle;
+      valid = P.valid;
+      describes = P.describes;
+      desc_at = P.desc_at;
+      desc_of = P.desc_of;
+      drawing = P.drawing;
     } };
 }

@@ -41,10 +41,20 @@ pub(crate) fn run_machine<M: Machine, R: Source, W: Sink>(
     requires source { R.has_failed source.old ≡ false }
     requires sink { W.has_failed sink.old ≡ false }
     ensures { Ends M.reply M.is_quit result
-        (record { session = machine.old; to_come = R.to_come source.old; read_failed = R.has_failed source.old;
-            taken = W.taken sink.old; write_failed = W.has_failed sink.old })
-        (record { session = machine.new; to_come = R.to_come source.new; read_failed = R.has_failed source.new;
-            taken = W.taken sink.new; write_failed = W.has_failed sink.new }) }
+        (record {
+          session = machine.old;
+          to_come = R.to_come source.old;
+          read_failed = R.has_failed source.old;
+          taken = W.taken sink.old;
+          write_failed = W.has_failed sink.old;
+        })
+        (record {
+          session = machine.new;
+          to_come = R.to_come source.new;
+          read_failed = R.has_failed source.new;
+          taken = W.taken sink.new;
+          write_failed = W.has_failed sink.new;
+        }) }
 {
     let mut line = LineBuffer::new();
     let mut piece = [0; PIECE_BYTES];

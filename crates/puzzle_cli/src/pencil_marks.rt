@@ -1,3 +1,5 @@
+//! The pencil marks of a board, as lines.
+
 ghost use Rattle.std.specs.Prelude.{◌≡◌, ◌*◌, ◌<◌, ◌++◌, IfOk, OnOk};
 ghost use Rattle.play_midend.specs.Histories.{shown};
 ghost use Rattle.puzzle_cli.specs.BoardTexts.{mark_digits, marks_line, marks_lines};

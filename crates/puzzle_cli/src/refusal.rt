@@ -1,3 +1,5 @@
+//! Why a line is refused, by the word that is printed.
+
 ghost use Rattle.std.specs.Prelude.{◌≡◌, ◌≤◌, length};
 ghost use Rattle.puzzle_cli.specs.Refusals.{refusal_name};
 

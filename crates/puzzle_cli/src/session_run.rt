@@ -32,10 +32,20 @@ pub fn run<P: Draw, R: Source, W: Sink>(
     requires source { R.has_failed source.old ≡ false }
     requires sink { W.has_failed sink.old ≡ false }
     ensures { Ends (Reply ⟦<P as Facts>⟧.facts) is_quit result.1
-        (record { session = session; to_come = R.to_come source.old; read_failed = R.has_failed source.old;
-            taken = W.taken sink.old; write_failed = W.has_failed sink.old })
-        (record { session = result.0; to_come = R.to_come source.new; read_failed = R.has_failed source.new;
-            taken = W.taken sink.new; write_failed = W.has_failed sink.new }) }
+        (record {
+          session = session;
+          to_come = R.to_come source.old;
+          read_failed = R.has_failed source.old;
+          taken = W.taken sink.old;
+          write_failed = W.has_failed sink.old;
+        })
+        (record {
+          session = result.0;
+          to_come = R.to_come source.new;
+          read_failed = R.has_failed source.new;
+          taken = W.taken sink.new;
+          write_failed = W.has_failed sink.new;
+        }) }
 {
     let mut session = session;
     let end = run_machine(alloc, &mut session, source, sink);

@@ -19,6 +19,8 @@ returns-in_err-play-clause-why g c =
     c.in_ok-read_move.ensures.found c.in_err-play.ensures.why)
 
 pub returns-clause-ok : goal.returns-clause-ok
-returns-clause-ok g c =
-    (Ok c.play.new.self, (Ok c.in_ok-read_move.field-0, c.in_ok-read_move.ensures.found, c.in_ok-play.ensures.ok),
-    search rules)
+returns-clause-ok g c = (
+  Ok c.play.new.self,
+  (Ok c.in_ok-read_move.field-0, c.in_ok-read_move.ensures.found, c.in_ok-play.ensures.ok),
+  search rules,
+)
