@@ -23,3 +23,5 @@ mod script;
 mod sessions;
 #[cfg(test)]
 mod solving;
+#[cfg(test)]
+mod starts;

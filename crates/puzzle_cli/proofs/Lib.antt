@@ -8,6 +8,7 @@ pub mod BytesRead
 pub mod RunsInTurn
 pub mod BytesSent
 pub mod SolveRefusals
+pub mod Starting
 pub mod RefusedLines
 pub mod ListedOnce
 pub mod RepliesOnce

@@ -6,6 +6,8 @@ pub mod UnequalPicture
 pub mod BoardTexts
 pub mod SolutionTexts
 pub mod Commands
+pub mod CommandFault
+pub mod CommandLine
 pub mod CommandReading
 pub mod GameFacts
 pub mod Refusals
@@ -19,6 +21,8 @@ pub mod LineFault
 pub mod Lines
 pub mod Machines
 pub mod Runs
+pub mod StartFault
+pub mod Starts
 pub mod Steps
 pub mod RunLaws
 pub mod Text

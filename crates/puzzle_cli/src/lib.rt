@@ -10,9 +10,13 @@
 
 mod answers;
 mod command;
+mod command_fault;
+mod command_line;
+mod decimal_text;
 mod done_clues;
 mod draw;
 mod facts;
+mod help;
 mod line_buffer;
 mod line_fault;
 mod line_loop;
@@ -25,12 +29,16 @@ mod run_laws;
 mod session_run;
 mod solution_list;
 mod solve_reply;
+mod start;
+mod start_fault;
 mod status;
 mod symbols;
 mod text;
 mod towers_picture;
 mod unequal_picture;
 
+pub use command_fault::CommandFault;
+pub use command_line::{Args, GameName, read_words};
 pub use done_clues::done_text;
 pub use draw::{Draw, picture};
 pub use line_fault::LineFault;
@@ -38,4 +46,6 @@ pub use pencil_marks::marks_text;
 pub use run_end::End;
 pub use run_laws::laws;
 pub use session_run::run;
+pub use start::begin;
+pub use start_fault::StartFault;
 pub use status::status_text;
