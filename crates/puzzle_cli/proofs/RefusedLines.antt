@@ -22,15 +22,6 @@ use Rattle.puzzle_cli.proofs.CommandLaws.{unread_goes_on}
 use Rattle.puzzle_cli.specs.Lines.{Line}
 use Rattle.puzzle_cli.specs.Answers.{IsLineRefusal}
 
--- a session that had no room
-pub begins_without_memory : {P : Type 0} (f : GameFacts P) (text : List ℕ) (id : GameId P) (params : Params) (puzzle : P) (refusal : Refusal)
-    → IsIdRead f text (Ok id) → id ≡ Described params puzzle → refusal ≡ Play OutOfMemory
-    → Explains (TextBegins f text) ((session : History P) × TextBegins f text (Ok session)) refusal
-begins_without_memory {P} f text id params puzzle refusal read is lacks =
-    let described : IsIdRead f text (Ok (Described params puzzle)) = subst (λ (i : GameId P). IsIdRead f text (Ok i)) is read in
-    subst (λ (r : Refusal). Explains (TextBegins f text) ((session : History P) × TextBegins f text (Ok session)) r) (sym lacks)
-    (inr ((started puzzle params params no_extras, (Ok (Described params puzzle), described, refl)), refl))
-
 module _ {P : Type 0} (f : GameFacts P) (h : History P) (text : List ℕ) where
   -- a text that is no move
   pub no_move : (refusal : Refusal) (fault : PlayFault) → refusal ≡ Play fault → ((m : Move) → Err fault ≢ Ok m) → ((m : Move) → IsMoveText m text → Err fault ≡ Ok m)

@@ -11,7 +11,8 @@ use Rattle.puzzle_cli.specs.declared.command.Word.TheVariants.{Undo, Redo, Resta
 use Rattle.puzzle_cli.specs.declared.line_fault.LineFault.{LineFault}
 use Rattle.puzzle_cli.specs.declared.line_fault.LineFault.TheVariants.{NoGame}
 use Rattle.puzzle_cli.specs.declared.refusal.Refusal.{Refusal}
-use Rattle.puzzle_cli.specs.declared.refusal.Refusal.TheVariants.{Play as OfPlay, Line as OfLine}
+use Rattle.puzzle_cli.specs.declared.start_fault.StartFault.{StartFault}
+use Rattle.puzzle_cli.specs.declared.refusal.Refusal.TheVariants.{Play as OfPlay, Line as OfLine, Start as OfStart}
 use Rattle.puzzle_cli.specs.GameFacts.{GameFacts}
 use Rattle.puzzle_cli.specs.SolutionTexts.{move_line, solve_sentence, listed_lines}
 use Rattle.puzzle_cli.specs.SessionReplies.{sentence_outcome, ok_line, SolveSays, RequestGives, call_outcome}
@@ -50,9 +51,9 @@ module _ {P : Type 0} (f : GameFacts P) (bytes name : List ℕ) (new : Option (H
   request_refused h (Plain Id) e = text_stays f h bytes new _ e
   request_refused h (Plain Done) e = text_stays f h bytes new _ e
 
-  begun_refused : (old : Option (History P)) (exact : Result (History P) Refusal) → begun exact ≡ Ok (bytes, new) → new ≡ old
+  begun_refused : (old : Option (History P)) (exact : Result (History P) StartFault) → begun exact ≡ Ok (bytes, new) → new ≡ old
   begun_refused old (Ok k) e = absurd (not_ok bytes name (sym (outcome_parts ok_line bytes (Some k) new e).0) named)
-  begun_refused old (Err refusal) e = absurd (said_or_refused bytes new refusal (sym e))
+  begun_refused old (Err fault) e = absurd (said_or_refused bytes new (OfStart fault) (sym e))
 
   read_refused : (old : Option (History P)) (read : Result (Option (Command (List ℕ))) LineFault) → ReadGives f old read (Ok (bytes, new)) → new ≡ old
   read_refused old (Ok None) e = sym (outcome_parts [] bytes old new e).1

@@ -4,6 +4,11 @@ use Rattle.latin_board.specs.Squares.{GridValue}
 use Rattle.trail_solver.specs.Puzzles.{Puzzle, Solves}
 use Rattle.clue_rules.specs.declared.id_fault.IdFault.{IdFault}
 use Rattle.clue_rules.specs.declared.game_id.GameId.{GameId}
+use Rattle.clue_rules.specs.declared.game_id.GameId.TheVariants.{Described, Seeded}
+use Rattle.puzzle_gen.specs.declared.gen_fault.GenFault.{GenFault}
+use Rattle.puzzle_gen.proofs.ItemLaws.{ItemLaws}
+use Rattle.puzzle_gen.proofs.GeneratedOnce.{generates_once}
+use Rattle.puzzle_cli.specs.declared.start_fault.StartFault.{StartFault}
 use Rattle.clue_rules.specs.Parameters.{has_adjacent}
 use Rattle.clue_rules.specs.GameIds.{IsIdText}
 use Rattle.clue_rules.specs.GameIds.{id_at, describes_at}
@@ -25,7 +30,7 @@ use Rattle.puzzle_cli.specs.declared.line_fault.LineFault.{LineFault}
 use Rattle.puzzle_cli.specs.declared.refusal.Refusal.{Refusal}
 use Rattle.puzzle_cli.specs.Lines.{Line}
 use Rattle.puzzle_cli.specs.GameFacts.{GameFacts}
-use Rattle.puzzle_cli.specs.NewSessions.{IsIdRead, TextBegins, id_session}
+use Rattle.puzzle_cli.specs.NewSessions.{IsIdRead, IdBegins, TextBegins, generated_game}
 use Rattle.puzzle_cli.specs.SessionReplies.{Outcome, IsMoveRead, TextPlays, SolveSays, SolveReplies, WordGives, RequestGives, call_outcome, text_outcome}
 use Rattle.puzzle_cli.specs.SolutionTexts.{listed_lines, move_line}
 use Rattle.puzzle_cli.specs.Refusals.{refusal_name}
@@ -116,7 +121,15 @@ ids_once f again text (Ok a) (Err b) h k = sym (again text a h) ∙ k
 ids_once f again text (Err a) (Ok b) h k = sym h ∙ again text b k
 ids_once f again text (Err a) (Err b) h k = sym h ∙ k
 
-module _ {P : Type 0} (f : GameFacts P) (ids : IdsAreReadOnce f) where
+-- an ID that was read begins one session, or is refused in one way
+id_begins_once : {P : Type 0} (f : GameFacts P) → ItemLaws f.rules → (read : Result (GameId P) IdFault) (one other : Result (History P) StartFault)
+    → IdBegins f read one → IdBegins f read other → one ≡ other
+id_begins_once f laws (Ok (Described params puzzle)) one other is so = sym is ∙ so
+id_begins_once {P} f laws (Ok (Seeded params seed)) one other (made, gives, is) (built, tells, so) =
+    sym is ∙ ap (λ (r : Result P GenFault). generated_game params r) (generates_once f.rules params seed made built laws gives tells) ∙ so
+id_begins_once f laws (Err fault) one other is so = sym is ∙ so
+
+module _ {P : Type 0} (f : GameFacts P) (laws : ItemLaws f.rules) (ids : IdsAreReadOnce f) where
   word_once : (h : History P) (word : Word) (one other : Outcome P) → WordGives f h word one → WordGives f h word other → one ≡ other
   word_once h Undo one other is so = sym is ∙ so
   word_once h Redo one other is so = sym is ∙ so
@@ -136,8 +149,10 @@ module _ {P : Type 0} (f : GameFacts P) (ids : IdsAreReadOnce f) where
       sym is ∙ ap (λ l. text_outcome h (listed_lines l)) (first_once (Solves (f.rules.puzzle h.puzzle)) n xs ys first least) ∙ so
   request_once h (Plain word) one other is so = word_once h word one other is so
 
-  begins_once : (text : List ℕ) (one other : Result (History P) Refusal) → TextBegins f text one → TextBegins f text other → one ≡ other
-  begins_once text one other (r, a, is) (s, b, so) = sym is ∙ ap id_session (ids text r s a b) ∙ so
+  begins_once : (text : List ℕ) (one other : Result (History P) StartFault) → TextBegins f text one → TextBegins f text other → one ≡ other
+  begins_once text one other (r, a, is) (s, b, so) =
+      id_begins_once f laws r one other is
+      (subst (λ (read : Result (GameId P) IdFault). IdBegins f read other) (ids text s r b a) so)
 
   command_once : (old : Option (History P)) (c : Command (List ℕ)) (one other : Outcome P) → CommandGives f old c one → CommandGives f old c other → one ≡ other
   command_once old (New id) one other (e, begins, is) (d, starts, so) = sym is ∙ ap begun (begins_once id e d begins starts) ∙ so

@@ -3,6 +3,13 @@ use Rattle.std.proofs.Common.{◌≡◌, ℕ, List, [], Option, Some, None, Resu
 use Rattle.clue_rules.specs.declared.game_id.GameId.{GameId}
 use Rattle.clue_rules.specs.declared.game_id.GameId.TheVariants.{Described, Seeded}
 use Rattle.clue_rules.specs.declared.id_fault.IdFault.{IdFault}
+use Rattle.clue_rules.specs.declared.params.Params.{Params}
+use Rattle.clue_rules.specs.Parameters.{IsParams}
+use Rattle.puzzle_gen.specs.declared.gen_fault.GenFault.{GenFault}
+use Rattle.puzzle_gen.specs.Generating.{Generates}
+use Rattle.puzzle_gen.proofs.ItemLaws.{ItemLaws}
+use Rattle.puzzle_gen.proofs.GeneratedOnce.{generated_valid}
+use Rattle.puzzle_cli.specs.declared.start_fault.StartFault.{StartFault}
 use Rattle.play_midend.specs.declared.fault.PlayFault.{PlayFault}
 use Rattle.play_midend.specs.declared.moves.Move.{Move}
 use Rattle.play_midend.specs.declared.moves.Move.TheVariants.{Solve as Filling}
@@ -18,9 +25,9 @@ use Rattle.puzzle_cli.specs.declared.command.Word.TheVariants.{Undo, Redo, Resta
 use Rattle.puzzle_cli.specs.declared.line_fault.LineFault.{LineFault}
 use Rattle.puzzle_cli.specs.declared.line_fault.LineFault.TheVariants.{NoGame}
 use Rattle.puzzle_cli.specs.declared.refusal.Refusal.{Refusal}
-use Rattle.puzzle_cli.specs.declared.refusal.Refusal.TheVariants.{Play as OfPlay, Line as OfLine}
+use Rattle.puzzle_cli.specs.declared.refusal.Refusal.TheVariants.{Play as OfPlay, Line as OfLine, Start as OfStart}
 use Rattle.puzzle_cli.specs.GameFacts.{GameFacts}
-use Rattle.puzzle_cli.specs.NewSessions.{no_extras, IsIdRead, TextBegins, id_session}
+use Rattle.puzzle_cli.specs.NewSessions.{no_extras, new_game, generated_game, IsIdRead, IdBegins, TextBegins}
 use Rattle.puzzle_cli.specs.SolutionTexts.{move_line, solve_sentence, listed_lines}
 use Rattle.puzzle_cli.specs.SessionReplies.{text_outcome, sentence_outcome, ok_line, SolveSays, RequestGives, call_outcome}
 use Rattle.puzzle_cli.specs.Replies.{ReadGives, begun}
@@ -31,7 +38,7 @@ use Rattle.puzzle_cli.proofs.CallReplies.{text_stays}
 
 -- ---- a session that can be stored
 
-module _ {P : Type 0} (f : GameFacts P) (bytes : List ℕ) (new : Option (History P)) where
+module _ {P : Type 0} (f : GameFacts P) (laws : ItemLaws f.rules) (bytes : List ℕ) (new : Option (History P)) where
   kept_storable : (old : Option (History P)) → new ≡ old → IsNoneOrStorable f old → IsNoneOrStorable f new
   kept_storable old stays s = subst (λ (o : Option (History P)). IsNoneOrStorable f o) (sym stays) s
 
@@ -76,18 +83,29 @@ module _ {P : Type 0} (f : GameFacts P) (bytes : List ℕ) (new : Option (Histor
   request_storable h (Plain Id) s e = text_storable h _ s e
   request_storable h (Plain Done) s e = text_storable h _ s e
 
-  begins_storable : (text : List ℕ) (k : History P) (read : Result (GameId P) IdFault) → IsIdRead f text read → id_session read ≡ Ok k → IsStorable f.rules.puzzle f.rules.valid f.letters k
-  begins_storable text k (Ok (Described params puzzle)) (letters, (desc, spelled, (describes, valid, size))) e =
-      let same : started puzzle params params no_extras ≡ k = cc in
+  new_storable : (params : Params) (puzzle : P) (k : History P) → IsParams f.letters params → f.rules.valid puzzle → params.size ≡ (f.rules.puzzle puzzle).size
+      → new_game params puzzle ≡ k → IsStorable f.rules.puzzle f.rules.valid f.letters k
+  new_storable params puzzle k letters valid size same =
       subst (λ (h : History P). IsStorable f.rules.puzzle f.rules.valid f.letters h) same
-      (starts_storable f.rules.puzzle f.rules.valid f.letters puzzle params params no_extras valid letters letters (sym size))
-  begins_storable text k (Ok (Seeded params seed)) is e = cc
+      (starts_storable f.rules.puzzle f.rules.valid f.letters puzzle params params no_extras valid letters letters size)
+
+  generated_storable : (params : Params) (seed : ℕ) (k : History P) (made : Result P GenFault) → IsParams f.letters params → Generates f.rules params seed made
+      → generated_game params made ≡ Ok k → IsStorable f.rules.puzzle f.rules.valid f.letters k
+  generated_storable params seed k (Ok puzzle) letters gives e =
+      let is = generated_valid f.rules params seed puzzle laws gives in
+      new_storable params puzzle k letters is.0 (sym is.1) cc
+  generated_storable params seed k (Err fault) letters gives e = cc
+
+  begins_storable : (text : List ℕ) (k : History P) (read : Result (GameId P) IdFault) → IsIdRead f text read → IdBegins f read (Ok k) → IsStorable f.rules.puzzle f.rules.valid f.letters k
+  begins_storable text k (Ok (Described params puzzle)) (letters, (desc, spelled, (describes, valid, size))) e =
+      new_storable params puzzle k letters valid (sym size) cc
+  begins_storable text k (Ok (Seeded params seed)) (letters, within, spelled) (made, gives, e) = generated_storable params seed k made letters gives e
   begins_storable text k (Err fault) is e = cc
 
-  begun_storable : (text : List ℕ) (exact : Result (History P) Refusal) → TextBegins f text exact → begun exact ≡ Ok (bytes, new) → IsNoneOrStorable f new
+  begun_storable : (text : List ℕ) (exact : Result (History P) StartFault) → TextBegins f text exact → begun exact ≡ Ok (bytes, new) → IsNoneOrStorable f new
   begun_storable text (Ok k) (read, is, e) said =
       subst (λ (o : Option (History P)). IsNoneOrStorable f o) (outcome_parts ok_line bytes (Some k) new said).1 (begins_storable text k read is e)
-  begun_storable text (Err refusal) begins said = absurd (said_or_refused bytes new refusal (sym said))
+  begun_storable text (Err fault) begins said = absurd (said_or_refused bytes new (OfStart fault) (sym said))
 
   read_storable : (old : Option (History P)) (read : Result (Option (Command (List ℕ))) LineFault) → IsNoneOrStorable f old
       → ReadGives f old read (Ok (bytes, new)) → IsNoneOrStorable f new
@@ -98,7 +116,7 @@ module _ {P : Type 0} (f : GameFacts P) (bytes : List ℕ) (new : Option (Histor
   read_storable (Some h) (Ok (Some (Ask request))) s gives = request_storable h request s gives
   read_storable old (Err fault) s e = absurd (said_or_refused bytes new (OfLine fault) (sym e))
 
-pub replies_stay_storable : {P : Type 0} (f : GameFacts P) → RepliesStayStorable f
-replies_stay_storable f old new line bytes s (inl (read, is, inl gives)) = read_storable f bytes new old read s gives
-replies_stay_storable f old new line bytes s (inl (read, is, inr (refusal, gives, called, stays))) = kept_storable f bytes new old stays s
-replies_stay_storable f old new line bytes s (inr (read, is, takes, called, stays)) = kept_storable f bytes new old stays s
+pub replies_stay_storable : {P : Type 0} (f : GameFacts P) → ItemLaws f.rules → RepliesStayStorable f
+replies_stay_storable f laws old new line bytes s (inl (read, is, inl gives)) = read_storable f laws bytes new old read s gives
+replies_stay_storable f laws old new line bytes s (inl (read, is, inr (refusal, gives, called, stays))) = kept_storable f laws bytes new old stays s
+replies_stay_storable f laws old new line bytes s (inr (read, is, takes, called, stays)) = kept_storable f laws bytes new old stays s

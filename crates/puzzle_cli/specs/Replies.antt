@@ -6,7 +6,8 @@ use Rattle.puzzle_cli.specs.declared.command.Command.TheVariants.{New, Quit, Ask
 use Rattle.puzzle_cli.specs.declared.line_fault.LineFault.{LineFault}
 use Rattle.puzzle_cli.specs.declared.line_fault.LineFault.TheVariants.{NoGame}
 use Rattle.puzzle_cli.specs.declared.refusal.Refusal.{Refusal}
-use Rattle.puzzle_cli.specs.declared.refusal.Refusal.TheVariants.{Line as OfLine}
+use Rattle.puzzle_cli.specs.declared.refusal.Refusal.TheVariants.{Line as OfLine, Start}
+use Rattle.puzzle_cli.specs.declared.start_fault.StartFault.{StartFault}
 use Rattle.puzzle_cli.specs.Lines.{Line}
 use Rattle.puzzle_cli.specs.Commands.{IsRead}
 use Rattle.puzzle_cli.specs.Symbols.{line_feed}
@@ -19,13 +20,13 @@ abbrev pub refusal_line : List ℕ → List ℕ
 refusal_line name = codes "refused: " ++ name ++ line_feed ∷ []
 
 -- `ok` and the session that is begun, or the refusal
-abbrev pub begun : {P : Type 0} → Result (History P) Refusal → Outcome P
+abbrev pub begun : {P : Type 0} → Result (History P) StartFault → Outcome P
 begun (Ok h) = Ok (ok_line, Some h)
-begun (Err refusal) = Err refusal
+begun (Err fault) = Err (Start fault)
 
 -- what a command makes of a session or none, with ample memory
 abbrev pub CommandGives : {P : Type 0} → GameFacts P → Option (History P) → Command (List ℕ) → Outcome P → Type 0
-CommandGives {P} f old (New id) outcome = (exact : Result (History P) Refusal) × TextBegins f id exact × (begun exact ≡ outcome)
+CommandGives {P} f old (New id) outcome = (exact : Result (History P) StartFault) × TextBegins f id exact × (begun exact ≡ outcome)
 CommandGives f old Quit outcome = Ok ([], old) ≡ outcome
 CommandGives f None (Ask request) outcome = Err (OfLine NoGame) ≡ outcome
 CommandGives f (Some h) (Ask request) outcome = RequestGives f h request outcome

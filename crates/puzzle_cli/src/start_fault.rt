@@ -82,7 +82,7 @@ impl StartFault {
     }
 
     // The name, which is short enough for the line.
-    fn short_name(&self) -> &'static str
+    pub(crate) fn short_name(&self) -> &'static str
         ensures name { result.now ≡ start_fault_name self.now }
         ensures short { length result.now ≤ 13 }
     {
@@ -92,7 +92,7 @@ impl StartFault {
 
 impl From<IdFault> for StartFault {
     ghost use Rattle.std.specs.Prelude.{◌≡◌};
-    ghost use Rattle.puzzle_cli.specs.Starts.{id_refusal};
+    ghost use Rattle.puzzle_cli.specs.NewSessions.{id_refusal};
 
     ghost from_gives = { λ fault start. start ≡ id_refusal fault };
 

@@ -1,5 +1,5 @@
--- One result for each game, parameters and seed.
-use Rattle.std.proofs.Common.{◌≡◌, ℕ, true, false, Result, Ok, Err, None, Option, IsSome, refl, ap, subst, arith}
+-- One result for each game, parameters and seed, and a puzzle of the game.
+use Rattle.std.proofs.Common.{◌≡◌, ℕ, true, false, Result, Ok, Err, None, Option, IsSome, refl, sym, ◌∙◌, ap, subst, arith}
 use Rattle.trail_solver.specs.declared.rules.Rules.{Ghosts}
 use Rattle.clue_rules.specs.declared.params.Params.{Params}
 use Rattle.puzzle_gen.specs.declared.gen_fault.GenFault.{GenFault}
@@ -30,3 +30,12 @@ generates_once f params seed (Err SizeTooLarge) (Err Graded) laws first second =
 generates_once f params seed (Err Graded) (Ok q) laws first second = absurd (no_letter params.letter second.1 first.1)
 generates_once f params seed (Err Graded) (Err SizeTooLarge) laws first second = absurd (omega (arith, first.0, second))
 generates_once f params seed (Err Graded) (Err Graded) laws first second = refl
+
+-- what is generated is a puzzle of the game, of the size of the parameters
+pub generated_valid : {P : Type 0} (f : Ghosts P) (params : Params) (seed : ℕ) (p : P) → ItemLaws f → Generates f params seed (Ok p) → f.valid p × ((f.puzzle p).size ≡ params.size)
+generated_valid {P} f params seed p laws (small, none, pruned) =
+    let g = square_of params.size seed in
+    let full = laws.full_valid g pruned.is_grid pruned.is_latin in
+    let Sized : P → Type 0 = λ q. (f.puzzle q).size ≡ params.size in
+    (subst f.valid (sym pruned.is_cut) (laws.cut_valid (f.full_of g) (f.has p) full),
+     subst Sized (sym pruned.is_cut) (laws.cut_size (f.full_of g) (f.has p) full ∙ laws.full_size g pruned.is_grid pruned.is_latin))
