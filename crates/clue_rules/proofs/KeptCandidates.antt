@@ -10,8 +10,8 @@ use Rattle.trail_solver.specs.Pairs.{IsPair}
 use Rattle.trail_solver.specs.Candidates.{CandidatesValue, IsEarlier, IsWithin, may_be}
 use Rattle.trail_solver.proofs.Earlier.{earlier_refl, earlier_trans, stays_gone}
 use Rattle.trail_solver.proofs.OneKept.{Removes, removed_earlier, gone_removed, rest_removed}
-use Rattle.clue_rules.specs.Narrowing.{KeepsOf, KeepsAlong, AreSetsOf, Agrees}
-use Rattle.clue_rules.specs.TowersViews.{view_cell}
+use Rattle.clue_rules.specs.Inner.Narrowing.{KeepsOf, KeepsAlong, AreSetsOf, Agrees}
+use Rattle.clue_rules.specs.Views.{view_cell}
 
 -- ---- one square, value by value
 

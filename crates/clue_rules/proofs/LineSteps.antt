@@ -9,11 +9,11 @@ use Rattle.latin_board.proofs.Numbers.{number_within}
 use Rattle.trail_solver.specs.Pairs.{IsPair}
 use Rattle.trail_solver.specs.Candidates.{CandidatesValue, IsEarlier, IsOnly, IsWithin, may_be}
 use Rattle.trail_solver.proofs.Earlier.{earlier_refl, only_later, was_left}
-use Rattle.clue_rules.specs.Narrowing.{AreSetsOf, IsSquare, KeepsAlong, Narrows, StruckBelow}
-use Rattle.clue_rules.specs.LineTallies.{IsSingle, IsPossible, IsWholeTally, IsKeptOf, IsLineStruck}
+use Rattle.clue_rules.specs.Inner.Narrowing.{AreSetsOf, IsSquare, KeepsAlong, Narrows, StruckBelow}
+use Rattle.clue_rules.specs.Inner.LineTallies.{IsSingle, IsPossible, IsWholeTally, IsKeptOf, IsLineStruck}
 use Rattle.clue_rules.specs.Struck.{IsOnePlace, IsPeerStruck, IsPlaceStruck, IsLatinStruck}
-use Rattle.clue_rules.specs.TowersViews.{view_cell}
-use Rattle.clue_rules.specs.declared.latin_lines.Tally.{Tally}
+use Rattle.clue_rules.specs.Views.{view_cell}
+use Rattle.clue_rules.specs.declared.lines.latin.Tally.{Tally}
 use Rattle.clue_rules.proofs.Narrowings.{on_true, on_false, narrows_by}
 use Rattle.clue_rules.proofs.LineTallying.{possible_stays, taken_goes, displaced_goes}
 

@@ -7,8 +7,8 @@ use Rattle.std.proofs.lemmas.Nat.{and_le_r}
 use Rattle.latin_board.specs.Marks.{has_mark, full_marks}
 use Rattle.latin_board.proofs.MarkSets.{has_mark-full_marks}
 use Rattle.tower_lines.proofs.MarkLemmas.{mark-and, mark-or, mark-zero, same_from_marks}
-use Rattle.clue_rules.specs.LineTallies.{IsSingle, IsPossible, IsTally, IsWholeTally, IsCounted, IsClash, IsHidden, MayStay, IsKeptOf}
-use Rattle.clue_rules.specs.declared.latin_lines.Tally.{Tally}
+use Rattle.clue_rules.specs.Inner.LineTallies.{IsSingle, IsPossible, IsTally, IsWholeTally, IsCounted, IsClash, IsHidden, MayStay, IsKeptOf}
+use Rattle.clue_rules.specs.declared.lines.latin.Tally.{Tally}
 use Rattle.clue_rules.proofs.SingleSets.{some_value}
 
 -- ---- one set more

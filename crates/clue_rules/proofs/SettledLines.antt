@@ -9,7 +9,7 @@ use Rattle.latin_board.specs.Marks.{has_mark}
 use Rattle.tower_lines.specs.TowersSeen.{seen}
 use Rattle.tower_lines.specs.LineFillings.{IsSupported}
 use Rattle.tower_lines.proofs.MarkLemmas.{mark-and, mark-or, mark-zero, mark-from_bit}
-use Rattle.clue_rules.specs.LineTallies.{IsSingle}
+use Rattle.clue_rules.specs.Inner.LineTallies.{IsSingle}
 
 -- the lowest value of a set
 pub lowest_in : (set : ℕ) → set ≢ 0 → set < 65536 → has_mark set (trailing_zeros w16 set) ≡ true

@@ -9,12 +9,13 @@ use Rattle.trail_solver.specs.Pairs.{IsPair}
 use Rattle.trail_solver.specs.Candidates.{CandidatesValue, IsEarlier, IsWithin, may_be}
 use Rattle.trail_solver.specs.Puzzles.{Solves}
 use Rattle.trail_solver.proofs.Earlier.{was_left}
-use Rattle.clue_rules.specs.Narrowing.{IsSquare, IsStruckByLines, KeepsOf, Narrows, StruckBelow}
+use Rattle.clue_rules.specs.Inner.Narrowing.{IsSquare, IsStruckByLines, KeepsOf, Narrows, StruckBelow}
 use Rattle.clue_rules.specs.Unequal.{UnequalValue, IsBetween, IsGreater, sign_count, sign_at, first_of}
-use Rattle.clue_rules.specs.UnequalItems.{puzzle_of}
-use Rattle.clue_rules.specs.UnequalPlaces.{between_at, between_sides}
-use Rattle.clue_rules.specs.UnequalSigns.{signs_held}
-use Rattle.clue_rules.specs.UnequalStruck.{IsUnequalStruck, AreEnds, IsLowerStruck, IsUpperStruck, IsEndStruckBy, IsStruckAt, IsStruckAlong, line_sign}
+use Rattle.clue_rules.specs.Unequal.{puzzle_of}
+use Rattle.clue_rules.specs.Laws.SignPlaces.{between_at, between_sides}
+use Rattle.clue_rules.proofs.SignLemmas.{signs_held}
+use Rattle.clue_rules.specs.Struck.{IsUnequalStruck}
+use Rattle.clue_rules.specs.Inner.UnequalLines.{AreEnds, IsLowerStruck, IsUpperStruck, IsEndStruckBy, IsStruckAt, IsStruckAlong, line_sign}
 use Rattle.clue_rules.specs.declared.unequal.sign.Sign.TheVariants.{Absent, FirstGreater, SecondGreater}
 use Rattle.clue_rules.proofs.KeptCandidates.{within_kept}
 use Rattle.clue_rules.proofs.LineSteps.{grid_pair}

@@ -9,7 +9,7 @@ use Rattle.std.proofs.lemmas.Nat.Bits.{bit_at_not, bit_at-trailing_zeros, bit_at
 use Rattle.latin_board.specs.Marks.{has_mark, flip_mark}
 use Rattle.latin_board.proofs.MarkSets.{has_mark-flip_mark}
 use Rattle.tower_lines.proofs.MarkLemmas.{mark-and, mark-zero, mark-above, mark-pow, mark-pow_same, mark-from_bit, no_mark-from_bit, bit-from_mark, bit-from_no_mark, same_from_marks, below_from_marks, lowest_value}
-use Rattle.clue_rules.specs.LineTallies.{IsSingle}
+use Rattle.clue_rules.specs.Inner.LineTallies.{IsSingle}
 
 -- ---- one value alone
 

@@ -9,7 +9,7 @@ use Rattle.std.proofs.lemmas.List.FromFn.{length-map-range_with_len, get_or-map-
 use Rattle.latin_board.specs.Squares.{GridValue, number_at}
 use Rattle.latin_board.specs.Lines.{line_cell, line_of}
 use Rattle.latin_board.proofs.LatinLines.{line_of-row, line_of-column, length-line_of, get_or-line_of}
-use Rattle.clue_rules.specs.TowersViews.{view_of, view_cell}
+use Rattle.clue_rules.specs.Views.{view_of, view_cell}
 
 -- the numbers of the squares from a place
 abbrev pub numbers_from : GridValue → ℕ → ℕ → List ℕ

@@ -12,12 +12,14 @@ use Rattle.trail_solver.specs.Pairs.{IsPair}
 use Rattle.trail_solver.specs.Candidates.{CandidatesValue, IsEarlier, IsWithin, may_be}
 use Rattle.trail_solver.specs.Puzzles.{Solves}
 use Rattle.trail_solver.proofs.Earlier.{earlier_refl, was_left}
-use Rattle.clue_rules.specs.Narrowing.{AreSetsOf, IsSquare, IsStruckByLines, KeepsAlong, Narrows}
-use Rattle.clue_rules.specs.TowersItemLaws.{length-view_of, clues_decide}
-use Rattle.clue_rules.specs.TowersItems.{towers_puzzle}
-use Rattle.clue_rules.specs.TowersPuzzles.{TowersValue}
-use Rattle.clue_rules.specs.TowersStruck.{IsViewFilling, IsViewStruck, IsEndStruck, IsTowersStruck}
-use Rattle.clue_rules.specs.TowersViews.{view_of, view_cell, view_line, view_index, front_place, clue_of}
+use Rattle.clue_rules.specs.Inner.Narrowing.{AreSetsOf, IsSquare, IsStruckByLines, KeepsAlong, Narrows}
+use Rattle.clue_rules.specs.Laws.TowersItems.{length-view_of, clues_decide}
+use Rattle.clue_rules.specs.Towers.{towers_puzzle}
+use Rattle.clue_rules.specs.Towers.{TowersValue}
+use Rattle.clue_rules.specs.Struck.{IsViewFilling, IsViewStruck, IsTowersStruck}
+use Rattle.clue_rules.specs.Inner.TowersLines.{IsEndStruck}
+use Rattle.clue_rules.specs.Views.{view_of, view_cell, view_line, view_index, front_place}
+use Rattle.clue_rules.specs.Towers.{clue_of}
 use Rattle.clue_rules.proofs.LineSteps.{along_narrows, grid_pair}
 use Rattle.clue_rules.proofs.Narrowings.{narrows_by, narrows_for, narrows_nothing, narrows_then}
 use Rattle.clue_rules.proofs.ViewLines.{view_of-numbers}

@@ -3,7 +3,7 @@ ghost use Rattle.std.specs.Prelude.{◌≡◌, ℕ, ◌*◌, ◌≤◌, Bool, fa
 ghost use Rattle.std.specs.Option.{option_map_or};
 ghost use Rattle.latin_board.specs.Edges.{edge_place};
 ghost use Rattle.clue_rules.specs.declared.id_fault.IdFault.{IdFault};
-ghost use Rattle.clue_rules.specs.IdReading.{LacksSeparators};
+ghost use Rattle.clue_rules.specs.GameIds.{LacksSeparators};
 ghost use Rattle.clue_rules.specs.IdFaults.{SparesMemory};
 
 use crate::id_fault::IdFault;
@@ -42,7 +42,8 @@ pub trait Game: Rules {
 
     /// Whether an edge clue stands at (x, y), where the squares have x and y from 0 to the width less 1.
     fn clue_at(&self, x: i8, y: i8) -> bool
-        ensures { result ≡ option_map_or (Self.puzzle self.now).clued (edge_place (Self.puzzle self.now).size x y) false };
+        ensures { result ≡ option_map_or (Self.puzzle self.now).clued
+            (edge_place (Self.puzzle self.now).size x y) false };
 
     /// Reads a description of a puzzle of this size.
     ///

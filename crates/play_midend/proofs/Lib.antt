@@ -10,3 +10,4 @@ pub mod Playing
 pub mod SessionLaws
 pub mod MoveListLaws
 pub mod StorableLaws
+pub mod Solving

@@ -9,7 +9,7 @@ use Rattle.play_midend.specs.declared.extras.Extras.{Extras}
 use Rattle.play_midend.specs.declared.moves.Move.{Move}
 use Rattle.play_midend.specs.declared.fault.PlayFault.{PlayFault}
 use Rattle.play_midend.specs.Steps.{refusal_of, unless_refused, moved, step, start_of, replay, ArePlayable, IsLegal, is_restart, begins_with_restart}
-use Rattle.play_midend.specs.Histories.{History, most_states, past, shown, started, with_move, at_position, restart_refusal, full_refusal, refusal_in, played, undone}
+use Rattle.play_midend.specs.Histories.{History, most_states, past, shown, started, with_move, at_position, first_state_refusal, restart_refusal, full_refusal, refusal_in, played, undone}
 use Rattle.play_midend.specs.MoveLists.{result_and_then, played_all, with_moves, undone_times}
 use Rattle.play_midend.specs.Laws.{LegalListsPlay, AcceptedListsAreLegal, UndoLeadsBack, HistoriesAreReached}
 use Rattle.play_midend.proofs.Making.{step_allowed}
@@ -51,7 +51,7 @@ with_move_last {P} h ks m =
     ∙ ap (λ n. at_position (with_moves h (ks ++ m ∷ [])) n) long
 
 -- a move that nothing refuses
-restart_allowed : (position : ℕ) (m : Move) → (position ≡ 1 → is_restart m ≡ false) → cond (is_restart m) (restart_refusal position) None ≡ None
+restart_allowed : (position : ℕ) (m : Move) → (position ≡ 1 → is_restart m ≡ false) → first_state_refusal position m ≡ None
 restart_allowed position m restart =
     elim (is_restart m) as (λ t. is_restart m ≡ t → cond t (restart_refusal position) None ≡ None) [
       | true ↦ λ is.

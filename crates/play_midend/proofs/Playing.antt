@@ -14,7 +14,7 @@ use Rattle.play_midend.specs.declared.session.Record.{Record}
 use Rattle.play_midend.specs.declared.fault.PlayFault.{PlayFault}
 use Rattle.play_midend.specs.declared.fault.PlayFault.TheVariants.{HistoryFull, NothingToRestart}
 use Rattle.play_midend.specs.Steps.{is_restart, refusal_of, unless_refused, moved}
-use Rattle.play_midend.specs.Histories.{History, most_states, past, shown, restart_refusal, full_refusal, refusal_in, with_move, played, IsOnlySolution, IsRefusal, IsSolveRefusal, at_position}
+use Rattle.play_midend.specs.Histories.{History, most_states, past, shown, first_state_refusal, restart_refusal, full_refusal, refusal_in, with_move, played, IsOnlySolution, IsRefusal, IsSolveRefusal, at_position}
 use Rattle.play_midend.specs.Links.{moves_of, AreLinked}
 use Rattle.trail_solver.proofs.SolutionTests.{Decides-solves_test}
 use Rattle.latin_board.specs.Squares.{GridValue}
@@ -32,9 +32,9 @@ pub played_allowed : {P : Type 0} (p : Puzzle) (h : History P) (m : Move) → re
 played_allowed p h m allowed = ap (λ o. unless_refused o (with_move h m)) allowed
 
 -- the refusal at a state, over the fields of a session
-pub refusal_viewed : {P : Type 0} (p : Puzzle) (puzzle : P) (params next_params : Params) (extras : Extras) (records : List Record) (n : ℕ) (board : BoardValue) (m : Move) → AreLinked p records n board → refusal_in p (viewed puzzle params next_params extras (moves_of records) n) m ≡ option_or (cond (is_restart m) (restart_refusal (n + 1)) None) (option_or (refusal_of p board m) (full_refusal (n + 1)))
+pub refusal_viewed : {P : Type 0} (p : Puzzle) (puzzle : P) (params next_params : Params) (extras : Extras) (records : List Record) (n : ℕ) (board : BoardValue) (m : Move) → AreLinked p records n board → refusal_in p (viewed puzzle params next_params extras (moves_of records) n) m ≡ option_or (first_state_refusal (n + 1) m) (option_or (refusal_of p board m) (full_refusal (n + 1)))
 refusal_viewed p puzzle params next_params extras records n board m h =
-    ap (λ (b : BoardValue). option_or (cond (is_restart m) (restart_refusal (n + 1)) None) (option_or (refusal_of p b m) (full_refusal (n + 1))))
+    ap (λ (b : BoardValue). option_or (first_state_refusal (n + 1) m) (option_or (refusal_of p b m) (full_refusal (n + 1))))
     (shown_viewed p puzzle params next_params extras records n board h)
 
 -- what an accepted move knows
@@ -43,7 +43,7 @@ pub record Allowed (p : Puzzle) (position : ℕ) (board : BoardValue) (m : Move)
   pub on_board : refusal_of p board m ≡ None
   pub room : position ≢ most_states
 
-allowed_parts : (p : Puzzle) (position : ℕ) (board : BoardValue) (m : Move) → cond (is_restart m) (restart_refusal position) None ≡ None → refusal_of p board m ≡ None → full_refusal position ≡ None → Allowed p position board m
+allowed_parts : (p : Puzzle) (position : ℕ) (board : BoardValue) (m : Move) → first_state_refusal position m ≡ None → refusal_of p board m ≡ None → full_refusal position ≡ None → Allowed p position board m
 allowed_parts p position board m restart allowed room = record {
   restart = λ first. elim (is_restart m) as (λ t. cond t (restart_refusal position) None ≡ None → t ≡ false) [
     | true ↦ λ e. let test : (position == 1) ≡ true = eq-eqb position 1 first in
@@ -57,7 +57,7 @@ allowed_parts p position board m restart allowed room = record {
 
 pub allowed_in : {P : Type 0} (p : Puzzle) (h : History P) (m : Move) → refusal_in p h m ≡ None → Allowed p h.position (shown p h) m
 allowed_in p h m allowed =
-    let first = or_none (cond (is_restart m) (restart_refusal h.position) None) (option_or (refusal_of p (shown p h) m) (full_refusal h.position)) allowed in
+    let first = or_none (first_state_refusal h.position m) (option_or (refusal_of p (shown p h) m) (full_refusal h.position)) allowed in
     let second = or_none (refusal_of p (shown p h) m) (full_refusal h.position) first.1 in
     allowed_parts p h.position (shown p h) m first.0 second.0 second.1
 
@@ -72,7 +72,7 @@ accepted None a b e = (refl, cc)
 accepted (Some fault) a b e = cc
 
 -- the refusal in a session, from the refusals of its parts
-pub refusal_by_parts : {P : Type 0} (p : Puzzle) (puzzle : P) (params next_params : Params) (extras : Extras) (records : List Record) (n : ℕ) (board : BoardValue) (m : Move) (first second third : Option PlayFault) → AreLinked p records n board → cond (is_restart m) (restart_refusal (n + 1)) None ≡ first → refusal_of p board m ≡ second → full_refusal (n + 1) ≡ third → refusal_in p (viewed puzzle params next_params extras (moves_of records) n) m ≡ option_or first (option_or second third)
+pub refusal_by_parts : {P : Type 0} (p : Puzzle) (puzzle : P) (params next_params : Params) (extras : Extras) (records : List Record) (n : ℕ) (board : BoardValue) (m : Move) (first second third : Option PlayFault) → AreLinked p records n board → first_state_refusal (n + 1) m ≡ first → refusal_of p board m ≡ second → full_refusal (n + 1) ≡ third → refusal_in p (viewed puzzle params next_params extras (moves_of records) n) m ≡ option_or first (option_or second third)
 refusal_by_parts p puzzle params next_params extras records n board m first second third h a b c =
     rw (refusal_viewed p puzzle params next_params extras records n board m h, a, b, c) refl
 

@@ -2,7 +2,7 @@
 use Rattle.std.proofs.Common.{◌≡◌, ℕ, ◌+◌, ◌-◌, true, false, ◌==◌, cond, List, [], ◌∷◌, length, Result, Ok, Err, refl, sym, ◌∙◌, subst, arith, inl, inr}
 use Rattle.trail_solver.specs.Puzzles.{Puzzle}
 use Rattle.clue_rules.specs.declared.params.Params.{Params}
-use Rattle.clue_rules.specs.ParamTexts.{IsParams}
+use Rattle.clue_rules.specs.Parameters.{IsParams}
 use Rattle.play_midend.specs.declared.moves.Move.{Move}
 use Rattle.play_midend.specs.declared.moves.Move.TheVariants.{Solve, Restart}
 use Rattle.play_midend.specs.declared.fault.PlayFault.{PlayFault}

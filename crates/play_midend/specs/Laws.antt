@@ -4,7 +4,7 @@ use Rattle.std.specs.Bool.{MatchBool}
 use Rattle.std.specs.Result.{IsOkAnd}
 use Rattle.trail_solver.specs.Puzzles.{Puzzle}
 use Rattle.clue_rules.specs.declared.params.Params.{Params}
-use Rattle.clue_rules.specs.ParamTexts.{IsParams}
+use Rattle.clue_rules.specs.Parameters.{IsParams}
 use Rattle.play_midend.specs.declared.extras.Extras.{Extras}
 use Rattle.play_midend.specs.declared.moves.Move.{Move}
 use Rattle.play_midend.specs.declared.fault.PlayFault.{PlayFault}

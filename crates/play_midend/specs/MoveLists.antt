@@ -6,7 +6,8 @@ use Rattle.play_midend.specs.declared.fault.PlayFault.{PlayFault}
 use Rattle.play_midend.specs.Histories.{History, played, undone}
 
 -- what follows an accepted call; a refusal stays as it is
-abbrev pub result_and_then : {A B : Type 0} → (A → Result B PlayFault) → Result A PlayFault → Result B PlayFault
+abbrev pub result_and_then : {A B : Type 0} → (A → Result B PlayFault) → Result A PlayFault
+    → Result B PlayFault
 result_and_then f (Ok a) = f a
 result_and_then f (Err fault) = Err fault
 
@@ -17,14 +18,7 @@ played_all p h (m ∷ ms) = result_and_then (λ next. played_all p next ms) (pla
 
 -- the session with these moves alone, at the last position
 abbrev pub with_moves : {P : Type 0} → History P → List Move → History P
-with_moves h ms = record {
-  puzzle = h.puzzle;
-  params = h.params;
-  next_params = h.next_params;
-  extras = h.extras;
-  moves = ms;
-  position = length ms + 1;
-}
+with_moves h ms = record h { moves = ms; position = length ms + 1 }
 
 -- so many steps back
 abbrev pub undone_times : {P : Type 0} → ℕ → History P → Result (History P) PlayFault

@@ -2,6 +2,15 @@
 //!
 //! It knows no game: all that differs between games goes through `Game`. A session owns its history, which is the list of
 //! the moves, and shows one board. Each move is kept beside the one change that takes it back or makes it again.
+//!
+//! ```
+//! let mut session = Session::new(alloc, params, params, puzzle, extras)?;
+//! session.play(read_move(b"R0,0,1")?)?;
+//! session.undo()?;
+//! assert_eq!(rt; session.board().digit(0), 0);
+//! session.redo()?;
+//! assert_eq!(rt; session.position(), 2);
+//! ```
 #![tactic(auto)]
 
 mod extras;

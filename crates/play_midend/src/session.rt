@@ -1,9 +1,9 @@
 //! A session: a puzzle, its history and the board that is shown.
 
-ghost use Rattle.std.specs.Prelude.{◌≡◌, ℕ, ◌+◌, ◌-◌, ◌≤◌, ◌<◌, ◌++◌, ◌∷◌, [], length, take, slice_get, if◌then◌else◌, false, Some, None, Ok, Err, IsOk, IfOk, IfErr, OnOk, OnErr};
+ghost use Rattle.std.specs.Prelude.{◌≡◌, ℕ, ◌+◌, ◌-◌, ◌≤◌, ◌<◌, ◌++◌, ◌∷◌, [], length, take, slice_get, false, Some, None, Ok, Err, IsOk, IfOk, IfErr, OnOk, OnErr};
 ghost use Rattle.latin_board.specs.Changes.{FitsBoard, board_after};
-ghost use Rattle.play_midend.specs.Steps.{is_restart, takes_memory};
-ghost use Rattle.play_midend.specs.Histories.{restart_refusal, full_refusal};
+ghost use Rattle.play_midend.specs.Steps.{takes_memory};
+ghost use Rattle.play_midend.specs.Histories.{first_state_refusal, full_refusal};
 
 use crate::extras::Extras;
 use crate::fault::PlayFault;
@@ -66,8 +66,8 @@ impl<P: Game> Model for Session<P> {
 // A restart needs a move to take back.
 fn check_restart(past: usize, m: &Move) -> Result<(), PlayFault>
     requires { past < 100000 }
-    ensures ok { OnOk result ((if is_restart m.now then restart_refusal (past + 1) else None) ≡ None) }
-    ensures err { IfErr result (λ fault. (if is_restart m.now then restart_refusal (past + 1) else None) ≡ Some fault) }
+    ensures ok { OnOk result (first_state_refusal (past + 1) m.now ≡ None) }
+    ensures err { IfErr result (λ fault. first_state_refusal (past + 1) m.now ≡ Some fault) }
 {
     match m {
         Move::Restart if past == 0 => Err(PlayFault::NothingToRestart),
@@ -191,8 +191,8 @@ impl<P: Game> Session<P> {
     {
         match solve(&self.puzzle) {
             Answer::None => Err(PlayFault::NoSolution),
-            Answer::Several(_, _) => Err(PlayFault::SeveralSolutions),
             Answer::One(grid) => self.play(Move::Solve(grid)),
+            Answer::Several(_, _) => Err(PlayFault::SeveralSolutions),
         }
     }
 
@@ -226,7 +226,8 @@ impl<P: Game> Session<P> {
     // The first refusal of a move, memory left aside.
     fn allow(&self, m: &Move) -> Result<(), PlayFault>
         ensures ok { OnOk result (refusal_in (P.puzzle self.now.puzzle) self.now m.now ≡ None) }
-        ensures err { IfErr result (λ fault. refusal_in (P.puzzle self.now.puzzle) self.now m.now ≡ Some fault) }
+        ensures err { IfErr result (λ fault.
+            refusal_in (P.puzzle self.now.puzzle) self.now m.now ≡ Some fault) }
     {
         check_restart(self.past, m)?;
         check(&self.puzzle, &self.board, m)?;

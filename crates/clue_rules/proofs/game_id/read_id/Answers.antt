@@ -1,12 +1,12 @@
 -- Both laws of game IDs, by what the game owes of its descriptions.
 use Rattle.std.proofs.Common.{◌∙◌, Result, subst, sym}
-use Rattle.clue_rules.specs.ParamReading.{has_adjacent}
-use Rattle.clue_rules.specs.IdReading.{describes_at}
+use Rattle.clue_rules.specs.Parameters.{has_adjacent}
+use Rattle.clue_rules.specs.GameIds.{describes_at}
 use Rattle.clue_rules.specs.declared.id_fault.IdFault.{IdFault}
 use Rattle.clue_rules.specs.declared.game_id.GameId.{GameId}
 use Rattle.clue_rules.specs.IdFaults.{SparesMemory}
-use Rattle.clue_rules.specs.SparedMemory.{id_spares}
-use Rattle.clue_rules.specs.IdLaws.{id_found, id_again, game_reads}
+use Rattle.clue_rules.proofs.GameIdLemmas.{id_spares}
+use Rattle.clue_rules.proofs.GameIdLemmas.{id_found, id_again, game_reads}
 use Rattle.clue_rules.proofs.game_id.read_id.Goals as goal
 
 pub returns-clause-found : goal.returns-clause-found
