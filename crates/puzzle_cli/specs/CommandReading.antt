@@ -1,7 +1,7 @@
 -- Reading a line: the command that it is, as a function on lists.
 use Rattle.std.specs.Prelude.{ℕ, ◌==◌, if◌then◌else◌, List, [], ◌∷◌, length, take, drop, codes, bytes_eq, Option, Some, None, option_map, option_and_then, Result, Ok, Err, ok_or}
 use Rattle.std.specs.Option.{option_or}
-use Rattle.byte_text.specs.Decimals.{number_at}
+use Rattle.byte_text.specs.Decimals.{decimal_value}
 use Rattle.puzzle_cli.specs.declared.command.Command.{Command}
 use Rattle.puzzle_cli.specs.declared.command.Command.TheVariants.{New, Quit, Ask}
 use Rattle.puzzle_cli.specs.declared.command.Request.TheVariants.{Move, Solutions, Plain}
@@ -28,7 +28,7 @@ abbrev pub nonzero : ℕ → Option ℕ
 nonzero n = if n == 0 then None else Some n
 
 abbrev pub limit_at : List ℕ → Option ℕ
-limit_at text = option_and_then nonzero (number_at 100 text)
+limit_at text = option_and_then nonzero (decimal_value 100 text)
 
 -- the command of a text that is no word of a session's
 abbrev pub other_command_at : List ℕ → Option (Command (List ℕ))

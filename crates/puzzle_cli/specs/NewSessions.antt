@@ -3,9 +3,9 @@ use Rattle.std.specs.Prelude.{◌≡◌, List, ℕ, None, Result, Ok, Err}
 use Rattle.clue_rules.specs.declared.id_fault.IdFault.{IdFault}
 use Rattle.clue_rules.specs.declared.game_id.GameId.{GameId}
 use Rattle.clue_rules.specs.declared.game_id.GameId.TheVariants.{Described, Seeded}
-use Rattle.clue_rules.specs.ParamReading.{has_adjacent}
-use Rattle.clue_rules.specs.IdTexts.{IsIdText}
-use Rattle.clue_rules.specs.IdReading.{id_at, describes_at}
+use Rattle.clue_rules.specs.Parameters.{has_adjacent}
+use Rattle.clue_rules.specs.GameIds.{IsIdText}
+use Rattle.clue_rules.specs.GameIds.{id_at, describes_at}
 use Rattle.play_midend.specs.declared.extras.Extras.{Extras}
 use Rattle.play_midend.specs.Histories.{History, started}
 use Rattle.puzzle_cli.specs.declared.refusal.Refusal.{Refusal}

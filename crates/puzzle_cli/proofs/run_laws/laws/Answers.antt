@@ -1,6 +1,6 @@
-use Rattle.clue_rules.specs.ParamReading.{has_adjacent}
-use Rattle.clue_rules.specs.IdReading.{describes_at}
-use Rattle.clue_rules.specs.IdLaws.{id_again, game_reads}
+use Rattle.clue_rules.specs.Parameters.{has_adjacent}
+use Rattle.clue_rules.specs.GameIds.{describes_at}
+use Rattle.clue_rules.proofs.GameIdLemmas.{id_again, game_reads}
 use Rattle.puzzle_cli.specs.GameFacts.{GameFacts}
 use Rattle.puzzle_cli.specs.CommandReading.{read_at}
 use Rattle.puzzle_cli.proofs.CommandLaws.{line_is_read, read_once}
