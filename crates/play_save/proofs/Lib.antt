@@ -13,3 +13,5 @@ pub mod SavedTaken
 pub mod SavedAgain
 pub mod LoadAnswers
 pub mod WrittenLists
+pub mod WrittenRecords
+pub mod LegalMoves

@@ -130,7 +130,7 @@ none_again game before (l ∷ ls) k single header some right =
     longer_with [] ys more = absurd (omega arith)
     longer_with (x ∷ xs) ys more = omega arith
 
-same_line : (l : Line) (k : Key) (value : List ℕ) → l.key ≡ k → l.value ≡ value → l ≡ record { key = k; value = value }
+pub same_line : (l : Line) (k : Key) (value : List ℕ) → l.key ≡ k → l.value ≡ value → l ≡ record { key = k; value = value }
 same_line l k value key same_value =
     ap (λ (x : Key). let y : Line = record { key = x; value = l.value } in y) key
     ∙ ap (λ (v : List ℕ). let y : Line = record { key = k; value = v } in y) same_value
