@@ -5,7 +5,7 @@ use Rattle.std.proofs.lemmas.Fmt.{decimal_nonempty, length-decimal-le}
 use Rattle.std.proofs.lemmas.Bool.Decides.{nat_tests}
 use borrow.Author.Tests.{eqb-false, le-leb}
 use Rattle.byte_text.specs.Cuts.{Lacks}
-use Rattle.byte_text.specs.Decimals.{has_leading_zero, number_from, number_at}
+use Rattle.byte_text.specs.Decimals.{has_leading_zero, number_from, decimal_value}
 use Rattle.byte_text.proofs.DecimalLaws.{number_again}
 use Rattle.play_save.specs.declared.fault.LoadFault.{LoadFault}
 use Rattle.play_save.specs.declared.key.StateKey.{StateKey}
@@ -136,8 +136,8 @@ key_again (State RestartMove) known = refl
 key_again Other known = cc
 
 -- the length of a value is read
-from_at : (bs : List ℕ) (n : ℕ) → number_at 99999999 bs ≡ Some n → number_from 99999999 0 bs ≡ Some n
-unfolding number_at
+from_at : (bs : List ℕ) (n : ℕ) → decimal_value 99999999 bs ≡ Some n → number_from 99999999 0 bs ≡ Some n
+unfolding decimal_value
 from_at [] n = λ is. cc
 from_at (b ∷ bs) n =
     elim (has_leading_zero (b ∷ bs)) as (λ t. cond t None (number_from 99999999 0 (b ∷ bs)) ≡ Some n → number_from 99999999 0 (b ∷ bs) ≡ Some n) [
