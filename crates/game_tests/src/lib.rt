@@ -18,6 +18,8 @@ mod moves;
 #[cfg(test)]
 mod pictures;
 #[cfg(test)]
+mod saving;
+#[cfg(test)]
 mod script;
 #[cfg(test)]
 mod sessions;

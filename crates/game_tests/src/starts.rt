@@ -2,7 +2,7 @@
 
 use clue_rules::{Game, Towers, Unequal};
 use play_midend::Session;
-use puzzle_cli::{Args, CommandFault, GameName, StartFault, begin, read_words};
+use puzzle_cli::{Draw, Args, CommandFault, GameName, StartFault, begin, read_words};
 use std::alloc::Global;
 use std::process::Abort;
 use std::test::Fail;
@@ -127,7 +127,7 @@ fn words_that_ask_for_help(rt: HostRuntime) {
     check_help(&rt, alloc, "-V", "puzzles 1.0");
 }
 
-fn begun<P: Game>(
+fn begun<P: Draw>(
     alloc: Global,
     id: Option<&str>,
     file: Option<&str>,
