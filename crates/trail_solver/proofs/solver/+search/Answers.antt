@@ -1,35 +1,49 @@
-use Rattle.std.proofs.Common.{◌≡◌, ◌+◌, refl, ◌∙◌, subst, arith}
-use Rattle.trail_solver.specs.Puzzles.{IsAmongAt}
+use Rattle.std.proofs.Common.{◌∙◌, subst}
 use Rattle.trail_solver.specs.Candidates.{CandidatesValue}
-use Rattle.trail_solver.specs.Answers.{Adds}
-use Rattle.trail_solver.proofs.SearchSteps.{narrowed_adds, guess_adds, value_none, value_more, value_all, value_several}
+use Rattle.trail_solver.specs.Puzzles.{IsAmong}
+use Rattle.trail_solver.specs.Squares.{Removes}
+use Rattle.trail_solver.proofs.Earlier.{earlier_trans, prefix_length}
+use Rattle.trail_solver.proofs.OneKept.{removed_earlier}
+use Rattle.trail_solver.proofs.SearchSteps.{guess_adds, left_narrowed, left_branched, left_several, left_none, dead_none}
 use Rattle.trail_solver.proofs.solver.+search.Goals as goal
 
 pub guess-returns-clause-adds : goal.guess-returns-clause-adds
 guess-returns-clause-adds g t c =
-    guess_adds (g.P.Rules.puzzle c.args.p.now) c.args.candidates.now c.keep_only.new.candidates c.args.cell c.args.value c.args.found c.search-found.result c.requires.size c.keep_only.ensures.kept c.requires.open_cell.inside c.search-found.ensures.adds
+    guess_adds (g.P.Rules.puzzle c.args.p.now) c.args.candidates.now c.keep_only.new.candidates c.args.cell c.args.value c.args.found c.search-found.result c.requires.size c.keep_only.ensures.kept c.requires.branch.pair.inside c.search-found.ensures.adds
 
-pub search-returns-in_default-clause-adds : goal.search-returns-in_default-clause-adds
-search-returns-in_default-clause-adds g t c =
-    narrowed_adds (g.P.Rules.puzzle c.args.p.now) c.args.candidates.now c.narrow.new.candidates c.args.found c.at_leaf.result c.narrow.ensures.less c.narrow.ensures.keeps c.at_leaf.ensures
+pub search-returns-in-Settled-clause-adds : goal.search-returns-in-Settled-clause-adds
+search-returns-in-Settled-clause-adds g t c =
+    let p = g.P.Rules.puzzle c.args.p.now in
+    let left = left_narrowed p (IsAmong p c.args.candidates.now) c.args.found c.loop-failures.found c.loop-failures.candidates c.narrow.new.candidates c.loop-failures.invariant.rest c.narrow.ensures.less c.narrow.ensures.keeps in
+    left.joins c.at_leaf.result c.at_leaf.ensures
 
-pub search-loop-value-init : goal.search-loop-value-init
-search-loop-value-init g t c =
-    (refl, value_none (g.P.Rules.puzzle c.args.p.now) c.narrow.new.candidates c.in-Some.cell c.args.found (c.narrow.ensures.less.size ∙ c.requires) c.in-Some.ensures.inside)
+pub search-returns-in-Dead-clause-adds : goal.search-returns-in-Dead-clause-adds
+search-returns-in-Dead-clause-adds g t c =
+    let p = g.P.Rules.puzzle c.args.p.now in
+    let now = c.narrow.new.candidates in
+    let left = left_narrowed p (IsAmong p c.args.candidates.now) c.args.found c.loop-failures.found c.loop-failures.candidates now c.loop-failures.invariant.rest c.narrow.ensures.less c.narrow.ensures.keeps in
+    let size = c.narrow.ensures.less.size ∙ c.loop-failures.invariant.less.size ∙ c.requires in
+    left_none (IsAmong p c.args.candidates.now) c.args.found (IsAmong p now) c.loop-failures.found left (dead_none p now c.in-Dead.ensures.0 size c.in-Dead.ensures.1)
 
 pub search-returns-in-Several-clause-adds : goal.search-returns-in-Several-clause-adds
 search-returns-in-Several-clause-adds g t c =
     let p = g.P.Rules.puzzle c.args.p.now in
-    let P : CandidatesValue → Type 0 = λ k. Adds (IsAmongAt p k c.in-Some.cell c.loop-value.value) c.loop-value.found c.guess-found.result in
-    let here = subst P c.loop-value.invariant.0 c.guess-found.ensures.adds in
-    narrowed_adds p c.args.candidates.now c.narrow.new.candidates c.args.found c.guess-found.result c.narrow.ensures.less c.narrow.ensures.keeps
-    (value_several p c.narrow.new.candidates c.in-Some.cell (c.loop-value.value + 1) c.args.found c.guess-found.result c.in-Several.field-0 c.in-Several.field-1 c.in-Several.is
-    (value_more p c.narrow.new.candidates c.in-Some.cell c.loop-value.value c.args.found c.loop-value.found c.guess-found.result c.loop-value.invariant.1 here))
+    let now = c.narrow.new.candidates in
+    let left = left_narrowed p (IsAmong p c.args.candidates.now) c.args.found c.loop-failures.found c.loop-failures.candidates now c.loop-failures.invariant.rest c.narrow.ensures.less c.narrow.ensures.keeps in
+    left_several p (IsAmong p c.args.candidates.now) c.args.found c.loop-failures.found c.guess-found.result now c.in-Branch.cell c.in-Branch.value c.in-Several.field-0 c.in-Several.field-1 left c.guess-found.ensures.adds c.in-Several.is
 
-pub search-returns-clause-adds : goal.search-returns-clause-adds
-search-returns-clause-adds g t c =
+pub search-loop-failures-preserved : goal.search-loop-failures-preserved
+search-loop-failures-preserved g t c =
     let p = g.P.Rules.puzzle c.args.p.now in
-    let size = c.narrow.ensures.less.size ∙ c.requires in
-    let width : c.get-width.result ≡ c.narrow.new.candidates.size = c.get-width.ensures.value ∙ c.size.ensures.value in
-    narrowed_adds p c.args.candidates.now c.narrow.new.candidates c.args.found c.loop-value.found c.narrow.ensures.less c.narrow.ensures.keeps
-    (value_all p c.narrow.new.candidates c.in-Some.cell c.loop-value.value c.args.found c.loop-value.found size c.in-Some.ensures.inside (omega arith) c.loop-value.invariant.1)
+    let now = c.narrow.new.candidates in
+    let next = c.take_away.new.candidates in
+    let left = left_narrowed p (IsAmong p c.args.candidates.now) c.args.found c.loop-failures.found c.loop-failures.candidates now c.loop-failures.invariant.rest c.narrow.ensures.less c.narrow.ensures.keeps in
+    let P : CandidatesValue → Type 0 = λ k. Removes k next c.in-Branch.cell c.in-Branch.value in
+    let taken = subst P c.guess-found.ensures.same c.take_away.ensures.taken in
+    let narrowed = earlier_trans c.args.candidates.now c.loop-failures.candidates now c.loop-failures.invariant.less c.narrow.ensures.less in
+    let less = earlier_trans c.args.candidates.now now next narrowed (removed_earlier now next c.in-Branch.cell c.in-Branch.value taken) in
+    record {
+      less = less;
+      longer = prefix_length c.args.candidates.now.trail next.trail less.adds;
+      rest = left_branched p (IsAmong p c.args.candidates.now) c.args.found c.loop-failures.found c.guess-found.result now next c.in-Branch.cell c.in-Branch.value left c.guess-found.ensures.adds taken;
+    }
