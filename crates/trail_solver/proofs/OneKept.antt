@@ -5,7 +5,7 @@ use Rattle.std.proofs.lemmas.List.{take_all}
 use Rattle.latin_board.specs.Squares.{GridValue, number_at}
 use Rattle.trail_solver.specs.Pairs.{IsPair, IsPrefix, has_pair, with_pair}
 use Rattle.trail_solver.specs.Candidates.{CandidatesValue, IsEarlier, IsWithin, may_be}
-use Rattle.trail_solver.specs.Squares.{IsOpen, KeepsOnly, Removes}
+use Rattle.trail_solver.specs.Squares.{IsOpen, KeepsOnly}
 use Rattle.trail_solver.proofs.Trails.{or_false, same_pair, pair_from_test, test_from_pair, has_pair-push}
 use Rattle.trail_solver.proofs.Earlier.{earlier_refl, earlier_trans, prefix_with_pair, stays_gone}
 
@@ -23,6 +23,11 @@ has_pair-with_pair ps cell value c v =
       | inr other ↦ sym (ap (λ b. has_pair ps c v || b) other ∙ or_false (has_pair ps c v))
     ])
     (λ _. has_pair-push ps (cell, value) c v)
+
+-- what `remove` does
+pub record Removes (old new : CandidatesValue) (cell value : ℕ) : Type 0 where
+  pub size : new.size ≡ old.size
+  pub trail : new.trail ≡ with_pair old.trail cell value
 
 pub may_be-removed : (old new : CandidatesValue) (cell value c v : ℕ) → Removes old new cell value → may_be new c v ≡ not (has_pair old.trail c v || same_pair c v (cell, value))
 may_be-removed old new cell value c v r =

@@ -3,7 +3,7 @@ use Rattle.std.proofs.Common.{◌≡◌, ◌≢◌, ℕ, ◌*◌, ◌<◌, true,
 use Rattle.std.proofs.lemmas.Bool.{both_ways, cases_eq}
 use Rattle.latin_board.specs.Squares.{GridValue, number_at}
 use Rattle.trail_solver.specs.Candidates.{CandidatesValue, IsEarlier, IsWithin, may_be}
-use Rattle.trail_solver.specs.Squares.{IsDead, IsFilled, KeepsOnly, Removes}
+use Rattle.trail_solver.specs.Squares.{IsDead, IsFilled, KeepsOnly}
 use Rattle.trail_solver.specs.Puzzles.{Puzzle, Solves, IsAmong, IsAmongAt}
 use Rattle.trail_solver.specs.declared.answer.Answer.{Answer}
 use Rattle.trail_solver.specs.declared.answer.Answer.TheVariants.{Several}
@@ -11,7 +11,7 @@ use Rattle.trail_solver.specs.Answers.{Adds}
 use Rattle.trail_solver.proofs.Earlier.{within_earlier}
 use Rattle.trail_solver.proofs.FilledGrids.{solution_pair, only_filled, filled_within}
 use Rattle.trail_solver.proofs.JoinedAnswers.{adds_same, adds_nothing, adds_several, adds_then}
-use Rattle.trail_solver.proofs.OneKept.{within_kept, value_kept, removed_earlier, rest_removed}
+use Rattle.trail_solver.proofs.OneKept.{Removes, within_kept, value_kept, removed_earlier, rest_removed}
 
 -- narrowing loses no solution, and no other comes
 pub narrowed_adds : (p : Puzzle) (old new : CandidatesValue) (found answer : Answer) → IsEarlier old new → ((h : GridValue) → Solves p h → IsWithin old h → IsWithin new h) → Adds (IsAmong p new) found answer → Adds (IsAmong p old) found answer

@@ -1,7 +1,7 @@
 -- The squares of a grid in a search: settled, open, or kept to one value.
 use Rattle.std.specs.Prelude.{◌≡◌, ◌≢◌, ℕ, ◌*◌, ◌<◌, ◌⊎◌, true, false}
 use Rattle.latin_board.specs.Squares.{GridValue, IsGrid, number_at}
-use Rattle.trail_solver.specs.Pairs.{IsPair, with_pair}
+use Rattle.trail_solver.specs.Pairs.{IsPair}
 use Rattle.trail_solver.specs.Candidates.{CandidatesValue, IsEarlier, IsOnly, may_be}
 use Rattle.trail_solver.specs.declared.choice.Choice.{Choice}
 use Rattle.trail_solver.specs.declared.choice.Choice.TheVariants.{Settled, Dead, Branch}
@@ -48,8 +48,3 @@ pub record KeepsOnly (old new : CandidatesValue) (cell value : ℕ) : Type 0 whe
   pub less : IsEarlier old new
   pub others : (v : ℕ) → IsPair old.size cell v → v ≢ value → may_be new cell v ≡ false
   pub rest : (c v : ℕ) → (c ≢ cell) ⊎ (v ≡ value) → may_be new c v ≡ may_be old c v
-
--- new is old with the pair gone
-pub record Removes (old new : CandidatesValue) (cell value : ℕ) : Type 0 where
-  pub size : new.size ≡ old.size
-  pub trail : new.trail ≡ with_pair old.trail cell value

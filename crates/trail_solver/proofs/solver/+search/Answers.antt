@@ -1,9 +1,8 @@
 use Rattle.std.proofs.Common.{◌∙◌, subst}
 use Rattle.trail_solver.specs.Candidates.{CandidatesValue}
 use Rattle.trail_solver.specs.Puzzles.{IsAmong}
-use Rattle.trail_solver.specs.Squares.{Removes}
 use Rattle.trail_solver.proofs.Earlier.{earlier_trans, prefix_length}
-use Rattle.trail_solver.proofs.OneKept.{removed_earlier}
+use Rattle.trail_solver.proofs.OneKept.{Removes, removed_earlier}
 use Rattle.trail_solver.proofs.SearchSteps.{guess_adds, left_narrowed, left_branched, left_several, left_none, dead_none}
 use Rattle.trail_solver.proofs.solver.+search.Goals as goal
 
@@ -39,7 +38,7 @@ search-loop-failures-preserved g t c =
     let next = c.take_away.new.candidates in
     let left = left_narrowed p (IsAmong p c.args.candidates.now) c.args.found c.loop-failures.found c.loop-failures.candidates now c.loop-failures.invariant.rest c.narrow.ensures.less c.narrow.ensures.keeps in
     let P : CandidatesValue → Type 0 = λ k. Removes k next c.in-Branch.cell c.in-Branch.value in
-    let taken = subst P c.guess-found.ensures.same c.take_away.ensures.taken in
+    let taken = subst P c.guess-found.ensures.same (record { size = c.take_away.ensures.size; trail = c.take_away.ensures.trail }) in
     let narrowed = earlier_trans c.args.candidates.now c.loop-failures.candidates now c.loop-failures.invariant.less c.narrow.ensures.less in
     let less = earlier_trans c.args.candidates.now now next narrowed (removed_earlier now next c.in-Branch.cell c.in-Branch.value taken) in
     record {
