@@ -5,7 +5,7 @@ use Rattle.std.proofs.lemmas.Str.Parse.{IsNumeralModel, numerals_by_fold}
 use Rattle.std.proofs.lemmas.Fmt.{decimal-digits_value, digits_decimal, digits_value-decimal, decimal_nonempty, first_decimal, decimal_digit}
 use borrow.Author.Tests.{eqb-true, eqb-false, leb-true, le-leb, apart_eqb}
 use Rattle.byte_text.specs.Cuts.{Lacks}
-use Rattle.byte_text.specs.Decimals.{is_digit, begins_digit, digit_onto, number_from, has_leading_zero, number_at}
+use Rattle.byte_text.specs.Decimals.{is_digit, begins_digit, digit_onto, number_from, has_leading_zero, decimal_value}
 
 -- all bytes are digits, and the number that they stand for behind n
 abbrev all_digits : List ℕ → Bool
@@ -98,8 +98,8 @@ decimal_no_leading_zero m fits =
     ] refl
 
 -- what is read is written so
-pub number_taken : (greatest m : ℕ) (bs : List ℕ) → greatest < 2 ^ 64 → number_at greatest bs ≡ Some m → (bs ≡ decimal m) × (m ≤ greatest)
-unfolding number_at
+pub number_taken : (greatest m : ℕ) (bs : List ℕ) → greatest < 2 ^ 64 → decimal_value greatest bs ≡ Some m → (bs ≡ decimal m) × (m ≤ greatest)
+unfolding decimal_value
 number_taken greatest m [] = λ fits read. cc
 number_taken greatest m (b ∷ bs) =
     elim (has_leading_zero (b ∷ bs)) as (λ t. has_leading_zero (b ∷ bs) ≡ t → greatest < 2 ^ 64 → cond t None (number_from greatest 0 (b ∷ bs)) ≡ Some m → (b ∷ bs ≡ decimal m) × (m ≤ greatest)) [
@@ -112,13 +112,13 @@ number_taken greatest m (b ∷ bs) =
           (sym written ∙ ap decimal value, taken.2)
     ] refl
 
-number_of_digits : (greatest : ℕ) (bs : List ℕ) → 0 < length bs → has_leading_zero bs ≡ false → number_at greatest bs ≡ number_from greatest 0 bs
-unfolding number_at
+number_of_digits : (greatest : ℕ) (bs : List ℕ) → 0 < length bs → has_leading_zero bs ≡ false → decimal_value greatest bs ≡ number_from greatest 0 bs
+unfolding decimal_value
 number_of_digits greatest [] some none = absurd (omega arith)
 number_of_digits greatest (b ∷ bs) some none = rw none refl
 
 -- what is written so is read
-pub number_again : (greatest m : ℕ) → m ≤ greatest → greatest < 2 ^ 64 → number_at greatest (decimal m) ≡ Some m
+pub number_again : (greatest m : ℕ) → m ≤ greatest → greatest < 2 ^ 64 → decimal_value greatest (decimal m) ≡ Some m
 number_again greatest m within fits =
     let below : m < 2 ^ 64 = omega arith in
     let value = digits_value-decimal own m below in
@@ -133,6 +133,6 @@ pub lacks_decimal : (c m : ℕ) → m < 2 ^ 64 → is_digit c ≡ false → Lack
 lacks_decimal c m fits other = all_lack c (decimal m) other (digits_decimal own m fits)
 
 -- the same of an answer
-pub number_found : (greatest : ℕ) (bs : List ℕ) (answer : Option ℕ) → greatest < 2 ^ 64 → answer ≡ number_at greatest bs → IfSome answer (λ m. (bs ≡ decimal m) × (m ≤ greatest))
+pub number_found : (greatest : ℕ) (bs : List ℕ) (answer : Option ℕ) → greatest < 2 ^ 64 → answer ≡ decimal_value greatest bs → IfSome answer (λ m. (bs ≡ decimal m) × (m ≤ greatest))
 number_found greatest bs None fits is = tt
 number_found greatest bs (Some m) fits is = number_taken greatest m bs fits (sym is)

@@ -25,6 +25,6 @@ has_leading_zero (b ∷ []) = false
 has_leading_zero (b ∷ c ∷ bs) = b == 48
 
 -- the number from 0 to the greatest whose decimal is the text
-unfoldable pub number_at : ℕ → List ℕ → Option ℕ
-number_at greatest [] = None
-number_at greatest (b ∷ bs) = if has_leading_zero (b ∷ bs) then None else number_from greatest 0 (b ∷ bs)
+unfoldable pub decimal_value : ℕ → List ℕ → Option ℕ
+decimal_value greatest [] = None
+decimal_value greatest (b ∷ bs) = if has_leading_zero (b ∷ bs) then None else number_from greatest 0 (b ∷ bs)

@@ -2,7 +2,7 @@
 
 ghost use Rattle.std.specs.Prelude.{◌≡◌, ℕ, ◌≤◌, IfSome};
 ghost use Rattle.std.specs.Fmt.{decimal};
-ghost use Rattle.byte_text.specs.Decimals.{begins_digit, digit_onto, number_at};
+ghost use Rattle.byte_text.specs.Decimals.{begins_digit, digit_onto, decimal_value};
 
 /// Whether the first byte is a digit.
 pub fn begins_with_digit(bytes: &[u8]) -> bool
@@ -21,9 +21,9 @@ fn with_digit(n: u64, digit: u8, greatest: u64) -> Option<u64>
     if more <= greatest { Some(more) } else { None }
 }
 
-#[tactic(auto, unfolding(crate::specs::Decimals::number_at))]
+#[tactic(auto, unfolding(crate::specs::Decimals::decimal_value))]
 fn read_number(bytes: &[u8], greatest: u64) -> Option<u64>
-    ensures { result ≡ number_at greatest bytes.now }
+    ensures { result ≡ decimal_value greatest bytes.now }
 {
     if bytes.is_empty() || (bytes[0] == b'0' && bytes.len() > 1) {
         return None;
@@ -38,7 +38,7 @@ fn read_number(bytes: &[u8], greatest: u64) -> Option<u64>
 /// The number from 0 to `greatest` that `bytes` writes in decimal without leading zeros.
 /// `None` where there is no such number: no digit, another byte, a leading zero, or a number above `greatest`.
 pub fn number(bytes: &[u8], greatest: u64) -> Option<u64>
-    ensures value { result ≡ number_at greatest bytes.now }
+    ensures value { result ≡ decimal_value greatest bytes.now }
     ensures found { IfSome result (λ n. (bytes.now ≡ decimal n) × (n ≤ greatest)) }
     ensures only { (n : ℕ) → n ≤ greatest → bytes.now ≡ decimal n → result ≡ Some n }
 {

@@ -5,13 +5,13 @@ use Rattle.std.proofs.lemmas.List.Elements.{All-nil, All-cons, All-replicate, Al
 use Rattle.std.proofs.lemmas.List.{length-take-le}
 use borrow.Author.Tests.{le-ltb, lt-ltb}
 use Rattle.clue_rules.specs.declared.id_fault.IdFault.TheVariants.{TooFew, TooMany}
-use Rattle.clue_rules.specs.Counted.{counted}
-use Rattle.clue_rules.specs.Filled.{IsFilledTo}
-use Rattle.clue_rules.specs.TowersReading.{is_square_byte, is_square_part, squares_of}
-use Rattle.clue_rules.specs.JoinedTests.{both_from_and}
-use Rattle.clue_rules.specs.CountedLaws.{counted_again}
-use Rattle.clue_rules.specs.FilledLaws.{filled_begin}
-use Rattle.clue_rules.specs.SquarePartLaws.{byte_taken, squares_of_underscore, squares_of_letter, squares_of_digit}
+use Rattle.clue_rules.specs.IdFaults.{counted}
+use Rattle.clue_rules.specs.Inner.Filled.{IsFilledTo}
+use Rattle.clue_rules.specs.TowersText.{is_square_byte, is_square_part, squares_of}
+use Rattle.clue_rules.specs.Laws.JoinedTests.{both_from_and}
+use Rattle.clue_rules.specs.Laws.Counted.{counted_again}
+use Rattle.clue_rules.proofs.FilledLemmas.{filled_begin}
+use Rattle.clue_rules.specs.Laws.SquarePart.{byte_taken, squares_of_underscore, squares_of_letter, squares_of_digit}
 
 -- the squares of a byte that may stand there are in range
 pub byte_within : (w b : ℕ) (bs : List ℕ) → w ≤ 9 → is_square_byte w b bs ≡ true → All (λ n. n ≤ w) (squares_of b)

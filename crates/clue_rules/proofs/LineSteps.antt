@@ -1,20 +1,19 @@
 -- What one row or column rules out: its squares' candidates as sets, and a Latin square among them.
-use Rattle.std.proofs.Common.{◌≡◌, ◌≢◌, ℕ, ◌+◌, ◌-◌, ◌*◌, ◌<◌, ◌≤◌, ◌↔◌, ◌⊎◌, Bool, true, false, List, get_or, inl, inr, refl, sym, ap, ◌∙◌, subst, arith}
-use Rattle.std.specs.Bool.{OnTrue, OnFalse}
-use Rattle.std.proofs.lemmas.Bool.{both_ways, false_from_ne_true, lt-ltb, le-ltb, cases_lt}
+use Rattle.std.proofs.Common.{◌≡◌, ℕ, ◌*◌, ◌<◌, ◌≤◌, Bool, true, false, List, get_or, inl, inr, sym, ap, ◌∙◌, subst, arith}
+use Rattle.std.proofs.lemmas.Bool.{both_ways, false_from_ne_true}
 use Rattle.latin_board.specs.Marks.{has_mark}
-use Rattle.latin_board.specs.Squares.{GridValue, IsGrid, IsLatin, number_at}
-use Rattle.latin_board.specs.Lines.{line_cell, ArePeers}
+use Rattle.latin_board.specs.Squares.{GridValue, number_at}
+use Rattle.latin_board.specs.Lines.{line_cell}
 use Rattle.latin_board.proofs.LatinLines.{latin_full, line_cell_inside, line_differs, value_at, peers_on_line}
 use Rattle.latin_board.proofs.Numbers.{number_within}
 use Rattle.trail_solver.specs.Pairs.{IsPair}
 use Rattle.trail_solver.specs.Candidates.{CandidatesValue, IsEarlier, IsOnly, IsWithin, may_be}
 use Rattle.trail_solver.proofs.Earlier.{earlier_refl, only_later, was_left}
-use Rattle.clue_rules.specs.Narrowing.{AreSetsOf, IsSquare, KeepsAlong, LacksStruck, Narrows, StruckBelow}
-use Rattle.clue_rules.specs.LineTallies.{IsSingle, IsPossible, IsWholeTally, IsKeptOf, IsLineStruck, IsTaken, IsDisplaced}
+use Rattle.clue_rules.specs.Inner.Narrowing.{AreSetsOf, IsSquare, KeepsAlong, Narrows, StruckBelow}
+use Rattle.clue_rules.specs.Inner.LineTallies.{IsSingle, IsPossible, IsWholeTally, IsKeptOf, IsLineStruck}
 use Rattle.clue_rules.specs.Struck.{IsOnePlace, IsPeerStruck, IsPlaceStruck, IsLatinStruck}
-use Rattle.clue_rules.specs.TowersViews.{view_cell}
-use Rattle.clue_rules.specs.declared.latin_lines.Tally.{Tally}
+use Rattle.clue_rules.specs.Views.{view_cell}
+use Rattle.clue_rules.specs.declared.lines.latin.Tally.{Tally}
 use Rattle.clue_rules.proofs.Narrowings.{on_true, on_false, narrows_by}
 use Rattle.clue_rules.proofs.LineTallying.{possible_stays, taken_goes, displaced_goes}
 

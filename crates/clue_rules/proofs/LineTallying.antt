@@ -1,14 +1,14 @@
 -- The tally of a line's sets, set by set, and what it says of the numbers that they can hold.
-use Rattle.std.proofs.Common.{◌≡◌, ◌≢◌, ℕ, ◌+◌, ◌-◌, ◌*◌, ◌^◌, ◌<◌, ◌≤◌, ◌↔◌, ◌⊎◌, Bool, true, false, not, ◌&&◌, ◌||◌, leb, List, length, get_or, set, inl, inr, refl, sym, ap, ◌∙◌, subst, arith, bit_and, bit_or}
-use Rattle.std.proofs.lemmas.Bool.{cases_Bool, cases_lt, cases_eq, cases_order, both_ways, false_from_ne_true, and_parts, and_from, not-false, not_from_true, le-leb, leb-true, or_left, or_right}
+use Rattle.std.proofs.Common.{◌≡◌, ◌≢◌, ℕ, ◌+◌, ◌^◌, ◌<◌, ◌≤◌, ◌↔◌, ◌⊎◌, Bool, true, false, not, ◌&&◌, ◌||◌, leb, List, length, get_or, set, inl, inr, refl, sym, ap, ◌∙◌, subst, arith, bit_and, bit_or}
+use Rattle.std.proofs.lemmas.Bool.{cases_Bool, cases_lt, cases_eq, cases_order, both_ways, false_from_ne_true, and_parts, and_from, le-leb, leb-true, or_left, or_right}
 use Rattle.std.proofs.Math.ListN.{length-set}
 use Rattle.std.proofs.lemmas.List.{get_or-set_same, get_or-set_other}
 use Rattle.std.proofs.lemmas.Nat.{and_le_r}
 use Rattle.latin_board.specs.Marks.{has_mark, full_marks}
 use Rattle.latin_board.proofs.MarkSets.{has_mark-full_marks}
 use Rattle.tower_lines.proofs.MarkLemmas.{mark-and, mark-or, mark-zero, same_from_marks}
-use Rattle.clue_rules.specs.LineTallies.{IsSingle, IsPossible, IsTally, IsWholeTally, IsCounted, IsClash, IsHidden, MayStay, IsKeptOf}
-use Rattle.clue_rules.specs.declared.latin_lines.Tally.{Tally}
+use Rattle.clue_rules.specs.Inner.LineTallies.{IsSingle, IsPossible, IsTally, IsWholeTally, IsCounted, IsClash, IsHidden, MayStay, IsKeptOf}
+use Rattle.clue_rules.specs.declared.lines.latin.Tally.{Tally}
 use Rattle.clue_rules.proofs.SingleSets.{some_value}
 
 -- ---- one set more

@@ -5,9 +5,9 @@ use Rattle.std.proofs.Math.Nat.{mul-le-mul_left}
 use Rattle.std.proofs.lemmas.Bool.{cases_lt}
 use Rattle.latin_board.specs.Squares.{GridValue}
 use Rattle.trail_solver.specs.Pairs.{IsPair}
-use Rattle.trail_solver.specs.Candidates.{CandidatesValue, IsEarlier, IsWithin, may_be}
+use Rattle.trail_solver.specs.Candidates.{CandidatesValue, IsEarlier, may_be}
 use Rattle.trail_solver.proofs.Earlier.{earlier_refl, earlier_trans, prefix_length, stays_gone}
-use Rattle.clue_rules.specs.Narrowing.{LacksStruck, Narrows, NoneStruck, StruckBelow, IsStruckByLines}
+use Rattle.clue_rules.specs.Inner.Narrowing.{LacksStruck, Narrows, NoneStruck, StruckBelow, IsStruckByLines}
 use Rattle.clue_rules.specs.Struck.{IsLatinStruck}
 
 pub on_true : (b : Bool) {P Q : Type 0} → (P → Q) → OnTrue b P → OnTrue b Q

@@ -1,5 +1,5 @@
 -- A line whose squares have one candidate each: its only filling.
-use Rattle.std.proofs.Common.{◌≡◌, ◌≢◌, ℕ, ◌+◌, ◌*◌, ◌<◌, ◌≤◌, ◌↔◌, true, false, List, length, get_or, set, take, refl, sym, ap, ◌∙◌, subst, inl, inr, arith, bit_and, bit_or, w16}
+use Rattle.std.proofs.Common.{◌≡◌, ◌≢◌, ℕ, ◌+◌, ◌<◌, ◌≤◌, true, List, length, get_or, set, take, sym, ap, ◌∙◌, subst, inl, inr, arith, bit_and, bit_or, w16}
 use Rattle.std.specs.Int.{trailing_zeros}
 use Rattle.std.proofs.Math.ListN.{length-set}
 use Rattle.std.proofs.lemmas.Bool.{cases_eq, both_ways, and_from, or_left, or_right}
@@ -7,9 +7,9 @@ use Rattle.std.proofs.lemmas.List.{get_or-set_same, get_or-set_other, get_or-tak
 use Rattle.std.proofs.lemmas.Nat.Bits.{bit_at-trailing_zeros}
 use Rattle.latin_board.specs.Marks.{has_mark}
 use Rattle.tower_lines.specs.TowersSeen.{seen}
-use Rattle.tower_lines.specs.LineFillings.{IsStart, IsFilling, IsSupported}
+use Rattle.tower_lines.specs.LineFillings.{IsSupported}
 use Rattle.tower_lines.proofs.MarkLemmas.{mark-and, mark-or, mark-zero, mark-from_bit}
-use Rattle.clue_rules.specs.LineTallies.{IsSingle}
+use Rattle.clue_rules.specs.Inner.LineTallies.{IsSingle}
 
 -- the lowest value of a set
 pub lowest_in : (set : ℕ) → set ≢ 0 → set < 65536 → has_mark set (trailing_zeros w16 set) ≡ true

@@ -1,5 +1,5 @@
 -- What a sign rules out in the squares on both its sides, and along a line.
-use Rattle.std.proofs.Common.{◌≡◌, ◌≢◌, ℕ, ◌+◌, ◌-◌, ◌*◌, ◌<◌, ◌≤◌, ◌↔◌, ◌⊎◌, Bool, true, false, not, eqb, inl, inr, refl, sym, ap, ◌∙◌, subst, arith}
+use Rattle.std.proofs.Common.{◌≡◌, ℕ, ◌+◌, ◌-◌, ◌*◌, ◌<◌, ◌≤◌, ◌↔◌, Bool, true, false, not, eqb, inl, inr, refl, sym, ap, ◌∙◌, subst, arith}
 use Rattle.std.specs.Bool.{OnTrue, OnFalse}
 use Rattle.std.proofs.lemmas.Bool.{both_ways, false_from_ne_true, cases_eq, eq-eqb, ne_eqb, lt-ltb, le-ltb}
 use Rattle.latin_board.specs.Marks.{has_mark}
@@ -7,15 +7,15 @@ use Rattle.latin_board.specs.Squares.{GridValue, number_at}
 use Rattle.tower_lines.proofs.MarkLemmas.{mark-zero}
 use Rattle.trail_solver.specs.Pairs.{IsPair}
 use Rattle.trail_solver.specs.Candidates.{CandidatesValue, IsEarlier, IsWithin, may_be}
-use Rattle.trail_solver.specs.Puzzles.{Puzzle, Solves}
+use Rattle.trail_solver.specs.Puzzles.{Solves}
 use Rattle.trail_solver.proofs.Earlier.{was_left}
-use Rattle.clue_rules.specs.Narrowing.{IsSquare, IsStruckByLines, KeepsOf, LacksStruck, Narrows, StruckBelow}
-use Rattle.clue_rules.specs.Unequal.{UnequalValue, IsBetween, IsAcross, IsDown, IsGreater, pairs_across, sign_count, sign_at, first_of, second_of}
-use Rattle.clue_rules.specs.UnequalItems.{puzzle_of}
-use Rattle.clue_rules.specs.UnequalPlaces.{AreSides, between_at, between_sides}
-use Rattle.clue_rules.specs.UnequalSigns.{signs_held}
-use Rattle.clue_rules.specs.UnequalStruck.{HasNoneAbove, HasNoneBelow, IsSignStruck, IsUnequalStruck, AreEnds, IsLowerStruck, IsUpperStruck, IsEndStruckBy, IsStruckAt, IsStruckAlong, line_sign}
-use Rattle.clue_rules.specs.declared.unequal.sign.Sign.{Sign}
+use Rattle.clue_rules.specs.Inner.Narrowing.{IsSquare, IsStruckByLines, KeepsOf, Narrows, StruckBelow}
+use Rattle.clue_rules.specs.Unequal.{UnequalValue, IsBetween, IsGreater, sign_count, sign_at, first_of}
+use Rattle.clue_rules.specs.Unequal.{puzzle_of}
+use Rattle.clue_rules.specs.Laws.SignPlaces.{between_at, between_sides}
+use Rattle.clue_rules.proofs.SignLemmas.{signs_held}
+use Rattle.clue_rules.specs.Struck.{IsUnequalStruck}
+use Rattle.clue_rules.specs.Inner.UnequalLines.{AreEnds, IsLowerStruck, IsUpperStruck, IsEndStruckBy, IsStruckAt, IsStruckAlong, line_sign}
 use Rattle.clue_rules.specs.declared.unequal.sign.Sign.TheVariants.{Absent, FirstGreater, SecondGreater}
 use Rattle.clue_rules.proofs.KeptCandidates.{within_kept}
 use Rattle.clue_rules.proofs.LineSteps.{grid_pair}

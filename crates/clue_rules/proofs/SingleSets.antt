@@ -1,16 +1,15 @@
 -- Sets of values as bits: one value alone, and the values of one set that another lacks.
-use Rattle.std.proofs.Common.{◌≡◌, ◌≢◌, ℕ, zero, suc, ◌+◌, ◌-◌, ◌*◌, ◌^◌, ◌<◌, ◌≤◌, ◌↔◌, Bool, true, false, not, ◌&&◌, eqb, inl, inr, refl, sym, ap, ◌∙◌, subst, arith, add-one, bit_and, w16}
+use Rattle.std.proofs.Common.{◌≡◌, ◌≢◌, ℕ, ◌+◌, ◌-◌, ◌*◌, ◌^◌, ◌<◌, ◌≤◌, ◌↔◌, Bool, true, false, not, ◌&&◌, eqb, inl, inr, refl, sym, ap, ◌∙◌, subst, arith, add-one, bit_and, w16}
 use Rattle.std.specs.Bool.{MatchBool}
-use Rattle.std.specs.Int.{bit_at, bit_not, trailing_zeros}
+use Rattle.std.specs.Int.{bit_not, trailing_zeros}
 use Rattle.std.proofs.lemmas.Bool.{cases_Bool, cases_lt, cases_eq, both_ways, false_from_ne_true, and_parts, and_from, eq-eqb, ne_eqb}
 use Rattle.std.proofs.Math.Nat.{pow-suc}
 use Rattle.std.proofs.lemmas.Nat.{and_le_l}
-use Rattle.std.proofs.lemmas.Nat.Bits.{bit_at_not, bit_at-lt, bit_at-trailing_zeros, bit_at_ones, bit_at_ones_above}
+use Rattle.std.proofs.lemmas.Nat.Bits.{bit_at_not, bit_at-trailing_zeros, bit_at_ones, bit_at_ones_above}
 use Rattle.latin_board.specs.Marks.{has_mark, flip_mark}
 use Rattle.latin_board.proofs.MarkSets.{has_mark-flip_mark}
-use Rattle.tower_lines.specs.LineMasks.{IsValueOf}
-use Rattle.tower_lines.proofs.MarkLemmas.{mark-and, mark-or, mark-zero, mark-above, mark-pow, mark-pow_same, mark-from_bit, no_mark-from_bit, bit-from_mark, bit-from_no_mark, same_from_marks, below_from_marks, lowest_value}
-use Rattle.clue_rules.specs.LineTallies.{IsSingle}
+use Rattle.tower_lines.proofs.MarkLemmas.{mark-and, mark-zero, mark-above, mark-pow, mark-pow_same, mark-from_bit, no_mark-from_bit, bit-from_mark, bit-from_no_mark, same_from_marks, below_from_marks, lowest_value}
+use Rattle.clue_rules.specs.Inner.LineTallies.{IsSingle}
 
 -- ---- one value alone
 

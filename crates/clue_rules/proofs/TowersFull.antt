@@ -1,15 +1,15 @@
 -- The full puzzle, filled place by place.
-use Rattle.std.proofs.Common.{◌≡◌, ℕ, ◌+◌, ◌-◌, ◌*◌, ◌<◌, ◌≤◌, List, length, set, take, drop, replicate, map, refl, sym, ap, ◌∙◌, All, arith}
+use Rattle.std.proofs.Common.{◌≡◌, ℕ, ◌+◌, ◌-◌, ◌*◌, ◌<◌, ◌≤◌, List, length, set, take, drop, replicate, map, refl, ◌∙◌, All, arith}
 use Rattle.std.specs.List.{range_with_len}
 use Rattle.std.proofs.Math.ListN.{length-set}
 use Rattle.std.proofs.lemmas.List.{drop-set-lt, drop-replicate, take_more_set}
 use Rattle.std.proofs.lemmas.List.FromFn.{map-range_with_len_more}
 use Rattle.latin_board.specs.Squares.{GridValue, IsGrid}
 use Rattle.tower_lines.specs.TowersSeen.{seen}
-use Rattle.clue_rules.specs.TowersViews.{view_of}
-use Rattle.clue_rules.specs.TowersItems.{full_towers}
-use Rattle.clue_rules.specs.TowersItemLaws.{full_valid}
-use Rattle.clue_rules.specs.TowersFields.{KeepsTowers, towers_value}
+use Rattle.clue_rules.specs.Views.{view_of}
+use Rattle.clue_rules.specs.Towers.{full_towers}
+use Rattle.clue_rules.specs.Laws.TowersItems.{full_valid}
+use Rattle.clue_rules.specs.Inner.TowersFields.{KeepsTowers, towers_value}
 
 -- the clues of the first n places are the grid's, and those past the last place are 0
 pub record HasClues (g : GridValue) (n : ℕ) (clues : List ℕ) : Type 0 where

@@ -2,10 +2,10 @@
 use Rattle.std.proofs.Common.{◌≡◌, ℕ, ◌*◌, ◌≤◌, List, take, Ok, sym, subst}
 use Rattle.std.proofs.lemmas.List.Elements.{All-from_recursion}
 use Rattle.latin_board.specs.Squares.{GridValue}
-use Rattle.clue_rules.specs.Filled.{IsFilledTo}
-use Rattle.clue_rules.specs.TowersFields.{KeepsTowers}
-use Rattle.clue_rules.specs.TowersReading.{clues_at}
-use Rattle.clue_rules.specs.CluePartLaws.{clues_taken}
+use Rattle.clue_rules.specs.Inner.Filled.{IsFilledTo}
+use Rattle.clue_rules.specs.Inner.TowersFields.{KeepsTowers}
+use Rattle.clue_rules.specs.TowersText.{clues_at}
+use Rattle.clue_rules.specs.Laws.CluePart.{clues_taken}
 
 kept_at_size : (part clues : List ℕ) (givens : GridValue) → IsFilledTo 36 (4 * givens.size) clues → clues_at givens.size part ≡ Ok (take (4 * givens.size) clues) → KeepsTowers clues givens
 kept_at_size part clues givens filled read = record {

@@ -1,11 +1,11 @@
 -- One item less in the fields of a puzzle.
-use Rattle.std.proofs.Common.{◌≡◌, ℕ, zero, ◌+◌, ◌-◌, ◌*◌, ◌<◌, ◌≤◌, not, eqb, List, length, set, take, refl, arith}
+use Rattle.std.proofs.Common.{◌≡◌, ℕ, zero, ◌+◌, ◌*◌, ◌<◌, not, eqb, List, set, take, refl, arith}
 use Rattle.std.proofs.Math.Seq.{take-set-lt}
 use Rattle.std.proofs.lemmas.List.{length-take}
 use Rattle.latin_board.specs.Squares.{GridValue}
-use Rattle.clue_rules.specs.KeptItemLaws.{kept-but_one, kept-past, kept-before}
-use Rattle.clue_rules.specs.TowersFields.{KeepsTowers, towers_value}
-use Rattle.clue_rules.specs.TowersItems.{cut_towers}
+use Rattle.clue_rules.proofs.KeptItemLemmas.{kept-but_one, kept-past, kept-before}
+use Rattle.clue_rules.specs.Inner.TowersFields.{towers_value}
+use Rattle.clue_rules.specs.Towers.{cut_towers}
 
 pub clue_dropped : (givens : GridValue) (clues : List ℕ) (i : ℕ) → i < 4 * givens.size → towers_value (set clues i 0) givens ≡ cut_towers (towers_value clues givens) (λ j. not (eqb j i))
 clue_dropped givens clues i inside =

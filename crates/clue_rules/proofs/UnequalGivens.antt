@@ -4,7 +4,8 @@ use Rattle.std.specs.List.{list_all}
 use Rattle.std.proofs.lemmas.List.{get_or-map, take_more, take_more_set, map-append}
 use Rattle.std.proofs.lemmas.List.Folds.{list_all-append, list_all_at}
 use Rattle.latin_board.specs.Squares.{GridValue}
-use Rattle.clue_rules.specs.UnequalReading.{texts_of, number_in, has_number, givens_grid}
+use Rattle.clue_rules.specs.Inner.UnequalPieces.{texts_of}
+use Rattle.clue_rules.specs.UnequalText.{number_in, has_number, givens_grid}
 
 -- one piece more that has a number
 pub good_more : (w i n : ℕ) (pieces : List (List ℕ)) → i < length pieces → list_all (has_number w) (take i pieces) ≡ true → number_in w (get_or pieces i []) ≡ Some n → list_all (has_number w) (take (i + 1) pieces) ≡ true

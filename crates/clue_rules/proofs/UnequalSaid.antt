@@ -1,7 +1,8 @@
 -- What the pieces of a description say of its signs.
 use Rattle.std.proofs.Common.{◌≡◌, ℕ, Bool, true, false, cond, ◌&&◌, List, Some, None, refl}
 use Rattle.clue_rules.specs.declared.unequal.sign.Sign.{Sign}
-use Rattle.clue_rules.specs.UnequalReading.{first_says, second_says, said_sign, sign_in}
+use Rattle.clue_rules.specs.UnequalText.{first_says, second_says, said_sign}
+use Rattle.clue_rules.specs.Inner.UnequalPieces.{sign_in}
 
 some_of : (t : Bool) (s u : Sign) → cond t None (Some s) ≡ Some u → (t ≡ false) × (u ≡ s)
 some_of true s u h = absurd (cc)

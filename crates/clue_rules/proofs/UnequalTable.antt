@@ -9,9 +9,9 @@ use Rattle.latin_board.specs.Squares.{GridValue, IsGrid, number_at}
 use Rattle.clue_rules.specs.declared.unequal.sign.Sign.{Sign}
 use Rattle.clue_rules.specs.declared.unequal.sign.Sign.TheVariants.{Absent}
 use Rattle.clue_rules.specs.Unequal.{UnequalValue, sign_count, first_of, second_of}
-use Rattle.clue_rules.specs.UnequalItems.{cut_unequal, sign_of}
-use Rattle.clue_rules.specs.UnequalItemLaws.{kept-but_one, kept-past, kept-before}
-use Rattle.clue_rules.specs.UnequalFields.{KeepsSigns}
+use Rattle.clue_rules.specs.Unequal.{cut_unequal, sign_of}
+use Rattle.clue_rules.proofs.KeptItemLemmas.{kept-but_one, kept-past, kept-before}
+use Rattle.clue_rules.specs.Inner.UnequalFields.{KeepsSigns}
 
 -- the first i of n signs are f's, and those past the n-th are absent
 pub record IsFilled (n : ℕ) (f : ℕ → Sign) (i : ℕ) (places : List Sign) : Type 0 where

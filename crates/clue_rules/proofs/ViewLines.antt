@@ -1,15 +1,15 @@
 -- The line that an edge place looks along, square by square.
-use Rattle.std.proofs.Common.{◌≡◌, ℕ, ◌+◌, ◌-◌, ◌*◌, ◌<◌, ◌≤◌, List, length, get_or, map, reverse, set, take, refl, sym, ap, ◌∙◌, inl, inr, arith}
+use Rattle.std.proofs.Common.{◌≡◌, ℕ, ◌+◌, ◌-◌, ◌*◌, ◌<◌, List, length, get_or, map, reverse, set, take, refl, sym, ap, ◌∙◌, inl, inr, arith}
 use Rattle.std.specs.List.{range_with_len}
 use Rattle.std.proofs.Math.ListN.{length-set}
 use Rattle.std.proofs.lemmas.Bool.{lt-ltb, le-ltb, cases_lt}
 use Rattle.std.proofs.lemmas.Grind.{same_number_lists}
 use Rattle.std.proofs.lemmas.List.{get_or-reverse, length-reverse, take_more_set}
 use Rattle.std.proofs.lemmas.List.FromFn.{length-map-range_with_len, get_or-map-range_with_len, map-range_with_len_more}
-use Rattle.latin_board.specs.Squares.{GridValue, number_at, row_of, column_of}
+use Rattle.latin_board.specs.Squares.{GridValue, number_at}
 use Rattle.latin_board.specs.Lines.{line_cell, line_of}
 use Rattle.latin_board.proofs.LatinLines.{line_of-row, line_of-column, length-line_of, get_or-line_of}
-use Rattle.clue_rules.specs.TowersViews.{view_of, view_cell}
+use Rattle.clue_rules.specs.Views.{view_of, view_cell}
 
 -- the numbers of the squares from a place
 abbrev pub numbers_from : GridValue → ℕ → ℕ → List ℕ

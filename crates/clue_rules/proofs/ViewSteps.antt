@@ -1,27 +1,28 @@
 -- What a clue rules out along its line: the line's fillings by sets, and a solution among them.
 use Rattle.std.proofs.Common.{◌≡◌, ◌≢◌, ℕ, ◌+◌, ◌-◌, ◌*◌, ◌<◌, ◌≤◌, ◌↔◌, ◌⊎◌, Bool, true, false, List, length, get_or, take, inl, inr, refl, sym, ap, ◌∙◌, subst, arith}
-use Rattle.std.proofs.lemmas.Bool.{both_ways, false_from_ne_true, cases_lt, lt-ltb, le-ltb}
+use Rattle.std.proofs.lemmas.Bool.{false_from_ne_true, cases_lt, lt-ltb, le-ltb}
 use Rattle.std.proofs.lemmas.List.{get_or-take, length-take-le}
 use Rattle.std.proofs.lemmas.List.FromFn.{get_or-map-range_with_len}
 use Rattle.latin_board.specs.Marks.{has_mark}
-use Rattle.latin_board.specs.Squares.{GridValue, IsGrid, IsLatin, number_at}
-use Rattle.latin_board.specs.Lines.{line_cell}
+use Rattle.latin_board.specs.Squares.{GridValue, number_at}
 use Rattle.latin_board.proofs.LatinLines.{line_differs, line_cell_inside}
 use Rattle.tower_lines.specs.TowersSeen.{seen}
-use Rattle.tower_lines.specs.LineFillings.{IsStart, IsFilling, IsSupported}
+use Rattle.tower_lines.specs.LineFillings.{IsFilling, IsSupported}
 use Rattle.trail_solver.specs.Pairs.{IsPair}
 use Rattle.trail_solver.specs.Candidates.{CandidatesValue, IsEarlier, IsWithin, may_be}
-use Rattle.trail_solver.specs.Puzzles.{Puzzle, Solves}
+use Rattle.trail_solver.specs.Puzzles.{Solves}
 use Rattle.trail_solver.proofs.Earlier.{earlier_refl, was_left}
-use Rattle.clue_rules.specs.Narrowing.{AreSetsOf, IsSquare, IsStruckByLines, KeepsAlong, Narrows}
-use Rattle.clue_rules.specs.TowersItemLaws.{length-view_of, clues_decide}
-use Rattle.clue_rules.specs.TowersItems.{towers_puzzle}
-use Rattle.clue_rules.specs.TowersPuzzles.{TowersValue}
-use Rattle.clue_rules.specs.TowersStruck.{IsViewFilling, HasNoFilling, IsViewStruck, IsEndStruck, IsTowersStruck}
-use Rattle.clue_rules.specs.TowersViews.{view_of, view_cell, view_line, view_index, front_place, clue_of}
+use Rattle.clue_rules.specs.Inner.Narrowing.{AreSetsOf, IsSquare, IsStruckByLines, KeepsAlong, Narrows}
+use Rattle.clue_rules.specs.Laws.TowersItems.{length-view_of, clues_decide}
+use Rattle.clue_rules.specs.Towers.{towers_puzzle}
+use Rattle.clue_rules.specs.Towers.{TowersValue}
+use Rattle.clue_rules.specs.Struck.{IsViewFilling, IsViewStruck, IsTowersStruck}
+use Rattle.clue_rules.specs.Inner.TowersLines.{IsEndStruck}
+use Rattle.clue_rules.specs.Views.{view_of, view_cell, view_line, view_index, front_place}
+use Rattle.clue_rules.specs.Towers.{clue_of}
 use Rattle.clue_rules.proofs.LineSteps.{along_narrows, grid_pair}
 use Rattle.clue_rules.proofs.Narrowings.{narrows_by, narrows_for, narrows_nothing, narrows_then}
-use Rattle.clue_rules.proofs.ViewLines.{numbers_from, view_of-numbers}
+use Rattle.clue_rules.proofs.ViewLines.{view_of-numbers}
 
 -- ---- the squares from a place
 

@@ -1,5 +1,5 @@
--- The number and the name of each fault of an ID.
-use Rattle.std.specs.Prelude.{ℕ, List, codes}
+-- The faults of a game ID: number and name of each, and the two of a list that has too few or too many members.
+use Rattle.std.specs.Prelude.{◌≢◌, ℕ, List, codes, Result, IfErr, length, Ok, Err, nat_lt, if◌then◌else◌}
 use Rattle.clue_rules.specs.declared.id_fault.IdFault.{IdFault}
 use Rattle.clue_rules.specs.declared.id_fault.IdFault.TheVariants.{BadSize, BadLetter, AdjacentMode, BadParams, ForeignSeed, NoDescription, BadSeed, BadClue, BadSquares, TooFew, TooMany, OffGrid, Contradiction, OutOfMemory}
 
@@ -34,3 +34,10 @@ fault_name TooMany = codes "TooMany"
 fault_name OffGrid = codes "OffGrid"
 fault_name Contradiction = codes "Contradiction"
 fault_name OutOfMemory = codes "OutOfMemory"
+
+-- the answer isn't want of memory
+abbrev pub SparesMemory : {A : Type 0} → Result A IdFault → Type 0
+SparesMemory answer = IfErr answer (λ fault. fault ≢ OutOfMemory)
+
+abbrev pub counted : {X : Type 0} → ℕ → List X → Result (List X) IdFault
+counted n xs = if nat_lt (length xs) n then Err TooFew else (if nat_lt n (length xs) then Err TooMany else Ok xs)

@@ -1,48 +1,22 @@
-pub mod CluePartLaws
-pub mod Counted
-pub mod CountedLaws
-pub mod Filled
-pub mod FilledLaws
-pub mod IdFaults
-pub mod IdLaws
-pub mod IdReading
-pub mod IdTexts
-pub mod JoinedTests
-pub mod KeptItemLaws
-pub mod KeptItems
-pub mod ParamLaws
-pub mod ParamReading
-pub mod ParamTexts
-pub mod SquarePartLaws
-pub mod SquaresWritten
-pub mod TowersFields
-pub mod TowersGameLaws
-pub mod TowersItemLaws
-pub mod TowersItems
-pub mod TowersPuzzles
-pub mod TowersReading
-pub mod TowersSameness
-pub mod TowersTextLaws
-pub mod TowersTexts
-pub mod TowersViews
+-- What the contracts of the crate say. Each of the files here is one subject, and has definitions alone.
+
+-- the squares and numbers that both games look at from the edges of a grid, and the items of a puzzle
+pub mod Views
+pub mod Items
+-- the puzzles: what they are, which grids meet their clues or signs, and their items
+pub mod Towers
 pub mod Unequal
-pub mod UnequalFields
-pub mod UnequalGoodPieces
-pub mod UnequalItemLaws
-pub mod UnequalItems
-pub mod UnequalLetters
-pub mod UnequalPieces
-pub mod UnequalPlaces
-pub mod UnequalRangeTests
-pub mod UnequalReading
-pub mod UnequalSaidSigns
-pub mod UnequalSameness
-pub mod UnequalSigns
-pub mod UnequalText
-pub mod UnequalTextLaws
-pub mod UnequalWrittenForm
+-- what narrowing rules out
 pub mod Struck
-pub mod TowersStruck
-pub mod Narrowing
-pub mod LineTallies
-pub mod UnequalStruck
+-- the bytes of texts
+pub mod Bytes
+-- the texts: for each its grammar, the form that is written, and what is read; and the faults of reading
+pub mod IdFaults
+pub mod Parameters
+pub mod GameIds
+pub mod TowersText
+pub mod UnequalText
+-- words that the contracts of private functions alone use
+pub mod Inner
+-- lemmas for the laws of the traits that the games keep
+pub mod Laws

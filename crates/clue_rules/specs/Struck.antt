@@ -1,7 +1,14 @@
--- The pairs that rows and columns rule out, by the candidates alone.
-use Rattle.std.specs.Prelude.{◌≡◌, ◌≢◌, ℕ, ◌*◌, ◌<◌, ◌≤◌, ◌⊎◌, true}
+-- What narrowing rules out, by the candidates alone: by rows and columns, by the clues of Towers, by the signs of Unequal.
+use Rattle.std.specs.Prelude.{◌≡◌, ◌≢◌, ℕ, ◌*◌, ◌<◌, ◌≤◌, ◌⊎◌, true, List, length, slice_index, false}
 use Rattle.latin_board.specs.Lines.{line_cell, ArePeers}
-use Rattle.trail_solver.specs.Candidates.{CandidatesValue, IsOnly, may_be}
+use Rattle.trail_solver.specs.Candidates.{CandidatesValue, IsOnly, IsWithin, may_be}
+use Rattle.tower_lines.specs.TowersSeen.{seen}
+use Rattle.trail_solver.specs.Pairs.{IsPair}
+use Rattle.clue_rules.specs.Towers.{TowersValue, clue_of}
+use Rattle.clue_rules.specs.Views.{view_cell}
+use Rattle.clue_rules.specs.Unequal.{UnequalValue, IsGreater}
+use Rattle.latin_board.specs.Squares.{GridValue}
+use Rattle.trail_solver.specs.Puzzles.{Puzzle, Solves}
 
 -- the line's k-th square is the one place of the value in the line
 pub record IsOnePlace (c : CandidatesValue) (line value k : ℕ) : Type 0 where
@@ -30,3 +37,64 @@ pub record IsPlaceStruck (c : CandidatesValue) (cell value : ℕ) : Type 0 where
 -- what the rows and columns rule out
 abbrev pub IsLatinStruck : CandidatesValue → ℕ → ℕ → Type 0
 IsLatinStruck c cell value = IsPeerStruck c cell value ⊎ IsPlaceStruck c cell value
+
+-- candidates for the squares from a place, without repeats, that show as many towers as the clue says
+pub record IsViewFilling (c : CandidatesValue) (place clue : ℕ) (line : List ℕ) : Type 0 where
+  pub whole : length line ≡ c.size
+  pub pairs : (k : ℕ) → k < c.size → IsPair c.size (view_cell c.size place k) (slice_index line k)
+  pub candidates : (k : ℕ) → k < c.size → may_be c (view_cell c.size place k) (slice_index line k) ≡ true
+  pub apart : (i j : ℕ) → i < j → j < c.size → slice_index line i ≢ slice_index line j
+  pub shown : seen line ≡ clue
+
+-- no such line has the value at its k-th square
+pub record HasNoFilling (c : CandidatesValue) (place clue k value : ℕ) : Type 0 where
+  pub none : (line : List ℕ) → IsViewFilling c place clue line → slice_index line k ≢ value
+
+-- the same of the cell, which is one of the squares from the place
+pub record IsViewStruck (place clue : ℕ) (c : CandidatesValue) (cell value : ℕ) : Type 0 where
+  pub index : ℕ
+  pub inside : index < c.size
+  pub here : view_cell c.size place index ≡ cell
+  pub unfilled : HasNoFilling c place clue index value
+
+-- some clued line through the cell has no filling with the value there
+pub record IsTowerStruck (v : TowersValue) (c : CandidatesValue) (cell value : ℕ) : Type 0 where
+  pub place : ℕ
+  pub place_is : place < 4 * c.size
+  pub clued : 0 < clue_of v place
+  pub struck : IsViewStruck place (clue_of v place) c cell value
+
+-- what a Towers puzzle rules out
+abbrev pub IsTowersStruck : TowersValue → CandidatesValue → ℕ → ℕ → Type 0
+IsTowersStruck v c cell value = IsLatinStruck c cell value ⊎ IsTowerStruck v c cell value
+
+-- no candidate of the cell is greater than the value, or less
+abbrev pub HasNoneAbove : CandidatesValue → ℕ → ℕ → Type 0
+HasNoneAbove c cell value = (u : ℕ) → value < u → u ≤ c.size → may_be c cell u ≡ false
+
+abbrev pub HasNoneBelow : CandidatesValue → ℕ → ℕ → Type 0
+HasNoneBelow c cell value = (u : ℕ) → 1 ≤ u → u < value → may_be c cell u ≡ false
+
+-- the cell is the lower end of a sign whose upper end has no greater value, or the upper end of one whose lower end has
+-- no less
+pub record IsSignStruck (v : UnequalValue) (c : CandidatesValue) (cell value : ℕ) : Type 0 where
+  pub other : ℕ
+  pub why : (IsGreater v other cell × HasNoneAbove c other value) ⊎ (IsGreater v cell other × HasNoneBelow c other value)
+
+-- what an Unequal puzzle rules out
+abbrev pub IsUnequalStruck : UnequalValue → CandidatesValue → ℕ → ℕ → Type 0
+IsUnequalStruck v c cell value = IsLatinStruck c cell value ⊎ IsSignStruck v c cell value
+
+-- ---- what narrowing the old candidates to the new ones keeps and leaves
+
+-- each solution of the puzzle within the old candidates is within the new ones
+abbrev pub KeepsSolutions : Puzzle → CandidatesValue → CandidatesValue → Type 0
+KeepsSolutions p old new = (g : GridValue) → Solves p g → IsWithin old g → IsWithin new g
+
+-- no solution of the puzzle is within the candidates
+abbrev pub HasNoSolution : Puzzle → CandidatesValue → Type 0
+HasNoSolution p c = (g : GridValue) → Solves p g → IsWithin c g → ⊥
+
+-- no pair is left that is struck by the old candidates
+abbrev pub NoneLeft : (CandidatesValue → ℕ → ℕ → Type 0) → CandidatesValue → CandidatesValue → Type 0
+NoneLeft Struck old new = (cell value : ℕ) → IsPair old.size cell value → Struck old cell value → may_be new cell value ≡ false

@@ -1,17 +1,26 @@
--- Which texts describe an Unequal puzzle, and the one in which it is written.
-use Rattle.std.specs.Prelude.{◌≡◌, ◌↔◌, ℕ, ◌+◌, ◌-◌, ◌*◌, ◌%◌, ◌⊎◌, ◌==◌, nat_lt, Bool, false, if◌then◌else◌, List, [], ◌∷◌, ◌++◌, map, filter, slice_index, slice_index_or, Option, Some, None, Contains, IsSome}
+-- The descriptions of Unequal puzzles: the grammar, the written form, and reading one.
+use Rattle.std.specs.Prelude.{◌≡◌, ◌↔◌, ℕ, ◌+◌, ◌-◌, ◌*◌, ◌%◌, ◌⊎◌, ◌==◌, nat_lt, Bool, false, if◌then◌else◌, List, [], ◌∷◌, ◌++◌, map, filter, slice_index, slice_index_or, Option, Some, None, Contains, IsSome, unwrap_or, ◌&&◌, nat_le, true, not, drop, is_some, option_and_then, Result, Ok, Err}
 use Rattle.std.specs.Option.{option_map_or}
-use Rattle.std.specs.List.{join_with_byte, flat_map, range_with_len}
+use Rattle.std.specs.List.{join_with_byte, flat_map, range_with_len, list_all, list_any, slice_split}
 use Rattle.clue_rules.specs.declared.unequal.direction.Direction.{Direction}
 use Rattle.clue_rules.specs.declared.unequal.direction.Direction.TheVariants.{Up, Right, Down, Left}
-use Rattle.clue_rules.specs.Unequal.{UnequalValue, IsUnequal, IsGreater, is_greater}
+use Rattle.clue_rules.specs.Unequal.{UnequalValue, IsUnequal, IsGreater, is_greater, pairs_across, sign_count, first_of, second_of}
+use Rattle.byte_text.specs.Decimals.{begins_digit}
+use Rattle.byte_text.specs.Reading.{◌>>=◌}
+use Rattle.latin_board.specs.Squares.{GridValue}
+use Rattle.clue_rules.specs.declared.id_fault.IdFault.{IdFault}
+use Rattle.clue_rules.specs.declared.id_fault.IdFault.TheVariants.{BadClue, BadSquares, OffGrid, Contradiction}
+use Rattle.clue_rules.specs.declared.unequal.sign.Sign.{Sign}
+use Rattle.clue_rules.specs.declared.unequal.sign.Sign.TheVariants.{Absent, FirstGreater, SecondGreater}
+use Rattle.clue_rules.specs.IdFaults.{counted}
+use Rattle.clue_rules.specs.Bytes.{comma, digit_zero, capital_u, capital_r, capital_d, capital_l}
 
 -- the letters U, R, D, L
 abbrev pub letter_of : Direction → ℕ
-letter_of Up = 85
-letter_of Right = 82
-letter_of Down = 68
-letter_of Left = 76
+letter_of Up = capital_u
+letter_of Right = capital_r
+letter_of Down = capital_d
+letter_of Left = capital_l
 
 -- the neighbour of a square in a direction, where the grid has one
 abbrev pub neighbour : ℕ → ℕ → Direction → Option ℕ
@@ -26,7 +35,7 @@ pub record Piece : Type 0 where
   pub greater : List Direction
 
 abbrev pub piece_text : Piece → List ℕ
-piece_text p = (48 + p.number) ∷ map letter_of p.greater
+piece_text p = (digit_zero + p.number) ∷ map letter_of p.greater
 
 -- the directions that stand at a square, none past the last
 abbrev pub directions_at : List Piece → ℕ → List Direction
@@ -43,8 +52,8 @@ pub record Says (w : ℕ) (pieces : List Piece) (a b : ℕ) : Type 0 where
 pub record IsUnequalText (v : UnequalValue) (text : List ℕ) : Type 0 where
   pub puzzle : IsUnequal v
   pub pieces : List Piece
-  pub written : (text ≡ join_with_byte 44 (map piece_text pieces))
-      ⊎ (text ≡ join_with_byte 44 (map piece_text pieces) ++ 44 ∷ [])
+  pub written : (text ≡ join_with_byte comma (map piece_text pieces))
+      ⊎ (text ≡ join_with_byte comma (map piece_text pieces) ++ comma ∷ [])
   pub numbers : map (λ p. p.number) pieces ≡ v.givens
   pub inside : (cell : ℕ) (d : Direction) → Contains (directions_at pieces cell) d → IsSome (neighbour v.size cell d)
   pub signs : (a b : ℕ) → IsGreater v a b ↔ Says v.size pieces a b
@@ -64,6 +73,107 @@ piece_of v cell = record {
   greater = filter (is_greater_towards v cell) directions;
 }
 
--- the written form: a comma ends each piece, the last one too
+-- a comma ends it
+abbrev pub piece_written : UnequalValue → ℕ → List ℕ
+piece_written v cell = piece_text (piece_of v cell) ++ comma ∷ []
+
+-- the written form: the pieces of all squares
 abbrev pub unequal_text : UnequalValue → List ℕ
-unequal_text v = flat_map (λ cell. piece_text (piece_of v cell) ++ 44 ∷ []) (range_with_len 0 (v.size * v.size))
+unequal_text v = flat_map (piece_written v) (range_with_len 0 (v.size * v.size))
+
+-- where the last piece is empty it is dropped
+abbrev pub without_empty_last : List (List ℕ) → List (List ℕ)
+without_empty_last [] = []
+without_empty_last ([] ∷ []) = []
+without_empty_last ((b ∷ bs) ∷ []) = (b ∷ bs) ∷ []
+without_empty_last (p ∷ q ∷ ps) = p ∷ without_empty_last (q ∷ ps)
+
+-- what commas separate
+abbrev pub pieces_of : List ℕ → List (List ℕ)
+pieces_of text = without_empty_last (slice_split (λ b. b == comma) text)
+
+-- the digit from 0 to w with which the piece begins, where no other stands behind it
+abbrev pub number_in : ℕ → List ℕ → Option ℕ
+number_in w [] = None
+number_in w (b ∷ bs) = if nat_le digit_zero b && nat_le b (digit_zero + w) && not (begins_digit bs) then Some (b - digit_zero) else None
+
+abbrev pub has_number : ℕ → List ℕ → Bool
+has_number w piece = is_some (number_in w piece)
+
+abbrev pub direction_of : ℕ → Option Direction
+direction_of b =
+    if b == capital_u then Some Up
+    else (if b == capital_r then Some Right else (if b == capital_d then Some Down else (if b == capital_l then Some Left else None)))
+
+-- all bytes behind the digit are letters
+abbrev pub has_letters : List ℕ → Bool
+has_letters piece = list_all (λ b. is_some (direction_of b)) (drop 1 piece)
+
+abbrev pub piece_at : List (List ℕ) → ℕ → List ℕ
+piece_at pieces cell = slice_index_or pieces cell []
+
+-- a letter at a square points to a square of the grid
+abbrev pub is_inside : ℕ → ℕ → ℕ → Bool
+is_inside w cell b = is_some (option_and_then (neighbour w cell) (direction_of b))
+
+-- all letters at a square do
+abbrev pub points_inside : ℕ → List (List ℕ) → ℕ → Bool
+points_inside w pieces cell = list_all (is_inside w cell) (drop 1 (piece_at pieces cell))
+
+-- the letter of a direction stands at a square
+abbrev pub says : List (List ℕ) → ℕ → Direction → Bool
+says pieces cell d = list_any (λ b. b == letter_of d) (drop 1 (piece_at pieces cell))
+
+-- the directions from a sign's first square to its second, and back
+abbrev pub forth : ℕ → ℕ → Direction
+forth w sign = if nat_lt sign (pairs_across w) then Right else Down
+
+abbrev pub back : ℕ → ℕ → Direction
+back w sign = if nat_lt sign (pairs_across w) then Left else Up
+
+abbrev pub first_says : ℕ → List (List ℕ) → ℕ → Bool
+first_says w pieces sign = says pieces (first_of w sign) (forth w sign)
+
+abbrev pub second_says : ℕ → List (List ℕ) → ℕ → Bool
+second_says w pieces sign = says pieces (second_of w sign) (back w sign)
+
+-- the sign that stands where the first square says that it is greater, and the second that it is
+abbrev pub said_sign : Bool → Bool → Sign
+said_sign true second = FirstGreater
+said_sign false true = SecondGreater
+said_sign false false = Absent
+
+-- a letter at the square a says that it is greater than b
+abbrev pub says_greater : ℕ → List (List ℕ) → ℕ → ℕ → Bool
+says_greater w pieces a b =
+    list_any (λ d. says pieces a d && option_map_or (λ c. c == b) (neighbour w a d) false) directions
+
+-- two squares are each said to be the greater one
+unfoldable pub contradicts : ℕ → List (List ℕ) → Bool
+contradicts w pieces =
+    list_any (λ a. list_any (λ b. says_greater w pieces a b && says_greater w pieces b a) (range_with_len 0 (w * w)))
+    (range_with_len 0 (w * w))
+
+abbrev pub givens_grid : ℕ → List (List ℕ) → GridValue
+givens_grid w pieces = record { size = w; numbers = map (λ piece. unwrap_or (number_in w piece) 0) pieces }
+
+-- the puzzle that pieces describe
+abbrev pub puzzle_in : ℕ → List (List ℕ) → UnequalValue
+puzzle_in w pieces = record {
+  size = w;
+  signs = map (λ i. said_sign (first_says w pieces i) (second_says w pieces i)) (range_with_len 0 (sign_count w));
+  givens = (givens_grid w pieces).numbers;
+}
+
+-- that puzzle, or the first of the faults that lie in the pieces
+abbrev pub puzzle_at : ℕ → List (List ℕ) → Result UnequalValue IdFault
+puzzle_at w pieces =
+    if not (list_all (has_number w) pieces) then Err BadSquares
+    else (if not (list_all has_letters pieces) then Err BadClue
+    else (if not (list_all (points_inside w pieces) (range_with_len 0 (w * w))) then Err OffGrid
+    else (if contradicts w pieces then Err Contradiction
+    else Ok (puzzle_in w pieces))))
+
+-- the value of a description for the width, or its first fault
+unfoldable pub unequal_at : ℕ → List ℕ → Result UnequalValue IdFault
+unequal_at w text = counted (w * w) (pieces_of text) >>= puzzle_at w

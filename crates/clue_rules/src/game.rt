@@ -3,7 +3,8 @@ ghost use Rattle.std.specs.Prelude.{◌≡◌, ℕ, ◌*◌, ◌≤◌, Bool, fa
 ghost use Rattle.std.specs.Option.{option_map_or};
 ghost use Rattle.latin_board.specs.Edges.{edge_place};
 ghost use Rattle.clue_rules.specs.declared.id_fault.IdFault.{IdFault};
-ghost use Rattle.clue_rules.specs.IdReading.{LacksSeparators};
+ghost use Rattle.clue_rules.specs.GameIds.{LacksSeparators};
+ghost use Rattle.clue_rules.specs.IdFaults.{SparesMemory};
 
 use crate::id_fault::IdFault;
 use latin_board::Size;
@@ -17,9 +18,6 @@ pub trait Game: Rules {
     ghost title: { List ℕ };
 
     ghost letter_codes: { List ℕ };
-
-    // Whether a clue stands at the edge place with a number.
-    ghost clued: { Self → ℕ → Bool };
 
     // The text describes the puzzle.
     ghost describes: { List ℕ → Self → Type 0 };
@@ -44,7 +42,8 @@ pub trait Game: Rules {
 
     /// Whether an edge clue stands at (x, y), where the squares have x and y from 0 to the width less 1.
     fn clue_at(&self, x: i8, y: i8) -> bool
-        ensures { result ≡ option_map_or (clued self.now) (edge_place (Self.puzzle self.now).size x y) false };
+        ensures { result ≡ option_map_or (Self.puzzle self.now).clued
+            (edge_place (Self.puzzle self.now).size x y) false };
 
     /// Reads a description of a puzzle of this size.
     ///
@@ -63,6 +62,9 @@ pub trait Game: Rules {
     // A puzzle that is read is described by the text, and has the width.
     ghost desc_taken: { (w : ℕ) (text : List ℕ) (p : Self) → 3 ≤ w → w ≤ 9 → desc_at w text ≡ Ok p →
         describes text p × Self.valid p × ((Self.puzzle p).size ≡ w) };
+
+    // Reading takes no memory, so it never lacks any.
+    ghost desc_spares: { (w : ℕ) (text : List ℕ) → SparesMemory (desc_at w text) };
 
     // What describes a puzzle is read as that puzzle.
     ghost desc_again: { (text : List ℕ) (p : Self) → Self.valid p → describes text p →

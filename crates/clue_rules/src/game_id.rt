@@ -3,9 +3,10 @@
 ghost use Rattle.std.specs.Prelude.{◌≡◌, List, ℕ, Ok, Err, IfOk, Result};
 ghost use Rattle.byte_text.specs.Reading.{Gives};
 ghost use Rattle.clue_rules.specs.declared.game_id.GameId.{GameId};
-ghost use Rattle.clue_rules.specs.IdTexts.{IsIdText, IsAnyText};
-ghost use Rattle.clue_rules.specs.ParamReading.{has_adjacent};
-ghost use Rattle.clue_rules.specs.IdReading.{id_at, describes_at, is_separator, params_part, from_separator, id_parts_at, id_map, LacksSeparators};
+ghost use Rattle.clue_rules.specs.GameIds.{IsIdText, IsAnyText};
+ghost use Rattle.clue_rules.specs.Parameters.{has_adjacent};
+ghost use Rattle.clue_rules.specs.IdFaults.{SparesMemory};
+ghost use Rattle.clue_rules.specs.GameIds.{id_at, describes_at, is_separator, params_part, from_separator, id_parts_at, id_map, LacksSeparators};
 
 use crate::game::Game;
 use crate::id_fault::IdFault;
@@ -24,17 +25,21 @@ pub enum GameId<P> {
 /// The ID that the text says, of the game `P`.
 ///
 /// The refusals are, the first that applies: those of `Params::read` on what stands before the first `:`, `#` or `!`;
-/// `ForeignSeed` behind `#`; `NoDescription` where none of these stands; `BadSeed`; those of `Game::read_desc`.
+/// `ForeignSeed` behind `#`; `NoDescription` where none of these stands; `BadSeed`; those of `Game::read_desc`. It takes no
+/// memory, so `OutOfMemory` is never among them.
 pub fn read_id<P: Game>(text: &[u8]) -> Result<GameId<P>, IdFault>
     ensures value { result ≡ id_at P.letter_codes (has_adjacent P.title) P.desc_at text.now }
-    ensures found { IfOk result (λ id. IsIdText P.letter_codes (describes_at P.puzzle P.valid P.describes) id text.now) }
-    ensures only { (id : GameId P) → IsIdText P.letter_codes (describes_at P.puzzle P.valid P.describes) id text.now
+    ensures found { IfOk result (λ id.
+        IsIdText P.letter_codes (describes_at P.puzzle P.valid P.describes) id text.now) }
+    ensures only { (id : GameId P)
+        → IsIdText P.letter_codes (describes_at P.puzzle P.valid P.describes) id text.now
         → result ≡ Ok id }
+    ensures without_memory { SparesMemory result }
 {
     parse_id(text)
 }
 
-#[tactic(auto, unfolding(crate::specs::IdReading::id_at))]
+#[tactic(auto, unfolding(crate::specs::GameIds::id_at))]
 fn parse_id<P: Game>(text: &[u8]) -> Result<GameId<P>, IdFault>
     ensures { result ≡ id_at P.letter_codes (has_adjacent P.title) P.desc_at text.now }
 {
@@ -52,26 +57,14 @@ fn parse_id<P: Game>(text: &[u8]) -> Result<GameId<P>, IdFault>
 ///
 /// Refused, in this order, as the parameters are, `ForeignSeed` where the separator is `#`, `NoDescription` where there
 /// is none, and `BadSeed`. The description isn't read.
+#[tactic(auto, unfolding(crate::specs::GameIds::id_parts_at))]
 pub(crate) fn read_id_parts<'a>(
     letters: &str,
     has_adjacent: bool,
     text: &'a [u8],
 ) -> Result<GameId<&'a [u8]>, IdFault>
-    ensures value { Gives (λ id. id_map (λ r. r.now) id) result (id_parts_at letters.now has_adjacent text.now) }
-    ensures found { IfOk result (λ id. IsIdText letters.now IsAnyText (id_map (λ r. r.now) id) text.now) }
-    ensures only { (id : GameId (List ℕ)) → LacksSeparators letters.now → IsIdText letters.now IsAnyText id text.now
-        → Gives (λ v. id_map (λ r. r.now) v) result (Ok id) }
-{
-    parse_id_parts(letters, has_adjacent, text)
-}
-
-#[tactic(auto, unfolding(crate::specs::IdReading::id_parts_at))]
-fn parse_id_parts<'a>(
-    letters: &str,
-    has_adjacent: bool,
-    text: &'a [u8],
-) -> Result<GameId<&'a [u8]>, IdFault>
-    ensures { Gives (λ id. id_map (λ r. r.now) id) result (id_parts_at letters.now has_adjacent text.now) }
+    ensures { Gives (λ id. id_map (λ r. r.now) id) result
+        (id_parts_at letters.now has_adjacent text.now) }
 {
     let (front, back) = split_at_separator(text);
     let params = read_params(letters, has_adjacent, front)?;

@@ -1,26 +1,29 @@
 //! Towers and Unequal: their puzzles and rules, parameters, descriptions and game IDs.
 //!
-//! Both games are `Rules` of the solver and a `Game` of the mid-end. They differ in the files named for them and nowhere
-//! else.
+//! Both games are `Rules` of the solver and a `Game` of the mid-end. All in which they differ is in `towers` and `unequal`;
+//! what both do along the rows and columns of a grid is in `lines`. Parameters and game IDs are read alike for both, but
+//! that the name tells which game has an adjacent mode.
+//!
+//! A game ID is read, its puzzle solved, and its description written:
+//!
+//! ```
+//! if let GameId::Described(params, puzzle) = read_id::<Towers>(b"3de:3//////3/////")? {
+//!     let width = params.size.get();
+//!     let answer = solve(&puzzle);
+//!     let text = puzzle.write_desc(alloc)?;
+//! }
+//! ```
 #![tactic(auto)]
 
-mod changed_lines;
 mod game;
 mod game_id;
-mod given_squares;
 mod id_fault;
-mod latin_lines;
-mod line_rules;
+mod lines;
 mod params;
+#[cfg(test)]
+mod tests;
 mod towers;
-mod towers_description;
-mod towers_game;
-mod towers_lines;
-mod towers_rules;
-mod towers_views;
 mod unequal;
-mod value_sets;
-mod view_candidates;
 
 pub use game::Game;
 pub use game_id::{GameId, read_id};

@@ -1,8 +1,8 @@
 //! The parameters of a game: a size, and a difficulty letter or none.
 
 ghost use Rattle.std.specs.Prelude.{◌≡◌, List, ℕ, Contains, Result, Ok, Err, IfOk, IfSome};
-ghost use Rattle.clue_rules.specs.ParamTexts.{IsParamText};
-ghost use Rattle.clue_rules.specs.ParamReading.{has_adjacent, letter_at, behind_size, params_at};
+ghost use Rattle.clue_rules.specs.Parameters.{IsParamText};
+ghost use Rattle.clue_rules.specs.Parameters.{has_adjacent, letter_at, behind_size, params_at};
 
 use crate::game::Game;
 use crate::id_fault::IdFault;
@@ -32,12 +32,13 @@ impl Params {
     }
 
     ghost use Rattle.std.specs.Prelude.{◌≡◌, List, ℕ, Contains, IfSome};
-    ghost use Rattle.clue_rules.specs.ParamTexts.{params_text, IsParamText};
+    ghost use Rattle.clue_rules.specs.Parameters.{params_text, IsParamText};
 
     /// The text of the parameters: the size, and `d` and the letter where there is one.
     pub fn write(&self) -> ArrayVec<u8, 3>
         ensures written { result.items ≡ params_text self.now }
-        ensures readable { (letters : List ℕ) → IfSome self.now.letter (λ letter. Contains letters letter)
+        ensures readable { (letters : List ℕ)
+            → IfSome self.now.letter (λ letter. Contains letters letter)
             → IsParamText letters self.now result.items }
     {
         let mut text = ArrayVec::new();
@@ -60,16 +61,8 @@ pub(crate) fn has_adjacent_mode<P: Game>() -> bool
 /// The parameters that the text says, of a game with these letters.
 ///
 /// Refused, in this order, as `BadSize`, `AdjacentMode` where the game has that mode, `BadLetter`, `BadParams`.
+#[tactic(auto, unfolding(crate::specs::Parameters::params_at))]
 pub(crate) fn read_params(letters: &str, has_adjacent: bool, text: &[u8]) -> Result<Params, IdFault>
-    ensures value { result ≡ params_at letters.now has_adjacent text.now }
-    ensures found { IfOk result (λ p. IsParamText letters.now p text.now) }
-    ensures only { (p : Params) → IsParamText letters.now p text.now → result ≡ Ok p }
-{
-    parse_params(letters, has_adjacent, text)
-}
-
-#[tactic(auto, unfolding(crate::specs::ParamReading::params_at))]
-fn parse_params(letters: &str, has_adjacent: bool, text: &[u8]) -> Result<Params, IdFault>
     ensures { result ≡ params_at letters.now has_adjacent text.now }
 {
     let [digit, rest @ ..] = text else {

@@ -2,8 +2,13 @@
 
 ghost use Rattle.std.specs.Prelude.{◌≡◌, ◌↔◌, IsTrue};
 ghost use Rattle.std.specs.Cmp.{decided, partial_equiv_from_equiv};
-ghost use Rattle.clue_rules.specs.TowersPuzzles.{IsTowers};
-ghost use Rattle.clue_rules.specs.TowersSameness.{same_towers, same_towers_decides};
+ghost use Rattle.clue_rules.specs.Towers.{IsTowers};
+ghost use Rattle.clue_rules.specs.Laws.TowersSameness.{same_towers, same_towers_decides};
+
+mod description;
+mod game;
+mod lines;
+mod rules;
 
 use latin_board::Grid;
 use std::marker::Model;
@@ -22,8 +27,8 @@ pub struct Towers {
 impl Model for Towers {
     ghost use Rattle.std.specs.Prelude.{ℕ, ◌-◌, ◌*◌, ◌++◌, List, replicate};
     ghost use Rattle.std.proofs.Common.{ap};
-    ghost use Rattle.clue_rules.specs.TowersPuzzles.{TowersValue};
-    ghost use Rattle.clue_rules.specs.TowersFields.{KeepsTowers, towers_value, places_and_rest};
+    ghost use Rattle.clue_rules.specs.Towers.{TowersValue};
+    ghost use Rattle.clue_rules.specs.Inner.TowersFields.{KeepsTowers, towers_value, places_and_rest};
 
     ghost Value = { TowersValue };
 

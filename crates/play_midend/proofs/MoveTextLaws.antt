@@ -5,7 +5,7 @@ use Rattle.std.proofs.lemmas.Fmt.{decimal_digit}
 use Rattle.std.proofs.lemmas.Slice.Eq.{bytes_eq-Decides}
 use borrow.Author.Tests.{eqb-true}
 use Rattle.byte_text.specs.Cuts.{Lacks, before, behind}
-use Rattle.byte_text.specs.Decimals.{number_at}
+use Rattle.byte_text.specs.Decimals.{decimal_value}
 use Rattle.byte_text.proofs.CutLaws.{cut_parts, before_at, behind_at}
 use Rattle.byte_text.proofs.DecimalLaws.{number_taken, number_again, lacks_decimal}
 use Rattle.play_midend.specs.declared.moves.Move.{Move}
@@ -25,7 +25,7 @@ all_three_taken None y n t e = cc
 all_three_taken (Some x) None n t e = cc
 all_three_taken (Some x) (Some y) None t e = cc
 
-three_parts : (text rest last : List ℕ) (t : ℕ × ℕ × ℕ) → behind comma text ≡ Some rest → behind comma rest ≡ Some last → all_three (number_at 255 (before comma text)) (number_at 255 (before comma rest)) (number_at 255 last) ≡ Some t → IsThree text t
+three_parts : (text rest last : List ℕ) (t : ℕ × ℕ × ℕ) → behind comma text ≡ Some rest → behind comma rest ≡ Some last → all_three (decimal_value 255 (before comma text)) (decimal_value 255 (before comma rest)) (decimal_value 255 last) ≡ Some t → IsThree text t
 three_parts text rest last t cut more read =
     let each = all_three_taken _ _ _ t read in
     let x = number_taken 255 t.0 (before comma text) (omega arith) each.0 in
@@ -40,9 +40,9 @@ three_parts text rest last t cut more read =
 
 three_taken : (text : List ℕ) (t : ℕ × ℕ × ℕ) → three_at text ≡ Some t → IsThree text t
 three_taken text t =
-    elim (behind comma text) as (λ o. behind comma text ≡ o → option_and_then (λ rest. three_behind (number_at 255 (before comma text)) rest) o ≡ Some t → IsThree text t) [
+    elim (behind comma text) as (λ o. behind comma text ≡ o → option_and_then (λ rest. three_behind (decimal_value 255 (before comma text)) rest) o ≡ Some t → IsThree text t) [
       | None ↦ λ cut read. cc
-      | Some rest ↦ λ cut. elim (behind comma rest) as (λ o. behind comma rest ≡ o → option_and_then (λ last. all_three (number_at 255 (before comma text)) (number_at 255 (before comma rest)) (number_at 255 last)) o ≡ Some t → IsThree text t) [
+      | Some rest ↦ λ cut. elim (behind comma rest) as (λ o. behind comma rest ≡ o → option_and_then (λ last. all_three (decimal_value 255 (before comma text)) (decimal_value 255 (before comma rest)) (decimal_value 255 last)) o ≡ Some t → IsThree text t) [
         | None ↦ λ more read. cc
         | Some last ↦ λ more read. three_parts text rest last t cut more read
       ] refl
@@ -51,7 +51,7 @@ three_taken text t =
 three_again : (x y n : ℕ) → AreBytes x y n → three_at (three_text x y n) ≡ Some (x, y, n)
 three_again x y n h =
     let lacks : (k : ℕ) → k ≤ 255 → Lacks comma (decimal k) = λ k within. lacks_decimal comma k (omega arith) refl in
-    let back : (k : ℕ) → k ≤ 255 → number_at 255 (decimal k) ≡ Some k = λ k within. number_again 255 k within (omega arith) in
+    let back : (k : ℕ) → k ≤ 255 → decimal_value 255 (decimal k) ≡ Some k = λ k within. number_again 255 k within (omega arith) in
     let rest : List ℕ = decimal y ++ (comma ∷ decimal n) in
     rw (behind_at comma (decimal x) rest (lacks x h.x_is), before_at comma (decimal x) rest (lacks x h.x_is), behind_at comma (decimal y) (decimal n) (lacks y h.y_is), before_at comma (decimal y) (decimal n) (lacks y h.y_is), back x h.x_is, back y h.y_is, back n h.n_is) refl
 
@@ -61,12 +61,12 @@ minus_one = ap (λ ds. 45 ∷ ds) (decimal_digit 1 (omega arith))
 
 coordinate_taken : (text : List ℕ) (z : ℤ) → coordinate_at text ≡ Some z → IsCoordinate z × (text ≡ coordinate_text z)
 coordinate_taken text z =
-    elim (bytes_eq text (codes "-1")) as (λ t. bytes_eq text (codes "-1") ≡ t → cond t (Some (negsuc zero)) (option_map pos (number_at 127 text)) ≡ Some z → IsCoordinate z × (text ≡ coordinate_text z)) [
+    elim (bytes_eq text (codes "-1")) as (λ t. bytes_eq text (codes "-1") ≡ t → cond t (Some (negsuc zero)) (option_map pos (decimal_value 127 text)) ≡ Some z → IsCoordinate z × (text ≡ coordinate_text z)) [
       | true ↦ λ is read.
           let e : negsuc zero ≡ z = cc in
           let same : text ≡ codes "-1" = (bytes_eq-Decides text (codes "-1")).0 is in
           subst (λ (v : ℤ). IsCoordinate v × (text ≡ coordinate_text v)) e (refl, same ∙ sym minus_one)
-      | false ↦ λ is. elim (number_at 127 text) as (λ o. number_at 127 text ≡ o → option_map pos o ≡ Some z → IsCoordinate z × (text ≡ coordinate_text z)) [
+      | false ↦ λ is. elim (decimal_value 127 text) as (λ o. decimal_value 127 text ≡ o → option_map pos o ≡ Some z → IsCoordinate z × (text ≡ coordinate_text z)) [
         | None ↦ λ number read. cc
         | Some n ↦ λ number read.
             let e : pos n ≡ z = cc in

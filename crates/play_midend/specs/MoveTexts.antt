@@ -3,7 +3,7 @@ use Rattle.std.specs.Prelude.{◌≡◌, ℕ, zero, ◌+◌, ◌-◌, ◌≤◌,
 use Rattle.std.specs.Fmt.{decimal}
 use Rattle.latin_board.specs.Squares.{GridValue, IsGrid, IsFull}
 use Rattle.byte_text.specs.Cuts.{before, behind}
-use Rattle.byte_text.specs.Decimals.{number_at}
+use Rattle.byte_text.specs.Decimals.{decimal_value}
 use Rattle.play_midend.specs.declared.moves.Move.{Move}
 use Rattle.play_midend.specs.declared.moves.Move.TheVariants.{Real, Pencil, MarkAll, Solve, Restart, Done}
 use Rattle.play_midend.specs.declared.fault.PlayFault.{PlayFault}
@@ -93,13 +93,13 @@ all_three _ _ _ = None
 
 abbrev pub three_behind : Option ℕ → List ℕ → Option (ℕ × ℕ × ℕ)
 three_behind x rest =
-    option_and_then (λ last. all_three x (number_at 255 (before comma rest)) (number_at 255 last)) (behind comma rest)
+    option_and_then (λ last. all_three x (decimal_value 255 (before comma rest)) (decimal_value 255 last)) (behind comma rest)
 
 abbrev pub three_at : List ℕ → Option (ℕ × ℕ × ℕ)
-three_at text = option_and_then (λ rest. three_behind (number_at 255 (before comma text)) rest) (behind comma text)
+three_at text = option_and_then (λ rest. three_behind (decimal_value 255 (before comma text)) rest) (behind comma text)
 
 abbrev pub coordinate_at : List ℕ → Option ℤ
-coordinate_at text = if bytes_eq text (codes "-1") then Some (negsuc zero) else option_map pos (number_at 127 text)
+coordinate_at text = if bytes_eq text (codes "-1") then Some (negsuc zero) else option_map pos (decimal_value 127 text)
 
 abbrev pub both : Option ℤ → Option ℤ → Option (ℤ × ℤ)
 both (Some x) (Some y) = Some (x, y)

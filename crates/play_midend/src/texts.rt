@@ -1,7 +1,7 @@
 //! Move texts: the strings by which the collection's games tell their mid-end a move, and which save files hold.
 
 ghost use Rattle.std.specs.Prelude.{◌≡◌, ◌≢◌, ◌+◌, ◌*◌, ◌≤◌, ◌∷◌, map, IfOk, IfErr, IfSome};
-ghost use Rattle.byte_text.specs.Decimals.{number_at};
+ghost use Rattle.byte_text.specs.Decimals.{decimal_value};
 ghost use Rattle.play_midend.specs.declared.moves.Move.{Move};
 ghost use Rattle.play_midend.specs.MoveTexts.{byte_s, move_text, three_at, two_at, coordinate_at, solution_at, size_by_count, digit_at, move_by, move_at, move_fault, IsMoveText};
 
@@ -12,7 +12,7 @@ use latin_board::{Grid, Size};
 use std::alloc::{AllocError, Global};
 
 fn byte_at(text: &[u8]) -> Option<u8>
-    ensures { result ≡ number_at 255 text.now }
+    ensures { result ≡ decimal_value 255 text.now }
 {
     Some(number(text, 255)? as u8)
 }

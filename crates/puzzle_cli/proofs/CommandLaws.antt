@@ -4,7 +4,7 @@ use Rattle.std.specs.Option.{option_or}
 use Rattle.std.specs.Fmt.{decimal}
 use Rattle.std.proofs.lemmas.Bool.Decides.{nat_tests}
 use Rattle.std.proofs.lemmas.Slice.Eq.{bytes_eq-Decides}
-use Rattle.byte_text.specs.Decimals.{number_at}
+use Rattle.byte_text.specs.Decimals.{decimal_value}
 use Rattle.byte_text.proofs.DecimalLaws.{number_taken, number_again}
 use Rattle.puzzle_cli.specs.declared.command.Command.{Command}
 use Rattle.puzzle_cli.specs.declared.command.Command.TheVariants.{New, Quit, Ask}
@@ -77,7 +77,7 @@ nonzero_taken m n h =
 
 limit_taken : (text : List ℕ) (n : ℕ) → limit_at text ≡ Some n → (1 ≤ n) × (n ≤ 100) × (text ≡ decimal n)
 limit_taken text n h =
-    elim (number_at 100 text) as (λ o. number_at 100 text ≡ o → option_and_then nonzero o ≡ Some n
+    elim (decimal_value 100 text) as (λ o. decimal_value 100 text ≡ o → option_and_then nonzero o ≡ Some n
     → (1 ≤ n) × (n ≤ 100) × (text ≡ decimal n)) [
       | None ↦ λ _ e. cc
       | Some m ↦ λ read e.

@@ -2,7 +2,7 @@
 use Rattle.std.specs.Prelude.{ℕ, ◌≤◌, ◌==◌, Bool, true, false, if◌then◌else◌, List, ◌++◌, length, take, drop, codes, bytes_eq, Option, Some, None, option_map, option_and_then}
 use Rattle.std.specs.Option.{option_or}
 use Rattle.std.specs.Fmt.{decimal}
-use Rattle.byte_text.specs.Decimals.{number_at}
+use Rattle.byte_text.specs.Decimals.{decimal_value}
 use Rattle.puzzle_cli.specs.declared.command.Command.{Command}
 use Rattle.puzzle_cli.specs.declared.command.Command.TheVariants.{New, Quit, Ask}
 use Rattle.puzzle_cli.specs.declared.command.Request.{Request}
@@ -60,7 +60,7 @@ abbrev pub nonzero : ℕ → Option ℕ
 nonzero n = if n == 0 then None else Some n
 
 abbrev pub limit_at : List ℕ → Option ℕ
-limit_at text = option_and_then nonzero (number_at 100 text)
+limit_at text = option_and_then nonzero (decimal_value 100 text)
 
 -- the command that a line is, if any
 unfoldable pub command_at : List ℕ → Option (Command (List ℕ))

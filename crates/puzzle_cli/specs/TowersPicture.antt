@@ -2,8 +2,8 @@
 use Rattle.std.specs.Prelude.{ℕ, ◌+◌, ◌*◌, ◌==◌, if◌then◌else◌, List, [], ◌∷◌, ◌++◌, map}
 use Rattle.std.specs.List.{range_with_len, flat_map}
 use Rattle.latin_board.specs.Boards.{BoardValue}
-use Rattle.clue_rules.specs.TowersPuzzles.{TowersValue}
-use Rattle.clue_rules.specs.TowersViews.{clue_of}
+use Rattle.clue_rules.specs.Towers.{TowersValue}
+use Rattle.clue_rules.specs.Towers.{clue_of}
 use Rattle.puzzle_cli.specs.Symbols.{dash, digit, square_at, spaced_line}
 
 abbrev pub corner : ℕ

@@ -1,7 +1,7 @@
 //! Answers to lines: what a command makes of a session, and what is said to it.
 ghost use Rattle.std.specs.Prelude.{◌≡◌, Some, Ok, false, IfSome, IfOk, IsOk, IfErr, OnErr, option_map};
-ghost use Rattle.clue_rules.specs.ParamReading.{has_adjacent};
-ghost use Rattle.clue_rules.specs.IdReading.{id_at};
+ghost use Rattle.clue_rules.specs.Parameters.{has_adjacent};
+ghost use Rattle.clue_rules.specs.GameIds.{id_at};
 ghost use Rattle.play_midend.specs.MoveTexts.{move_at};
 ghost use Rattle.puzzle_cli.specs.Text.{text_bytes};
 ghost use Rattle.puzzle_cli.specs.Commands.{is_quit, is_quit_command, command_map, request_map, IsCommand, IsRequest};

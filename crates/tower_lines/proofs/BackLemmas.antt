@@ -4,8 +4,8 @@ use Rattle.std.proofs.lemmas.Bool.{cases_eq, both_ways, and_parts, and_from, or_
 use Rattle.std.proofs.lemmas.Nat.{ones-le}
 use Rattle.std.proofs.lemmas.List.{append-nil, nil_from_length, get_or-set_same, get_or-set_other}
 use Rattle.tower_lines.specs.TowersSeen.{seen, seen_after}
-use Rattle.tower_lines.specs.LineFillings.{has_mark, IsStart}
-use Rattle.tower_lines.specs.LineMasks.{IsMask, IsFront, IsEnd, IsBack, IsPassed}
+use Rattle.tower_lines.specs.LineFillings.{has_bit, IsStart}
+use Rattle.tower_lines.specs.LineMasks.{IsMask, AreFrontCounts, IsEnd, AreBackCounts, IsPassed}
 use Rattle.tower_lines.proofs.MarkLemmas.{added_with, added_without, added_lacks, added_other, added_ones, added_below, mark-zero, mark-or, mark-pow, mark-pow_same, below_from_marks, IsShared}
 use Rattle.tower_lines.proofs.MaskLemmas.{mask_in_table, mask_more, mask-ones, tower, seen-next}
 use Rattle.tower_lines.proofs.SeenLemmas.{seen-append}
@@ -13,22 +13,22 @@ use Rattle.tower_lines.proofs.StartLemmas.{IsNextValue, start_front, start_next,
 
 -- k + 1 can come next after a start with the mask
 pub record IsNext (sets : List ℕ) (mask k : ℕ) : Type 0 where
-  pub fresh : has_mark mask k ≡ false
+  pub fresh : has_bit mask k ≡ false
   pub small : k < length sets
-  pub candidate : has_mark (get_or sets (count_ones mask) 0) (k + 1) ≡ true
+  pub candidate : has_bit (get_or sets (count_ones mask) 0) (k + 1) ≡ true
 
 -- the counts from which a start with the mask can go on with k + 1 and show the clue
 pub record IsBackBy (sets : List ℕ) (clue mask k counts : ℕ) : Type 0 where
-  pub only : (p : List ℕ) → IsStart sets p → IsMask mask p → (c : ℕ) → has_mark counts c ≡ true → (s : List ℕ) × IsEnd sets clue c p ((k + 1) ∷ s)
-  pub all : (p s : List ℕ) (c : ℕ) → IsMask mask p → IsEnd sets clue c p ((k + 1) ∷ s) → has_mark counts c ≡ true
+  pub only : (p : List ℕ) → IsStart sets p → IsMask mask p → (c : ℕ) → has_bit counts c ≡ true → (s : List ℕ) × IsEnd sets clue c p ((k + 1) ∷ s)
+  pub all : (p s : List ℕ) (c : ℕ) → IsMask mask p → IsEnd sets clue c p ((k + 1) ∷ s) → has_bit counts c ≡ true
 
 -- the same for every next value that isn't left, and those of these values that a filling has
 pub record IsBackBut (sets : List ℕ) (clue mask left counts passed : ℕ) : Type 0 where
-  pub next : (k : ℕ) → has_mark left k ≡ true → IsNext sets mask k
-  pub only : (p : List ℕ) → IsStart sets p → IsMask mask p → (c : ℕ) → has_mark counts c ≡ true → (s : List ℕ) × IsEnd sets clue c p s
-  pub all : (p s : List ℕ) (k c : ℕ) → has_mark left k ≡ false → IsMask mask p → IsEnd sets clue c p ((k + 1) ∷ s) → has_mark counts c ≡ true
-  pub passed_only : (k : ℕ) → has_mark passed k ≡ true → IsPassed sets clue mask (k + 1)
-  pub passed_all : (k : ℕ) → has_mark left k ≡ false → IsPassed sets clue mask (k + 1) → has_mark passed k ≡ true
+  pub next : (k : ℕ) → has_bit left k ≡ true → IsNext sets mask k
+  pub only : (p : List ℕ) → IsStart sets p → IsMask mask p → (c : ℕ) → has_bit counts c ≡ true → (s : List ℕ) × IsEnd sets clue c p s
+  pub all : (p s : List ℕ) (k c : ℕ) → has_bit left k ≡ false → IsMask mask p → IsEnd sets clue c p ((k + 1) ∷ s) → has_bit counts c ≡ true
+  pub passed_only : (k : ℕ) → has_bit passed k ≡ true → IsPassed sets clue mask (k + 1)
+  pub passed_all : (k : ℕ) → has_bit left k ≡ false → IsPassed sets clue mask (k + 1) → has_bit passed k ≡ true
 
 -- a value that comes next in some line
 next_in : {sets : List ℕ} {mask : ℕ} (p : List ℕ) (k : ℕ) (s : List ℕ) → IsStart sets (p ++ (k + 1) ∷ s) → IsMask mask p → IsNext sets mask k
@@ -47,12 +47,12 @@ next_in_table {sets} {mask} {k} value short inside next is =
     let a = added_with mask k (mask + value) next.fresh (ap (λ n. mask + n) is) in
     mask_in_table (length sets) (mask + value) short (added_below a (length sets) inside next.small)
 
-pub back_step : {sets : List ℕ} {clue mask k after counts : ℕ} (value : ℕ) → mask < 2 ^ length sets → IsNext sets mask k → value ≡ 2 ^ k → IsBack sets clue (mask + value) after
-    → ((c : ℕ) → has_mark counts c ≡ has_mark after (c + cond (ltb mask value) 1 0)) → IsBackBy sets clue mask k counts
+pub back_step : {sets : List ℕ} {clue mask k after counts : ℕ} (value : ℕ) → mask < 2 ^ length sets → IsNext sets mask k → value ≡ 2 ^ k → AreBackCounts sets clue (mask + value) after
+    → ((c : ℕ) → has_bit counts c ≡ has_bit after (c + cond (ltb mask value) 1 0)) → IsBackBy sets clue mask k counts
 back_step {sets} {clue} {mask} {k} {after} {counts} value inside next is table lowered =
     let a = added_with mask k (mask + 2 ^ k) next.fresh refl in
-    let back : IsBack sets clue (mask + 2 ^ k) after = rw is at table in
-    let down : (c : ℕ) → has_mark counts c ≡ has_mark after (c + tower mask k) = rw is at lowered in
+    let back : AreBackCounts sets clue (mask + 2 ^ k) after = rw is at table in
+    let down : (c : ℕ) → has_bit counts c ≡ has_bit after (c + tower mask k) = rw is at lowered in
     let n = added_ones a in
     let most = ones-le (length sets) (mask + 2 ^ k) (added_below a (length sets) inside next.small) in
     record {
@@ -85,7 +85,7 @@ back_step {sets} {clue} {mask} {k} {after} {counts} value inside next is table l
     }
 
 -- a line without squares left
-pub back_full : {sets : List ℕ} {clue mask counts : ℕ} → count_ones mask ≡ length sets → counts ≡ 2 ^ clue → IsBack sets clue mask counts
+pub back_full : {sets : List ℕ} {clue mask counts : ℕ} → count_ones mask ≡ length sets → counts ≡ 2 ^ clue → AreBackCounts sets clue mask counts
 back_full {sets} {clue} {mask} {counts} full is = record {
   only = λ p start used c e.
       let same = mark-pow clue c (rw is at e) in
@@ -100,33 +100,33 @@ back_full {sets} {clue} {mask} {counts} full is = record {
 }
 
 -- a mask that no start has
-pub back_unreached : {sets : List ℕ} {clue mask : ℕ} → IsFront sets mask 0 → IsBack sets clue mask 0
+pub back_unreached : {sets : List ℕ} {clue mask : ℕ} → AreFrontCounts sets mask 0 → AreBackCounts sets clue mask 0
 back_unreached {sets} {clue} {mask} front = record {
-  only = λ p start used c e. absurd (both_ways (has_mark 0 c) (mark-zero c) e);
-  all = λ p s c used end. absurd (both_ways (has_mark 0 (seen p)) (mark-zero (seen p)) (front.all p (start_front p s end.start) used));
+  only = λ p start used c e. absurd (both_ways (has_bit 0 c) (mark-zero c) e);
+  all = λ p s c used end. absurd (both_ways (has_bit 0 (seen p)) (mark-zero (seen p)) (front.all p (start_front p s end.start) used));
 }
 
 pub back_none : {sets : List ℕ} {clue mask left : ℕ}
-    → ((k : ℕ) → has_mark left k ≡ (has_mark (get_or sets (count_ones mask) 0) (k + 1) && (ltb k (length sets) && not (has_mark mask k))))
+    → ((k : ℕ) → has_bit left k ≡ (has_bit (get_or sets (count_ones mask) 0) (k + 1) && (ltb k (length sets) && not (has_bit mask k))))
     → IsBackBut sets clue mask left 0 0
 back_none {sets} {clue} {mask} {left} bits = record {
   next = λ k e.
       let parts = and_parts _ _ (sym (bits k) ∙ e) in
       let rest = and_parts _ _ parts.1 in
       record { fresh = not-true _ rest.1; small = ltb-true _ _ rest.0; candidate = parts.0 };
-  only = λ p start used c e. absurd (both_ways (has_mark 0 c) (mark-zero c) e);
-  all = λ p s k c e used end. absurd (both_ways (has_mark left k) e (here p k s end.start used));
-  passed_only = λ k e. absurd (both_ways (has_mark 0 k) (mark-zero k) e);
-  passed_all = λ k e h. absurd (both_ways (has_mark left k) e (here h.before k h.after h.filling.start h.used));
+  only = λ p start used c e. absurd (both_ways (has_bit 0 c) (mark-zero c) e);
+  all = λ p s k c e used end. absurd (both_ways (has_bit left k) e (here p k s end.start used));
+  passed_only = λ k e. absurd (both_ways (has_bit 0 k) (mark-zero k) e);
+  passed_all = λ k e h. absurd (both_ways (has_bit left k) e (here h.before k h.after h.filling.start h.used));
 }
   where
-    here : (p : List ℕ) (k : ℕ) (s : List ℕ) → IsStart sets (p ++ (k + 1) ∷ s) → IsMask mask p → has_mark left k ≡ true
+    here : (p : List ℕ) (k : ℕ) (s : List ℕ) → IsStart sets (p ++ (k + 1) ∷ s) → IsMask mask p → has_bit left k ≡ true
     here p k s start used =
         let next = next_in p k s start used in
         bits k ∙ and_from _ _ next.candidate (and_from _ _ (lt-ltb k (length sets) next.small) (not_from_false _ next.fresh))
 
 -- the starts that show a count, and the counts from which the clue can be shown, meet in a filling
-pub passed_from_shared : {sets : List ℕ} {clue mask k reached counts : ℕ} → IsFront sets mask reached → IsBackBy sets clue mask k counts → IsShared reached counts → IsPassed sets clue mask (k + 1)
+pub passed_from_shared : {sets : List ℕ} {clue mask k reached counts : ℕ} → AreFrontCounts sets mask reached → IsBackBy sets clue mask k counts → IsShared reached counts → IsPassed sets clue mask (k + 1)
 passed_from_shared {sets} {clue} {mask} {k} front back shared =
     let f = front.only shared.0 shared.1 in
     let b = back.only f.0 f.1 f.2 shared.0 shared.2 in
@@ -141,7 +141,7 @@ passed_from_shared {sets} {clue} {mask} {k} front back shared =
       };
     }
 
-pub shared_from_passed : {sets : List ℕ} {clue mask k reached counts : ℕ} → IsFront sets mask reached → IsBackBy sets clue mask k counts → IsPassed sets clue mask (k + 1) → IsShared reached counts
+pub shared_from_passed : {sets : List ℕ} {clue mask k reached counts : ℕ} → AreFrontCounts sets mask reached → IsBackBy sets clue mask k counts → IsPassed sets clue mask (k + 1) → IsShared reached counts
 shared_from_passed {sets} {clue} {mask} {k} front back h =
     let f = h.filling in (
       seen h.before,
@@ -153,16 +153,16 @@ shared_from_passed {sets} {clue} {mask} {k} front back h =
       },
     )
 
-pub back_more : {sets : List ℕ} {clue mask left counts passed k more rest reached : ℕ} (value shared : ℕ) → has_mark left k ≡ true → value ≡ 2 ^ k → rest + value ≡ left
-    → IsBackBut sets clue mask left counts passed → IsFront sets mask reached → IsBackBy sets clue mask k more
-    → ((j : ℕ) → (has_mark shared j ≡ true) ↔ ((has_mark value j ≡ true) × IsShared reached more))
+pub back_more : {sets : List ℕ} {clue mask left counts passed k more rest reached : ℕ} (value shared : ℕ) → has_bit left k ≡ true → value ≡ 2 ^ k → rest + value ≡ left
+    → IsBackBut sets clue mask left counts passed → AreFrontCounts sets mask reached → IsBackBy sets clue mask k more
+    → ((j : ℕ) → (has_bit shared j ≡ true) ↔ ((has_bit value j ≡ true) × IsShared reached more))
     → IsBackBut sets clue mask rest (bit_or counts more) (bit_or passed shared)
 back_more {sets} {clue} {mask} {left} {counts} {passed} {k} {more} {rest} {reached} value shared used is sum back front by met =
     let a = added_without rest k left used (rw is at sum) in
-    let value_is = λ (j : ℕ) (e : has_mark value j ≡ true). mark-pow k j (rw is at e) in
+    let value_is = λ (j : ℕ) (e : has_bit value j ≡ true). mark-pow k j (rw is at e) in
     record {
       next = λ j e. back.next j (elim (cases_eq j k) [
-        | inl same ↦ absurd (both_ways (has_mark rest k) (added_lacks a) (rw same at e))
+        | inl same ↦ absurd (both_ways (has_bit rest k) (added_lacks a) (rw same at e))
         | inr other ↦ added_other a j other ∙ e
       ]);
       only = λ p start m c e. elim (or_cases _ _ (sym (mark-or counts more c) ∙ e)) [
@@ -183,13 +183,13 @@ back_more {sets} {clue} {mask} {left} {counts} {passed} {k} {more} {rest} {reach
       ];
     }
 
-pub back_all : {sets : List ℕ} {clue mask counts passed : ℕ} → count_ones mask < length sets → IsBackBut sets clue mask 0 counts passed → IsBack sets clue mask counts
+pub back_all : {sets : List ℕ} {clue mask counts passed : ℕ} → count_ones mask < length sets → IsBackBut sets clue mask 0 counts passed → AreBackCounts sets clue mask counts
 back_all {sets} {clue} {mask} {counts} {passed} room back = record {
   only = back.only;
   all = λ p s c used end. each p s c used end;
 }
   where
-    each : (p s : List ℕ) (c : ℕ) → IsMask mask p → IsEnd sets clue c p s → has_mark counts c ≡ true
+    each : (p s : List ℕ) (c : ℕ) → IsMask mask p → IsEnd sets clue c p s → has_bit counts c ≡ true
     each p [] c used end =
         let n = mask-ones p (start_front p [] end.start) used in
         absurd (omega (arith, rw append-nil at end.whole))
@@ -201,13 +201,13 @@ back_all {sets} {clue} {mask} {counts} {passed} room back = record {
 
 pub passed_small : {sets : List ℕ} {clue mask counts passed : ℕ} → IsBackBut sets clue mask 0 counts passed → passed < 2 ^ length sets
 passed_small {sets} {clue} {mask} {counts} {passed} back =
-    below_from_marks passed (length sets) (λ j l. false_from_ne_true (has_mark passed j) (λ e.
+    below_from_marks passed (length sets) (λ j l. false_from_ne_true (has_bit passed j) (λ e.
     let h = back.passed_only j e in
     absurd (omega (arith, (next_in h.before j h.after h.filling.start h.used).small))))
 
 -- one more entry of the table, from above
-pub backs_more : {sets : List ℕ} {clue mask counts : ℕ} (back : List ℕ) → ((m : ℕ) → mask < m → m < 2 ^ length sets → IsBack sets clue m (get_or back m 0)) → mask < length back → IsBack sets clue mask counts
-    → (m : ℕ) → mask ≤ m → m < 2 ^ length sets → IsBack sets clue m (get_or (set back mask counts) m 0)
+pub backs_more : {sets : List ℕ} {clue mask counts : ℕ} (back : List ℕ) → ((m : ℕ) → mask < m → m < 2 ^ length sets → AreBackCounts sets clue m (get_or back m 0)) → mask < length back → AreBackCounts sets clue mask counts
+    → (m : ℕ) → mask ≤ m → m < 2 ^ length sets → AreBackCounts sets clue m (get_or (set back mask counts) m 0)
 backs_more {sets} {clue} {mask} {counts} back above inside here m from l =
     elim (cases_eq m mask) [
       | inl same ↦ rw same (rw (get_or-set_same back mask counts 0 inside) here)

@@ -5,70 +5,70 @@ use Rattle.std.proofs.lemmas.Bool.{eqb-true, eq-eqb, cases_eq, cases_Bool, cases
 use Rattle.std.proofs.lemmas.Nat.{pow_pos, shr_split, shr-shr, div-add-mod', ones_cat, ones_le_self, zero_from_ones, mod_below, and_le_l, and_block}
 use Rattle.std.proofs.lemmas.Nat.Bits.{bit_at_lowest, bit_at-suc, bit_at-zero, bit_at_and, bit_at_or, bit_at_xor, bit_at_ones, bit_at_ones_above, bit_at-lt, bit_at-pow_same, bit_at-pow_other, bit_at_cat_low, bit_at_cat_high, bit_at_above, same_from_bits, bit_at-trailing_zeros}
 use Rattle.std.specs.Int.Bits.{and_self}
-use Rattle.tower_lines.specs.LineFillings.{has_mark}
+use Rattle.tower_lines.specs.LineFillings.{has_bit}
 use Rattle.tower_lines.specs.LineMasks.{IsValueOf}
 
-pub bit-from_mark : (m k : ℕ) → has_mark m k ≡ true → bit_at m k ≡ 1
+pub bit-from_mark : (m k : ℕ) → has_bit m k ≡ true → bit_at m k ≡ 1
 bit-from_mark m k e = eqb-true (bit_at m k) 1 e
 
-pub mark-from_bit : (m k : ℕ) → bit_at m k ≡ 1 → has_mark m k ≡ true
+pub mark-from_bit : (m k : ℕ) → bit_at m k ≡ 1 → has_bit m k ≡ true
 mark-from_bit m k e = eq-eqb (bit_at m k) 1 e
 
-pub bit-from_no_mark : (m k : ℕ) → has_mark m k ≡ false → bit_at m k ≡ 0
+pub bit-from_no_mark : (m k : ℕ) → has_bit m k ≡ false → bit_at m k ≡ 0
 bit-from_no_mark m k e =
     let small = bit_at-lt m k in
-    elim (cases_eq (bit_at m k) 1) [ inl one ↦ absurd (both_ways (has_mark m k) e (mark-from_bit m k one)) | inr other ↦ omega arith ]
+    elim (cases_eq (bit_at m k) 1) [ inl one ↦ absurd (both_ways (has_bit m k) e (mark-from_bit m k one)) | inr other ↦ omega arith ]
 
-pub no_mark-from_bit : (m k : ℕ) → bit_at m k ≡ 0 → has_mark m k ≡ false
+pub no_mark-from_bit : (m k : ℕ) → bit_at m k ≡ 0 → has_bit m k ≡ false
 no_mark-from_bit m k e = ap (λ b. eqb b 1) e
 
-pub mark-from_same_bit : (m j n k : ℕ) → bit_at m j ≡ bit_at n k → has_mark m j ≡ has_mark n k
+pub mark-from_same_bit : (m j n k : ℕ) → bit_at m j ≡ bit_at n k → has_bit m j ≡ has_bit n k
 mark-from_same_bit m j n k e = ap (λ b. eqb b 1) e
 
-pub mark-zero : (k : ℕ) → has_mark 0 k ≡ false
+pub mark-zero : (k : ℕ) → has_bit 0 k ≡ false
 mark-zero k = no_mark-from_bit 0 k (bit_at-zero k)
 
-pub mark-above : (m k j : ℕ) → m < 2 ^ k → k ≤ j → has_mark m j ≡ false
+pub mark-above : (m k j : ℕ) → m < 2 ^ k → k ≤ j → has_bit m j ≡ false
 mark-above m k j h l = no_mark-from_bit m j (bit_at_above m k j h l)
 
-pub below_from_mark : (m k j : ℕ) → m < 2 ^ k → has_mark m j ≡ true → j < k
+pub below_from_mark : (m k j : ℕ) → m < 2 ^ k → has_bit m j ≡ true → j < k
 below_from_mark m k j h e =
-    elim (cases_lt j k) [ inl l ↦ l | inr l ↦ absurd (both_ways (has_mark m j) (mark-above m k j h l) e) ]
+    elim (cases_lt j k) [ inl l ↦ l | inr l ↦ absurd (both_ways (has_bit m j) (mark-above m k j h l) e) ]
 
-pub mark-or : (a b k : ℕ) → has_mark (bit_or a b) k ≡ (has_mark a k || has_mark b k)
+pub mark-or : (a b k : ℕ) → has_bit (bit_or a b) k ≡ (has_bit a k || has_bit b k)
 mark-or a b k =
     let e = bit_at_or a b k in
-    elim (cases_Bool (has_mark a k)) [
+    elim (cases_Bool (has_bit a k)) [
       | inl x ↦ (let ea = bit-from_mark a k x in let lb = bit_at-lt b k in
           rw x (mark-from_bit (bit_or a b) k (omega (arith, e))))
       | inr x ↦ (let ea = bit-from_no_mark a k x in
           rw x (mark-from_same_bit (bit_or a b) k b k (omega (arith, e))))
     ]
 
-pub mark-and : (a b k : ℕ) → has_mark (bit_and a b) k ≡ (has_mark a k && has_mark b k)
+pub mark-and : (a b k : ℕ) → has_bit (bit_and a b) k ≡ (has_bit a k && has_bit b k)
 mark-and a b k =
     let e = bit_at_and a b k in
-    elim (cases_Bool (has_mark a k)) [
+    elim (cases_Bool (has_bit a k)) [
       | inl x ↦ (let ea = bit-from_mark a k x in let lb = bit_at-lt b k in
           rw x (mark-from_same_bit (bit_and a b) k b k (omega (arith, e))))
       | inr x ↦ (let ea = bit-from_no_mark a k x in
           rw x (no_mark-from_bit (bit_and a b) k (omega (arith, e))))
     ]
 
-pub same_from_marks : (a b : ℕ) → ((k : ℕ) → has_mark a k ≡ has_mark b k) → a ≡ b
+pub same_from_marks : (a b : ℕ) → ((k : ℕ) → has_bit a k ≡ has_bit b k) → a ≡ b
 same_from_marks a b h =
-    same_from_bits a b (λ k. elim (cases_Bool (has_mark a k)) [
+    same_from_bits a b (λ k. elim (cases_Bool (has_bit a k)) [
       | inl x ↦ bit-from_mark a k x ∙ sym (bit-from_mark b k (sym (h k) ∙ x))
       | inr x ↦ bit-from_no_mark a k x ∙ sym (bit-from_no_mark b k (sym (h k) ∙ x))
     ])
 
-pub zero_from_marks : (m : ℕ) → ((k : ℕ) → has_mark m k ≡ false) → m ≡ 0
+pub zero_from_marks : (m : ℕ) → ((k : ℕ) → has_bit m k ≡ false) → m ≡ 0
 zero_from_marks m h = same_from_marks m 0 (λ k. h k ∙ sym (mark-zero k))
 
-pub mark-shr : (m k j : ℕ) → has_mark (m / 2 ^ k) j ≡ has_mark m (k + j)
+pub mark-shr : (m k j : ℕ) → has_bit (m / 2 ^ k) j ≡ has_bit m (k + j)
 mark-shr m k j = mark-from_same_bit (m / 2 ^ k) j m (k + j) (ap (λ n. n % 2) (shr-shr m k j))
 
-pub below_from_marks : (m k : ℕ) → ((j : ℕ) → k ≤ j → has_mark m j ≡ false) → m < 2 ^ k
+pub below_from_marks : (m k : ℕ) → ((j : ℕ) → k ≤ j → has_bit m j ≡ false) → m < 2 ^ k
 below_from_marks m k h =
     let none : m / 2 ^ k ≡ 0 = zero_from_marks (m / 2 ^ k) (λ j. mark-shr m k j ∙ h (k + j) (omega arith)) in
     let low : m % 2 ^ k < 2 ^ k = mod_below m (2 ^ k) (pow_pos k) in
@@ -86,7 +86,7 @@ pub record IsAdded (m k n : ℕ) : Type 0 where
 one_more : (a p r : ℕ) → (a * 2) * p + r + p ≡ (a * 2 + 1) * p + r
 one_more a p r = omega arith
 
-pub added_with : (m k n : ℕ) → has_mark m k ≡ false → n ≡ m + 2 ^ k → IsAdded m k n
+pub added_with : (m k n : ℕ) → has_bit m k ≡ false → n ≡ m + 2 ^ k → IsAdded m k n
 added_with m k n e h =
     let q = m / 2 ^ k in
     let even : q % 2 ≡ 0 = bit-from_no_mark m k e in
@@ -100,7 +100,7 @@ added_with m k n e h =
       to = h ∙ ap (λ x. x + 2 ^ k) (sym parts) ∙ one_more (q / 2) (2 ^ k) (m % 2 ^ k);
     }
 
-pub added_without : (m k n : ℕ) → has_mark n k ≡ true → m + 2 ^ k ≡ n → IsAdded m k n
+pub added_without : (m k n : ℕ) → has_bit n k ≡ true → m + 2 ^ k ≡ n → IsAdded m k n
 added_without m k n e h =
     let q = n / 2 ^ k in
     let odd : q % 2 ≡ 1 = bit-from_mark n k e in
@@ -120,11 +120,11 @@ bit-here b k r h =
     let none : k - k ≡ 0 = omega arith in
     bit_at_cat_high b k r k h (omega arith) ∙ ap (bit_at b) none ∙ bit_at_lowest b
 
-pub added_lacks : {m k n : ℕ} → IsAdded m k n → has_mark m k ≡ false
+pub added_lacks : {m k n : ℕ} → IsAdded m k n → has_bit m k ≡ false
 added_lacks {m} {k} {n} h =
     rw h.from (no_mark-from_bit _ k (bit-here (h.above * 2) k h.below h.small ∙ omega arith))
 
-pub added_has : {m k n : ℕ} → IsAdded m k n → has_mark n k ≡ true
+pub added_has : {m k n : ℕ} → IsAdded m k n → has_bit n k ≡ true
 added_has {m} {k} {n} h =
     rw h.to (mark-from_bit _ k (bit-here (h.above * 2 + 1) k h.below h.small ∙ omega arith))
 
@@ -138,7 +138,7 @@ bit-higher a k r j h l =
     ∙ sym (bit_at-suc (a * 2 + 1) (j - k - 1)) ∙ ap (bit_at (a * 2 + 1)) (sym e)
     ∙ sym (bit_at_cat_high (a * 2 + 1) k r j h (omega arith))
 
-pub added_other : {m k n : ℕ} → IsAdded m k n → (j : ℕ) → j ≢ k → has_mark n j ≡ has_mark m j
+pub added_other : {m k n : ℕ} → IsAdded m k n → (j : ℕ) → j ≢ k → has_bit n j ≡ has_bit m j
 added_other {m} {k} {n} h j ne =
     let bits : bit_at ((h.above * 2) * 2 ^ k + h.below) j ≡ bit_at ((h.above * 2 + 1) * 2 ^ k + h.below) j =
     elim (cases_lt j k) [
@@ -168,55 +168,55 @@ added_above {m} {k} {n} h =
     omega (arith, h.from, h.to)
 
 -- the power of two of a mark is no more than the number
-pub pow_most : (m k : ℕ) → has_mark m k ≡ true → 2 ^ k ≤ m
+pub pow_most : (m k : ℕ) → has_bit m k ≡ true → 2 ^ k ≤ m
 pow_most m k e =
     elim (cases_lt m (2 ^ k)) [
       | inl small ↦ absurd (let l = below_from_mark m k k small e in omega arith)
       | inr large ↦ large
     ]
 
-pub mark-half : (m k : ℕ) → has_mark (m / 2) k ≡ has_mark m (k + 1)
+pub mark-half : (m k : ℕ) → has_bit (m / 2) k ≡ has_bit m (k + 1)
 mark-half m k = mark-from_same_bit (m / 2) k m (k + 1) (rw add-one (sym (bit_at-suc m k)))
 
-pub mark-double : (m k : ℕ) → has_mark (m * 2) (k + 1) ≡ has_mark m k
-mark-double m k = let e : m * 2 / 2 ≡ m = omega arith in sym (mark-half (m * 2) k) ∙ ap (λ n. has_mark n k) e
+pub mark-double : (m k : ℕ) → has_bit (m * 2) (k + 1) ≡ has_bit m k
+mark-double m k = let e : m * 2 / 2 ≡ m = omega arith in sym (mark-half (m * 2) k) ∙ ap (λ n. has_bit n k) e
 
-mark-double_low : (m : ℕ) → has_mark (m * 2) 0 ≡ false
+mark-double_low : (m : ℕ) → has_bit (m * 2) 0 ≡ false
 mark-double_low m = no_mark-from_bit (m * 2) 0 (bit_at_lowest (m * 2) ∙ omega arith)
 
-mark-mod : (m w k : ℕ) → k < w → has_mark (m % 2 ^ w) k ≡ has_mark m k
+mark-mod : (m w k : ℕ) → k < w → has_bit (m % 2 ^ w) k ≡ has_bit m k
 mark-mod m w k h =
     mark-from_same_bit (m % 2 ^ w) k m k
     (sym (bit_at_cat_low (m / 2 ^ w) w (m % 2 ^ w) k h) ∙ ap (λ n. bit_at n k) (shr_split m w))
 
 -- the marks of 16 bits shifted up by one
-pub raised_only : (m c : ℕ) → has_mark (m * 2 % 65536) c ≡ true → (b : ℕ) × (b + 1 ≡ c) × (has_mark m b ≡ true)
+pub raised_only : (m c : ℕ) → has_bit (m * 2 % 65536) c ≡ true → (b : ℕ) × (b + 1 ≡ c) × (has_bit m b ≡ true)
 raised_only m c e =
     let h : c < 16 = below_from_mark (m * 2 % 2 ^ 16) 16 c (mod_below (m * 2) (2 ^ 16) (pow_pos 16)) e in
-    let whole : has_mark (m * 2) c ≡ true = sym (mark-mod (m * 2) 16 c h) ∙ e in
+    let whole : has_bit (m * 2) c ≡ true = sym (mark-mod (m * 2) 16 c h) ∙ e in
     elim (cases_lt 0 c) [
       | inl some ↦ (let f : c - 1 + 1 ≡ c = omega arith in
-          (c - 1, f, sym (mark-double m (c - 1)) ∙ ap (has_mark (m * 2)) f ∙ whole))
+          (c - 1, f, sym (mark-double m (c - 1)) ∙ ap (has_bit (m * 2)) f ∙ whole))
       | inr none ↦ (let f : c ≡ 0 = omega arith in
-          absurd (both_ways (has_mark (m * 2) c) (ap (has_mark (m * 2)) f ∙ mark-double_low m) whole))
+          absurd (both_ways (has_bit (m * 2) c) (ap (has_bit (m * 2)) f ∙ mark-double_low m) whole))
     ]
 
-pub raised_all : (m b : ℕ) → b < 15 → has_mark m b ≡ true → has_mark (m * 2 % 65536) (b + 1) ≡ true
+pub raised_all : (m b : ℕ) → b < 15 → has_bit m b ≡ true → has_bit (m * 2 % 65536) (b + 1) ≡ true
 raised_all m b h e = mark-mod (m * 2) 16 (b + 1) (omega arith) ∙ mark-double m b ∙ e
 
-pub mark-pow_same : (k : ℕ) → has_mark (2 ^ k) k ≡ true
+pub mark-pow_same : (k : ℕ) → has_bit (2 ^ k) k ≡ true
 mark-pow_same k = mark-from_bit (2 ^ k) k (bit_at-pow_same k)
 
-pub mark-pow : (k j : ℕ) → has_mark (2 ^ k) j ≡ true → j ≡ k
+pub mark-pow : (k j : ℕ) → has_bit (2 ^ k) j ≡ true → j ≡ k
 mark-pow k j e =
     elim (cases_eq j k) [
       | inl same ↦ same
-      | inr other ↦ absurd (both_ways (has_mark (2 ^ k) j) (no_mark-from_bit (2 ^ k) j (bit_at-pow_other k j other)) e)
+      | inr other ↦ absurd (both_ways (has_bit (2 ^ k) j) (no_mark-from_bit (2 ^ k) j (bit_at-pow_other k j other)) e)
     ]
 
 -- two sets of 16 bits that share a mark
 abbrev pub IsShared : ℕ → ℕ → Type 0
-IsShared a b = (c : ℕ) × (has_mark a c ≡ true) × (has_mark b c ≡ true)
+IsShared a b = (c : ℕ) × (has_bit a c ≡ true) × (has_bit b c ≡ true)
 
 pub shared_from_and : (a b : ℕ) → a < 2 ^ 16 → bit_and a b ≢ 0 → IsShared a b
 shared_from_and a b h ne =
@@ -228,15 +228,15 @@ shared_from_and a b h ne =
 
 pub and-shared : (a b : ℕ) → IsShared a b → bit_and a b ≢ 0
 and-shared a b s e =
-    both_ways (has_mark 0 s.0) (mark-zero s.0) (rw e at (mark-and a b s.0 ∙ and_from _ _ s.1 s.2))
+    both_ways (has_bit 0 s.0) (mark-zero s.0) (rw e at (mark-and a b s.0 ∙ and_from _ _ s.1 s.2))
 
 -- the values below w that are not in a mask
-pub mark-others : (w m k : ℕ) → m < 2 ^ w → has_mark (bit_xor (2 ^ w - 1) m) k ≡ (ltb k w && not (has_mark m k))
+pub mark-others : (w m k : ℕ) → m < 2 ^ w → has_bit (bit_xor (2 ^ w - 1) m) k ≡ (ltb k w && not (has_bit m k))
 mark-others w m k h =
     let x = bit_at_xor (2 ^ w - 1) m k in
     elim (cases_lt k w) [
       | inl low ↦ (let one = bit_at_ones w k low in
-          rw (lt-ltb k w low) (elim (cases_Bool (has_mark m k)) [
+          rw (lt-ltb k w low) (elim (cases_Bool (has_bit m k)) [
             | inl e ↦ (let b = bit-from_mark m k e in rw e (no_mark-from_bit (bit_xor (2 ^ w - 1) m) k (omega (arith, x))))
             | inr e ↦ (let b = bit-from_no_mark m k e in rw e (mark-from_bit (bit_xor (2 ^ w - 1) m) k (omega (arith, x))))
           ]))
@@ -245,18 +245,18 @@ mark-others w m k h =
     ]
 
 -- a mask shifted up by one, in 16 bits
-pub mark-candidates : (m value : ℕ) → m < 512 → (has_mark (m * 2 % 65536) value ≡ true) ↔ ((k : ℕ) × (value ≡ k + 1) × (has_mark m k ≡ true))
+pub mark-candidates : (m value : ℕ) → m < 512 → (has_bit (m * 2 % 65536) value ≡ true) ↔ ((k : ℕ) × (value ≡ k + 1) × (has_bit m k ≡ true))
 mark-candidates m value h = (
   λ e. (let r = raised_only m value e in (r.0, sym r.1, r.2)),
   λ r. (let low : r.0 < 9 = below_from_mark m 9 r.0 h r.2 in rw r.1 (raised_all m r.0 (omega arith) r.2)),
 )
 
 -- the set n without those marks, from 1 to w
-pub mark-next : (n m w k : ℕ) → m < 2 ^ w → has_mark (bit_and (n / 2) (bit_xor (2 ^ w - 1) m)) k ≡ (has_mark n (k + 1) && (ltb k w && not (has_mark m k)))
+pub mark-next : (n m w k : ℕ) → m < 2 ^ w → has_bit (bit_and (n / 2) (bit_xor (2 ^ w - 1) m)) k ≡ (has_bit n (k + 1) && (ltb k w && not (has_bit m k)))
 mark-next n m w k h = rw mark-and (rw (mark-half n k, mark-others w m k h) refl)
 
 -- the set n with those marks
-pub mark-last : (n m k : ℕ) → has_mark (bit_and (n / 2) m) k ≡ (has_mark n (k + 1) && has_mark m k)
+pub mark-last : (n m k : ℕ) → has_bit (bit_and (n / 2) m) k ≡ (has_bit n (k + 1) && has_bit m k)
 mark-last n m k = rw mark-and (rw (mark-half n k) refl)
 
 -- an odd multiple of a power of two, and the number before it

@@ -7,7 +7,7 @@ use Rattle.std.proofs.lemmas.Nat.{pow_pos, ones_le_self}
 use Rattle.std.proofs.lemmas.List.{append-nil, length_push}
 use Rattle.std.proofs.lemmas.List.Folds.{list_any-append}
 use Rattle.tower_lines.specs.TowersSeen.{seen, seen_after}
-use Rattle.tower_lines.specs.LineFillings.{has_mark, IsStart}
+use Rattle.tower_lines.specs.LineFillings.{has_bit, IsStart}
 use Rattle.tower_lines.specs.LineMasks.{is_in, IsMask}
 use Rattle.tower_lines.proofs.MarkLemmas.{IsAdded, added_with, added_lacks, added_has, added_other, added_ones, added_below, mark-zero, below_from_mark, below_from_marks, same_from_marks}
 use Rattle.tower_lines.proofs.SeenLemmas.{seen-append}
@@ -44,7 +44,7 @@ nil_from_mask (x ∷ p) h m =
     let low = (h.values 0 (omega arith)).0 in
     let e : x ≡ (x - 1) + 1 = omega arith in
     let used : is_in (x - 1 + 1) (x ∷ p) ≡ true = ap (λ b. b || is_in (x - 1 + 1) p) (eq-eqb x (x - 1 + 1) e) in
-    absurd (both_ways (has_mark 0 (x - 1)) (mark-zero (x - 1)) (m.bits (x - 1) ∙ used))
+    absurd (both_ways (has_bit 0 (x - 1)) (mark-zero (x - 1)) (m.bits (x - 1) ∙ used))
 
 pub mask_more : {m k n : ℕ} (p : List ℕ) → IsMask m p → IsAdded m k n → IsMask n (p ++ (k + 1) ∷ [])
 mask_more {m} {k} {n} p h a = record {
@@ -78,7 +78,7 @@ masked_along sets (x ∷ s) q h b =
     let next = start_next q x s h in
     let low = next.low in let high = next.high in
     let e : x ≡ (x - 1) + 1 = omega arith in
-    let fresh : has_mark b.mask (x - 1) ≡ false = b.used.bits (x - 1) ∙ ap (λ y. is_in y q) (sym e) ∙ next.fresh in
+    let fresh : has_bit b.mask (x - 1) ≡ false = b.used.bits (x - 1) ∙ ap (λ y. is_in y q) (sym e) ∙ next.fresh in
     let a = added_with b.mask (x - 1) (b.mask + 2 ^ (x - 1)) fresh refl in
     let used = mask_more q b.used a in
     let whole : (q ++ x ∷ []) ++ s ≡ q ++ x ∷ s = append_assoc q (x ∷ []) s in

@@ -2,7 +2,7 @@
 use Rattle.std.specs.Prelude.{◌≡◌, ℕ, ◌+◌, ◌^◌, ◌≤◌, Bool, true, List, ◌∷◌, ◌++◌, length, slice_index, ◌==◌, count_ones}
 use Rattle.std.specs.List.{list_any}
 use Rattle.tower_lines.specs.TowersSeen.{seen, seen_after}
-use Rattle.tower_lines.specs.LineFillings.{has_mark, IsStart, IsFilling, IsSupported}
+use Rattle.tower_lines.specs.LineFillings.{has_bit, IsStart, IsFilling, IsSupported}
 
 -- whether a value is in a list
 abbrev pub is_in : ℕ → List ℕ → Bool
@@ -10,18 +10,18 @@ is_in value line = list_any (λ x. x == value) line
 
 -- the list's values are those of the mask, whose bit k stands for k + 1
 pub record IsMask (mask : ℕ) (line : List ℕ) : Type 0 where
-  pub bits : (k : ℕ) → has_mark mask k ≡ is_in (k + 1) line
+  pub bits : (k : ℕ) → has_bit mask k ≡ is_in (k + 1) line
 
 -- one value of a mask, by itself
 pub record IsValueOf (mask one : ℕ) : Type 0 where
   pub bit : ℕ
   pub is : one ≡ 2 ^ bit
-  pub used : has_mark mask bit ≡ true
+  pub used : has_bit mask bit ≡ true
 
 -- the counts of towers that the starts with these values show
-pub record IsFront (sets : List ℕ) (mask counts : ℕ) : Type 0 where
-  pub only : (c : ℕ) → has_mark counts c ≡ true → (p : List ℕ) × IsStart sets p × IsMask mask p × (seen p ≡ c)
-  pub all : (p : List ℕ) → IsStart sets p → IsMask mask p → has_mark counts (seen p) ≡ true
+pub record AreFrontCounts (sets : List ℕ) (mask counts : ℕ) : Type 0 where
+  pub only : (c : ℕ) → has_bit counts c ≡ true → (p : List ℕ) × IsStart sets p × IsMask mask p × (seen p ≡ c)
+  pub all : (p : List ℕ) → IsStart sets p → IsMask mask p → has_bit counts (seen p) ≡ true
 
 -- the line p, along which `count` towers were seen, goes on with s and shows the clue
 pub record IsEnd (sets : List ℕ) (clue count : ℕ) (p s : List ℕ) : Type 0 where
@@ -30,9 +30,9 @@ pub record IsEnd (sets : List ℕ) (clue count : ℕ) (p s : List ℕ) : Type 0 
   pub shown : count + seen_after p s ≡ clue
 
 -- the counts from which a start with these values can go on to show the clue
-pub record IsBack (sets : List ℕ) (clue mask counts : ℕ) : Type 0 where
-  pub only : (p : List ℕ) → IsStart sets p → IsMask mask p → (c : ℕ) → has_mark counts c ≡ true → (s : List ℕ) × IsEnd sets clue c p s
-  pub all : (p s : List ℕ) (c : ℕ) → IsMask mask p → IsEnd sets clue c p s → has_mark counts c ≡ true
+pub record AreBackCounts (sets : List ℕ) (clue mask counts : ℕ) : Type 0 where
+  pub only : (p : List ℕ) → IsStart sets p → IsMask mask p → (c : ℕ) → has_bit counts c ≡ true → (s : List ℕ) × IsEnd sets clue c p s
+  pub all : (p s : List ℕ) (c : ℕ) → IsMask mask p → IsEnd sets clue c p s → has_bit counts c ≡ true
 
 -- some filling begins with these values, and then has the value
 pub record IsPassed (sets : List ℕ) (clue mask value : ℕ) : Type 0 where
@@ -42,6 +42,6 @@ pub record IsPassed (sets : List ℕ) (clue mask value : ℕ) : Type 0 where
   pub filling : IsFilling sets clue (before ++ value ∷ after)
 
 -- what is kept is supported, and is all that comes behind the masks from `from` on
-pub record IsKept (sets : List ℕ) (clue from : ℕ) (kept : List ℕ) : Type 0 where
-  pub only : (place value : ℕ) → has_mark (slice_index kept place) value ≡ true → IsSupported sets clue place value
-  pub all : (mask value : ℕ) → from ≤ mask → IsPassed sets clue mask value → has_mark (slice_index kept (count_ones mask)) value ≡ true
+pub record AreKeptValues (sets : List ℕ) (clue from : ℕ) (kept : List ℕ) : Type 0 where
+  pub only : (place value : ℕ) → has_bit (slice_index kept place) value ≡ true → IsSupported sets clue place value
+  pub all : (mask value : ℕ) → from ≤ mask → IsPassed sets clue mask value → has_bit (slice_index kept (count_ones mask)) value ≡ true

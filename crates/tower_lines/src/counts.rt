@@ -1,30 +1,30 @@
 //! Sets of counts: bit c of such a set stands for the count c.
 
 ghost use Rattle.std.specs.Prelude.{◌≡◌, ℕ, ◌+◌, ◌<◌, ◌↔◌, true, if◌then◌else◌};
-ghost use Rattle.tower_lines.specs.LineFillings.{has_mark};
+ghost use Rattle.tower_lines.specs.LineFillings.{has_bit};
 
 /// Each count, one more where a tower comes next.
 pub fn raised(counts: u16, tower: bool) -> u16
-    ensures only { (c : ℕ) → has_mark result c ≡ true
-        → (b : ℕ) × (b + (if tower then 1 else 0) ≡ c) × (has_mark counts b ≡ true) }
-    ensures all { (b : ℕ) → b < 15 → has_mark counts b ≡ true
-        → has_mark result (b + (if tower then 1 else 0)) ≡ true }
+    ensures only { (c : ℕ) → has_bit result c ≡ true
+        → (b : ℕ) × (b + (if tower then 1 else 0) ≡ c) × (has_bit counts b ≡ true) }
+    ensures all { (b : ℕ) → b < 15 → has_bit counts b ≡ true
+        → has_bit result (b + (if tower then 1 else 0)) ≡ true }
 {
     if tower { counts << 1 } else { counts }
 }
 
 /// The counts that come to one of these, where a tower comes next or none.
 pub fn lowered(counts: u16, tower: bool) -> u16
-    ensures { (c : ℕ) → has_mark result c ≡ has_mark counts (c + (if tower then 1 else 0)) }
+    ensures { (c : ℕ) → has_bit result c ≡ has_bit counts (c + (if tower then 1 else 0)) }
 {
     if tower { counts >> 1 } else { counts }
 }
 
 /// A value if the two sets share a count, and else none.
 pub fn value_if_shared(left: u16, right: u16, value: usize) -> usize
-    ensures { (k : ℕ) → (has_mark result k ≡ true)
-        ↔ ((has_mark value k ≡ true)
-        × ((c : ℕ) × (has_mark left c ≡ true) × (has_mark right c ≡ true))) }
+    ensures { (k : ℕ) → (has_bit result k ≡ true)
+        ↔ ((has_bit value k ≡ true)
+        × ((c : ℕ) × (has_bit left c ≡ true) × (has_bit right c ≡ true))) }
 {
     if left & right != 0 { value } else { 0 }
 }

@@ -1,8 +1,8 @@
 //! The values that each square of a line with a clue can take.
 
 ghost use Rattle.std.specs.Prelude.{◌≡◌, ℕ, ◌+◌, ◌^◌, ◌<◌, ◌≤◌, ◌↔◌, true, length, slice_index};
-ghost use Rattle.tower_lines.specs.LineFillings.{has_mark, IsSupported};
-ghost use Rattle.tower_lines.specs.LineMasks.{IsFront, IsBack, IsKept};
+ghost use Rattle.tower_lines.specs.LineFillings.{has_bit, IsSupported};
+ghost use Rattle.tower_lines.specs.LineMasks.{AreFrontCounts, AreBackCounts, AreKeptValues};
 
 use crate::counts::{lowered, raised, value_if_shared};
 use crate::masks::{candidates_of, is_tower, last_values, lowest, next_values};
@@ -17,7 +17,7 @@ use crate::masks::{candidates_of, is_tower, last_values, lowest, next_values};
 pub fn supported(sets: &[u16], clue: u8) -> [u16; 9]
     requires short { length sets.now ≤ 9 }
     requires clue { clue ≤ 9 }
-    ensures { (place value : ℕ) → (has_mark (slice_index result place) value ≡ true)
+    ensures { (place value : ℕ) → (has_bit (slice_index result place) value ≡ true)
         ↔ IsSupported sets.now clue place value }
 {
     let front = counts_before(sets);
@@ -32,7 +32,7 @@ pub fn supported(sets: &[u16], clue: u8) -> [u16; 9]
 /// For each mask, the counts of towers seen along the starts that use just its values.
 fn counts_before(sets: &[u16]) -> [u16; 512]
     requires { length sets.now ≤ 9 }
-    ensures { (m : ℕ) → m < 2 ^ length sets.now → IsFront sets.now m (slice_index result m) }
+    ensures { (m : ℕ) → m < 2 ^ length sets.now → AreFrontCounts sets.now m (slice_index result m) }
 {
     let mut front = [0; 512];
     front[0] = 1;
@@ -48,8 +48,8 @@ fn counts_before_one(sets: &[u16], front: &[u16; 512], mask: usize) -> u16
     requires short { length sets.now ≤ 9 }
     requires some { 0 < mask }
     requires inside { mask < 2 ^ length sets.now }
-    requires below { (m : ℕ) → m < mask → IsFront sets.now m (slice_index front.now m) }
-    ensures { IsFront sets.now mask result }
+    requires below { (m : ℕ) → m < mask → AreFrontCounts sets.now m (slice_index front.now m) }
+    ensures { AreFrontCounts sets.now mask result }
 {
     let place = mask.count_ones() as usize - 1;
     let mut left = last_values(sets[place], mask);
@@ -77,12 +77,12 @@ fn counts_after(
     requires clue { clue ≤ 9 }
     requires inside { mask < 2 ^ length sets.now }
     requires front { (m : ℕ) → m < 2 ^ length sets.now
-        → IsFront sets.now m (slice_index front.now m) }
+        → AreFrontCounts sets.now m (slice_index front.now m) }
     requires above { (m : ℕ) → mask < m → m < 2 ^ length sets.now
-        → IsBack sets.now clue m (slice_index back.now m) }
-    requires kept { IsKept sets.now clue (mask + 1) kept.old }
-    ensures back { IsBack sets.now clue mask result }
-    ensures kept { IsKept sets.now clue mask kept.new }
+        → AreBackCounts sets.now clue m (slice_index back.now m) }
+    requires kept { AreKeptValues sets.now clue (mask + 1) kept.old }
+    ensures back { AreBackCounts sets.now clue mask result }
+    ensures kept { AreKeptValues sets.now clue mask kept.new }
 {
     let place = mask.count_ones() as usize;
     if place == sets.len() {

@@ -1,7 +1,7 @@
 //! Masks of values: bit k of a mask stands for the value k + 1. A value by itself is a mask too.
 
 ghost use Rattle.std.specs.Prelude.{◌≡◌, ℕ, ◌+◌, ◌^◌, ◌<◌, ◌≤◌, ◌↔◌, true, not, ◌&&◌, nat_lt};
-ghost use Rattle.tower_lines.specs.LineFillings.{has_mark};
+ghost use Rattle.tower_lines.specs.LineFillings.{has_bit};
 ghost use Rattle.tower_lines.specs.LineMasks.{IsValueOf};
 
 /// The least value of a mask.
@@ -22,7 +22,7 @@ pub fn is_tower(mask: usize, value: usize) -> bool
 
 /// The values of a mask that are candidates too.
 pub fn last_values(candidates: u16, mask: usize) -> usize
-    ensures { (k : ℕ) → has_mark result k ≡ (has_mark candidates (k + 1) && has_mark mask k) }
+    ensures { (k : ℕ) → has_bit result k ≡ (has_bit candidates (k + 1) && has_bit mask k) }
 {
     usize::from(candidates) >> 1 & mask
 }
@@ -31,8 +31,8 @@ pub fn last_values(candidates: u16, mask: usize) -> usize
 pub fn next_values(candidates: u16, mask: usize, length: usize) -> usize
     requires short { length ≤ 9 }
     requires inside { mask < 2 ^ length }
-    ensures { (k : ℕ) → has_mark result k
-        ≡ (has_mark candidates (k + 1) && (nat_lt k length && not (has_mark mask k))) }
+    ensures { (k : ℕ) → has_bit result k
+        ≡ (has_bit candidates (k + 1) && (nat_lt k length && not (has_bit mask k))) }
 {
     let every = (1 << length) - 1;
     usize::from(candidates) >> 1 & (every ^ mask)
@@ -41,8 +41,8 @@ pub fn next_values(candidates: u16, mask: usize, length: usize) -> usize
 /// The values of a mask as candidates, of which bit n stands for n.
 pub fn candidates_of(mask: usize) -> u16
     requires { mask < 512 }
-    ensures { (value : ℕ) → (has_mark result value ≡ true)
-        ↔ ((k : ℕ) × (value ≡ k + 1) × (has_mark mask k ≡ true)) }
+    ensures { (value : ℕ) → (has_bit result value ≡ true)
+        ↔ ((k : ℕ) × (value ≡ k + 1) × (has_bit mask k ≡ true)) }
 {
     (mask << 1) as u16
 }

@@ -4,11 +4,13 @@ use Rattle.std.specs.List.{range_with_len, list_all}
 use Rattle.latin_board.specs.Squares.{GridValue, IsGrid, IsLatin, number_at, latin_test}
 use Rattle.trail_solver.specs.Candidates.{CandidatesValue, IsWithin}
 
--- a width, the given number of each square, 0 for none, and whether a grid meets the puzzle's clues or signs
+-- a width, the given number of each square, 0 for none, whether a grid meets the puzzle's clues or signs, and at which edge
+-- places a clue stands, which doesn't matter for its solutions
 pub record Puzzle : Type 0 where
   pub size : ℕ
   pub given : ℕ → ℕ
   pub meets : GridValue → Bool
+  pub clued : ℕ → Bool
 
 -- each given stands in its square
 abbrev pub HoldsGivens : Puzzle → GridValue → Type 0

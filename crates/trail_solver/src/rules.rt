@@ -1,6 +1,6 @@
 ghost use Rattle.std.specs.Prelude.{◌≡◌, ℕ, ◌*◌, ◌<◌, ◌≤◌, ◌↔◌, ◌==◌, ◌&&◌, Bool, true, not, IsTrue};
 ghost use Rattle.std.specs.Bool.{OnFalse};
-ghost use Rattle.latin_board.specs.Squares.{GridValue, IsGrid, IsFull, IsLatin};
+ghost use Rattle.latin_board.specs.Squares.{GridValue, IsGrid, IsFull, IsLatin, number_at};
 ghost use Rattle.trail_solver.specs.Candidates.{IsEarlier, IsWithin};
 ghost use Rattle.trail_solver.specs.Puzzles.{Puzzle, Solves, HoldsGivens, solves_test};
 
@@ -12,7 +12,7 @@ use latin_board::{Grid, Size};
 /// A puzzle has a size, given numbers, and clues or signs. All of these are its items, numbered from 0; which item a
 /// number stands for is the puzzle's own affair. Generic code knows of them only what the laws below say.
 pub trait Rules: Copy {
-    // The size, the givens, and which grids meet the clues or signs.
+    // The size, the givens, which grids meet the clues or signs, and where clues stand at the edge.
     ghost puzzle: { Self → Puzzle };
 
     // What holds of every puzzle of the type.
@@ -82,8 +82,11 @@ pub trait Rules: Copy {
     ghost valid_given: { (p : Self) (cell : ℕ) → valid p → cell < (puzzle p).size * (puzzle p).size
         → (puzzle p).given cell ≤ (puzzle p).size };
 
+    // A puzzle of a size that is generated, 3 to 6, has few items.
+    ghost few_items: { (n : ℕ) → 3 ≤ n → n ≤ 6 → items_of n ≤ 96 };
+
     // A cut has the items that were there and are in the set. To cut with every item is to change nothing, two cuts
-    // are one, and only the items below the count matter.
+    // are one, and only the items that the puzzle has matter.
     ghost cut_valid: { (p : Self) (keep : ℕ → Bool) → valid p → valid (cut p keep) };
 
     ghost cut_size: { (p : Self) (keep : ℕ → Bool) → valid p
@@ -98,16 +101,19 @@ pub trait Rules: Copy {
         → cut (cut p first) second ≡ cut p (λ i. first i && second i) };
 
     ghost cut_agrees: { (p : Self) (a b : ℕ → Bool) → valid p
-        → ((i : ℕ) → i < items_of (puzzle p).size → a i ≡ b i) → cut p a ≡ cut p b };
+        → ((i : ℕ) → i < items_of (puzzle p).size → has p i ≡ true → a i ≡ b i) → cut p a ≡ cut p b };
 
     // A cut loses no solution.
     ghost cut_solved: { (p : Self) (keep : ℕ → Bool) (g : GridValue) → valid p
         → Solves (puzzle p) g → Solves (puzzle (cut p keep)) g };
 
-    // The full puzzle of a Latin square has its size and every item, and the square solves it.
+    // The full puzzle of a Latin square has its size, its numbers as givens and every item, and the square solves it.
     ghost full_valid: { (g : GridValue) → IsGrid g → IsLatin g → valid (full_of g) };
 
     ghost full_size: { (g : GridValue) → IsGrid g → IsLatin g → (puzzle (full_of g)).size ≡ g.size };
+
+    ghost full_given: { (g : GridValue) (cell : ℕ) → IsGrid g → IsLatin g → cell < g.size * g.size
+        → (puzzle (full_of g)).given cell ≡ number_at g cell };
 
     ghost full_has: { (g : GridValue) (i : ℕ) → IsGrid g → IsLatin g → i < items_of g.size
         → has (full_of g) i ≡ true };

@@ -18,7 +18,12 @@ impl Rules for Plain {
     ghost use Rattle.latin_board.specs.Squares.{GridValue, IsGrid, number_at};
     ghost use Rattle.latin_board.proofs.Numbers.{number_within};
 
-    ghost puzzle = { λ p. record { size = p.givens.size; given = λ cell. number_at p.givens cell; meets = λ g. not p.hopeless } };
+    ghost puzzle = { λ p. record {
+      size = p.givens.size;
+      given = λ cell. number_at p.givens cell;
+      meets = λ g. not p.hopeless;
+      clued = λ place. false;
+    } };
 
     ghost valid = { λ p. IsGrid p.givens };
 
@@ -34,6 +39,8 @@ impl Rules for Plain {
 
     ghost valid_given = { λ p cell h inside. number_within p.givens h cell inside };
 
+    ghost few_items = { λ n low high. Prim.omega arith };
+
     ghost cut_valid = { λ p keep h. h };
 
     ghost cut_size = { λ p keep h. refl };
@@ -46,14 +53,17 @@ impl Rules for Plain {
     ghost cut_cut = { λ p first second h. ap (λ (m : Bool). record p { marked = m })
         (elim p.marked as (λ m. ((m && first 0) && second 0) ≡ (m && (first 0 && second 0))) [ true ↦ refl | false ↦ refl ]) };
 
-    ghost cut_agrees = { λ p a b h same. let both : a 0 ≡ b 0 = same 0 (Prim.omega arith) in
-        ap (λ (k : Bool). record p { marked = p.marked && k }) both };
+    ghost cut_agrees = { λ p a b h same. ap (λ (m : Bool). record p { marked = m })
+        (elim p.marked as (λ m. (m ≡ true → a 0 ≡ b 0) → (m && a 0) ≡ (m && b 0))
+        [ true ↦ λ at_0. at_0 refl | false ↦ λ at_0. refl ] (same 0 (Prim.omega arith))) };
 
     ghost cut_solved = { λ p keep g h s. s };
 
     ghost full_valid = { λ g h l. h };
 
     ghost full_size = { λ g h l. refl };
+
+    ghost full_given = { λ g cell h l inside. refl };
 
     ghost full_has = { λ g i h l less. refl };
 

@@ -6,9 +6,10 @@
 ghost use Rattle.std.specs.Prelude.{◌≡◌, ◌*◌, ◌<◌, ◌++◌, [], ◌∷◌, true, false, length, IfSome, IfNone, Some, None, IfOk, IfErr, OnOk, Ok, if◌then◌else◌};
 ghost use Rattle.std.specs.List.{list_all, range_with_len};
 ghost use Rattle.clue_rules.specs.Unequal.{UnequalValue, sign_count};
-ghost use Rattle.clue_rules.specs.UnequalFields.{HoldsPlaces};
-ghost use Rattle.clue_rules.specs.UnequalText.{IsUnequalText, letter_of, is_greater_towards, piece_text, piece_of, unequal_text};
-ghost use Rattle.clue_rules.specs.UnequalReading.{texts_of, has_number, givens_grid, has_letters, points_inside, piece_at, sign_in, contradicts, puzzle_in, puzzle_at, unequal_at};
+ghost use Rattle.clue_rules.specs.Inner.UnequalFields.{HoldsPlaces};
+ghost use Rattle.clue_rules.specs.UnequalText.{IsUnequalText, letter_of, is_greater_towards, piece_written, unequal_text};
+ghost use Rattle.clue_rules.specs.Inner.UnequalPieces.{texts_of, sign_in};
+ghost use Rattle.clue_rules.specs.UnequalText.{has_number, givens_grid, has_letters, points_inside, piece_at, contradicts, puzzle_in, puzzle_at, unequal_at};
 
 use super::direction::Direction;
 use super::pieces::{has_letters, number_in, pieces_of, points_inside, says};
@@ -25,19 +26,8 @@ use trail_solver::Rules;
 /// The refusals are, over the whole text and in this order: `TooFew` or `TooMany` pieces; `BadSquares`, where a piece
 /// doesn't begin with one digit from 0 to the width; `BadClue`, where a byte behind it is none of the letters;
 /// `OffGrid`, where a letter points out of the grid; `Contradiction`, where two squares are each said to be the greater.
+#[tactic(auto, unfolding(crate::specs::UnequalText::unequal_at))]
 pub(crate) fn read_unequal(size: Size, text: &[u8]) -> Result<Unequal, IdFault>
-    // A puzzle is read only from a text that describes it.
-    ensures found { IfOk result (λ v. IsUnequalText v text.now × (v.size ≡ size)) }
-    // It is read from each such text, so a text describes one puzzle at most.
-    ensures only { (v : UnequalValue) → v.size ≡ size → IsUnequalText v text.now → result ≡ Ok v }
-    ensures value { result ≡ unequal_at size text.now }
-{
-    let _width = size.get();
-    read_parts(size, text)
-}
-
-#[tactic(auto, unfolding(crate::specs::UnequalReading::unequal_at))]
-fn read_parts(size: Size, text: &[u8]) -> Result<Unequal, IdFault>
     ensures { result ≡ unequal_at size text.now }
 {
     let width = size.get() as usize;
@@ -86,7 +76,8 @@ fn have_letters(pieces: &[&[u8]]) -> bool
 
 fn point_inside(size: Size, pieces: &[&[u8]]) -> bool
     requires { length pieces.now ≡ size * size }
-    ensures { result ≡ list_all (points_inside size (texts_of pieces.now)) (range_with_len 0 (size * size)) }
+    ensures { result ≡ list_all (points_inside size (texts_of pieces.now))
+        (range_with_len 0 (size * size)) }
 {
     (0..pieces.len()).all(|cell| points_inside(size, cell, piece_at(pieces, cell)))
 }
@@ -142,11 +133,8 @@ fn sign_in(size: Size, pieces: &[&[u8]], sign: usize) -> Option<Sign>
 /// `OutOfMemory` where there is no memory for the text.
 pub(crate) fn write_unequal(alloc: Global, puzzle: &Unequal) -> Result<Vec<u8>, IdFault>
     ensures written { IfOk result (λ text. text.items ≡ unequal_text puzzle.now) }
-    // The text describes the puzzle.
-    ensures described { IfOk result (λ text. IsUnequalText puzzle.now text.items) }
     ensures refused { IfErr result (λ fault. fault ≡ IdFault.OutOfMemory) }
 {
-    let _size = puzzle.size();
     match written(alloc, puzzle) {
         Ok(text) => Ok(text),
         Err(_) => Err(IdFault::OutOfMemory),
@@ -167,8 +155,9 @@ fn written(alloc: Global, puzzle: &Unequal) -> Result<Vec<u8>, AllocError>
 // A square's number, its letters and a comma.
 fn push_piece(text: &mut Vec<u8>, puzzle: &Unequal, cell: usize) -> Result<(), AllocError>
     requires { cell < puzzle.now.size * puzzle.now.size }
-    ensures { OnOk result (text.new.items ≡ text.old.items ++ (piece_text (piece_of puzzle.now cell) ++ 44 ∷ [])) }
+    ensures { OnOk result (text.new.items ≡ text.old.items ++ piece_written puzzle.now cell) }
 {
+    // The proof learns here that the width is from 3 to 9.
     let _size = puzzle.size().get();
     text.push(b'0' + puzzle.given(cell))?;
     for direction in Direction::ALL {

@@ -2,7 +2,7 @@
 
 ghost use Rattle.std.specs.Prelude.{◌≡◌, ◌*◌, ◌<◌, IfSome};
 ghost use Rattle.clue_rules.specs.UnequalText.{letter_of, neighbour};
-ghost use Rattle.clue_rules.specs.UnequalReading.{direction_of};
+ghost use Rattle.clue_rules.specs.UnequalText.{direction_of};
 
 use latin_board::Size;
 

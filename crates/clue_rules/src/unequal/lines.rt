@@ -4,24 +4,24 @@ ghost use Rattle.std.specs.Prelude.{◌≡◌, ◌≢◌, ℕ, ◌+◌, ◌-◌,
 ghost use Rattle.latin_board.specs.Squares.{GridValue, number_at};
 ghost use Rattle.trail_solver.specs.Puzzles.{Solves};
 ghost use Rattle.clue_rules.specs.declared.unequal.sign.Sign.TheVariants.{Absent};
-ghost use Rattle.clue_rules.specs.Narrowing.{IsSquare, Narrows};
+ghost use Rattle.clue_rules.specs.Inner.Narrowing.{IsSquare, Narrows};
 ghost use Rattle.clue_rules.specs.Unequal.{sign_at, sign_count};
-ghost use Rattle.clue_rules.specs.UnequalItems.{puzzle_of};
-ghost use Rattle.clue_rules.specs.UnequalStruck.{AreEnds, IsLowerStruck, IsUpperStruck, IsEndStruckBy, IsStruckAt, IsStruckAlong, line_sign};
+ghost use Rattle.clue_rules.specs.Unequal.{puzzle_of};
+ghost use Rattle.clue_rules.specs.Inner.UnequalLines.{AreEnds, IsLowerStruck, IsUpperStruck, IsEndStruckBy, IsStruckAt, IsStruckAlong, line_sign, HoldsGreater};
 
-use crate::changed_lines::ChangedLines;
-use crate::line_rules::LineRules;
+use crate::lines::changed::ChangedLines;
+use crate::lines::narrowing::LineRules;
+use crate::lines::value_sets::{above_least, below_greatest};
+use crate::lines::view_candidates::keep_of;
 use crate::unequal::Unequal;
 use crate::unequal::sign::{Sign, pairs_across, squares};
-use crate::value_sets::{above_least, below_greatest};
-use crate::view_candidates::keep_of;
 use latin_board::Size;
 use trail_solver::Candidates;
 
 impl LineRules for Unequal {
     ghost use Rattle.trail_solver.specs.Puzzles.{Solves};
-    ghost use Rattle.clue_rules.specs.UnequalItems.{puzzle_of};
-    ghost use Rattle.clue_rules.specs.UnequalStruck.{IsStruckAlong};
+    ghost use Rattle.clue_rules.specs.Unequal.{puzzle_of};
+    ghost use Rattle.clue_rules.specs.Inner.UnequalLines.{IsStruckAlong};
 
     ghost width = { λ v. v.size };
 
@@ -57,8 +57,10 @@ impl Unequal {
     ) -> bool
         requires size { candidates.old.size ≡ self.now.size }
         requires sign { sign < sign_count self.now.size }
-        ensures { Narrows (λ g. Solves (puzzle_of self.now) g) (IsStruckAt self.now sign) candidates.old candidates.new result }
+        ensures { Narrows (Solves (puzzle_of self.now)) (IsStruckAt self.now sign)
+            candidates.old candidates.new result }
     {
+        // The proof learns here that the width is from 3 to 9.
         let _size = candidates.size();
         let Some((upper, lower)) = self.ends(sign) else {
             return true;
@@ -69,7 +71,8 @@ impl Unequal {
     // The squares on both sides of a sign, the one that holds the greater number first, or none where there is no sign.
     fn ends(&self, sign: usize) -> Option<(usize, usize)>
         requires { sign < sign_count self.now.size }
-        ensures { MatchOption result (sign_at self.now sign ≡ Absent) (λ ends. AreEnds self.now sign ends.0 ends.1) }
+        ensures { MatchOption result (sign_at self.now sign ≡ Absent)
+            (λ ends. AreEnds self.now sign ends.0 ends.1) }
     {
         let (first, second) = squares(self.givens.size(), sign);
         match self.signs[sign] {
@@ -105,7 +108,8 @@ fn strike_ends(
 ) -> bool
     requires upper { upper < candidates.old.size * candidates.old.size }
     requires lower { lower < candidates.old.size * candidates.old.size }
-    ensures { Narrows (λ g. IsSquare g × (number_at g lower < number_at g upper)) (IsEndStruckBy upper lower) candidates.old candidates.new result }
+    ensures { Narrows (HoldsGreater upper lower) (IsEndStruckBy upper lower)
+        candidates.old candidates.new result }
 {
     strike_lower(candidates, upper, lower, changed)
         && strike_upper(candidates, upper, lower, changed)
@@ -120,7 +124,8 @@ fn strike_lower(
 ) -> bool
     requires upper { upper < candidates.old.size * candidates.old.size }
     requires lower { lower < candidates.old.size * candidates.old.size }
-    ensures { Narrows (λ g. IsSquare g × (number_at g lower < number_at g upper)) (IsLowerStruck upper lower) candidates.old candidates.new result }
+    ensures { Narrows (HoldsGreater upper lower) (IsLowerStruck upper lower)
+        candidates.old candidates.new result }
 {
     let kept = below_greatest(candidates.values(upper));
     keep_of(candidates, lower, kept, changed)
@@ -135,8 +140,10 @@ fn strike_upper(
 ) -> bool
     requires upper { upper < candidates.old.size * candidates.old.size }
     requires lower { lower < candidates.old.size * candidates.old.size }
-    ensures { Narrows (λ g. IsSquare g × (number_at g lower < number_at g upper)) (IsUpperStruck upper lower) candidates.old candidates.new result }
+    ensures { Narrows (HoldsGreater upper lower) (IsUpperStruck upper lower)
+        candidates.old candidates.new result }
 {
+    // The proof learns here that the width is from 3 to 9.
     let _size = candidates.size();
     let kept = above_least(candidates.values(lower));
     keep_of(candidates, upper, kept, changed)

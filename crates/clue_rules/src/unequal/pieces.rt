@@ -1,11 +1,13 @@
 //! The pieces of a description: one for each square, separated by commas, each a digit and letters.
 
+ghost use Rattle.clue_rules.specs.Bytes.{comma};
 ghost use Rattle.std.specs.Prelude.{◌≡◌, ◌*◌, ◌<◌, ◌≤◌, ◌==◌, drop};
 ghost use Rattle.std.specs.List.{list_all, list_any, slice_split};
 ghost use Rattle.byte_text.specs.Reading.{Gives};
-ghost use Rattle.clue_rules.specs.Counted.{counted};
+ghost use Rattle.clue_rules.specs.IdFaults.{counted};
 ghost use Rattle.clue_rules.specs.UnequalText.{letter_of};
-ghost use Rattle.clue_rules.specs.UnequalReading.{IsWithoutLastComma, texts_of, pieces_of, number_in, has_letters, is_inside};
+ghost use Rattle.clue_rules.specs.Inner.UnequalPieces.{IsWithoutLastComma, texts_of};
+ghost use Rattle.clue_rules.specs.UnequalText.{pieces_of, number_in, has_letters, is_inside};
 
 use super::direction::Direction;
 use crate::id_fault::IdFault;
@@ -38,7 +40,8 @@ fn without_last_comma(text: &[u8]) -> &[u8]
 
 fn split_at_commas(text: &[u8], wanted: usize) -> Result<Pieces<'_>, IdFault>
     requires { wanted ≤ 81 }
-    ensures { Gives (λ v. texts_of v.items) result (counted wanted (slice_split (λ b. b == 44) text.now)) }
+    ensures { Gives (λ v. texts_of v.items) result
+        (counted wanted (slice_split (λ b. b == comma) text.now)) }
 {
     let mut pieces = ArrayVec::new();
     let mut rest = Some(text);

@@ -2,7 +2,7 @@
 
 ghost use Rattle.std.specs.Prelude.{◌≡◌, ◌*◌, ◌<◌, ◌≤◌, IfSome};
 ghost use Rattle.clue_rules.specs.Unequal.{pairs_across, sign_count, first_of, second_of, sign_between};
-ghost use Rattle.clue_rules.specs.UnequalItems.{sign_of};
+ghost use Rattle.clue_rules.specs.Unequal.{sign_of};
 
 use latin_board::Size;
 use std::cmp::Ordering;
@@ -32,6 +32,7 @@ impl Sign {
 pub(super) fn pairs_across(size: Size) -> usize
     ensures value { result ≡ pairs_across size }
     ensures bound { result ≤ 72 }
+    ensures smallest { 3 ≤ size }
 {
     let width = size.get() as usize;
     width * (width - 1)
@@ -43,6 +44,7 @@ pub(super) fn pairs_across(size: Size) -> usize
 pub(super) fn sign_count(size: Size) -> usize
     ensures value { result ≡ sign_count size }
     ensures bound { result ≤ 144 }
+    ensures smallest { 3 ≤ size }
 {
     2 * pairs_across(size)
 }

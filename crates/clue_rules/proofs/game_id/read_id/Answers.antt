@@ -1,8 +1,12 @@
 -- Both laws of game IDs, by what the game owes of its descriptions.
-use Rattle.std.proofs.Common.{◌∙◌}
-use Rattle.clue_rules.specs.ParamReading.{has_adjacent}
-use Rattle.clue_rules.specs.IdReading.{describes_at}
-use Rattle.clue_rules.specs.IdLaws.{id_found, id_again, game_reads}
+use Rattle.std.proofs.Common.{◌∙◌, Result, subst, sym}
+use Rattle.clue_rules.specs.Parameters.{has_adjacent}
+use Rattle.clue_rules.specs.GameIds.{describes_at}
+use Rattle.clue_rules.specs.declared.id_fault.IdFault.{IdFault}
+use Rattle.clue_rules.specs.declared.game_id.GameId.{GameId}
+use Rattle.clue_rules.specs.IdFaults.{SparesMemory}
+use Rattle.clue_rules.proofs.GameIdLemmas.{id_spares}
+use Rattle.clue_rules.proofs.GameIdLemmas.{id_found, id_again, game_reads}
 use Rattle.clue_rules.proofs.game_id.read_id.Goals as goal
 
 pub returns-clause-found : goal.returns-clause-found
@@ -16,3 +20,9 @@ returns-clause-only g c = λ id text.
     let game = g.P.Game in
     let rules = g.P.Rules in
     c.parse_id.ensures ∙ id_again g.row.P.Denot game.letter_codes (has_adjacent game.title) game.desc_at (describes_at rules.puzzle rules.valid game.describes) c.args.text.now id g.met.P.Game.plain_letters (game_reads g.row.P.Denot rules.puzzle rules.valid game.describes game.desc_at g.met.P.Game.desc_taken g.met.P.Game.desc_again) text
+
+pub returns-clause-without_memory : goal.returns-clause-without_memory
+returns-clause-without_memory g c =
+    let game = g.P.Game in
+    subst (λ (r : Result (GameId g.row.P.Denot) IdFault). SparesMemory r) (sym c.parse_id.ensures)
+    (id_spares game.letter_codes (has_adjacent game.title) game.desc_at g.met.P.Game.desc_spares c.args.text.now)

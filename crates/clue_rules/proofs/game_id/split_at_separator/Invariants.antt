@@ -1,5 +1,5 @@
 use Rattle.std.proofs.Common.{◌≡◌, ◌++◌, take, drop}
-use Rattle.clue_rules.specs.IdReading.{params_part, from_separator}
+use Rattle.clue_rules.specs.GameIds.{params_part, from_separator}
 use Rattle.clue_rules.proofs.game_id.split_at_separator.Given as goal
 
 abbrev pub invariant-loop-place : goal.invariant-loop-place

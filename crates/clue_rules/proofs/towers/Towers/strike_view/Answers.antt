@@ -1,4 +1,3 @@
-use Rattle.std.proofs.Common.{◌≡◌, ◌∙◌, arith}
 use Rattle.clue_rules.proofs.ViewSteps.{clue_narrows}
 use Rattle.clue_rules.proofs.towers.Towers.strike_view.Goals as goal
 

@@ -1,4 +1,5 @@
-use Rattle.clue_rules.specs.UnequalSigns.{greater_decides, never_both}
+use Rattle.clue_rules.proofs.SignLemmas.{greater_decides}
+use Rattle.clue_rules.specs.Laws.Signs.{never_both}
 use Rattle.clue_rules.proofs.unequal.Unequal.greater.Goals as goal
 
 pub returns-clause-pair : goal.returns-clause-pair

@@ -1,6 +1,6 @@
 use Rattle.std.proofs.Common.{◌≡◌, rules}
 use Rattle.std.proofs.lemmas.Bool.Decides.{Decides-at}
-use Rattle.clue_rules.specs.UnequalSameness.{same_unequal, same_unequal_decides}
+use Rattle.clue_rules.specs.Laws.UnequalSameness.{same_unequal, same_unequal_decides}
 use Rattle.clue_rules.proofs.unequal.UnequalPartialEq.eq.Goals as goal
 
 pub returns-then-eq-clause-same : goal.returns-then-eq-clause-same

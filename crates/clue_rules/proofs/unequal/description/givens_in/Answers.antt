@@ -1,7 +1,7 @@
 use Rattle.std.proofs.Common.{◌≡◌, ◌<◌, ◌∙◌, refl, ap, length, arith}
 use Rattle.std.proofs.Math.ListN.{length-set}
 use Rattle.std.proofs.lemmas.List.{length-map}
-use Rattle.clue_rules.specs.UnequalReading.{texts_of}
+use Rattle.clue_rules.specs.Inner.UnequalPieces.{texts_of}
 use Rattle.clue_rules.proofs.UnequalGivens.{good_more, numbers_more, bad_piece, piece_here, givens_read}
 use Rattle.clue_rules.proofs.unequal.description.givens_in.Goals as goal
 

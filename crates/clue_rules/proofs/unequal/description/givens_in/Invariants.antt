@@ -1,6 +1,7 @@
 use Rattle.std.proofs.Common.{◌≡◌, ◌*◌, length, true, take, map, unwrap_or}
 use Rattle.std.specs.List.{list_all}
-use Rattle.clue_rules.specs.UnequalReading.{texts_of, number_in, has_number}
+use Rattle.clue_rules.specs.Inner.UnequalPieces.{texts_of}
+use Rattle.clue_rules.specs.UnequalText.{number_in, has_number}
 use Rattle.clue_rules.proofs.unequal.description.givens_in.Given as goal
 
 abbrev pub invariant-loop-cell : goal.invariant-loop-cell

@@ -3,7 +3,7 @@ use Rattle.std.specs.List.{list_all}
 use Rattle.std.proofs.lemmas.Iterator.{YieldsList-from_slice}
 use Rattle.std.proofs.lemmas.Iterator.Search.{all_from_yields_List}
 use Rattle.std.proofs.lemmas.List.Folds.{list_all-map}
-use Rattle.clue_rules.specs.UnequalReading.{has_letters}
+use Rattle.clue_rules.specs.UnequalText.{has_letters}
 use Rattle.clue_rules.proofs.unequal.description.have_letters.Goals as goal
 
 pub returns : goal.returns

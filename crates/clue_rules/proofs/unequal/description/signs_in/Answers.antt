@@ -1,7 +1,10 @@
 use Rattle.std.proofs.Common.{◌≡◌, ◌∙◌, true, refl, sym, arith}
 use Rattle.clue_rules.specs.Unequal.{sign_count}
-use Rattle.clue_rules.specs.UnequalReading.{texts_of, contradicts}
-use Rattle.clue_rules.specs.UnequalRangeTests.{none_more, range_some}
+use Rattle.clue_rules.specs.Inner.UnequalPieces.{texts_of}
+use Rattle.clue_rules.specs.Inner.UnequalPieces.{signs_contradict}
+use Rattle.clue_rules.proofs.RangeLemmas.{none_more}
+use Rattle.clue_rules.specs.Laws.RangeTests.{range_some}
+use Rattle.clue_rules.specs.Laws.Contradiction.{contradicts_signs}
 use Rattle.clue_rules.proofs.UnequalTable.{filled_none, filled_more}
 use Rattle.clue_rules.proofs.UnequalSaid.{said_some, said_none}
 use Rattle.clue_rules.proofs.unequal.description.signs_in.Goals as goal
@@ -20,5 +23,10 @@ loop-sign-preserved c =
 pub returns-in_err-signs-clause-none : goal.returns-in_err-signs-clause-none
 returns-in_err-signs-clause-none c =
     let said = said_none c.args.size (texts_of c.args.pieces.now) c.loop-sign.sign (sym c.sign_in.ensures ∙ c.in_err-signs.was) in
-    let some : contradicts c.args.size (texts_of c.args.pieces.now) ≡ true = range_some _ 0 (sign_count c.args.size) c.loop-sign.sign (omega arith) (omega (arith, c.sign_count-sign-end.ensures.value)) said in
-    rw c.from_residual.ensures some
+    let some : signs_contradict c.args.size (texts_of c.args.pieces.now) ≡ true = range_some _ 0 (sign_count c.args.size) c.loop-sign.sign (omega arith) (omega (arith, c.sign_count-sign-end.ensures.value)) said in
+    rw c.from_residual.ensures (contradicts_signs c.args.size (texts_of c.args.pieces.now) c.sign_count-sign-end.ensures.smallest ∙ some)
+
+pub returns-clause-agree : goal.returns-clause-agree
+returns-clause-agree c =
+    let all : c.loop-sign.sign ≡ sign_count c.args.size = omega (arith, c.loop-sign-test, c.sign_count-sign-end.ensures.value) in
+    contradicts_signs c.args.size (texts_of c.args.pieces.now) c.sign_count-sign-end.ensures.smallest ∙ (rw all at c.loop-sign.invariant.agree)

@@ -1,7 +1,8 @@
 use Rattle.std.proofs.Common.{◌≡◌, false, ◌&&◌}
 use Rattle.std.specs.List.{list_any, range_with_len}
 use Rattle.clue_rules.specs.Unequal.{sign_count}
-use Rattle.clue_rules.specs.UnequalReading.{texts_of, first_says, second_says, said_sign}
+use Rattle.clue_rules.specs.Inner.UnequalPieces.{texts_of}
+use Rattle.clue_rules.specs.UnequalText.{first_says, second_says, said_sign}
 use Rattle.clue_rules.proofs.UnequalTable.{IsFilled}
 use Rattle.clue_rules.proofs.unequal.description.signs_in.Given as goal
 

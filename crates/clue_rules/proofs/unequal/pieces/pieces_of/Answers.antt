@@ -1,4 +1,4 @@
-use Rattle.clue_rules.specs.UnequalPieces.{pieces_without_comma}
+use Rattle.clue_rules.proofs.PieceLemmas.{pieces_without_comma}
 use Rattle.clue_rules.proofs.unequal.pieces.pieces_of.Goals as goal
 
 pub returns : goal.returns

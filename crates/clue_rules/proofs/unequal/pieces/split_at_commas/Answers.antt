@@ -1,7 +1,7 @@
 use Rattle.std.proofs.Common.{◌≡◌, ℕ, List, [], ◌∷◌, ◌++◌, Option, option_map, Bor, ap, ◌∙◌, sym, arith}
 use Rattle.std.proofs.lemmas.List.{length-map, map-append}
-use Rattle.clue_rules.specs.UnequalReading.{texts_of}
-use Rattle.clue_rules.specs.UnequalPieces.{pieces_shorter, pieces_step, pieces_over}
+use Rattle.clue_rules.specs.Inner.UnequalPieces.{texts_of}
+use Rattle.clue_rules.proofs.PieceLemmas.{pieces_shorter, pieces_step, pieces_over}
 use Rattle.clue_rules.proofs.unequal.pieces.split_at_commas.Goals as goal
 
 abbrev text_left : Option (Bor (List ℕ)) → Option (List ℕ)

@@ -1,5 +1,5 @@
 use Rattle.std.proofs.Common.{◌≡◌, ◌≤◌, ◌++◌, length, map, option_map}
-use Rattle.clue_rules.specs.UnequalPieces.{comma_pieces, pieces_left}
+use Rattle.clue_rules.specs.Laws.Pieces.{comma_pieces, pieces_left}
 use Rattle.clue_rules.proofs.unequal.pieces.split_at_commas.Given as goal
 
 abbrev pub invariant-loop-rest : goal.invariant-loop-rest

@@ -1,8 +1,8 @@
-use Rattle.std.proofs.Common.{◌≡◌, ℕ, ◌∙◌, ap, subst, true}
+use Rattle.std.proofs.Common.{◌≡◌, ℕ, ◌∙◌, subst, true}
 use Rattle.trail_solver.specs.Puzzles.{Solves}
-use Rattle.clue_rules.specs.Narrowing.{Narrows}
-use Rattle.clue_rules.specs.UnequalItems.{puzzle_of}
-use Rattle.clue_rules.specs.UnequalStruck.{IsStruckAt, line_sign}
+use Rattle.clue_rules.specs.Inner.Narrowing.{Narrows}
+use Rattle.clue_rules.specs.Unequal.{puzzle_of}
+use Rattle.clue_rules.specs.Inner.UnequalLines.{IsStruckAt, line_sign}
 use Rattle.clue_rules.proofs.Narrowings.{below_more}
 use Rattle.clue_rules.proofs.unequal.lines.UnequalLineRules.strike_along.Goals as goal
 

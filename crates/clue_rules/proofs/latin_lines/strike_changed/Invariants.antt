@@ -1,6 +1,0 @@
-use Rattle.std.proofs.Common.{true}
-use Rattle.clue_rules.specs.Narrowing.{Narrows, IsSquare, NoneStruck}
-use Rattle.clue_rules.proofs.latin_lines.strike_changed.Given as goal
-
-abbrev pub invariant-loop-line : goal.invariant-loop-line
-invariant-loop-line l = Narrows IsSquare NoneStruck l.initial.candidates l.candidates true

@@ -1,7 +1,0 @@
-use Rattle.std.proofs.Common.{true}
-use Rattle.clue_rules.specs.Narrowing.{Narrows, IsSquare, StruckBelow}
-use Rattle.clue_rules.specs.LineTallies.{IsLineStruck}
-use Rattle.clue_rules.proofs.latin_lines.strike_lines.Given as goal
-
-abbrev pub invariant-loop-line : goal.invariant-loop-line
-invariant-loop-line l = Narrows IsSquare (StruckBelow IsLineStruck l.line) l.initial.candidates l.candidates true

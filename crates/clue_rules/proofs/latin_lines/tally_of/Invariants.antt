@@ -1,5 +1,0 @@
-use Rattle.clue_rules.specs.LineTallies.{IsTally}
-use Rattle.clue_rules.proofs.latin_lines.tally_of.Given as goal
-
-abbrev pub invariant-loop-k : goal.invariant-loop-k
-invariant-loop-k l = IsTally l.sets l.k l.tally

@@ -1,0 +1,19 @@
+use Rattle.std.proofs.Common.{◌∙◌}
+use Rattle.clue_rules.proofs.LineSteps.{line_refuted, line_narrows}
+use Rattle.clue_rules.proofs.lines.latin.strike_line.Goals as goal
+
+pub returns-in_default : goal.returns-in_default
+returns-in_default c =
+    line_refuted c.args.candidates.now c.args.line c.front_place-place.result c.view_sets-sets.result
+    (record { line_is = c.requires; cells = rw c.size-size.ensures.value at c.front_place-place.ensures.cells })
+    c.view_sets-sets.ensures
+    (rw (c.get-width.ensures.value ∙ c.size-size.ensures.value) at c.in_default.ensures)
+
+pub returns : goal.returns
+returns c =
+    line_narrows c.args.candidates.now c.keep_along.new.candidates c.args.line c.front_place-place.result c.view_sets-sets.result c.kept_along-kept.result c.in-Some.tally c.keep_along.result
+    (record { line_is = c.requires; cells = rw c.size-size.ensures.value at c.front_place-place.ensures.cells })
+    c.view_sets-sets.ensures
+    (rw (c.get-width.ensures.value ∙ c.size-size.ensures.value) at c.in-Some.ensures)
+    (rw (c.get-width.ensures.value ∙ c.size-size.ensures.value) at c.kept_along-kept.ensures)
+    c.keep_along.ensures

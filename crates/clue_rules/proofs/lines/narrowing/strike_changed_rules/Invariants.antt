@@ -1,0 +1,6 @@
+use Rattle.std.proofs.Common.{true}
+use Rattle.clue_rules.specs.Inner.Narrowing.{Narrows, NoneStruck}
+use Rattle.clue_rules.proofs.lines.narrowing.strike_changed_rules.Given as goal
+
+abbrev pub invariant-loop-line : goal.invariant-loop-line
+invariant-loop-line g l = Narrows (g.P.LineRules.sought l.p) NoneStruck l.initial.candidates l.candidates true

@@ -1,0 +1,5 @@
+use Rattle.clue_rules.proofs.KeptCandidates.{AreSetsUpTo}
+use Rattle.clue_rules.proofs.lines.view_candidates.view_sets.Given as goal
+
+abbrev pub invariant-loop-k : goal.invariant-loop-k
+invariant-loop-k l = AreSetsUpTo l.candidates l.place l.k l.sets

@@ -1,0 +1,15 @@
+use Rattle.std.proofs.Common.{◌∙◌}
+use Rattle.clue_rules.proofs.ViewSteps.{view_kept, view_narrows}
+use Rattle.clue_rules.proofs.towers.lines.narrow_view.Goals as goal
+
+pub returns : goal.returns
+returns c =
+    view_narrows c.args.candidates.now c.keep_along.new.candidates c.args.place c.args.clue c.view_sets-sets.result c.supported-kept.result c.keep_along.result
+    c.requires.place c.view_sets-sets.ensures c.size.ensures.valid.largest
+    (rw (c.get-width.ensures.value ∙ c.size.ensures.value) at c.supported-kept.ensures)
+    c.keep_along.ensures
+
+pub returns-then-shows_alone : goal.returns-then-shows_alone
+returns-then-shows_alone c =
+    view_kept c.args.candidates.now c.args.place c.args.clue c.view_sets-sets.result c.requires.place c.view_sets-sets.ensures c.size.ensures.valid.largest
+    (rw (c.get-width.ensures.value ∙ c.size.ensures.value) at c.if-shows_alone.ensures)

@@ -1,0 +1,21 @@
+use Rattle.std.proofs.Common.{◌≡◌, ◌∙◌, ap, sym, take, arith}
+use Rattle.latin_board.specs.Squares.{number_at}
+use Rattle.tower_lines.specs.TowersSeen.{seen}
+use Rattle.clue_rules.proofs.ViewLines.{written_more, numbers_from, view_of-numbers}
+use Rattle.clue_rules.proofs.towers.rules.seen_from.Goals as goal
+
+pub loop-k-preserved : goal.loop-k-preserved
+loop-k-preserved c =
+    let g = c.args.grid.now in
+    let at : c.get.result ≡ number_at g c.view_cell.result = c.get.ensures.value in
+    written_more g c.args.place c.loop-k.k c.get.result c.loop-k.line c.loop-k.invariant (omega arith)
+    (at ∙ ap (number_at g) (rw c.size-size.ensures.value at c.view_cell.ensures.value))
+
+pub returns-clause-value : goal.returns-clause-value
+returns-clause-value c =
+    let g = c.args.grid.now in
+    let all : c.get-width.result ≡ c.loop-k.k = omega arith in
+    let whole : c.loop-k.k ≡ g.size = omega arith in
+    let front : take c.get-width.result c.loop-k.line ≡ numbers_from g c.args.place g.size =
+    ap (λ n. take n c.loop-k.line) all ∙ c.loop-k.invariant.front ∙ ap (numbers_from g c.args.place) whole in
+    c.seen.ensures.shown ∙ ap seen (front ∙ sym (view_of-numbers g c.args.place c.requires))

@@ -1,9 +1,0 @@
-use Rattle.clue_rules.proofs.Narrowings.{on_true, struck_gone}
-use Rattle.clue_rules.proofs.ViewSteps.{towers_by_lines}
-use Rattle.clue_rules.proofs.towers_rules.TowersRules.narrow.Goals as goal
-
-pub returns-clause-struck : goal.returns-clause-struck
-returns-clause-struck c =
-    let old = c.args.candidates.now in
-    on_true c.narrow_by_lines.result (λ gone cell v pair s. gone cell v pair (towers_by_lines c.args.self.now old cell v s))
-    (struck_gone {first = old} c.keep_givens.ensures.less c.narrow_by_lines.ensures)

@@ -1,0 +1,10 @@
+-- Words that the contracts of private functions alone use.
+pub mod ChangedLines
+pub mod Filled
+pub mod LineTallies
+pub mod Narrowing
+pub mod TowersFields
+pub mod TowersLines
+pub mod UnequalFields
+pub mod UnequalLines
+pub mod UnequalPieces

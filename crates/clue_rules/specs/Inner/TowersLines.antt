@@ -1,0 +1,37 @@
+-- What the clues of Towers rule out along one line.
+use Rattle.std.specs.Prelude.{◌≡◌, ℕ, ◌*◌, ◌<◌}
+use Rattle.trail_solver.specs.Candidates.{CandidatesValue}
+use Rattle.clue_rules.specs.Struck.{IsViewStruck}
+use Rattle.clue_rules.specs.Towers.{TowersValue, clue_of}
+use Rattle.clue_rules.specs.Views.{view_line}
+use Rattle.std.specs.Prelude.{◌≤◌, true, List, take, slice_index}
+use Rattle.latin_board.specs.Marks.{has_mark}
+use Rattle.latin_board.specs.Squares.{GridValue}
+use Rattle.tower_lines.specs.TowersSeen.{seen}
+use Rattle.tower_lines.specs.LineFillings.{IsSupported}
+use Rattle.clue_rules.specs.Views.{view_of}
+use Rattle.clue_rules.specs.Inner.Narrowing.{IsSquare}
+
+-- the same by a place at one end of the line
+pub record IsEndStruck (v : TowersValue) (line : ℕ) (c : CandidatesValue) (cell value : ℕ) : Type 0 where
+  pub place : ℕ
+  pub place_is : place < 4 * c.size
+  pub line_is : view_line c.size place ≡ line
+  pub clued : 0 < clue_of v place
+  pub struck : IsViewStruck place (clue_of v place) c cell value
+
+-- what the clue at a place rules out, if there is one
+abbrev pub IsClueStruck : TowersValue → ℕ → CandidatesValue → ℕ → ℕ → Type 0
+IsClueStruck v place c cell value = (0 < clue_of v place) × IsViewStruck place (clue_of v place) c cell value
+
+-- a Latin square that shows as many towers from a place as the clue says
+abbrev pub ShowsClue : ℕ → ℕ → GridValue → Type 0
+ShowsClue place clue g = IsSquare g × (seen (view_of g place) ≡ clue)
+
+-- the values of the first w sets are from 1 to w
+abbrev pub HoldValuesTo : ℕ → List ℕ → Type 0
+HoldValuesTo w sets = (k v : ℕ) → k < w → has_mark (slice_index sets k) v ≡ true → (1 ≤ v) × (v ≤ w)
+
+-- each value of the first w sets stands there in some filling
+abbrev pub AreSupported : ℕ → ℕ → List ℕ → Type 0
+AreSupported w clue sets = (k v : ℕ) → k < w → has_mark (slice_index sets k) v ≡ true → IsSupported (take w sets) clue k v

@@ -1,7 +1,0 @@
--- What is left of a list of items when only some of them are kept.
-use Rattle.std.specs.Prelude.{ℕ, ◌+◌, Bool, if◌then◌else◌, List, [], ◌∷◌}
-
--- a list whose entries are numbered from i on: those that are not to be kept become empty
-abbrev pub kept : {X : Type 0} → X → (ℕ → Bool) → ℕ → List X → List X
-kept empty keep i [] = []
-kept empty keep i (x ∷ xs) = (if keep i then x else empty) ∷ kept empty keep (i + 1) xs

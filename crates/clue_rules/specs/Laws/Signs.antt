@@ -1,0 +1,107 @@
+-- Which square is greater than which: at most one of two, as the test says, and as a grid holds it.
+use Rattle.std.proofs.Common.{◌≡◌, ℕ, ◌+◌, ◌-◌, ◌*◌, ◌/◌, ◌%◌, ◌<◌, ◌≤◌, ◌⊎◌, Bool, true, false, cond, eqb, ltb, ◌&&◌, ◌||◌, Some, None, refl, inl, inr, arith}
+use Rattle.std.specs.Option.{option_map_or}
+use Rattle.std.proofs.Math.Nat.{mod-lt}
+use Rattle.std.proofs.lemmas.Nat.{mod-mul-add}
+use Rattle.std.proofs.lemmas.Bool.{ltb-true, eqb-true, cases_lt, false≢true}
+use Rattle.clue_rules.specs.declared.unequal.sign.Sign.{Sign}
+use Rattle.clue_rules.specs.declared.unequal.sign.Sign.TheVariants.{Absent, FirstGreater, SecondGreater}
+use Rattle.clue_rules.specs.Unequal.{UnequalValue, pairs_across, IsBetween, IsGreater, sign_at, sign_between, sign_of_pair, says_first, says_second, is_greater}
+use Rattle.clue_rules.specs.Laws.SignPlaces.{AreSides, between_sides, same_sign, across_from, down_from}
+use Rattle.clue_rules.specs.Laws.RangeTests.{some_if}
+use Rattle.clue_rules.specs.Laws.JoinedTests.{both_from_and, one_from_or, or_from_second}
+
+-- no two squares are each the greater one
+pub never_both : (v : UnequalValue) (a b : ℕ) → 3 ≤ v.size → IsGreater v a b → IsGreater v b a → ⊥
+never_both v a b small one other = elim one.says [
+  | inl (up, e) ↦ elim other.says [
+    | inl (back, f) ↦ omega (arith, (sides_of up).order, (sides_of back).order)
+    | inr (back, f) ↦ clash (sides_of up) (sides_of back) e f
+  ]
+  | inr (down, e) ↦ elim other.says [
+    | inl (back, f) ↦ clash (sides_of back) (sides_of down) f e
+    | inr (back, f) ↦ omega (arith, (sides_of down).order, (sides_of back).order)
+  ]
+]
+  where
+    sides_of : {i x y : ℕ} → IsBetween v.size i x y → AreSides v.size i x y
+    sides_of {i} {x} {y} h = between_sides v.size i x y small h
+
+    clash : {i j x y : ℕ} → AreSides v.size i x y → AreSides v.size j x y → sign_at v i ≡ FirstGreater → sign_at v j ≡ SecondGreater → ⊥
+    clash {i} {j} {x} {y} s t e f = let same : i ≡ j = same_sign v.size i j x y s t in cc
+
+-- a square that doesn't begin a row has the one before it on its left
+next_column : (w a : ℕ) → 3 ≤ w → 0 < (a + 1) % w → a % w + 1 < w
+next_column w a small h =
+    elim (cases_lt (a % w + 1) w) [
+      | inl fits ↦ fits
+      | inr last ↦
+          let column : a % w < w = mod-lt a (omega arith) in
+          let row : a + 1 ≡ (a / w + 1) * w + 0 = omega arith in
+          let zero_column : (a + 1) % w ≡ 0 = rw row (mod-mul-add (a / w + 1) w 0 (omega arith)) in
+          absurd (omega arith)
+    ]
+
+none_some : {X : Type 0} (y : X) → None ≡ Some y → ⊥
+none_some y e = cc
+
+pub between_found : (w a b i : ℕ) → 3 ≤ w → a < w * w → b < w * w → sign_between w a b ≡ Some i → IsBetween w i a b
+between_found w a b i small a_in b_in e =
+    elim (some_if ((eqb b (a + 1)) && (ltb 0 (b % w))) (a / w * (w - 1) + a % w) i (cond (eqb b (a + w)) (Some (pairs_across w + a)) None) e) [
+      | inl row ↦
+          let tests = both_from_and (eqb b (a + 1)) (ltb 0 (b % w)) row.0 in
+          let next : b ≡ a + 1 = eqb-true b (a + 1) tests.0 in
+          let column : 0 < b % w = ltb-true 0 (b % w) tests.1 in
+          let room : a % w + 1 < w = next_column w a small (rw next at column) in
+          inl (rw (next, ← row.1) (across_from w a small a_in room))
+      | inr other ↦
+          elim (some_if (eqb b (a + w)) (pairs_across w + a) i None other.1) [
+            | inl column ↦
+                let next : b ≡ a + w = eqb-true b (a + w) column.0 in
+                inr (rw (next, ← column.1) (down_from w a small (omega arith)))
+            | inr none ↦ absurd (none_some i none.1)
+          ]
+    ]
+
+sign_pair_first : (v : UnequalValue) (a b : ℕ) → 3 ≤ v.size → a < v.size * v.size → b < v.size * v.size → says_first (sign_of_pair v a b) ≡ true → (i : ℕ) × IsBetween v.size i a b × (sign_at v i ≡ FirstGreater)
+sign_pair_first v a b small a_in b_in h =
+    elim (sign_between v.size a b) as (λ o. sign_between v.size a b ≡ o → says_first (option_map_or (λ i. sign_at v i) o Absent) ≡ true → (i : ℕ) × IsBetween v.size i a b × (sign_at v i ≡ FirstGreater)) [
+      | None ↦ λ e t. absurd (false≢true t)
+      | Some i ↦ λ e t. (i, between_found v.size a b i small a_in b_in e, is_first (sign_at v i) t)
+    ] refl h
+  where
+    is_first : (s : Sign) → says_first s ≡ true → s ≡ FirstGreater
+    is_first FirstGreater e = refl
+    is_first Absent e = absurd (false≢true e)
+    is_first SecondGreater e = absurd (false≢true e)
+
+sign_pair_second : (v : UnequalValue) (a b : ℕ) → 3 ≤ v.size → a < v.size * v.size → b < v.size * v.size → says_second (sign_of_pair v a b) ≡ true → (i : ℕ) × IsBetween v.size i a b × (sign_at v i ≡ SecondGreater)
+sign_pair_second v a b small a_in b_in h =
+    elim (sign_between v.size a b) as (λ o. sign_between v.size a b ≡ o → says_second (option_map_or (λ i. sign_at v i) o Absent) ≡ true → (i : ℕ) × IsBetween v.size i a b × (sign_at v i ≡ SecondGreater)) [
+      | None ↦ λ e t. absurd (false≢true t)
+      | Some i ↦ λ e t. (i, between_found v.size a b i small a_in b_in e, is_second (sign_at v i) t)
+    ] refl h
+  where
+    is_second : (s : Sign) → says_second s ≡ true → s ≡ SecondGreater
+    is_second SecondGreater e = refl
+    is_second Absent e = absurd (false≢true e)
+    is_second FirstGreater e = absurd (false≢true e)
+
+pub greater_found : (v : UnequalValue) (a b : ℕ) → 3 ≤ v.size → a < v.size * v.size → b < v.size * v.size → is_greater v a b ≡ true → IsGreater v a b
+greater_found v a b small a_in b_in h =
+    elim (one_from_or (says_first (sign_of_pair v a b)) (says_second (sign_of_pair v b a)) h) [
+      | inl t ↦ let there = sign_pair_first v a b small a_in b_in t in record { sign = there.0; says = inl (there.1, there.2) }
+      | inr t ↦ let there = sign_pair_second v b a small b_in a_in t in record { sign = there.0; says = inr (there.1, there.2) }
+    ]
+
+pub greater_tested : (v : UnequalValue) (a b : ℕ) → 3 ≤ v.size → IsGreater v a b → is_greater v a b ≡ true
+greater_tested v a b small h = elim h.says [
+  | inl (between, e) ↦
+      let sides = between_sides v.size h.sign a b small between in
+      let there : sign_of_pair v a b ≡ FirstGreater = rw (sides.between) e in
+      rw there refl
+  | inr (between, e) ↦
+      let sides = between_sides v.size h.sign b a small between in
+      let there : sign_of_pair v b a ≡ SecondGreater = rw (sides.between) e in
+      or_from_second (says_first (sign_of_pair v a b)) (says_second (sign_of_pair v b a)) (rw there refl)
+]

@@ -1,0 +1,71 @@
+-- Towers puzzles: clues and givens, the grids that meet the clues, and the items.
+use Rattle.std.specs.Prelude.{◌≡◌, ℕ, ◌*◌, ◌≤◌, List, length, All, ◌+◌, ◌-◌, ◌<◌, Bool, ◌==◌, ◌||◌, nat_lt, if◌then◌else◌, slice_index, zero, map}
+use Rattle.std.specs.List.{range_with_len, list_all}
+use Rattle.latin_board.specs.Squares.{GridValue}
+use Rattle.tower_lines.specs.TowersSeen.{seen}
+use Rattle.clue_rules.specs.Views.{view_of}
+use Rattle.trail_solver.specs.Puzzles.{Puzzle}
+use Rattle.clue_rules.specs.Items.{kept_items}
+
+pub record TowersValue : Type 0 where
+  pub size : ℕ
+  pub clues : List ℕ
+  pub givens : List ℕ
+
+-- what each Towers puzzle of the program keeps
+pub record IsTowers (p : TowersValue) : Type 0 where
+  pub smallest : 3 ≤ p.size
+  pub largest : p.size ≤ 9
+  pub clue_count : length p.clues ≡ 4 * p.size
+  pub clues_within : All (λ clue. clue ≤ p.size) p.clues
+  pub given_count : length p.givens ≡ p.size * p.size
+  pub givens_within : All (λ n. n ≤ p.size) p.givens
+
+-- the clue at a place, 0 for none
+abbrev pub clue_of : TowersValue → ℕ → ℕ
+clue_of v place = slice_index v.clues place
+
+-- from each clued place as many towers are seen as the clue says
+pub record HoldsClues (v : TowersValue) (g : GridValue) : Type 0 where
+  pub each : (place : ℕ) → place < 4 * v.size → 0 < clue_of v place → seen (view_of g place) ≡ clue_of v place
+
+-- `HoldsClues` as a test that computes
+abbrev pub meets_clue : TowersValue → GridValue → ℕ → Bool
+meets_clue v g place = (clue_of v place == 0) || (seen (view_of g place) == clue_of v place)
+
+abbrev pub meets_clues : TowersValue → GridValue → Bool
+meets_clues v g = list_all (meets_clue v g) (range_with_len 0 (4 * v.size))
+
+-- what generic code knows of the puzzle
+abbrev pub towers_puzzle : TowersValue → Puzzle
+towers_puzzle v = record {
+  size = v.size;
+  given = λ cell. slice_index v.givens cell;
+  meets = meets_clues v;
+  clued = λ place. nat_lt 0 (clue_of v place);
+}
+
+abbrev pub towers_items : ℕ → ℕ
+towers_items w = 4 * w + w * w
+
+-- whether the puzzle has the item
+abbrev pub has_towers : TowersValue → ℕ → Bool
+has_towers v item =
+    if nat_lt item (4 * v.size) then nat_lt 0 (clue_of v item)
+    else nat_lt 0 (slice_index v.givens (item - 4 * v.size))
+
+-- the puzzle without its items outside a set
+abbrev pub cut_towers : TowersValue → (ℕ → Bool) → TowersValue
+cut_towers v keep = record {
+  size = v.size;
+  clues = kept_items zero keep 0 v.clues;
+  givens = kept_items zero keep (4 * v.size) v.givens;
+}
+
+-- the puzzle that has every item of a grid: at each place as many towers as are seen from there, and each square's number
+abbrev pub full_towers : GridValue → TowersValue
+full_towers g = record {
+  size = g.size;
+  clues = map (λ place. seen (view_of g place)) (range_with_len 0 (4 * g.size));
+  givens = g.numbers;
+}

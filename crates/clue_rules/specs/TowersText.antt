@@ -1,0 +1,111 @@
+-- The descriptions of Towers puzzles: the grammar, the written form, and reading one.
+use Rattle.std.specs.Prelude.{◌≡◌, ℕ, ◌+◌, ◌-◌, ◌*◌, ◌/◌, ◌%◌, ◌≤◌, ◌⊎◌, Bool, true, false, ◌==◌, ◌&&◌, not, if◌then◌else◌, List, [], ◌∷◌, ◌++◌, map, replicate, ◌||◌, nat_le, Option, Some, None, Result, Ok, Err}
+use Rattle.std.specs.List.{join_with_byte, list_any, slice_split, list_all, flat_map}
+use Rattle.byte_text.specs.Decimals.{begins_digit, is_digit}
+use Rattle.clue_rules.specs.Towers.{TowersValue, IsTowers}
+use Rattle.byte_text.specs.Cuts.{before, behind}
+use Rattle.byte_text.specs.Reading.{◌>>=◌}
+use Rattle.clue_rules.specs.declared.id_fault.IdFault.{IdFault}
+use Rattle.clue_rules.specs.declared.id_fault.IdFault.TheVariants.{BadClue, BadSquares}
+use Rattle.clue_rules.specs.IdFaults.{counted}
+use Rattle.clue_rules.specs.Bytes.{comma, slash, underscore, digit_zero, letter_a, letter_z}
+
+-- a clue is one digit, and no clue is nothing
+abbrev pub clue_field : ℕ → List ℕ
+clue_field clue = if clue == 0 then [] else ((digit_zero + clue) ∷ [])
+
+-- the clues in description order, with `/` between them
+abbrev pub clue_part : List ℕ → List ℕ
+clue_part clues = join_with_byte slash (map clue_field clues)
+
+-- how many blank squares a letter stands for: 1 for `a`
+abbrev pub blanks_of : ℕ → ℕ
+blanks_of b = b - 96
+
+-- A letter is a run of 1 to 26 blank squares, a digit that ends its run of digits is a given, `_` is nothing.
+abbrev pub IsSquareText : ℕ → List ℕ → List ℕ → Type 0
+IsSquareText w [] squares = squares ≡ []
+IsSquareText w (b ∷ bs) squares =
+    ((b ≡ underscore) × IsSquareText w bs squares)
+    ⊎ ((letter_a ≤ b) × (b ≤ letter_z) × ((more : List ℕ) × (squares ≡ replicate (blanks_of b) 0 ++ more) × IsSquareText w bs more))
+    ⊎ ((digit_zero + 1 ≤ b) × (b ≤ digit_zero + w) × (begins_digit bs ≡ false) × ((more : List ℕ) × (squares ≡ (b - digit_zero) ∷ more) × IsSquareText w bs more))
+
+-- The text describes the puzzle, whose size is w: the clues, and behind a `,` the squares, if any is given.
+pub record IsTowersText (w : ℕ) (p : TowersValue) (text : List ℕ) : Type 0 where
+  pub puzzle : IsTowers p
+  pub size_is : p.size ≡ w
+  pub parts : ((text ≡ clue_part p.clues) × (p.givens ≡ replicate (w * w) 0))
+      ⊎ ((part : List ℕ) × (text ≡ clue_part p.clues ++ comma ∷ part) × IsSquareText w part p.givens)
+
+-- n blank squares: `z` for each 26 while more than 26 are left, and a letter for the rest
+abbrev pub blank_letters : ℕ → List ℕ
+blank_letters n = if n == 0 then [] else (replicate ((n - 1) / 26) letter_z ++ ((letter_a + (n - 1) % 26) ∷ []))
+
+-- a given behind n blank squares and before them another given, or none: `_` stands only between two givens
+abbrev pub given_written : ℕ → Bool → ℕ → List ℕ
+given_written n after_given square =
+    blank_letters n ++ ((if (n == 0) && after_given then (underscore ∷ []) else []) ++ ((digit_zero + square) ∷ []))
+
+-- the squares behind n blank ones, and whether a given stands before those
+abbrev pub squares_written : ℕ → Bool → List ℕ → List ℕ
+squares_written n after_given [] = blank_letters n
+squares_written n after_given (square ∷ squares) =
+    if square == 0 then squares_written (n + 1) after_given squares
+    else (given_written n after_given square ++ squares_written 0 true squares)
+
+-- the squares, where any is given
+abbrev pub square_part : List ℕ → List ℕ
+square_part givens =
+    if list_any (λ n. not (n == 0)) givens then (comma ∷ squares_written 0 false givens) else []
+
+-- the description that is written
+abbrev pub towers_text : TowersValue → List ℕ
+towers_text p = clue_part p.clues ++ square_part p.givens
+
+abbrev pub fields : List ℕ → List (List ℕ)
+fields part = slice_split (λ b. b == slash) part
+
+-- a field is empty, or one digit from 1 to w
+abbrev pub is_clue_field : ℕ → List ℕ → Bool
+is_clue_field w [] = true
+is_clue_field w (b ∷ []) = nat_le (digit_zero + 1) b && nat_le b (digit_zero + w)
+is_clue_field w (b ∷ c ∷ bs) = false
+
+abbrev pub clue_in : List ℕ → ℕ
+clue_in [] = 0
+clue_in (b ∷ bs) = b - digit_zero
+
+abbrev pub clues_in : ℕ → List (List ℕ) → Result (List ℕ) IdFault
+clues_in w fs = if list_all (is_clue_field w) fs then Ok (map clue_in fs) else Err BadClue
+
+unfoldable pub clues_at : ℕ → List ℕ → Result (List ℕ) IdFault
+clues_at w part = counted (4 * w) (fields part) >>= clues_in w
+
+abbrev pub is_blank_letter : ℕ → Bool
+is_blank_letter b = nat_le letter_a b && nat_le b letter_z
+
+-- the byte may stand before the others
+abbrev pub is_square_byte : ℕ → ℕ → List ℕ → Bool
+is_square_byte w b bs = (b == underscore) || (is_blank_letter b || (nat_le (digit_zero + 1) b && (nat_le b (digit_zero + w) && not (begins_digit bs))))
+
+abbrev pub is_square_part : ℕ → List ℕ → Bool
+is_square_part w [] = true
+is_square_part w (b ∷ bs) = is_square_byte w b bs && is_square_part w bs
+
+-- the squares that a byte stands for
+abbrev pub squares_of : ℕ → List ℕ
+squares_of b = if is_blank_letter b then replicate (blanks_of b) 0 else (if is_digit b then ((b - digit_zero) ∷ []) else [])
+
+unfoldable pub givens_at : ℕ → List ℕ → Result (List ℕ) IdFault
+givens_at w part = if is_square_part w part then counted (w * w) (flat_map squares_of part) else Err BadSquares
+
+-- without a square part no square is given
+abbrev pub givens_behind : ℕ → Option (List ℕ) → Result (List ℕ) IdFault
+givens_behind w None = Ok (replicate (w * w) 0)
+givens_behind w (Some part) = givens_at w part
+
+unfoldable pub towers_at : ℕ → List ℕ → Result TowersValue IdFault
+towers_at w text = do
+  clues ← clues_at w (before comma text)
+  givens ← givens_behind w (behind comma text)
+  Ok (record { size = w; clues = clues; givens = givens })

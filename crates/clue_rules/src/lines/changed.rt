@@ -1,0 +1,132 @@
+//! Which rows and columns have to be looked at again.
+
+ghost use Rattle.clue_rules.specs.Inner.ChangedLines.{GainsLine, GainsLinesOf, LosesLine};
+ghost use Rattle.std.specs.Prelude.{◌≡◌, ℕ, ◌+◌, ◌*◌, ◌/◌, ◌%◌, ◌<◌, ◌==◌, ◌||◌, ◌&&◌, not};
+ghost use Rattle.latin_board.specs.Marks.{has_mark, no_marks};
+
+use latin_board::Size;
+use std::marker::Model;
+
+/// A set of lines, the rows from the top and then the columns from the left. Contracts see it as `Marks`.
+#[derive(Clone, Copy)]
+pub(crate) struct Lines {
+    bits: u32,
+}
+
+impl Model for Lines {
+    ghost Value = { ℕ };
+
+    ghost view = { λ l. l.bits };
+
+    ghost inverse = { λ n. record { bits = n } };
+}
+
+impl Lines {
+    fn none() -> Lines
+        ensures { result ≡ no_marks }
+    {
+        Lines { bits: 0 }
+    }
+
+    fn is_empty(self) -> bool
+        ensures { result ≡ (self == no_marks) }
+    {
+        self.bits == 0
+    }
+
+    fn has(self, line: u8) -> bool
+        requires { line < 32 }
+        ensures { result ≡ has_mark self line }
+    {
+        self.bits >> line & 1 == 1
+    }
+
+    fn insert(&mut self, line: u8)
+        requires { line < 32 }
+        ensures { GainsLine line self.old self.new }
+    {
+        self.bits |= 1 << line;
+    }
+
+    // Takes the line out of the set, and tells whether it was in.
+    fn take(&mut self, line: u8) -> bool
+        requires { line < 32 }
+        ensures was { result ≡ has_mark self.old line }
+        ensures rest { LosesLine line self.old self.new }
+    {
+        if !self.has(line) {
+            return false;
+        }
+        self.bits ^= 1 << line;
+        true
+    }
+}
+
+/// The lines that lost candidates since they were looked at: by what rows and columns say, and by what the game's own
+/// rule says.
+#[derive(Clone, Copy)]
+pub(crate) struct ChangedLines {
+    latin: Lines,
+    rule: Lines,
+}
+
+impl ChangedLines {
+    pub fn none() -> ChangedLines
+        ensures latin { result.latin ≡ no_marks }
+        ensures rule { result.rule ≡ no_marks }
+    {
+        ChangedLines {
+            latin: Lines::none(),
+            rule: Lines::none(),
+        }
+    }
+
+    /// Notes that a square of the grid lost candidates.
+    pub fn note(&mut self, size: Size, cell: usize)
+        requires { cell < size * size }
+        ensures latin { GainsLinesOf size cell self.old.latin self.new.latin }
+        ensures rule { GainsLinesOf size cell self.old.rule self.new.rule }
+    {
+        let width = size.get() as usize;
+        let row = (cell / width) as u8;
+        let column = (width + cell % width) as u8;
+        self.latin.insert(row);
+        self.latin.insert(column);
+        self.rule.insert(row);
+        self.rule.insert(column);
+    }
+
+    /// Whether what rows and columns say is to be looked at again in some line.
+    pub fn latin_is_settled(&self) -> bool
+        ensures { result ≡ (self.now.latin == no_marks) }
+    {
+        self.latin.is_empty()
+    }
+
+    /// Whether the game's own rule is to be looked at again in some line.
+    pub fn rule_is_settled(&self) -> bool
+        ensures { result ≡ (self.now.rule == no_marks) }
+    {
+        self.rule.is_empty()
+    }
+
+    /// Whether the line is to be looked at again for what it says as a row or column; from now on it isn't.
+    pub fn take_latin(&mut self, line: u8) -> bool
+        requires { line < 32 }
+        ensures was { result ≡ has_mark self.old.latin line }
+        ensures rest { LosesLine line self.old.latin self.new.latin }
+        ensures rule { self.new.rule ≡ self.old.rule }
+    {
+        self.latin.take(line)
+    }
+
+    /// Whether the line is to be looked at again for the game's own rule; from now on it isn't.
+    pub fn take_rule(&mut self, line: u8) -> bool
+        requires { line < 32 }
+        ensures was { result ≡ has_mark self.old.rule line }
+        ensures rest { LosesLine line self.old.rule self.new.rule }
+        ensures latin { self.new.latin ≡ self.old.latin }
+    {
+        self.rule.take(line)
+    }
+}

@@ -1,0 +1,34 @@
+//! The given squares of a puzzle.
+
+ghost use Rattle.std.specs.Prelude.{◌≡◌, ℕ, ◌*◌, ◌<◌, ◌≤◌};
+ghost use Rattle.latin_board.specs.Squares.{GridValue, number_at};
+ghost use Rattle.trail_solver.specs.Candidates.{IsEarlier, IsWithin};
+ghost use Rattle.clue_rules.specs.Inner.Narrowing.{Agrees, KeepsEach};
+
+use crate::lines::view_candidates::strike_missing;
+use latin_board::Grid;
+use trail_solver::Candidates;
+
+/// Takes all values but its given from each given square.
+pub(crate) fn keep_givens(candidates: &mut Candidates, givens: &Grid)
+    requires { givens.now.size ≡ candidates.old.size }
+    ensures less { IsEarlier candidates.old candidates.new }
+    ensures keeps { KeepsEach (Agrees givens.now) candidates.old candidates.new }
+{
+    let width = candidates.size().get() as usize;
+    for cell in 0..width * width {
+        keep_given(candidates, cell, givens.get(cell));
+    }
+}
+
+// Takes all values but the given from a square, if there is one.
+fn keep_given(candidates: &mut Candidates, cell: usize, given: u8)
+    requires cell { cell < candidates.old.size * candidates.old.size }
+    requires given { given < 16 }
+    ensures less { IsEarlier candidates.old candidates.new }
+    ensures keeps { KeepsEach (λ g. 0 < given → number_at g cell ≡ given) candidates.old candidates.new }
+{
+    if given > 0 {
+        let _struck = strike_missing(candidates, cell, 1 << given);
+    }
+}

@@ -1,0 +1,179 @@
+//! What the squares of a row or a column rule out among themselves.
+
+ghost use Rattle.std.specs.Prelude.{◌≡◌, ◌≢◌, ℕ, ◌+◌, ◌-◌, ◌*◌, ◌<◌, ◌≤◌, ◌&&◌, true, false, not, MatchOption, slice_index};
+ghost use Rattle.latin_board.specs.Lines.{line_cell};
+ghost use Rattle.clue_rules.specs.Inner.Narrowing.{IsSquare, Narrows, NoneStruck};
+ghost use Rattle.clue_rules.specs.Inner.LineTallies.{IsSingle, AreImpossible, IsWholeTally, IsTally, IsCounted, IsClash, IsKeptOf, IsLineStruck};
+ghost use Rattle.clue_rules.specs.Struck.{IsLatinStruck};
+ghost use Rattle.clue_rules.specs.Views.{view_cell, front_place};
+
+use crate::lines::changed::ChangedLines;
+use crate::lines::value_sets::{is_single, without};
+use crate::lines::view_candidates::{keep_along, view_sets};
+use crate::lines::views::{LINE, front_place};
+use latin_board::Size;
+use trail_solver::Candidates;
+
+/// Takes away what rows and columns rule out, until they say no more: the value of a square that has just one goes from
+/// the rest of its lines, and all other values go from a square that is the one place of a value in a line.
+pub(crate) fn narrow_latin(candidates: &mut Candidates, changed: &mut ChangedLines) -> bool
+    ensures { Narrows IsSquare IsLatinStruck candidates.old candidates.new result }
+{
+    strike_lines(candidates, changed) && settle_latin(candidates, changed)
+}
+
+// Looks at every line once.
+fn strike_lines(candidates: &mut Candidates, changed: &mut ChangedLines) -> bool
+    ensures { Narrows IsSquare IsLatinStruck candidates.old candidates.new result }
+{
+    let width = candidates.size().get();
+    for line in 0..2 * width {
+        if !strike_line(candidates, line, changed) {
+            return false;
+        }
+    }
+    true
+}
+
+/// Looks at the lines that changed, until none does.
+pub(crate) fn settle_latin(candidates: &mut Candidates, changed: &mut ChangedLines) -> bool
+    ensures { Narrows IsSquare NoneStruck candidates.old candidates.new result }
+{
+    // The proof learns here that the width is from 3 to 9.
+    let _size = candidates.size();
+    loop {
+        if changed.latin_is_settled() {
+            return true;
+        }
+        let before = candidates.trail_len();
+        if !strike_changed(candidates, changed) {
+            return false;
+        }
+        if candidates.trail_len() == before {
+            return true;
+        }
+    }
+}
+
+// Looks once at the lines that changed.
+fn strike_changed(candidates: &mut Candidates, changed: &mut ChangedLines) -> bool
+    ensures { Narrows IsSquare NoneStruck candidates.old candidates.new result }
+{
+    let width = candidates.size().get();
+    for line in 0..2 * width {
+        if !strike_if_changed(candidates, line, changed) {
+            return false;
+        }
+    }
+    true
+}
+
+fn strike_if_changed(candidates: &mut Candidates, line: u8, changed: &mut ChangedLines) -> bool
+    requires { line < 2 * candidates.old.size }
+    ensures { Narrows IsSquare NoneStruck candidates.old candidates.new result }
+{
+    // The proof learns here that the width is from 3 to 9.
+    let _size = candidates.size();
+    if !changed.take_latin(line) {
+        return true;
+    }
+    strike_line(candidates, line, changed)
+}
+
+fn strike_line(candidates: &mut Candidates, line: u8, changed: &mut ChangedLines) -> bool
+    requires { line < 2 * candidates.old.size }
+    ensures { Narrows IsSquare (IsLineStruck line) candidates.old candidates.new result }
+{
+    let size = candidates.size();
+    let width = size.get() as usize;
+    let place = front_place(size, line);
+    let sets = view_sets(candidates, place);
+    let Some(tally) = tally_of(&sets, width) else {
+        return false;
+    };
+    let kept = tally.kept_along(&sets, width);
+    keep_along(candidates, place, &kept, changed)
+}
+
+// What the sets of candidates of a line say together: the values of which one of them has one, of which two have one,
+// and those that are alone in one.
+#[derive(Clone, Copy)]
+struct Tally {
+    once: u16,
+    twice: u16,
+    singles: u16,
+}
+
+// The tally of a line's sets, or none where they can't be the candidates of a row or column.
+fn tally_of(sets: &[u16; LINE], width: usize) -> Option<Tally>
+    requires { width ≤ 9 }
+    ensures { MatchOption result (AreImpossible sets.now width) (IsWholeTally sets.now width) }
+{
+    let mut tally = Tally {
+        once: 0,
+        twice: 0,
+        singles: 0,
+    };
+    for k in 0..width {
+        tally = tally.with(sets[k])?;
+    }
+    let every = (1 << (width + 1)) - 2;
+    if tally.once & every != every {
+        return None;
+    }
+    Some(tally)
+}
+
+impl Tally {
+    ghost use Rattle.std.specs.Prelude.{◌≡◌, ℕ, ◌<◌, MatchOption, slice_index};
+    ghost use Rattle.clue_rules.specs.Inner.LineTallies.{IsCounted, IsClash, IsKeptOf};
+
+    // The tally with one set more, or none where the set is empty or its only value is alone in another set.
+    fn with(self, set: u16) -> Option<Tally>
+        ensures { MatchOption result (IsClash self set) (IsCounted self set) }
+    {
+        if set == 0 {
+            return None;
+        }
+        let single = if is_single(set) { set } else { 0 };
+        if self.singles & single != 0 {
+            return None;
+        }
+        Some(Tally {
+            once: self.once | set,
+            twice: self.twice | self.once & set,
+            singles: self.singles | single,
+        })
+    }
+
+    // The values that may stay in each square.
+    fn kept_along(self, sets: &[u16; LINE], width: usize) -> [u16; LINE]
+        requires { width ≤ 9 }
+        ensures { (k : ℕ) → k < width
+            → IsKeptOf self (slice_index sets.now k) (slice_index result k) }
+    {
+        let mut kept = [0; LINE];
+        for k in 0..width {
+            kept[k] = self.kept(sets[k]);
+        }
+        kept
+    }
+
+    // The values of a set that may stay.
+    fn kept(self, set: u16) -> u16
+        ensures { IsKeptOf self set result }
+    {
+        if is_single(set) {
+            return set;
+        }
+        let forced = without(set & self.once, self.twice);
+        let free = without(set, self.singles);
+        if forced == 0 {
+            return free;
+        }
+        if is_single(forced) {
+            return forced & free;
+        }
+        0
+    }
+}

@@ -1,0 +1,90 @@
+//! The candidates of the squares that an edge place looks along.
+
+ghost use Rattle.std.specs.Prelude.{◌≡◌, ℕ, ◌*◌, ◌<◌, ◌≤◌, ◌==◌, not, length};
+ghost use Rattle.std.specs.Bool.{OnFalse};
+ghost use Rattle.trail_solver.specs.Pairs.{IsPair};
+ghost use Rattle.clue_rules.specs.Inner.Narrowing.{AreSetsOf, KeepsAlong, KeepsOf};
+ghost use Rattle.clue_rules.specs.Views.{view_cell};
+
+use crate::lines::changed::ChangedLines;
+use crate::lines::value_sets::has_value;
+use crate::lines::views::{LINE, view_cell};
+use trail_solver::Candidates;
+
+/// The candidates of each square from an edge place, the nearest first, as bit sets: bit v is set where v is one.
+pub(crate) fn view_sets(candidates: &Candidates, place: u8) -> [u16; LINE]
+    requires { place < 4 * candidates.now.size }
+    ensures { AreSetsOf candidates.now place result }
+{
+    let size = candidates.size();
+    let mut sets = [0; LINE];
+    for k in 0..size.get() as usize {
+        sets[k] = candidates.values(view_cell(size, place, k));
+    }
+    sets
+}
+
+/// Takes all values but those of these sets from the squares from an edge place. Stops with false at an empty set.
+pub(crate) fn keep_along(
+    candidates: &mut Candidates,
+    place: u8,
+    kept: &[u16; LINE],
+    changed: &mut ChangedLines,
+) -> bool
+    requires { place < 4 * candidates.old.size }
+    ensures { KeepsAlong place kept.now candidates.old candidates.new result }
+{
+    let size = candidates.size();
+    for k in 0..size.get() as usize {
+        if !keep_of(candidates, view_cell(size, place, k), kept[k], changed) {
+            return false;
+        }
+    }
+    true
+}
+
+/// Takes all values but those of a set from a square, notes its lines where it had others, and tells whether the set has
+/// any.
+pub(crate) fn keep_of(
+    candidates: &mut Candidates,
+    cell: usize,
+    kept: u16,
+    changed: &mut ChangedLines,
+) -> bool
+    requires { cell < candidates.old.size * candidates.old.size }
+    ensures kept { KeepsOf candidates.old candidates.new cell kept }
+    ensures some { result ≡ not (kept == 0) }
+{
+    let size = candidates.size();
+    if strike_missing(candidates, cell, kept) {
+        changed.note(size, cell);
+    }
+    kept != 0
+}
+
+/// Takes the values that a set lacks from a square, and tells whether there were any.
+pub(crate) fn strike_missing(candidates: &mut Candidates, cell: usize, kept: u16) -> bool
+    requires { cell < candidates.old.size * candidates.old.size }
+    ensures kept { KeepsOf candidates.old candidates.new cell kept }
+    ensures same { OnFalse result (candidates.new ≡ candidates.old) }
+{
+    let set = candidates.values(cell);
+    if set & kept == set {
+        return false;
+    }
+    strike_others(candidates, cell, kept);
+    true
+}
+
+// Takes the values that a set lacks from a square.
+fn strike_others(candidates: &mut Candidates, cell: usize, kept: u16)
+    requires { cell < candidates.old.size * candidates.old.size }
+    ensures { KeepsOf candidates.old candidates.new cell kept }
+{
+    let width = candidates.size().get();
+    for value in 1..width + 1 {
+        if !has_value(kept, value) {
+            candidates.remove(cell, value);
+        }
+    }
+}

@@ -1,0 +1,66 @@
+//! Towers as a game of the collection.
+
+use crate::game::Game;
+use crate::id_fault::IdFault;
+use crate::towers::Towers;
+use crate::towers::description::{read_towers, write_towers};
+use latin_board::{Size, edge_place};
+use std::alloc::Global;
+use trail_solver::Rules;
+
+impl Game for Towers {
+    ghost use Rattle.clue_rules.specs.Laws.GameIds.{towers_letters_lack};
+    ghost use Rattle.std.specs.Prelude.{codes};
+    ghost use Rattle.clue_rules.specs.TowersText.{IsTowersText, towers_text};
+    ghost use Rattle.clue_rules.specs.TowersText.{towers_at};
+    ghost use Rattle.clue_rules.specs.Laws.TowersGame as laws;
+    ghost use Rattle.clue_rules.specs.Laws.SparedMemory.{towers_spares};
+
+    ghost title = { codes "Towers" };
+
+    ghost letter_codes = { codes "ehxu" };
+
+    ghost describes = { λ text p. IsTowersText p.size p text };
+
+    ghost desc_at = { towers_at };
+
+    ghost desc_of = { towers_text };
+
+    fn name() -> &'static str {
+        "Towers"
+    }
+
+    /// Easy, Hard, Extreme and Unreasonable.
+    fn letters() -> &'static str {
+        "ehxu"
+    }
+
+    fn same(&self, other: &Towers) -> bool {
+        self == other
+    }
+
+    fn clue_at(&self, x: i8, y: i8) -> bool {
+        match edge_place(self.size(), x, y) {
+            Some(place) => self.clue(place) > 0,
+            None => false,
+        }
+    }
+
+    fn read_desc(size: Size, text: &[u8]) -> Result<Towers, IdFault> {
+        read_towers(size, text)
+    }
+
+    fn write_desc(&self, alloc: Global) -> Result<Vec<u8>, IdFault> {
+        write_towers(alloc, self)
+    }
+
+    ghost plain_letters = { towers_letters_lack };
+
+    ghost desc_taken = { λ w text p large small read. laws.desc_taken w text p large small read };
+
+    ghost desc_spares = { towers_spares };
+
+    ghost desc_again = { λ text p valid text_is. laws.desc_again text p text_is };
+
+    ghost desc_canonical = { λ p valid. laws.desc_canonical p valid };
+}

@@ -1,0 +1,132 @@
+//! What the clues of Towers rule out along a line.
+
+ghost use Rattle.std.specs.Prelude.{◌≡◌, ℕ, ◌+◌, ◌*◌, ◌<◌, ◌≤◌, true, take, slice_index};
+ghost use Rattle.std.specs.Bool.{OnTrue};
+ghost use Rattle.latin_board.specs.Marks.{has_mark};
+ghost use Rattle.latin_board.specs.Squares.{GridValue};
+ghost use Rattle.tower_lines.specs.LineFillings.{IsSupported};
+ghost use Rattle.tower_lines.specs.TowersSeen.{seen};
+ghost use Rattle.trail_solver.specs.Candidates.{CandidatesValue};
+ghost use Rattle.trail_solver.specs.Puzzles.{Solves};
+ghost use Rattle.clue_rules.specs.Inner.Narrowing.{IsSquare, Narrows};
+ghost use Rattle.clue_rules.specs.Towers.{towers_puzzle};
+ghost use Rattle.clue_rules.specs.Struck.{IsViewStruck};
+ghost use Rattle.clue_rules.specs.Inner.TowersLines.{IsEndStruck, IsClueStruck, ShowsClue, HoldValuesTo, AreSupported};
+ghost use Rattle.clue_rules.specs.Views.{view_of};
+ghost use Rattle.clue_rules.specs.Towers.{clue_of};
+
+use crate::lines::changed::ChangedLines;
+use crate::lines::narrowing::LineRules;
+use crate::lines::value_sets::is_single;
+use crate::lines::view_candidates::{keep_along, view_sets};
+use crate::lines::views::{LINE, front_place};
+use crate::towers::Towers;
+use tower_lines::{seen, supported};
+use trail_solver::{Candidates, Rules};
+
+impl LineRules for Towers {
+    ghost use Rattle.trail_solver.specs.Puzzles.{Solves};
+    ghost use Rattle.clue_rules.specs.Towers.{towers_puzzle};
+    ghost use Rattle.clue_rules.specs.Inner.TowersLines.{IsEndStruck, IsClueStruck, ShowsClue, HoldValuesTo, AreSupported};
+
+    ghost width = { λ v. v.size };
+
+    ghost sought = { λ v g. Solves (towers_puzzle v) g };
+
+    ghost rules_out = { IsEndStruck };
+
+    fn strike_along(
+        &self,
+        candidates: &mut Candidates,
+        line: u8,
+        changed: &mut ChangedLines,
+    ) -> bool {
+        let size = candidates.size();
+        let front = front_place(size, line);
+        self.strike_view(candidates, front, changed)
+            && self.strike_back(candidates, front + size.get(), line, changed)
+    }
+
+    ghost squares = { λ v g s. record { is_grid = s.is_grid; latin = s.latin } };
+}
+
+impl Towers {
+    // As `strike_view`, from the second end of a line. Where nothing goes, what the first end says is still so, and the
+    // line isn't to be looked at again.
+    fn strike_back(
+        &self,
+        candidates: &mut Candidates,
+        place: u8,
+        line: u8,
+        changed: &mut ChangedLines,
+    ) -> bool
+        requires size { candidates.old.size ≡ self.now.size }
+        requires place { place < 4 * candidates.old.size }
+        requires line { line < 2 * candidates.old.size }
+        ensures { Narrows (Solves (towers_puzzle self.now)) (IsClueStruck self.now place)
+            candidates.old candidates.new result }
+    {
+        // The proof learns here that the width is from 3 to 9.
+        let _size = candidates.size();
+        let before = candidates.trail_len();
+        let left = self.strike_view(candidates, place, changed);
+        if candidates.trail_len() == before {
+            let _changed_by_front = changed.take_rule(line);
+        }
+        left
+    }
+
+    // Takes away what the clue at a place rules out, if there is one.
+    fn strike_view(
+        &self,
+        candidates: &mut Candidates,
+        place: u8,
+        changed: &mut ChangedLines,
+    ) -> bool
+        requires size { candidates.old.size ≡ self.now.size }
+        requires place { place < 4 * candidates.old.size }
+        ensures { Narrows (Solves (towers_puzzle self.now)) (IsClueStruck self.now place)
+            candidates.old candidates.new result }
+    {
+        let clue = self.clue(place);
+        if clue == 0 {
+            return true;
+        }
+        narrow_view(candidates, place, clue, changed)
+    }
+}
+
+// Keeps, in each square from a place, the values that some line of candidates has there that shows as many towers as the
+// clue says.
+fn narrow_view(candidates: &mut Candidates, place: u8, clue: u8, changed: &mut ChangedLines) -> bool
+    requires place { place < 4 * candidates.old.size }
+    requires clue { clue ≤ candidates.old.size }
+    ensures { Narrows (ShowsClue place clue) (IsViewStruck place clue) candidates.old candidates.new result }
+{
+    let width = candidates.size().get() as usize;
+    let sets = view_sets(candidates, place);
+    if shows_alone(&sets, width, clue) {
+        return true;
+    }
+    let kept = supported(&sets[..width], clue);
+    keep_along(candidates, place, &kept, changed)
+}
+
+// Whether each set has one value, all different, and these show as many towers as the clue says.
+fn shows_alone(sets: &[u16; LINE], width: usize, clue: u8) -> bool
+    requires width { width ≤ 9 }
+    requires values { HoldValuesTo width sets.now }
+    ensures { OnTrue result (AreSupported width clue sets.now) }
+{
+    let mut line = [0; LINE];
+    let mut used = 0;
+    for k in 0..width {
+        let set = sets[k];
+        if !is_single(set) || used & set != 0 {
+            return false;
+        }
+        used |= set;
+        line[k] = set.trailing_zeros() as u8;
+    }
+    seen(&line[..width]) as u8 == clue
+}

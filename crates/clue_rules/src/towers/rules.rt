@@ -1,0 +1,295 @@
+//! The rules of Towers: its clues, and what a solver and a generator know of a puzzle.
+
+ghost use Rattle.std.specs.Prelude.{◌≡◌, ℕ, ◌+◌, ◌-◌, ◌*◌, ◌<◌, ◌≤◌, ◌↔◌, ◌==◌, ◌&&◌, false, IsTrue, not, slice_index};
+ghost use Rattle.std.specs.Bool.{OnFalse, OnTrue};
+ghost use Rattle.latin_board.specs.Squares.{GridValue, IsGrid, IsFull, IsLatin};
+ghost use Rattle.tower_lines.specs.TowersSeen.{seen};
+ghost use Rattle.clue_rules.specs.Views.{view_of};
+ghost use Rattle.trail_solver.specs.Candidates.{IsEarlier, IsWithin, may_be};
+ghost use Rattle.trail_solver.specs.Pairs.{IsPair};
+ghost use Rattle.trail_solver.specs.Puzzles.{Solves};
+ghost use Rattle.clue_rules.specs.Towers.{TowersValue, IsTowers};
+ghost use Rattle.clue_rules.specs.Towers.{clue_of, meets_clue, meets_clues, HoldsClues};
+ghost use Rattle.clue_rules.specs.Struck.{IsTowersStruck, KeepsSolutions, HasNoSolution, NoneLeft};
+ghost use Rattle.clue_rules.specs.Towers.{towers_puzzle, towers_items, has_towers, cut_towers, full_towers};
+
+use crate::lines::given_squares::keep_givens;
+use crate::lines::narrowing::narrow_by_lines;
+use crate::lines::views::{LINE, view_cell};
+use crate::towers::{PLACES, Towers};
+use latin_board::{Grid, Size};
+use tower_lines::seen;
+use trail_solver::{Candidates, Rules};
+
+// How many towers are seen from an edge place.
+fn seen_from(grid: &Grid, place: u8) -> u8
+    requires { place < 4 * grid.now.size }
+    ensures value { result ≡ seen (view_of grid.now place) }
+    ensures within { result ≤ grid.now.size }
+{
+    let size = grid.size();
+    let width = size.get() as usize;
+    let mut line = [0; LINE];
+    for k in 0..width {
+        line[k] = grid.get(view_cell(size, place, k));
+    }
+    seen(&line[..width]) as u8
+}
+
+impl Towers {
+    /// The clue at an edge place, 0 for none; the place is below four times the width.
+    ///
+    /// Places are numbered in description order, as `latin_board::edge_place` does.
+    pub fn clue(&self, place: u8) -> u8
+        requires { place < 4 * self.now.size }
+        ensures value { result ≡ clue_of self.now place }
+        ensures within { result ≤ self.now.size }
+    {
+        self.clues()[place as usize]
+    }
+
+    fn givens(&self) -> &Grid
+        ensures { result.now ≡ record { size = self.now.size; numbers = self.now.givens } }
+    {
+        &self.givens
+    }
+
+    // Whether as many towers are seen from a place as its clue says.
+    fn meets_clue(&self, grid: &Grid, place: u8) -> bool
+        requires size { grid.now.size ≡ self.now.size }
+        requires inside { place < 4 * self.now.size }
+        ensures { result ≡ meets_clue self.now grid.now place }
+    {
+        let clue = self.clue(place);
+        clue == 0 || seen_from(grid, place) == clue
+    }
+
+    fn meets_clues(&self, grid: &Grid) -> bool
+        requires { grid.now.size ≡ self.now.size }
+        ensures { result ≡ meets_clues self.now grid.now }
+    {
+        let width = self.givens.size().get();
+        (0..4 * width).all(|place| self.meets_clue(grid, place))
+    }
+}
+
+impl Rules for Towers {
+    ghost use Rattle.std.specs.Prelude.{refl};
+    ghost use Rattle.clue_rules.specs.Towers.{IsTowers};
+    ghost use Rattle.clue_rules.specs.Towers.{towers_puzzle, towers_items, has_towers, cut_towers, full_towers};
+    ghost use Rattle.clue_rules.specs.Laws.TowersItems as laws;
+
+    ghost puzzle = { towers_puzzle };
+
+    ghost valid = { IsTowers };
+
+    ghost items_of = { towers_items };
+
+    ghost has = { has_towers };
+
+    ghost cut = { cut_towers };
+
+    ghost full_of = { full_towers };
+
+    fn size(&self) -> Size {
+        self.givens.size()
+    }
+
+    fn given(&self, cell: usize) -> u8 {
+        self.givens.get(cell)
+    }
+
+    fn holds(&self, grid: &Grid) -> bool
+        requires size { grid.now.size ≡ self.now.size }
+        requires full { IsFull grid.now }
+        ensures value { result ≡ meets_clues self.now grid.now }
+        // It is the rule: from each clued place as many towers are seen as the clue says.
+        ensures rule { IsTrue result ↔ HoldsClues self.now grid.now }
+    {
+        self.meets_clues(grid)
+    }
+
+    /// Where it answers true, no pair is left that rows and columns or a clue rule out by the candidates that were given.
+    fn narrow(&self, candidates: &mut Candidates) -> bool
+        requires { candidates.old.size ≡ self.now.size }
+        ensures less { IsEarlier candidates.old candidates.new }
+        ensures keeps { KeepsSolutions (towers_puzzle self.now) candidates.old candidates.new }
+        ensures refutes { OnFalse result (HasNoSolution (towers_puzzle self.now) candidates.old) }
+        ensures struck { OnTrue result (NoneLeft (IsTowersStruck self.now) candidates.old candidates.new) }
+    {
+        keep_givens(candidates, self.givens());
+        narrow_by_lines(self, candidates)
+    }
+
+    fn item_count(size: Size) -> usize {
+        let width = size.get() as usize;
+        4 * width + width * width
+    }
+
+    fn has_item(&self, i: usize) -> bool {
+        let count = self.clues().len();
+        if i < count {
+            self.clues[i] > 0
+        } else {
+            self.givens.get(i - count) > 0
+        }
+    }
+
+    fn drop_item(&mut self, i: usize) {
+        let count = self.clues().len();
+        if i < count {
+            self.clues[i] = 0;
+        } else {
+            self.givens.set(i - count, 0);
+        }
+    }
+
+    fn full(grid: &Grid) -> Towers {
+        let width = grid.size().get();
+        let mut clues = [0; PLACES];
+        for place in 0..4 * width {
+            clues[place as usize] = seen_from(grid, place);
+        }
+        Towers {
+            clues,
+            givens: *grid,
+        }
+    }
+
+    ghost valid_size = { laws.valid_size };
+
+    ghost valid_given = { laws.valid_given };
+
+    ghost few_items = { laws.few_items };
+
+    ghost cut_valid = { laws.cut_valid };
+
+    ghost cut_size = { λ p keep h. refl };
+
+    ghost cut_has = { λ p keep i h inside. laws.cut_has p keep i };
+
+    ghost cut_all = { λ p h. laws.cut_all p };
+
+    ghost cut_cut = { λ p first second h. laws.cut_cut p first second };
+
+    ghost cut_agrees = { laws.cut_agrees };
+
+    ghost cut_solved = { λ p keep g h. laws.cut_solved p keep g };
+
+    ghost full_valid = { λ g is_grid latin. laws.full_valid g is_grid };
+
+    ghost full_size = { λ g is_grid latin. refl };
+
+    ghost full_given = { λ g cell is_grid latin inside. refl };
+
+    ghost full_has = { laws.full_has };
+
+    ghost full_solved = { laws.full_solved };
+}
+
+#[cfg(test)]
+mod tests {
+    use super::*;
+    use crate::game::Game;
+    use crate::id_fault::IdFault;
+    use std::test::Fail;
+
+    // The puzzle of width 3 that a text describes.
+    fn puzzle(text: &str) -> Result<Towers, IdFault> {
+        let size = Size::new(3).ok_or(IdFault::BadSize)?;
+        Towers::read_desc(size, text.as_bytes())
+    }
+
+    // The grid that is given whole.
+    fn grid(text: &str) -> Result<Grid, IdFault> {
+        Ok(puzzle(text)?.givens)
+    }
+
+    fn clue(puzzle: &Towers, place: u8) -> u8 {
+        if place < 4 * puzzle.size().get() {
+            puzzle.clue(place)
+        } else {
+            0
+        }
+    }
+
+    // Whether a Latin square meets the puzzle's clues.
+    fn holds(puzzle: &Towers, grid: &Grid) -> bool {
+        grid.size().get() == puzzle.size().get() && grid.is_latin() && puzzle.holds(grid)
+    }
+
+    fn has(puzzle: &Towers, i: usize) -> bool {
+        i < Towers::item_count(puzzle.size()) && puzzle.has_item(i)
+    }
+
+    // The puzzle without an item.
+    fn without(puzzle: &Towers, i: usize) -> Towers {
+        let mut rest = *puzzle;
+        if i < Towers::item_count(puzzle.size()) {
+            rest.drop_item(i);
+        }
+        rest
+    }
+
+    // The full puzzle of a Latin square.
+    fn full_of(grid: &Grid) -> Option<Towers> {
+        if grid.is_latin() {
+            Some(Towers::full(grid))
+        } else {
+            None
+        }
+    }
+
+    #[test]
+    fn holds_the_worked_puzzle(rt: HostRuntime) -> Result<(), Fail> {
+        let towers = puzzle("3//////3/////")?;
+        assert_eq!(rt; clue(&towers, 0), 3);
+        assert_eq!(rt; clue(&towers, 1), 0);
+        assert_eq!(rt; clue(&towers, 6), 3);
+        assert_eq!(rt; clue(&towers, 11), 0);
+        assert!(rt; holds(&towers, &grid("///////////,1_2_3_2_3_1_3_1_2")?));
+        assert!(rt; !holds(&towers, &grid("///////////,1_3_2_2_1_3_3_2_1")?));
+        Ok(())
+    }
+
+    #[test]
+    fn counts_and_drops_items(rt: HostRuntime) -> Result<(), Fail> {
+        let towers = puzzle("3//////3/////,c2e")?;
+        assert_eq!(rt; Towers::item_count(towers.size()), 21);
+        for i in 0..21 {
+            assert_eq!(rt; has(&towers, i), i == 0 || i == 6 || i == 15);
+        }
+        assert!(rt; without(&towers, 1).same(&towers));
+        assert!(rt; without(&towers, 0).same(&puzzle("//////3/////,c2e")?));
+        assert!(rt; without(&towers, 6).same(&puzzle("3///////////,c2e")?));
+        assert!(rt; without(&towers, 15).same(&puzzle("3//////3/////")?));
+        assert!(rt; !without(&towers, 0).same(&towers));
+        Ok(())
+    }
+
+    #[test]
+    fn is_full_with_every_clue_and_given(rt: HostRuntime) -> Result<(), Fail> {
+        let square = grid("///////////,1_2_3_2_3_1_3_1_2")?;
+        let full = full_of(&square).ok_or("Latin")?;
+        let written = full.write_desc(rt.alloc())?;
+        assert_eq!(rt;
+            written.as_slice(),
+            b"3/2/1/1/2/2/3/2/1/1/2/2,1_2_3_2_3_1_3_1_2".as_slice()
+        );
+        assert_eq!(rt; full.given(0), 1);
+        assert!(rt; holds(&full, &square));
+        Ok(())
+    }
+
+    #[test]
+    fn tells_where_clues_are(rt: HostRuntime) -> Result<(), Fail> {
+        let towers = puzzle("3//////3/////")?;
+        assert!(rt; towers.clue_at(0, -1));
+        assert!(rt; towers.clue_at(-1, 0));
+        assert!(rt; !towers.clue_at(1, -1));
+        assert!(rt; !towers.clue_at(0, 3));
+        assert!(rt; !towers.clue_at(0, 0));
+        assert!(rt; !towers.clue_at(-1, -1));
+        Ok(())
+    }
+}

@@ -1,0 +1,64 @@
+//! Unequal as a game of the collection.
+
+use crate::game::Game;
+use crate::id_fault::IdFault;
+use crate::unequal::Unequal;
+use crate::unequal::description::{read_unequal, write_unequal};
+use latin_board::Size;
+use std::alloc::Global;
+
+impl Game for Unequal {
+    ghost use Rattle.clue_rules.specs.Laws.GameIds.{unequal_letters_lack};
+    ghost use Rattle.std.specs.Prelude.{codes};
+    ghost use Rattle.clue_rules.specs.UnequalText.{IsUnequalText, unequal_text};
+    ghost use Rattle.clue_rules.specs.UnequalText.{unequal_at};
+    ghost use Rattle.clue_rules.specs.Laws.UnequalText.{desc_taken as taken, unequal_again};
+    ghost use Rattle.clue_rules.specs.Laws.UnequalWritten.{unequal_canonical};
+    ghost use Rattle.clue_rules.specs.Laws.SparedMemory.{unequal_spares};
+
+    ghost title = { codes "Unequal" };
+
+    ghost letter_codes = { codes "tekxr" };
+
+    ghost describes = { λ text p. IsUnequalText p text };
+
+    ghost desc_at = { unequal_at };
+
+    ghost desc_of = { unequal_text };
+
+    fn name() -> &'static str {
+        "Unequal"
+    }
+
+    /// Trivial, Easy, Tricky, Extreme and Recursive.
+    fn letters() -> &'static str {
+        "tekxr"
+    }
+
+    fn same(&self, other: &Unequal) -> bool {
+        self == other
+    }
+
+    /// No edge of Unequal has a clue.
+    fn clue_at(&self, _x: i8, _y: i8) -> bool {
+        false
+    }
+
+    fn read_desc(size: Size, text: &[u8]) -> Result<Unequal, IdFault> {
+        read_unequal(size, text)
+    }
+
+    fn write_desc(&self, alloc: Global) -> Result<Vec<u8>, IdFault> {
+        write_unequal(alloc, self)
+    }
+
+    ghost plain_letters = { unequal_letters_lack };
+
+    ghost desc_taken = { taken };
+
+    ghost desc_spares = { unequal_spares };
+
+    ghost desc_again = { λ text p valid described. unequal_again text p described };
+
+    ghost desc_canonical = { unequal_canonical };
+}
