@@ -18,6 +18,10 @@ pub narrowed_adds : (p : Puzzle) (old new : CandidatesValue) (found answer : Ans
 narrowed_adds p old new found answer less keeps a =
     adds_same (IsAmong p new) (IsAmong p old) found answer (λ h s. (s.0, within_earlier old new h less s.1)) (λ h s. (s.0, keeps h s.0 s.1)) a
 
+-- and where it fails, there was none
+pub refuted_adds : (p : Puzzle) (c : CandidatesValue) (found : Answer) → ((h : GridValue) → Solves p h → IsWithin c h → ⊥) → Adds (IsAmong p c) found found
+refuted_adds p c found n = adds_nothing (IsAmong p c) found (λ h s. n h s.0 s.1)
+
 -- ---- where all squares are settled
 
 pub leaf_adds : (p : Puzzle) (c : CandidatesValue) (g : GridValue) (found answer : Answer) → c.size ≡ p.size → IsFilled c g → Solves p g → Adds (λ h. h ≡ g) found answer → Adds (IsAmong p c) found answer

@@ -11,7 +11,7 @@ use crate::candidates::Candidates;
 use crate::choice::first_open;
 use crate::failures::Failures;
 use crate::rules::{Rules, solves};
-use crate::solver::search;
+use crate::solver::{narrow_from, search};
 use crate::squares::{filled, keep_only, with_givens};
 use latin_board::{Grid, OutOfMemory};
 use std::alloc::Global;
@@ -29,7 +29,9 @@ pub fn solutions<P: Rules>(alloc: Global, p: &P, limit: u8) -> Result<Vec<Grid>,
     let mut candidates = with_givens(p);
     let mut failures = Failures::none();
     let mut listed = Vec::new(alloc);
-    list(p, &mut candidates, &mut failures, limit, &mut listed)?;
+    if p.narrow(&mut candidates) {
+        list(p, &mut candidates, &mut failures, limit, &mut listed)?;
+    }
     Ok(listed)
 }
 
@@ -48,9 +50,6 @@ fn list<P: Rules>(
     ensures lists { OnOk result
         (Lists (IsAmong (P.puzzle p.now) candidates.old) limit listed.old.items listed.new.items) }
 {
-    if !p.narrow(candidates) {
-        return Ok(());
-    }
     let Some(cell) = first_open(candidates) else {
         return list_leaf(p, candidates, limit, listed);
     };
@@ -124,7 +123,11 @@ fn list_guess<P: Rules>(
     }
     let mark = candidates.mark();
     keep_only(candidates, cell, value);
-    let done = list(p, candidates, failures, limit, listed);
+    let done = if narrow_from(p, candidates, failures, cell) {
+        list(p, candidates, failures, limit, listed)
+    } else {
+        Ok(())
+    };
     candidates.give_back(mark);
     done
 }

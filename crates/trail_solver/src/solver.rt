@@ -1,5 +1,7 @@
-ghost use Rattle.std.specs.Prelude.{◌≡◌};
-ghost use Rattle.trail_solver.specs.Candidates.{IsEarlier};
+ghost use Rattle.std.specs.Prelude.{◌≡◌, ◌*◌, ◌<◌};
+ghost use Rattle.std.specs.Bool.{OnFalse};
+ghost use Rattle.latin_board.specs.Squares.{GridValue};
+ghost use Rattle.trail_solver.specs.Candidates.{IsEarlier, IsWithin};
 ghost use Rattle.trail_solver.specs.Squares.{AreSettled, IsBranch};
 ghost use Rattle.trail_solver.specs.Puzzles.{IsAmong, IsAmongAt, Solves};
 ghost use Rattle.trail_solver.specs.Answers.{Adds, Fits};
@@ -19,6 +21,9 @@ pub fn solve<P: Rules>(p: &P) -> Answer
     ensures { Fits (Solves (P.puzzle p.now)) result }
 {
     let mut candidates = with_givens(p);
+    if !p.narrow(&mut candidates) {
+        return Answer::None;
+    }
     search(p, &mut candidates, &mut Failures::none(), Answer::None)
 }
 
@@ -36,10 +41,6 @@ pub(crate) fn search<P: Rules>(
 {
     let mut found = found;
     loop {
-        if !p.narrow(candidates) {
-            failures.note(candidates);
-            return found;
-        }
         match choose(candidates, failures) {
             Choice::Settled => return at_leaf(p, candidates, found),
             Choice::Dead => return found,
@@ -49,6 +50,9 @@ pub(crate) fn search<P: Rules>(
                     return found;
                 }
                 take_away(candidates, cell, value);
+                if !narrow_from(p, candidates, failures, cell) {
+                    return found;
+                }
             }
         }
     }
@@ -71,9 +75,35 @@ fn guess<P: Rules>(
 {
     let mark = candidates.mark();
     keep_only(candidates, cell, value);
-    let found = search(p, candidates, failures, found);
+    let answer = if narrow_from(p, candidates, failures, cell) {
+        search(p, candidates, failures, found)
+    } else {
+        found
+    };
     candidates.give_back(mark);
-    found
+    answer
+}
+
+/// Narrows candidates that the cell lost, and notes where that failed.
+pub(crate) fn narrow_from<P: Rules>(
+    p: &P,
+    candidates: &mut Candidates,
+    failures: &mut Failures,
+    cell: usize,
+) -> bool
+    requires size { candidates.old.size ≡ (P.puzzle p.now).size }
+    requires inside { cell < candidates.old.size * candidates.old.size }
+    ensures less { IsEarlier candidates.old candidates.new }
+    ensures keeps { (g : GridValue) → Solves (P.puzzle p.now) g
+        → IsWithin candidates.old g → IsWithin candidates.new g }
+    ensures refutes { OnFalse result ((g : GridValue) → Solves (P.puzzle p.now) g
+        → IsWithin candidates.old g → ⊥) }
+{
+    let left = p.narrow_from(candidates, cell);
+    if !left {
+        failures.note(candidates);
+    }
+    left
 }
 
 // Adds the only grid of the candidates, where it is a solution.

@@ -6,38 +6,24 @@ use Rattle.trail_solver.specs.Candidates.{CandidatesValue}
 use Rattle.trail_solver.specs.Listings.{Lists}
 use Rattle.trail_solver.proofs.ListingSteps.{narrowed_lists, refuted_lists, only_lists, guess_lists, guess_lists_none, full_lists, value_lists_none, value_lists_more, value_lists_all}
 use Rattle.trail_solver.proofs.listing.+listing.Goals as goal
-
-pub list-returns-then-not-narrow-clause-lists : goal.list-returns-then-not-narrow-clause-lists
-list-returns-then-not-narrow-clause-lists g t c =
-    refuted_lists (g.P.Rules.puzzle c.args.p.now) c.args.candidates.now c.args.limit c.args.listed.now.items (OnFalse_at c.if-not-narrow.true c.narrow.ensures.refutes)
-
-pub list-returns-in_default-clause-lists : goal.list-returns-in_default-clause-lists
-list-returns-in_default-clause-lists g t c =
-    on_ok_weaker c.list_leaf.result (narrowed_lists (g.P.Rules.puzzle c.args.p.now) c.args.candidates.now c.narrow.new.candidates c.args.limit c.args.listed.now.items c.list_leaf.new.listed.items c.narrow.ensures.less c.narrow.ensures.keeps) c.list_leaf.ensures
+use Rattle.trail_solver.proofs.listing.+listing.Goals.{list_guess-then-narrow_from, list_guess-else-narrow_from}
 
 pub list-returns-in-None-clause-lists : goal.list-returns-in-None-clause-lists
 list-returns-in-None-clause-lists g t c =
-    let p = g.P.Rules.puzzle c.args.p.now in
-    let now = c.narrow.new.candidates in
-    let xs = c.args.listed.now.items in
-    narrowed_lists p c.args.candidates.now now c.args.limit xs xs c.narrow.ensures.less c.narrow.ensures.keeps (refuted_lists p now c.args.limit xs (λ h s w. c.in-None.ensures.fits h (s, w)))
+    refuted_lists (g.P.Rules.puzzle c.args.p.now) c.args.candidates.now c.args.limit c.args.listed.now.items (λ h s w. c.in-None.ensures.fits h (s, w))
 
 pub list-returns-in_ok-push-in-One-clause-lists : goal.list-returns-in_ok-push-in-One-clause-lists
 list-returns-in_ok-push-in-One-clause-lists g t c =
-    let p = g.P.Rules.puzzle c.args.p.now in
-    let now = c.narrow.new.candidates in
     let fits = c.in-One.ensures.fits in
-    narrowed_lists p c.args.candidates.now now c.args.limit c.args.listed.now.items c.push.new.self.items c.narrow.ensures.less c.narrow.ensures.keeps
-    (only_lists (IsAmong p now) c.in-One.grid c.args.limit c.args.listed.now.items c.push.new.self.items fits.0 fits.1 c.requires.room c.in_ok-push-in-One.ensures.items)
+    only_lists (IsAmong (g.P.Rules.puzzle c.args.p.now) c.args.candidates.now) c.in-One.grid c.args.limit c.args.listed.now.items c.push.new.self.items fits.0 fits.1 c.requires.room c.in_ok-push-in-One.ensures.items
 
 pub list-returns-in-Several-clause-lists : goal.list-returns-in-Several-clause-lists
 list-returns-in-Several-clause-lists g t c =
     let p = g.P.Rules.puzzle c.args.p.now in
-    let now = c.narrow.new.candidates in
     let xs = c.args.listed.now.items in
     let ys = c.list_values.new.listed.items in
     let P : CandidatesValue → Type 0 = λ k. Lists (IsAmong p k) c.args.limit xs ys in
-    on_ok_weaker c.list_values.result (λ (l : P c.answer_of.new.candidates). narrowed_lists p c.args.candidates.now now c.args.limit xs ys c.narrow.ensures.less c.narrow.ensures.keeps (subst P c.answer_of.ensures.same l)) c.list_values.ensures.lists
+    on_ok_weaker c.list_values.result (λ (l : P c.answer_of.new.candidates). subst P c.answer_of.ensures.same l) c.list_values.ensures.lists
 
 pub list_values-loop-value-init : goal.list_values-loop-value-init
 list_values-loop-value-init g t c =
@@ -69,4 +55,18 @@ list_guess-returns-then-not-may-clause-lists g t c =
 
 pub list_guess-returns-clause-lists : goal.list_guess-returns-clause-lists
 list_guess-returns-clause-lists g t c =
-    on_ok_weaker c.list-done.result (guess_lists (g.P.Rules.puzzle c.args.p.now) c.args.candidates.now c.keep_only.new.candidates c.args.cell c.args.value c.args.limit c.args.listed.now.items c.list-done.new.listed.items c.requires.size c.keep_only.ensures.kept c.requires.open_cell.inside) c.list-done.ensures.lists
+    let p = g.P.Rules.puzzle c.args.p.now in
+    let old = c.args.candidates.now in
+    let kept = c.keep_only.new.candidates in
+    let now = c.narrow_from.new.candidates in
+    let xs = c.args.listed.now.items in
+    let inside = c.requires.open_cell.inside in
+    elim c.if-narrow_from.branch [
+      | list_guess-then-narrow_from w ↦ (let ys = w.list-done.new.listed.items in
+          rw (w.done-is, w.listed-is) (on_ok_weaker w.list-done.result (λ (l : Lists (IsAmong p now) c.args.limit xs ys).
+          guess_lists p old kept c.args.cell c.args.value c.args.limit xs ys c.requires.size c.keep_only.ensures.kept inside
+          (narrowed_lists p kept now c.args.limit xs ys c.narrow_from.ensures.less c.narrow_from.ensures.keeps l)) w.list-done.ensures.lists))
+      | list_guess-else-narrow_from w ↦ rw (w.done-is, w.listed-is)
+          (guess_lists p old kept c.args.cell c.args.value c.args.limit xs xs c.requires.size c.keep_only.ensures.kept inside
+          (refuted_lists p kept c.args.limit xs (OnFalse_at w.if-narrow_from.false c.narrow_from.ensures.refutes)))
+    ]
