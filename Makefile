@@ -1,36 +1,49 @@
 # make            proves and builds the program, and leaves it as build/puzzles
 # make test       the gate: every proof from nothing, wrong bodies, tests and stored runs
-# make play       a game on the terminal; GAME=towers (the default) or GAME=unequal
+# make play       a game on the terminal; GAME=towers (the default) or GAME=unequal, ID= an ID or a save file
+# make test-tools the scripts around the program: the front, installing, and the texts for its users
+# make exchange   saves and IDs against the usual programs, of Debian's package sgt-puzzles; no part of the gate
 # make bench      how long the solver takes, class by class; no part of the gate
+# make install    the program, the front, manual page and completion below PREFIX=/usr/local; make uninstall
 # make clean      takes build/ away; what the checks keep stays
+# make help       this list
 
 RT ?= rt
 GAME ?= towers
+ID ?=
+PREFIX ?= /usr/local
 
-.PHONY: all test play bench clean
+.PHONY: all test play test-tools exchange bench install uninstall clean help
 
-# Proves the program and all crates below it, or finds that nothing has changed since the last
-# time, and runs it once on an empty input, which it ends at once with status 0.
 all:
-	@test -f crates/puzzles/src/main.rt || { echo 'make: the program, crates/puzzles, is not there yet' >&2; exit 1; }
-	cd crates/puzzles && $(RT) run -- towers < /dev/null
-	@mkdir -p build
-	cp -f crates/puzzles/out/puzzles build/puzzles
+	@RT='$(RT)' tools/build
 
 test:
 	$(RT) ci
 
+# The front is for a terminal; in a pipe the program plays by itself.
 play:
 	@case '$(GAME)' in towers|unequal) ;; *) echo 'make: GAME is towers or unequal' >&2; exit 2 ;; esac
-	@test -f crates/puzzles/src/main.rt || { echo 'make: the program, crates/puzzles, is not there yet' >&2; exit 1; }
-	@echo 'make: proving and building the program first; where nothing has changed, this takes no time' >&2
 	@$(MAKE) --no-print-directory all
-	@echo 'make: build/puzzles $(GAME), the proved program, reads commands now; README.md shows a first game, quit ends it' >&2
-	@build/puzzles '$(GAME)'
+	@if [ -t 0 ] && [ -t 1 ]; then exec tools/play '$(GAME)' '$(ID)'; else exec build/puzzles '$(GAME)' $(if $(ID),--id '$(ID)'); fi
+
+test-tools: all
+	tools/test_texts
+	tools/test_install
+	tools/test_play
+
+exchange: all
+	@tools/exchange
 
 bench:
 	cd crates/solver_bench && $(RT) run < /dev/null
 	@cat bench/puzzles.txt bench/several_and_none.txt | crates/solver_bench/out/solver_bench
 
+install uninstall:
+	@tools/install $(if $(filter uninstall,$@),--remove) '$(DESTDIR)$(PREFIX)'
+
 clean:
 	rm -rf build
+
+help:
+	@sed -n 's/^# //p; /^$$/q' Makefile

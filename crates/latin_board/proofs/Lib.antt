@@ -1,3 +1,4 @@
+-- Lemmas on grids, sets of marks, exchanges and edge places.
 pub mod Counts
 pub mod EdgePlaces
 pub mod Exchanges

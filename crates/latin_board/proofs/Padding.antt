@@ -27,5 +27,5 @@ KeepsMarks-empty w = record {
 }
 
 -- the squares of an empty list are empty
-pub take-empty : (w : ℕ) → w ≤ 9 → take {A = ℕ} (w * w) (replicate 81 0) ≡ replicate (w * w) 0
-take-empty w high = take-replicate (w * w) 81 0 (mul-le w w 9 9 high high)
+pub take_empty : (w : ℕ) → w ≤ 9 → take {A = ℕ} (w * w) (replicate 81 0) ≡ replicate (w * w) 0
+take_empty w high = take-replicate (w * w) 81 0 (mul-le w w 9 9 high high)

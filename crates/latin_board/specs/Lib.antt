@@ -1,3 +1,4 @@
+-- Grids, lines, marks, boards, changes and edge places as values, and what the fields of the types keep of them.
 pub mod Squares
 pub mod Lines
 pub mod Marks

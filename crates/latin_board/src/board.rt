@@ -1,3 +1,7 @@
+//! Boards: numbers, pencil marks, two flags and done marks, and the exchange with a change.
+//!
+//! A line `let _size = ..` is there for the contract of `size`, which tells the check that the board or grid is a valid one.
+
 ghost use Rattle.std.specs.Prelude.{◌≡◌, ℕ, ◌+◌, ◌*◌, ◌<◌, ◌≤◌, ◌↔◌, ◌==◌, not, IsTrue, if◌then◌else◌, slice_set, replicate};
 ghost use Rattle.std.specs.Cmp.{decided, partial_equiv_from_equiv};
 ghost use Rattle.latin_board.specs.Squares.{number_at};
@@ -68,6 +72,7 @@ impl Model for Board {
 
 impl Board {
     /// The board of a new game: these numbers, no pencil marks, both flags off, no edge clue done.
+    #[tactic(auto, using(crate::proofs::Padding::take_empty))]
     pub fn start(grid: &Grid) -> Board
         ensures { result ≡ start_board grid.now }
     {
@@ -205,6 +210,17 @@ impl Board {
         mem::swap(&mut self.cheated, &mut square.cheated);
     }
 
+    #[tactic(auto, using(std::proofs::lemmas::Grind::common_steps))]
+    fn has_same_content(&self, other: &Board) -> bool
+        ensures { result ≡ same_board self.now other.now }
+    {
+        self.grid == other.grid
+            && self.square_marks() == other.square_marks()
+            && self.completed == other.completed
+            && self.cheated == other.cheated
+            && self.done == other.done
+    }
+
     // The marks of the board's squares alone.
     fn square_marks(&self) -> &[Marks]
         ensures { result.now ≡ self.now.marks }
@@ -231,11 +247,7 @@ impl PartialEq for Board {
         ensures value { result ≡ same_board self.now other.now }
         ensures same { IsTrue result ↔ (self.now ≡ other.now) }
     {
-        self.grid == other.grid
-            && self.square_marks() == other.square_marks()
-            && self.completed == other.completed
-            && self.cheated == other.cheated
-            && self.done == other.done
+        self.has_same_content(other)
     }
 }
 

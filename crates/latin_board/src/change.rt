@@ -1,3 +1,5 @@
+//! Changes: what a board exchanges, one square with both flags or a whole board.
+
 ghost use Rattle.std.specs.Prelude.{◌≡◌, IfOk};
 ghost use Rattle.latin_board.specs.Changes.{SquareValue, OneSquare, WholeBoard};
 

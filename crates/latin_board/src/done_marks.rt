@@ -1,3 +1,5 @@
+//! The edge clues of a board that are marked as done, as a set of places.
+
 ghost use Rattle.std.specs.Prelude.{◌≡◌, ℕ, ◌<◌, ◌==◌, not, if◌then◌else◌};
 ghost use Rattle.latin_board.specs.Marks.{has_mark, no_marks, flip_mark};
 

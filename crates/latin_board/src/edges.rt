@@ -1,3 +1,5 @@
+//! The numbering of the edge clues round a grid.
+
 ghost use Rattle.std.specs.Prelude.{◌≡◌, ◌+◌, ◌*◌, ◌<◌, IfSome};
 ghost use Rattle.latin_board.specs.Edges.{edge_place, edge_xy};
 

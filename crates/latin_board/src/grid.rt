@@ -1,4 +1,6 @@
-ghost use Rattle.std.specs.Prelude.{◌≡◌, ℕ, ◌+◌, ◌*◌, ◌<◌, ◌≤◌, ◌↔◌, IsTrue, slice_set};
+//! Grids of numbers, and the Latin rule.
+
+ghost use Rattle.std.specs.Prelude.{◌≡◌, ℕ, ◌+◌, ◌*◌, ◌<◌, ◌≤◌, ◌↔◌, IsTrue, slice_set, replicate};
 ghost use Rattle.std.specs.Bool.{OnTrue};
 ghost use Rattle.std.specs.Cmp.{decided, partial_equiv_from_equiv};
 ghost use Rattle.latin_board.specs.Squares.{blank_grid, number_at, times_in, HasEachOnce, IsGrid, IsFull, IsLatin, latin_test};
@@ -33,9 +35,13 @@ impl Model for Grid {
 
     ghost invariant = { λ g. KeepsNumbers g.size g.cells };
 
-    ghost inverse = { λ v. record { size = v.size; cells = v.numbers ++ replicate (81 - v.size * v.size) 0 } };
+    ghost inverse = { λ v. record {
+      size = v.size;
+      cells = v.numbers ++ replicate (81 - v.size * v.size) 0;
+    } };
 
-    ghost inverse_ok = { λ a h. let f : List ℕ → Inside = λ xs. record { size = a.size; cells = xs } in
+    ghost inverse_ok = { λ a h.
+        let f : List ℕ → Inside = λ xs. record { size = a.size; cells = xs } in
         ap f (front_and_rest a.size a.cells h.padded) };
 }
 
@@ -44,10 +50,11 @@ impl Grid {
     pub fn blank(size: Size) -> Grid
         ensures { result ≡ blank_grid size }
     {
+        // `get` tells that the size is one from 3 to 9.
         let _width = size.get();
         Grid {
             size,
-            cells: [0; CELLS],
+            cells: no_numbers(),
         }
     }
 
@@ -132,6 +139,13 @@ impl Grid {
         let width = self.size.get() as usize;
         &self.cells[..width * width]
     }
+}
+
+// The places of a blank grid.
+fn no_numbers() -> [u8; CELLS]
+    ensures { result ≡ replicate CELLS 0 }
+{
+    [0; CELLS]
 }
 
 // The square at a place of a line: the rows from the top are the first lines, the columns from the left the others.

@@ -3,6 +3,16 @@
 //!
 //! Nothing here knows a game. `Size`, `Marks`, `Grid` and `Board` are small values that are copied; a `Change` holds
 //! one square, or a whole board in a box.
+//!
+//! ```
+//! let size = Size::new(3).ok_or("no such width")?;
+//! let mut board = Board::start(&Grid::blank(size));
+//! let mut change = Change::square(0, 2, Marks::empty(), false, false);
+//! board.swap(&mut change);
+//! assert_eq!(rt; board.digit(0), 2);
+//! board.swap(&mut change);
+//! assert_eq!(rt; board.digit(0), 0);
+//! ```
 #![tactic(auto)]
 
 mod board;

@@ -1,3 +1,5 @@
+//! The pencil marks at a square, as a set of numbers.
+
 ghost use Rattle.std.specs.Prelude.{◌≡◌, ℕ, ◌+◌, ◌<◌, ◌≤◌, ◌==◌, ◌&&◌, false, not, nat_le, if◌then◌else◌};
 ghost use Rattle.latin_board.specs.Marks.{has_mark, no_marks, full_marks, flip_mark, IsMarkSet};
 
@@ -42,7 +44,7 @@ impl Marks {
         ensures within { IsMarkSet size result }
     {
         Marks {
-            bits: (1 << (size.get() + 1)) - 2,
+            bits: bits_of_all(size.get()),
         }
     }
 
@@ -65,6 +67,21 @@ impl Marks {
             ≡ (if k == n then not (has_mark self.old k) else has_mark self.old k) }
         ensures within { (w : ℕ) → IsMarkSet w self.old → n ≤ w → IsMarkSet w self.new }
     {
-        self.bits ^= 1 << n;
+        self.bits = with_bit_flipped(self.bits, n);
     }
+}
+
+// The bits of the numbers from 1 to a width.
+fn bits_of_all(width: u8) -> u16
+    requires { width ≤ 9 }
+    ensures { result ≡ full_marks width }
+{
+    (1 << (width + 1)) - 2
+}
+
+fn with_bit_flipped(bits: u16, n: u8) -> u16
+    requires { n ≤ 9 }
+    ensures { result ≡ flip_mark bits n }
+{
+    bits ^ 1 << n
 }

@@ -1,3 +1,5 @@
+//! The one fault of this crate.
+
 ghost use Rattle.std.specs.Prelude.{◌≡◌, codes};
 
 use std::alloc::{AllocError, AllocFailed};

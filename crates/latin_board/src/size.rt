@@ -1,3 +1,5 @@
+//! The widths that grids have.
+
 ghost use Rattle.std.specs.Prelude.{◌≡◌, ℕ, ◌≤◌};
 ghost use Rattle.std.specs.Option.{SomeIff};
 

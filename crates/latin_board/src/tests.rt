@@ -1,3 +1,5 @@
+//! Grids, boards, marks and changes at worked values.
+
 use crate::*;
 use std::process::Abort;
 use std::test::Fail;

@@ -8,3 +8,6 @@ pub mod Linking
 pub mod Viewing
 pub mod Playing
 pub mod SessionLaws
+pub mod MoveListLaws
+pub mod StorableLaws
+pub mod Solving

@@ -5,9 +5,10 @@ use Rattle.std.proofs.lemmas.Grind.{common_steps}
 use Rattle.std.proofs.Math.Seq.{take-suc, map-set_same}
 use Rattle.latin_board.specs.Boards.{BoardValue}
 use Rattle.latin_board.specs.Changes.{ChangeValue, OneSquare, WholeBoard, FitsBoard, board_after}
+use Rattle.trail_solver.specs.Puzzles.{Puzzle}
 use Rattle.play_midend.specs.declared.moves.Move.{Move}
 use Rattle.play_midend.specs.declared.session.Record.{Record}
-use Rattle.play_midend.specs.Steps.{Deal, step, start_of, replay_from, ArePlayable, IsLegal, is_restart, begins_with_restart}
+use Rattle.play_midend.specs.Steps.{step, start_of, replay_from, ArePlayable, IsLegal, is_restart, begins_with_restart}
 use Rattle.play_midend.specs.Histories.{most_states}
 use Rattle.play_midend.specs.Links.{moves_of, IsBack, IsAhead, ArePast, AreLater, AreLinked}
 use Rattle.play_midend.proofs.Replaying.{after_step, ArePlayable-append}
@@ -18,20 +19,20 @@ size_after b (OneSquare s) fits = refl
 size_after b (WholeBoard other) fits = fits
 
 -- the last of the past records
-pub record LastBack (d : Deal) (first : BoardValue) (rs : List Record) (r : Record) (now : BoardValue) : Type 0 where
+pub record LastBack (p : Puzzle) (first : BoardValue) (rs : List Record) (r : Record) (now : BoardValue) : Type 0 where
   pub before : BoardValue
-  pub past : ArePast d first rs before
-  pub is_back : IsBack d before r now
+  pub past : ArePast p first rs before
+  pub is_back : IsBack p before r now
 
-past_last : (d : Deal) (first : BoardValue) (rs : List Record) (r : Record) (now : BoardValue) → ArePast d first (rs ++ r ∷ []) now → LastBack d first rs r now
-past_last d first [] r now h = record { before = first; past = refl; is_back = subst (λ (b : BoardValue). IsBack d first r b) (sym h.2) h.1 }
-past_last d first (q ∷ rs) r now h =
-    let more = past_last d h.0 rs r now h.2 in
+past_last : (p : Puzzle) (first : BoardValue) (rs : List Record) (r : Record) (now : BoardValue) → ArePast p first (rs ++ r ∷ []) now → LastBack p first rs r now
+past_last p first [] r now h = record { before = first; past = refl; is_back = subst (λ (b : BoardValue). IsBack p first r b) (sym h.2) h.1 }
+past_last p first (q ∷ rs) r now h =
+    let more = past_last p h.0 rs r now h.2 in
     record { before = more.before; past = (h.0, h.1, more.past); is_back = more.is_back }
 
-past_more : (d : Deal) (first : BoardValue) (rs : List Record) (r : Record) (before now : BoardValue) → ArePast d first rs before → IsBack d before r now → ArePast d first (rs ++ r ∷ []) now
-past_more d first [] r before now h back = (now, subst (λ (b : BoardValue). IsBack d b r now) h back, refl)
-past_more d first (q ∷ rs) r before now h back = (h.0, h.1, past_more d h.0 rs r before now h.2 back)
+past_more : (p : Puzzle) (first : BoardValue) (rs : List Record) (r : Record) (before now : BoardValue) → ArePast p first rs before → IsBack p before r now → ArePast p first (rs ++ r ∷ []) now
+past_more p first [] r before now h back = (now, subst (λ (b : BoardValue). IsBack p b r now) h back, refl)
+past_more p first (q ∷ rs) r before now h back = (h.0, h.1, past_more p h.0 rs r before now h.2 back)
 
 -- the records round a place
 take_there : (records : List Record) (n : ℕ) (r : Record) → n < length records → r ≡ get_or records n r → take (n + 1) records ≡ take n records ++ r ∷ []
@@ -42,51 +43,49 @@ drop_there : (records : List Record) (n : ℕ) (r : Record) → n < length recor
 drop_there records n r inside is =
     rw add-one (drop-cons records n r inside ∙ ap (λ x. x ∷ drop (suc n) records) (sym is))
 
-pub moves_of-set : (records : List Record) (n : ℕ) (r : Record) (change : ChangeValue) → r ≡ get_or records n r → moves_of (set records n (record { made = r.made; change = change })) ≡ moves_of records
-moves_of-set records n r change is = map-set_same (λ q. q.made) records n (record { made = r.made; change = change }) r (ap (λ q. q.made) is)
+pub moves_of-set : (records : List Record) (n : ℕ) (r q : Record) → r ≡ get_or records n r → q.made ≡ r.made → moves_of (set records n q) ≡ moves_of records
+moves_of-set records n r q is made = map-set_same (λ (k : Record). k.made) records n q r (made ∙ ap (λ (k : Record). k.made) is)
 
 -- the record that stands before the position
-pub last_back : (d : Deal) (records : List Record) (n : ℕ) (board : BoardValue) (r : Record) → AreLinked d records (n + 1) board → r ≡ get_or records n r → LastBack d (start_of d.puzzle) (take n records) r board
-last_back d records n board r h is =
-    past_last d (start_of d.puzzle) (take n records) r board
-    (subst (λ (rs : List Record). ArePast d (start_of d.puzzle) rs board) (take_there records n r (let i = h.inside in omega arith) is) h.past)
+pub last_back : (p : Puzzle) (records : List Record) (n : ℕ) (board : BoardValue) (r : Record) → AreLinked p records (n + 1) board → r ≡ get_or records n r → LastBack p (start_of p) (take n records) r board
+last_back p records n board r h is =
+    past_last p (start_of p) (take n records) r board
+    (subst (λ (rs : List Record). ArePast p (start_of p) rs board) (take_there records n r (let i = h.inside in omega arith) is) h.past)
 
-pub linked_back : (d : Deal) (records : List Record) (n : ℕ) (board : BoardValue) (r : Record) (new : BoardValue) (change : ChangeValue) → AreLinked d records (n + 1) board → r ≡ get_or records n r → new ≡ board_after board r.change → FitsBoard new change → board_after new change ≡ board → AreLinked d (set records n (record { made = r.made; change = change })) n new
-linked_back d records n board r new change h is at fits back =
-    let last = last_back d records n board r h is in
+pub linked_back : (p : Puzzle) (records : List Record) (n : ℕ) (board : BoardValue) (r q : Record) (new : BoardValue) → AreLinked p records (n + 1) board → r ≡ get_or records n r → new ≡ board_after board r.change → q.made ≡ r.made → FitsBoard new q.change → board_after new q.change ≡ board → AreLinked p (set records n q) n new
+linked_back p records n board r q new h is at made fits back =
+    let last = last_back p records n board r h is in
     let inside : n < length records = let i = h.inside in omega arith in
-    let q : Record = record { made = r.made; change = change } in
     let e : new ≡ last.before = at ∙ last.is_back.back in
-    let stepped : step d new r.made ≡ Ok board = rw e last.is_back.stepped in
+    let stepped : step p new q.made ≡ Ok board = rw (e, made) last.is_back.stepped in
     record {
-      size = at_size d board r.change new h.size last.is_back.fits at;
+      size = at_size p board r.change new h.size last.is_back.fits at;
       inside = rw (length-set records n q) (omega arith);
       few = rw (length-set records n q) h.few;
-      no_restart_first = rw (moves_of-set records n r change is) h.no_restart_first;
+      no_restart_first = rw (moves_of-set records n r q is made) h.no_restart_first;
       past = rw (take-set records n q, e) last.past;
       later = rw (drop-set records n q inside) (board, record { stepped = stepped; fits = fits; ahead = back }, h.later);
     }
   where
-    at_size : (d : Deal) (board : BoardValue) (change : ChangeValue) (new : BoardValue) → board.size ≡ d.puzzle.size → FitsBoard board change → new ≡ board_after board change → new.size ≡ d.puzzle.size
-    at_size d board change new size fits at = ap (λ (b : BoardValue). b.size) at ∙ size_after board change fits ∙ size
+    at_size : (p : Puzzle) (board : BoardValue) (change : ChangeValue) (new : BoardValue) → board.size ≡ p.size → FitsBoard board change → new ≡ board_after board change → new.size ≡ p.size
+    at_size p board change new size fits at = ap (λ (b : BoardValue). b.size) at ∙ size_after board change fits ∙ size
 
 -- the record that stands behind the position
-pub record FirstAhead (d : Deal) (now : BoardValue) (r : Record) (rs : List Record) : Type 0 where
+pub record FirstAhead (p : Puzzle) (now : BoardValue) (r : Record) (rs : List Record) : Type 0 where
   pub next : BoardValue
-  pub is_ahead : IsAhead d now r next
-  pub later : AreLater d next rs
+  pub is_ahead : IsAhead p now r next
+  pub later : AreLater p next rs
 
-pub first_ahead : (d : Deal) (records : List Record) (n : ℕ) (board : BoardValue) (r : Record) → AreLinked d records n board → n < length records → r ≡ get_or records n r → FirstAhead d board r (drop (n + 1) records)
-first_ahead d records n board r h inside is =
-    let later : AreLater d board (r ∷ drop (n + 1) records) = subst (λ (rs : List Record). AreLater d board rs) (drop_there records n r inside is) h.later in
+pub first_ahead : (p : Puzzle) (records : List Record) (n : ℕ) (board : BoardValue) (r : Record) → AreLinked p records n board → n < length records → r ≡ get_or records n r → FirstAhead p board r (drop (n + 1) records)
+first_ahead p records n board r h inside is =
+    let later : AreLater p board (r ∷ drop (n + 1) records) = subst (λ (rs : List Record). AreLater p board rs) (drop_there records n r inside is) h.later in
     record { next = later.0; is_ahead = later.1; later = later.2 }
 
-pub linked_ahead : (d : Deal) (records : List Record) (n : ℕ) (board : BoardValue) (r : Record) (new : BoardValue) (change : ChangeValue) → AreLinked d records n board → n < length records → r ≡ get_or records n r → new ≡ board_after board r.change → FitsBoard new change → board_after new change ≡ board → AreLinked d (set records n (record { made = r.made; change = change })) (n + 1) new
-linked_ahead d records n board r new change h inside is at fits back =
-    let first = first_ahead d records n board r h inside is in
-    let q : Record = record { made = r.made; change = change } in
+pub linked_ahead : (p : Puzzle) (records : List Record) (n : ℕ) (board : BoardValue) (r q : Record) (new : BoardValue) → AreLinked p records n board → n < length records → r ≡ get_or records n r → new ≡ board_after board r.change → q.made ≡ r.made → FitsBoard new q.change → board_after new q.change ≡ board → AreLinked p (set records n q) (n + 1) new
+linked_ahead p records n board r q new h inside is at made fits back =
+    let first = first_ahead p records n board r h inside is in
     let e : new ≡ first.next = at ∙ first.is_ahead.ahead in
-    let stepped : step d board r.made ≡ Ok new = rw e first.is_ahead.stepped in
+    let stepped : step p board q.made ≡ Ok new = rw (e, made) first.is_ahead.stepped in
     let long : n < length (set records n q) = rw (length-set records n q) inside in
     let there : get_or (set records n q) n q ≡ q = get_or-set_same records n q q inside in
     let front : take (n + 1) (set records n q) ≡ take n records ++ q ∷ [] =
@@ -95,16 +94,16 @@ linked_ahead d records n board r new change h inside is at fits back =
       size = ap (λ (b : BoardValue). b.size) at ∙ size_after board r.change first.is_ahead.fits ∙ h.size;
       inside = rw (length-set records n q) (omega arith);
       few = rw (length-set records n q) h.few;
-      no_restart_first = rw (moves_of-set records n r change is) h.no_restart_first;
-      past = subst (λ (rs : List Record). ArePast d (start_of d.puzzle) rs new) (sym front)
-          (past_more d (start_of d.puzzle) (take n records) q board new h.past (record { stepped = stepped; fits = fits; back = back }));
-      later = subst (λ (rs : List Record). AreLater d new rs) (sym (drop-set-lt (n + 1) records n q (omega arith)))
-          (subst (λ (b : BoardValue). AreLater d b (drop (n + 1) records)) (sym e) first.later);
+      no_restart_first = rw (moves_of-set records n r q is made) h.no_restart_first;
+      past = subst (λ (rs : List Record). ArePast p (start_of p) rs new) (sym front)
+          (past_more p (start_of p) (take n records) q board new h.past (record { stepped = stepped; fits = fits; back = back }));
+      later = subst (λ (rs : List Record). AreLater p new rs) (sym (drop-set-lt (n + 1) records n q (omega arith)))
+          (subst (λ (b : BoardValue). AreLater p b (drop (n + 1) records)) (sym e) first.later);
     }
 
 -- a new record behind the past ones
-pub linked_new : (d : Deal) (records : List Record) (n : ℕ) (board : BoardValue) (r : Record) (next : BoardValue) → AreLinked d records n board → IsAhead d board r next → n + 2 ≤ most_states → (n ≡ 0 → is_restart r.made ≡ false) → AreLinked d (take n records ++ r ∷ []) n board
-linked_new d records n board r next h ahead room restart =
+pub linked_new : (p : Puzzle) (records : List Record) (n : ℕ) (board : BoardValue) (r : Record) (next : BoardValue) → AreLinked p records n board → IsAhead p board r next → n + 2 ≤ most_states → (n ≡ 0 → is_restart r.made ≡ false) → AreLinked p (take n records ++ r ∷ []) n board
+linked_new p records n board r next h ahead room restart =
     let inside = h.inside in
     let front : length (take n records) ≡ n = length-take-le n records inside in
     let long : length (take n records ++ r ∷ []) ≡ n + 1 = length-append (take n records) (r ∷ []) ∙ ap (λ k. k + 1) front in
@@ -112,9 +111,9 @@ linked_new d records n board r next h ahead room restart =
       size = h.size;
       inside = rw long (omega arith);
       few = rw long (omega arith);
-      no_restart_first = not_first d records n r h restart;
-      past = subst (λ (rs : List Record). ArePast d (start_of d.puzzle) rs board) (sym (take_front (take n records) (r ∷ []) n front)) h.past;
-      later = subst (λ (rs : List Record). AreLater d board rs) (sym (drop_front (take n records) (r ∷ []) n front)) (next, ahead, tt);
+      no_restart_first = not_first p records n r h restart;
+      past = subst (λ (rs : List Record). ArePast p (start_of p) rs board) (sym (take_front (take n records) (r ∷ []) n front)) h.past;
+      later = subst (λ (rs : List Record). AreLater p board rs) (sym (drop_front (take n records) (r ∷ []) n front)) (next, ahead, tt);
     }
   where
     take_front : (xs ys : List Record) (k : ℕ) → length xs ≡ k → take k (xs ++ ys) ≡ xs
@@ -123,42 +122,42 @@ linked_new d records n board r next h ahead room restart =
     drop_front : (xs ys : List Record) (k : ℕ) → length xs ≡ k → drop k (xs ++ ys) ≡ ys
     drop_front xs ys k e = grind (arith, common_steps)
 
-    not_first : (d : Deal) (records : List Record) (n : ℕ) (r : Record) {board : BoardValue} → AreLinked d records n board → (n ≡ 0 → is_restart r.made ≡ false) → begins_with_restart (moves_of (take n records ++ r ∷ [])) ≡ false
-    not_first d records zero r h restart = restart refl
-    not_first d [] (suc n) r h restart = let i = h.inside in absurd (omega arith)
-    not_first d (q ∷ rs) (suc n) r h restart = h.no_restart_first
+    not_first : (p : Puzzle) (records : List Record) (n : ℕ) (r : Record) {board : BoardValue} → AreLinked p records n board → (n ≡ 0 → is_restart r.made ≡ false) → begins_with_restart (moves_of (take n records ++ r ∷ [])) ≡ false
+    not_first p records zero r h restart = restart refl
+    not_first p [] (suc n) r h restart = let i = h.inside in absurd (omega arith)
+    not_first p (q ∷ rs) (suc n) r h restart = h.no_restart_first
 
 -- what links say of replay
-pub replay_past : (d : Deal) (first : BoardValue) (rs : List Record) (now : BoardValue) → ArePast d first rs now → replay_from d first (moves_of rs) ≡ now
-replay_past d first [] now h = sym h
-replay_past d first (r ∷ rs) now h =
-    ap (λ (b : BoardValue). replay_from d b (moves_of rs)) (after_step d first r.made h.0 h.1.stepped) ∙ replay_past d h.0 rs now h.2
+pub replay_past : (p : Puzzle) (first : BoardValue) (rs : List Record) (now : BoardValue) → ArePast p first rs now → replay_from p first (moves_of rs) ≡ now
+replay_past p first [] now h = sym h
+replay_past p first (r ∷ rs) now h =
+    ap (λ (b : BoardValue). replay_from p b (moves_of rs)) (after_step p first r.made h.0 h.1.stepped) ∙ replay_past p h.0 rs now h.2
 
-pub shown_linked : (d : Deal) (records : List Record) (n : ℕ) (board : BoardValue) → AreLinked d records n board → replay_from d (start_of d.puzzle) (take n (moves_of records)) ≡ board
-shown_linked d records n board h = rw (take-map (λ (r : Record). r.made) n records) (replay_past d (start_of d.puzzle) (take n records) board h.past)
+pub shown_linked : (p : Puzzle) (records : List Record) (n : ℕ) (board : BoardValue) → AreLinked p records n board → replay_from p (start_of p) (take n (moves_of records)) ≡ board
+shown_linked p records n board h = rw (take-map (λ (r : Record). r.made) n records) (replay_past p (start_of p) (take n records) board h.past)
 
-past_playable : (d : Deal) (first : BoardValue) (rs : List Record) (now : BoardValue) → ArePast d first rs now → ArePlayable d first (moves_of rs)
-past_playable d first [] now h = tt
-past_playable d first (r ∷ rs) now h =
-    (rw h.1.stepped refl, subst (λ (b : BoardValue). ArePlayable d b (moves_of rs)) (sym (after_step d first r.made h.0 h.1.stepped)) (past_playable d h.0 rs now h.2))
+past_playable : (p : Puzzle) (first : BoardValue) (rs : List Record) (now : BoardValue) → ArePast p first rs now → ArePlayable p first (moves_of rs)
+past_playable p first [] now h = tt
+past_playable p first (r ∷ rs) now h =
+    (rw h.1.stepped refl, subst (λ (b : BoardValue). ArePlayable p b (moves_of rs)) (sym (after_step p first r.made h.0 h.1.stepped)) (past_playable p h.0 rs now h.2))
 
-later_playable : (d : Deal) (now : BoardValue) (rs : List Record) → AreLater d now rs → ArePlayable d now (moves_of rs)
-later_playable d now [] h = tt
-later_playable d now (r ∷ rs) h =
-    (rw h.1.stepped refl, subst (λ (b : BoardValue). ArePlayable d b (moves_of rs)) (sym (after_step d now r.made h.0 h.1.stepped)) (later_playable d h.0 rs h.2))
+later_playable : (p : Puzzle) (now : BoardValue) (rs : List Record) → AreLater p now rs → ArePlayable p now (moves_of rs)
+later_playable p now [] h = tt
+later_playable p now (r ∷ rs) h =
+    (rw h.1.stepped refl, subst (λ (b : BoardValue). ArePlayable p b (moves_of rs)) (sym (after_step p now r.made h.0 h.1.stepped)) (later_playable p h.0 rs h.2))
 
-pub legal_linked : (d : Deal) (records : List Record) (n : ℕ) (board : BoardValue) → AreLinked d records n board → IsLegal d (moves_of records)
-legal_linked d records n board h =
+pub legal_linked : (p : Puzzle) (records : List Record) (n : ℕ) (board : BoardValue) → AreLinked p records n board → IsLegal p (moves_of records)
+legal_linked p records n board h =
     let whole : moves_of (take n records) ++ moves_of (drop n records) ≡ moves_of records =
     sym (map-append (λ r. r.made) (take n records) (drop n records)) ∙ ap moves_of (take-append-drop n records) in
-    let later : ArePlayable d (replay_from d (start_of d.puzzle) (moves_of (take n records))) (moves_of (drop n records)) =
-    rw (replay_past d (start_of d.puzzle) (take n records) board h.past) (later_playable d board (drop n records) h.later) in
+    let later : ArePlayable p (replay_from p (start_of p) (moves_of (take n records))) (moves_of (drop n records)) =
+    rw (replay_past p (start_of p) (take n records) board h.past) (later_playable p board (drop n records) h.later) in
     record {
-      playable = subst (λ (ms : List Move). ArePlayable d (start_of d.puzzle) ms) whole
-          (ArePlayable-append d (start_of d.puzzle) (moves_of (take n records)) (moves_of (drop n records)) (past_playable d (start_of d.puzzle) (take n records) board h.past) later);
+      playable = subst (λ (ms : List Move). ArePlayable p (start_of p) ms) whole
+          (ArePlayable-append p (start_of p) (moves_of (take n records)) (moves_of (drop n records)) (past_playable p (start_of p) (take n records) board h.past) later);
       no_restart_first = h.no_restart_first;
     }
 
 -- one less than a position, and back
-pub with_one_less : (d : Deal) (records : List Record) (n : ℕ) (board : BoardValue) → AreLinked d records n board → n ≢ 0 → AreLinked d records ((n - 1) + 1) board
-with_one_less d records n board h some = let e : n ≡ (n - 1) + 1 = omega arith in subst (λ k. AreLinked d records k board) e h
+pub with_one_less : (p : Puzzle) (records : List Record) (n : ℕ) (board : BoardValue) → AreLinked p records n board → n ≢ 0 → AreLinked p records ((n - 1) + 1) board
+with_one_less p records n board h some = let e : n ≡ (n - 1) + 1 = omega arith in subst (λ k. AreLinked p records k board) e h

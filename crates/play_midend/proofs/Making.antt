@@ -3,16 +3,17 @@ use Rattle.std.proofs.Common.{◌≡◌, None, Ok, ap}
 use Rattle.latin_board.specs.Boards.{BoardValue, IsBoard}
 use Rattle.latin_board.specs.Changes.{ChangeValue, FitsBoard, board_after}
 use Rattle.latin_board.proofs.Exchanges.{board_restored, change_restored, fits_after}
+use Rattle.trail_solver.specs.Puzzles.{Puzzle}
 use Rattle.play_midend.specs.declared.moves.Move.{Move}
-use Rattle.play_midend.specs.Steps.{Deal, refusal_of, unless_refused, moved, step, Makes}
+use Rattle.play_midend.specs.Steps.{refusal_of, unless_refused, moved, step, Makes}
 
-pub step_allowed : (d : Deal) (b : BoardValue) (m : Move) → refusal_of d b m ≡ None → step d b m ≡ Ok (moved d b m)
-step_allowed d b m allowed = ap (λ o. unless_refused o (moved d b m)) allowed
+pub step_allowed : (p : Puzzle) (b : BoardValue) (m : Move) → refusal_of p b m ≡ None → step p b m ≡ Ok (moved p b m)
+step_allowed p b m allowed = ap (λ o. unless_refused o (moved p b m)) allowed
 
-pub makes : (d : Deal) (b : BoardValue) (m : Move) (change : ChangeValue) → IsBoard b → refusal_of d b m ≡ None → FitsBoard b change → board_after b change ≡ moved d b m → Makes d b m change
-makes d b m change valid allowed fits board = record {
+pub makes : (p : Puzzle) (b : BoardValue) (m : Move) (change : ChangeValue) → IsBoard b → refusal_of p b m ≡ None → FitsBoard b change → board_after b change ≡ moved p b m → Makes p b m change
+makes p b m change valid allowed fits board = record {
   fits = fits;
-  made = rw board (step_allowed d b m allowed);
+  made = rw board (step_allowed p b m allowed);
   fits_again = fits_after b change valid fits;
   back = board_restored b change;
   change_back = change_restored b change valid fits;

@@ -123,25 +123,22 @@ two_again x y hx hy =
 abbrev Reads : Option Move → ℕ → List ℕ → Move → Type 0
 Reads read b bs m = read ≡ Some m → IsMoveText m (b ∷ bs)
 
+entry_taken : (make : ℕ × ℕ × ℕ → Move) (b : ℕ) (bs : List ℕ) (m : Move) → ((t : ℕ × ℕ × ℕ) → three_at bs ≡ Some t → IsMoveText (make t) (b ∷ bs)) → Reads (option_map make (three_at bs)) b bs m
+entry_taken make b bs m text =
+    elim (three_at bs) as (λ o. three_at bs ≡ o → Reads (option_map make o) b bs m) [
+      | None ↦ λ is read. cc
+      | Some t ↦ λ is read. let e : make t ≡ m = cc in subst (λ (k : Move). IsMoveText k (b ∷ bs)) e (text t is)
+    ] refl
+
 real_taken : (bs : List ℕ) (m : Move) → Reads (option_map (λ t. Real t.0 t.1 t.2) (three_at bs)) byte_r bs m
 real_taken bs m =
-    elim (three_at bs) as (λ o. three_at bs ≡ o → Reads (option_map (λ t. Real t.0 t.1 t.2) o) byte_r bs m) [
-      | None ↦ λ is read. cc
-      | Some t ↦ λ is read.
-          let h = three_taken bs t is in
-          let e : Real t.0 t.1 t.2 ≡ m = cc in
-          subst (λ (k : Move). IsMoveText k (byte_r ∷ bs)) e (record { writable = h.0; spelled = ap (λ xs. byte_r ∷ xs) h.1 })
-    ] refl
+    entry_taken (λ t. Real t.0 t.1 t.2) byte_r bs m
+    (λ t is. let h = three_taken bs t is in record { writable = h.0; spelled = ap (λ xs. byte_r ∷ xs) h.1 })
 
 pencil_taken : (bs : List ℕ) (m : Move) → Reads (option_map (λ t. Pencil t.0 t.1 t.2) (three_at bs)) byte_p bs m
 pencil_taken bs m =
-    elim (three_at bs) as (λ o. three_at bs ≡ o → Reads (option_map (λ t. Pencil t.0 t.1 t.2) o) byte_p bs m) [
-      | None ↦ λ is read. cc
-      | Some t ↦ λ is read.
-          let h = three_taken bs t is in
-          let e : Pencil t.0 t.1 t.2 ≡ m = cc in
-          subst (λ (k : Move). IsMoveText k (byte_p ∷ bs)) e (record { writable = h.0; spelled = ap (λ xs. byte_p ∷ xs) h.1 })
-    ] refl
+    entry_taken (λ t. Pencil t.0 t.1 t.2) byte_p bs m
+    (λ t is. let h = three_taken bs t is in record { writable = h.0; spelled = ap (λ xs. byte_p ∷ xs) h.1 })
 
 mark_all_taken : (bs : List ℕ) (m : Move) → Reads (nothing_more bs) byte_m bs m
 mark_all_taken [] m read =

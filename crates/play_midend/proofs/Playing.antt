@@ -5,6 +5,7 @@ use Rattle.std.proofs.lemmas.List.{take-map, map-append}
 use borrow.Author.Tests.{eq-eqb}
 use Rattle.latin_board.specs.Boards.{BoardValue}
 use Rattle.latin_board.specs.Changes.{ChangeValue, FitsBoard, board_after}
+use Rattle.trail_solver.specs.Puzzles.{Puzzle}
 use Rattle.clue_rules.specs.declared.params.Params.{Params}
 use Rattle.play_midend.specs.declared.extras.Extras.{Extras}
 use Rattle.play_midend.specs.declared.moves.Move.{Move}
@@ -12,8 +13,8 @@ use Rattle.play_midend.specs.declared.moves.Move.TheVariants.{Solve}
 use Rattle.play_midend.specs.declared.session.Record.{Record}
 use Rattle.play_midend.specs.declared.fault.PlayFault.{PlayFault}
 use Rattle.play_midend.specs.declared.fault.PlayFault.TheVariants.{HistoryFull, NothingToRestart}
-use Rattle.play_midend.specs.Steps.{Deal, is_restart, refusal_of, unless_refused, moved}
-use Rattle.play_midend.specs.Histories.{History, most_states, past, shown, restart_refusal, full_refusal, refusal_in, with_move, played, IsOnlySolution, IsRefusal, IsSolveRefusal, at_position}
+use Rattle.play_midend.specs.Steps.{is_restart, refusal_of, unless_refused, moved}
+use Rattle.play_midend.specs.Histories.{History, most_states, past, shown, first_state_refusal, restart_refusal, full_refusal, refusal_in, with_move, played, IsOnlySolution, IsRefusal, IsSolveRefusal, at_position}
 use Rattle.play_midend.specs.Links.{moves_of, AreLinked}
 use Rattle.trail_solver.proofs.SolutionTests.{Decides-solves_test}
 use Rattle.latin_board.specs.Squares.{GridValue}
@@ -27,23 +28,23 @@ or_none None b h = (refl, h)
 or_none (Some x) b h = cc
 
 -- a move that isn't refused
-pub played_allowed : {P : Type 0} (d : Deal) (h : History P) (m : Move) → refusal_in d h m ≡ None → played d h m ≡ Ok (with_move h m)
-played_allowed d h m allowed = ap (λ o. unless_refused o (with_move h m)) allowed
+pub played_allowed : {P : Type 0} (p : Puzzle) (h : History P) (m : Move) → refusal_in p h m ≡ None → played p h m ≡ Ok (with_move h m)
+played_allowed p h m allowed = ap (λ o. unless_refused o (with_move h m)) allowed
 
 -- the refusal at a state, over the fields of a session
-pub refusal_viewed : {P : Type 0} (d : Deal) (puzzle : P) (params next_params : Params) (extras : Extras) (records : List Record) (n : ℕ) (board : BoardValue) (m : Move) → AreLinked d records n board → refusal_in d (viewed puzzle params next_params extras (moves_of records) n) m ≡ option_or (cond (is_restart m) (restart_refusal (n + 1)) None) (option_or (refusal_of d board m) (full_refusal (n + 1)))
-refusal_viewed d puzzle params next_params extras records n board m h =
-    ap (λ (b : BoardValue). option_or (cond (is_restart m) (restart_refusal (n + 1)) None) (option_or (refusal_of d b m) (full_refusal (n + 1))))
-    (shown_viewed d puzzle params next_params extras records n board h)
+pub refusal_viewed : {P : Type 0} (p : Puzzle) (puzzle : P) (params next_params : Params) (extras : Extras) (records : List Record) (n : ℕ) (board : BoardValue) (m : Move) → AreLinked p records n board → refusal_in p (viewed puzzle params next_params extras (moves_of records) n) m ≡ option_or (first_state_refusal (n + 1) m) (option_or (refusal_of p board m) (full_refusal (n + 1)))
+refusal_viewed p puzzle params next_params extras records n board m h =
+    ap (λ (b : BoardValue). option_or (first_state_refusal (n + 1) m) (option_or (refusal_of p b m) (full_refusal (n + 1))))
+    (shown_viewed p puzzle params next_params extras records n board h)
 
 -- what an accepted move knows
-pub record Allowed (d : Deal) (position : ℕ) (board : BoardValue) (m : Move) : Type 0 where
+pub record Allowed (p : Puzzle) (position : ℕ) (board : BoardValue) (m : Move) : Type 0 where
   pub restart : position ≡ 1 → is_restart m ≡ false
-  pub on_board : refusal_of d board m ≡ None
+  pub on_board : refusal_of p board m ≡ None
   pub room : position ≢ most_states
 
-allowed_parts : (d : Deal) (position : ℕ) (board : BoardValue) (m : Move) → cond (is_restart m) (restart_refusal position) None ≡ None → refusal_of d board m ≡ None → full_refusal position ≡ None → Allowed d position board m
-allowed_parts d position board m restart allowed room = record {
+allowed_parts : (p : Puzzle) (position : ℕ) (board : BoardValue) (m : Move) → first_state_refusal position m ≡ None → refusal_of p board m ≡ None → full_refusal position ≡ None → Allowed p position board m
+allowed_parts p position board m restart allowed room = record {
   restart = λ first. elim (is_restart m) as (λ t. cond t (restart_refusal position) None ≡ None → t ≡ false) [
     | true ↦ λ e. let test : (position == 1) ≡ true = eq-eqb position 1 first in
         let some : Some NothingToRestart ≡ None = rw test at e in cc
@@ -54,16 +55,16 @@ allowed_parts d position board m restart allowed room = record {
       let some : Some HistoryFull ≡ None = rw test at room in cc;
 }
 
-pub allowed_in : {P : Type 0} (d : Deal) (h : History P) (m : Move) → refusal_in d h m ≡ None → Allowed d h.position (shown d h) m
-allowed_in d h m allowed =
-    let first = or_none (cond (is_restart m) (restart_refusal h.position) None) (option_or (refusal_of d (shown d h) m) (full_refusal h.position)) allowed in
-    let second = or_none (refusal_of d (shown d h) m) (full_refusal h.position) first.1 in
-    allowed_parts d h.position (shown d h) m first.0 second.0 second.1
+pub allowed_in : {P : Type 0} (p : Puzzle) (h : History P) (m : Move) → refusal_in p h m ≡ None → Allowed p h.position (shown p h) m
+allowed_in p h m allowed =
+    let first = or_none (first_state_refusal h.position m) (option_or (refusal_of p (shown p h) m) (full_refusal h.position)) allowed in
+    let second = or_none (refusal_of p (shown p h) m) (full_refusal h.position) first.1 in
+    allowed_parts p h.position (shown p h) m first.0 second.0 second.1
 
-pub allowed_viewed : {P : Type 0} (d : Deal) (puzzle : P) (params next_params : Params) (extras : Extras) (records : List Record) (n : ℕ) (board : BoardValue) (m : Move) → AreLinked d records n board → refusal_in d (viewed puzzle params next_params extras (moves_of records) n) m ≡ None → Allowed d (n + 1) board m
-allowed_viewed d puzzle params next_params extras records n board m h allowed =
-    subst (λ (b : BoardValue). Allowed d (n + 1) b m) (shown_viewed d puzzle params next_params extras records n board h)
-    (allowed_in d (viewed puzzle params next_params extras (moves_of records) n) m allowed)
+pub allowed_viewed : {P : Type 0} (p : Puzzle) (puzzle : P) (params next_params : Params) (extras : Extras) (records : List Record) (n : ℕ) (board : BoardValue) (m : Move) → AreLinked p records n board → refusal_in p (viewed puzzle params next_params extras (moves_of records) n) m ≡ None → Allowed p (n + 1) board m
+allowed_viewed p puzzle params next_params extras records n board m h allowed =
+    subst (λ (b : BoardValue). Allowed p (n + 1) b m) (shown_viewed p puzzle params next_params extras records n board h)
+    (allowed_in p (viewed puzzle params next_params extras (moves_of records) n) m allowed)
 
 -- a call that is accepted is not refused
 pub accepted : {A : Type 0} (refusal : Option PlayFault) (a b : A) → unless_refused refusal a ≡ Ok b → (refusal ≡ None) × (a ≡ b)
@@ -71,30 +72,30 @@ accepted None a b e = (refl, cc)
 accepted (Some fault) a b e = cc
 
 -- the refusal in a session, from the refusals of its parts
-pub refusal_by_parts : {P : Type 0} (d : Deal) (puzzle : P) (params next_params : Params) (extras : Extras) (records : List Record) (n : ℕ) (board : BoardValue) (m : Move) (first second third : Option PlayFault) → AreLinked d records n board → cond (is_restart m) (restart_refusal (n + 1)) None ≡ first → refusal_of d board m ≡ second → full_refusal (n + 1) ≡ third → refusal_in d (viewed puzzle params next_params extras (moves_of records) n) m ≡ option_or first (option_or second third)
-refusal_by_parts d puzzle params next_params extras records n board m first second third h a b c =
-    rw (refusal_viewed d puzzle params next_params extras records n board m h, a, b, c) refl
+pub refusal_by_parts : {P : Type 0} (p : Puzzle) (puzzle : P) (params next_params : Params) (extras : Extras) (records : List Record) (n : ℕ) (board : BoardValue) (m : Move) (first second third : Option PlayFault) → AreLinked p records n board → first_state_refusal (n + 1) m ≡ first → refusal_of p board m ≡ second → full_refusal (n + 1) ≡ third → refusal_in p (viewed puzzle params next_params extras (moves_of records) n) m ≡ option_or first (option_or second third)
+refusal_by_parts p puzzle params next_params extras records n board m first second third h a b c =
+    rw (refusal_viewed p puzzle params next_params extras records n board m h, a, b, c) refl
 
 -- a further record keeps the links
-pub linked_move : (d : Deal) (records : List Record) (n : ℕ) (board : BoardValue) (m : Move) (change : ChangeValue) → AreLinked d records n board → Allowed d (n + 1) board m → FitsBoard board change → board_after board change ≡ moved d board m → AreLinked d (take n records ++ record { made = m; change = change } ∷ []) n board
-linked_move d records n board m change h allowed fits board_is =
+pub linked_move : (p : Puzzle) (records : List Record) (n : ℕ) (board : BoardValue) (m : Move) (change : ChangeValue) → AreLinked p records n board → Allowed p (n + 1) board m → FitsBoard board change → board_after board change ≡ moved p board m → AreLinked p (take n records ++ record { made = m; change = change } ∷ []) n board
+linked_move p records n board m change h allowed fits board_is =
     let few = h.few in
     let inside = h.inside in
     let room : n + 1 ≢ most_states = allowed.room in
-    linked_new d records n board (record { made = m; change = change }) (moved d board m) h
-    (record { stepped = step_allowed d board m allowed.on_board; fits = fits; ahead = board_is }) (omega arith) (λ zero. allowed.restart (omega arith))
+    linked_new p records n board (record { made = m; change = change }) (moved p board m) h
+    (record { stepped = step_allowed p board m allowed.on_board; fits = fits; ahead = board_is }) (omega arith) (λ zero. allowed.restart (omega arith))
 
-pub played_viewed : {P : Type 0} (d : Deal) (puzzle : P) (params next_params : Params) (extras : Extras) (records new : List Record) (n : ℕ) (m : Move) (change : ChangeValue) → refusal_in d (viewed puzzle params next_params extras (moves_of records) n) m ≡ None → new ≡ take n records ++ record { made = m; change = change } ∷ [] → played d (viewed puzzle params next_params extras (moves_of records) n) m ≡ Ok (at_position (viewed puzzle params next_params extras (moves_of new) n) (n + 1 + 1))
-played_viewed {P} d puzzle params next_params extras records new n m change allowed is =
+pub played_viewed : {P : Type 0} (p : Puzzle) (puzzle : P) (params next_params : Params) (extras : Extras) (records new : List Record) (n : ℕ) (m : Move) (change : ChangeValue) → refusal_in p (viewed puzzle params next_params extras (moves_of records) n) m ≡ None → new ≡ take n records ++ record { made = m; change = change } ∷ [] → played p (viewed puzzle params next_params extras (moves_of records) n) m ≡ Ok (at_position (viewed puzzle params next_params extras (moves_of new) n) (n + 1 + 1))
+played_viewed {P} p puzzle params next_params extras records new n m change allowed is =
     let h : History P = viewed puzzle params next_params extras (moves_of records) n in
     let front : past h ≡ moves_of (take n records) = past_viewed puzzle params next_params extras (moves_of records) n ∙ take-map (λ (r : Record). r.made) n records in
     let moves : past h ++ m ∷ [] ≡ moves_of new =
     ap (λ ms. ms ++ m ∷ []) front ∙ sym (map-append (λ (r : Record). r.made) (take n records) (record { made = m; change = change } ∷ [])) ∙ ap moves_of (sym is) in
-    played_allowed d h m allowed ∙ ap (λ ms. Ok (at_position (viewed puzzle params next_params extras ms n) (n + 1 + 1))) moves
+    played_allowed p h m allowed ∙ ap (λ ms. Ok (at_position (viewed puzzle params next_params extras ms n) (n + 1 + 1))) moves
 
 -- a solution is a move that only a full history refuses
-pub solved_as_played : {P : Type 0} (d : Deal) (h : History P) (g : GridValue) → IsOnlySolution d.puzzle g → played d h (Solve g) ≡ unless_refused (full_refusal h.position) (with_move h (Solve g))
-solved_as_played d h g only = rw ((Decides-solves_test d.puzzle g only.solves.is_grid).1 only.solves) refl
+pub solved_as_played : {P : Type 0} (p : Puzzle) (h : History P) (g : GridValue) → IsOnlySolution p g → played p h (Solve g) ≡ unless_refused (full_refusal h.position) (with_move h (Solve g))
+solved_as_played p h g only = rw ((Decides-solves_test p g only.solves.is_grid).1 only.solves) refl
 
-pub solve_refused : {P : Type 0} (d : Deal) (h : History P) (g : GridValue) (fault : PlayFault) → IsOnlySolution d.puzzle g → IsRefusal (played d h (Solve g)) fault → IsSolveRefusal d h fault
-solve_refused d h g fault only is = (played d h (Solve g), inr (inr (g, only, solved_as_played d h g only)), is)
+pub solve_refused : {P : Type 0} (p : Puzzle) (h : History P) (g : GridValue) (fault : PlayFault) → IsOnlySolution p g → IsRefusal (played p h (Solve g)) fault → IsSolveRefusal p h fault
+solve_refused p h g fault only is = (played p h (Solve g), inr (inr (g, only, solved_as_played p h g only)), is)

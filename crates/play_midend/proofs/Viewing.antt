@@ -1,13 +1,14 @@
 -- The calls of a session on the value that its fields give: so many past moves are one less than the position.
 use Rattle.std.proofs.Common.{◌≡◌, ◌≢◌, ℕ, ◌+◌, ◌-◌, false, ◌==◌, List, take, Ok, refl, ap, ◌∙◌, arith}
 use borrow.Author.Tests.{apart_eqb}
+use Rattle.trail_solver.specs.Puzzles.{Puzzle}
 use Rattle.clue_rules.specs.declared.params.Params.{Params}
 use Rattle.play_midend.specs.declared.extras.Extras.{Extras}
 use Rattle.play_midend.specs.declared.moves.Move.{Move}
 use Rattle.latin_board.specs.Boards.{BoardValue}
 use Rattle.std.proofs.lemmas.List.{length-map}
 use Rattle.play_midend.specs.declared.session.Record.{Record}
-use Rattle.play_midend.specs.Steps.{Deal, start_of, replay_from}
+use Rattle.play_midend.specs.Steps.{start_of, replay_from}
 use Rattle.play_midend.specs.Histories.{History, past, shown, IsValid, at_position, undone}
 use Rattle.play_midend.specs.Links.{moves_of, AreLinked}
 use Rattle.play_midend.proofs.Linking.{shown_linked, legal_linked}
@@ -36,18 +37,18 @@ pub forward_viewed : {P : Type 0} (puzzle : P) (params next_params : Params) (ex
 forward_viewed puzzle params next_params extras ms ns n same = rw same refl
 
 -- a session whose records are linked
-pub shown_viewed : {P : Type 0} (d : Deal) (puzzle : P) (params next_params : Params) (extras : Extras) (records : List Record) (n : ℕ) (board : BoardValue) → AreLinked d records n board → shown d (viewed puzzle params next_params extras (moves_of records) n) ≡ board
-shown_viewed d puzzle params next_params extras records n board h =
-    ap (λ ms. replay_from d (start_of d.puzzle) ms) (past_viewed puzzle params next_params extras (moves_of records) n) ∙ shown_linked d records n board h
+pub shown_viewed : {P : Type 0} (p : Puzzle) (puzzle : P) (params next_params : Params) (extras : Extras) (records : List Record) (n : ℕ) (board : BoardValue) → AreLinked p records n board → shown p (viewed puzzle params next_params extras (moves_of records) n) ≡ board
+shown_viewed p puzzle params next_params extras records n board h =
+    ap (λ ms. replay_from p (start_of p) ms) (past_viewed puzzle params next_params extras (moves_of records) n) ∙ shown_linked p records n board h
 
-pub valid_viewed : {P : Type 0} (d : Deal) (puzzle : P) (params next_params : Params) (extras : Extras) (records : List Record) (n : ℕ) (board : BoardValue) → params.size ≡ d.puzzle.size → AreLinked d records n board → IsValid d (viewed puzzle params next_params extras (moves_of records) n)
-valid_viewed d puzzle params next_params extras records n board size h =
+pub valid_viewed : {P : Type 0} (p : Puzzle) (puzzle : P) (params next_params : Params) (extras : Extras) (records : List Record) (n : ℕ) (board : BoardValue) → params.size ≡ p.size → AreLinked p records n board → IsValid p (viewed puzzle params next_params extras (moves_of records) n)
+valid_viewed p puzzle params next_params extras records n board size h =
     let long = length-map records (λ (r : Record). r.made) in
     let few = h.few in
     let inside = h.inside in
     record {
       size = size;
-      legal = legal_linked d records n board h;
+      legal = legal_linked p records n board h;
       few = omega (arith, long);
       first = omega arith;
       last = omega (arith, long);

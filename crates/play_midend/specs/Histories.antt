@@ -5,12 +5,13 @@ use Rattle.latin_board.specs.Squares.{GridValue}
 use Rattle.latin_board.specs.Boards.{BoardValue}
 use Rattle.trail_solver.specs.Puzzles.{Puzzle, Solves}
 use Rattle.clue_rules.specs.declared.params.Params.{Params}
+use Rattle.clue_rules.specs.Parameters.{IsParams}
 use Rattle.play_midend.specs.declared.extras.Extras.{Extras}
 use Rattle.play_midend.specs.declared.moves.Move.{Move}
 use Rattle.play_midend.specs.declared.moves.Move.TheVariants.{Solve, Restart}
 use Rattle.play_midend.specs.declared.fault.PlayFault.{PlayFault}
 use Rattle.play_midend.specs.declared.fault.PlayFault.TheVariants.{HistoryFull, OutOfMemory, NothingToUndo, NothingToRedo, NothingToRestart, NoSolution, SeveralSolutions}
-use Rattle.play_midend.specs.Steps.{Deal, is_restart, refusal_of, unless_refused, replay, IsLegal}
+use Rattle.play_midend.specs.Steps.{is_restart, refusal_of, unless_refused, replay, IsLegal}
 
 -- a session as a value: the position is the number of the state that is shown, counted from 1
 pub record History (P : Type 0) : Type 0 where
@@ -29,15 +30,23 @@ most_states = 100000
 abbrev pub past : {P : Type 0} → History P → List Move
 past h = take (h.position - 1) h.moves
 
-abbrev pub shown : {P : Type 0} → Deal → History P → BoardValue
-shown d h = replay d (past h)
+abbrev pub shown : {P : Type 0} → Puzzle → History P → BoardValue
+shown p h = replay p (past h)
 
-pub record IsValid {P : Type 0} (d : Deal) (h : History P) : Type 0 where
-  pub size : h.params.size ≡ d.puzzle.size
-  pub legal : IsLegal d h.moves
+pub record IsValid {P : Type 0} (p : Puzzle) (h : History P) : Type 0 where
+  pub size : h.params.size ≡ p.size
+  pub legal : IsLegal p h.moves
   pub few : length h.moves + 1 ≤ most_states
   pub first : 1 ≤ h.position
   pub last : h.position ≤ length h.moves + 1
+
+-- a session that a save file can hold: it is valid, and its puzzle and both parameters are the game's
+pub record IsStorable {P : Type 0} (puzzle : P → Puzzle) (of_game : P → Type 0) (letters : List ℕ)
+    (h : History P) : Type 0 where
+  pub session : IsValid (puzzle h.puzzle) h
+  pub puzzle_is : of_game h.puzzle
+  pub params_are : IsParams letters h.params
+  pub next_params_are : IsParams letters h.next_params
 
 -- a new session
 abbrev pub started : {P : Type 0} → P → Params → Params → Extras → History P
@@ -52,43 +61,32 @@ started puzzle params next_params extras = record {
 
 -- the state behind the one that is shown: a move drops those that stood there
 abbrev pub with_move : {P : Type 0} → History P → Move → History P
-with_move h m = record {
-  puzzle = h.puzzle;
-  params = h.params;
-  next_params = h.next_params;
-  extras = h.extras;
-  moves = past h ++ m ∷ [];
-  position = h.position + 1;
-}
+with_move h m = record h { moves = past h ++ m ∷ []; position = h.position + 1 }
 
 abbrev pub at_position : {P : Type 0} → History P → ℕ → History P
-at_position h position = record {
-  puzzle = h.puzzle;
-  params = h.params;
-  next_params = h.next_params;
-  extras = h.extras;
-  moves = h.moves;
-  position = position;
-}
+at_position h position = record h { position = position }
 
--- a restart at the first state is refused, and so is any move at the last position that a history has
+-- at the first state a restart is refused, and any move at the last position that a history has
 abbrev pub restart_refusal : ℕ → Option PlayFault
 restart_refusal position = if position == 1 then Some NothingToRestart else None
+
+abbrev pub first_state_refusal : ℕ → Move → Option PlayFault
+first_state_refusal position m = if is_restart m then restart_refusal position else None
 
 abbrev pub full_refusal : ℕ → Option PlayFault
 full_refusal position = if position == most_states then Some HistoryFull else None
 
 -- the first refusal of a move at the state that is shown, want of memory left aside
-abbrev pub refusal_in : {P : Type 0} → Deal → History P → Move → Option PlayFault
-refusal_in d h m =
-    option_or (if is_restart m then restart_refusal h.position else None)
-    (option_or (refusal_of d (shown d h) m) (full_refusal h.position))
+abbrev pub refusal_in : {P : Type 0} → Puzzle → History P → Move → Option PlayFault
+refusal_in p h m =
+    option_or (first_state_refusal h.position m) (option_or (refusal_of p (shown p h) m) (full_refusal h.position))
 
-abbrev pub played : {P : Type 0} → Deal → History P → Move → Result (History P) PlayFault
-played d h m = unless_refused (refusal_in d h m) (with_move h m)
+abbrev pub played : {P : Type 0} → Puzzle → History P → Move → Result (History P) PlayFault
+played p h m = unless_refused (refusal_in p h m) (with_move h m)
 
 abbrev pub restarted : {P : Type 0} → History P → Result (History P) PlayFault
-restarted h = unless_refused (option_or (restart_refusal h.position) (full_refusal h.position)) (with_move h Restart)
+restarted h =
+    unless_refused (option_or (restart_refusal h.position) (full_refusal h.position)) (with_move h Restart)
 
 -- the solutions of a puzzle: none, several, or just one
 abbrev pub HasNoSolution : Puzzle → Type 0
@@ -106,23 +104,25 @@ pub record IsOnlySolution (p : Puzzle) (g : GridValue) : Type 0 where
   pub only : (h : GridValue) → Solves p h → h ≡ g
 
 -- solving: the only solution is a move, whatever the board shows
-abbrev pub SolveGives : {P : Type 0} → Deal → History P → Result (History P) PlayFault → Type 0
-SolveGives d h exact =
-    (HasNoSolution d.puzzle × (exact ≡ Err NoSolution))
-    ⊎ (HasSeveralSolutions d.puzzle × (exact ≡ Err SeveralSolutions))
-    ⊎ ((g : GridValue) × IsOnlySolution d.puzzle g
+abbrev pub SolveGives : {P : Type 0} → Puzzle → History P → Result (History P) PlayFault → Type 0
+SolveGives p h exact =
+    (HasNoSolution p × (exact ≡ Err NoSolution))
+    ⊎ (HasSeveralSolutions p × (exact ≡ Err SeveralSolutions))
+    ⊎ ((g : GridValue) × IsOnlySolution p g
     × (exact ≡ unless_refused (full_refusal h.position) (with_move h (Solve g))))
 
 abbrev pub undone : {P : Type 0} → History P → Result (History P) PlayFault
 undone h = if h.position == 1 then Err NothingToUndo else Ok (at_position h (h.position - 1))
 
 abbrev pub redone : {P : Type 0} → History P → Result (History P) PlayFault
-redone h = if h.position == length h.moves + 1 then Err NothingToRedo else Ok (at_position h (h.position + 1))
+redone h =
+    if h.position == length h.moves + 1 then Err NothingToRedo else Ok (at_position h (h.position + 1))
 
 -- a refusal of a call that takes memory: its own, or want of memory in place of success alone
 abbrev pub IsRefusal : {A : Type 0} → Result A PlayFault → PlayFault → Type 0
 IsRefusal exact OutOfMemory = IsOk exact
 IsRefusal exact fault = exact ≡ Err fault
 
-abbrev pub IsSolveRefusal : {P : Type 0} → Deal → History P → PlayFault → Type 0
-IsSolveRefusal {P} d h fault = (exact : Result (History P) PlayFault) × SolveGives d h exact × IsRefusal exact fault
+abbrev pub IsSolveRefusal : {P : Type 0} → Puzzle → History P → PlayFault → Type 0
+IsSolveRefusal {P} p h fault =
+    (exact : Result (History P) PlayFault) × SolveGives p h exact × IsRefusal exact fault

@@ -1,12 +1,16 @@
 -- The laws of a session's calls, over its value alone, and what a list of calls leaves.
-use Rattle.std.specs.Prelude.{◌≡◌, ℕ, Bool, true, false, List, [], ◌∷◌, Result, Ok, Err}
+use Rattle.std.specs.Prelude.{◌≡◌, ℕ, ◌+◌, ◌-◌, ◌≤◌, Bool, true, false, List, [], ◌∷◌, length, Result, Ok, Err}
 use Rattle.std.specs.Bool.{MatchBool}
 use Rattle.std.specs.Result.{IsOkAnd}
 use Rattle.trail_solver.specs.Puzzles.{Puzzle}
+use Rattle.clue_rules.specs.declared.params.Params.{Params}
+use Rattle.clue_rules.specs.Parameters.{IsParams}
+use Rattle.play_midend.specs.declared.extras.Extras.{Extras}
 use Rattle.play_midend.specs.declared.moves.Move.{Move}
 use Rattle.play_midend.specs.declared.fault.PlayFault.{PlayFault}
-use Rattle.play_midend.specs.Steps.{Deal, deal_of}
-use Rattle.play_midend.specs.Histories.{History, IsValid, past, shown, played, restarted, SolveGives, undone, redone, IsRefusal}
+use Rattle.play_midend.specs.Steps.{IsLegal}
+use Rattle.play_midend.specs.Histories.{History, IsValid, IsStorable, most_states, past, shown, started, at_position, played, restarted, SolveGives, undone, redone, IsRefusal}
+use Rattle.play_midend.specs.MoveLists.{result_and_then, played_all, with_moves, undone_times}
 
 -- the calls that may change a session
 pub data Call : Type 0 where
@@ -17,12 +21,12 @@ pub data Call : Type 0 where
   Redo : Call
 
 -- what a call answers, want of memory left aside
-abbrev pub CallGives : {P : Type 0} → Deal → History P → Call → Result (History P) PlayFault → Type 0
-CallGives d h (Play m) exact = exact ≡ played d h m
-CallGives d h FromStart exact = exact ≡ restarted h
-CallGives d h ToSolution exact = SolveGives d h exact
-CallGives d h Undo exact = exact ≡ undone h
-CallGives d h Redo exact = exact ≡ redone h
+abbrev pub CallGives : {P : Type 0} → Puzzle → History P → Call → Result (History P) PlayFault → Type 0
+CallGives p h (Play m) exact = exact ≡ played p h m
+CallGives p h FromStart exact = exact ≡ restarted h
+CallGives p h ToSolution exact = SolveGives p h exact
+CallGives p h Undo exact = exact ≡ undone h
+CallGives p h Redo exact = exact ≡ redone h
 
 abbrev pub may_want_memory : Call → Bool
 may_want_memory (Play m) = true
@@ -32,51 +36,94 @@ may_want_memory Undo = false
 may_want_memory Redo = false
 
 -- a call, its answer and the value that it leaves: a refused call changes nothing
-abbrev pub Answered : {P : Type 0} → Deal → History P → Call → Result (Unit {0}) PlayFault → History P → Type 0
-Answered d old call (Ok u) new = CallGives d old call (Ok new)
-Answered {P} d old call (Err fault) new =
-    (new ≡ old) × ((exact : Result (History P) PlayFault) × CallGives d old call exact
+abbrev pub Answered : {P : Type 0} → Puzzle → History P → Call → Result (Unit {0}) PlayFault → History P → Type 0
+Answered p old call (Ok u) new = CallGives p old call (Ok new)
+Answered {P} p old call (Err fault) new =
+    (new ≡ old) × ((exact : Result (History P) PlayFault) × CallGives p old call exact
     × MatchBool (may_want_memory call) (IsRefusal exact fault) (exact ≡ Err fault))
 
 -- calls in turn, each with its answer
-abbrev pub Run : {P : Type 0} → Deal → History P → List (Call × Result (Unit {0}) PlayFault) → History P → Type 0
-Run d old [] new = new ≡ old
-Run {P} d old (c ∷ calls) new = (mid : History P) × Answered d old c.0 c.1 mid × Run d mid calls new
+abbrev pub Run : {P : Type 0} → Puzzle → History P → List (Call × Result (Unit {0}) PlayFault) → History P → Type 0
+Run p old [] new = new ≡ old
+Run {P} p old (c ∷ calls) new = (mid : History P) × Answered p old c.0 c.1 mid × Run p mid calls new
 
 -- from a valid session each list of calls leaves a valid one
-abbrev pub RunsStayValid : {P : Type 0} → (P → Puzzle) → (P → ℕ → Bool) → Type 0
-RunsStayValid {P} puzzle clued =
-    (old new : History P) (calls : List (Call × Result (Unit {0}) PlayFault)) → let d = deal_of puzzle clued old.puzzle in
-    IsValid d old → Run d old calls new → IsValid d new
+abbrev pub RunsStayValid : {P : Type 0} → (P → Puzzle) → Type 0
+RunsStayValid {P} puzzle =
+    (old new : History P) (calls : List (Call × Result (Unit {0}) PlayFault)) → let p = puzzle old.puzzle in
+    IsValid p old → Run p old calls new → IsValid p new
+
+-- a new session of a puzzle of the game, with parameters of the game, is storable
+abbrev pub StartsStorable : {P : Type 0} → (P → Puzzle) → (P → Type 0) → List ℕ → Type 0
+StartsStorable {P} puzzle of_game letters =
+    (first : P) (params next_params : Params) (extras : Extras) →
+    of_game first → IsParams letters params → IsParams letters next_params → params.size ≡ (puzzle first).size
+    → IsStorable puzzle of_game letters (started first params next_params extras)
+
+-- and so is what each list of calls leaves of a storable one
+abbrev pub RunsStayStorable : {P : Type 0} → (P → Puzzle) → (P → Type 0) → List ℕ → Type 0
+RunsStayStorable {P} puzzle of_game letters =
+    (old new : History P) (calls : List (Call × Result (Unit {0}) PlayFault)) →
+    IsStorable puzzle of_game letters old → Run (puzzle old.puzzle) old calls new
+    → IsStorable puzzle of_game letters new
 
 -- the same puzzle, parameters, kept bytes, past, position and board; what stood behind the position may be gone
-pub record IsSameBack {P : Type 0} (d : Deal) (old new : History P) : Type 0 where
+pub record IsSameBack {P : Type 0} (p : Puzzle) (old new : History P) : Type 0 where
   pub puzzle : new.puzzle ≡ old.puzzle
   pub params : new.params ≡ old.params
   pub next_params : new.next_params ≡ old.next_params
   pub extras : new.extras ≡ old.extras
   pub past_is : past new ≡ past old
   pub position : new.position ≡ old.position
-  pub board : shown d new ≡ shown d old
+  pub board : shown p new ≡ shown p old
 
 -- a move that is accepted and then undone, a restart among them
-abbrev pub UndoTakesBack : {P : Type 0} → (P → Puzzle) → (P → ℕ → Bool) → Type 0
-UndoTakesBack {P} puzzle clued =
-    (old new : History P) (m : Move) → let d = deal_of puzzle clued old.puzzle in
-    IsValid d old → played d old m ≡ Ok new → IsOkAnd (undone new) (IsSameBack d old)
+abbrev pub UndoTakesBack : {P : Type 0} → (P → Puzzle) → Type 0
+UndoTakesBack {P} puzzle =
+    (old new : History P) (m : Move) → let p = puzzle old.puzzle in
+    IsValid p old → played p old m ≡ Ok new → IsOkAnd (undone new) (IsSameBack p old)
 
-abbrev pub UndoTakesRestartBack : {P : Type 0} → (P → Puzzle) → (P → ℕ → Bool) → Type 0
-UndoTakesRestartBack {P} puzzle clued =
-    (old new : History P) → let d = deal_of puzzle clued old.puzzle in
-    IsValid d old → restarted old ≡ Ok new → IsOkAnd (undone new) (IsSameBack d old)
+abbrev pub UndoTakesRestartBack : {P : Type 0} → (P → Puzzle) → Type 0
+UndoTakesRestartBack {P} puzzle =
+    (old new : History P) → let p = puzzle old.puzzle in
+    IsValid p old → restarted old ≡ Ok new → IsOkAnd (undone new) (IsSameBack p old)
 
-abbrev pub UndoTakesSolveBack : {P : Type 0} → (P → Puzzle) → (P → ℕ → Bool) → Type 0
-UndoTakesSolveBack {P} puzzle clued =
-    (old new : History P) → let d = deal_of puzzle clued old.puzzle in
-    IsValid d old → SolveGives d old (Ok new) → IsOkAnd (undone new) (IsSameBack d old)
+abbrev pub UndoTakesSolveBack : {P : Type 0} → (P → Puzzle) → Type 0
+UndoTakesSolveBack {P} puzzle =
+    (old new : History P) → let p = puzzle old.puzzle in
+    IsValid p old → SolveGives p old (Ok new) → IsOkAnd (undone new) (IsSameBack p old)
 
 -- what is undone and then made again is the whole session as it was
-abbrev pub RedoTakesUndoBack : {P : Type 0} → (P → Puzzle) → (P → ℕ → Bool) → Type 0
-RedoTakesUndoBack {P} puzzle clued =
-    (old new : History P) → let d = deal_of puzzle clued old.puzzle in
-    IsValid d old → undone old ≡ Ok new → redone new ≡ Ok old
+abbrev pub RedoTakesUndoBack : {P : Type 0} → (P → Puzzle) → Type 0
+RedoTakesUndoBack {P} puzzle =
+    (old new : History P) → let p = puzzle old.puzzle in
+    IsValid p old → undone old ≡ Ok new → redone new ≡ Ok old
+
+-- played along from a new session, a legal list that a history has room for is accepted
+abbrev pub LegalListsPlay : {P : Type 0} → (P → Puzzle) → Type 0
+LegalListsPlay {P} puzzle =
+    (first : P) (params next_params : Params) (extras : Extras) (ms : List Move) →
+    IsLegal (puzzle first) ms → length ms + 1 ≤ most_states
+    → let new = started first params next_params extras in
+    played_all (puzzle first) new ms ≡ Ok (with_moves new ms)
+
+-- and what is accepted is such a list, and leaves the session with these moves at its last position
+abbrev pub AcceptedListsAreLegal : {P : Type 0} → (P → Puzzle) → Type 0
+AcceptedListsAreLegal {P} puzzle =
+    (first : P) (params next_params : Params) (extras : Extras) (ms : List Move) (last : History P) →
+    let new = started first params next_params extras in
+    played_all (puzzle first) new ms ≡ Ok last
+    → IsLegal (puzzle first) ms × (length ms + 1 ≤ most_states) × (last ≡ with_moves new ms)
+
+-- so many steps back show the state with that position
+abbrev pub UndoLeadsBack : Type 0 → Type 0
+UndoLeadsBack P =
+    (h : History P) (n position : ℕ) → 1 ≤ position → h.position ≡ position + n
+    → undone_times n h ≡ Ok (at_position h position)
+
+-- each valid session is its moves, played along from a new one, and then steps back
+abbrev pub HistoriesAreReached : {P : Type 0} → (P → Puzzle) → Type 0
+HistoriesAreReached {P} puzzle =
+    (h : History P) → let p = puzzle h.puzzle in
+    IsValid p h → let new = started h.puzzle h.params h.next_params h.extras in
+    result_and_then (undone_times (length h.moves + 1 - h.position)) (played_all p new h.moves) ≡ Ok h

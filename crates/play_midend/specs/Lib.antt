@@ -3,5 +3,6 @@ pub mod Faults
 pub mod MoveTexts
 pub mod Steps
 pub mod Histories
+pub mod MoveLists
 pub mod Links
 pub mod Laws

@@ -14,14 +14,6 @@ use Rattle.play_midend.specs.declared.moves.Move.TheVariants.{Real, Pencil, Mark
 use Rattle.play_midend.specs.declared.fault.PlayFault.{PlayFault}
 use Rattle.play_midend.specs.declared.fault.PlayFault.TheVariants.{OffGrid, OffRange, GivenSquare, FilledSquare, BadSolution, OutOfMemory}
 
--- what a move looks at besides the board: the puzzle, and which edge places have a clue
-pub record Deal : Type 0 where
-  pub puzzle : Puzzle
-  pub clued : ℕ → Bool
-
-abbrev pub deal_of : {P : Type 0} → (P → Puzzle) → (P → ℕ → Bool) → P → Deal
-deal_of puzzle clued p = record { puzzle = puzzle p; clued = clued p }
-
 -- the square at column x and row y
 abbrev pub cell_of : ℕ → ℕ → ℕ → ℕ
 cell_of w x y = y * w + x
@@ -38,17 +30,17 @@ abbrev pub mark_refusal : BoardValue → ℕ → ℕ → Option PlayFault
 mark_refusal b cell n = if (n == 0) || (number_at (grid_of b) cell == 0) then None else Some FilledSquare
 
 -- whether there is a clue at the edge place (x, y)
-abbrev pub has_clue : Deal → ℤ → ℤ → Bool
-has_clue d x y = option_map_or d.clued (edge_place d.puzzle.size x y) false
+abbrev pub has_clue : Puzzle → ℤ → ℤ → Bool
+has_clue p x y = option_map_or p.clued (edge_place p.size x y) false
 
 -- the first refusal of a move, if any
-abbrev pub refusal_of : Deal → BoardValue → Move → Option PlayFault
-refusal_of d b (Real x y n) = entry_refusal d.puzzle x y n
-refusal_of d b (Pencil x y n) = option_or (entry_refusal d.puzzle x y n) (mark_refusal b (cell_of d.puzzle.size x y) n)
-refusal_of d b MarkAll = None
-refusal_of d b (Solve g) = if solves_test d.puzzle g then None else Some BadSolution
-refusal_of d b Restart = None
-refusal_of d b (Done x y) = if has_clue d x y then None else Some OffGrid
+abbrev pub refusal_of : Puzzle → BoardValue → Move → Option PlayFault
+refusal_of p b (Real x y n) = entry_refusal p x y n
+refusal_of p b (Pencil x y n) = option_or (entry_refusal p x y n) (mark_refusal b (cell_of p.size x y) n)
+refusal_of p b MarkAll = None
+refusal_of p b (Solve g) = if solves_test p g then None else Some BadSolution
+refusal_of p b Restart = None
+refusal_of p b (Done x y) = if has_clue p x y then None else Some OffGrid
 
 -- the board with a number at a square and no marks there, completed if the numbers now solve the puzzle
 abbrev pub with_number : Puzzle → BoardValue → ℕ → ℕ → BoardValue
@@ -86,15 +78,15 @@ abbrev pub start_of : Puzzle → BoardValue
 start_of p = start_board (givens_of p)
 
 -- the board after a move that isn't refused
-abbrev pub moved : Deal → BoardValue → Move → BoardValue
-moved d b (Real x y n) = with_number d.puzzle b (cell_of d.puzzle.size x y) n
-moved d b (Pencil x y n) =
-    if n == 0 then with_number d.puzzle b (cell_of d.puzzle.size x y) 0
-    else with_mark_flipped b (cell_of d.puzzle.size x y) n
-moved d b MarkAll = all_marked b
-moved d b (Solve g) = filled b g
-moved d b Restart = start_of d.puzzle
-moved d b (Done x y) = option_map_or (with_done_flipped b) (edge_place d.puzzle.size x y) b
+abbrev pub moved : Puzzle → BoardValue → Move → BoardValue
+moved p b (Real x y n) = with_number p b (cell_of p.size x y) n
+moved p b (Pencil x y n) =
+    if n == 0 then with_number p b (cell_of p.size x y) 0
+    else with_mark_flipped b (cell_of p.size x y) n
+moved p b MarkAll = all_marked b
+moved p b (Solve g) = filled b g
+moved p b Restart = start_of p
+moved p b (Done x y) = option_map_or (with_done_flipped b) (edge_place p.size x y) b
 
 -- a refusal, where there is one, in place of a value
 abbrev pub unless_refused : {A : Type 0} → Option PlayFault → A → Result A PlayFault
@@ -102,24 +94,24 @@ unless_refused None a = Ok a
 unless_refused (Some fault) a = Err fault
 
 -- one move: the first refusal, or the new board
-abbrev pub step : Deal → BoardValue → Move → Result BoardValue PlayFault
-step d b m = unless_refused (refusal_of d b m) (moved d b m)
+abbrev pub step : Puzzle → BoardValue → Move → Result BoardValue PlayFault
+step p b m = unless_refused (refusal_of p b m) (moved p b m)
 
 -- moves in turn, where a refused one changes nothing
-abbrev pub after_move : Deal → BoardValue → Move → BoardValue
-after_move d b m = result_unwrap_or (step d b m) b
+abbrev pub after_move : Puzzle → BoardValue → Move → BoardValue
+after_move p b m = result_unwrap_or (step p b m) b
 
-abbrev pub replay_from : Deal → BoardValue → List Move → BoardValue
-replay_from d b [] = b
-replay_from d b (m ∷ ms) = replay_from d (after_move d b m) ms
+abbrev pub replay_from : Puzzle → BoardValue → List Move → BoardValue
+replay_from p b [] = b
+replay_from p b (m ∷ ms) = replay_from p (after_move p b m) ms
 
-abbrev pub replay : Deal → List Move → BoardValue
-replay d ms = replay_from d (start_of d.puzzle) ms
+abbrev pub replay : Puzzle → List Move → BoardValue
+replay p ms = replay_from p (start_of p) ms
 
 -- no move is refused
-abbrev pub ArePlayable : Deal → BoardValue → List Move → Type 0
-ArePlayable d b [] = Unit {0}
-ArePlayable d b (m ∷ ms) = IsOk (step d b m) × ArePlayable d (after_move d b m) ms
+abbrev pub ArePlayable : Puzzle → BoardValue → List Move → Type 0
+ArePlayable p b [] = Unit {0}
+ArePlayable p b (m ∷ ms) = IsOk (step p b m) × ArePlayable p (after_move p b m) ms
 
 abbrev pub is_restart : Move → Bool
 is_restart Restart = true
@@ -130,8 +122,8 @@ begins_with_restart [] = false
 begins_with_restart (m ∷ ms) = is_restart m
 
 -- a list of moves of the puzzle: each can be made in turn, and the first isn't a restart
-pub record IsLegal (d : Deal) (ms : List Move) : Type 0 where
-  pub playable : ArePlayable d (start_of d.puzzle) ms
+pub record IsLegal (p : Puzzle) (ms : List Move) : Type 0 where
+  pub playable : ArePlayable p (start_of p) ms
   pub no_restart_first : begins_with_restart ms ≡ false
 
 -- the moves whose change is one square; any other may exchange the whole board
@@ -146,9 +138,9 @@ IsRefusalOf m exact OutOfMemory = IsOk exact × IsTrue (takes_memory m)
 IsRefusalOf m exact fault = exact ≡ Err fault
 
 -- a change that makes a move on a board, and takes it back when it is exchanged once more
-pub record Makes (d : Deal) (b : BoardValue) (m : Move) (change : ChangeValue) : Type 0 where
+pub record Makes (p : Puzzle) (b : BoardValue) (m : Move) (change : ChangeValue) : Type 0 where
   pub fits : FitsBoard b change
-  pub made : step d b m ≡ Ok (board_after b change)
+  pub made : step p b m ≡ Ok (board_after b change)
   pub fits_again : FitsBoard (board_after b change) (change_after b change)
   pub back : board_after (board_after b change) (change_after b change) ≡ b
   pub change_back : change_after (board_after b change) (change_after b change) ≡ change

@@ -1,3 +1,5 @@
+//! The bytes that a session keeps for a save file.
+
 ghost use Rattle.std.specs.Prelude.{◌≡◌};
 
 use std::marker::Model;

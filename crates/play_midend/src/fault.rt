@@ -1,3 +1,5 @@
+//! The refusals of a session.
+
 ghost use Rattle.std.specs.Prelude.{◌≡◌, codes};
 ghost use Rattle.play_midend.specs.declared.fault.PlayFault.TheVariants.{OutOfMemory};
 ghost use Rattle.play_midend.specs.Faults.{number_of, name_of};

@@ -2,6 +2,15 @@
 //!
 //! It knows no game: all that differs between games goes through `Game`. A session owns its history, which is the list of
 //! the moves, and shows one board. Each move is kept beside the one change that takes it back or makes it again.
+//!
+//! ```
+//! let mut session = Session::new(alloc, params, params, puzzle, extras)?;
+//! session.play(read_move(b"R0,0,1")?)?;
+//! session.undo()?;
+//! assert_eq!(rt; session.board().digit(0), 0);
+//! session.redo()?;
+//! assert_eq!(rt; session.position(), 2);
+//! ```
 #![tactic(auto)]
 
 mod extras;
@@ -16,7 +25,7 @@ pub use extras::{Extras, KeptBytes};
 pub use fault::PlayFault;
 pub use moves::Move;
 pub use session::Session;
-pub use session_laws::laws;
+pub use session_laws::{laws, move_list_laws};
 pub use step::change_of;
 pub use texts::{read_move, write_move};
 

@@ -1,3 +1,5 @@
+//! The moves of a session.
+
 use latin_board::Grid;
 
 /// A move of a session, as the manual of the collection has it for Towers and Unequal.

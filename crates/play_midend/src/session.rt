@@ -1,8 +1,9 @@
 //! A session: a puzzle, its history and the board that is shown.
 
-ghost use Rattle.std.specs.Prelude.{◌≡◌, ℕ, ◌+◌, ◌-◌, ◌≤◌, ◌<◌, ◌++◌, ◌∷◌, [], length, take, slice_get, if◌then◌else◌, Some, None, Ok, IfOk, IfErr, OnOk, OnErr};
-ghost use Rattle.play_midend.specs.Steps.{deal_of, is_restart};
-ghost use Rattle.play_midend.specs.Histories.{restart_refusal, full_refusal};
+ghost use Rattle.std.specs.Prelude.{◌≡◌, ℕ, ◌+◌, ◌-◌, ◌≤◌, ◌<◌, ◌++◌, ◌∷◌, [], length, take, slice_get, false, Some, None, Ok, Err, IsOk, IfOk, IfErr, OnOk, OnErr};
+ghost use Rattle.latin_board.specs.Changes.{FitsBoard, board_after};
+ghost use Rattle.play_midend.specs.Steps.{takes_memory};
+ghost use Rattle.play_midend.specs.Histories.{first_state_refusal, full_refusal};
 
 use crate::extras::Extras;
 use crate::fault::PlayFault;
@@ -44,7 +45,6 @@ pub struct Session<P: Game> {
 
 impl<P: Game> Model for Session<P> {
     ghost use Rattle.std.specs.Prelude.{◌≡◌, ◌+◌};
-    ghost use Rattle.play_midend.specs.Steps.{deal_of};
     ghost use Rattle.play_midend.specs.Histories.{History};
     ghost use Rattle.play_midend.specs.Links.{moves_of, AreLinked};
 
@@ -60,14 +60,14 @@ impl<P: Game> Model for Session<P> {
     } };
 
     ghost invariant = { λ s. (s.params.size ≡ (P.puzzle s.puzzle).size)
-        × AreLinked (deal_of P.puzzle P.clued s.puzzle) s.records.items s.past s.board };
+        × AreLinked (P.puzzle s.puzzle) s.records.items s.past s.board };
 }
 
 // A restart needs a move to take back.
 fn check_restart(past: usize, m: &Move) -> Result<(), PlayFault>
     requires { past < 100000 }
-    ensures ok { OnOk result ((if is_restart m.now then restart_refusal (past + 1) else None) ≡ None) }
-    ensures err { IfErr result (λ fault. (if is_restart m.now then restart_refusal (past + 1) else None) ≡ Some fault) }
+    ensures ok { OnOk result (first_state_refusal (past + 1) m.now ≡ None) }
+    ensures err { IfErr result (λ fault. first_state_refusal (past + 1) m.now ≡ Some fault) }
 {
     match m {
         Move::Restart if past == 0 => Err(PlayFault::NothingToRestart),
@@ -87,11 +87,12 @@ fn check_room(past: usize) -> Result<(), PlayFault>
     Ok(())
 }
 
-// Puts a record behind the past ones, in place of all that stand there.
+// Puts a record behind the past ones, in place of all that stand there, which takes no memory where one does.
 fn put(records: &mut Vec<Record>, past: usize, last: Record) -> Result<(), AllocError>
     requires { past ≤ length records.old.items }
     ensures ok { OnOk result (records.new.items ≡ take past records.old.items ++ last ∷ []) }
     ensures err { OnErr result (records.new.items ≡ records.old.items) }
+    ensures in_place { past < length records.old.items → IsOk result }
 {
     if past == records.len() {
         records.push(last)?;
@@ -100,6 +101,18 @@ fn put(records: &mut Vec<Record>, past: usize, last: Record) -> Result<(), Alloc
         records.truncate(past + 1);
     }
     Ok(())
+}
+
+// Exchanges what a record's change holds with what the board holds there: so a past move is taken back, and a later one made
+// again. A second exchange restores both.
+fn exchange(board: &mut Board, kept: &mut Record)
+    requires { FitsBoard board.old kept.old.change }
+    ensures board { board.new ≡ board_after board.old kept.old.change }
+    ensures made { kept.new.made ≡ kept.old.made }
+    ensures fits { FitsBoard board.new kept.new.change }
+    ensures restores { board_after board.new kept.new.change ≡ board.old }
+{
+    board.swap(&mut kept.change);
 }
 
 impl<P: Game> Session<P> {
@@ -137,11 +150,15 @@ impl<P: Game> Session<P> {
     ///
     /// Refused, the first that applies, with nothing changed: `NothingToRestart` for a restart at position 1; `OffGrid`,
     /// `OffRange`, `GivenSquare`, `FilledSquare` and `BadSolution` as the board has it; `HistoryFull` at position 100,000;
-    /// `OutOfMemory`.
+    /// `OutOfMemory`, which a number or a pencil mark in place of a later move never meets.
     pub fn play(&mut self, m: Move) -> Result<(), PlayFault>
-        ensures ok { OnOk result (played (deal_of P.puzzle P.clued self.old.puzzle) self.old m ≡ Ok self.new) }
+        ensures ok { OnOk result (played (P.puzzle self.old.puzzle) self.old m ≡ Ok self.new) }
         ensures err { OnErr result (self.new ≡ self.old) }
-        ensures why { IfErr result (IsRefusal (played (deal_of P.puzzle P.clued self.old.puzzle) self.old m)) }
+        ensures why { IfErr result (IsRefusal (played (P.puzzle self.old.puzzle) self.old m)) }
+
+        // A number or a pencil mark in place of a later move takes no memory.
+        ensures in_place { takes_memory m ≡ false → self.old.position ≤ length self.old.moves
+            → IfErr result (λ fault. played (P.puzzle self.old.puzzle) self.old m ≡ Err fault) }
     {
         self.allow(&m)?;
         let alloc = *self.records.allocator();
@@ -168,14 +185,14 @@ impl<P: Game> Session<P> {
     /// Refused, the first that applies, with nothing changed: `NoSolution`, `SeveralSolutions`, `HistoryFull` at position
     /// 100,000, `OutOfMemory`.
     pub fn solve(&mut self) -> Result<(), PlayFault>
-        ensures ok { OnOk result (SolveGives (deal_of P.puzzle P.clued self.old.puzzle) self.old (Ok self.new)) }
+        ensures ok { OnOk result (SolveGives (P.puzzle self.old.puzzle) self.old (Ok self.new)) }
         ensures err { OnErr result (self.new ≡ self.old) }
-        ensures why { IfErr result (IsSolveRefusal (deal_of P.puzzle P.clued self.old.puzzle) self.old) }
+        ensures why { IfErr result (IsSolveRefusal (P.puzzle self.old.puzzle) self.old) }
     {
         match solve(&self.puzzle) {
             Answer::None => Err(PlayFault::NoSolution),
-            Answer::Several(_, _) => Err(PlayFault::SeveralSolutions),
             Answer::One(grid) => self.play(Move::Solve(grid)),
+            Answer::Several(_, _) => Err(PlayFault::SeveralSolutions),
         }
     }
 
@@ -189,7 +206,7 @@ impl<P: Game> Session<P> {
             return Err(PlayFault::NothingToUndo);
         }
         self.past -= 1;
-        self.board.swap(&mut self.records[self.past].change);
+        exchange(&mut self.board, &mut self.records[self.past]);
         Ok(())
     }
 
@@ -208,8 +225,9 @@ impl<P: Game> Session<P> {
 
     // The first refusal of a move, memory left aside.
     fn allow(&self, m: &Move) -> Result<(), PlayFault>
-        ensures ok { OnOk result (refusal_in (deal_of P.puzzle P.clued self.now.puzzle) self.now m.now ≡ None) }
-        ensures err { IfErr result (λ fault. refusal_in (deal_of P.puzzle P.clued self.now.puzzle) self.now m.now ≡ Some fault) }
+        ensures ok { OnOk result (refusal_in (P.puzzle self.now.puzzle) self.now m.now ≡ None) }
+        ensures err { IfErr result (λ fault.
+            refusal_in (P.puzzle self.now.puzzle) self.now m.now ≡ Some fault) }
     {
         check_restart(self.past, m)?;
         check(&self.puzzle, &self.board, m)?;
@@ -222,7 +240,7 @@ impl<P: Game> Session<P> {
         requires { self.old.position ≤ length self.old.moves }
         ensures { self.new ≡ at_position self.old (self.old.position + 1) }
     {
-        self.board.swap(&mut self.records[self.past].change);
+        exchange(&mut self.board, &mut self.records[self.past]);
         self.past += 1;
     }
 
@@ -256,9 +274,9 @@ impl<P: Game> Session<P> {
 
     /// The board that is shown: the past moves, replayed from the start.
     pub fn board(&self) -> &Board
-        ensures shown { result.now ≡ shown (deal_of P.puzzle P.clued self.now.puzzle) self.now }
+        ensures shown { result.now ≡ shown (P.puzzle self.now.puzzle) self.now }
         ensures size { result.now.size ≡ (P.puzzle self.now.puzzle).size }
-        ensures valid { IsValid (deal_of P.puzzle P.clued self.now.puzzle) self.now }
+        ensures valid { IsValid (P.puzzle self.now.puzzle) self.now }
     {
         &self.board
     }

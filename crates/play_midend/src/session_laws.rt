@@ -1,18 +1,32 @@
 //! The laws of a session's calls. They speak of its value alone, so the functions here do nothing.
 
-ghost use Rattle.play_midend.specs.Laws.{RunsStayValid, UndoTakesBack, UndoTakesRestartBack, UndoTakesSolveBack, RedoTakesUndoBack};
+ghost use Rattle.play_midend.specs.Laws.{RunsStayValid, StartsStorable, RunsStayStorable, UndoTakesBack, UndoTakesRestartBack, UndoTakesSolveBack, RedoTakesUndoBack, LegalListsPlay, AcceptedListsAreLegal, UndoLeadsBack, HistoriesAreReached};
 
 use clue_rules::Game;
 
 /// The laws of `play`, `restart`, `solve`, `undo` and `redo` on every valid session of a game, as the contracts of these calls see it.
 ///
-/// Any list of calls, whatever was answered, leaves a valid session, and a refused call changes nothing. A move, a restart
-/// or a solution that is accepted and then undone gives back the puzzle, the parameters, the kept bytes, the past, the position and the
-/// board. What is undone and then made again is the whole session as it was, later moves included.
+/// Any list of calls, whatever was answered, leaves a valid session, and a refused call changes nothing. A session that
+/// begins with a puzzle and parameters of the game can be stored in a save file, whatever calls follow. A move, a restart or
+/// a solution that is accepted and then undone gives back the puzzle, the parameters, the kept bytes, the past, the position
+/// and the board. What is undone and then made again is the whole session as it was, later moves included.
 pub fn laws<P: Game>()
-    ensures stays_valid { RunsStayValid P.puzzle P.clued }
-    ensures move_undone { UndoTakesBack P.puzzle P.clued }
-    ensures restart_undone { UndoTakesRestartBack P.puzzle P.clued }
-    ensures solve_undone { UndoTakesSolveBack P.puzzle P.clued }
-    ensures undo_redone { RedoTakesUndoBack P.puzzle P.clued }
+    ensures stays_valid { RunsStayValid P.puzzle }
+    ensures starts_storable { StartsStorable P.puzzle P.valid P.letter_codes }
+    ensures stays_storable { RunsStayStorable P.puzzle P.valid P.letter_codes }
+    ensures move_undone { UndoTakesBack P.puzzle }
+    ensures restart_undone { UndoTakesRestartBack P.puzzle }
+    ensures solve_undone { UndoTakesSolveBack P.puzzle }
+    ensures undo_redone { RedoTakesUndoBack P.puzzle }
+{}
+
+/// The laws of a list of moves that is played in turn from a new session of a game, as a saved game is loaded.
+///
+/// Every move is accepted exactly where the list is legal and has at most 99,999 moves. The session then has these moves
+/// and is at its last position, from where `undo` leads back to each position. Every valid session can be reached so.
+pub fn move_list_laws<P: Game>()
+    ensures legal_accepted { LegalListsPlay P.puzzle }
+    ensures accepted_legal { AcceptedListsAreLegal P.puzzle }
+    ensures steps_back { UndoLeadsBack P }
+    ensures all_reached { HistoriesAreReached P.puzzle }
 {}

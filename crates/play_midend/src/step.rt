@@ -4,7 +4,7 @@ ghost use Rattle.std.specs.Prelude.{◌≡◌, ◌<◌, ◌≤◌, ◌+◌, ◌*
 ghost use Rattle.latin_board.specs.Squares.{IsGrid};
 ghost use Rattle.latin_board.specs.Marks.{IsMarkSet};
 ghost use Rattle.latin_board.specs.Changes.{FitsBoard, OneSquare, board_after};
-ghost use Rattle.play_midend.specs.Steps.{deal_of, cell_of, entry_refusal, refusal_of, with_number, with_mark_flipped, marks_of_all, all_marked, filled, givens_of, start_of, moved, takes_memory, step, IsRefusalOf, Makes};
+ghost use Rattle.play_midend.specs.Steps.{cell_of, entry_refusal, refusal_of, with_number, with_mark_flipped, marks_of_all, all_marked, filled, givens_of, start_of, moved, takes_memory, step, IsRefusalOf, Makes};
 
 use crate::fault::PlayFault;
 use crate::moves::Move;
@@ -16,7 +16,8 @@ use trail_solver::{Rules, solves};
 // The square of a number or a mark, or the first refusal of it.
 fn entry_cell<P: Game>(puzzle: &P, x: u8, y: u8, n: u8) -> Result<usize, PlayFault>
     ensures { MatchResult result
-        (λ cell. (entry_refusal (P.puzzle puzzle.now) x y n ≡ None) × (cell ≡ cell_of (P.puzzle puzzle.now).size x y)
+        (λ cell. (entry_refusal (P.puzzle puzzle.now) x y n ≡ None)
+        × (cell ≡ cell_of (P.puzzle puzzle.now).size x y)
         × (cell < (P.puzzle puzzle.now).size * (P.puzzle puzzle.now).size))
         (λ fault. entry_refusal (P.puzzle puzzle.now) x y n ≡ Some fault) }
 {
@@ -37,8 +38,9 @@ fn entry_cell<P: Game>(puzzle: &P, x: u8, y: u8, n: u8) -> Result<usize, PlayFau
 // The first refusal of a move, those of a full history and of memory left aside.
 pub(crate) fn check<P: Game>(puzzle: &P, board: &Board, m: &Move) -> Result<(), PlayFault>
     requires { board.now.size ≡ (P.puzzle puzzle.now).size }
-    ensures ok { OnOk result (refusal_of (deal_of P.puzzle P.clued puzzle.now) board.now m.now ≡ None) }
-    ensures err { IfErr result (λ fault. refusal_of (deal_of P.puzzle P.clued puzzle.now) board.now m.now ≡ Some fault) }
+    ensures ok { OnOk result (refusal_of (P.puzzle puzzle.now) board.now m.now ≡ None) }
+    ensures err { IfErr result (λ fault.
+        refusal_of (P.puzzle puzzle.now) board.now m.now ≡ Some fault) }
 {
     match *m {
         Move::Real { x, y, n } => {
@@ -146,6 +148,7 @@ fn with_solution(board: &Board, grid: &Grid) -> Board
     ensures { result ≡ filled board.now grid.now }
 {
     let width = board.size().get() as usize;
+    // `size` tells that the grid is a valid one.
     let _valid = grid.size();
     let mut next = *board;
     for cell in 0..width * width {
@@ -157,7 +160,7 @@ fn with_solution(board: &Board, grid: &Grid) -> Board
 // The board with the done mark of an edge clue flipped.
 fn with_done_flipped<P: Game>(puzzle: &P, board: &Board, x: i8, y: i8) -> Board
     requires { board.now.size ≡ (P.puzzle puzzle.now).size }
-    ensures { result ≡ moved (deal_of P.puzzle P.clued puzzle.now) board.now (Move.Done x y) }
+    ensures { result ≡ moved (P.puzzle puzzle.now) board.now (Move.Done x y) }
 {
     let mut next = *board;
     if let Some(place) = edge_place(puzzle.size(), x, y) {
@@ -172,7 +175,8 @@ fn number_change<P: Game>(puzzle: &P, board: &Board, cell: usize, n: u8) -> Chan
     requires inside { cell < board.now.size * board.now.size }
     requires number { n ≤ board.now.size }
     ensures fits { FitsBoard board.now result }
-    ensures board { board_after board.now result ≡ with_number (P.puzzle puzzle.now) board.now cell n }
+    ensures board { board_after board.now result
+        ≡ with_number (P.puzzle puzzle.now) board.now cell n }
 {
     let mut grid = *board.grid();
     grid.set(cell, n);
@@ -188,6 +192,7 @@ fn mark_change(board: &Board, cell: usize, n: u8) -> Change
     ensures fits { FitsBoard board.now result }
     ensures board { board_after board.now result ≡ with_mark_flipped board.now cell n }
 {
+    // `size` and `get` tell that the board is a valid one, of width 3 to 9.
     let _width = board.size().get();
     let mut marks = board.marks(cell);
     marks.flip(n);
@@ -208,9 +213,10 @@ pub(crate) fn change_for<P: Game>(
     m: &Move,
 ) -> Result<Change, OutOfMemory>
     requires size { board.now.size ≡ (P.puzzle puzzle.now).size }
-    requires allowed { refusal_of (deal_of P.puzzle P.clued puzzle.now) board.now m.now ≡ None }
+    requires allowed { refusal_of (P.puzzle puzzle.now) board.now m.now ≡ None }
     ensures fits { IfOk result (λ change. FitsBoard board.now change) }
-    ensures board { IfOk result (λ change. board_after board.now change ≡ moved (deal_of P.puzzle P.clued puzzle.now) board.now m.now) }
+    ensures board { IfOk result (λ change.
+        board_after board.now change ≡ moved (P.puzzle puzzle.now) board.now m.now) }
     ensures in_place { takes_memory m.now ≡ false → IsOk result }
 {
     let width = puzzle.size().get() as usize;
@@ -243,10 +249,11 @@ pub fn change_of<P: Game>(
     m: &Move,
 ) -> Result<Change, PlayFault>
     requires { board.now.size ≡ (P.puzzle puzzle.now).size }
-    ensures ok { IfOk result (λ change. Makes (deal_of P.puzzle P.clued puzzle.now) board.now m.now change) }
-    ensures why { IfErr result (IsRefusalOf m.now (step (deal_of P.puzzle P.clued puzzle.now) board.now m.now)) }
+    ensures ok { IfOk result (λ change. Makes (P.puzzle puzzle.now) board.now m.now change) }
+    ensures why { IfErr result (IsRefusalOf m.now (step (P.puzzle puzzle.now) board.now m.now)) }
 {
     check(puzzle, board, m)?;
+    // `size` tells that the board is a valid one.
     let _valid = board.size();
     let change = change_for(alloc, puzzle, board, m)?;
     Ok(change)

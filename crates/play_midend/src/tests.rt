@@ -2,9 +2,9 @@
 
 ghost use Rattle.std.specs.Prelude.{◌≡◌, IfOk};
 
+mod calls;
 mod changes;
 mod history;
-mod scripts;
 
 use crate::{Extras, Session, read_move};
 use clue_rules::{Game, Params, Towers};

@@ -1,4 +1,6 @@
-ghost use Rattle.std.specs.Prelude.{◌≡◌, ℕ, ◌≤◌, Bool, true, Option, List, length, IfOk, IsErr, is_err, codes};
+//! What a source and a sink of bytes have to keep, and the fault that both answer.
+
+ghost use Rattle.std.specs.Prelude.{◌≡◌, ℕ, ◌≤◌, Bool, true, Option, List, length, IfOk, IsErr, is_err, is_some, codes};
 ghost use Rattle.std.specs.Io.KnownBytes.{Keeps, ReadConsumes, WriteAppends};
 ghost use Rattle.puzzle_io.specs.Device.{write_failed};
 
@@ -33,7 +35,7 @@ impl DeviceFault {
 
 /// Where bytes come from.
 pub trait Source {
-    // The bytes that are to come, where the source tells them.
+    // The bytes that are to come, where the source tells them. A source tells them always or never.
     ghost to_come: { Self → Option (List ℕ) };
 
     // Whether a read has failed.
@@ -45,13 +47,14 @@ pub trait Source {
     fn read(&mut self, buffer: &mut [u8]) -> Result<usize, DeviceFault>
         ensures bound { IfOk result (λ n. n ≤ length buffer.new) }
         ensures bytes { ReadConsumes (to_come self.old) (to_come self.new) result buffer.new }
+        ensures told { is_some (to_come self.new) ≡ is_some (to_come self.old) }
         ensures failed { has_failed self.new ≡ is_err result }
         ensures stays_failed { has_failed self.old ≡ true → IsErr result };
 }
 
 /// Where bytes go.
 pub trait Sink {
-    // The bytes that were taken, where the sink tells them.
+    // The bytes that were taken, where the sink tells them. A sink tells them always or never.
     ghost taken: { Self → Option (List ℕ) };
 
     // Whether a write or a flush has failed, or a write of some bytes took none.
@@ -63,12 +66,14 @@ pub trait Sink {
     fn write(&mut self, bytes: &[u8]) -> Result<usize, DeviceFault>
         ensures bound { IfOk result (λ n. n ≤ length bytes.now) }
         ensures bytes { WriteAppends (taken self.old) (taken self.new) result bytes.now }
+        ensures told { is_some (taken self.new) ≡ is_some (taken self.old) }
         ensures failed { has_failed self.new ≡ write_failed result (length bytes.now) }
         ensures stays_failed { has_failed self.old ≡ true → IsErr result };
 
     /// Passes on what was taken. After `DeviceFault` every later call is `DeviceFault`.
     fn flush(&mut self) -> Result<(), DeviceFault>
         ensures bytes { Keeps (taken self.old) (taken self.new) }
+        ensures told { is_some (taken self.new) ≡ is_some (taken self.old) }
         ensures failed { has_failed self.new ≡ is_err result }
         ensures stays_failed { has_failed self.old ≡ true → IsErr result };
 }

@@ -1,3 +1,5 @@
+//! A source over a reader of `std`.
+
 ghost use Rattle.std.specs.Prelude.{◌≡◌, ◌≤◌, true, false, None, length, IfOk, IsErr, is_err};
 ghost use Rattle.std.specs.Io.KnownBytes.{ReadConsumes};
 ghost use Rattle.puzzle_io.specs.Stream.{StreamState};
@@ -44,7 +46,8 @@ impl<R: Read> Source for FromRead<R> {
         ensures stays_failed { self.old.failed ≡ true → IsErr result }
 
         // What the reader itself tells of its bytes.
-        ensures reader { ReadConsumes (R.remaining self.old.stream) (R.remaining self.new.stream) result buffer.new }
+        ensures reader { ReadConsumes (R.remaining self.old.stream) (R.remaining self.new.stream)
+            result buffer.new }
     {
         if self.failed {
             return Err(DeviceFault::DeviceFault);

@@ -5,6 +5,13 @@
 //!
 //! [`FromRead`] and [`ToWrite`] stand over the readers and writers of `std` and tell nothing of the bytes. [`MemorySource`]
 //! and [`MemorySink`] tell theirs and take no memory; they cut what they give and take into pieces, and fail at a chosen call.
+//!
+//! ```
+//! let mut source = MemorySource::new(Vec::from_slice(alloc, b"undo\n")?, 2, 0);
+//! let mut buffer = [0; 8];
+//! assert_eq!(rt; source.read(&mut buffer), Ok(2));
+//! assert_eq!(rt; buffer[..2], *b"un");
+//! ```
 #![tactic(auto)]
 
 mod device;

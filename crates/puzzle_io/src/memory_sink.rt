@@ -1,3 +1,5 @@
+//! A sink over the bytes of a vector.
+
 ghost use Rattle.std.specs.Prelude.{◌≡◌, ◌+◌, ◌-◌, ◌≤◌, ◌==◌, ◌||◌, ◌&&◌, not, min, true, false, [], Some, length, take, IfOk, IsErr, is_err, vec_len};
 ghost use Rattle.std.specs.Io.KnownBytes.{Keeps, WriteAppends};
 ghost use Rattle.puzzle_io.specs.Device.{write_failed};
@@ -35,7 +37,13 @@ impl MemorySink {
     /// The call number `fails_at`, counted from 1, fails, writes and flushes counted together, and none does where that is 0.
     pub fn new(bytes: Vec<u8>, piece: usize, fails_at: u64) -> MemorySink
         requires { 1 ≤ piece }
-        ensures { result ≡ record { taken = []; room = vec_len bytes; piece = piece; fails_in = fails_at; failed = false } }
+        ensures { result ≡ record {
+          taken = [];
+          room = vec_len bytes;
+          piece = piece;
+          fails_in = fails_at;
+          failed = false;
+        } }
     {
         MemorySink {
             bytes,
@@ -65,12 +73,14 @@ impl Sink for MemorySink {
         ensures stays_failed { self.old.failed ≡ true → IsErr result }
 
         // The causes of a failure: an earlier one, the call's number, and want of room.
-        ensures fails { is_err result ≡
-            (self.old.failed || self.old.fails_in == 1 || (self.old.room == 0 && not (length bytes.now == 0))) }
+        ensures fails { is_err result ≡ (self.old.failed || self.old.fails_in == 1
+            || (self.old.room == 0 && not (length bytes.now == 0))) }
         ensures counts { self.new.fails_in ≡ self.old.fails_in - 1 }
         ensures piece { self.new.piece ≡ self.old.piece }
-        ensures count { IfOk result (λ n. n ≡ min self.old.piece (min (length bytes.now) self.old.room)) }
-        ensures room { length self.new.taken + self.new.room ≡ length self.old.taken + self.old.room }
+        ensures count { IfOk result (λ n. n
+            ≡ min self.old.piece (min (length bytes.now) self.old.room)) }
+        ensures room { length self.new.taken + self.new.room
+            ≡ length self.old.taken + self.old.room }
     {
         self.pace.count_call()?;
         if self.used == self.bytes.len() && !bytes.is_empty() {

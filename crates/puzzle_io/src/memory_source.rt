@@ -1,3 +1,5 @@
+//! A source over the bytes of a vector.
+
 ghost use Rattle.std.specs.Prelude.{◌≡◌, ◌-◌, ◌≤◌, ◌==◌, ◌||◌, min, true, false, Some, length, drop, IfOk, IsErr, is_err, vec_len};
 ghost use Rattle.std.specs.Io.KnownBytes.{ReadConsumes};
 ghost use Rattle.puzzle_io.specs.Memory.{SourceState};
@@ -33,7 +35,12 @@ impl MemorySource {
     /// The read number `fails_at`, counted from 1, fails, and none does where that is 0.
     pub fn new(bytes: Vec<u8>, piece: usize, fails_at: u64) -> MemorySource
         requires { 1 ≤ piece }
-        ensures { result ≡ record { to_come = bytes.items; piece = piece; fails_in = fails_at; failed = false } }
+        ensures { result ≡ record {
+          to_come = bytes.items;
+          piece = piece;
+          fails_in = fails_at;
+          failed = false;
+        } }
     {
         MemorySource {
             bytes,
@@ -50,7 +57,8 @@ impl Source for MemorySource {
 
     fn read(&mut self, buffer: &mut [u8]) -> Result<usize, DeviceFault>
         ensures bound { IfOk result (λ n. n ≤ length buffer.new) }
-        ensures bytes { ReadConsumes (Some self.old.to_come) (Some self.new.to_come) result buffer.new }
+        ensures bytes { ReadConsumes (Some self.old.to_come) (Some self.new.to_come)
+            result buffer.new }
         ensures failed { self.new.failed ≡ is_err result }
         ensures stays_failed { self.old.failed ≡ true → IsErr result }
 
@@ -58,7 +66,8 @@ impl Source for MemorySource {
         ensures fails { is_err result ≡ (self.old.failed || self.old.fails_in == 1) }
         ensures counts { self.new.fails_in ≡ self.old.fails_in - 1 }
         ensures piece { self.new.piece ≡ self.old.piece }
-        ensures count { IfOk result (λ n. n ≡ min self.old.piece (min (length self.old.to_come) (length buffer.new))) }
+        ensures count { IfOk result (λ n. n
+            ≡ min self.old.piece (min (length self.old.to_come) (length buffer.new))) }
     {
         self.pace.count_call()?;
         let count = self.pace.copy_piece(buffer, 0, &self.bytes[self.given..]);

@@ -1,3 +1,5 @@
+//! How a device over memory goes about its calls.
+
 ghost use Rattle.std.specs.Prelude.{◌≡◌, ◌+◌, ◌-◌, ◌≤◌, ◌==◌, ◌||◌, ◌++◌, min, false, length, take, is_err};
 
 use crate::device::DeviceFault;
@@ -40,8 +42,10 @@ impl Pace {
     /// Copies a piece from the front of `bytes` to place `at` of `target`, as far as there are bytes and room.
     pub(crate) fn copy_piece(&self, target: &mut [u8], at: usize, bytes: &[u8]) -> usize
         requires { at ≤ length target.old }
-        ensures count { result ≡ min self.now.piece (min (length bytes.now) (length target.old - at)) }
-        ensures copied { take (at + result) target.new ≡ take at target.old ++ take result bytes.now }
+        ensures count { result
+            ≡ min self.now.piece (min (length bytes.now) (length target.old - at)) }
+        ensures copied { take (at + result) target.new
+            ≡ take at target.old ++ take result bytes.now }
     {
         let room = target.len() - at;
         let count = self.piece.min(bytes.len().min(room));

@@ -1,2 +1,4 @@
+//! Devices at worked bytes, and at failures.
+
 mod memory;
 mod stream;

@@ -1,3 +1,5 @@
+//! A sink over a writer of `std`.
+
 ghost use Rattle.std.specs.Prelude.{◌≡◌, ◌≤◌, true, false, None, length, IfOk, IsErr, is_err};
 ghost use Rattle.std.specs.Io.KnownBytes.{Keeps, WriteAppends};
 ghost use Rattle.puzzle_io.specs.Device.{write_failed};
@@ -45,7 +47,8 @@ impl<W: Write> Sink for ToWrite<W> {
         ensures stays_failed { self.old.failed ≡ true → IsErr result }
 
         // What the writer itself tells of its bytes.
-        ensures writer { WriteAppends (W.contents self.old.stream) (W.contents self.new.stream) result bytes.now }
+        ensures writer { WriteAppends (W.contents self.old.stream) (W.contents self.new.stream)
+            result bytes.now }
     {
         if self.failed {
             return Err(DeviceFault::DeviceFault);

@@ -1,5 +1,5 @@
 -- Sets of lines, seen as marks, that gain and lose lines.
-use Rattle.std.specs.Prelude.{◌≡◌, ℕ, ◌+◌, ◌/◌, ◌%◌, Bool, ◌==◌, ◌||◌, ◌&&◌, not}
+use Rattle.std.specs.Prelude.{◌≡◌, ℕ, ◌+◌, ◌/◌, ◌%◌, ◌==◌, ◌||◌, ◌&&◌, not}
 use Rattle.latin_board.specs.Marks.{has_mark}
 
 -- new is old with one line more

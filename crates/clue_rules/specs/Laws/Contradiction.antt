@@ -1,7 +1,7 @@
 -- Two squares are each said to be the greater one exactly where the letters on both sides of some sign say so.
 use Rattle.std.proofs.Common.{◌≡◌, ℕ, ◌*◌, ◌<◌, ◌≤◌, Bool, true, false, eqb, ◌&&◌, List, [], ◌∷◌, Option, Some, None, refl, sym, ap, inl, inr, arith}
 use Rattle.std.specs.Option.{option_map_or}
-use Rattle.std.specs.List.{list_any, range_with_len}
+use Rattle.std.specs.List.{list_any}
 use Rattle.std.proofs.lemmas.Bool.{eqb-true, eq-eqb, false≢true}
 use Rattle.clue_rules.specs.declared.unequal.direction.Direction.{Direction}
 use Rattle.clue_rules.specs.declared.unequal.direction.Direction.TheVariants.{Up, Right, Down, Left}
@@ -99,11 +99,11 @@ unfolding contradicts
 contradicts_signs w pieces small =
     same_tests (contradicts w pieces) (signs_contradict w pieces)
     (λ e.
-        let one = some_in_range _ 0 (w * w) e in
-        let other = some_in_range _ 0 (w * w) one.3 in
-        let both = both_from_and (says_greater w pieces one.0 other.0) (says_greater w pieces other.0 one.0) other.3 in
-        signs_from_squares w pieces one.0 other.0 small (omega (arith, one.2)) both.0 both.1)
+    let one = some_in_range _ 0 (w * w) e in
+    let other = some_in_range _ 0 (w * w) one.3 in
+    let both = both_from_and (says_greater w pieces one.0 other.0) (says_greater w pieces other.0 one.0) other.3 in
+    signs_from_squares w pieces one.0 other.0 small (omega (arith, one.2)) both.0 both.1)
     (λ e.
-        let some = some_in_range _ 0 (sign_count w) e in
-        let both = both_from_and (first_says w pieces some.0) (second_says w pieces some.0) some.3 in
-        squares_from_signs w pieces some.0 small (omega (arith, some.2)) both.0 both.1)
+    let some = some_in_range _ 0 (sign_count w) e in
+    let both = both_from_and (first_says w pieces some.0) (second_says w pieces some.0) some.3 in
+    squares_from_signs w pieces some.0 small (omega (arith, some.2)) both.0 both.1)

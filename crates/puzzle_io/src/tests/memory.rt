@@ -1,3 +1,5 @@
+//! The devices over memory: pieces, room, and a failure at each call in turn.
+
 use crate::{DeviceFault, MemorySink, MemorySource, Sink, Source};
 use std::process::Abort;
 use std::test::Fail;
@@ -135,5 +137,15 @@ fn each_write_and_flush_fails_in_turn(rt: HostRuntime) -> Result<(), Fail> {
         }
         assert_eq!(rt; sink.taken(), taken, "failing at {fails_at}");
     }
+    Ok(())
+}
+
+#[test]
+fn a_write_of_no_bytes_fails_at_its_number(rt: HostRuntime) -> Result<(), Fail> {
+    let mut sink = MemorySink::new(Vec::from_slice(rt.alloc(), b"....")?, 4, 2);
+    assert_eq!(rt; sink.write(b"ab"), Ok(2));
+    assert_eq!(rt; sink.write(b""), Err(DeviceFault::DeviceFault));
+    assert_eq!(rt; sink.write(b"cd"), Err(DeviceFault::DeviceFault));
+    assert_eq!(rt; sink.taken(), b"ab".as_slice());
     Ok(())
 }

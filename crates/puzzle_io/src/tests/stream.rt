@@ -1,3 +1,5 @@
+//! The devices over readers and writers of `std`: what they pass on, and that a failure is the last call.
+
 ghost use Rattle.std.specs.Prelude.{◌≤◌, IfOk};
 
 use crate::{DeviceFault, FromRead, Sink, Source, ToWrite};
@@ -141,4 +143,20 @@ fn a_write_or_flush_that_failed_is_the_last(rt: HostRuntime) {
             assert_eq!(rt; writer.calls, calls);
         }
     }
+}
+
+// A write of no bytes may fail too, and is the last then.
+#[test]
+fn a_write_of_no_bytes_that_failed_is_the_last(rt: HostRuntime) {
+    let mut writer = Scripted {
+        answers: &[Some(2), None, Some(4)],
+        error: ErrorKind::Other,
+        calls: 0,
+    };
+    let mut sink = ToWrite::new(&mut writer);
+    assert_eq!(rt; sink.write(b"ab"), Ok(2));
+    assert_eq!(rt; sink.write(b""), Err(DeviceFault::DeviceFault));
+    assert_eq!(rt; sink.write(b"cd"), Err(DeviceFault::DeviceFault));
+    assert_eq!(rt; sink.flush(), Err(DeviceFault::DeviceFault));
+    assert_eq!(rt; writer.calls, 2);
 }

@@ -1,25 +1,24 @@
 use Rattle.std.proofs.Common.{Some, None, refl}
 use Rattle.std.proofs.lemmas.Result.{err_from_is_err_and}
-use Rattle.play_midend.specs.Steps.{deal_of}
 use Rattle.play_midend.proofs.Playing.{refusal_by_parts}
 use Rattle.play_midend.proofs.session.Session.allow.Goals as goal
 
 pub returns-in_err-check-clause-err : goal.returns-in_err-check-clause-err
 returns-in_err-check-clause-err g c =
     let s = c.self.inside in
-    let d = deal_of g.P.Rules.puzzle g.P.Game.clued s.puzzle in
-    let p = err_from_is_err_and c.from_residual-in_err-check.result c.from_residual-in_err-check.ensures.1 in
-    rw (p.1, p.2, ← c.self.view_is) (refusal_by_parts d s.puzzle s.params s.next_params s.extras s.records.items s.past s.board c.args.m.now None (Some _) _ c.self.invariant.1 c.in_ok-check_restart.ensures.ok c.in_err-check.ensures.err refl)
+    let p = g.P.Rules.puzzle s.puzzle in
+    let e = err_from_is_err_and c.from_residual-in_err-check.result c.from_residual-in_err-check.ensures.1 in
+    rw (e.1, e.2, ← c.self.view_is) (refusal_by_parts p s.puzzle s.params s.next_params s.extras s.records.items s.past s.board c.args.m.now None (Some _) _ c.self.invariant.1 c.in_ok-check_restart.ensures.ok c.in_err-check.ensures.err refl)
 
 pub returns-in_err-check_room-clause-err : goal.returns-in_err-check_room-clause-err
 returns-in_err-check_room-clause-err g c =
     let s = c.self.inside in
-    let d = deal_of g.P.Rules.puzzle g.P.Game.clued s.puzzle in
-    let p = err_from_is_err_and c.from_residual-in_err-check_room.result c.from_residual-in_err-check_room.ensures.1 in
-    rw (p.1, p.2, ← c.self.view_is) (refusal_by_parts d s.puzzle s.params s.next_params s.extras s.records.items s.past s.board c.args.m.now None None (Some _) c.self.invariant.1 c.in_ok-check_restart.ensures.ok c.in_ok-check.ensures.ok c.in_err-check_room.ensures.err)
+    let p = g.P.Rules.puzzle s.puzzle in
+    let e = err_from_is_err_and c.from_residual-in_err-check_room.result c.from_residual-in_err-check_room.ensures.1 in
+    rw (e.1, e.2, ← c.self.view_is) (refusal_by_parts p s.puzzle s.params s.next_params s.extras s.records.items s.past s.board c.args.m.now None None (Some _) c.self.invariant.1 c.in_ok-check_restart.ensures.ok c.in_ok-check.ensures.ok c.in_err-check_room.ensures.err)
 
 pub returns-clause-ok : goal.returns-clause-ok
 returns-clause-ok g c =
     let s = c.self.inside in
-    let d = deal_of g.P.Rules.puzzle g.P.Game.clued s.puzzle in
-    rw (← c.self.view_is) (refusal_by_parts d s.puzzle s.params s.next_params s.extras s.records.items s.past s.board c.args.m.now None None None c.self.invariant.1 c.in_ok-check_restart.ensures.ok c.in_ok-check.ensures.ok c.in_ok-check_room.ensures.ok)
+    let p = g.P.Rules.puzzle s.puzzle in
+    rw (← c.self.view_is) (refusal_by_parts p s.puzzle s.params s.next_params s.extras s.records.items s.past s.board c.args.m.now None None None c.self.invariant.1 c.in_ok-check_restart.ensures.ok c.in_ok-check.ensures.ok c.in_ok-check_room.ensures.ok)

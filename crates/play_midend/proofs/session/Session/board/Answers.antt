@@ -1,16 +1,15 @@
 use Rattle.std.proofs.Common.{sym}
-use Rattle.play_midend.specs.Steps.{deal_of}
 use Rattle.play_midend.proofs.Viewing.{shown_viewed, valid_viewed}
 use Rattle.play_midend.proofs.session.Session.board.Goals as goal
 
 pub returns-clause-shown : goal.returns-clause-shown
 returns-clause-shown g c =
     let s = c.self.inside in
-    let d = deal_of g.P.Rules.puzzle g.P.Game.clued s.puzzle in
-    rw (← c.self.view_is) (sym (shown_viewed d s.puzzle s.params s.next_params s.extras s.records.items s.past s.board c.self.invariant.1))
+    let p = g.P.Rules.puzzle s.puzzle in
+    rw (← c.self.view_is) (sym (shown_viewed p s.puzzle s.params s.next_params s.extras s.records.items s.past s.board c.self.invariant.1))
 
 pub returns-clause-valid : goal.returns-clause-valid
 returns-clause-valid g c =
     let s = c.self.inside in
-    let d = deal_of g.P.Rules.puzzle g.P.Game.clued s.puzzle in
-    rw (← c.self.view_is) (valid_viewed d s.puzzle s.params s.next_params s.extras s.records.items s.past s.board c.self.invariant.0 c.self.invariant.1)
+    let p = g.P.Rules.puzzle s.puzzle in
+    rw (← c.self.view_is) (valid_viewed p s.puzzle s.params s.next_params s.extras s.records.items s.past s.board c.self.invariant.0 c.self.invariant.1)

@@ -1,7 +1,6 @@
 use Rattle.std.proofs.Common.{◌<◌, length, arith}
 use Rattle.std.proofs.lemmas.List.{length-map}
 use Rattle.play_midend.specs.declared.session.Record.{Record}
-use Rattle.play_midend.specs.Steps.{deal_of}
 use Rattle.play_midend.proofs.Linking.{linked_ahead, moves_of-set}
 use Rattle.play_midend.proofs.Viewing.{forward_viewed}
 use Rattle.play_midend.proofs.session.Session.forward.Goals as goal
@@ -9,13 +8,13 @@ use Rattle.play_midend.proofs.session.Session.forward.Goals as goal
 pub invariant_of-self : goal.invariant_of-self
 invariant_of-self g c =
     let s = c.self.inside in
-    let d = deal_of g.P.Rules.puzzle g.P.Game.clued s.puzzle in
+    let p = g.P.Rules.puzzle s.puzzle in
     let later = rw (← c.self.view_is) at c.requires in
     let inside : s.past < length s.records.items = omega (arith, later, length-map s.records.items (λ (r : Record). r.made)) in
-    (c.self.invariant.0, linked_ahead d s.records.items s.past s.board c.index_mut.result.now c.swap.new.self c.swap.new.change c.self.invariant.1 inside c.index_mut.ensures.value c.swap.ensures.board c.swap.ensures.fits c.swap.ensures.twice.0)
+    (c.self.invariant.0, linked_ahead p s.records.items s.past s.board c.index_mut.result.now c.exchange.new.kept c.exchange.new.board c.self.invariant.1 inside c.index_mut.ensures.value c.exchange.ensures.board c.exchange.ensures.made c.exchange.ensures.fits c.exchange.ensures.restores)
 
 pub returns : goal.returns
 returns g c =
     let s = c.self.inside in
-    let moves = moves_of-set s.records.items s.past c.index_mut.result.now c.swap.new.change c.index_mut.ensures.value in
+    let moves = moves_of-set s.records.items s.past c.index_mut.result.now c.exchange.new.kept c.index_mut.ensures.value c.exchange.ensures.made in
     rw (← c.self.view_is) (forward_viewed s.puzzle s.params s.next_params s.extras _ _ s.past moves)

@@ -1,26 +1,25 @@
 use Rattle.std.proofs.Common.{◌-◌}
-use Rattle.play_midend.specs.Steps.{deal_of}
 use Rattle.play_midend.proofs.Linking.{last_back, linked_back, with_one_less, moves_of-set}
 use Rattle.play_midend.proofs.Viewing.{undone_viewed}
 use Rattle.play_midend.proofs.session.Session.undo.Goals as goal
 
-pub swap-requires : goal.swap-requires
-swap-requires g c =
+pub exchange-requires : goal.exchange-requires
+exchange-requires g c =
     let s = c.self.inside in
-    let d = deal_of g.P.Rules.puzzle g.P.Game.clued s.puzzle in
-    let linked = with_one_less d s.records.items s.past s.board c.self.invariant.1 c.if-self-eq0.false in
-    let last = last_back d s.records.items (s.past - 1) s.board c.index_mut.result.now linked c.index_mut.ensures.value in
+    let p = g.P.Rules.puzzle s.puzzle in
+    let linked = with_one_less p s.records.items s.past s.board c.self.invariant.1 c.if-self-eq0.false in
+    let last = last_back p s.records.items (s.past - 1) s.board c.index_mut.result.now linked c.index_mut.ensures.value in
     last.is_back.fits
 
 pub invariant_of-self : goal.invariant_of-self
 invariant_of-self g c =
     let s = c.self.inside in
-    let d = deal_of g.P.Rules.puzzle g.P.Game.clued s.puzzle in
-    let linked = with_one_less d s.records.items s.past s.board c.self.invariant.1 c.if-self-eq0.false in
-    (c.self.invariant.0, linked_back d s.records.items (s.past - 1) s.board c.index_mut.result.now c.swap.new.self c.swap.new.change linked c.index_mut.ensures.value c.swap.ensures.board c.swap.ensures.fits c.swap.ensures.twice.0)
+    let p = g.P.Rules.puzzle s.puzzle in
+    let linked = with_one_less p s.records.items s.past s.board c.self.invariant.1 c.if-self-eq0.false in
+    (c.self.invariant.0, linked_back p s.records.items (s.past - 1) s.board c.index_mut.result.now c.exchange.new.kept c.exchange.new.board linked c.index_mut.ensures.value c.exchange.ensures.board c.exchange.ensures.made c.exchange.ensures.fits c.exchange.ensures.restores)
 
 pub returns-clause-ok : goal.returns-clause-ok
 returns-clause-ok g c =
     let s = c.self.inside in
-    let moves = moves_of-set s.records.items (s.past - 1) c.index_mut.result.now c.swap.new.change c.index_mut.ensures.value in
+    let moves = moves_of-set s.records.items (s.past - 1) c.index_mut.result.now c.exchange.new.kept c.index_mut.ensures.value c.exchange.ensures.made in
     rw (← c.self.view_is) (undone_viewed s.puzzle s.params s.next_params s.extras _ _ s.past c.if-self-eq0.false moves)
