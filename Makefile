@@ -3,7 +3,7 @@
 # make play       a game on the terminal; GAME=towers (the default) or GAME=unequal, ID= an ID or a save file
 # make test-tools the scripts around the program: the front, installing, and the texts for its users
 # make exchange   saves and IDs against the usual programs, of Debian's package sgt-puzzles; no part of the gate
-# make bench      how long the solver takes, class by class; no part of the gate
+# make bench      how long the solver takes, class by class, or on the lines of IDS=file; no part of the gate
 # make install    the program, the front, manual page and completion below PREFIX=/usr/local; make uninstall
 # make clean      takes build/ away; what the checks keep stays
 # make help       this list
@@ -11,6 +11,7 @@
 RT ?= rt
 GAME ?= towers
 ID ?=
+IDS ?=
 PREFIX ?= /usr/local
 
 .PHONY: all test play test-tools exchange bench install uninstall clean help
@@ -36,8 +37,7 @@ exchange: all
 	@tools/exchange
 
 bench:
-	cd crates/solver_bench && $(RT) run < /dev/null
-	@cat bench/puzzles.txt bench/several_and_none.txt | crates/solver_bench/out/solver_bench
+	@RT='$(RT)' tools/bench $(IDS)
 
 install uninstall:
 	@tools/install $(if $(filter uninstall,$@),--remove) '$(DESTDIR)$(PREFIX)'

@@ -2,8 +2,8 @@
 //! solve took, in the mean and in the slowest case, in microseconds. With the word `list` it times the list of the first
 //! hundred solutions instead.
 //!
-//! A line is a game, a class and a game ID, with a space between; a line that begins with # is skipped. Each puzzle is
-//! solved some times in a row, and the fastest of these counts, since others may work on the machine.
+//! A line is a game, a class if there is one, and a game ID, with a space between; a line that begins with # is skipped.
+//! Each puzzle is solved some times in a row, and the fastest of these counts, since others may work on the machine.
 #![tactic(auto)]
 
 use clue_rules::{Game, GameId, Towers, Unequal, read_id};
@@ -13,8 +13,11 @@ use std::time::Instant;
 use std::{env, io};
 use trail_solver::{Answer, solutions, solve};
 
-/// How often each puzzle is solved.
+/// How often each puzzle is solved, as long as that takes no longer than `ENOUGH`.
 const ROUNDS: u64 = 20;
+
+/// After so many nanoseconds no further round begins.
+const ENOUGH: u64 = 500_000_000;
 
 /// How many solutions are listed.
 const LISTED: u8 = 100;
@@ -56,11 +59,16 @@ fn timing_of<P: Game + Drop>(
         nanoseconds: u64::MAX,
         is_unique: false,
     };
+    let mut spent: u64 = 0;
     for _ in 0..ROUNDS {
+        if spent > ENOUGH {
+            break;
+        }
         let start = Instant::now(rt)?;
         timing.is_unique = is_unique(rt.alloc(), task, &puzzle);
         let elapsed = u64::try_from(start.elapsed(rt)?.as_nanos()).unwrap_or(u64::MAX);
         timing.nanoseconds = timing.nanoseconds.min(elapsed);
+        spent = spent.saturating_add(elapsed);
     }
     Ok(Some(timing))
 }
@@ -115,7 +123,7 @@ fn solve_line<R: Clock + Alloc<A = Global> + Eprint>(
     if name.starts_with('#') {
         return Ok(());
     }
-    let timing = if name.starts_with("towers ") {
+    let timing = if name.starts_with("towers") {
         timing_of::<Towers>(rt, task, id.as_bytes())?
     } else {
         timing_of::<Unequal>(rt, task, id.as_bytes())?

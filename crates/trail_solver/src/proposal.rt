@@ -9,8 +9,11 @@ use crate::failures::Failures;
 use crate::tally::Tally;
 use latin_board::Size;
 
+/// What a square or a value weighs in whose lines nothing failed: a few failures don't make much of it.
+const WEIGHT: u32 = 4;
+
 /// A square, the value to try there first, and how good it is to branch there: in how many ways it goes on, and how much
-/// its lines failed, from 1 up.
+/// it weighs, more where its lines failed.
 #[derive(Clone, Copy)]
 pub(crate) struct Proposal {
     pub cell: usize,
@@ -49,18 +52,25 @@ fn best_square(
         let cell = line_cell(size, row, column);
         let set = candidates.values(cell);
         let ways = set.count_ones();
-        let weight = 1 + row_failures + failures.of_line(width + column);
+        let weight = WEIGHT + row_failures + failures.of_line(width + column);
         if ways > 1 && is_better(best, ways, weight) {
-            let value = set.trailing_zeros() as u8;
             best = Some(Proposal {
                 cell,
-                value,
+                value: greatest(set),
                 ways,
                 weight,
             });
         }
     }
     best
+}
+
+// The greatest value of a set: tall towers, and the ends of signs, say most.
+fn greatest(set: u16) -> u8 {
+    if set == 0 {
+        return 0;
+    }
+    set.ilog2() as u8
 }
 
 // The best, or the value of a line with the fewest places, where that is better.
@@ -73,7 +83,7 @@ fn best_value(
     requires { line < 2 * candidates.now.size }
 {
     let _size = candidates.size();
-    let weight = 1 + 2 * failures.of_line(line);
+    let weight = WEIGHT + 2 * failures.of_line(line);
     let Some((value, ways)) = tally_of(candidates, line).fewest() else {
         return best;
     };
