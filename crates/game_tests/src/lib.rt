@@ -20,4 +20,8 @@ mod pictures;
 #[cfg(test)]
 mod script;
 #[cfg(test)]
+mod sessions;
+#[cfg(test)]
 mod solving;
+#[cfg(test)]
+mod starts;

@@ -11,7 +11,6 @@ use crate::lines::changed::ChangedLines;
 use crate::lines::value_sets::{is_single, without};
 use crate::lines::view_candidates::{keep_fewer, view_sets};
 use crate::lines::views::{LINE, front_place};
-use latin_board::Size;
 use trail_solver::Candidates;
 
 /// Takes away what rows and columns rule out, until they say no more: the value of a square that has just one goes from

@@ -22,7 +22,7 @@ use crate::lines::view_candidates::{keep_fewer, view_sets};
 use crate::lines::views::{LINE, front_place};
 use crate::towers::Towers;
 use tower_lines::{seen, supported};
-use trail_solver::{Candidates, Rules};
+use trail_solver::Candidates;
 
 impl LineRules for Towers {
     ghost use Rattle.trail_solver.specs.Puzzles.{Solves};
@@ -101,7 +101,8 @@ impl Towers {
 fn narrow_view(candidates: &mut Candidates, place: u8, clue: u8, changed: &mut ChangedLines) -> bool
     requires place { place < 4 * candidates.old.size }
     requires clue { clue ≤ candidates.old.size }
-    ensures { Narrows (ShowsClue place clue) (IsViewStruck place clue) candidates.old candidates.new result }
+    ensures { Narrows (ShowsClue place clue) (IsViewStruck place clue)
+        candidates.old candidates.new result }
 {
     let width = candidates.size().get() as usize;
     let sets = view_sets(candidates, place);

@@ -115,7 +115,8 @@ impl Rules for Towers {
         ensures less { IsEarlier candidates.old candidates.new }
         ensures keeps { KeepsSolutions (towers_puzzle self.now) candidates.old candidates.new }
         ensures refutes { OnFalse result (HasNoSolution (towers_puzzle self.now) candidates.old) }
-        ensures struck { OnTrue result (NoneLeft (IsTowersStruck self.now) candidates.old candidates.new) }
+        ensures struck { OnTrue result
+            (NoneLeft (IsTowersStruck self.now) candidates.old candidates.new) }
     {
         keep_givens(candidates, self.givens());
         narrow_by_lines(self, candidates)
