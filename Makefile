@@ -3,7 +3,7 @@
 # make test       the gate: every proof from nothing, wrong bodies, tests, stored runs, and the program from outside
 # make test-tools the scripts around the program: the front, installing, and the texts for its users
 # make exchange   saves and IDs against the usual programs, of Debian's package sgt-puzzles; no part of the gate
-# make bench      how long the solver and the generator take, class by class; no part of the gate
+# make bench      how long the solver and the generator take, class by class, or the solver on the lines of IDS=file; no part of the gate
 # make check      CRATE=clue_rules: proves one crate, in seconds after an edit
 # make try        CRATE=clue_rules: runs the tests of one crate without a proof
 # make must-fail  CRATE=clue_rules: tries the wrong bodies of one crate
@@ -15,6 +15,7 @@
 RT ?= rt
 GAME ?= towers
 ID ?=
+IDS ?=
 CRATE ?=
 FMT ?= $(RT) fmt
 PREFIX ?= /usr/local
@@ -42,10 +43,9 @@ exchange: all
 	@tools/exchange
 
 bench:
-	cd crates/solver_bench && $(RT) run < /dev/null
-	@cat bench/puzzles.txt bench/several_and_none.txt | crates/solver_bench/out/solver_bench
-	cd crates/gen_bench && $(RT) run < /dev/null
-	@crates/gen_bench/out/gen_bench < bench/generated.txt
+	@RT='$(RT)' tools/bench $(IDS)
+	@[ -n '$(IDS)' ] || (cd crates/gen_bench && $(RT) run < /dev/null)
+	@[ -n '$(IDS)' ] || crates/gen_bench/out/gen_bench < bench/generated.txt
 
 check: crate
 	@cd 'crates/$(CRATE)' && $(RT) check

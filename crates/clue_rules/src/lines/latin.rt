@@ -9,7 +9,7 @@ ghost use Rattle.clue_rules.specs.Views.{view_cell, front_place};
 
 use crate::lines::changed::ChangedLines;
 use crate::lines::value_sets::{is_single, without};
-use crate::lines::view_candidates::{keep_along, view_sets};
+use crate::lines::view_candidates::{keep_fewer, view_sets};
 use crate::lines::views::{LINE, front_place};
 use trail_solver::Candidates;
 
@@ -91,7 +91,7 @@ fn strike_line(candidates: &mut Candidates, line: u8, changed: &mut ChangedLines
         return false;
     };
     let kept = tally.kept_along(&sets, width);
-    keep_along(candidates, place, &kept, changed)
+    keep_fewer(candidates, place, &sets, &kept, changed)
 }
 
 // What the sets of candidates of a line say together: the values of which one of them has one, of which two have one,

@@ -14,7 +14,7 @@ ghost use Rattle.clue_rules.specs.Struck.{IsUnequalStruck, KeepsSolutions, HasNo
 ghost use Rattle.clue_rules.specs.Laws.UnequalSameness.{same_unequal, same_unequal_decides};
 
 use crate::lines::given_squares::keep_givens;
-use crate::lines::narrowing::narrow_by_lines;
+use crate::lines::narrowing::{narrow_by_lines, narrow_by_lines_of};
 use crate::unequal::sign::{Sign, sign_count, squares};
 use crate::unequal::{SIGNS, Unequal};
 use latin_board::{Grid, Size};
@@ -107,6 +107,10 @@ impl Rules for Unequal {
     {
         keep_givens(candidates, self.givens());
         narrow_by_lines(self, candidates)
+    }
+
+    fn narrow_from(&self, candidates: &mut Candidates, cell: usize) -> bool {
+        narrow_by_lines_of(self, candidates, cell)
     }
 
     fn item_count(size: Size) -> usize {
