@@ -1,6 +1,6 @@
 //! Command lines, and the first sessions that they begin.
 
-use clue_rules::{Game, Towers, Unequal};
+use clue_rules::{Towers, Unequal};
 use play_midend::Session;
 use puzzle_cli::{Draw, Args, CommandFault, GameName, StartFault, begin, read_words};
 use std::alloc::Global;
@@ -175,7 +175,7 @@ fn kept_bytes_of_a_file(rt: HostRuntime) -> Result<(), Fail> {
     Ok(())
 }
 
-fn check_start<P: Game>(
+fn check_start<P: Draw>(
     rt: &impl Abort,
     alloc: Global,
     id: Option<&str>,
