@@ -212,7 +212,7 @@ ends_later l [] ends = tt
 ends_later l (k ∷ ls) ends = ends
 
 -- a list that ends with a state record or a count has one
-has_state_or_count : (ls : List Line) → EndsWithState ls → values_of StateCount ls ≡ [] → values_of Position ls ≡ [] → 0 < length (states_in ls)
+pub has_state_or_count : (ls : List Line) → EndsWithState ls → values_of StateCount ls ≡ [] → values_of Position ls ≡ [] → 0 < length (states_in ls)
 has_state_or_count [] ends no_count no_position = absurd ends
 has_state_or_count (l ∷ []) ends no_count no_position = by_key l.key l.value ends no_count no_position
   where

@@ -27,7 +27,7 @@ use Rattle.play_save.proofs.GameTexts.{IsGame, same_puzzle, restart_taken, resta
 text_taken : (value : List ℕ) (m : Move) → move_at value ≡ Ok m → IsMoveText m value
 text_taken value m is = let read : Result Move PlayFault = Ok m in read_found value read (sym is)
 
-text_again : (value : List ℕ) (m : Move) → IsMoveText m value → move_at value ≡ Ok m
+pub text_again : (value : List ℕ) (m : Move) → IsMoveText m value → move_at value ≡ Ok m
 text_again value m is = read_only value (move_at value) refl m is
 
 pub ok_taken : {A E : Type 0} (r : Result A E) (a : A) → result_ok r ≡ Some a → r ≡ Ok a
