@@ -1,27 +1,28 @@
 -- What is written of a session is a save of it, and of no other.
-use Rattle.std.proofs.Common.{◌≡◌, ℕ, ◌+◌, ◌<◌, ◌≤◌, Bool, true, false, All, List, [], ◌∷◌, ◌++◌, length, map, codes, Option, Some, None, IfSome, Result, Ok, Err, IfOk, refl, sym, ap, ◌∙◌, subst, arith, length-append, lit≤}
+use Rattle.std.proofs.Common.{◌≡◌, ℕ, ◌+◌, ◌≤◌, true, List, [], ◌∷◌, ◌++◌, length, map, codes, Option, Some, None, Result, Ok, Err, IfOk, IfErr, inl, inr, refl, sym, ap, ◌∙◌, subst, arith, length-append, lit≤}
 use Rattle.std.specs.Fmt.{decimal}
 use Rattle.std.proofs.lemmas.List.{append-nil, length-map}
 use Rattle.std.proofs.lemmas.List.Elements.{recursion_from_All}
 use Rattle.std.specs.List.{AllByRecursion}
-use Rattle.latin_board.specs.Squares.{GridValue, IsGrid}
+use Rattle.byte_text.specs.Reading.{GivesUnless}
+use Rattle.latin_board.specs.Squares.{GridValue}
 use Rattle.latin_board.proofs.LatinLines.{latin_full}
 use Rattle.trail_solver.specs.Puzzles.{Puzzle}
 use Rattle.trail_solver.proofs.SolutionTests.{Decides-solves_test}
 use Rattle.clue_rules.specs.declared.params.Params.{Params}
-use Rattle.clue_rules.specs.ParamTexts.{IsParams, letter_part, params_text, IsParamText}
+use Rattle.clue_rules.specs.ParamTexts.{IsParams, letter_part, params_text}
 use Rattle.play_midend.specs.declared.extras.Extras.{Extras}
 use Rattle.play_midend.specs.declared.moves.Move.{Move}
 use Rattle.play_midend.specs.declared.moves.Move.TheVariants.{Real, Pencil, MarkAll, Solve, Restart, Done}
-use Rattle.play_midend.specs.declared.fault.PlayFault.{PlayFault}
-use Rattle.play_midend.specs.MoveTexts.{move_text, IsFullGrid, IsMoveText, move_at}
+use Rattle.play_midend.specs.MoveTexts.{move_text, IsMoveText}
 use Rattle.play_midend.specs.Steps.{start_of}
-use Rattle.play_midend.specs.Histories.{History, IsValid, IsStorable, most_states, shown}
+use Rattle.play_midend.specs.Histories.{History, IsValid, most_states, shown}
 use Rattle.play_save.specs.declared.fault.LoadFault.{LoadFault}
+use Rattle.play_save.specs.declared.fault.LoadFault.TheVariants.{OutOfMemory}
 use Rattle.play_save.specs.declared.key.Key.{Key}
 use Rattle.play_save.specs.declared.key.Key.TheVariants.{SaveFile, NextParams, CurrentParams, Desc, StateCount, Position}
 use Rattle.play_save.specs.Records.{Entry, record_at}
-use Rattle.play_save.specs.Lines.{Line, StateLine, BeginsWithAll, values_of, states_in, once_if_kept, EndsWithState}
+use Rattle.play_save.specs.Lines.{Line, BeginsWithAll, values_of, states_in, once_if_kept, EndsWithState}
 use Rattle.play_save.specs.SaveTexts.{SavedGame, collection, most_bytes, is_solve, IsStateOf, HaveStates, AreSaved, SaveText}
 use Rattle.play_save.specs.FirstFaults.{count_at}
 use Rattle.play_save.specs.Written.{with_value, record_text, records_text, save_of}
@@ -29,10 +30,10 @@ use Rattle.play_save.specs.Laws.{HasGrid, WrittenIsSaved, WrittenSavesNoOther}
 use Rattle.play_save.proofs.RecordLaws.{record_again}
 use Rattle.play_save.proofs.LineLists.{values_of-append, states_in-append}
 use Rattle.play_save.proofs.Counting.{count_again}
-use Rattle.play_save.proofs.GameTexts.{IsGame, same_puzzle}
+use Rattle.play_save.proofs.GameTexts.{IsGame}
 use Rattle.play_save.proofs.StatesPlayed.{text_again, have_length}
 use Rattle.play_save.proofs.SavedAgain.{has_state_or_count}
-use Rattle.play_save.proofs.WrittenRecords.{entry_written, written_begins, AreAll, all_written, IsPrefix, begins_prefix, all_begin}
+use Rattle.play_save.proofs.WrittenRecords.{entry_written, written_begins, AreAll, all_written, begins_prefix, all_begin}
 use Rattle.play_save.proofs.WrittenLines.{tail_lines, state_value, values_SaveFile, values_FormatVersion, values_GameName, values_NextParams, values_CurrentParams, values_Desc, values_PrivateDesc, values_StateCount, values_Position, values_Seed, values_AuxInfo, values_Ui, values_Time, states_tail, counts_first_tail, ends_tail, known_tail}
 use Rattle.play_save.proofs.LegalMoves.{FitsText, AllFit, all_fit}
 
@@ -283,20 +284,22 @@ written_saves_no_other {P} game of_game owes canonical h other valid of t =
     let fits = all_fit (game.puzzle h.puzzle) (start_of (game.puzzle h.puzzle)) h.moves largest valid.legal.playable in
     let other_legal = subst (λ q. IsValid (game.puzzle q) other) puzzle s.valid in
     let other_fits = all_fit (game.puzzle h.puzzle) (start_of (game.puzzle h.puzzle)) other.moves largest other_legal.legal.playable in
-    let moves = same_moves game other.puzzle desc (game.puzzle h.puzzle) other.moves h.moves other_fits fits (subst (λ ss. HaveStates game other.puzzle other.moves ss) (states_tail title desc h) s.states) in
-    (same_history other h puzzle params next extras moves same.position,
-    record {
-      session = valid;
-      puzzle_is = of;
-      params_are = subst (λ p. IsParams game.letters p) params s.params.2.params;
-      next_params_are = subst (λ p. IsParams game.letters p) next s.next_params.2.params;
-    })
+    let moves = same_moves game other.puzzle desc (game.puzzle h.puzzle) other.moves h.moves other_fits fits (subst (λ ss. HaveStates game other.puzzle other.moves ss) (states_tail title desc h) s.states) in (
+      same_history other h puzzle params next extras moves same.position,
+      record {
+        session = valid;
+        puzzle_is = of;
+        params_are = subst (λ p. IsParams game.letters p) params s.params.2.params;
+        next_params_are = subst (λ p. IsParams game.letters p) next s.next_params.2.params;
+      },
+    )
   where
     same_rest : (a b : Entry) (r s : List ℕ) → (let x : Result (Option (Entry × List ℕ)) LoadFault = Ok (Some (a, r)) in x) ≡ Ok (Some (b, s)) → r ≡ s
     same_rest a b r s e =
         let one : Entry × List ℕ = (a, r) in
         let two : Entry × List ℕ = (b, s) in
         let pair : one ≡ two = cc in ap (λ p. p.1) pair
+
     same_described : (w : ℕ) (p q : P) (text : List ℕ) → game.Describes w p text → game.Describes w q text → q ≡ p
     same_described w p q text p_is q_is =
         let read_p = owes.reads.again w text p p_is in
@@ -312,3 +315,8 @@ round_same game of_game h text (Err e) law valid of written is = tt
 pub round_board : {P : Type 0} (puzzle : P → Puzzle) (h : History P) (answer : Result (History P) LoadFault) → IfOk answer (λ s. s ≡ h) → IfOk answer (λ s. shown (puzzle s.puzzle) s ≡ shown (puzzle h.puzzle) h)
 round_board puzzle h (Ok s) same = ap (λ k. shown (puzzle k.puzzle) k) same
 round_board puzzle h (Err e) same = tt
+
+pub round_refused : {P : Type 0} (game : SavedGame P) (h : History P) (answer : Result (History P) LoadFault) → GivesUnless OutOfMemory (λ s. s) answer (Ok h) → IfErr answer (λ fault. fault ≡ OutOfMemory)
+round_refused game h (Ok s) gives = tt
+round_refused game h (Err e) (inl memory) = memory
+round_refused game h (Err e) (inr refused) = cc

@@ -1,5 +1,5 @@
 -- The records that are written for a session: which value stands with which key, and where.
-use Rattle.std.proofs.Common.{◌≡◌, ℕ, ◌+◌, Bool, true, false, ◌==◌, List, [], ◌∷◌, ◌++◌, length, map, codes, Option, Some, None, cond, refl, sym, ap, ◌∙◌}
+use Rattle.std.proofs.Common.{◌≡◌, ℕ, ◌+◌, Bool, true, false, ◌==◌, List, [], ◌∷◌, ◌++◌, length, map, codes, Option, Some, None, cond, refl, ap, ◌∙◌}
 use Rattle.std.specs.Fmt.{decimal}
 use Rattle.std.proofs.lemmas.List.{append-nil}
 use Rattle.clue_rules.specs.ParamTexts.{params_text}
@@ -7,7 +7,6 @@ use Rattle.play_midend.specs.declared.moves.Move.{Move}
 use Rattle.play_midend.specs.MoveTexts.{move_text}
 use Rattle.play_midend.specs.Steps.{is_restart}
 use Rattle.play_midend.specs.Histories.{History}
-use Rattle.play_save.specs.declared.key.StateKey.{StateKey}
 use Rattle.play_save.specs.declared.key.StateKey.TheVariants.{AnyMove, SolveMove, RestartMove}
 use Rattle.play_save.specs.declared.key.Key.{Key}
 use Rattle.play_save.specs.declared.key.Key.TheVariants.{SaveFile, FormatVersion, GameName, NextParams, CurrentParams, Seed, Desc, PrivateDesc, AuxInfo, Ui, Time, StateCount, Position, State, Other}
@@ -243,6 +242,7 @@ front_first (x ∷ xs) ys none first =
   where
     never : (k : Key) → is_state k ≡ false → is_state k ≡ true → ⊥
     never k header state = cc
+
     none_first : (k : Key) (v : List ℕ) (ss : List StateLine) → onto_states k v ss ≡ [] → (is_state k ≡ false) × (ss ≡ [])
     none_first SaveFile v ss e = (refl, e)
     none_first FormatVersion v ss e = (refl, e)
@@ -336,7 +336,9 @@ pub known_tail : {P : Type 0} (title desc : List ℕ) (h : History P) → AreKno
 known_tail title desc h =
     known_append (four title h) (body_lines desc h ++ state_lines desc h) (refl, (refl, (refl, (refl, tt))))
     (known_append (body_lines desc h) (state_lines desc h)
-    (known_append (kept_line Seed h.extras.seed) _ (known_kept Seed h.extras.seed refl)
-    (refl, known_append (kept_line AuxInfo h.extras.auxinfo) _ (known_kept AuxInfo h.extras.auxinfo refl)
-    (known_append (kept_line Ui h.extras.ui) _ (known_kept Ui h.extras.ui refl) (known_kept Time h.extras.time refl))))
+    (known_append (kept_line Seed h.extras.seed) _ (known_kept Seed h.extras.seed refl) (
+      refl,
+      known_append (kept_line AuxInfo h.extras.auxinfo) _ (known_kept AuxInfo h.extras.auxinfo refl)
+          (known_append (kept_line Ui h.extras.ui) _ (known_kept Ui h.extras.ui refl) (known_kept Time h.extras.time refl)),
+    ))
     (refl, (refl, known_states desc h.moves)))

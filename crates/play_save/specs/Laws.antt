@@ -1,7 +1,6 @@
 -- The laws of save texts, over the definitions alone.
 use Rattle.std.specs.Prelude.{◌≡◌, ◌↔◌, ℕ, ◌≤◌, All, List, length, Err}
 use Rattle.latin_board.specs.Squares.{IsGrid}
-use Rattle.trail_solver.specs.Puzzles.{Puzzle}
 use Rattle.play_midend.specs.declared.moves.Move.{Move}
 use Rattle.play_midend.specs.declared.moves.Move.TheVariants.{Solve}
 use Rattle.play_midend.specs.Histories.{History, IsValid, IsStorable}
