@@ -1,12 +1,10 @@
 -- What a game owes of its descriptions, and that puzzles with the same written description are the same.
-use Rattle.std.proofs.Common.{◌≡◌, ◌≢◌, ℕ, ◌≤◌, Bool, true, false, List, Option, Some, None, option_and_then, Result, Ok, Err, bytes_eq, cond, refl, sym, ap, ◌∙◌, subst}
-use Rattle.std.specs.Result.{result_ok}
+use Rattle.std.proofs.Common.{◌≡◌, ◌≢◌, ℕ, ◌≤◌, true, false, List, Some, None, Result, Ok, bytes_eq, cond, refl, ap}
 use Rattle.std.proofs.lemmas.Slice.Eq.{bytes_eq-Decides}
 use Rattle.trail_solver.specs.Puzzles.{Puzzle}
 use Rattle.clue_rules.specs.declared.id_fault.IdFault.{IdFault}
-use Rattle.clue_rules.specs.GameIds.{describes_at}
-use Rattle.clue_rules.proofs.GameIdLemmas.{ReadsGrammar}
-use Rattle.clue_rules.proofs.GameIdLemmas.{game_reads}
+use Rattle.clue_rules.specs.IdReading.{ReadsGrammar}
+use Rattle.clue_rules.specs.IdLaws.{game_reads}
 use Rattle.play_midend.specs.declared.moves.Move.{Move}
 use Rattle.play_midend.specs.declared.moves.Move.TheVariants.{Restart}
 use Rattle.play_save.specs.SaveTexts.{SavedGame, saved_game}

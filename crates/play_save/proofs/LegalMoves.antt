@@ -1,17 +1,16 @@
 -- What is known of the moves of a legal list: they fit what a text holds.
-use Rattle.std.proofs.Common.{◌≡◌, ℕ, zero, suc, ◌+◌, ◌*◌, ◌<◌, ◌≤◌, ℤ, pos, negsuc, Bool, true, false, ◌==◌, ◌&&◌, ◌||◌, not, nat_lt, List, [], ◌∷◌, Option, Some, None, Result, Ok, Err, IsOk, cond, refl, sym, ap, ◌∙◌, subst, arith}
+use Rattle.std.proofs.Common.{◌≡◌, ℕ, zero, suc, ◌+◌, ◌*◌, ◌≤◌, ℤ, pos, negsuc, Bool, true, false, ◌==◌, ◌&&◌, not, nat_lt, List, [], ◌∷◌, Option, Some, None, IsOk, cond, refl, arith}
 use Rattle.std.specs.Option.{option_or, option_map_or}
 use borrow.Author.Tests.{eqb-true, ltb-true, ltb-false}
 use Rattle.latin_board.specs.Boards.{BoardValue}
 use Rattle.latin_board.specs.Edges.{edge_place}
-use Rattle.latin_board.specs.Squares.{GridValue, IsGrid}
 use Rattle.trail_solver.specs.Puzzles.{Puzzle, solves_test}
 use Rattle.play_midend.specs.declared.moves.Move.{Move}
 use Rattle.play_midend.specs.declared.moves.Move.TheVariants.{Real, Pencil, MarkAll, Solve, Restart, Done}
 use Rattle.play_midend.specs.declared.fault.PlayFault.{PlayFault}
 use Rattle.play_midend.specs.declared.fault.PlayFault.TheVariants.{OffGrid, OffRange, GivenSquare, BadSolution}
 use Rattle.play_midend.specs.MoveTexts.{AreBytes, IsCoordinate}
-use Rattle.play_midend.specs.Steps.{cell_of, entry_refusal, mark_refusal, has_clue, refusal_of, moved, unless_refused, step, after_move, ArePlayable}
+use Rattle.play_midend.specs.Steps.{cell_of, entry_refusal, mark_refusal, refusal_of, moved, unless_refused, step, after_move, ArePlayable}
 
 -- the numbers are within what a text holds, and a solution has the puzzle's size
 abbrev pub FitsText : Puzzle → Move → Type 0
@@ -95,6 +94,7 @@ move_fits p b (Solve g) small none =
     first_of_and : (x y : Bool) → (x && y) ≡ true → x ≡ true
     first_of_and true y e = refl
     first_of_and false y e = cc
+
     same_size : solves_test p g ≡ true → g.size ≡ p.size
     same_size solves = eqb-true g.size p.size (first_of_and _ _ (first_of_and _ _ (first_of_and _ _ solves)))
 move_fits p b (Done x y) small none = by_place (edge_place p.size x y) refl none

@@ -15,3 +15,5 @@ pub mod LoadAnswers
 pub mod WrittenLists
 pub mod WrittenRecords
 pub mod LegalMoves
+pub mod WrittenLines
+pub mod SavedWritten

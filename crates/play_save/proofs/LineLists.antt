@@ -1,8 +1,6 @@
 -- Lists of records: the values of a key, and the state records, along a list that is put together.
-use Rattle.std.proofs.Common.{◌≡◌, ℕ, ◌+◌, ◌<◌, Bool, true, false, ◌==◌, List, [], ◌∷◌, ◌++◌, length, Option, Some, None, option_map, is_some, cond, refl, sym, ap, ◌∙◌, subst, arith}
-use Rattle.std.proofs.lemmas.List.{append-nil}
+use Rattle.std.proofs.Common.{◌≡◌, ℕ, true, false, ◌==◌, List, [], ◌∷◌, ◌++◌, Option, Some, None, option_map, is_some, cond, refl, ap, ◌∙◌}
 use borrow.Author.Tests.{eqb-true}
-use Rattle.play_save.specs.declared.key.StateKey.{StateKey}
 use Rattle.play_save.specs.declared.key.Key.{Key}
 use Rattle.play_save.specs.declared.key.Key.TheVariants.{SaveFile, FormatVersion, GameName, NextParams, CurrentParams, Seed, Desc, PrivateDesc, AuxInfo, Ui, Time, StateCount, Position, State, Other}
 use Rattle.play_save.specs.Keys.{rank}

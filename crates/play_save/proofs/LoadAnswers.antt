@@ -27,9 +27,10 @@ saves_one_session game owes one other text one_is other_is =
     cc
 
 pub faults_where_none : {P : Type 0} (game : SavedGame P) → IsGame game → FaultsWhereNone game
-faults_where_none {P} game owes text =
-    (λ fault. λ h is. (let read = load_again game text h owes is in let no_read = fault.1 in cc),
-    λ none. by_read (load_at game text) refl none)
+faults_where_none {P} game owes text = (
+  λ fault. λ h is. (let read = load_again game text h owes is in let no_read = fault.1 in cc),
+  λ none. by_read (load_at game text) refl none,
+)
   where
     by_read : (read : Result (History P) LoadFault) → load_at game text ≡ read → ((h : History P) → SaveText game h text → ⊥) → (fault : LoadFault) × (read ≡ Err fault)
     by_read (Ok h) is none = absurd (none h (load_taken game text h owes is))

@@ -1,15 +1,12 @@
 -- What was met after one more record that has no fault, and that a record which may stand once is refused the second time.
-use Rattle.std.proofs.Common.{◌≡◌, ℕ, Bool, true, false, List, [], ◌∷◌, ◌++◌, Option, Some, None, option_map, is_some, is_none, Result, Ok, Err, bytes_eq, codes, refl, sym, ap, ◌∙◌}
+use Rattle.std.proofs.Common.{◌≡◌, ℕ, Bool, true, false, List, [], ◌∷◌, ◌++◌, Option, None, option_map, is_some, refl}
 use Rattle.std.proofs.lemmas.List.{append-nil}
-use Rattle.clue_rules.specs.declared.params.Params.{Params}
 use Rattle.play_save.specs.declared.fault.LoadFault.{LoadFault}
-use Rattle.play_save.specs.declared.fault.LoadFault.TheVariants.{Version, WrongGame, Repeated}
-use Rattle.play_save.specs.declared.key.StateKey.{StateKey}
 use Rattle.play_save.specs.declared.key.Key.{Key}
 use Rattle.play_save.specs.declared.key.Key.TheVariants.{SaveFile, FormatVersion, GameName, NextParams, CurrentParams, Seed, Desc, PrivateDesc, AuxInfo, Ui, Time, StateCount, Position, State, Other}
-use Rattle.play_save.specs.Lines.{Line, StateLine, values_of, states_in}
+use Rattle.play_save.specs.Lines.{Line, values_of}
 use Rattle.play_save.specs.SaveTexts.{SavedGame}
-use Rattle.play_save.specs.FirstFaults.{Met, saved_params_at, count_at, first_of, met, fault_unless, once, params_fault, count_fault, position_fault, fault_by}
+use Rattle.play_save.specs.FirstFaults.{saved_params_at, count_at, first_of, met, once, fault_by}
 use Rattle.play_save.specs.Taking.{added}
 use Rattle.play_save.proofs.LineLists.{values_of-append, states_in-append, first_none, not_some, map_none}
 

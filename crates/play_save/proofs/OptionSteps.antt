@@ -1,5 +1,5 @@
 -- Steps on options: where the whole is there, so was each step.
-use Rattle.std.proofs.Common.{◌≡◌, Option, Some, None, option_map, option_and_then, Result, Ok, Err, ok_or, refl}
+use Rattle.std.proofs.Common.{◌≡◌, Option, Some, None, option_map, option_and_then, Ok, Err, ok_or, refl}
 
 pub map_taken : {A B : Type 0} (f : A → B) (o : Option A) (y : B) → option_map f o ≡ Some y → (x : A) × (o ≡ Some x) × (f x ≡ y)
 map_taken f None y is = cc

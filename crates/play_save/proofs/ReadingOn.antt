@@ -1,13 +1,13 @@
 -- Reading record by record: what was met of the records before a place, and what is needed from there on.
-use Rattle.std.proofs.Common.{◌≡◌, ◌⊎◌, ℕ, zero, suc, ◌<◌, ◌≤◌, Bool, true, false, List, [], ◌∷◌, ◌++◌, length, Option, Some, None, Result, Ok, Err, cond, refl, sym, ap, ◌∙◌, subst, arith, inl, inr}
+use Rattle.std.proofs.Common.{◌≡◌, ◌⊎◌, ℕ, zero, suc, ◌≤◌, true, false, List, [], ◌∷◌, ◌++◌, length, Option, Some, None, Result, Ok, Err, refl, sym, ap, ◌∙◌, arith, inl, inr}
 use Rattle.byte_text.specs.Reading.{◌>>=◌, GivesUnless}
 use Rattle.play_save.specs.declared.fault.LoadFault.{LoadFault}
 use Rattle.play_save.specs.declared.fault.LoadFault.TheVariants.{Malformed, Missing, OutOfMemory}
-use Rattle.play_save.specs.Records.{Entry, skip_breaks, record_or_end, record_at}
+use Rattle.play_save.specs.Records.{Entry, record_at}
 use Rattle.play_save.specs.Keys.{key_of}
 use Rattle.play_save.specs.Lines.{Line, line_of}
 use Rattle.play_save.specs.SaveTexts.{SavedGame}
-use Rattle.play_save.specs.FirstFaults.{Met, met, fault_by, is_complete, Listing, nothing, broken, first, listed, listing_within, records_of, unless, needed, met_in}
+use Rattle.play_save.specs.FirstFaults.{Met, met, fault_by, is_complete, Listing, nothing, broken, first, listed, listing_within, records_of, needed, met_in}
 use Rattle.play_save.specs.Taking.{nothing_met, added}
 use Rattle.play_save.proofs.RecordLaws.{record_shorter, end_again, record_fault}
 use Rattle.play_save.proofs.Meeting.{met_added}

@@ -1,5 +1,5 @@
 -- The laws of records, of an answer.
-use Rattle.std.proofs.Common.{◌≡◌, ℕ, List, Option, Some, None, option_map, Result, Ok, Err, IfOk, IfErr, MatchOption, Bor, sym, ◌∙◌, subst}
+use Rattle.std.proofs.Common.{◌≡◌, ℕ, List, Option, Some, None, option_map, Result, Ok, Err, IfOk, IfErr, MatchOption, Bor, sym, ◌∙◌}
 use Rattle.byte_text.specs.Reading.{Gives}
 use Rattle.play_save.specs.declared.fault.LoadFault.{LoadFault}
 use Rattle.play_save.specs.declared.fault.LoadFault.TheVariants.{Malformed}

@@ -1,10 +1,9 @@
 -- The record that is read is the one with which the text begins, and that one is read.
-use Rattle.std.proofs.Common.{◌≡◌, ◌≢◌, ℕ, zero, suc, ◌+◌, ◌-◌, ◌*◌, ◌<◌, ◌≤◌, Bool, true, false, ◌==◌, ◌&&◌, ◌||◌, nat_le, List, [], ◌∷◌, ◌++◌, length, take, drop, get_or, Option, Some, None, option_map, option_and_then, Result, Ok, Err, IfOk, IfErr, MatchOption, ok_or, cond, refl, sym, ap, ◌∙◌, subst, arith, rules, length-append, append_assoc}
-use Rattle.std.proofs.lemmas.List.{take_more, take-append-drop, length-take-le, take_at}
-use Rattle.std.proofs.lemmas.Bool.Decides.{nat_tests}
-use borrow.Author.Tests.{eqb-true, eqb-false, eq-eqb, leb-true, le-leb}
+use Rattle.std.proofs.Common.{◌≡◌, ℕ, ◌<◌, ◌≤◌, true, false, ◌==◌, ◌&&◌, nat_le, List, [], ◌∷◌, ◌++◌, length, take, drop, Some, None, option_map, option_and_then, Ok, Err, ok_or, cond, refl, sym, ap, ◌∙◌, subst, arith, length-append}
+use Rattle.std.proofs.lemmas.List.{take-append-drop, length-take-le, take_at}
+use borrow.Author.Tests.{eqb-true, eq-eqb, leb-true, le-leb}
 use Rattle.byte_text.specs.Cuts.{Lacks, before, behind}
-use Rattle.byte_text.specs.Decimals.{is_digit, digit_onto, number_from}
+use Rattle.byte_text.specs.Decimals.{digit_onto, number_from}
 use Rattle.byte_text.proofs.CutLaws.{cut_parts, before_at, behind_at, lacks_before}
 use Rattle.play_save.specs.declared.fault.LoadFault.{LoadFault}
 use Rattle.play_save.specs.declared.fault.LoadFault.TheVariants.{Malformed}

@@ -1,14 +1,14 @@
 -- Lists of records without a fault: they are what is read up to the last record that is needed.
-use Rattle.std.proofs.Common.{◌≡◌, ℕ, zero, suc, ◌+◌, ◌<◌, ◌≤◌, Bool, true, false, ◌==◌, List, [], ◌∷◌, ◌++◌, length, Option, Some, None, option_map, is_some, Result, Ok, Err, cond, refl, sym, ap, ◌∙◌, subst, arith}
+use Rattle.std.proofs.Common.{◌≡◌, ℕ, zero, suc, ◌<◌, ◌≤◌, Bool, true, false, ◌==◌, List, [], ◌∷◌, ◌++◌, length, Option, Some, None, Result, Ok, Err, cond, refl, sym, ap, ◌∙◌, subst, arith}
 use Rattle.std.proofs.lemmas.List.{append-nil, append_assoc}
 use Rattle.play_save.specs.declared.fault.LoadFault.{LoadFault}
 use Rattle.play_save.specs.declared.fault.LoadFault.TheVariants.{Malformed, Missing}
 use Rattle.play_save.specs.declared.key.Key.{Key}
-use Rattle.play_save.specs.Records.{Entry, BeginsWith, record_at}
+use Rattle.play_save.specs.Records.{Entry, record_at}
 use Rattle.play_save.specs.Keys.{rank}
-use Rattle.play_save.specs.Lines.{Line, line_of, BeginsWithAll, values_of, is_state}
+use Rattle.play_save.specs.Lines.{Line, BeginsWithAll, values_of, is_state}
 use Rattle.play_save.specs.SaveTexts.{SavedGame}
-use Rattle.play_save.specs.FirstFaults.{Met, met, fault_by, is_complete, Listing, nothing, broken, first, listed, listing_within, records_of, unless, needed}
+use Rattle.play_save.specs.FirstFaults.{met, fault_by, is_complete, Listing, nothing, broken, first, listed, listing_within, records_of, unless, needed}
 use Rattle.play_save.proofs.RecordLaws.{record_taken, record_again, record_shorter}
 use Rattle.play_save.proofs.LineLists.{same_key, values_of-append}
 use Rattle.play_save.proofs.Meeting.{is_once, one, stands_alone}

@@ -1,33 +1,28 @@
 -- A save of a session is read as that session.
-use Rattle.std.proofs.Common.{◌≡◌, ◌⊎◌, ℕ, suc, ◌+◌, ◌<◌, ◌≤◌, Bool, true, false, ◌==◌, ◌&&◌, nat_lt, nat_le, List, [], ◌∷◌, ◌++◌, length, codes, bytes_eq, Option, Some, None, option_map, is_some, Result, Ok, Err, ok_or, cond, refl, sym, ap, ◌∙◌, subst, arith, inl, inr, length-append}
-use Rattle.std.specs.Result.{result_ok}
+use Rattle.std.proofs.Common.{◌≡◌, ◌⊎◌, ℕ, ◌+◌, ◌<◌, ◌≤◌, true, false, nat_lt, List, [], ◌∷◌, ◌++◌, length, codes, bytes_eq, Option, Some, None, option_map, is_some, Result, Ok, refl, sym, ap, ◌∙◌, arith, inl, inr, length-append}
 use Rattle.std.specs.List.{AllByRecursion}
 use Rattle.std.specs.Fmt.{decimal}
 use Rattle.std.proofs.lemmas.List.{append-nil, append_assoc}
 use Rattle.std.proofs.lemmas.Slice.Eq.{bytes_eq-Decides}
-use borrow.Author.Tests.{le-leb, leb-true}
+use borrow.Author.Tests.{le-leb}
 use Rattle.std.proofs.lemmas.Bool.Decides.{nat_tests}
 use Rattle.byte_text.specs.Reading.{◌>>=◌}
-use Rattle.byte_text.proofs.ReadingLaws.{bind_again}
-use Rattle.clue_rules.specs.declared.id_fault.IdFault.{IdFault}
 use Rattle.clue_rules.specs.declared.params.Params.{Params}
-use Rattle.clue_rules.specs.Parameters.{IsParamText}
-use Rattle.clue_rules.specs.Parameters.{has_adjacent}
-use Rattle.clue_rules.proofs.ParameterLemmas.{params_again}
-use Rattle.play_midend.specs.declared.extras.Extras.{Extras}
+use Rattle.clue_rules.specs.ParamTexts.{IsParamText}
+use Rattle.clue_rules.specs.ParamReading.{has_adjacent}
+use Rattle.clue_rules.specs.ParamLaws.{params_again}
 use Rattle.play_midend.specs.declared.moves.Move.{Move}
-use Rattle.play_midend.specs.Histories.{History, IsValid, started, at_position, most_states}
-use Rattle.play_midend.specs.MoveLists.{with_moves, played_all}
+use Rattle.play_midend.specs.Histories.{History, started}
+use Rattle.play_midend.specs.MoveLists.{with_moves}
 use Rattle.play_midend.proofs.MoveListLaws.{legal_list_played}
 use Rattle.play_save.specs.declared.fault.LoadFault.{LoadFault}
-use Rattle.play_save.specs.declared.fault.LoadFault.TheVariants.{NotASave, Version, WrongGame, BadCount, BadDesc, Missing, TooLarge}
-use Rattle.play_save.specs.declared.key.StateKey.{StateKey}
+use Rattle.play_save.specs.declared.fault.LoadFault.TheVariants.{Version, WrongGame}
 use Rattle.play_save.specs.declared.key.Key.{Key}
 use Rattle.play_save.specs.declared.key.Key.TheVariants.{SaveFile, FormatVersion, GameName, NextParams, CurrentParams, Seed, Desc, PrivateDesc, AuxInfo, Ui, Time, StateCount, Position, State, Other}
-use Rattle.play_save.specs.Records.{Entry, record_at}
+use Rattle.play_save.specs.Records.{record_at}
 use Rattle.play_save.specs.Lines.{Line, StateLine, values_of, states_in, onto_states, once_if_kept, is_state, CountsStandFirst, may_be_last, EndsWithState}
 use Rattle.play_save.specs.SaveTexts.{SavedGame, collection, most_bytes, HaveStates, AreSaved, SaveText}
-use Rattle.play_save.specs.FirstFaults.{Met, saved_params_at, count_at, first_of, met, fault_unless, once, params_fault, count_fault, position_fault, behind_counts, state_fault, fault_by, has_all, is_complete, records_of, unless, needed, states_played, needed_params, needed_count, extras_in, session_with, session_at, session_of, head_or_fault, behind_head, met_in, load_at}
+use Rattle.play_save.specs.FirstFaults.{saved_params_at, count_at, first_of, met, fault_unless, once, params_fault, count_fault, position_fault, behind_counts, state_fault, fault_by, has_all, is_complete, records_of, needed, states_played, extras_in, session_of, behind_head, met_in, load_at}
 use Rattle.play_save.proofs.RecordLaws.{record_again}
 use Rattle.play_save.proofs.LineLists.{values_of-append, states_in-append, own_rank}
 use Rattle.play_save.proofs.Meeting.{one}
@@ -70,6 +65,7 @@ before_place k value before later is = by_values (values_of k before) refl (sym 
         front_none : (xs ys : List (List ℕ)) → xs ++ ys ≡ [] → xs ≡ []
         front_none [] ys e = refl
         front_none (x ∷ xs) ys e = cc
+
         back_none : (xs ys : List (List ℕ)) → xs ++ ys ≡ [] → ys ≡ []
         back_none [] ys e = e
         back_none (x ∷ xs) ys e = cc
@@ -212,7 +208,7 @@ ends_later l [] ends = tt
 ends_later l (k ∷ ls) ends = ends
 
 -- a list that ends with a state record or a count has one
-has_state_or_count : (ls : List Line) → EndsWithState ls → values_of StateCount ls ≡ [] → values_of Position ls ≡ [] → 0 < length (states_in ls)
+pub has_state_or_count : (ls : List Line) → EndsWithState ls → values_of StateCount ls ≡ [] → values_of Position ls ≡ [] → 0 < length (states_in ls)
 has_state_or_count [] ends no_count no_position = absurd ends
 has_state_or_count (l ∷ []) ends no_count no_position = by_key l.key l.value ends no_count no_position
   where
@@ -242,6 +238,7 @@ has_state_or_count (l ∷ k ∷ ls) ends no_count no_position =
         values_none : (ys zs : List (List ℕ)) → ys ++ zs ≡ [] → zs ≡ []
         values_none [] zs e = e
         values_none (y ∷ ys) zs e = cc
+
     longer_states : (c : Key) (value : List ℕ) (ss : List StateLine) → length ss ≤ length (onto_states c value ss)
     longer_states (State c) value ss = omega arith
     longer_states StateCount value ss = omega arith
@@ -267,10 +264,12 @@ undone_at game ls h before later s split ends =
   where
     no_count : (o : Option (Option ℕ)) (n : ℕ) → has_all None o n ≡ false
     no_count o n = refl
+
     no_position : (o : Option (Option ℕ)) (n : ℕ) → has_all o None n ≡ false
     no_position None n = refl
     no_position (Some None) n = refl
     no_position (Some (Some m)) n = refl
+
     by_case : (values_of StateCount before ≡ []) ⊎ ((values_of StateCount before ≡ decimal (length h.moves + 1) ∷ []) × (values_of StateCount later ≡ [])) → (values_of Position before ≡ []) ⊎ ((values_of Position before ≡ decimal h.position ∷ []) × (values_of Position later ≡ [])) → Ranges h → is_complete (met game before) ≡ false
     by_case (inl none) place r = rw none refl
     by_case (inr some) (inl none) r = rw none (no_position (option_map count_at (first_of (values_of StateCount before))) (length (states_in before)))
@@ -292,10 +291,11 @@ right_along game ls h before [] s split counts ends fine =
     let place : values_of Position before ≡ decimal h.position ∷ [] = ap (values_of Position) (sym whole) ∙ s.position in
     let states = ap (λ xs. length (states_in xs)) whole in
     rw (count, place, r.count_good, r.position_good) (le-leb (length h.moves + 1) (length (states_in before) + 1) (omega arith))
-right_along game ls h before (l ∷ later) s split counts ends fine =
-    (undone_at game ls h before (l ∷ later) s split ends,
-    faultless_at game ls h before later l.key l.value s split counts.0 fine,
-    right_along game ls h (before ++ l ∷ []) later s (split ∙ sym (append_assoc before (l ∷ []) later)) counts.1 (ends_later l later ends) (fine_later l.key l.value (states_in later) fine))
+right_along game ls h before (l ∷ later) s split counts ends fine = (
+  undone_at game ls h before (l ∷ later) s split ends,
+  faultless_at game ls h before later l.key l.value s split counts.0 fine,
+  right_along game ls h (before ++ l ∷ []) later s (split ∙ sym (append_assoc before (l ∷ []) later)) counts.1 (ends_later l later ends) (fine_later l.key l.value (states_in later) fine),
+)
   where
     fine_later : (c : Key) (value : List ℕ) (ss : List StateLine) → AreFaultless (onto_states c value ss) → AreFaultless ss
     fine_later (State c) value ss all = all.1

@@ -1,38 +1,36 @@
 -- What is read as a session is a save of it.
-use Rattle.std.proofs.Common.{◌≡◌, ℕ, suc, ◌+◌, ◌<◌, ◌≤◌, Bool, true, false, ◌==◌, ◌&&◌, nat_lt, List, [], ◌∷◌, ◌++◌, length, codes, bytes_eq, Option, Some, None, option_map, is_some, Result, Ok, Err, ok_or, cond, refl, sym, ap, ◌∙◌, subst, arith}
+use Rattle.std.proofs.Common.{◌≡◌, ℕ, ◌+◌, ◌<◌, Bool, true, false, ◌&&◌, nat_lt, List, [], ◌∷◌, ◌++◌, length, codes, bytes_eq, Option, Some, None, option_map, is_some, Result, Ok, Err, ok_or, cond, refl, sym, ap, ◌∙◌, subst, arith}
 use Rattle.std.specs.Result.{result_ok}
 use Rattle.std.specs.Fmt.{decimal}
-use Rattle.std.proofs.lemmas.List.{append-nil, append_assoc}
 use Rattle.std.proofs.lemmas.Slice.Eq.{bytes_eq-Decides}
 use borrow.Author.Tests.{ltb-false}
 use Rattle.byte_text.specs.Reading.{◌>>=◌}
 use Rattle.byte_text.proofs.ReadingLaws.{bind_taken}
 use Rattle.clue_rules.specs.declared.id_fault.IdFault.{IdFault}
 use Rattle.clue_rules.specs.declared.params.Params.{Params}
-use Rattle.clue_rules.specs.Parameters.{IsParamText}
-use Rattle.clue_rules.specs.Parameters.{has_adjacent}
-use Rattle.clue_rules.proofs.ParameterLemmas.{params_taken}
-use Rattle.play_midend.specs.declared.moves.Move.{Move}
-use Rattle.play_midend.specs.Histories.{History, IsValid, started, at_position, most_states}
-use Rattle.play_midend.specs.MoveLists.{with_moves, played_all}
+use Rattle.clue_rules.specs.ParamTexts.{IsParamText}
+use Rattle.clue_rules.specs.ParamReading.{has_adjacent}
+use Rattle.clue_rules.specs.ParamLaws.{params_taken}
+use Rattle.play_midend.specs.Histories.{History, started, at_position}
+use Rattle.play_midend.specs.MoveLists.{with_moves}
 use Rattle.play_midend.proofs.MoveListLaws.{accepted_list_legal}
 use Rattle.play_save.specs.declared.fault.LoadFault.{LoadFault}
-use Rattle.play_save.specs.declared.fault.LoadFault.TheVariants.{NotASave, Version, WrongGame, Repeated, Unsupported, BadParams, BadDesc, Missing, TooLarge}
+use Rattle.play_save.specs.declared.fault.LoadFault.TheVariants.{NotASave, Version, WrongGame, Repeated, Unsupported, BadDesc, Missing, TooLarge}
 use Rattle.play_save.specs.declared.key.Key.{Key}
 use Rattle.play_save.specs.declared.key.Key.TheVariants.{SaveFile, FormatVersion, GameName, NextParams, CurrentParams, Seed, Desc, PrivateDesc, AuxInfo, Ui, Time, StateCount, Position, State, Other}
 use Rattle.play_save.specs.Records.{Entry, BeginsWith, record_at}
-use Rattle.play_save.specs.Lines.{Line, StateLine, BeginsWithAll, values_of, states_in, StandsOnce, once_if_kept, is_state, CountsStandFirst, may_be_last, EndsWithState}
+use Rattle.play_save.specs.Lines.{Line, values_of, states_in, StandsOnce, once_if_kept, is_state, CountsStandFirst, may_be_last, EndsWithState}
 use Rattle.play_save.specs.SaveTexts.{SavedGame, collection, most_bytes, AreSaved, SaveText}
-use Rattle.play_save.specs.FirstFaults.{Met, saved_params_at, count_at, first_of, met, fault_unless, once, params_fault, count_fault, position_fault, behind_counts, state_fault, fault_by, is_complete, records_of, unless, needed, states_played, needed_params, needed_count, extras_in, session_with, session_at, session_of, head_or_fault, behind_head, met_in, load_at}
+use Rattle.play_save.specs.FirstFaults.{Met, saved_params_at, count_at, first_of, met, fault_unless, state_fault, fault_by, is_complete, records_of, unless, needed, states_played, needed_params, needed_count, extras_in, session_with, session_at, session_of, head_or_fault, behind_head, met_in, load_at}
 use Rattle.play_save.specs.Taking.{added}
 use Rattle.play_save.proofs.OptionSteps.{map_taken, ok_or_taken}
 use Rattle.play_save.proofs.RecordLaws.{record_taken}
 use Rattle.play_save.proofs.LineLists.{values_of-append, first_some, is_some_taken}
-use Rattle.play_save.proofs.Meeting.{is_once, once_taken, met_added, one}
+use Rattle.play_save.proofs.Meeting.{is_once, once_taken, met_added}
 use Rattle.play_save.proofs.RightLists.{AreRight, needed_taken, records_taken, none_again, StandsAlone, stands_at}
-use Rattle.play_save.proofs.Counting.{count_taken, fault_unless_taken, counts_met, Counted, counted, right_whole, sound_start}
+use Rattle.play_save.proofs.Counting.{count_taken, fault_unless_taken, counts_met, counted, right_whole, sound_start}
 use Rattle.play_save.proofs.GameTexts.{IsGame}
-use Rattle.play_save.proofs.StatesPlayed.{ok_taken, IsDescribed, ArePlayed, states_taken, have_length}
+use Rattle.play_save.proofs.StatesPlayed.{ok_taken, IsDescribed, states_taken, have_length}
 
 -- a key that stands, stands alone
 alone_at : {P : Type 0} (game : SavedGame P) (ls : List Line) (k : Key) (value : List ℕ) → is_once k ≡ true → is_state k ≡ false → AreRight game [] ls → first_of (values_of k ls) ≡ Some value → StandsAlone game k value ls []
@@ -132,12 +130,14 @@ longer_values k before l some = rw (values_of-append k before (l ∷ [])) (longe
 
 right_counts_first : {P : Type 0} (game : SavedGame P) (before ls : List Line) → AreRight game before ls → CountsStandFirst ls
 right_counts_first game before [] right = tt
-right_counts_first game before (l ∷ ls) right =
-    (λ state.
-        let both = state_behind_counts game before l.key l.value state right.1 in
-        (none_again game (before ++ l ∷ []) ls StateCount refl refl (longer_values StateCount before l both.0) right.2,
-        none_again game (before ++ l ∷ []) ls Position refl refl (longer_values Position before l both.1) right.2),
-    right_counts_first game (before ++ l ∷ []) ls right.2)
+right_counts_first game before (l ∷ ls) right = (
+  λ state.
+      let both = state_behind_counts game before l.key l.value state right.1 in (
+        none_again game (before ++ l ∷ []) ls StateCount refl refl (longer_values StateCount before l both.0) right.2,
+        none_again game (before ++ l ∷ []) ls Position refl refl (longer_values Position before l both.1) right.2,
+      ),
+  right_counts_first game (before ++ l ∷ []) ls right.2,
+)
 
 -- the last record is one that completes
 completes : {P : Type 0} (game : SavedGame P) (m : Met) (k : Key) (value : List ℕ) → is_complete m ≡ false → is_complete (added game m k value) ≡ true → may_be_last k ≡ true

@@ -1,25 +1,22 @@
 -- State records and their moves: what is played of the records is played of the moves.
-use Rattle.std.proofs.Common.{◌≡◌, ◌≢◌, ℕ, suc, add-zero, ◌+◌, ◌≤◌, Bool, true, false, List, [], ◌∷◌, length, Option, Some, None, option_and_then, Result, Ok, Err, ok_or, cond, refl, sym, ap, ◌∙◌, subst, arith}
+use Rattle.std.proofs.Common.{◌≡◌, ◌≢◌, ℕ, suc, add-zero, ◌+◌, ◌≤◌, true, false, List, [], ◌∷◌, length, Option, Some, None, Result, Ok, Err, cond, refl, sym, ap, ◌∙◌, subst, arith}
 use Rattle.std.specs.Result.{result_ok}
-use Rattle.byte_text.specs.Reading.{◌>>=◌}
 use Rattle.byte_text.proofs.ReadingLaws.{bind_taken, bind_again}
 use Rattle.clue_rules.specs.declared.id_fault.IdFault.{IdFault}
 use Rattle.trail_solver.specs.Puzzles.{Puzzle}
 use Rattle.play_midend.specs.declared.moves.Move.{Move}
-use Rattle.play_midend.specs.declared.moves.Move.TheVariants.{Real, Pencil, MarkAll, Solve, Restart, Done}
 use Rattle.play_midend.specs.declared.fault.PlayFault.{PlayFault}
 use Rattle.play_midend.specs.MoveTexts.{IsMoveText, move_at}
 use Rattle.play_midend.specs.Histories.{History, refusal_in, with_move, played}
 use Rattle.play_midend.specs.MoveLists.{result_and_then, played_all}
 use Rattle.play_midend.proofs.MoveTextLaws.{read_found, read_only}
 use Rattle.play_midend.proofs.Playing.{accepted}
-use Rattle.play_save.specs.declared.fault.LoadFault.{LoadFault}
 use Rattle.play_save.specs.declared.fault.LoadFault.TheVariants.{BadState}
 use Rattle.play_save.specs.declared.key.StateKey.{StateKey}
 use Rattle.play_save.specs.declared.key.StateKey.TheVariants.{AnyMove, SolveMove, RestartMove}
 use Rattle.play_save.specs.Lines.{StateLine}
 use Rattle.play_save.specs.SaveTexts.{SavedGame, is_solve, IsStateOf, HaveStates}
-use Rattle.play_save.specs.FirstFaults.{solution_alone, restart_of, state_move, state_played, states_played, text_fault, state_fault}
+use Rattle.play_save.specs.FirstFaults.{solution_alone, restart_of, state_move, state_played, states_played, state_fault}
 use Rattle.play_save.proofs.OptionSteps.{and_then_taken, ok_or_taken}
 use Rattle.play_save.proofs.GameTexts.{IsGame, same_puzzle, restart_taken, restart_again, other_puzzle}
 
@@ -27,7 +24,7 @@ use Rattle.play_save.proofs.GameTexts.{IsGame, same_puzzle, restart_taken, resta
 text_taken : (value : List ℕ) (m : Move) → move_at value ≡ Ok m → IsMoveText m value
 text_taken value m is = let read : Result Move PlayFault = Ok m in read_found value read (sym is)
 
-text_again : (value : List ℕ) (m : Move) → IsMoveText m value → move_at value ≡ Ok m
+pub text_again : (value : List ℕ) (m : Move) → IsMoveText m value → move_at value ≡ Ok m
 text_again value m is = read_only value (move_at value) refl m is
 
 pub ok_taken : {A E : Type 0} (r : Result A E) (a : A) → result_ok r ≡ Some a → r ≡ Ok a

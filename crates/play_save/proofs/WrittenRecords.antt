@@ -1,18 +1,16 @@
 -- A record that is written is read, and so is a list of them up to its end.
-use Rattle.std.proofs.Common.{◌≡◌, ◌≢◌, ℕ, suc, ◌+◌, ◌-◌, ◌<◌, ◌≤◌, ◌^◌, lit<, Bool, true, false, ◌==◌, ◌&&◌, not, nat_le, List, [], ◌∷◌, ◌++◌, length, replicate, codes, Option, Some, None, Result, Ok, Err, cond, refl, sym, ap, ◌∙◌, subst, arith, length-append, append_assoc}
+use Rattle.std.proofs.Common.{◌≡◌, ℕ, ◌<◌, ◌≤◌, ◌^◌, lit<, Bool, true, false, ◌==◌, ◌&&◌, not, List, [], ◌∷◌, ◌++◌, length, Option, Some, None, Result, Ok, cond, refl, sym, ap, ◌∙◌, subst, arith, length-append, append_assoc}
 use Rattle.std.specs.Fmt.{decimal}
 use Rattle.std.proofs.lemmas.Fmt.{decimal_nonempty, length-decimal-le}
-use Rattle.std.proofs.lemmas.Bool.Decides.{nat_tests}
 use borrow.Author.Tests.{eqb-false, le-leb}
 use Rattle.byte_text.specs.Cuts.{Lacks}
 use Rattle.byte_text.specs.Decimals.{has_leading_zero, number_from, decimal_value}
 use Rattle.byte_text.proofs.DecimalLaws.{number_again}
 use Rattle.play_save.specs.declared.fault.LoadFault.{LoadFault}
-use Rattle.play_save.specs.declared.key.StateKey.{StateKey}
 use Rattle.play_save.specs.declared.key.StateKey.TheVariants.{AnyMove, SolveMove, RestartMove}
 use Rattle.play_save.specs.declared.key.Key.{Key}
 use Rattle.play_save.specs.declared.key.Key.TheVariants.{SaveFile, FormatVersion, GameName, NextParams, CurrentParams, Seed, Desc, PrivateDesc, AuxInfo, Ui, Time, StateCount, Position, State, Other}
-use Rattle.play_save.specs.Records.{Entry, AreBreaks, begins_with_break, unpadded, length_at, BeginsWith, record_at}
+use Rattle.play_save.specs.Records.{Entry, AreBreaks, begins_with_break, unpadded, length_at, BeginsWith}
 use Rattle.play_save.specs.Keys.{key_name, padded, key_of}
 use Rattle.play_save.specs.Lines.{Line, line_of, BeginsWithAll}
 use Rattle.play_save.specs.SaveTexts.{most_bytes}
@@ -209,9 +207,13 @@ all_written [] breaks are known small = subst (λ t. AreBreaks t) (sym (append_n
     append_nil (x ∷ xs) = ap (λ ys. x ∷ ys) (append_nil xs)
 all_written (l ∷ ls) breaks are known small =
     let split = length-append (record_text l) (records_text ls) in
-    let few : length l.value ≤ 99999999 = omega (arith, value_within l, split) in
-    (entry_written l, 10 ∷ records_text ls, own_line l known.0, written_begins l breaks (records_text ls) are known.0 few,
-    all_written ls (10 ∷ []) (refl, tt) known.1 (omega (arith, split)))
+    let few : length l.value ≤ 99999999 = omega (arith, value_within l, split) in (
+      entry_written l,
+      10 ∷ records_text ls,
+      own_line l known.0,
+      written_begins l breaks (records_text ls) are known.0 few,
+      all_written ls (10 ∷ []) (refl, tt) known.1 (omega (arith, split)),
+    )
 
 -- the records with which a text begins are the first of all of them
 pub record IsPrefix (ls ms : List Line) : Type 0 where

@@ -1,5 +1,5 @@
 -- Reading a save text: the session, or the first fault.
-use Rattle.std.specs.Prelude.{ℕ, zero, suc, ◌+◌, ◌≤◌, Bool, true, false, ◌&&◌, nat_lt, nat_le, bytes_eq, is_some, if◌then◌else◌, List, [], ◌∷◌, ◌++◌, length, codes, Option, Some, None, option_map, option_and_then, Result, Ok, Err, ok_or}
+use Rattle.std.specs.Prelude.{ℕ, zero, suc, ◌+◌, Bool, true, false, ◌&&◌, nat_lt, nat_le, bytes_eq, is_some, if◌then◌else◌, List, [], ◌∷◌, ◌++◌, length, codes, Option, Some, None, option_map, option_and_then, Result, Ok, Err, ok_or}
 use Rattle.std.specs.Result.{result_ok}
 use Rattle.byte_text.specs.Decimals.{decimal_value}
 use Rattle.byte_text.specs.Reading.{◌>>=◌}

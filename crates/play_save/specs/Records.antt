@@ -1,8 +1,8 @@
 -- A record of a save file: the grammar, and reading the first record of a text.
-use Rattle.std.specs.Prelude.{◌≡◌, ◌≢◌, ℕ, ◌≤◌, Bool, true, false, ◌==◌, ◌&&◌, ◌||◌, nat_le, nat_lt, if◌then◌else◌, List, [], ◌∷◌, ◌++◌, length, take, drop, replicate, Option, Some, None, option_and_then, option_map, Result, Ok, ok_or}
+use Rattle.std.specs.Prelude.{◌≡◌, ℕ, Bool, true, false, ◌==◌, ◌&&◌, ◌||◌, nat_le, if◌then◌else◌, List, [], ◌∷◌, ◌++◌, length, take, drop, Option, Some, None, option_and_then, option_map, Result, Ok, ok_or}
 use Rattle.std.specs.List.{AllByRecursion}
 use Rattle.byte_text.specs.Cuts.{Lacks, before, behind}
-use Rattle.byte_text.specs.Decimals.{is_digit, number_from}
+use Rattle.byte_text.specs.Decimals.{number_from}
 use Rattle.play_save.specs.declared.fault.LoadFault.{LoadFault}
 use Rattle.play_save.specs.declared.fault.LoadFault.TheVariants.{Malformed}
 
@@ -73,7 +73,7 @@ record_of key parts = (record { key = unpadded key; value = parts.0 }, parts.1)
 unfoldable pub record_behind : List ℕ → Option (Entry × List ℕ)
 record_behind bytes =
     option_and_then (λ field. if length field.0 == 8 then option_map (record_of field.0) (value_behind field.1) else None)
-        (field_at bytes)
+    (field_at bytes)
 
 abbrev pub record_or_end : List ℕ → Result (Option (Entry × List ℕ)) LoadFault
 record_or_end [] = Ok None

@@ -11,9 +11,8 @@ use Rattle.play_midend.specs.MoveTexts.{IsMoveText}
 use Rattle.play_midend.specs.Histories.{History, IsValid}
 use Rattle.play_save.specs.declared.key.StateKey.{StateKey}
 use Rattle.play_save.specs.declared.key.StateKey.TheVariants.{AnyMove, SolveMove, RestartMove}
-use Rattle.play_save.specs.declared.key.Key.{Key}
 use Rattle.play_save.specs.declared.key.Key.TheVariants.{SaveFile, FormatVersion, GameName, NextParams, CurrentParams, Seed, Desc, PrivateDesc, AuxInfo, Ui, Time, StateCount, Position}
-use Rattle.play_save.specs.Records.{Entry, BeginsWith}
+use Rattle.play_save.specs.Records.{BeginsWith}
 use Rattle.play_save.specs.Lines.{Line, StateLine, BeginsWithAll, values_of, states_in, StandsOnce, once_if_kept, CountsStandFirst, EndsWithState}
 
 -- What saves ask of a game: its name and letters, what its puzzles are, which text describes which puzzle of which width, the

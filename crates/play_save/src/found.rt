@@ -232,7 +232,9 @@ impl<'a> Found<'a> {
     {
         once(self.count.is_some())?;
         let count = count(value)?;
-        if let Some(position) = self.position && position > count {
+        if let Some(position) = self.position
+            && position > count
+        {
             return Err(LoadFault::BadCount);
         }
         self.count = Some(count);
@@ -245,7 +247,9 @@ impl<'a> Found<'a> {
     {
         once(self.position.is_some())?;
         let position = count(value)?;
-        if let Some(count) = self.count && position > count {
+        if let Some(count) = self.count
+            && position > count
+        {
             return Err(LoadFault::BadCount);
         }
         self.position = Some(position);

@@ -10,10 +10,12 @@ mod key;
 mod loading;
 mod record;
 mod save_laws;
+mod save_round;
 mod saving;
 
 pub use fault::LoadFault;
 pub use loading::load;
 pub use record::{Record, next_record};
 pub use save_laws::laws;
+pub use save_round::saved_and_loaded;
 pub use saving::save;

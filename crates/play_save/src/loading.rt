@@ -101,7 +101,11 @@ fn move_of<P: Game>(puzzle: &P, state: &StateRecord) -> Option<Move>
 }
 
 // Plays one state record; `number` is its number, counted from 1.
-fn play_state<P: Game>(session: &mut Session<P>, number: u32, state: &StateRecord) -> Result<(), LoadFault>
+fn play_state<P: Game>(
+    session: &mut Session<P>,
+    number: u32,
+    state: &StateRecord,
+) -> Result<(), LoadFault>
     ensures ok { OnOk result (state_played (saved_game P.title P.letter_codes P.puzzle P.valid P.describes P.desc_at P.desc_of) session.old number
         (state_move (saved_game P.title P.letter_codes P.puzzle P.valid P.describes P.desc_at P.desc_of) session.old.puzzle state.now.key state.now.value.now) ≡ Ok session.new) }
     ensures err { IfErr result (λ fault. (fault ≡ LoadFault.OutOfMemory) ⊎ (state_played (saved_game P.title P.letter_codes P.puzzle P.valid P.describes P.desc_at P.desc_of) session.old number

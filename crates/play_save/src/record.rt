@@ -104,7 +104,13 @@ fn first_record(bytes: &[u8]) -> Option<(Record, &[u8])>
         return None;
     }
     let (value, rest) = value(rest)?;
-    Some((Record { key: name(key), value }, rest))
+    Some((
+        Record {
+            key: name(key),
+            value,
+        },
+        rest,
+    ))
 }
 
 #[tactic(auto, unfolding(crate::specs::Records::record_at))]

@@ -54,12 +54,24 @@ fn put_head<P: Game>(text: &mut Vec<u8>, session: &Session<P>) -> Result<(), All
     put(text, Key::SaveFile, COLLECTION)?;
     put(text, Key::FormatVersion, b"1")?;
     put(text, Key::GameName, P::name().as_bytes())?;
-    put(text, Key::NextParams, session.next_params().write().as_slice())?;
-    put(text, Key::CurrentParams, session.params().write().as_slice())?;
+    put(
+        text,
+        Key::NextParams,
+        session.next_params().write().as_slice(),
+    )?;
+    put(
+        text,
+        Key::CurrentParams,
+        session.params().write().as_slice(),
+    )?;
     Ok(())
 }
 
-fn put_body<P: Game>(text: &mut Vec<u8>, session: &Session<P>, desc: &[u8]) -> Result<(), AllocError>
+fn put_body<P: Game>(
+    text: &mut Vec<u8>,
+    session: &Session<P>,
+    desc: &[u8],
+) -> Result<(), AllocError>
     ensures { OnOk result (text.new.items ≡ text.old.items ++ records_text (body_lines desc.now session.now)) }
 {
     let extras = session.extras();
@@ -92,7 +104,11 @@ fn put_state(text: &mut Vec<u8>, made: &Move, desc: &[u8]) -> Result<(), LoadFau
         put(text, Key::State(StateKey::RestartMove), desc)?;
         return Ok(());
     }
-    let key = if is_solve(made) { StateKey::SolveMove } else { StateKey::AnyMove };
+    let key = if is_solve(made) {
+        StateKey::SolveMove
+    } else {
+        StateKey::AnyMove
+    };
     let alloc = *text.allocator();
     let Ok(value) = write_move(alloc, made) else {
         return Err(LoadFault::OutOfMemory);
@@ -101,7 +117,11 @@ fn put_state(text: &mut Vec<u8>, made: &Move, desc: &[u8]) -> Result<(), LoadFau
     Ok(())
 }
 
-fn put_states<P: Game>(text: &mut Vec<u8>, session: &Session<P>, desc: &[u8]) -> Result<(), LoadFault>
+fn put_states<P: Game>(
+    text: &mut Vec<u8>,
+    session: &Session<P>,
+    desc: &[u8],
+) -> Result<(), LoadFault>
     ensures ok { OnOk result (text.new.items ≡ text.old.items ++ records_text (state_lines desc.now session.now)) }
     ensures err { IfErr result (λ fault. fault ≡ LoadFault.OutOfMemory) }
 {

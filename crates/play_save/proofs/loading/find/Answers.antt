@@ -1,16 +1,12 @@
 -- Each way out of the loop gives what is needed of the text, and each record that is taken leaves the same to read.
-use Rattle.std.proofs.Common.{◌≡◌, ℕ, ◌<◌, false, true, List, length, Option, Some, None, option_map, Result, Ok, Err, sym, ap, ◌∙◌, rules, subst}
+use Rattle.std.proofs.Common.{◌≡◌, false, true, Some, None, option_map, Ok, ap, ◌∙◌, rules}
 use Rattle.std.proofs.lemmas.Result.{err_from_is_err_and}
-use Rattle.byte_text.specs.Reading.{GivesUnless}
-use Rattle.play_save.specs.declared.fault.LoadFault.{LoadFault}
-use Rattle.play_save.specs.declared.fault.LoadFault.TheVariants.{Missing, OutOfMemory}
-use Rattle.play_save.specs.declared.key.Key.{Key}
+use Rattle.play_save.specs.declared.fault.LoadFault.TheVariants.{Missing}
 use Rattle.play_save.specs.Records.{record_at}
 use Rattle.play_save.specs.Views.{entry_of, parts_of}
-use Rattle.play_save.specs.Keys.{key_of}
 use Rattle.play_save.specs.SaveTexts.{saved_game}
-use Rattle.play_save.specs.FirstFaults.{is_complete, fault_by, records_of, met_in}
-use Rattle.play_save.specs.Taking.{met_of, added}
+use Rattle.play_save.specs.FirstFaults.{is_complete, records_of}
+use Rattle.play_save.specs.Taking.{met_of}
 use Rattle.play_save.proofs.OptionSteps.{error_of_none}
 use Rattle.play_save.proofs.RecordLaws.{record_shorter}
 use Rattle.play_save.proofs.Counting.{playable}

@@ -1,5 +1,4 @@
 -- Both laws of save texts, at what was read.
-use Rattle.std.proofs.Common.{sym, ◌∙◌}
 use Rattle.play_save.specs.SaveTexts.{saved_game}
 use Rattle.play_save.proofs.GameTexts.{game_owes}
 use Rattle.play_save.proofs.LoadAnswers.{load_found, load_only}

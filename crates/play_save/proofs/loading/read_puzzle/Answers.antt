@@ -1,5 +1,5 @@
 -- A puzzle that is read has the size.
-use Rattle.std.proofs.Common.{◌≤◌, sym, ◌∙◌, arith, rules}
+use Rattle.std.proofs.Common.{◌≤◌, sym, ◌∙◌, arith}
 use Rattle.play_save.proofs.loading.read_puzzle.Goals as goal
 
 pub returns-in-Ok-clause-size : goal.returns-in-Ok-clause-size

@@ -1,7 +1,7 @@
 -- The last state is behind the position.
-use Rattle.std.proofs.Common.{◌≡◌, ℕ, ◌+◌, length, map, Some, option_map, Ok, sym, ap, ◌∙◌, arith, rules}
+use Rattle.std.proofs.Common.{◌≡◌, length, map, Some, option_map, ap, arith}
 use Rattle.play_save.specs.SaveTexts.{saved_game}
-use Rattle.play_save.specs.Taking.{met_of, state_of}
+use Rattle.play_save.specs.Taking.{state_of}
 use Rattle.play_save.proofs.StatesPlayed.{position_played}
 use Rattle.play_save.proofs.loading.session.Goals as goal
 

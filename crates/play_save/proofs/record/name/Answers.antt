@@ -1,9 +1,7 @@
 -- One byte more: a name ends behind the last byte that is no blank.
-use Rattle.std.proofs.Common.{◌≡◌, ◌+◌, ◌≤◌, ◌∷◌, [], ◌++◌, ◌==◌, cond, get_or, take, sym, ap, ◌∙◌, arith}
+use Rattle.std.proofs.Common.{◌≡◌, ◌+◌, ◌∷◌, [], ◌++◌, get_or, take, arith}
 use Rattle.std.proofs.lemmas.List.{take_more}
-use Rattle.std.proofs.lemmas.Grind.{common_steps}
 use Rattle.std.proofs.lemmas.Bool.Decides.{nat_tests}
-use Rattle.play_save.specs.Records.{unpadded}
 use Rattle.play_save.proofs.RecordLaws.{unpadded-snoc}
 use Rattle.play_save.proofs.record.name.Goals as goal
 use Rattle.play_save.proofs.record.name.Goals.{then-byte-ne32, else-byte-ne32}

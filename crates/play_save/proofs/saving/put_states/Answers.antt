@@ -1,5 +1,5 @@
 -- One state record more.
-use Rattle.std.proofs.Common.{◌≡◌, ◌+◌, ◌-◌, ◌++◌, ap, ◌∙◌, sym, arith, take, map}
+use Rattle.std.proofs.Common.{◌≡◌, ◌+◌, ◌-◌, ◌++◌, ap, ◌∙◌, arith, take, map}
 use Rattle.play_save.specs.Written.{record_text, records_text, state_line}
 use Rattle.play_save.proofs.WrittenLists.{state_more}
 use Rattle.play_save.proofs.saving.put_states.Goals as goal

@@ -1,6 +1,5 @@
 -- The three parts, one behind the other.
-use Rattle.std.proofs.Common.{◌≡◌, ◌++◌, [], ap, ◌∙◌, sym, rules}
-use Rattle.std.proofs.lemmas.List.{append_assoc}
+use Rattle.std.proofs.Common.{◌≡◌, ◌++◌, ap, ◌∙◌, sym}
 use Rattle.play_save.specs.Written.{records_text, head_lines, body_lines, state_lines, save_of}
 use Rattle.play_save.proofs.WrittenLists.{records_text-append, three_behind}
 use Rattle.play_save.proofs.saving.save.Goals as goal
