@@ -3,7 +3,7 @@ use Rattle.std.proofs.Common.{◌≡◌, ℕ, zero, suc, ◌+◌, ◌≤◌, lit
 use Rattle.std.specs.Fmt.{decimal}
 use Rattle.std.proofs.lemmas.List.{append-nil, append_assoc}
 use borrow.Author.Tests.{leb-true, leb-false}
-use Rattle.byte_text.specs.Decimals.{number_at}
+use Rattle.byte_text.specs.Decimals.{decimal_value}
 use Rattle.byte_text.proofs.DecimalLaws.{number_taken, number_again}
 use Rattle.byte_text.proofs.ReadingLaws.{bind_taken}
 use Rattle.play_midend.specs.Histories.{most_states}
@@ -31,7 +31,7 @@ positive_again (suc n) some = refl
 
 pub count_taken : (value : List ℕ) (n : ℕ) → count_at value ≡ Some n → (value ≡ decimal n) × (1 ≤ n) × (n ≤ most_states)
 count_taken value n is =
-    let read = and_then_taken positive (number_at most_states value) n is in
+    let read = and_then_taken positive (decimal_value most_states value) n is in
     let some = positive_taken read.0 n read.2 in
     let number = number_taken most_states read.0 value (lit< tt) read.1 in
     (number.0 ∙ ap decimal some.0, some.1, omega (arith, number.1, some.0))

@@ -8,9 +8,9 @@ use borrow.Author.Tests.{le-leb}
 use Rattle.std.proofs.lemmas.Bool.Decides.{nat_tests}
 use Rattle.byte_text.specs.Reading.{◌>>=◌}
 use Rattle.clue_rules.specs.declared.params.Params.{Params}
-use Rattle.clue_rules.specs.ParamTexts.{IsParamText}
-use Rattle.clue_rules.specs.ParamReading.{has_adjacent}
-use Rattle.clue_rules.specs.ParamLaws.{params_again}
+use Rattle.clue_rules.specs.Parameters.{IsParamText}
+use Rattle.clue_rules.specs.Parameters.{has_adjacent}
+use Rattle.clue_rules.proofs.ParameterLemmas.{params_again}
 use Rattle.play_midend.specs.declared.moves.Move.{Move}
 use Rattle.play_midend.specs.Histories.{History, started}
 use Rattle.play_midend.specs.MoveLists.{with_moves}

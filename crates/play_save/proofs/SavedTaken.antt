@@ -8,9 +8,9 @@ use Rattle.byte_text.specs.Reading.{◌>>=◌}
 use Rattle.byte_text.proofs.ReadingLaws.{bind_taken}
 use Rattle.clue_rules.specs.declared.id_fault.IdFault.{IdFault}
 use Rattle.clue_rules.specs.declared.params.Params.{Params}
-use Rattle.clue_rules.specs.ParamTexts.{IsParamText}
-use Rattle.clue_rules.specs.ParamReading.{has_adjacent}
-use Rattle.clue_rules.specs.ParamLaws.{params_taken}
+use Rattle.clue_rules.specs.Parameters.{IsParamText}
+use Rattle.clue_rules.specs.Parameters.{has_adjacent}
+use Rattle.clue_rules.proofs.ParameterLemmas.{params_taken}
 use Rattle.play_midend.specs.Histories.{History, started, at_position}
 use Rattle.play_midend.specs.MoveLists.{with_moves}
 use Rattle.play_midend.proofs.MoveListLaws.{accepted_list_legal}

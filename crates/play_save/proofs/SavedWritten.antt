@@ -10,7 +10,7 @@ use Rattle.latin_board.proofs.LatinLines.{latin_full}
 use Rattle.trail_solver.specs.Puzzles.{Puzzle}
 use Rattle.trail_solver.proofs.SolutionTests.{Decides-solves_test}
 use Rattle.clue_rules.specs.declared.params.Params.{Params}
-use Rattle.clue_rules.specs.ParamTexts.{IsParams, letter_part, params_text}
+use Rattle.clue_rules.specs.Parameters.{IsParams, letter_part, params_text}
 use Rattle.play_midend.specs.declared.extras.Extras.{Extras}
 use Rattle.play_midend.specs.declared.moves.Move.{Move}
 use Rattle.play_midend.specs.declared.moves.Move.TheVariants.{Real, Pencil, MarkAll, Solve, Restart, Done}

@@ -1,6 +1,6 @@
 -- Five records, one behind the other.
 use Rattle.std.proofs.Common.{◌++◌, ap, ◌∙◌}
-use Rattle.clue_rules.specs.ParamTexts.{params_text}
+use Rattle.clue_rules.specs.Parameters.{params_text}
 use Rattle.play_save.specs.declared.key.Key.TheVariants.{GameName, NextParams, CurrentParams}
 use Rattle.play_save.specs.Written.{with_value, record_text}
 use Rattle.play_save.proofs.WrittenLists.{five_behind}
