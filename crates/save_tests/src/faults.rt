@@ -9,8 +9,16 @@ use std::test::Fail;
 fn each_edit_has_its_fault(rt: HostRuntime) -> Result<(), Fail> {
     let alloc = rt.alloc();
     let rows: [(usize, &[&str], &str); 34] = [
-        (0, &["XAVEFILE:41:Simon Tatham's Portable Puzzle Collection"], "NotASave"),
-        (0, &["SAVEFILE:41:Simon Tatham's Portable Puzzle collection"], "NotASave"),
+        (
+            0,
+            &["XAVEFILE:41:Simon Tatham's Portable Puzzle Collection"],
+            "NotASave",
+        ),
+        (
+            0,
+            &["SAVEFILE:41:Simon Tatham's Portable Puzzle collection"],
+            "NotASave",
+        ),
         (0, &["SAVEFILE:41"], "NotASave"),
         (0, &["COMMENT :1:x", SAMPLE[0]], "NotASave"),
         (1, &["VERSION :1:2"], "Version"),
@@ -84,25 +92,70 @@ fn the_first_fault_decides(rt: HostRuntime) -> Result<(), Fail> {
     let rows: [(&[&str], &str); 5] = [
         // A later hint comes before an earlier state that can't be played.
         (
-            &[SAMPLE[0], SAMPLE[1], SAMPLE[2], SAMPLE[3], SAMPLE[4], SAMPLE[5], SAMPLE[6], SAMPLE[7], "MOVE    :6:R9,0,1", "MOVE    :1:H"],
+            &[
+                SAMPLE[0],
+                SAMPLE[1],
+                SAMPLE[2],
+                SAMPLE[3],
+                SAMPLE[4],
+                SAMPLE[5],
+                SAMPLE[6],
+                SAMPLE[7],
+                "MOVE    :6:R9,0,1",
+                "MOVE    :1:H",
+            ],
             "Unsupported",
         ),
         // So does a cut end.
         (
-            &[SAMPLE[0], SAMPLE[1], SAMPLE[2], SAMPLE[3], SAMPLE[4], SAMPLE[5], SAMPLE[6], SAMPLE[7], "MOVE    :6:R9,0,1"],
+            &[
+                SAMPLE[0],
+                SAMPLE[1],
+                SAMPLE[2],
+                SAMPLE[3],
+                SAMPLE[4],
+                SAMPLE[5],
+                SAMPLE[6],
+                SAMPLE[7],
+                "MOVE    :6:R9,0,1",
+            ],
             "Missing",
         ),
         // What is missing comes before a description that can't be read, and that before a state.
         (
-            &[SAMPLE[0], SAMPLE[2], SAMPLE[3], SAMPLE[4], "DESC    :1:3", SAMPLE[6], SAMPLE[7], SAMPLE[8], SAMPLE[9]],
+            &[
+                SAMPLE[0],
+                SAMPLE[2],
+                SAMPLE[3],
+                SAMPLE[4],
+                "DESC    :1:3",
+                SAMPLE[6],
+                SAMPLE[7],
+                SAMPLE[8],
+                SAMPLE[9],
+            ],
             "Missing",
         ),
         (
-            &[SAMPLE[0], SAMPLE[1], SAMPLE[2], SAMPLE[3], SAMPLE[4], "DESC    :1:3", SAMPLE[6], SAMPLE[7], "MOVE    :6:R9,0,1", SAMPLE[9]],
+            &[
+                SAMPLE[0],
+                SAMPLE[1],
+                SAMPLE[2],
+                SAMPLE[3],
+                SAMPLE[4],
+                "DESC    :1:3",
+                SAMPLE[6],
+                SAMPLE[7],
+                "MOVE    :6:R9,0,1",
+                SAMPLE[9],
+            ],
             "BadDesc",
         ),
         // The parameters stand before the game.
-        (&[SAMPLE[0], SAMPLE[1], "PARAMS  :3:3dt", "GAME    :7:Unequal"], "BadParams"),
+        (
+            &[SAMPLE[0], SAMPLE[1], "PARAMS  :3:3dt", "GAME    :7:Unequal"],
+            "BadParams",
+        ),
     ];
     for (lines, wanted) in rows {
         let text = text_of(alloc, lines, "\n")?;
@@ -110,7 +163,10 @@ fn the_first_fault_decides(rt: HostRuntime) -> Result<(), Fail> {
         assert_eq!(rt; given.as_str(), wanted, "{text}");
     }
     let sample = text_of(alloc, &SAMPLE, "\n")?;
-    assert_eq!(rt; answer::<Unequal>(alloc, sample.as_bytes())?.as_str(), "WrongGame");
+    assert_eq!(rt;
+        answer::<Unequal>(alloc, sample.as_bytes())?.as_str(),
+        "WrongGame"
+    );
     Ok(())
 }
 
