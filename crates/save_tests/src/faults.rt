@@ -8,7 +8,7 @@ use std::test::Fail;
 #[test]
 fn each_edit_has_its_fault(rt: HostRuntime) -> Result<(), Fail> {
     let alloc = rt.alloc();
-    let rows: [(usize, &[&str], &str); 34] = [
+    let rows: [(usize, &[&str], &str); 30] = [
         (
             0,
             &["XAVEFILE:41:Simon Tatham's Portable Puzzle Collection"],
@@ -20,7 +20,14 @@ fn each_edit_has_its_fault(rt: HostRuntime) -> Result<(), Fail> {
             "NotASave",
         ),
         (0, &["SAVEFILE:41"], "NotASave"),
-        (0, &["COMMENT :1:x", SAMPLE[0]], "NotASave"),
+        (
+            0,
+            &[
+                "COMMENT :1:x",
+                "SAVEFILE:41:Simon Tatham's Portable Puzzle Collection",
+            ],
+            "NotASave",
+        ),
         (1, &["VERSION :1:2"], "Version"),
         (2, &["GAME    :6:towers"], "WrongGame"),
         (2, &["GAME    :6:Towers", "GAME    :6:Towers"], "Repeated"),
@@ -29,12 +36,14 @@ fn each_edit_has_its_fault(rt: HostRuntime) -> Result<(), Fail> {
         (7, &["MOVE    :6:R0,0,1", "STATEPOS:1:2"], "EarlyState"),
         (6, &["MOVE    :6:H0,0,1", "NSTATES :1:3"], "EarlyState"),
         (6, &["RESTART :1:x", "NSTATES :1:3"], "EarlyState"),
-        (6, &[], "EarlyState"),
-        (7, &[], "EarlyState"),
         (8, &["MOVE    :6:F0,0,2"], "Unsupported"),
         (8, &["MOVE    :6:H0,0,2"], "Unsupported"),
         (9, &["SOLVE   :1:H"], "Unsupported"),
-        (5, &[SAMPLE[5], "PRIVDESC:1:x"], "Unsupported"),
+        (
+            5,
+            &["DESC    :13:3//////3/////", "PRIVDESC:1:x"],
+            "Unsupported",
+        ),
         (3, &["PARAMS  :3:3dt"], "BadParams"),
         (4, &["CPARAMS :2:10"], "BadParams"),
         (5, &["DESC    :1:3"], "BadDesc"),
@@ -44,8 +53,6 @@ fn each_edit_has_its_fault(rt: HostRuntime) -> Result<(), Fail> {
         (6, &["NSTATES :2:03"], "BadCount"),
         (7, &["STATEPOS:1:0"], "BadCount"),
         (7, &["STATEPOS:1:4"], "BadCount"),
-        (5, &[], "Missing"),
-        (1, &[], "Missing"),
         (6, &["NSTATES :1:4"], "Missing"),
         (6, &["NSTATES :6:100000"], "Missing"),
         (8, &["MOVE    :7:R01,0,1"], "BadState 1"),
@@ -54,6 +61,29 @@ fn each_edit_has_its_fault(rt: HostRuntime) -> Result<(), Fail> {
     ];
     for (place, lines, wanted) in rows {
         let text = sample_with(alloc, place, lines)?;
+        let given = answer::<Towers>(alloc, text.as_bytes())?;
+        assert_eq!(rt; given.as_str(), wanted, "{text}");
+    }
+    Ok(())
+}
+
+#[test]
+fn a_line_that_is_left_out(rt: HostRuntime) -> Result<(), Fail> {
+    let alloc = rt.alloc();
+    let rows = [
+        (0, "NotASave"),
+        (1, "Missing"),
+        (2, "Missing"),
+        (3, "Missing"),
+        (4, "Missing"),
+        (5, "Missing"),
+        (6, "EarlyState"),
+        (7, "EarlyState"),
+        (8, "Missing"),
+        (9, "Missing"),
+    ];
+    for (place, wanted) in rows {
+        let text = sample_with(alloc, place, [].as_slice())?;
         let given = answer::<Towers>(alloc, text.as_bytes())?;
         assert_eq!(rt; given.as_str(), wanted, "{text}");
     }

@@ -1,16 +1,20 @@
 //! Sessions that are saved and loaded, prefixes of a save, and bytes that are kept.
 
 use crate::sample::{SAMPLE, answer, text_of};
-use clue_rules::{GameId, Towers, read_id};
+use clue_rules::{Game, Params, Towers};
+use latin_board::Size;
 use play_midend::{Extras, Session, read_move};
 use play_save::{load, save};
 use std::alloc::Global;
 use std::test::Fail;
+use trail_solver::Rules;
 
 // A new game of Towers.
 fn new_game(alloc: Global) -> Result<Session<Towers>, Fail> {
-    let Ok(GameId::Described(params, puzzle)) = read_id::<Towers>(b"3:3//////3/////") else {
-        return Err(Fail::from("no puzzle"));
+    let puzzle = Towers::read_desc(Size::new(3).ok_or("no size")?, b"3//////3/////")?;
+    let params = Params {
+        size: puzzle.size(),
+        letter: None,
     };
     let extras = Extras {
         seed: None,
