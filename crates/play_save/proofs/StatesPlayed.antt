@@ -116,6 +116,7 @@ states_again {P} game h last i (m ∷ ms) (s ∷ ss) owes have is =
     and_then_ok : (r : Result (History P) PlayFault) → result_and_then (λ next. played_all (game.puzzle h.puzzle) next ms) r ≡ Ok last → (next : History P) × (r ≡ Ok next) × (played_all (game.puzzle h.puzzle) next ms ≡ Ok last)
     and_then_ok (Ok next) made = (next, refl, made)
     and_then_ok (Err e) made = cc
+
     more : (next : History P) → played (game.puzzle h.puzzle) h m ≡ Ok next → played_all (game.puzzle h.puzzle) next ms ≡ Ok last → ((after : History P) → HaveStates game after.puzzle ms ss → played_all (game.puzzle after.puzzle) after ms ≡ Ok last → states_played game after (i + 1) ss ≡ Ok last) → states_played game h i (s ∷ ss) ≡ Ok last
     more next made all along =
         let keeps = played_keeps (game.puzzle h.puzzle) h next m made in
