@@ -1,8 +1,5 @@
 //! The calls that take memory, and some that are refused by their own names before they take any.
 
-ghost use Rattle.std.specs.Prelude.{◌≢◌, IfOk};
-ghost use Rattle.play_midend.specs.declared.moves.Move.{Move};
-
 use crate::fixture::Start;
 use crate::made::Made;
 use clue_rules::Params;
@@ -132,14 +129,10 @@ fn done<P: Draw>(answer: Result<(), PlayFault>) -> Result<Made<P>, NotMade> {
 }
 
 fn play<P: Draw>(session: &mut Session<P>, text: &str) -> Result<Made<P>, NotMade> {
-    done(session.play(move_of(text)?))
-}
-
-// A move that a text spells. It takes no memory.
-fn move_of(text: &str) -> Result<Move, NotMade>
-    ensures { IfOk result (λ m. m ≢ Move.Restart) }
-{
-    read_move(text.as_bytes()).map_err(|fault| NotMade::Refused(fault.name()))
+    match read_move(text.as_bytes()) {
+        Ok(m) => done(session.play(m)),
+        Err(fault) => Err(NotMade::Refused(fault.name())),
+    }
 }
 
 fn begin_again<P: Draw>(alloc: Global, session: &Session<P>) -> Result<Made<P>, NotMade> {
@@ -148,13 +141,14 @@ fn begin_again<P: Draw>(alloc: Global, session: &Session<P>) -> Result<Made<P>, 
         size: puzzle.size(),
         letter: None,
     };
+    let next_params = params;
     let extras = Extras {
         seed: None,
         auxinfo: None,
         ui: None,
         time: None,
     };
-    match Session::new(alloc, params, params, puzzle, extras) {
+    match Session::new(alloc, params, next_params, puzzle, extras) {
         Ok(session) => Ok(Made::Session(session)),
         Err(fault) => Err(NotMade::Refused(fault.name())),
     }
@@ -198,10 +192,7 @@ fn words<P: Draw>(alloc: Global) -> Result<Made<P>, NotMade> {
 // The calls that only read the session.
 fn read_of<P: Draw>(alloc: Global, session: &Session<P>, call: &Call) -> Result<Made<P>, NotMade> {
     match call {
-        Call::ChangeOf(text) => match change_of(alloc, session.puzzle(), session.board(), &move_of(text)?) {
-            Ok(_change) => Ok(Made::Nothing),
-            Err(fault) => Err(NotMade::Refused(fault.name())),
-        },
+        Call::ChangeOf(text) => changed(alloc, session, text),
         Call::Whole => match Change::whole(alloc, *session.board()) {
             Ok(_change) => Ok(Made::Nothing),
             Err(fault) => Err(NotMade::Refused(fault.name())),
@@ -210,21 +201,47 @@ fn read_of<P: Draw>(alloc: Global, session: &Session<P>, call: &Call) -> Result<
             Ok(grids) => Ok(Made::Grids(grids)),
             Err(fault) => Err(NotMade::Refused(fault.name())),
         },
-        call => text_of(alloc, session, call).map_or_else(|name| Err(NotMade::Refused(name)), |text| Ok(Made::Text(text))),
+        call => match text_of(alloc, session, call) {
+            Ok(text) => Ok(Made::Text(text)),
+            Err(name) => Err(NotMade::Refused(name)),
+        },
+    }
+}
+
+fn changed<P: Draw>(alloc: Global, session: &Session<P>, text: &str) -> Result<Made<P>, NotMade> {
+    let m = match read_move(text.as_bytes()) {
+        Ok(m) => m,
+        Err(fault) => return Err(NotMade::Refused(fault.name())),
+    };
+    match change_of(alloc, session.puzzle(), session.board(), &m) {
+        Ok(_change) => Ok(Made::Nothing),
+        Err(fault) => Err(NotMade::Refused(fault.name())),
     }
 }
 
 // The calls that make a text.
-fn text_of<P: Draw>(alloc: Global, session: &Session<P>, call: &Call) -> Result<Vec<u8>, &'static str> {
+fn text_of<P: Draw>(
+    alloc: Global,
+    session: &Session<P>,
+    call: &Call,
+) -> Result<Vec<u8>, &'static str> {
     match call {
-        Call::WriteMove(text) => match move_of(text) {
-            Ok(m) => write_move(alloc, &m).map_err(|fault| fault.name()),
-            Err(_) => Err("BadMove"),
-        },
-        Call::WriteDesc => session.puzzle().write_desc(alloc).map_err(|fault| fault.name()),
-        Call::Draw => session.puzzle().draw(alloc, session.board()).map_err(|fault| fault.name()),
+        Call::WriteMove(text) => written(alloc, text).map_err(|fault| fault.name()),
+        Call::WriteDesc => session
+            .puzzle()
+            .write_desc(alloc)
+            .map_err(|fault| fault.name()),
+        Call::Draw => session
+            .puzzle()
+            .draw(alloc, session.board())
+            .map_err(|fault| fault.name()),
         Call::Picture => picture(alloc, session).map_err(|fault| fault.name()),
         Call::MarksText => marks_text(alloc, session).map_err(|fault| fault.name()),
         _ => save(alloc, session).map_err(|fault| fault.name()),
     }
+}
+
+fn written(alloc: Global, text: &str) -> Result<Vec<u8>, PlayFault> {
+    let m = read_move(text.as_bytes())?;
+    write_move(alloc, &m)
 }
