@@ -1,9 +1,13 @@
 # make            proves and builds the program, and leaves it as build/puzzles
-# make test       the gate: every proof from nothing, wrong bodies, tests and stored runs
 # make play       a game on the terminal; GAME=towers (the default) or GAME=unequal, ID= an ID or a save file
+# make test       the gate: every proof from nothing, wrong bodies, tests, stored runs, and the program from outside
 # make test-tools the scripts around the program: the front, installing, and the texts for its users
 # make exchange   saves and IDs against the usual programs, of Debian's package sgt-puzzles; no part of the gate
-# make bench      how long the solver takes, class by class; no part of the gate
+# make bench      how long the solver and the generator take, class by class, or the solver on the lines of IDS=file; no part of the gate
+# make check      CRATE=clue_rules: proves one crate, in seconds after an edit
+# make try        CRATE=clue_rules: runs the tests of one crate without a proof
+# make must-fail  CRATE=clue_rules: tries the wrong bodies of one crate
+# make fmt        lays out all files; FMT='rt tidy' also drops unused imports of proved crates
 # make install    the program, the front, manual page and completion below PREFIX=/usr/local; make uninstall
 # make clean      takes build/ away; what the checks keep stays
 # make help       this list
@@ -11,21 +15,24 @@
 RT ?= rt
 GAME ?= towers
 ID ?=
+IDS ?=
+CRATE ?=
+FMT ?= $(RT) fmt
 PREFIX ?= /usr/local
 
-.PHONY: all test play test-tools exchange bench install uninstall clean help
+.PHONY: all play test test-tools exchange bench check try must-fail fmt install uninstall clean help crate
 
 all:
 	@RT='$(RT)' tools/build
-
-test:
-	$(RT) ci
 
 # The front is for a terminal; in a pipe the program plays by itself.
 play:
 	@case '$(GAME)' in towers|unequal) ;; *) echo 'make: GAME is towers or unequal' >&2; exit 2 ;; esac
 	@$(MAKE) --no-print-directory all
 	@if [ -t 0 ] && [ -t 1 ]; then exec tools/play '$(GAME)' '$(ID)'; else exec build/puzzles '$(GAME)' $(if $(ID),--id '$(ID)'); fi
+
+test:
+	@RT='$(RT)' tools/gate
 
 test-tools: all
 	tools/test_texts
@@ -36,8 +43,24 @@ exchange: all
 	@tools/exchange
 
 bench:
-	cd crates/solver_bench && $(RT) run < /dev/null
-	@cat bench/puzzles.txt bench/several_and_none.txt | crates/solver_bench/out/solver_bench
+	@RT='$(RT)' tools/bench $(IDS)
+	@[ -n '$(IDS)' ] || (cd crates/gen_bench && $(RT) run < /dev/null)
+	@[ -n '$(IDS)' ] || crates/gen_bench/out/gen_bench < bench/generated.txt
+
+check: crate
+	@cd 'crates/$(CRATE)' && $(RT) check
+
+try: crate
+	@cd 'crates/$(CRATE)' && $(RT) try --test
+
+must-fail: crate
+	@$(RT) must-fail '$(CRATE)'
+
+crate:
+	@[ -n '$(CRATE)' ] && [ -d 'crates/$(CRATE)' ] || { echo 'make: CRATE= one of:' $(notdir $(wildcard crates/*)) >&2; exit 2; }
+
+fmt:
+	@for crate in crates/*/; do (cd "$$crate" && $(FMT)) || exit 1; done
 
 install uninstall:
 	@tools/install $(if $(filter uninstall,$@),--remove) '$(DESTDIR)$(PREFIX)'

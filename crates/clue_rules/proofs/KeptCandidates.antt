@@ -122,6 +122,17 @@ up_to_all place kept n first now h all = record {
   gone = λ k v inside pair lacks. h.gone k v (omega arith) pair lacks;
 }
 
+-- where the sets are those of the candidates, nothing goes
+pub along_whole : (place : ℕ) (sets kept : List ℕ) (c : CandidatesValue) → AreSetsOf c place sets → ((k : ℕ) → k < c.size → get_or sets k 0 ≡ get_or kept k 0) → KeepsAlong place kept c c true
+along_whole place sets kept c is same = record {
+  less = earlier_refl c;
+  keeps = λ g size has w. w;
+  empty = tt;
+  gone = λ k v inside pair lacks. false_from_ne_true (may_be c (view_cell c.size place k) v) (λ left.
+      let P : ℕ → Type 0 = λ m. has_mark m v ≡ true in
+      both_ways (has_mark (get_or kept k 0) v) lacks (subst P (same k inside) ((is.each k v inside).1 (pair, left))));
+}
+
 pub up_to_empty : (place : ℕ) (kept : List ℕ) (n : ℕ) (first now : CandidatesValue) → KeepsUpTo place kept (n + 1) first now → n < first.size → get_or kept n 0 ≡ 0 → KeepsAlong place kept first now false
 up_to_empty place kept n first now h inside none = record {
   less = h.less;

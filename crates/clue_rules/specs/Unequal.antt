@@ -81,11 +81,13 @@ holds_sign Absent x y = true
 holds_sign FirstGreater x y = nat_lt y x
 holds_sign SecondGreater x y = nat_lt x y
 
+-- the numbers of a grid hold the sign at a place
+abbrev pub holds_sign_at : UnequalValue → GridValue → ℕ → Bool
+holds_sign_at v g i = holds_sign (sign_at v i) (number_at g (first_of v.size i)) (number_at g (second_of v.size i))
+
 -- the numbers of a grid hold every sign
 abbrev pub holds_signs : UnequalValue → GridValue → Bool
-holds_signs v g =
-    list_all (λ i. holds_sign (sign_at v i) (number_at g (first_of v.size i)) (number_at g (second_of v.size i)))
-    (range_with_len 0 (sign_count v.size))
+holds_signs v g = list_all (holds_sign_at v g) (range_with_len 0 (sign_count v.size))
 
 -- the grid's number at a is greater than that at b wherever the puzzle says so
 pub record HoldsSigns (v : UnequalValue) (g : GridValue) : Type 0 where

@@ -24,15 +24,9 @@ mod sign;
 mod tests;
 
 use crate::game::Game;
-use crate::id_fault::IdFault;
-use crate::lines::given_squares::keep_givens;
-use crate::lines::narrowing::narrow_by_lines;
-use description::{read_unequal, write_unequal};
-use latin_board::{Grid, Size};
+use latin_board::Grid;
 use sign::{Sign, sign_between, sign_count, squares};
-use std::alloc::Global;
 use std::marker::Model;
-use trail_solver::{Candidates, Rules};
 
 /// How many signs the largest puzzle has room for.
 const SIGNS: usize = 144;

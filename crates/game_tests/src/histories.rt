@@ -42,6 +42,43 @@ fn marks(rt: HostRuntime) -> Result<(), Fail> {
     )
 }
 
+// The flag stays, and an emptied square takes marks again.
+#[test]
+fn marks_of_a_completed_board(rt: HostRuntime) -> Result<(), Fail> {
+    check_small_game(
+        &rt,
+        rt.alloc(),
+        &[
+            ("move R0,0,1", "ok"),
+            ("move R1,0,2", "ok"),
+            ("move R2,0,3", "ok"),
+            ("move R0,1,2", "ok"),
+            ("move R1,1,3", "ok"),
+            ("move R2,1,1", "ok"),
+            ("move R0,2,3", "ok"),
+            ("move R1,2,1", "ok"),
+            ("move P2,2,3", "ok"),
+            ("marks", "2,2:3"),
+            ("move R2,2,2", "ok"),
+            ("status", "solved 11/11"),
+            ("marks", "no marks"),
+            ("move P2,2,3", "refused: FilledSquare"),
+            ("move M", "ok"),
+            ("marks", "no marks"),
+            ("status", "solved 12/12"),
+            ("move P1,1,0", "ok"),
+            ("move P1,1,2", "ok"),
+            ("marks", "1,1:2"),
+            ("status", "solved 14/14"),
+            ("move M", "ok"),
+            ("marks", "1,1:123"),
+            ("undo", "ok"),
+            ("marks", "1,1:2"),
+            ("status", "solved 14/15"),
+        ],
+    )
+}
+
 #[test]
 fn refused_keeps_redo(rt: HostRuntime) -> Result<(), Fail> {
     check_small_game(

@@ -60,19 +60,43 @@ fn refused_towers_ids(rt: HostRuntime) -> Result<(), Fail> {
     )
 }
 
-// A seed can be read, and begins no game yet.
+// A seed gives the same puzzle each time, and the seed's square is its solution. An implementation of its own made the same
+// puzzles and the same square.
 #[test]
-fn seeds_wait(rt: HostRuntime) -> Result<(), Fail> {
+fn seeded_games(rt: HostRuntime) -> Result<(), Fail> {
     check::<Towers>(
         &rt,
         rt.alloc(),
         &[
-            ("new 5!7", "refused: NotYet"),
+            ("new 5!0", "ok"),
+            ("id", "5:////////2///2////////,c2b1a4h2a3a3c"),
+            ("move R0,0,9", "refused: OffRange"),
+            ("new 5!0", "ok"),
+            ("id", "5:////////2///2////////,c2b1a4h2a3a3c"),
+            ("new 3!12345", "ok"),
+            ("id", "3:///2//////2//,h1"),
+            ("new 5!1", "ok"),
+            ("solve", "S2531451243145324312532451"),
+            ("status", "helped 2/2"),
+            ("undo", "ok"),
+            ("list 2", "2531451243145324312532451"),
+        ],
+    )
+}
+
+#[test]
+fn refused_seeds(rt: HostRuntime) -> Result<(), Fail> {
+    check::<Towers>(
+        &rt,
+        rt.alloc(),
+        &[
+            ("new 7!1", "refused: SizeTooLarge"),
             ("status", "refused: NoGame"),
             ("new 3:3//////3/////", "ok"),
-            ("new 7!1", "refused: NotYet"),
-            ("new 5de!7", "refused: NotYet"),
-            ("new 5!18446744073709551615", "refused: NotYet"),
+            ("new 7!1", "refused: SizeTooLarge"),
+            ("new 7de!1", "refused: SizeTooLarge"),
+            ("new 5de!7", "refused: Graded"),
+            ("new 5#7", "refused: ForeignSeed"),
             ("id", "3:3//////3/////"),
         ],
     )

@@ -18,6 +18,12 @@ mod moves;
 #[cfg(test)]
 mod pictures;
 #[cfg(test)]
+mod saving;
+#[cfg(test)]
 mod script;
 #[cfg(test)]
+mod sessions;
+#[cfg(test)]
 mod solving;
+#[cfg(test)]
+mod starts;

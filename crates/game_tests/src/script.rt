@@ -63,10 +63,23 @@ pub(crate) fn play<P: Draw>(
     writes: Pace,
     room: usize,
 ) -> Result<Played<P>, Fail> {
+    play_on::<P>(rt, alloc, None, input, reads, writes, room)
+}
+
+/// Runs the input from the session on, or from none.
+pub(crate) fn play_on<P: Draw>(
+    rt: &impl Abort,
+    alloc: Global,
+    session: Option<Session<P>>,
+    input: &[u8],
+    reads: Pace,
+    writes: Pace,
+    room: usize,
+) -> Result<Played<P>, Fail> {
     assert!(rt; reads.piece >= 1 && writes.piece >= 1);
     let mut source = MemorySource::new(Vec::from_slice(alloc, input)?, reads.piece, reads.fails_at);
     let mut sink = MemorySink::new(vec![in alloc; 0; room]?, writes.piece, writes.fails_at);
-    let (session, end) = run::<P, _, _>(alloc, None, &mut source, &mut sink);
+    let (session, end) = run::<P, _, _>(alloc, session, &mut source, &mut sink);
     let written = Vec::from_slice(alloc, sink.taken())?;
     Ok(Played {
         session,

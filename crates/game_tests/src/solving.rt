@@ -24,6 +24,10 @@ fn solve_is_a_move(rt: HostRuntime) -> Result<(), Fail> {
             ),
             ("undo", "ok"),
             ("status", "playing 2/3"),
+            (
+                "show",
+                "+ 3 - - +\n3 3 . . -\n- . . . -\n- . . . -\n+ - - - +",
+            ),
             ("undo", "ok"),
             // The states behind go, as with each move.
             ("solve", "S123231312"),
@@ -52,6 +56,22 @@ fn solve_needs_one_solution(rt: HostRuntime) -> Result<(), Fail> {
     )
 }
 
+// What is known without a guess settles neither puzzle, and no test could wait for a search that guesses alone.
+#[test]
+fn solve_draws_conclusions_from_a_guess(rt: HostRuntime) -> Result<(), Fail> {
+    check::<Towers>(
+        &rt,
+        rt.alloc(),
+        &[
+            ("new 6:3//4/3///1/3///2/2///4//2//1///4/3/,l2w", "ok"),
+            ("solve", "S421356152463235614364521546132613245"),
+            ("list 2", "421356152463235614364521546132613245"),
+            ("new 9:///////////////////////////////////", "ok"),
+            ("solve", "Multiple solutions exist for this puzzle"),
+        ],
+    )
+}
+
 #[test]
 fn solve_reads_signs(rt: HostRuntime) -> Result<(), Fail> {
     check::<Unequal>(
@@ -61,6 +81,10 @@ fn solve_reads_signs(rt: HostRuntime) -> Result<(), Fail> {
             ("new 3:0,0L,0L,0U,0,0,0U,0,0,", "ok"),
             ("solve", "S123231312"),
             ("list 5", "123231312"),
+            // The last comma may be left out.
+            ("new 3:0,0L,0L,0U,0,0,0U,0,0", "ok"),
+            ("show", ".<.<.\n^ - -\n. . .\n^ - -\n. . ."),
+            ("solve", "S123231312"),
             ("new 3:1,1,0,0,0,0,0,0,0,", "ok"),
             ("solve", "No solution exists for this puzzle"),
             ("list 5", "none"),

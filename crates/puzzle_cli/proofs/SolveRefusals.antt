@@ -1,39 +1,41 @@
--- A refusal of solve that is no sentence is said as it is, or is want of memory in place of the move.
-use Rattle.std.proofs.Common.{◌≡◌, Result, Ok, Err, IsOk, refl, ap, ◌∙◌, inl, inr}
+-- What `solve` says: the move that it made, or a refusal that is no sentence, or want of memory in place of the move.
+use Rattle.std.proofs.Common.{◌≡◌, ◌≢◌, Result, Ok, Err, IsOk, refl, subst, inl, inr}
+use Rattle.trail_solver.specs.Puzzles.{Puzzle}
 use Rattle.play_midend.specs.declared.fault.PlayFault.{PlayFault}
 use Rattle.play_midend.specs.declared.fault.PlayFault.TheVariants.{BadMove, Unsupported, OffGrid, OffRange, GivenSquare, FilledSquare, BadSolution, HistoryFull, OutOfMemory, NothingToUndo, NothingToRedo, NothingToRestart, NoSolution, SeveralSolutions}
-use Rattle.play_midend.specs.Steps.{Deal}
 use Rattle.play_midend.specs.Histories.{History, SolveGives, IsRefusal, IsSolveRefusal}
 use Rattle.puzzle_cli.specs.declared.refusal.Refusal.TheVariants.{Play}
-use Rattle.puzzle_cli.specs.SessionReplies.{SolveSays, PlaysSolution, Explains, solve_outcome}
+use Rattle.puzzle_cli.specs.SessionReplies.{SolveSays, SolveReplies}
+use Rattle.puzzle_cli.specs.Replies.{Explains}
 
-said : {P : Type 0} (d : Deal) (h : History P) (fault : PlayFault) (exact : Result (History P) PlayFault) → SolveGives d h exact
-    → exact ≡ Err fault → solve_outcome h (Err fault) ≡ Err (Play fault) → Explains (SolveSays d h) (PlaysSolution d h) (Play fault)
-said d h fault exact gives is says = inl (exact, gives, ap (solve_outcome h) is ∙ says)
+module _ {P : Type 0} (p : Puzzle) (h : History P) where
+  abbrev IsSolveExplained : PlayFault → Type 0
+  IsSolveExplained fault = Explains (SolveReplies p h) ((new : History P) × SolveGives p h (Ok new)) (Play fault)
 
-without_memory : {P : Type 0} (d : Deal) (h : History P) (exact : Result (History P) PlayFault) → SolveGives d h exact → IsOk exact
-    → Explains (SolveSays d h) (PlaysSolution d h) (Play OutOfMemory)
-without_memory d h (Ok new) gives is = inr ((new, gives), refl)
-without_memory d h (Err fault) gives is = cc
+  said : (fault : PlayFault) (exact : Result (History P) PlayFault) → SolveGives p h exact
+      → exact ≡ Err fault → SolveSays h (Err fault) (Err (Play fault)) → IsSolveExplained fault
+  said fault exact gives is says = inl (Err fault, subst (SolveGives p h) is gives, says)
 
-explained : {P : Type 0} (d : Deal) (h : History P) (fault : PlayFault) (exact : Result (History P) PlayFault) → SolveGives d h exact
-    → IsRefusal exact fault → (fault ≡ NoSolution → ⊥) → (fault ≡ SeveralSolutions → ⊥)
-    → Explains (SolveSays d h) (PlaysSolution d h) (Play fault)
-explained d h BadMove exact gives is n s = said d h BadMove exact gives is refl
-explained d h Unsupported exact gives is n s = said d h Unsupported exact gives is refl
-explained d h OffGrid exact gives is n s = said d h OffGrid exact gives is refl
-explained d h OffRange exact gives is n s = said d h OffRange exact gives is refl
-explained d h GivenSquare exact gives is n s = said d h GivenSquare exact gives is refl
-explained d h FilledSquare exact gives is n s = said d h FilledSquare exact gives is refl
-explained d h BadSolution exact gives is n s = said d h BadSolution exact gives is refl
-explained d h HistoryFull exact gives is n s = said d h HistoryFull exact gives is refl
-explained d h OutOfMemory exact gives is n s = without_memory d h exact gives is
-explained d h NothingToUndo exact gives is n s = said d h NothingToUndo exact gives is refl
-explained d h NothingToRedo exact gives is n s = said d h NothingToRedo exact gives is refl
-explained d h NothingToRestart exact gives is n s = said d h NothingToRestart exact gives is refl
-explained d h NoSolution exact gives is n s = absurd (n refl)
-explained d h SeveralSolutions exact gives is n s = absurd (s refl)
+  without_memory : (exact : Result (History P) PlayFault) → SolveGives p h exact → IsOk exact → IsSolveExplained OutOfMemory
+  without_memory (Ok new) gives is = inr ((new, gives), refl)
+  without_memory (Err fault) gives is = cc
 
-pub solve_explained : {P : Type 0} (d : Deal) (h : History P) (fault : PlayFault) → IsSolveRefusal d h fault
-    → (fault ≡ NoSolution → ⊥) → (fault ≡ SeveralSolutions → ⊥) → Explains (SolveSays d h) (PlaysSolution d h) (Play fault)
-solve_explained d h fault refused n s = explained d h fault refused.0 refused.1 refused.2 n s
+  explained : (fault : PlayFault) (exact : Result (History P) PlayFault) → SolveGives p h exact
+      → IsRefusal exact fault → fault ≢ NoSolution → fault ≢ SeveralSolutions → IsSolveExplained fault
+  explained BadMove exact gives is n s = said BadMove exact gives is refl
+  explained Unsupported exact gives is n s = said Unsupported exact gives is refl
+  explained OffGrid exact gives is n s = said OffGrid exact gives is refl
+  explained OffRange exact gives is n s = said OffRange exact gives is refl
+  explained GivenSquare exact gives is n s = said GivenSquare exact gives is refl
+  explained FilledSquare exact gives is n s = said FilledSquare exact gives is refl
+  explained BadSolution exact gives is n s = said BadSolution exact gives is refl
+  explained HistoryFull exact gives is n s = said HistoryFull exact gives is refl
+  explained OutOfMemory exact gives is n s = without_memory exact gives is
+  explained NothingToUndo exact gives is n s = said NothingToUndo exact gives is refl
+  explained NothingToRedo exact gives is n s = said NothingToRedo exact gives is refl
+  explained NothingToRestart exact gives is n s = said NothingToRestart exact gives is refl
+  explained NoSolution exact gives is n s = absurd (n refl)
+  explained SeveralSolutions exact gives is n s = absurd (s refl)
+
+  pub solve_explained : (fault : PlayFault) → IsSolveRefusal p h fault → fault ≢ NoSolution → fault ≢ SeveralSolutions → IsSolveExplained fault
+  solve_explained fault refused n s = explained fault refused.0 refused.1 refused.2 n s

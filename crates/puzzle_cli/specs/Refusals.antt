@@ -1,14 +1,13 @@
 -- Why a line is refused, by name.
 use Rattle.std.specs.Prelude.{ℕ, List, codes}
-use Rattle.clue_rules.specs.IdFaults.{fault_name}
 use Rattle.play_midend.specs.Faults.{name_of}
 use Rattle.puzzle_cli.specs.LineFault.{line_fault_name}
+use Rattle.puzzle_cli.specs.StartFault.{start_fault_name}
 use Rattle.puzzle_cli.specs.declared.refusal.Refusal.{Refusal}
-use Rattle.puzzle_cli.specs.declared.refusal.Refusal.TheVariants.{Line, Id, NotYet, Play, Memory}
+use Rattle.puzzle_cli.specs.declared.refusal.Refusal.TheVariants.{Line, Start, Play, Memory}
 
 abbrev pub refusal_name : Refusal → List ℕ
 refusal_name (Line fault) = line_fault_name fault
-refusal_name (Id fault) = fault_name fault
-refusal_name NotYet = codes "NotYet"
+refusal_name (Start fault) = start_fault_name fault
 refusal_name (Play fault) = name_of fault
 refusal_name Memory = codes "OutOfMemory"

@@ -1,12 +1,75 @@
--- The reply to a line, over what a machine says to a command: a line that isn't empty and not too long.
-use Rattle.std.specs.Prelude.{◌≡◌, ℕ, ◌==◌, Bool, false, Option, Some, None, List, [], ◌∷◌, ◌++◌, length, codes, MatchBool}
+-- What is said to a line, and the session that is left, or none.
+use Rattle.std.specs.Prelude.{◌≡◌, ◌⊎◌, ℕ, List, [], ◌∷◌, ◌++◌, codes, Option, Some, None, Result, Ok, Err}
+use Rattle.play_midend.specs.Histories.{History}
+use Rattle.puzzle_cli.specs.declared.command.Command.{Command}
+use Rattle.puzzle_cli.specs.declared.command.Command.TheVariants.{New, Quit, Ask}
+use Rattle.puzzle_cli.specs.declared.line_fault.LineFault.{LineFault}
+use Rattle.puzzle_cli.specs.declared.line_fault.LineFault.TheVariants.{NoGame}
+use Rattle.puzzle_cli.specs.declared.refusal.Refusal.{Refusal}
+use Rattle.puzzle_cli.specs.declared.refusal.Refusal.TheVariants.{Line as OfLine, Start}
+use Rattle.puzzle_cli.specs.declared.start_fault.StartFault.{StartFault}
+use Rattle.puzzle_cli.specs.Lines.{Line}
+use Rattle.puzzle_cli.specs.Commands.{IsRead}
+use Rattle.puzzle_cli.specs.Symbols.{line_feed}
+use Rattle.puzzle_cli.specs.Refusals.{refusal_name}
+use Rattle.puzzle_cli.specs.GameFacts.{GameFacts}
+use Rattle.puzzle_cli.specs.NewSessions.{TextBegins}
+use Rattle.puzzle_cli.specs.SessionReplies.{Outcome, ok_line, RequestGives, RequestTakesMemory}
 
--- a line that is too long is refused, and an empty one has no reply
-unfoldable pub Replies : {S : Type 0} → (S → List ℕ → List ℕ → S → Type 0) → S → Option (List ℕ) → List ℕ → S → Type 0
-Replies says old None bytes new = (bytes ≡ codes "refused: LongLine" ++ 10 ∷ []) × (new ≡ old)
-Replies says old (Some line) bytes new = MatchBool (length line == 0) ((bytes ≡ []) × (new ≡ old)) (says old line bytes new)
+abbrev pub refusal_line : List ℕ → List ℕ
+refusal_line name = codes "refused: " ++ name ++ line_feed ∷ []
 
--- whether a line ends the run
-abbrev pub quits : (List ℕ → Bool) → Option (List ℕ) → Bool
-quits quit None = false
-quits quit (Some line) = quit line
+-- `ok` and the session that is begun, or the refusal
+abbrev pub begun : {P : Type 0} → Result (History P) StartFault → Outcome P
+begun (Ok h) = Ok (ok_line, Some h)
+begun (Err fault) = Err (Start fault)
+
+-- what a command makes of a session or none, with ample memory
+abbrev pub CommandGives : {P : Type 0} → GameFacts P → Option (History P) → Command (List ℕ) → Outcome P → Type 0
+CommandGives {P} f old (New id) outcome = (exact : Result (History P) StartFault) × TextBegins f id exact × (begun exact ≡ outcome)
+CommandGives f old Quit outcome = Ok ([], old) ≡ outcome
+CommandGives f None (Ask request) outcome = Err (OfLine NoGame) ≡ outcome
+CommandGives f (Some h) (Ask request) outcome = RequestGives f h request outcome
+
+-- the same of a line that was read: an empty one has no reply
+abbrev pub ReadGives : {P : Type 0} → GameFacts P → Option (History P) → Result (Option (Command (List ℕ))) LineFault → Outcome P → Type 0
+ReadGives f old (Ok None) outcome = Ok ([], old) ≡ outcome
+ReadGives f old (Ok (Some command)) outcome = CommandGives f old command outcome
+ReadGives f old (Err fault) outcome = Err (OfLine fault) ≡ outcome
+
+-- The command takes memory, and nothing else refuses it.
+abbrev pub CommandTakesMemory : {P : Type 0} → GameFacts P → Option (History P) → Command (List ℕ) → Type 0
+CommandTakesMemory {P} f old (New id) = (new : History P) × TextBegins f id (Ok new)
+CommandTakesMemory f old Quit = ⊥
+CommandTakesMemory f None (Ask request) = ⊥
+CommandTakesMemory f (Some h) (Ask request) = RequestTakesMemory f h request
+
+abbrev pub ReadTakesMemory : {P : Type 0} → GameFacts P → Option (History P) → Result (Option (Command (List ℕ))) LineFault → Type 0
+ReadTakesMemory f old (Ok None) = ⊥
+ReadTakesMemory f old (Ok (Some command)) = CommandTakesMemory f old command
+ReadTakesMemory f old (Err fault) = ⊥
+
+-- the refusal is what is said, or want of memory in place of an answer that takes some
+abbrev pub Explains : {A : Type 0} → (Result A Refusal → Type 0) → Type 0 → Refusal → Type 0
+Explains gives takes_memory refusal = gives (Err refusal) ⊎ (takes_memory × (refusal_name refusal ≡ codes "OutOfMemory"))
+
+-- what is written and left of an outcome: a refusal leaves the session
+abbrev pub Writes : {P : Type 0} → (Outcome P → Type 0) → Option (History P) → List ℕ → Option (History P) → Type 0
+Writes gives old bytes new =
+    gives (Ok (bytes, new))
+    ⊎ ((refusal : Refusal) × gives (Err refusal) × (bytes ≡ refusal_line (refusal_name refusal)) × (new ≡ old))
+
+-- the reply to a line and the session that it leaves, with ample memory
+abbrev pub AmpleReply : {P : Type 0} → GameFacts P → Option (History P) → Line → List ℕ → Option (History P) → Type 0
+AmpleReply f old line bytes new =
+    (read : Result (Option (Command (List ℕ))) LineFault) × IsRead line read × Writes (ReadGives f old read) old bytes new
+
+-- the line takes memory and nothing else refuses it, and it is refused for want of that
+abbrev pub LacksMemory : {P : Type 0} → GameFacts P → Option (History P) → Line → List ℕ → Option (History P) → Type 0
+LacksMemory f old line bytes new =
+    (read : Result (Option (Command (List ℕ))) LineFault) × IsRead line read × ReadTakesMemory f old read
+    × (bytes ≡ refusal_line (codes "OutOfMemory")) × (new ≡ old)
+
+-- The reply to a line and the session that it leaves. The one choice is want of memory.
+abbrev pub Reply : {P : Type 0} → GameFacts P → Option (History P) → Line → List ℕ → Option (History P) → Type 0
+Reply f old line bytes new = AmpleReply f old line bytes new ⊎ LacksMemory f old line bytes new

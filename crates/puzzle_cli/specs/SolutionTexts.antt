@@ -1,11 +1,11 @@
 -- What the commands `solve` and `list` print.
-use Rattle.std.specs.Prelude.{ℕ, ◌-◌, List, [], ◌∷◌, ◌++◌, length, map, codes, slice_get}
+use Rattle.std.specs.Prelude.{ℕ, List, [], ◌∷◌, ◌++◌, map, codes, Option, Some, None}
 use Rattle.std.specs.List.{flat_map}
-use Rattle.std.specs.Option.{option_map_or}
 use Rattle.latin_board.specs.Squares.{GridValue}
 use Rattle.play_midend.specs.declared.moves.Move.{Move}
+use Rattle.play_midend.specs.declared.fault.PlayFault.{PlayFault}
+use Rattle.play_midend.specs.declared.fault.PlayFault.TheVariants.{NoSolution, SeveralSolutions}
 use Rattle.play_midend.specs.MoveTexts.{move_text}
-use Rattle.play_midend.specs.Histories.{History}
 use Rattle.puzzle_cli.specs.Symbols.{line_feed, digit}
 use Rattle.puzzle_cli.specs.BoardTexts.{lines_or}
 
@@ -23,12 +23,14 @@ listed_lines listed = lines_or (codes "none") (flat_map grid_line listed)
 abbrev pub move_line : Move → List ℕ
 move_line m = move_text m ++ line_feed ∷ []
 
--- the line of the move that leads to the last state
-abbrev pub last_move_line : {P : Type 0} → History P → List ℕ
-last_move_line h = option_map_or move_line (slice_get h.moves (length h.moves - 1)) []
-
 abbrev pub no_solution_line : List ℕ
 no_solution_line = codes "No solution exists for this puzzle" ++ line_feed ∷ []
 
 abbrev pub several_solutions_line : List ℕ
 several_solutions_line = codes "Multiple solutions exist for this puzzle" ++ line_feed ∷ []
+
+-- the sentence that stands for a refusal of `solve`, if any
+abbrev pub solve_sentence : PlayFault → Option (List ℕ)
+solve_sentence NoSolution = Some no_solution_line
+solve_sentence SeveralSolutions = Some several_solutions_line
+solve_sentence _ = None

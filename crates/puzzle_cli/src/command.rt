@@ -1,8 +1,10 @@
-//! Commands: a line of text says what to begin, what to ask of a session, or to end the run.
-ghost use Rattle.std.specs.Prelude.{◌≡◌, ℕ, Some, List, IfSome, option_map};
-ghost use Rattle.puzzle_cli.specs.declared.command.Command.{Command};
-ghost use Rattle.puzzle_cli.specs.Commands.{command_line, command_map, command_at, limit_at, word_command, IsCommand};
+//! Commands: a line says what to begin, what to ask of a session, or to end the run.
+ghost use Rattle.std.specs.Prelude.{◌≡◌, IfOk, IfSome, option_map};
+ghost use Rattle.std.specs.Option.{option_copied};
+ghost use Rattle.puzzle_cli.specs.Commands.{command_map, read_map, IsRead, IsCommandInRange};
+ghost use Rattle.puzzle_cli.specs.CommandReading.{command_at, read_at, limit_at, word_at};
 
+use crate::line_fault::LineFault;
 use byte_text::number;
 
 /// A command, whose argument is a text of type `T`.
@@ -21,6 +23,15 @@ pub(crate) enum Command<T> {
 pub(crate) enum Request<T> {
     /// Make the move that a text spells.
     Move(T),
+    /// List the first solutions of the starting puzzle, so many at most: from 1 to 100.
+    Solutions(u8),
+    /// What a word says alone.
+    Plain(Word),
+}
+
+/// What is asked of a session by a word alone.
+#[derive(Clone, Copy)]
+pub(crate) enum Word {
     Undo,
     Redo,
     Restart,
@@ -35,30 +46,77 @@ pub(crate) enum Request<T> {
     Done,
     /// Fill in the only solution of the starting puzzle.
     Solve,
-    /// List the first solutions of the starting puzzle, so many at most.
-    Solutions(u8),
+    /// Write the save text.
+    Save,
 }
 
-/// The command that a line is, or `None` where it is none.
+/// What is asked of a session by a word alone, or `None` where the line is no such word.
+fn read_word(line: &[u8]) -> Option<Word>
+    ensures { result ≡ word_at line.now }
+{
+    let word = if line == b"undo".as_slice() {
+        Word::Undo
+    } else if line == b"redo".as_slice() {
+        Word::Redo
+    } else if line == b"restart".as_slice() {
+        Word::Restart
+    } else if line == b"show".as_slice() {
+        Word::Show
+    } else if line == b"marks".as_slice() {
+        Word::Marks
+    } else if line == b"status".as_slice() {
+        Word::Status
+    } else if line == b"id".as_slice() {
+        Word::Id
+    } else if line == b"done".as_slice() {
+        Word::Done
+    } else if line == b"solve".as_slice() {
+        Word::Solve
+    } else if line == b"save".as_slice() {
+        Word::Save
+    } else {
+        return None;
+    };
+    Some(word)
+}
+
+/// The command that a line is, or `None` where the line is empty.
 ///
 /// One space stands between a word and its argument. The argument is the rest of the line, and may be empty; that of `list`
 /// is a number from 1 to 100 in decimal without leading zeros.
-pub(crate) fn read_command(line: &[u8]) -> Option<Command<&[u8]>>
-    ensures value { option_map (command_map (λ text. text.now)) result ≡ command_at line.now }
-    ensures found { IfSome result (λ command. line.now ≡ command_line (command_map (λ text. text.now) command)) }
-    ensures bound { IfSome result IsCommand }
-    ensures only { (command : Command (List ℕ)) → IsCommand command → line.now ≡ command_line command
-        → option_map (command_map (λ text. text.now)) result ≡ Some command }
+///
+/// `LongLine` where there is no line, since it was too long to be kept; `BadCommand` where it is no command.
+pub(crate) fn read_command(line: Option<&[u8]>) -> Result<Option<Command<&[u8]>>, LineFault>
+    ensures read { IsRead (option_copied line.entry) (read_map (λ text. text.now) result) }
+    ensures range { IfOk result (λ read. IfSome read IsCommandInRange) }
 {
-    parse_command(line)
+    parse_line(line)
 }
 
-#[tactic(auto, unfolding(crate::specs::Commands::command_at))]
+fn parse_line(line: Option<&[u8]>) -> Result<Option<Command<&[u8]>>, LineFault>
+    ensures { read_map (λ text. text.now) result ≡ read_at (option_copied line.entry) }
+{
+    let Some(line) = line else {
+        return Err(LineFault::LongLine);
+    };
+    if line.is_empty() {
+        return Ok(None);
+    }
+    match parse_command(line) {
+        Some(command) => Ok(Some(command)),
+        None => Err(LineFault::BadCommand),
+    }
+}
+
+#[tactic(auto, unfolding(crate::specs::CommandReading::command_at))]
 fn parse_command(line: &[u8]) -> Option<Command<&[u8]>>
     ensures { option_map (command_map (λ text. text.now)) result ≡ command_at line.now }
 {
-    if let Some(command) = read_word(line) {
-        return Some(command);
+    if let Some(word) = read_word(line) {
+        return Some(Command::Ask(Request::Plain(word)));
+    }
+    if line == b"quit".as_slice() {
+        return Some(Command::Quit);
     }
     if let Some(id) = line.strip_prefix(b"new ") {
         return Some(Command::New(id));
@@ -81,34 +139,4 @@ fn read_limit(text: &[u8]) -> Option<u8>
         return None;
     }
     Some(limit as u8)
-}
-
-// The command of one word that a line is.
-fn read_word<'a>(line: &[u8]) -> Option<Command<&'a [u8]>>
-    ensures { option_map (command_map (λ text. text.now)) result ≡ word_command line.now }
-{
-    let request = if line == b"undo".as_slice() {
-        Request::Undo
-    } else if line == b"redo".as_slice() {
-        Request::Redo
-    } else if line == b"restart".as_slice() {
-        Request::Restart
-    } else if line == b"show".as_slice() {
-        Request::Show
-    } else if line == b"marks".as_slice() {
-        Request::Marks
-    } else if line == b"status".as_slice() {
-        Request::Status
-    } else if line == b"id".as_slice() {
-        Request::Id
-    } else if line == b"done".as_slice() {
-        Request::Done
-    } else if line == b"solve".as_slice() {
-        Request::Solve
-    } else if line == b"quit".as_slice() {
-        return Some(Command::Quit);
-    } else {
-        return None;
-    };
-    Some(Command::Ask(request))
 }

@@ -1,6 +1,7 @@
+//! The edge clues that are done, as lines.
+
 ghost use Rattle.std.specs.Prelude.{◌≡◌, ◌+◌, ◌*◌, ◌<◌, ◌≤◌, ◌++◌, ℤ, pos, negsuc, ◌≤ℤ◌, zero, length};
 ghost use Rattle.arrayvec.specs.ArrayVec.{array_vec_len};
-ghost use Rattle.play_midend.specs.Steps.{deal_of};
 ghost use Rattle.play_midend.specs.Histories.{shown};
 ghost use Rattle.play_midend.specs.MoveTexts.{coordinate_text};
 ghost use Rattle.puzzle_cli.specs.BoardTexts.{done_line, done_lines};
@@ -16,7 +17,7 @@ type DoneText = ArrayVec<u8, 180>;
 /// The edge clues that are marked as done on the shown board: a line `x,y` for each, in the order of descriptions, or
 /// the line `no done clues`.
 pub fn done_text<P: Game>(session: &Session<P>) -> ArrayVec<u8, 180>
-    ensures { result.items ≡ done_lines (shown (deal_of P.puzzle P.clued session.now.puzzle) session.now) }
+    ensures { result.items ≡ done_lines (shown (P.puzzle session.now.puzzle) session.now) }
 {
     done_of(session.board())
 }

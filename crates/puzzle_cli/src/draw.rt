@@ -1,6 +1,7 @@
+//! What a game adds to be played as text: the picture of its boards.
+
 ghost use Rattle.std.specs.Prelude.{◌≡◌, ℕ, List, IfOk};
 ghost use Rattle.latin_board.specs.Boards.{BoardValue};
-ghost use Rattle.play_midend.specs.Steps.{deal_of};
 ghost use Rattle.play_midend.specs.Histories.{shown};
 
 use clue_rules::Game;
@@ -27,7 +28,7 @@ pub trait Draw: Game {
 /// `OutOfMemory` where a growth was refused.
 pub fn picture<P: Draw>(alloc: Global, session: &Session<P>) -> Result<Vec<u8>, OutOfMemory>
     ensures { IfOk result (λ picture. picture.items
-        ≡ P.drawing session.now.puzzle (shown (deal_of P.puzzle P.clued session.now.puzzle) session.now)) }
+        ≡ P.drawing session.now.puzzle (shown (P.puzzle session.now.puzzle) session.now)) }
 {
     session.puzzle().draw(alloc, session.board())
 }

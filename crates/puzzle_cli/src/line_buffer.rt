@@ -1,3 +1,5 @@
+//! The line that is being read, byte by byte.
+
 ghost use Rattle.std.specs.Prelude.{◌≡◌, [], Some};
 ghost use Rattle.std.specs.Option.{option_copied};
 ghost use Rattle.puzzle_cli.specs.Lines.{line_of, without_cr};

@@ -1,3 +1,5 @@
+//! Why a line is refused before its command is tried.
+
 ghost use Rattle.std.specs.Prelude.{◌≡◌};
 ghost use Rattle.puzzle_cli.specs.LineFault.{line_fault_number, line_fault_name};
 

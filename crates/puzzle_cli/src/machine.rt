@@ -1,23 +1,31 @@
-ghost use Rattle.std.specs.Prelude.{◌≡◌, ℕ, Bool, false, List};
-ghost use Rattle.puzzle_cli.specs.Text.{text_bytes};
+//! What answers lines, as the loop over them sees it.
+ghost use Rattle.std.specs.Prelude.{◌≡◌, ℕ, Bool, Option, List};
+ghost use Rattle.std.specs.Option.{option_copied};
+ghost use Rattle.puzzle_cli.specs.Machines.{IsAnswer};
 
 use crate::text::Text;
 use std::alloc::Global;
 
+/// What a machine answers to a line.
+#[derive(Drop)]
+pub(crate) enum Answer {
+    Reply(Text),
+    /// The line has no reply.
+    Silence,
+    /// The line ends the run, and has no reply.
+    Quit,
+}
+
 /// What answers lines: it takes one at a time, and may be another one after each.
-///
-/// A line comes without its LF and without one CR at its end. It has from 1 to 1,024 bytes.
 pub(crate) trait Machine {
-    // What may be said to a line: the machine before, the line, the reply, the machine after.
-    ghost reply: { Self → List ℕ → List ℕ → Self → Type 0 };
+    // What may be said to a line, no bytes where it has no reply: the machine before, the line, the bytes, the machine after.
+    ghost reply: { Self → Option (List ℕ) → List ℕ → Self → Type 0 };
 
-    // Whether a line ends the run. It has no reply.
-    ghost is_quit: { List ℕ → Bool };
+    // Whether a line ends the run.
+    ghost is_quit: { Option (List ℕ) → Bool };
 
-    fn is_quit(&self, line: &[u8]) -> bool
-        ensures { result ≡ is_quit line.now };
-
-    fn answer(&mut self, alloc: Global, line: &[u8]) -> Text
-        requires { is_quit line.now ≡ false }
-        ensures { reply self.old line.now (text_bytes result) self.new };
+    /// The answer to a line, which comes without its LF and without one CR at its end; `None` is one of more than 1,024
+    /// bytes.
+    fn answer(&mut self, alloc: Global, line: Option<&[u8]>) -> Answer
+        ensures { IsAnswer reply is_quit self.old (option_copied line.entry) result self.new };
 }

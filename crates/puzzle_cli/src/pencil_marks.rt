@@ -1,5 +1,6 @@
+//! The pencil marks of a board, as lines.
+
 ghost use Rattle.std.specs.Prelude.{◌≡◌, ◌*◌, ◌<◌, ◌++◌, IfOk, OnOk};
-ghost use Rattle.play_midend.specs.Steps.{deal_of};
 ghost use Rattle.play_midend.specs.Histories.{shown};
 ghost use Rattle.puzzle_cli.specs.BoardTexts.{mark_digits, marks_line, marks_lines};
 
@@ -15,7 +16,7 @@ use std::alloc::{AllocError, Global};
 /// `OutOfMemory` where a growth was refused.
 pub fn marks_text<P: Game>(alloc: Global, session: &Session<P>) -> Result<Vec<u8>, OutOfMemory>
     ensures { IfOk result (λ text. text.items
-        ≡ marks_lines (shown (deal_of P.puzzle P.clued session.now.puzzle) session.now)) }
+        ≡ marks_lines (shown (P.puzzle session.now.puzzle) session.now)) }
 {
     marks_of(alloc, session.board())
 }

@@ -1,8 +1,10 @@
+//! Why a line is refused, by the word that is printed.
+
 ghost use Rattle.std.specs.Prelude.{◌≡◌, ◌≤◌, length};
 ghost use Rattle.puzzle_cli.specs.Refusals.{refusal_name};
 
 use crate::line_fault::LineFault;
-use clue_rules::IdFault;
+use crate::start_fault::StartFault;
 use latin_board::OutOfMemory;
 use play_midend::PlayFault;
 
@@ -11,10 +13,8 @@ use play_midend::PlayFault;
 pub(crate) enum Refusal {
     /// The line is no command, or there is no session.
     Line(LineFault),
-    /// The game ID can't be read.
-    Id(IdFault),
-    /// The game ID has a seed.
-    NotYet,
+    /// The game ID begins no session.
+    Start(StartFault),
     /// The session refuses.
     Play(PlayFault),
     /// A growth was refused.
@@ -29,8 +29,7 @@ impl Refusal {
     {
         match self {
             Refusal::Line(fault) => fault.name(),
-            Refusal::Id(fault) => fault.name(),
-            Refusal::NotYet => "NotYet",
+            Refusal::Start(fault) => fault.short_name(),
             Refusal::Play(fault) => fault.name(),
             Refusal::Memory => OutOfMemory.name(),
         }
@@ -48,14 +47,14 @@ impl From<LineFault> for Refusal {
     }
 }
 
-impl From<IdFault> for Refusal {
+impl From<StartFault> for Refusal {
     ghost use Rattle.std.specs.Prelude.{◌≡◌};
-    ghost use Rattle.puzzle_cli.specs.declared.refusal.Refusal.TheVariants.{Id};
+    ghost use Rattle.puzzle_cli.specs.declared.refusal.Refusal.TheVariants.{Start};
 
-    ghost from_gives = { λ fault refusal. refusal ≡ Id fault };
+    ghost from_gives = { λ fault refusal. refusal ≡ Start fault };
 
-    fn from(fault: IdFault) -> Refusal {
-        Refusal::Id(fault)
+    fn from(fault: StartFault) -> Refusal {
+        Refusal::Start(fault)
     }
 }
 

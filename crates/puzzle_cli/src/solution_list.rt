@@ -1,3 +1,5 @@
+//! The first solutions of the starting puzzle, as lines.
+
 ghost use Rattle.std.specs.Prelude.{◌≡◌, ◌≤◌, ℕ, List, IfOk};
 ghost use Rattle.latin_board.specs.Squares.{GridValue};
 ghost use Rattle.trail_solver.specs.Puzzles.{Solves};

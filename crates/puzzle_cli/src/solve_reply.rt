@@ -1,10 +1,12 @@
-ghost use Rattle.std.specs.Prelude.{◌≡◌, ◌++◌, ◌∷◌, [], List, Some, Ok, IfOk, OnErr, IfErr};
+//! What `solve` makes of a session, and what is said of it.
+ghost use Rattle.std.specs.Prelude.{◌≡◌, ◌-◌, ◌++◌, ◌∷◌, [], List, Some, Ok, length, slice_get, IfOk, OnErr, IfErr};
 ghost use Rattle.latin_board.specs.Squares.{GridValue};
 ghost use Rattle.play_midend.specs.declared.moves.Move.{Move};
-ghost use Rattle.play_midend.specs.Steps.{deal_of};
+ghost use Rattle.play_midend.specs.Histories.{History, SolveGives};
 ghost use Rattle.puzzle_cli.specs.Text.{text_bytes};
-ghost use Rattle.puzzle_cli.specs.SolutionTexts.{last_move_line, move_line};
-ghost use Rattle.puzzle_cli.specs.SessionReplies.{SolveSays, PlaysSolution, Explains};
+ghost use Rattle.puzzle_cli.specs.SolutionTexts.{move_line};
+ghost use Rattle.puzzle_cli.specs.SessionReplies.{SolveReplies};
+ghost use Rattle.puzzle_cli.specs.Replies.{Explains};
 
 use crate::refusal::Refusal;
 use crate::symbols::grid_digits;
@@ -21,14 +23,14 @@ type SolveLine = ArrayVec<u8, 83>;
 ///
 /// The text takes no memory, as the session has changed by then.
 pub(crate) fn solve_reply<P: Game>(session: &mut Session<P>) -> Result<Text, Refusal>
-    ensures ok { IfOk result (λ text. SolveSays (deal_of P.puzzle P.clued session.old.puzzle) session.old
+    ensures ok { IfOk result (λ text. SolveReplies (P.puzzle session.old.puzzle) session.old
         (Ok (text_bytes text, Some session.new))) }
     ensures err { OnErr result (session.new ≡ session.old) }
-    ensures why { IfErr result (Explains (SolveSays (deal_of P.puzzle P.clued session.old.puzzle) session.old)
-        (PlaysSolution (deal_of P.puzzle P.clued session.old.puzzle) session.old)) }
+    ensures why { IfErr result (Explains (SolveReplies (P.puzzle session.old.puzzle) session.old)
+        ((new : History P) × SolveGives (P.puzzle session.old.puzzle) session.old (Ok new))) }
 {
     match session.solve() {
-        Ok(()) => Ok(Text::Solved(last_move_line(session))),
+        Ok(()) => Ok(Text::Solved(solution_line(session))),
         Err(fault) => match fault {
             PlayFault::NoSolution => Ok(Text::line("No solution exists for this puzzle")),
             PlayFault::SeveralSolutions => {
@@ -40,17 +42,18 @@ pub(crate) fn solve_reply<P: Game>(session: &mut Session<P>) -> Result<Text, Ref
 }
 
 // The line of the move to the last state, which fills in a solution.
-fn last_move_line<P: Game>(session: &Session<P>) -> SolveLine
+fn solution_line<P: Game>(session: &Session<P>) -> SolveLine
     requires { (before : List Move) × (g : GridValue) × (session.now.moves ≡ before ++ Move.Solve g ∷ []) }
-    ensures { result.items ≡ last_move_line session.now }
+    ensures { (g : GridValue) × (slice_get session.now.moves (length session.now.moves - 1) ≡ Some (Move.Solve g))
+        × (result.items ≡ move_line (Move.Solve g)) }
 {
     match session.move_at(session.states() - 1) {
-        Move::Solve(grid) => solve_line(grid),
+        Move::Solve(grid) => grid_line(grid),
         _ => unreachable!(),
     }
 }
 
-fn solve_line(grid: &Grid) -> SolveLine
+fn grid_line(grid: &Grid) -> SolveLine
     ensures { result.items ≡ move_line (Move.Solve grid.now) }
 {
     let mut line = ArrayVec::new();

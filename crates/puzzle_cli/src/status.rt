@@ -1,7 +1,8 @@
+//! The status of a session, as words.
+
 ghost use Rattle.std.specs.Prelude.{◌≡◌, ◌+◌, ◌<◌, ◌≤◌, [], ◌∷◌, ◌++◌, length};
 ghost use Rattle.std.specs.Fmt.{decimal};
 ghost use Rattle.arrayvec.specs.ArrayString.{array_string_len};
-ghost use Rattle.play_midend.specs.Steps.{deal_of};
 ghost use Rattle.play_midend.specs.Histories.{shown};
 ghost use Rattle.puzzle_cli.specs.BoardTexts.{status_word, status_words};
 
@@ -13,7 +14,7 @@ use play_midend::Session;
 /// The status of a session, without a line feed: `helped`, `solved` or `playing`, a space, the position, `/` and the
 /// number of states.
 pub fn status_text<P: Game>(session: &Session<P>) -> ArrayString<32>
-    ensures { result.bytes ≡ status_words (shown (deal_of P.puzzle P.clued session.now.puzzle) session.now)
+    ensures { result.bytes ≡ status_words (shown (P.puzzle session.now.puzzle) session.now)
         session.now.position (length session.now.moves + 1) }
 {
     let mut text = ArrayString::new();

@@ -1,3 +1,5 @@
+//! Replies, made whole before their first byte is written.
+
 ghost use Rattle.std.specs.Prelude.{◌≡◌, ◌≤◌, ◌<◌, ◌++◌, ◌∷◌, [], length, codes};
 ghost use Rattle.puzzle_cli.specs.Text.{text_bytes};
 

@@ -1,74 +1,136 @@
-//! Towers and Unequal as text programs: `puzzles towers` or `puzzles unequal`.
+//! Towers and Unequal as text programs: `puzzles GAME [--id ID] [--load FILE] [--save FILE]`.
 //!
-//! Commands come from standard input, one a line, and replies go to standard output. The status is 0 at the end of the
-//! input or at `quit`. It is 1 where a device fails or memory for the command line is refused, which standard error then
-//! says, and 2 where the command line isn't one word that names a game.
+//! The words of the command line, the file to load, the first session, the run from standard input to standard output, the
+//! file to save to, in this order. The first fault ends the program with its status and its line on standard error; help
+//! goes to standard output.
 #![tactic(auto)]
 
+mod fault;
+mod load_file;
+mod save_file;
+
+ghost use Rattle.std.specs.Prelude.{IfOk};
+ghost use Rattle.puzzle_cli.specs.CommandLine.{NotBoth};
+
+use crate::fault::Fault;
+use crate::load_file::read_file;
+use crate::save_file::write_file;
 use clue_rules::{Towers, Unequal};
-use puzzle_cli::{Draw, run};
+use play_midend::Session;
+use play_save::save;
+use puzzle_cli::{Args, CommandFault, Draw, End, GameName, begin, read_words, run};
 use puzzle_io::{FromRead, ToWrite};
 use std::process::ExitCode;
-use std::rt::Env;
+use std::rt::{Env, Files};
 use std::{env, io};
 
-#[derive(Clone, Copy)]
-enum GameName {
-    Towers,
-    Unequal,
-}
-
-/// Why the command line names no game.
-#[derive(Clone, Copy)]
-enum WordsFault {
-    BadWords,
-    OutOfMemory,
-}
+/// What is said of words that no text can hold.
+const NO_TEXT: &str =
+    "error: a word of the command line is no UTF-8 text\n\nFor more information, try '--help'.\n";
 
 fn main(rt: HostRuntime) -> ExitCode {
-    ExitCode::from(match game_name(&rt) {
-        Ok(GameName::Towers) => play::<Towers>(&rt),
-        Ok(GameName::Unequal) => play::<Unequal>(&rt),
-        Err(WordsFault::BadWords) => 2,
-        Err(WordsFault::OutOfMemory) => {
-            complain(&rt, "out of memory");
-            1
-        }
+    ExitCode::from(match start(&rt) {
+        Ok(()) => 0,
+        Err(fault) => report(&rt, fault),
     })
 }
 
-/// The game that the one word behind the program's name says.
-fn game_name(rt: &(impl Env + Alloc)) -> Result<GameName, WordsFault> {
-    let mut words = match env::args(rt) {
-        Ok(words) => words,
-        Err(error) if error.kind() == io::ErrorKind::OutOfMemory => {
-            return Err(WordsFault::OutOfMemory);
-        }
-        Err(_) => return Err(WordsFault::BadWords),
-    };
-    let (Some(_program), Some(game), None) = (words.next(), words.next(), words.next()) else {
-        return Err(WordsFault::BadWords);
-    };
-    match game.as_str() {
-        "towers" => Ok(GameName::Towers),
-        "unequal" => Ok(GameName::Unequal),
-        _ => Err(WordsFault::BadWords),
+// Reads the command line and plays its game.
+fn start(rt: &(impl Env + Files + Input + Print + Eprint + AllocGlobal)) -> Result<(), Fault> {
+    let args = args(rt).map_err(Fault::Words)?;
+    match args.game {
+        GameName::Towers => play::<Towers>(rt, &args),
+        GameName::Unequal => play::<Unequal>(rt, &args),
     }
 }
 
-/// Plays the game, with no session at first, and gives the program's status.
-fn play<P: Draw>(rt: &(impl Input + Print + Eprint + AllocGlobal)) -> u8 {
+// What the words of the process say.
+fn args(rt: &(impl Env + AllocGlobal)) -> Result<Args, CommandFault>
+    ensures { IfOk result (λ args. NotBoth args.id args.load) }
+{
+    let owned: Vec<String> = match env::args(rt) {
+        Ok(words) => words.collect(rt.alloc())?,
+        Err(error) if error.kind() == io::ErrorKind::OutOfMemory => {
+            return Err(CommandFault::OutOfMemory);
+        }
+        Err(_) => {
+            return Err(CommandFault::BadWords(String::from_str(rt.alloc(), NO_TEXT)?));
+        }
+    };
+    let mut words = Vec::new(rt.alloc());
+    for word in owned.iter() {
+        words.push(word.as_str())?;
+    }
+    read_words(rt.alloc(), &words)
+}
+
+// Plays a game, from its first session to the file that the last one is saved to.
+fn play<P: Draw>(rt: &(impl Files + Input + Print + AllocGlobal), args: &Args) -> Result<(), Fault>
+    requires { NotBoth args.now.id args.now.load }
+{
+    let session = first_session::<P>(rt, args)?;
     let mut source = FromRead::new(rt.reader());
     let mut sink = ToWrite::new(io::writer(rt));
-    let (_session, end) = run::<P, _, _>(rt.alloc(), None, &mut source, &mut sink);
-    let fault = end.fault_line();
-    if !fault.is_empty() {
-        complain(rt, &fault);
+    let (session, end) = run::<P, _, _>(rt.alloc(), session, &mut source, &mut sink);
+    if end != End::Finished {
+        return Err(Fault::Run(end));
     }
-    end.status()
+    match (&session, &args.save) {
+        (Some(session), Some(path)) => keep(rt, session, path.as_str()),
+        _ => Ok(()),
+    }
 }
 
-/// Writes a line to standard error. Where that fails too, nothing is left to say.
-fn complain(rt: &impl Eprint, line: &str) {
-    let _ = eprintln!(rt; "{line}");
+fn first_session<P: Draw>(
+    rt: &(impl Files + AllocGlobal),
+    args: &Args,
+) -> Result<Option<Session<P>>, Fault>
+    requires { NotBoth args.now.id args.now.load }
+{
+    let file = match &args.load {
+        Some(path) => match read_file(rt, path.as_str()) {
+            Ok(bytes) => Some(bytes),
+            Err(error) => return Err(file_fault(&error, Fault::LoadFile)),
+        },
+        None => None,
+    };
+    let id = args.id.as_ref().map(|id| id.as_bytes());
+    let file = file.as_ref().map(|bytes| bytes.as_slice());
+    begin::<P>(rt.alloc(), id, file).map_err(Fault::Start)
+}
+
+// Saves a session to a file.
+fn keep<P: Draw>(
+    rt: &(impl Files + AllocGlobal),
+    session: &Session<P>,
+    path: &str,
+) -> Result<(), Fault> {
+    let text = save(rt.alloc(), session).map_err(|_| Fault::OutOfMemory)?;
+    write_file(rt, path, &text).map_err(|error| file_fault(&error, Fault::SaveFile))
+}
+
+// The fault of a file's error: want of memory is said as such.
+fn file_fault(error: &io::Error, fault: Fault) -> Fault {
+    match error.kind() {
+        io::ErrorKind::OutOfMemory => Fault::OutOfMemory,
+        _ => fault,
+    }
+}
+
+// Says what there is to say, and gives the program's status. Where standard error fails too, nothing is left to say.
+fn report(rt: &(impl Print + Eprint), fault: Fault) -> u8 {
+    let fault = match fault {
+        Fault::Words(CommandFault::HelpAsked(text)) => match print!(rt; "{text}") {
+            Ok(()) => return 0,
+            Err(_) => Fault::Output,
+        },
+        fault => fault,
+    };
+    if let Fault::Words(CommandFault::BadWords(text)) = &fault {
+        let _ = eprint!(rt; "{text}");
+    } else {
+        let line = fault.line();
+        let _ = eprintln!(rt; "{line}");
+    }
+    fault.status()
 }

@@ -1,19 +1,33 @@
 //! Solves the game IDs of standard input, and prints for each class of them how many there were, and how long one
-//! solve took, in the mean and in the slowest case, in microseconds.
+//! solve took, in the mean and in the slowest case, in microseconds. With the word `list` it times the list of the first
+//! hundred solutions instead.
 //!
-//! A line is a game, a class and a game ID, with a space between; a line that begins with # is skipped. Each puzzle is
-//! solved some times in a row, and the mean of these is its time.
+//! A line is a game, a class if there is one, and a game ID, with a space between; a line that begins with # is skipped.
+//! Each puzzle is solved some times in a row, and the fastest of these counts, since others may work on the machine.
 #![tactic(auto)]
 
 use clue_rules::{Game, GameId, Towers, Unequal, read_id};
 use std::alloc::{AllocError, Global};
-use std::io;
-use std::rt::Clock;
+use std::rt::{Clock, Env};
 use std::time::Instant;
-use trail_solver::{Answer, solve};
+use std::{env, io};
+use trail_solver::{Answer, solutions, solve};
 
-/// How often each puzzle is solved.
+/// How often each puzzle is solved, as long as that takes no longer than `ENOUGH`.
 const ROUNDS: u64 = 20;
+
+/// After so many nanoseconds no further round begins.
+const ENOUGH: u64 = 500_000_000;
+
+/// How many solutions are listed.
+const LISTED: u8 = 100;
+
+/// What is timed.
+#[derive(Clone, Copy)]
+enum Task {
+    Solve,
+    List,
+}
 
 /// The puzzles of one game and class, and their times in nanoseconds.
 #[derive(Drop)]
@@ -33,22 +47,41 @@ struct Timing {
 }
 
 /// Solves the puzzle of a game ID some times; None where the text is no ID of a described puzzle.
-fn timing_of<P: Game + Drop>(clock: &impl Clock, id: &[u8]) -> io::Result<Option<Timing>> {
+fn timing_of<P: Game + Drop>(
+    rt: &(impl Clock + Alloc<A = Global>),
+    task: Task,
+    id: &[u8],
+) -> io::Result<Option<Timing>> {
     let Ok(GameId::Described(_, puzzle)) = read_id::<P>(id) else {
         return Ok(None);
     };
-    let start = Instant::now(clock)?;
-    let mut unique: u64 = 0;
+    let mut timing = Timing {
+        nanoseconds: u64::MAX,
+        is_unique: false,
+    };
+    let mut spent: u64 = 0;
     for _ in 0..ROUNDS {
-        if matches!(solve(&puzzle), Answer::One(_)) {
-            unique = unique.saturating_add(1);
+        if spent > ENOUGH {
+            break;
         }
+        let start = Instant::now(rt)?;
+        timing.is_unique = is_unique(rt.alloc(), task, &puzzle);
+        let elapsed = u64::try_from(start.elapsed(rt)?.as_nanos()).unwrap_or(u64::MAX);
+        timing.nanoseconds = timing.nanoseconds.min(elapsed);
+        spent = spent.saturating_add(elapsed);
     }
-    let elapsed = u64::try_from(start.elapsed(clock)?.as_nanos()).unwrap_or(u64::MAX);
-    Ok(Some(Timing {
-        nanoseconds: elapsed / ROUNDS,
-        is_unique: unique == ROUNDS,
-    }))
+    Ok(Some(timing))
+}
+
+/// Does what is timed, and tells whether there was just one solution.
+fn is_unique<P: Game>(alloc: Global, task: Task, puzzle: &P) -> bool {
+    match task {
+        Task::Solve => matches!(solve(puzzle), Answer::One(_)),
+        Task::List => match solutions(alloc, puzzle, LISTED) {
+            Ok(listed) => listed.len() == 1,
+            Err(_) => false,
+        },
+    }
 }
 
 /// Adds a puzzle to its class.
@@ -80,6 +113,7 @@ fn count(
 /// Solves the puzzle of one line; a line that can't be read is told on standard error.
 fn solve_line<R: Clock + Alloc<A = Global> + Eprint>(
     rt: &R,
+    task: Task,
     classes: &mut Vec<Class>,
     line: &str,
 ) -> io::Result<()> {
@@ -89,10 +123,10 @@ fn solve_line<R: Clock + Alloc<A = Global> + Eprint>(
     if name.starts_with('#') {
         return Ok(());
     }
-    let timing = if name.starts_with("towers ") {
-        timing_of::<Towers>(rt, id.as_bytes())?
+    let timing = if name.starts_with("towers") {
+        timing_of::<Towers>(rt, task, id.as_bytes())?
     } else {
-        timing_of::<Unequal>(rt, id.as_bytes())?
+        timing_of::<Unequal>(rt, task, id.as_bytes())?
     };
     match timing {
         Some(timing) => Ok(count(rt.alloc(), classes, name, &timing)?),
@@ -100,10 +134,21 @@ fn solve_line<R: Clock + Alloc<A = Global> + Eprint>(
     }
 }
 
+/// What the word behind the program's name asks for.
+fn task_of(rt: &(impl Env + Alloc)) -> io::Result<Task> {
+    let mut words = env::args(rt)?;
+    let _program = words.next();
+    Ok(match words.next() {
+        Some(word) if word.as_str() == "list" => Task::List,
+        _ => Task::Solve,
+    })
+}
+
 fn main(rt: HostRuntime) -> io::Result<()> {
+    let task = task_of(&rt)?;
     let mut classes = Vec::new(rt.alloc());
     for line in rt.lines(rt.alloc()) {
-        solve_line(&rt, &mut classes, line?.as_str())?;
+        solve_line(&rt, task, &mut classes, line?.as_str())?;
     }
     for class in &classes {
         let name = class.name.as_str();

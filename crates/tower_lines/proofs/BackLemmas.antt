@@ -1,51 +1,29 @@
 -- The counts from which a start with a mask can show the clue, from those with one value more.
-use Rattle.std.proofs.Common.{◌≡◌, ℕ, ◌+◌, ◌-◌, ◌^◌, ◌<◌, ◌≤◌, inl, inr, ◌↔◌, true, false, not, ◌&&◌, ltb, cond, List, [], ◌∷◌, ◌++◌, length, get_or, set, refl, sym, ap, ◌∙◌, subst, arith, append_assoc, length-append, bit_or, count_ones}
-use Rattle.std.proofs.lemmas.Bool.{cases_eq, both_ways, and_parts, and_from, or_cases, or_left, or_right, ltb-true, lt-ltb, not-true, not_from_false, false_from_ne_true}
+use Rattle.std.proofs.Common.{◌≡◌, ℕ, ◌+◌, ◌-◌, ◌^◌, ◌<◌, ◌≤◌, inl, inr, ◌↔◌, true, false, ltb, cond, List, [], ◌∷◌, ◌++◌, length, get_or, set, refl, sym, ap, ◌∙◌, subst, arith, append_assoc, length-append, bit_or, count_ones}
+use Rattle.std.proofs.lemmas.Bool.{cases_eq, both_ways, or_cases, or_left, or_right, false_from_ne_true}
 use Rattle.std.proofs.lemmas.Nat.{ones-le}
 use Rattle.std.proofs.lemmas.List.{append-nil, nil_from_length, get_or-set_same, get_or-set_other}
 use Rattle.tower_lines.specs.TowersSeen.{seen, seen_after}
 use Rattle.tower_lines.specs.LineFillings.{has_bit, IsStart}
 use Rattle.tower_lines.specs.LineMasks.{IsMask, AreFrontCounts, IsEnd, AreBackCounts, IsPassed}
-use Rattle.tower_lines.proofs.MarkLemmas.{added_with, added_without, added_lacks, added_other, added_ones, added_below, mark-zero, mark-or, mark-pow, mark-pow_same, below_from_marks, IsShared}
-use Rattle.tower_lines.proofs.MaskLemmas.{mask_in_table, mask_more, mask-ones, tower, seen-next}
+use Rattle.tower_lines.proofs.MarkLemmas.{added_with, added_without, added_other, added_ones, added_below, mark-zero, mark-or, mark-pow, mark-pow_same, below_from_marks, IsShared}
+use Rattle.tower_lines.proofs.MaskLemmas.{mask_more, mask-ones, tower, seen-next, seen-more}
+use Rattle.tower_lines.proofs.NextValues.{IsNext, AreNextValues, next_in, next_from_bit, next_rest, bit_from_start}
 use Rattle.tower_lines.proofs.SeenLemmas.{seen-append}
 use Rattle.tower_lines.proofs.StartLemmas.{IsNextValue, start_front, start_next, start_more}
-
--- k + 1 can come next after a start with the mask
-pub record IsNext (sets : List ℕ) (mask k : ℕ) : Type 0 where
-  pub fresh : has_bit mask k ≡ false
-  pub small : k < length sets
-  pub candidate : has_bit (get_or sets (count_ones mask) 0) (k + 1) ≡ true
 
 -- the counts from which a start with the mask can go on with k + 1 and show the clue
 pub record IsBackBy (sets : List ℕ) (clue mask k counts : ℕ) : Type 0 where
   pub only : (p : List ℕ) → IsStart sets p → IsMask mask p → (c : ℕ) → has_bit counts c ≡ true → (s : List ℕ) × IsEnd sets clue c p ((k + 1) ∷ s)
-  pub all : (p s : List ℕ) (c : ℕ) → IsMask mask p → IsEnd sets clue c p ((k + 1) ∷ s) → has_bit counts c ≡ true
+  pub all : (p s : List ℕ) → IsMask mask p → IsEnd sets clue (seen p) p ((k + 1) ∷ s) → has_bit counts (seen p) ≡ true
 
 -- the same for every next value that isn't left, and those of these values that a filling has
 pub record IsBackBut (sets : List ℕ) (clue mask left counts passed : ℕ) : Type 0 where
   pub next : (k : ℕ) → has_bit left k ≡ true → IsNext sets mask k
   pub only : (p : List ℕ) → IsStart sets p → IsMask mask p → (c : ℕ) → has_bit counts c ≡ true → (s : List ℕ) × IsEnd sets clue c p s
-  pub all : (p s : List ℕ) (k c : ℕ) → has_bit left k ≡ false → IsMask mask p → IsEnd sets clue c p ((k + 1) ∷ s) → has_bit counts c ≡ true
+  pub all : (p s : List ℕ) (k : ℕ) → has_bit left k ≡ false → IsMask mask p → IsEnd sets clue (seen p) p ((k + 1) ∷ s) → has_bit counts (seen p) ≡ true
   pub passed_only : (k : ℕ) → has_bit passed k ≡ true → IsPassed sets clue mask (k + 1)
   pub passed_all : (k : ℕ) → has_bit left k ≡ false → IsPassed sets clue mask (k + 1) → has_bit passed k ≡ true
-
--- a value that comes next in some line
-next_in : {sets : List ℕ} {mask : ℕ} (p : List ℕ) (k : ℕ) (s : List ℕ) → IsStart sets (p ++ (k + 1) ∷ s) → IsMask mask p → IsNext sets mask k
-next_in {sets} {mask} p k s start used =
-    let next = start_next p (k + 1) s start in
-    let n : count_ones mask ≡ length p = mask-ones p (start_front p ((k + 1) ∷ s) start) used in
-    record {
-      fresh = used.bits k ∙ next.fresh;
-      small = omega (arith, next.high);
-      candidate = rw n next.candidate;
-    }
-
--- the mask with a next value is a place of the table
-pub next_in_table : {sets : List ℕ} {mask k : ℕ} (value : ℕ) → length sets ≤ 9 → mask < 2 ^ length sets → IsNext sets mask k → value ≡ 2 ^ k → mask + value < 512
-next_in_table {sets} {mask} {k} value short inside next is =
-    let a = added_with mask k (mask + value) next.fresh (ap (λ n. mask + n) is) in
-    mask_in_table (length sets) (mask + value) short (added_below a (length sets) inside next.small)
 
 pub back_step : {sets : List ℕ} {clue mask k after counts : ℕ} (value : ℕ) → mask < 2 ^ length sets → IsNext sets mask k → value ≡ 2 ^ k → AreBackCounts sets clue (mask + value) after
     → ((c : ℕ) → has_bit counts c ≡ has_bit after (c + cond (ltb mask value) 1 0)) → IsBackBy sets clue mask k counts
@@ -75,13 +53,15 @@ back_step {sets} {clue} {mask} {k} {after} {counts} value inside next is table l
               shown = omega (arith, seen-next p s k used, r.1.shown);
             },
           );
-      all = λ p s c used end.
+      all = λ p s used end.
           let whole : (p ++ (k + 1) ∷ []) ++ s ≡ p ++ (k + 1) ∷ s = append_assoc p ((k + 1) ∷ []) s in
-          down c ∙ back.all (p ++ (k + 1) ∷ []) s (c + tower mask k) (mask_more p used a) record {
+          let more = seen-more p k used in
+          let there = back.all (p ++ (k + 1) ∷ []) s (mask_more p used a) record {
             start = rw whole end.start;
             whole = rw whole end.whole;
-            shown = omega (arith, seen-next p s k used, end.shown);
-          };
+            shown = omega (arith, more, seen-next p s k used, end.shown);
+          } in
+          down (seen p) ∙ ap (λ n. has_bit after n) (sym more) ∙ there;
     }
 
 -- a line without squares left
@@ -91,42 +71,32 @@ back_full {sets} {clue} {mask} {counts} full is = record {
       let same = mark-pow clue c (rw is at e) in
       let n = mask-ones p start used in
       ([], record { start = rw append-nil start; whole = rw append-nil (sym n ∙ full); shown = omega arith });
-  all = λ p s c used end.
+  all = λ p s used end.
       let n = mask-ones p (start_front p s end.start) used in
       let none : s ≡ [] = nil_from_length s (omega (arith, length-append p s, end.whole)) in
-      let shown : c + 0 ≡ clue = rw none at end.shown in
-      let same : c ≡ clue = omega arith in
+      let shown : seen p + 0 ≡ clue = rw none at end.shown in
+      let same : seen p ≡ clue = omega arith in
       rw (is, same) (mark-pow_same clue);
 }
 
 -- a mask that no start has
-pub back_unreached : {sets : List ℕ} {clue mask : ℕ} → AreFrontCounts sets mask 0 → AreBackCounts sets clue mask 0
+pub back_unreached : {sets : List ℕ} {clue mask : ℕ} → AreFrontCounts sets clue mask 0 → AreBackCounts sets clue mask 0
 back_unreached {sets} {clue} {mask} front = record {
   only = λ p start used c e. absurd (both_ways (has_bit 0 c) (mark-zero c) e);
-  all = λ p s c used end. absurd (both_ways (has_bit 0 (seen p)) (mark-zero (seen p)) (front.all p (start_front p s end.start) used));
+  all = λ p s used end. absurd (both_ways (has_bit 0 (seen p)) (mark-zero (seen p)) (front.all p (start_front p s end.start) used (omega (arith, end.shown))));
 }
 
-pub back_none : {sets : List ℕ} {clue mask left : ℕ}
-    → ((k : ℕ) → has_bit left k ≡ (has_bit (get_or sets (count_ones mask) 0) (k + 1) && (ltb k (length sets) && not (has_bit mask k))))
-    → IsBackBut sets clue mask left 0 0
+pub back_none : {sets : List ℕ} {clue mask left : ℕ} → AreNextValues sets mask left → IsBackBut sets clue mask left 0 0
 back_none {sets} {clue} {mask} {left} bits = record {
-  next = λ k e.
-      let parts = and_parts _ _ (sym (bits k) ∙ e) in
-      let rest = and_parts _ _ parts.1 in
-      record { fresh = not-true _ rest.1; small = ltb-true _ _ rest.0; candidate = parts.0 };
+  next = next_from_bit bits;
   only = λ p start used c e. absurd (both_ways (has_bit 0 c) (mark-zero c) e);
-  all = λ p s k c e used end. absurd (both_ways (has_bit left k) e (here p k s end.start used));
+  all = λ p s k e used end. absurd (both_ways (has_bit left k) e (bit_from_start bits p k s end.start used));
   passed_only = λ k e. absurd (both_ways (has_bit 0 k) (mark-zero k) e);
-  passed_all = λ k e h. absurd (both_ways (has_bit left k) e (here h.before k h.after h.filling.start h.used));
+  passed_all = λ k e h. absurd (both_ways (has_bit left k) e (bit_from_start bits h.before k h.after h.filling.start h.used));
 }
-  where
-    here : (p : List ℕ) (k : ℕ) (s : List ℕ) → IsStart sets (p ++ (k + 1) ∷ s) → IsMask mask p → has_bit left k ≡ true
-    here p k s start used =
-        let next = next_in p k s start used in
-        bits k ∙ and_from _ _ next.candidate (and_from _ _ (lt-ltb k (length sets) next.small) (not_from_false _ next.fresh))
 
 -- the starts that show a count, and the counts from which the clue can be shown, meet in a filling
-pub passed_from_shared : {sets : List ℕ} {clue mask k reached counts : ℕ} → AreFrontCounts sets mask reached → IsBackBy sets clue mask k counts → IsShared reached counts → IsPassed sets clue mask (k + 1)
+pub passed_from_shared : {sets : List ℕ} {clue mask k reached counts : ℕ} → AreFrontCounts sets clue mask reached → IsBackBy sets clue mask k counts → IsShared reached counts → IsPassed sets clue mask (k + 1)
 passed_from_shared {sets} {clue} {mask} {k} front back shared =
     let f = front.only shared.0 shared.1 in
     let b = back.only f.0 f.1 f.2 shared.0 shared.2 in
@@ -141,12 +111,12 @@ passed_from_shared {sets} {clue} {mask} {k} front back shared =
       };
     }
 
-pub shared_from_passed : {sets : List ℕ} {clue mask k reached counts : ℕ} → AreFrontCounts sets mask reached → IsBackBy sets clue mask k counts → IsPassed sets clue mask (k + 1) → IsShared reached counts
+pub shared_from_passed : {sets : List ℕ} {clue mask k reached counts : ℕ} → AreFrontCounts sets clue mask reached → IsBackBy sets clue mask k counts → IsPassed sets clue mask (k + 1) → IsShared reached counts
 shared_from_passed {sets} {clue} {mask} {k} front back h =
     let f = h.filling in (
       seen h.before,
-      front.all h.before (start_front h.before ((k + 1) ∷ h.after) f.start) h.used,
-      back.all h.before h.after (seen h.before) h.used record {
+      front.all h.before (start_front h.before ((k + 1) ∷ h.after) f.start) h.used (omega (arith, seen-append h.before ((k + 1) ∷ h.after), f.shown)),
+      back.all h.before h.after h.used record {
         start = f.start;
         whole = f.whole;
         shown = sym (seen-append h.before ((k + 1) ∷ h.after)) ∙ f.shown;
@@ -154,24 +124,21 @@ shared_from_passed {sets} {clue} {mask} {k} front back h =
     )
 
 pub back_more : {sets : List ℕ} {clue mask left counts passed k more rest reached : ℕ} (value shared : ℕ) → has_bit left k ≡ true → value ≡ 2 ^ k → rest + value ≡ left
-    → IsBackBut sets clue mask left counts passed → AreFrontCounts sets mask reached → IsBackBy sets clue mask k more
+    → IsBackBut sets clue mask left counts passed → AreFrontCounts sets clue mask reached → IsBackBy sets clue mask k more
     → ((j : ℕ) → (has_bit shared j ≡ true) ↔ ((has_bit value j ≡ true) × IsShared reached more))
     → IsBackBut sets clue mask rest (bit_or counts more) (bit_or passed shared)
 back_more {sets} {clue} {mask} {left} {counts} {passed} {k} {more} {rest} {reached} value shared used is sum back front by met =
     let a = added_without rest k left used (rw is at sum) in
     let value_is = λ (j : ℕ) (e : has_bit value j ≡ true). mark-pow k j (rw is at e) in
     record {
-      next = λ j e. back.next j (elim (cases_eq j k) [
-        | inl same ↦ absurd (both_ways (has_bit rest k) (added_lacks a) (rw same at e))
-        | inr other ↦ added_other a j other ∙ e
-      ]);
+      next = next_rest k rest used (rw is at sum) back.next;
       only = λ p start m c e. elim (or_cases _ _ (sym (mark-or counts more c) ∙ e)) [
         | inl f ↦ back.only p start m c f
         | inr f ↦ (let r = by.only p start m c f in ((k + 1) ∷ r.0, r.1))
       ];
-      all = λ p s j c e m end. mark-or counts more c ∙ elim (cases_eq j k) [
-        | inl same ↦ or_right _ _ (by.all p s c m (let P : ℕ → Type 0 = λ i. IsEnd sets clue c p ((i + 1) ∷ s) in subst P same end))
-        | inr other ↦ or_left _ _ (back.all p s j c (added_other a j other ∙ e) m end)
+      all = λ p s j e m end. mark-or counts more (seen p) ∙ elim (cases_eq j k) [
+        | inl same ↦ or_right _ _ (by.all p s m (let P : ℕ → Type 0 = λ i. IsEnd sets clue (seen p) p ((i + 1) ∷ s) in subst P same end))
+        | inr other ↦ or_left _ _ (back.all p s j (added_other a j other ∙ e) m end)
       ];
       passed_only = λ j e. elim (or_cases _ _ (sym (mark-or passed shared j) ∙ e)) [
         | inl f ↦ back.passed_only j f
@@ -186,18 +153,18 @@ back_more {sets} {clue} {mask} {left} {counts} {passed} {k} {more} {rest} {reach
 pub back_all : {sets : List ℕ} {clue mask counts passed : ℕ} → count_ones mask < length sets → IsBackBut sets clue mask 0 counts passed → AreBackCounts sets clue mask counts
 back_all {sets} {clue} {mask} {counts} {passed} room back = record {
   only = back.only;
-  all = λ p s c used end. each p s c used end;
+  all = λ p s used end. each p s used end;
 }
   where
-    each : (p s : List ℕ) (c : ℕ) → IsMask mask p → IsEnd sets clue c p s → has_bit counts c ≡ true
-    each p [] c used end =
+    each : (p s : List ℕ) → IsMask mask p → IsEnd sets clue (seen p) p s → has_bit counts (seen p) ≡ true
+    each p [] used end =
         let n = mask-ones p (start_front p [] end.start) used in
         absurd (omega (arith, rw append-nil at end.whole))
-    each p (v ∷ s) c used end =
+    each p (v ∷ s) used end =
         let low = (start_next p v s end.start).low in
         let e : v ≡ (v - 1) + 1 = omega arith in
-        let P : ℕ → Type 0 = λ i. IsEnd sets clue c p (i ∷ s) in
-        back.all p s (v - 1) c (mark-zero (v - 1)) used (subst P e end)
+        let P : ℕ → Type 0 = λ i. IsEnd sets clue (seen p) p (i ∷ s) in
+        back.all p s (v - 1) (mark-zero (v - 1)) used (subst P e end)
 
 pub passed_small : {sets : List ℕ} {clue mask counts passed : ℕ} → IsBackBut sets clue mask 0 counts passed → passed < 2 ^ length sets
 passed_small {sets} {clue} {mask} {counts} {passed} back =

@@ -1,132 +1,219 @@
--- The counts of towers along the starts with a mask, from those with one value less.
-use Rattle.std.proofs.Common.{◌≡◌, ℕ, ◌+◌, ◌-◌, ◌^◌, ◌<◌, ◌≤◌, inl, inr, true, false, ◌&&◌, ltb, cond, List, [], ◌∷◌, ◌++◌, length, get_or, set, refl, sym, ap, ◌∙◌, subst, arith, bit_or, count_ones}
-use Rattle.std.proofs.lemmas.Bool.{cases_eq, both_ways, and_parts, and_from, or_cases, or_left, or_right}
+-- The counts of towers along the starts with a mask, as the masks below it go on to it with one value more.
+use Rattle.std.proofs.Common.{◌≡◌, ◌≢◌, ℕ, ◌+◌, ◌-◌, ◌^◌, ◌<◌, ◌≤◌, ◌⊎◌, inl, inr, true, false, ltb, cond, List, [], ◌∷◌, ◌++◌, length, get_or, set, refl, sym, ap, ◌∙◌, subst, arith, bit_or, count_ones}
+use Rattle.std.proofs.lemmas.Bool.{cases_eq, cases_lt, both_ways, or_cases, or_left, or_right}
 use Rattle.std.proofs.lemmas.Nat.{ones-le}
-use Rattle.std.proofs.lemmas.List.{length_push, get_or-set_same, get_or-set_other}
+use Rattle.std.proofs.lemmas.List.{get_or-set_same, get_or-set_other}
 use Rattle.tower_lines.specs.TowersSeen.{seen}
 use Rattle.tower_lines.specs.LineFillings.{has_bit, IsStart}
-use Rattle.tower_lines.specs.LineMasks.{IsMask, AreFrontCounts}
-use Rattle.tower_lines.proofs.MarkLemmas.{added_without, added_lacks, added_other, added_ones, mark-zero, mark-or, below_from_mark}
-use Rattle.tower_lines.proofs.MaskLemmas.{mask_none, mask_more, mask_less, mask_unique, mask-ones, nil_from_mask, is_in-push_same, tower, seen-more}
-use Rattle.tower_lines.proofs.SeenLemmas.{seen_most}
+use Rattle.tower_lines.specs.LineMasks.{IsMask, AreFrontCounts, AreCountsSoFar, AreDoneBelow}
+use Rattle.tower_lines.proofs.MarkLemmas.{added_with, added_without, added_above, added_below, added_other, mark-zero, mark-or, added_ones, below_from_mark}
+use Rattle.tower_lines.proofs.MaskLemmas.{mask_none, mask_more, mask_of, mask_unique, mask-ones, tower, seen-more}
+use Rattle.tower_lines.proofs.NextValues.{IsNext, AreNextValues, bit_from_start}
+use Rattle.tower_lines.proofs.SeenLemmas.{seen-append}
 use Rattle.tower_lines.proofs.StartLemmas.{IsNextValue, start_front, start_next, start_more}
 
--- k + 1 can be the last value of a start with the mask
-pub record IsLast (sets : List ℕ) (mask k : ℕ) : Type 0 where
-  pub used : has_bit mask k ≡ true
-  pub candidate : (place : ℕ) → place + 1 ≡ count_ones mask → has_bit (get_or sets place 0) (k + 1) ≡ true
+-- what is done while the values of a mask are gone through: the masks below it, and its values that aren't left
+abbrev pub IsDone : ℕ → ℕ → ℕ → ℕ → Type 0
+IsDone mask left rest k = (rest < mask) ⊎ ((rest ≡ mask) × (has_bit left k ≡ false))
 
--- the counts of the starts with the mask whose last value is k + 1
-pub record IsFrontBy (sets : List ℕ) (mask k counts : ℕ) : Type 0 where
-  pub only : (c : ℕ) → has_bit counts c ≡ true → (p : List ℕ) × IsStart sets p × IsMask mask p × (seen p ≡ c)
-  pub all : (q : List ℕ) → IsStart sets (q ++ (k + 1) ∷ []) → IsMask mask (q ++ (k + 1) ∷ []) → has_bit counts (seen (q ++ (k + 1) ∷ [])) ≡ true
+-- the same for a whole table
+pub record AreDoneBut (sets : List ℕ) (clue mask left : ℕ) (front : List ℕ) : Type 0 where
+  pub each : (m : ℕ) → m < 2 ^ length sets → AreCountsSoFar sets clue m (get_or front m 0) (IsDone mask left)
 
--- the counts of the starts with the mask, but for those whose last value is left
-pub record IsFrontBut (sets : List ℕ) (mask left counts : ℕ) : Type 0 where
-  pub last : (k : ℕ) → has_bit left k ≡ true → IsLast sets mask k
-  pub only : (c : ℕ) → has_bit counts c ≡ true → (p : List ℕ) × IsStart sets p × IsMask mask p × (seen p ≡ c)
-  pub all : (q : List ℕ) (k : ℕ) → has_bit left k ≡ false → IsStart sets (q ++ (k + 1) ∷ []) → IsMask mask (q ++ (k + 1) ∷ []) → has_bit counts (seen (q ++ (k + 1) ∷ [])) ≡ true
+-- ---- one mask of the table
 
-pub front_step : {sets : List ℕ} {mask k rest counts more : ℕ} (value : ℕ) → length sets ≤ 9 → mask < 2 ^ length sets → IsLast sets mask k → value ≡ 2 ^ k → rest + value ≡ mask → AreFrontCounts sets rest counts
-    → ((c : ℕ) → has_bit more c ≡ true → (b : ℕ) × (b + cond (ltb rest value) 1 0 ≡ c) × (has_bit counts b ≡ true))
-    → ((b : ℕ) → b < 15 → has_bit counts b ≡ true → has_bit more (b + cond (ltb rest value) 1 0) ≡ true)
-    → IsFrontBy sets mask k more
-front_step {sets} {mask} {k} {rest} {counts} {more} value short inside last is sum front only all =
-    let a = added_without rest k mask last.used (rw is at sum) in
-    let lower : (c : ℕ) → has_bit more c ≡ true → (b : ℕ) × (b + tower rest k ≡ c) × (has_bit counts b ≡ true) = rw is at only in
-    let raise : (b : ℕ) → b < 15 → has_bit counts b ≡ true → has_bit more (b + tower rest k) ≡ true = rw is at all in
+-- what is done under other words
+so_far_same : {sets : List ℕ} {clue mask counts : ℕ} {Done New : ℕ → ℕ → Type 0}
+    → ((q : List ℕ) (k rest : ℕ) → IsMask rest q → New rest k → IsStart sets (q ++ (k + 1) ∷ []) → seen (q ++ (k + 1) ∷ []) ≤ clue → Done rest k)
+    → AreCountsSoFar sets clue mask counts Done → AreCountsSoFar sets clue mask counts New
+so_far_same {sets} {clue} {mask} {counts} {Done} {New} to h = record {
+  only = h.only;
+  first = h.first;
+  all = λ q k rest used done start m few. h.all q k rest used (to q k rest used done start few) start m few;
+}
+
+-- a mask is right once all masks below it are done
+pub front_done : {sets : List ℕ} {clue mask from counts : ℕ} → mask ≤ from → AreCountsSoFar sets clue mask counts (λ rest k. rest < from) → AreFrontCounts sets clue mask counts
+front_done {sets} {clue} {mask} {from} {counts} below h = record {
+  only = h.only;
+  all = λ p start used few. each p start used few;
+}
+  where
+    last_split : (x : ℕ) (p : List ℕ) → (q : List ℕ) × (v : ℕ) × (x ∷ p ≡ q ++ v ∷ [])
+    last_split x [] = ([], x, refl)
+    last_split x (y ∷ p) = let r = last_split y p in (x ∷ r.0, r.1, ap (λ s. x ∷ s) r.2)
+
+    each : (p : List ℕ) → IsStart sets p → IsMask mask p → seen p ≤ clue → has_bit counts (seen p) ≡ true
+    each [] start used few = h.first (mask_unique [] used mask_none)
+    each (x ∷ p) start used few =
+        let r = last_split x p in
+        let k = r.1 - 1 in
+        let low = (start_next r.0 r.1 [] (rw r.2 at start)).low in
+        let e : r.1 ≡ k + 1 = omega arith in
+        let whole : x ∷ p ≡ r.0 ++ (k + 1) ∷ [] = r.2 ∙ ap (λ v. r.0 ++ v ∷ []) e in
+        let start' = rw whole at start in
+        let used' = rw whole at used in
+        let before = mask_of r.0 (start_front r.0 ((k + 1) ∷ []) start') in
+        let fresh = before.used.bits k ∙ (start_next r.0 (k + 1) [] start').fresh in
+        let a = added_with before.mask k (before.mask + 2 ^ k) fresh refl in
+        let is : mask ≡ before.mask + 2 ^ k = mask_unique {m = mask} {n = before.mask + 2 ^ k} (r.0 ++ (k + 1) ∷ []) used' (mask_more r.0 before.used a) in
+        let P : List ℕ → Type 0 = λ l. IsStart sets l → IsMask mask l → seen l ≤ clue → has_bit counts (seen l) ≡ true in
+        subst P (sym whole) (h.all r.0 k before.mask before.used (omega (arith, added_above a))) start used few
+
+-- ---- one value more
+
+-- what the starts with the mask show with the value k + 1
+pub record AreCountsBy (sets : List ℕ) (clue mask k counts : ℕ) : Type 0 where
+  pub only : (c : ℕ) → has_bit counts c ≡ true → (p : List ℕ) × IsStart sets p × IsMask (mask + 2 ^ k) p × (seen p ≡ c)
+  pub all : (q : List ℕ) → IsMask mask q → IsStart sets (q ++ (k + 1) ∷ []) → seen (q ++ (k + 1) ∷ []) ≤ clue → has_bit counts (seen (q ++ (k + 1) ∷ [])) ≡ true
+
+pub front_step : {sets : List ℕ} {clue mask k counts more : ℕ} (value : ℕ) → mask < 2 ^ length sets → IsNext sets mask k → value ≡ 2 ^ k → AreFrontCounts sets clue mask counts
+    → ((c : ℕ) → has_bit more c ≡ true → (b : ℕ) × (b + cond (ltb mask value) 1 0 ≡ c) × (has_bit counts b ≡ true))
+    → ((b : ℕ) → b + cond (ltb mask value) 1 0 ≤ clue → has_bit counts b ≡ true → has_bit more (b + cond (ltb mask value) 1 0) ≡ true)
+    → AreCountsBy sets clue mask k more
+front_step {sets} {clue} {mask} {k} {counts} {more} value inside next is front only all =
+    let a = added_with mask k (mask + 2 ^ k) next.fresh refl in
+    let lower : (c : ℕ) → has_bit more c ≡ true → (b : ℕ) × (b + tower mask k ≡ c) × (has_bit counts b ≡ true) = rw is at only in
+    let raise : (b : ℕ) → b + tower mask k ≤ clue → has_bit counts b ≡ true → has_bit more (b + tower mask k) ≡ true = rw is at all in
     let n = added_ones a in
-    let most = ones-le (length sets) mask inside in
+    let most = ones-le (length sets) (mask + 2 ^ k) (added_below a (length sets) inside next.small) in
     record {
       only = λ c e.
           let u = lower c e in
           let f = front.only u.0 u.2 in
           let q = f.0 in
-          let long : count_ones rest ≡ length q = mask-ones q f.1 f.2 in
-          let next : IsNextValue sets q (k + 1) = record {
+          let long : count_ones mask ≡ length q = mask-ones q f.1 f.2 in
+          let value : IsNextValue sets q (k + 1) = record {
             room = omega arith;
             low = omega arith;
-            high = omega (arith, below_from_mark mask (length sets) k inside last.used);
-            candidate = last.candidate (length q) (omega arith);
-            fresh = sym (f.2.bits k) ∙ added_lacks a;
+            high = omega (arith, next.small);
+            candidate = rw (← long) next.candidate;
+            fresh = sym (f.2.bits k) ∙ next.fresh;
           } in
-          (q ++ (k + 1) ∷ [], start_more q (k + 1) f.1 next, mask_more q f.2 a, seen-more q k f.2 ∙ ap (λ n. n + tower rest k) f.3 ∙ u.1);
-      all = λ q start used.
+          (q ++ (k + 1) ∷ [], start_more q (k + 1) f.1 value, mask_more q f.2 a, seen-more q k f.2 ∙ ap (λ n. n + tower mask k) f.3 ∙ u.1);
+      all = λ q used start few.
           let first = start_front q ((k + 1) ∷ []) start in
-          let without = mask_less q used (start_next q (k + 1) [] start).fresh a in
-          let l = seen_most [] q in
-          rw (seen-more q k without) (raise (seen q) (omega (arith, first.room)) (front.all q first without));
+          let is = seen-more q k used in
+          let there = raise (seen q) (omega arith) (front.all q first used (omega arith)) in
+          ap (λ n. has_bit more n) is ∙ there;
     }
 
-same_from_sum : (a b : ℕ) → a + 1 ≡ b + 1 → a ≡ b
-same_from_sum a b e = omega arith
-
-pub front_none : {sets : List ℕ} {mask left : ℕ} (place : ℕ) → place + 1 ≡ count_ones mask
-    → ((k : ℕ) → has_bit left k ≡ (has_bit (get_or sets place 0) (k + 1) && has_bit mask k)) → IsFrontBut sets mask left 0
-front_none {sets} {mask} {left} place long bits =
-    let same_place = λ (at : ℕ) (f : at + 1 ≡ count_ones mask). same_from_sum at place (f ∙ sym long) in
+-- the entry of the mask with the value
+counts_here : {sets : List ℕ} {clue mask left counts k more : ℕ} (next : ℕ) → has_bit left k ≡ true → next + 2 ^ k ≡ left
+    → AreCountsSoFar sets clue (mask + 2 ^ k) counts (IsDone mask left) → AreCountsBy sets clue mask k more → AreCountsSoFar sets clue (mask + 2 ^ k) (bit_or counts more) (IsDone mask next)
+counts_here {sets} {clue} {mask} {left} {counts} {k} {more} next used sum h by =
+    let a = added_without next k left used sum in
     record {
-      last = λ k e.
-          let both = and_parts _ _ (sym (bits k) ∙ e) in
-          record { used = both.1; candidate = λ at f. rw (same_place at f) both.0 };
-      only = λ c e. absurd (both_ways (has_bit 0 c) (mark-zero c) e);
-      all = λ q k e start used.
-          let n : count_ones mask ≡ length q + 1 = mask-ones (q ++ (k + 1) ∷ []) start used ∙ length_push q (k + 1) in
-          let same : length q ≡ place = omega arith in
-          let candidate = rw same at ((start_next q (k + 1) [] start).candidate) in
-          absurd (both_ways (has_bit left k) e (bits k ∙ and_from _ _ candidate (used.bits k ∙ is_in-push_same q k)));
-    }
-
-pub front_more : {sets : List ℕ} {mask left counts k more rest : ℕ} → has_bit left k ≡ true → rest + 2 ^ k ≡ left
-    → IsFrontBut sets mask left counts → IsFrontBy sets mask k more → IsFrontBut sets mask rest (bit_or counts more)
-front_more {sets} {mask} {left} {counts} {k} {more} {rest} used sum front by =
-    let a = added_without rest k left used sum in
-    record {
-      last = λ j e. front.last j (elim (cases_eq j k) [
-        | inl same ↦ absurd (both_ways (has_bit rest k) (added_lacks a) (rw same at e))
-        | inr other ↦ added_other a j other ∙ e
-      ]);
-      only = λ c e. elim (or_cases _ _ (sym (mark-or counts more c) ∙ e)) [ inl f ↦ front.only c f | inr f ↦ by.only c f ];
-      all = λ q j e start m. mark-or counts more _ ∙ elim (cases_eq j k) [
-        | inl same ↦ (or_right _ _ (let P : ℕ → Type 0 = λ i. IsStart sets (q ++ (i + 1) ∷ []) → IsMask mask (q ++ (i + 1) ∷ []) → has_bit more (seen (q ++ (i + 1) ∷ [])) ≡ true in
-            subst P (sym same) (by.all q) start m))
-        | inr other ↦ or_left _ _ (front.all q j (added_other a j other ∙ e) start m)
+      only = λ c e. elim (or_cases _ _ (sym (mark-or counts more c) ∙ e)) [ inl f ↦ h.only c f | inr f ↦ by.only c f ];
+      first = λ z. mark-or counts more 0 ∙ or_left _ _ (h.first z);
+      all = λ q j rest m done start u few. mark-or counts more _ ∙ elim done [
+        | inl l ↦ or_left _ _ (h.all q j rest m (inl l) start u few)
+        | inr d ↦ elim (cases_eq j k) [
+          | inl same ↦ (or_right _ _ (let P : ℕ → Type 0 = λ i. IsStart sets (q ++ (i + 1) ∷ []) → seen (q ++ (i + 1) ∷ []) ≤ clue → has_bit more (seen (q ++ (i + 1) ∷ [])) ≡ true in
+              subst P (sym same) (by.all q (rw d.0 at m)) start few))
+          | inr other ↦ or_left _ _ (h.all q j rest m (inr (d.0, added_other a j other ∙ d.1)) start u few)
+        ]
       ];
     }
 
-last_split : (x : ℕ) (p : List ℕ) → (q : List ℕ) × (v : ℕ) × (x ∷ p ≡ q ++ v ∷ [])
-last_split x [] = ([], x, refl)
-last_split x (y ∷ p) = let r = last_split y p in (x ∷ r.0, r.1, ap (λ s. x ∷ s) r.2)
+-- and every other entry
+counts_there : {sets : List ℕ} {clue mask left m counts : ℕ} (next k : ℕ) → has_bit left k ≡ true → next + 2 ^ k ≡ left → m ≢ mask + 2 ^ k
+    → AreCountsSoFar sets clue m counts (IsDone mask left) → AreCountsSoFar sets clue m counts (IsDone mask next)
+counts_there {sets} {clue} {mask} {left} {m} {counts} next k used sum other h =
+    let a = added_without next k left used sum in
+    record {
+      only = h.only;
+      first = h.first;
+      all = λ q j rest r done start u few. elim done [
+        | inl l ↦ h.all q j rest r (inl l) start u few
+        | inr d ↦ elim (cases_eq j k) [
+          | inl same ↦ (let r' = rw d.0 at r in
+              let start' = rw same at start in
+              let u' = rw same at u in
+              let fresh = r'.bits k ∙ (start_next q (k + 1) [] start').fresh in
+              absurd (other (mask_unique (q ++ (k + 1) ∷ []) u' (mask_more q r' (added_with mask k (mask + 2 ^ k) fresh refl)))))
+          | inr apart ↦ h.all q j rest r (inr (d.0, added_other a j apart ∙ d.1)) start u few
+        ]
+      ];
+    }
 
-pub front_all : {sets : List ℕ} {mask counts : ℕ} → 0 < mask → IsFrontBut sets mask 0 counts → AreFrontCounts sets mask counts
-front_all {sets} {mask} {counts} some front = record {
-  only = front.only;
-  all = λ p start used. each p start used;
-}
-  where
-    each : (p : List ℕ) → IsStart sets p → IsMask mask p → has_bit counts (seen p) ≡ true
-    each [] start used = absurd (omega (arith, mask_unique [] used mask_none))
-    each (x ∷ p) start used =
-        let r = last_split x p in
-        let low = (start_next r.0 r.1 [] (rw r.2 at start)).low in
-        let e : r.1 ≡ (r.1 - 1) + 1 = omega arith in
-        let whole : x ∷ p ≡ r.0 ++ ((r.1 - 1) + 1) ∷ [] = r.2 ∙ ap (λ v. r.0 ++ v ∷ []) e in
-        let P : List ℕ → Type 0 = λ l. IsStart sets l → IsMask mask l → has_bit counts (seen l) ≡ true in
-        subst P (sym whole) (front.all r.0 (r.1 - 1) (mark-zero (r.1 - 1))) start used
+-- ---- the table
 
-pub front_start : {sets : List ℕ} → AreFrontCounts sets 0 1
-front_start {sets} = record {
+-- before the first mask
+first_entry : {sets : List ℕ} {clue : ℕ} → AreCountsSoFar sets clue 0 1 (λ rest k. rest < 0)
+first_entry {sets} {clue} = record {
   only = λ c e.
       let none : c ≡ 0 = omega (arith, below_from_mark 1 1 c (omega arith) e) in
       ([], record { room = omega arith; values = λ j l. absurd (omega arith); candidates = λ j l. absurd (omega arith); apart = λ i j o l. absurd (omega arith) }, mask_none, sym none);
-  all = λ p start used. rw (nil_from_mask p start used) refl;
+  first = λ z. refl;
+  all = λ q k rest used done start m few. absurd (omega arith);
 }
 
--- one more entry of the table
-pub fronts_more : {sets : List ℕ} {mask counts : ℕ} (front : List ℕ) → ((m : ℕ) → m < mask → AreFrontCounts sets m (get_or front m 0)) → mask < length front → AreFrontCounts sets mask counts
-    → (m : ℕ) → m < mask + 1 → AreFrontCounts sets m (get_or (set front mask counts) m 0)
-fronts_more {sets} {mask} {counts} front below inside here m l =
-    elim (cases_eq m mask) [
-      | inl same ↦ rw same (rw (get_or-set_same front mask counts 0 inside) here)
-      | inr other ↦ rw (get_or-set_other front mask m counts 0 other) (below m (omega arith))
-    ]
+no_entry : {sets : List ℕ} {clue : ℕ} (mask : ℕ) → mask ≢ 0 → AreCountsSoFar sets clue mask 0 (λ rest k. rest < 0)
+no_entry {sets} {clue} mask some = record {
+  only = λ c e. absurd (both_ways (has_bit 0 c) (mark-zero c) e);
+  first = λ z. absurd (some z);
+  all = λ q k rest used done start m few. absurd (omega arith);
+}
+
+pub table_start : {sets : List ℕ} {clue : ℕ} (front : List ℕ) → ((m : ℕ) → get_or front m 0 ≡ 0) → 0 < length front → AreDoneBelow sets clue 0 (set front 0 1)
+table_start {sets} {clue} front zero inside = record {
+  each = λ m small. elim (cases_eq m 0) [
+    | inl same ↦ rw same (rw (get_or-set_same front 0 1 0 inside) first_entry)
+    | inr other ↦ rw (get_or-set_other front 0 m 1 0 other, zero m) (no_entry m other)
+  ];
+}
+
+-- at a mask
+pub table_at : {sets : List ℕ} {clue mask left : ℕ} (front : List ℕ) → AreNextValues sets mask left → AreDoneBelow sets clue mask front → AreDoneBut sets clue mask left front
+table_at {sets} {clue} {mask} {left} front bits h = record {
+  each = λ m small. so_far_same (λ q k rest used done start few. elim done [
+    | inl l ↦ l
+    | inr d ↦ absurd (both_ways (has_bit left k) d.1 (bit_from_start bits q k [] start (rw d.0 at used)))
+  ]) (h.each m small);
+}
+
+-- one value more
+pub table_more : {sets : List ℕ} {clue mask left k more : ℕ} (next value : ℕ) (front : List ℕ) → has_bit left k ≡ true → value ≡ 2 ^ k → next + value ≡ left → mask + value < length front
+    → AreCountsBy sets clue mask k more → AreDoneBut sets clue mask left front
+    → AreDoneBut sets clue mask next (set front (mask + value) (bit_or (get_or front (mask + value) 0) more))
+table_more {sets} {clue} {mask} {left} {k} {more} next value front used is sum inside by h =
+    let old = get_or front (mask + value) 0 in
+    let sum' : next + 2 ^ k ≡ left = rw is at sum in
+    let P : ℕ → Type 0 = λ n. AreCountsSoFar sets clue (mask + n) old (IsDone mask left) in
+    let Q : ℕ → Type 0 = λ n. AreCountsSoFar sets clue (mask + n) (bit_or old more) (IsDone mask next) in
+    record {
+      each = λ m small. elim (cases_eq m (mask + value)) [
+        | inl same ↦ (let there : P value = rw same at (h.each m small) in
+            rw same (rw (get_or-set_same front (mask + value) (bit_or old more) 0 inside) (subst Q (sym is) (counts_here next used sum' (subst P is there) by))))
+        | inr other ↦ rw (get_or-set_other front (mask + value) m (bit_or old more) 0 other) (counts_there next k used sum' (λ e. other (e ∙ ap (λ n. mask + n) (sym is))) (h.each m small))
+      ];
+    }
+
+-- behind a mask
+pub table_next : {sets : List ℕ} {clue mask : ℕ} (front : List ℕ) → AreDoneBut sets clue mask 0 front → AreDoneBelow sets clue (mask + 1) front
+table_next {sets} {clue} {mask} front h = record {
+  each = λ m small. so_far_same (λ q k rest used done start few. elim (cases_lt rest mask) [
+    | inl l ↦ inl l
+    | inr n ↦ inr (omega arith, mark-zero k)
+  ]) (h.each m small);
+}
+
+-- past a mask whose starts have nothing next
+pub table_past : {sets : List ℕ} {clue mask : ℕ} (front : List ℕ) → ((q : List ℕ) (k : ℕ) → IsMask mask q → IsStart sets (q ++ (k + 1) ∷ []) → seen (q ++ (k + 1) ∷ []) ≤ clue → ⊥)
+    → AreDoneBelow sets clue mask front → AreDoneBelow sets clue (mask + 1) front
+table_past {sets} {clue} {mask} front none h = record {
+  each = λ m small. so_far_same (λ q k rest used done start few. elim (cases_lt rest mask) [
+    | inl l ↦ l
+    | inr n ↦ (let here : rest ≡ mask = omega arith in absurd (none q k (rw here at used) start few))
+  ]) (h.each m small);
+}
+
+pub none_unreached : {sets : List ℕ} {clue mask : ℕ} → AreFrontCounts sets clue mask 0 → (q : List ℕ) (k : ℕ) → IsMask mask q → IsStart sets (q ++ (k + 1) ∷ []) → seen (q ++ (k + 1) ∷ []) ≤ clue → ⊥
+none_unreached {sets} {clue} {mask} front q k used start few =
+    both_ways (has_bit 0 (seen q)) (mark-zero (seen q)) (front.all q (start_front q ((k + 1) ∷ []) start) used (omega (arith, seen-append q ((k + 1) ∷ []))))
+
+pub none_full : {sets : List ℕ} {clue mask : ℕ} → count_ones mask ≡ length sets → (q : List ℕ) (k : ℕ) → IsMask mask q → IsStart sets (q ++ (k + 1) ∷ []) → seen (q ++ (k + 1) ∷ []) ≤ clue → ⊥
+none_full {sets} {clue} {mask} full q k used start few =
+    let n = mask-ones q (start_front q ((k + 1) ∷ []) start) used in
+    absurd (omega (arith, (start_next q (k + 1) [] start).room))

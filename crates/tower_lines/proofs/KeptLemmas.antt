@@ -8,6 +8,7 @@ use Rattle.tower_lines.specs.LineMasks.{AreFrontCounts, IsPassed, AreKeptValues}
 use Rattle.tower_lines.proofs.BackLemmas.{IsBackBut}
 use Rattle.tower_lines.proofs.MarkLemmas.{mark-zero, mark-or}
 use Rattle.tower_lines.proofs.MaskLemmas.{mask_of, mask-ones, mask_small}
+use Rattle.tower_lines.proofs.SeenLemmas.{seen-append}
 use Rattle.tower_lines.proofs.StartLemmas.{start_front, start_next}
 
 supported_from_passed : {sets : List ℕ} {clue mask value : ℕ} → IsPassed sets clue mask value → IsSupported sets clue (count_ones mask) value
@@ -57,10 +58,10 @@ unpassed_full {sets} {clue} {mask} full value h =
     let n = mask-ones h.before (start_front h.before (value ∷ h.after) h.filling.start) h.used in
     absurd (omega (arith, (start_next h.before value h.after h.filling.start).room))
 
-pub unpassed_unreached : {sets : List ℕ} {clue mask : ℕ} → AreFrontCounts sets mask 0 → (value : ℕ) → IsPassed sets clue mask value → ⊥
+pub unpassed_unreached : {sets : List ℕ} {clue mask : ℕ} → AreFrontCounts sets clue mask 0 → (value : ℕ) → IsPassed sets clue mask value → ⊥
 unpassed_unreached {sets} {clue} {mask} front value h =
     both_ways (has_bit 0 (seen h.before)) (mark-zero (seen h.before))
-    (front.all h.before (start_front h.before (value ∷ h.after) h.filling.start) h.used)
+    (front.all h.before (start_front h.before (value ∷ h.after) h.filling.start) h.used (omega (arith, seen-append h.before (value ∷ h.after), h.filling.shown)))
 
 passed_all : {sets : List ℕ} {clue mask counts passed : ℕ} → IsBackBut sets clue mask 0 counts passed → (value : ℕ) → IsPassed sets clue mask value → (k : ℕ) × (value ≡ k + 1) × (has_bit passed k ≡ true)
 passed_all {sets} {clue} {mask} {counts} {passed} back value h =

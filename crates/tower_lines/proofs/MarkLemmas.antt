@@ -2,8 +2,8 @@
 use Rattle.std.proofs.Common.{◌≡◌, ◌≢◌, ℕ, suc, ◌+◌, ◌-◌, ◌*◌, ◌/◌, ◌%◌, ◌^◌, ◌<◌, ◌≤◌, inl, inr, ◌↔◌, true, false, not, ◌&&◌, ◌||◌, eqb, ltb, refl, sym, ap, ◌∙◌, arith, add-zero, add-one, bit_and, bit_or, bit_xor, count_ones}
 use Rattle.std.specs.Int.{bit_at, w16, w64, trailing_zeros}
 use Rattle.std.proofs.lemmas.Bool.{eqb-true, eq-eqb, cases_eq, cases_Bool, cases_lt, lt-ltb, le-ltb, and_parts, and_from, both_ways}
-use Rattle.std.proofs.lemmas.Nat.{pow_pos, shr_split, shr-shr, div-add-mod', ones_cat, ones_le_self, zero_from_ones, mod_below, and_le_l, and_block}
-use Rattle.std.proofs.lemmas.Nat.Bits.{bit_at_lowest, bit_at-suc, bit_at-zero, bit_at_and, bit_at_or, bit_at_xor, bit_at_ones, bit_at_ones_above, bit_at-lt, bit_at-pow_same, bit_at-pow_other, bit_at_cat_low, bit_at_cat_high, bit_at_above, same_from_bits, bit_at-trailing_zeros}
+use Rattle.std.proofs.lemmas.Nat.{pow_pos, shr_split, shr-shr, div-add-mod', ones_cat, ones_le_self, zero_from_ones, mod_below, and_le_l, and_block, one_shl}
+use Rattle.std.proofs.lemmas.Nat.Bits.{bit_at_lowest, bit_at-suc, bit_at-zero, bit_at_and, bit_at_or, bit_at_xor, bit_at_ones, bit_at_ones_above, bit_at-lt, bit_at-pow_same, bit_at-pow_other, bit_at_cat_low, bit_at_cat_high, bit_at_above, bit_at_mask_inside, same_from_bits, bit_at-trailing_zeros}
 use Rattle.std.specs.Int.Bits.{and_self}
 use Rattle.tower_lines.specs.LineFillings.{has_bit}
 use Rattle.tower_lines.specs.LineMasks.{IsValueOf}
@@ -290,3 +290,13 @@ lowest_value n p h =
       is = omega (arith, one_more a (2 ^ k) 0);
       used = mark-from_bit n k t.1;
     }
+
+-- the counts up to the clue
+pub up_to_only : (m n c : ℕ) → has_bit (bit_and m n) c ≡ true → has_bit m c ≡ true
+up_to_only m n c e = (and_parts _ _ (sym (mark-and m n c) ∙ e)).0
+
+pub up_to_all : (m clue c : ℕ) → clue ≤ 9 → c ≤ clue → has_bit m c ≡ true → has_bit (bit_and m (1 * 2 ^ (clue + 1) % 65536 - 1)) c ≡ true
+up_to_all m clue c most few e =
+    let small : clue + 1 < 16 = omega arith in
+    let is : 1 * 2 ^ (clue + 1) % 65536 ≡ 2 ^ (clue + 1) = one_shl (clue + 1) 16 small in
+    mark-and m (1 * 2 ^ (clue + 1) % 65536 - 1) c ∙ and_from _ _ e (rw is (mark-from_bit (2 ^ (clue + 1) - 1) c (bit_at_mask_inside 0 (clue + 1) c (omega arith) (omega arith))))

@@ -1,5 +1,5 @@
 -- Private words of `supported`: what its masks of used values say of a line's starts, which stand beside them as lists.
-use Rattle.std.specs.Prelude.{◌≡◌, ℕ, ◌+◌, ◌^◌, ◌≤◌, Bool, true, List, ◌∷◌, ◌++◌, length, slice_index, ◌==◌, count_ones}
+use Rattle.std.specs.Prelude.{◌≡◌, ℕ, ◌+◌, ◌^◌, ◌<◌, ◌≤◌, Bool, true, List, [], ◌∷◌, ◌++◌, length, slice_index, ◌==◌, count_ones}
 use Rattle.std.specs.List.{list_any}
 use Rattle.tower_lines.specs.TowersSeen.{seen, seen_after}
 use Rattle.tower_lines.specs.LineFillings.{has_bit, IsStart, IsFilling, IsSupported}
@@ -18,10 +18,21 @@ pub record IsValueOf (mask one : ℕ) : Type 0 where
   pub is : one ≡ 2 ^ bit
   pub used : has_bit mask bit ≡ true
 
--- the counts of towers that the starts with these values show
-pub record AreFrontCounts (sets : List ℕ) (mask counts : ℕ) : Type 0 where
+-- counts of towers that starts with these values show, and all of those up to the clue
+pub record AreFrontCounts (sets : List ℕ) (clue mask counts : ℕ) : Type 0 where
   pub only : (c : ℕ) → has_bit counts c ≡ true → (p : List ℕ) × IsStart sets p × IsMask mask p × (seen p ≡ c)
-  pub all : (p : List ℕ) → IsStart sets p → IsMask mask p → has_bit counts (seen p) ≡ true
+  pub all : (p : List ℕ) → IsStart sets p → IsMask mask p → seen p ≤ clue → has_bit counts (seen p) ≡ true
+
+-- the same, but for the starts of which the last value, and the mask of those before it, are not done yet
+pub record AreCountsSoFar (sets : List ℕ) (clue mask counts : ℕ) (Done : ℕ → ℕ → Type 0) : Type 0 where
+  pub only : (c : ℕ) → has_bit counts c ≡ true → (p : List ℕ) × IsStart sets p × IsMask mask p × (seen p ≡ c)
+  pub first : mask ≡ 0 → has_bit counts 0 ≡ true
+  pub all : (q : List ℕ) (k rest : ℕ) → IsMask rest q → Done rest k → IsStart sets (q ++ (k + 1) ∷ []) → IsMask mask (q ++ (k + 1) ∷ [])
+      → seen (q ++ (k + 1) ∷ []) ≤ clue → has_bit counts (seen (q ++ (k + 1) ∷ [])) ≡ true
+
+-- a table of such counts, when all masks below `from` are done
+pub record AreDoneBelow (sets : List ℕ) (clue from : ℕ) (front : List ℕ) : Type 0 where
+  pub each : (m : ℕ) → m < 2 ^ length sets → AreCountsSoFar sets clue m (slice_index front m) (λ rest k. rest < from)
 
 -- the line p, along which `count` towers were seen, goes on with s and shows the clue
 pub record IsEnd (sets : List ℕ) (clue count : ℕ) (p s : List ℕ) : Type 0 where
@@ -29,10 +40,10 @@ pub record IsEnd (sets : List ℕ) (clue count : ℕ) (p s : List ℕ) : Type 0 
   pub whole : length (p ++ s) ≡ length sets
   pub shown : count + seen_after p s ≡ clue
 
--- the counts from which a start with these values can go on to show the clue
+-- counts from which a start with these values can go on to show the clue, and all of those that such a start shows
 pub record AreBackCounts (sets : List ℕ) (clue mask counts : ℕ) : Type 0 where
   pub only : (p : List ℕ) → IsStart sets p → IsMask mask p → (c : ℕ) → has_bit counts c ≡ true → (s : List ℕ) × IsEnd sets clue c p s
-  pub all : (p s : List ℕ) (c : ℕ) → IsMask mask p → IsEnd sets clue c p s → has_bit counts c ≡ true
+  pub all : (p s : List ℕ) → IsMask mask p → IsEnd sets clue (seen p) p s → has_bit counts (seen p) ≡ true
 
 -- some filling begins with these values, and then has the value
 pub record IsPassed (sets : List ℕ) (clue mask value : ℕ) : Type 0 where

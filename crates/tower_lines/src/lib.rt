@@ -2,8 +2,14 @@
 //! clue can take.
 //!
 //! [`seen`] goes along the line once. [`supported`] goes over the sets of used values twice: a line
-//! of w squares costs at most w * 2^w steps, 24 for 3 squares and 4,608 for 9, and fewer where
-//! squares have few candidates. Neither takes memory from the heap.
+//! of w squares costs at most w * 2^w steps, 24 for 3 squares and 4,608 for 9, and far fewer where
+//! squares have few candidates, since it goes on from sets alone that the line's first squares can
+//! have used without showing more than the clue. Neither takes memory from the heap.
+//!
+//! ```
+//! let shown = seen(&[2, 1, 3]);                       // 2
+//! let left = supported(&[0b1110, 0b1110, 0b1110], 3); // 1, 2 and 3 alone: [0b0010, 0b0100, 0b1000, 0, ..]
+//! ```
 #![tactic(auto)]
 
 mod counts;

@@ -2,10 +2,10 @@
 
 ghost use Rattle.std.specs.Prelude.{◌≡◌, ℕ, ◌+◌, ◌^◌, ◌<◌, ◌≤◌, ◌↔◌, true, length, slice_index};
 ghost use Rattle.tower_lines.specs.LineFillings.{has_bit, IsSupported};
-ghost use Rattle.tower_lines.specs.LineMasks.{AreFrontCounts, AreBackCounts, AreKeptValues};
+ghost use Rattle.tower_lines.specs.LineMasks.{AreFrontCounts, AreDoneBelow, AreBackCounts, AreKeptValues};
 
-use crate::counts::{lowered, raised, value_if_shared};
-use crate::masks::{candidates_of, is_tower, last_values, lowest, next_values};
+use crate::counts::{lowered, raised_up_to, value_if_shared};
+use crate::masks::{candidates_of, is_tower, lowest, next_values};
 
 /// For each square of a line, from the clue on, the values that it has in some filling of the line:
 /// a filling takes each square's value from its candidates and from 1 to the line's length, has no
@@ -13,14 +13,15 @@ use crate::masks::{candidates_of, is_tower, last_values, lowest, next_values};
 /// for candidates and results alike. What is past the line is empty.
 ///
 /// Masks of used values stand for the starts of the line. A first pass finds how many towers the
-/// starts of a mask show, a second pass, from the full line back, how many they may show.
+/// starts of a mask show, a second pass, from the full line back, how many they may show. Both go
+/// through the masks that some start has, and no start is followed that shows more than the clue.
 pub fn supported(sets: &[u16], clue: u8) -> [u16; 9]
     requires short { length sets.now ≤ 9 }
     requires clue { clue ≤ 9 }
     ensures { (place value : ℕ) → (has_bit (slice_index result place) value ≡ true)
         ↔ IsSupported sets.now clue place value }
 {
-    let front = counts_before(sets);
+    let front = counts_before(sets, clue);
     let mut back = [0; 512];
     let mut kept = [0; 9];
     for mask in (0..1 << sets.len()).rev() {
@@ -29,38 +30,44 @@ pub fn supported(sets: &[u16], clue: u8) -> [u16; 9]
     kept
 }
 
-/// For each mask, the counts of towers seen along the starts that use just its values.
-fn counts_before(sets: &[u16]) -> [u16; 512]
-    requires { length sets.now ≤ 9 }
-    ensures { (m : ℕ) → m < 2 ^ length sets.now → AreFrontCounts sets.now m (slice_index result m) }
+/// For each mask, the counts of towers seen along the starts that use just its values, as far as
+/// they don't pass the clue.
+fn counts_before(sets: &[u16], clue: u8) -> [u16; 512]
+    requires short { length sets.now ≤ 9 }
+    requires clue { clue ≤ 9 }
+    ensures { (m : ℕ) → m < 2 ^ length sets.now
+        → AreFrontCounts sets.now clue m (slice_index result m) }
 {
     let mut front = [0; 512];
     front[0] = 1;
-    for mask in 1..1 << sets.len() {
-        front[mask] = counts_before_one(sets, &front, mask);
+    for mask in 0..1 << sets.len() {
+        go_on(sets, clue, mask, &mut front);
     }
     front
 }
 
-/// The counts of towers seen along the starts that use just the values of a mask. Each such start
-/// is a shorter one and a last value.
-fn counts_before_one(sets: &[u16], front: &[u16; 512], mask: usize) -> u16
+/// Adds what the starts with a mask show with one value more.
+fn go_on(sets: &[u16], clue: u8, mask: usize, front: &mut [u16; 512])
     requires short { length sets.now ≤ 9 }
-    requires some { 0 < mask }
+    requires clue { clue ≤ 9 }
     requires inside { mask < 2 ^ length sets.now }
-    requires below { (m : ℕ) → m < mask → AreFrontCounts sets.now m (slice_index front.now m) }
-    ensures { AreFrontCounts sets.now mask result }
+    requires below { AreDoneBelow sets.now clue mask front.old }
+    ensures { AreDoneBelow sets.now clue (mask + 1) front.new }
 {
-    let place = mask.count_ones() as usize - 1;
-    let mut left = last_values(sets[place], mask);
-    let mut counts = 0;
+    let reached = front[mask];
+    if reached == 0 {
+        return;
+    }
+    let place = mask.count_ones() as usize;
+    if place == sets.len() {
+        return;
+    }
+    let mut left = next_values(sets[place], mask, sets.len());
     while left != 0 {
         let value = lowest(left);
-        let rest = mask - value;
-        counts |= raised(front[rest], is_tower(rest, value));
+        front[mask + value] |= raised_up_to(reached, is_tower(mask, value), clue);
         left -= value;
     }
-    counts
 }
 
 /// The counts of towers seen along a start that uses just the values of a mask, from which the line
@@ -77,7 +84,7 @@ fn counts_after(
     requires clue { clue ≤ 9 }
     requires inside { mask < 2 ^ length sets.now }
     requires front { (m : ℕ) → m < 2 ^ length sets.now
-        → AreFrontCounts sets.now m (slice_index front.now m) }
+        → AreFrontCounts sets.now clue m (slice_index front.now m) }
     requires above { (m : ℕ) → mask < m → m < 2 ^ length sets.now
         → AreBackCounts sets.now clue m (slice_index back.now m) }
     requires kept { AreKeptValues sets.now clue (mask + 1) kept.old }

@@ -20,13 +20,6 @@ pub fn is_tower(mask: usize, value: usize) -> bool
     mask < value
 }
 
-/// The values of a mask that are candidates too.
-pub fn last_values(candidates: u16, mask: usize) -> usize
-    ensures { (k : ℕ) → has_bit result k ≡ (has_bit candidates (k + 1) && has_bit mask k) }
-{
-    usize::from(candidates) >> 1 & mask
-}
-
 /// The candidates from 1 to the line's length that aren't in a mask.
 pub fn next_values(candidates: u16, mask: usize, length: usize) -> usize
     requires short { length ≤ 9 }

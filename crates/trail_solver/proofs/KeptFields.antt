@@ -1,13 +1,15 @@
 -- The fields of `Candidates` as pairs go and come back.
-use Rattle.std.proofs.Common.{◌≡◌, ℕ, ◌+◌, ◌-◌, ◌*◌, ◌%◌, ◌^◌, ◌<◌, ◌≤◌, eqb, leb, cond, Bool, true, false, not, ◌&&◌, ◌||◌, List, [], ◌∷◌, ◌++◌, length, replicate, refl, sym, ap, ◌∙◌, subst, inl, inr, le-leb, arith}
+use Rattle.std.proofs.Common.{◌≡◌, ℕ, ◌+◌, ◌-◌, ◌*◌, ◌%◌, ◌^◌, ◌<◌, ◌≤◌, eqb, leb, cond, Bool, true, false, not, ◌&&◌, ◌||◌, List, [], ◌∷◌, ◌++◌, length, replicate, get_or, Some, slice_get, refl, sym, ap, ◌∙◌, subst, inl, inr, le-leb, arith}
 use Rattle.std.proofs.lemmas.Bool.{false≢true, and_from, or_cases, or_left, or_right}
 use Rattle.std.proofs.lemmas.List.{get_or-replicate, length-append}
+use Rattle.std.proofs.lemmas.List.Folds.{list_any_at}
 use Rattle.std.proofs.lemmas.Nat.{mul-le, one_shl}
+use Rattle.std.proofs.lemmas.Option.{get_or_from_slice_get, slice_get_within}
 use Rattle.latin_board.specs.Marks.{has_mark, full_marks}
 use Rattle.latin_board.proofs.MarkSets.{has_mark-full_marks}
 use Rattle.trail_solver.specs.Pairs.{IsPair, has_pair}
 use Rattle.trail_solver.specs.Fields.{IsKept, FlipsBit}
-use Rattle.trail_solver.proofs.Trails.{or_false, pair_from_test, test_from_pair, has_pair-push, apart_push, apart_front, length-le_from_apart}
+use Rattle.trail_solver.proofs.Trails.{or_false, same_pair, pair_from_test, test_from_pair, has_pair-push, apart_push, apart_front, length-le_from_apart}
 
 and_true : (b : Bool) → (b && true) ≡ b
 and_true true = refl
@@ -93,6 +95,14 @@ kept_removed w old new trail cell value k i n f = record {
 pub last_is_pair : (w : ℕ) (sets : List ℕ) (trail : List (ℕ × ℕ)) (cell value : ℕ) → IsKept w sets (trail ++ (cell, value) ∷ []) → IsPair w cell value
 last_is_pair w sets trail cell value k =
     k.in_range cell value (has_pair-push trail (cell, value) cell value ∙ or_right (has_pair trail cell value) (eqb cell cell && eqb value value) (test_from_pair cell cell value value refl refl))
+
+-- what stands in the trail is a pair
+pub item_is_pair : (w : ℕ) (sets : List ℕ) (trail : List (ℕ × ℕ)) (k : ℕ) (p : ℕ × ℕ) → IsKept w sets trail → slice_get trail k ≡ Some p → IsPair w p.0 p.1
+item_is_pair w sets trail k p h e =
+    let test : ℕ × ℕ → Bool = same_pair p.0 p.1 in
+    let at : get_or trail k p ≡ p = get_or_from_slice_get trail k p p e in
+    let here : test (get_or trail k p) ≡ true = ap test at ∙ test_from_pair p.0 p.0 p.1 p.1 refl refl in
+    h.in_range p.0 p.1 (list_any_at test trail k p (slice_get_within trail k p e) here)
 
 -- the last pair comes back: it leaves the trail, and its bit is turned over
 pub kept_undone : (w : ℕ) (old new : List ℕ) (trail : List (ℕ × ℕ)) (cell value : ℕ) → IsKept w old (trail ++ (cell, value) ∷ []) → FlipsBit old new cell value → IsKept w new trail

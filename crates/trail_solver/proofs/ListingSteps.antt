@@ -18,12 +18,17 @@ narrowed_lists p old new limit xs ys less keeps f =
 pub refuted_lists : (p : Puzzle) (c : CandidatesValue) (limit : ℕ) (xs : List GridValue) → ((h : GridValue) → Solves p h → IsWithin c h → ⊥) → Lists (IsAmong p c) limit xs xs
 refuted_lists p c limit xs n = lists_nothing (IsAmong p c) limit xs (first_none (IsAmong p c) (limit - length xs) (λ h s. n h s.0 s.1))
 
-pub leaf_lists : (p : Puzzle) (c : CandidatesValue) (g : GridValue) (limit : ℕ) (xs ys : List GridValue) → c.size ≡ p.size → IsFilled c g → Solves p g → length xs < limit → ys ≡ xs ++ g ∷ [] → Lists (IsAmong p c) limit xs ys
-leaf_lists p c g limit xs ys size filled s room e = record {
+-- the only one
+pub only_lists : (A : GridValue → Type 0) (g : GridValue) (limit : ℕ) (xs ys : List GridValue) → A g → ((h : GridValue) → A h → h ≡ g) → length xs < limit → ys ≡ xs ++ g ∷ [] → Lists A limit xs ys
+only_lists A g limit xs ys a only room e = record {
   more = g ∷ [];
   whole = e;
-  first = first_only (IsAmong p c) (limit - length xs) g (s, filled_within c g filled) (λ h m. only_filled p c g h size filled m.0 m.1) (omega arith);
+  first = first_only A (limit - length xs) g a only (omega arith);
 }
+
+pub leaf_lists : (p : Puzzle) (c : CandidatesValue) (g : GridValue) (limit : ℕ) (xs ys : List GridValue) → c.size ≡ p.size → IsFilled c g → Solves p g → length xs < limit → ys ≡ xs ++ g ∷ [] → Lists (IsAmong p c) limit xs ys
+leaf_lists p c g limit xs ys size filled s room e =
+    only_lists (IsAmong p c) g limit xs ys (s, filled_within c g filled) (λ h m. only_filled p c g h size filled m.0 m.1) room e
 
 pub leaf_lists_none : (p : Puzzle) (c : CandidatesValue) (g : GridValue) (limit : ℕ) (xs : List GridValue) → c.size ≡ p.size → IsFilled c g → (Solves p g → ⊥) → Lists (IsAmong p c) limit xs xs
 leaf_lists_none p c g limit xs size filled n =

@@ -5,9 +5,10 @@ use Rattle.std.proofs.lemmas.Bool.{cases_eq, false_from_ne_true, both_ways}
 use Rattle.std.proofs.lemmas.Nat.{one_shl}
 use Rattle.std.proofs.lemmas.Nat.Bits.{bit_at-pow_same, bit_at-pow_other, bit_at-trailing_zeros}
 use Rattle.latin_board.specs.Marks.{has_mark}
-use Rattle.latin_board.proofs.MarkSets.{same_marks}
+use Rattle.latin_board.proofs.MarkSets.{has_mark-no_marks, same_marks}
 use Rattle.trail_solver.specs.Pairs.{IsPair}
 use Rattle.trail_solver.specs.Candidates.{CandidatesValue, IsOnly, may_be}
+use Rattle.trail_solver.specs.Squares.{IsBranch, IsDead, IsOpen}
 
 has_mark-pow_same : (k : ℕ) → has_mark (2 ^ k) k ≡ true
 has_mark-pow_same k = eq-eqb _ 1 (bit_at-pow_same k)
@@ -61,3 +62,17 @@ none_only c cell set inside h n small ne v only =
       | inr apart ↦ false_from_ne_true (has_mark set k) (λ m. apart (alone k m ∙ sym first)) ∙ sym (has_mark-pow_other (lowest set) k apart)
     ])
     ∙ sym bit)
+
+-- the branch at the lowest value of an open square
+pub lowest_branch : (c : CandidatesValue) (cell set : ℕ) → IsOpen c cell → IsSetOf c cell set → set ≢ 0 → set < 65536 → IsBranch c cell (lowest set)
+lowest_branch c cell set unsettled h n small =
+    let here = (h (lowest set)).0 (lowest_is_in set n small) in record { pair = here.0; left = here.1; unsettled = unsettled }
+
+-- an empty set
+pub dead_from_empty : (c : CandidatesValue) (cell set : ℕ) → cell < c.size * c.size → IsSetOf c cell set → set ≡ 0 → IsDead c cell
+dead_from_empty c cell set inside h e = record {
+  inside = inside;
+  none = λ v pair. false_from_ne_true (may_be c cell v) (λ left.
+      let P : ℕ → Type 0 = λ m. has_mark m v ≡ true in
+      both_ways (has_mark 0 v) (has_mark-no_marks v) (subst P e ((h v).1 (pair, left))));
+}

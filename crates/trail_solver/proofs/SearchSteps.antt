@@ -1,22 +1,26 @@
 -- The steps of a search: what each does to the solutions that are to join.
-use Rattle.std.proofs.Common.{◌≡◌, ℕ, ◌+◌, ◌*◌, ◌<◌, true, false, sym, subst, inl, inr, ⊎_elim, arith}
-use Rattle.std.proofs.lemmas.Bool.{both_ways, cases_order}
+use Rattle.std.proofs.Common.{◌≡◌, ◌≢◌, ℕ, ◌*◌, ◌<◌, true, false, sym, ap, ◌∙◌, subst, inl, inr, ⊎_elim}
+use Rattle.std.proofs.lemmas.Bool.{both_ways, cases_eq}
 use Rattle.latin_board.specs.Squares.{GridValue, number_at}
 use Rattle.trail_solver.specs.Candidates.{CandidatesValue, IsEarlier, IsWithin, may_be}
-use Rattle.trail_solver.specs.Squares.{IsFilled, KeepsOnly}
-use Rattle.trail_solver.specs.Puzzles.{Puzzle, Solves, IsAmong, IsAmongAt, IsAmongBelow}
+use Rattle.trail_solver.specs.Squares.{IsDead, IsFilled, KeepsOnly}
+use Rattle.trail_solver.specs.Puzzles.{Puzzle, Solves, IsAmong, IsAmongAt}
 use Rattle.trail_solver.specs.declared.answer.Answer.{Answer}
 use Rattle.trail_solver.specs.declared.answer.Answer.TheVariants.{Several}
 use Rattle.trail_solver.specs.Answers.{Adds}
 use Rattle.trail_solver.proofs.Earlier.{within_earlier}
 use Rattle.trail_solver.proofs.FilledGrids.{solution_pair, only_filled, filled_within}
 use Rattle.trail_solver.proofs.JoinedAnswers.{adds_same, adds_nothing, adds_several, adds_then}
-use Rattle.trail_solver.proofs.OneKept.{within_kept, value_kept}
+use Rattle.trail_solver.proofs.OneKept.{Removes, within_kept, value_kept, removed_earlier, rest_removed}
 
 -- narrowing loses no solution, and no other comes
 pub narrowed_adds : (p : Puzzle) (old new : CandidatesValue) (found answer : Answer) → IsEarlier old new → ((h : GridValue) → Solves p h → IsWithin old h → IsWithin new h) → Adds (IsAmong p new) found answer → Adds (IsAmong p old) found answer
 narrowed_adds p old new found answer less keeps a =
     adds_same (IsAmong p new) (IsAmong p old) found answer (λ h s. (s.0, within_earlier old new h less s.1)) (λ h s. (s.0, keeps h s.0 s.1)) a
+
+-- and where it fails, there was none
+pub refuted_adds : (p : Puzzle) (c : CandidatesValue) (found : Answer) → ((h : GridValue) → Solves p h → IsWithin c h → ⊥) → Adds (IsAmong p c) found found
+refuted_adds p c found n = adds_nothing (IsAmong p c) found (λ h s. n h s.0 s.1)
 
 -- ---- where all squares are settled
 
@@ -44,27 +48,51 @@ guess_none p c cell value found inside gone =
     let P : ℕ → Type 0 = λ v. may_be c cell v ≡ true in
     both_ways (may_be c cell value) gone (subst P s.1.1 (s.1.0.each cell inside)))
 
--- ---- the values of an open square, from 1 up
+-- ---- a value of a square, and then not
 
-pub value_none : (p : Puzzle) (c : CandidatesValue) (cell : ℕ) (found : Answer) → c.size ≡ p.size → cell < c.size * c.size → Adds (IsAmongBelow p c cell 1) found found
-value_none p c cell found size inside =
-    adds_nothing (IsAmongBelow p c cell 1) found (λ h s. let low = (solution_pair p h c.size cell s.0 size inside).low in omega (arith, s.1.1))
+-- what joins of the part to what was found joins of the whole to what was found first
+pub record IsLeft (Whole : GridValue → Type 0) (first : Answer) (Part : GridValue → Type 0) (found : Answer) : Type 0 where
+  pub joins : (answer : Answer) → Adds Part found answer → Adds Whole first answer
 
-pub value_more : (p : Puzzle) (c : CandidatesValue) (cell v : ℕ) (a b d : Answer) → Adds (IsAmongBelow p c cell v) a b → Adds (IsAmongAt p c cell v) b d → Adds (IsAmongBelow p c cell (v + 1)) a d
-value_more p c cell v a b d =
-    adds_then (IsAmongBelow p c cell v) (IsAmongAt p c cell v) (IsAmongBelow p c cell (v + 1)) a b d
-    (λ h s. (s.0, (s.1.0, omega (arith, s.1.1))))
-    (λ h s. (s.0, (s.1.0, omega (arith, s.1.1))))
-    (λ h s. ⊎_elim (λ e. inr (s.0, (s.1.0, e))) (λ o. ⊎_elim (λ l. inl (s.0, (s.1.0, l))) (λ l. absurd (omega (arith, s.1.1))) o) (cases_order (number_at h cell) v))
+pub left_whole : (A : GridValue → Type 0) (found : Answer) → IsLeft A found A found
+left_whole A found = record { joins = λ answer a. a }
 
-pub value_all : (p : Puzzle) (c : CandidatesValue) (cell v : ℕ) (a b : Answer) → c.size ≡ p.size → cell < c.size * c.size → c.size < v → Adds (IsAmongBelow p c cell v) a b → Adds (IsAmong p c) a b
-value_all p c cell v a b size inside all =
-    adds_same (IsAmongBelow p c cell v) (IsAmong p c) a b
-    (λ h s. (s.0, s.1.0))
-    (λ h s. let high = (solution_pair p h c.size cell s.0 size inside).high in (s.0, (s.1, omega arith)))
+-- a grid within what is left when a value went from a square is one that doesn't have the value there
+pub within_removed : (old new : CandidatesValue) (cell value : ℕ) (g : GridValue) → Removes old new cell value → IsWithin old g → number_at g cell ≢ value → IsWithin new g
+within_removed old new cell value g r w n = record {
+  each = λ c inside.
+      let inside' : c < old.size * old.size = subst (λ (k : ℕ). c < k * k) r.size inside in
+      rest_removed old new cell value c (number_at g c) r (⊎_elim (λ same. inr (λ e. n (ap (number_at g) (sym same) ∙ e))) (λ other. inl other) (cases_eq c cell)) ∙ w.each c inside';
+}
 
-pub value_several : (p : Puzzle) (c : CandidatesValue) (cell v : ℕ) (a b : Answer) (k h : GridValue) → b ≡ Several k h → Adds (IsAmongBelow p c cell v) a b → Adds (IsAmong p c) a b
-value_several p c cell v a b k h e m =
-    let P : Answer → Type 0 = λ x. Adds (IsAmongBelow p c cell v) a x in
-    let Q : Answer → Type 0 = λ x. Adds (IsAmong p c) a x in
-    subst Q (sym e) (adds_several (IsAmongBelow p c cell v) (IsAmong p c) a k h (λ g s. (s.0, s.1.0)) (subst P e m))
+-- narrowing
+pub left_narrowed : (p : Puzzle) (Whole : GridValue → Type 0) (first found : Answer) (old new : CandidatesValue) → IsLeft Whole first (IsAmong p old) found → IsEarlier old new → ((h : GridValue) → Solves p h → IsWithin old h → IsWithin new h) → IsLeft Whole first (IsAmong p new) found
+left_narrowed p Whole first found old new l less keeps = record {
+  joins = λ answer a. l.joins answer (narrowed_adds p old new found answer less keeps a);
+}
+
+-- both sides of a branch
+pub left_branched : (p : Puzzle) (Whole : GridValue → Type 0) (first found more : Answer) (old new : CandidatesValue) (cell value : ℕ) → IsLeft Whole first (IsAmong p old) found → Adds (IsAmongAt p old cell value) found more → Removes old new cell value → IsLeft Whole first (IsAmong p new) more
+left_branched p Whole first found more old new cell value l a r = record {
+  joins = λ answer b. l.joins answer (adds_then (IsAmongAt p old cell value) (IsAmong p new) (IsAmong p old) found more answer
+      (λ h s. (s.0, s.1.0))
+      (λ h s. (s.0, within_earlier old new h (removed_earlier old new cell value r) s.1))
+      (λ h s. ⊎_elim (λ e. inl (s.0, (s.1, e))) (λ n. inr (s.0, within_removed old new cell value h r s.1 n)) (cases_eq (number_at h cell) value))
+      a b);
+}
+
+-- one side is enough where it has two solutions
+pub left_several : (p : Puzzle) (Whole : GridValue → Type 0) (first found more : Answer) (old : CandidatesValue) (cell value : ℕ) (k h : GridValue) → IsLeft Whole first (IsAmong p old) found → Adds (IsAmongAt p old cell value) found more → more ≡ Several k h → Adds Whole first more
+left_several p Whole first found more old cell value k h l a e =
+    let P : Answer → Type 0 = λ x. Adds (IsAmongAt p old cell value) found x in
+    let Q : Answer → Type 0 = λ x. Adds (IsAmong p old) found x in
+    l.joins more (subst Q (sym e) (adds_several (IsAmongAt p old cell value) (IsAmong p old) found k h (λ g s. (s.0, s.1.0)) (subst P e a)))
+
+-- no solution is left
+pub left_none : (Whole : GridValue → Type 0) (first : Answer) (Part : GridValue → Type 0) (found : Answer) → IsLeft Whole first Part found → ((h : GridValue) → Part h → ⊥) → Adds Whole first found
+left_none Whole first Part found l n = l.joins found (adds_nothing Part found n)
+
+-- a square without candidates
+pub dead_none : (p : Puzzle) (c : CandidatesValue) (cell : ℕ) → c.size ≡ p.size → IsDead c cell → (h : GridValue) → IsAmong p c h → ⊥
+dead_none p c cell size dead h s =
+    both_ways (may_be c cell (number_at h cell)) (dead.none (number_at h cell) (solution_pair p h c.size cell s.0 size dead.inside)) (s.1.each cell dead.inside)

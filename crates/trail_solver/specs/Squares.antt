@@ -1,8 +1,10 @@
 -- The squares of a grid in a search: settled, open, or kept to one value.
-use Rattle.std.specs.Prelude.{◌≡◌, ◌≢◌, ℕ, ◌*◌, ◌<◌, ◌⊎◌, false}
+use Rattle.std.specs.Prelude.{◌≡◌, ◌≢◌, ℕ, ◌*◌, ◌<◌, ◌⊎◌, true, false}
 use Rattle.latin_board.specs.Squares.{GridValue, IsGrid, number_at}
 use Rattle.trail_solver.specs.Pairs.{IsPair}
 use Rattle.trail_solver.specs.Candidates.{CandidatesValue, IsEarlier, IsOnly, may_be}
+use Rattle.trail_solver.specs.declared.choice.Choice.{Choice}
+use Rattle.trail_solver.specs.declared.choice.Choice.TheVariants.{Settled, Dead, Branch}
 
 -- a square that hasn't just one candidate
 pub record IsOpen (c : CandidatesValue) (cell : ℕ) : Type 0 where
@@ -17,6 +19,23 @@ pub record IsFirstOpen (c : CandidatesValue) (cell : ℕ) : Type 0 where
 -- each square has just one candidate
 pub record AreSettled (c : CandidatesValue) : Type 0 where
   pub each : (cell : ℕ) → cell < c.size * c.size → (v : ℕ) × IsOnly c cell v
+
+-- an open square, and one of its candidates
+pub record IsBranch (c : CandidatesValue) (cell value : ℕ) : Type 0 where
+  pub pair : IsPair c.size cell value
+  pub left : may_be c cell value ≡ true
+  pub unsettled : IsOpen c cell
+
+-- a square that has no candidate
+pub record IsDead (c : CandidatesValue) (cell : ℕ) : Type 0 where
+  pub inside : cell < c.size * c.size
+  pub none : (v : ℕ) → IsPair c.size cell v → may_be c cell v ≡ false
+
+-- what a choice says of the squares
+abbrev pub IsChoice : CandidatesValue → Choice → Type 0
+IsChoice c Settled = AreSettled c
+IsChoice c Dead = (cell : ℕ) × IsDead c cell
+IsChoice c (Branch cell value) = IsBranch c cell value
 
 -- each number of the grid is the only candidate of its square
 pub record IsFilled (c : CandidatesValue) (g : GridValue) : Type 0 where

@@ -130,6 +130,14 @@ impl Candidates {
         self.trail.len()
     }
 
+    // The cell of the pair that was removed last, if any was.
+    pub(crate) fn last_cell(&self) -> Option<u8>
+        ensures { MatchOption result (self.now.trail ≡ []) (λ cell. cell < self.now.size * self.now.size) }
+    {
+        let (cell, _) = self.trail.last()?;
+        Some(*cell)
+    }
+
     /// Takes the value from the cell's candidates. Does nothing where it is gone already. The cell is a square of the
     /// grid, and the value one of its numbers.
     pub fn remove(&mut self, cell: usize, value: u8)

@@ -1,42 +1,63 @@
-ghost use Rattle.std.specs.Prelude.{◌≡◌, ◌⊎◌, Some, MatchOption};
-ghost use Rattle.trail_solver.specs.Squares.{AreSettled, IsFirstOpen, IsOpen};
+//! Where a search branches.
+
+ghost use Rattle.std.specs.Prelude.{MatchOption};
+ghost use Rattle.std.specs.Bool.{OnTrue};
+ghost use Rattle.trail_solver.specs.Squares.{AreSettled, IsBranch, IsChoice, IsFirstOpen, IsOpen};
 
 use crate::candidates::Candidates;
+use crate::failures::Failures;
+use crate::proposal::best_proposal;
 
-// A square, and how many candidates it has.
+/// What is left to do for a search.
 #[derive(Clone, Copy)]
-struct Choice {
-    cell: usize,
-    left: u32,
+pub(crate) enum Choice {
+    /// Each square has just one candidate.
+    Settled,
+    /// Some square has no candidate.
+    Dead,
+    /// This value is one of the square's candidates, and not the only one: it stands there, or it doesn't.
+    Branch { cell: usize, value: u8 },
 }
 
-/// An open square with few candidates: the first that has two or none, or else the first that has the fewest.
-pub(crate) fn fewest_open(candidates: &Candidates) -> Option<usize>
-    ensures { MatchOption result (AreSettled candidates.now) (IsOpen candidates.now) }
+/// Where to branch, if there is anything left to do. Any open square and any of its candidates would do; that which is
+/// proposed is taken, since it is likely to fail soon.
+pub(crate) fn choose(candidates: &Candidates, failures: &Failures) -> Choice
+    ensures { IsChoice candidates.now result }
 {
-    let width = candidates.size().get() as usize;
-    let mut best = None;
-    for cell in 0..width * width {
-        if candidates.only(cell).is_some() {
-            continue;
-        }
-        let left = candidates.values(cell).count_ones();
-        if left <= 2 {
-            return Some(cell);
-        }
-        best = Some(better(best, Choice { cell, left }));
+    let Some(open) = first_open(candidates) else {
+        return Choice::Settled;
+    };
+    match best_proposal(candidates, failures) {
+        Some(best) if is_branch(candidates, best.cell, best.value) => Choice::Branch {
+            cell: best.cell,
+            value: best.value,
+        },
+        _ => lowest_at(candidates, open),
     }
-    best.map(|choice| choice.cell)
 }
 
-// The one with fewer candidates.
-fn better(best: Option<Choice>, other: Choice) -> Choice
-    ensures { (result ≡ other) ⊎ (best ≡ Some result) }
+// Whether a value is a candidate of a square, and not the only one.
+fn is_branch(candidates: &Candidates, cell: usize, value: u8) -> bool
+    ensures { OnTrue result (IsBranch candidates.now cell value) }
 {
-    match best {
-        Some(choice) if choice.left <= other.left => choice,
-        _ => other,
+    let width = candidates.size().get();
+    if cell >= width as usize * width as usize || value < 1 || value > width {
+        return false;
     }
+    candidates.may(cell, value) && candidates.only(cell).is_none()
+}
+
+// The branch at an open square that takes its lowest candidate first.
+fn lowest_at(candidates: &Candidates, cell: usize) -> Choice
+    requires { IsOpen candidates.now cell }
+    ensures { IsChoice candidates.now result }
+{
+    let set = candidates.values(cell);
+    if set == 0 {
+        return Choice::Dead;
+    }
+    let value = set.trailing_zeros() as u8;
+    Choice::Branch { cell, value }
 }
 
 /// The first open square in reading order.

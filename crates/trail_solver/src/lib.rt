@@ -9,10 +9,13 @@
 mod answer;
 mod candidates;
 mod choice;
+mod failures;
 mod listing;
+mod proposal;
 mod rules;
 mod solver;
 mod squares;
+mod tally;
 
 pub use answer::Answer;
 pub use candidates::{Candidates, Mark};

@@ -57,6 +57,21 @@ pub trait Rules: Copy {
         ensures refutes { OnFalse result ((g : GridValue) → Solves (puzzle self.now) g
             → IsWithin candidates.old g → ⊥) };
 
+    /// Removes candidates as `narrow` does, where `narrow` left these, and then the cell alone lost some: it need look
+    /// only at what follows from that. The sizes are equal, and the cell is one of the grid's.
+    fn narrow_from(&self, candidates: &mut Candidates, cell: usize) -> bool
+        requires size { candidates.old.size ≡ (puzzle self.now).size }
+        requires inside { cell < candidates.old.size * candidates.old.size }
+        ensures less { IsEarlier candidates.old candidates.new }
+        ensures keeps { (g : GridValue) → Solves (puzzle self.now) g
+            → IsWithin candidates.old g → IsWithin candidates.new g }
+        ensures refutes { OnFalse result ((g : GridValue) → Solves (puzzle self.now) g
+            → IsWithin candidates.old g → ⊥) }
+    {
+        let _cell = cell;
+        self.narrow(candidates)
+    }
+
     /// How many items a puzzle of this size can have.
     fn item_count(size: Size) -> usize
         ensures { result ≡ items_of size };

@@ -1,8 +1,8 @@
-ghost use Rattle.std.specs.Prelude.{◌≡◌, ◌≤◌, length};
+ghost use Rattle.std.specs.Prelude.{◌≡◌, ◌<◌, ◌≤◌, length};
 ghost use Rattle.latin_board.specs.Squares.{GridValue};
-ghost use Rattle.trail_solver.specs.Pairs.{IsPair};
+ghost use Rattle.trail_solver.specs.Pairs.{IsPair, with_pair};
 ghost use Rattle.trail_solver.specs.Candidates.{IsWithin};
-ghost use Rattle.trail_solver.specs.Squares.{AreSettled, IsFilled, KeepsOnly};
+ghost use Rattle.trail_solver.specs.Squares.{AreSettled, IsBranch, IsFilled, KeepsOnly};
 ghost use Rattle.trail_solver.specs.Puzzles.{Solves};
 
 use crate::candidates::Candidates;
@@ -22,6 +22,20 @@ pub(crate) fn keep_only(candidates: &mut Candidates, cell: usize, value: u8)
         }
     }
     // What a trail's length can be is a clause of `trail_len`.
+    let _bound = candidates.trail_len();
+}
+
+/// Takes one of its candidates from an open square.
+pub(crate) fn take_away(candidates: &mut Candidates, cell: usize, value: u8)
+    requires { IsBranch candidates.old cell value }
+    ensures size { candidates.new.size ≡ candidates.old.size }
+    ensures trail { candidates.new.trail ≡ with_pair candidates.old.trail cell value }
+    ensures longer { length candidates.old.trail < length candidates.new.trail }
+    ensures bound { length candidates.new.trail ≤ 729 }
+{
+    candidates.remove(cell, value);
+    // What a trail's length can be is a clause of `trail_len`.
+    let _size = candidates.size();
     let _bound = candidates.trail_len();
 }
 

@@ -1,12 +1,8 @@
 -- Tests and lists over a range of numbers, and what a direction's letter in a list means.
-use Rattle.std.proofs.Common.{◌≡◌, ℕ, zero, suc, ◌+◌, ◌<◌, ◌≤◌, Bool, true, false, ◌||◌, Option, Some, ◌⊎◌, cond, refl, sym, inl, inr, arith}
+use Rattle.std.proofs.Common.{◌≡◌, ℕ, zero, suc, ◌+◌, ◌<◌, ◌≤◌, Bool, true, false, Option, Some, ◌⊎◌, cond, refl, sym, ◌∙◌, inl, inr, arith}
 use Rattle.std.specs.List.{list_all, list_any, range_with_len}
 use Rattle.std.proofs.lemmas.Bool.{false≢true, cases_lt}
 use Rattle.clue_rules.specs.Laws.JoinedTests.{both_from_and, one_from_or, or_from_second}
-
-pub or_false : (s t : Bool) → (s || t) ≡ false → (s ≡ false) × (t ≡ false)
-or_false true t e = absurd (false≢true (sym e))
-or_false false t e = (refl, e)
 
 pub some_if : {X : Type 0} (t : Bool) (x y : X) (o : Option X) → cond t (Some x) o ≡ Some y → ((t ≡ true) × (x ≡ y)) ⊎ ((t ≡ false) × (o ≡ Some y))
 some_if true x y o e = inl (refl, cc)
@@ -27,21 +23,6 @@ range_all p a zero h = refl
 range_all p a (suc n) h =
     rw (h a (omega arith) (omega arith)) (range_all p (a + 1) n (λ i low high. h i (omega arith) (omega arith)))
 
--- a test that holds of no number of a range
-pub none_in_range : (p : ℕ → Bool) (a n i : ℕ) → list_any p (range_with_len a n) ≡ false → a ≤ i → i < a + n → p i ≡ false
-none_in_range p a zero i e low high = absurd (omega arith)
-none_in_range p a (suc n) i e low high =
-    let parts = or_false (p a) (list_any p (range_with_len (a + 1) n)) e in
-    elim (cases_lt a i) [
-      | inl below ↦ none_in_range p (a + 1) n i parts.1 (omega arith) (omega arith)
-      | inr same ↦ let here : i ≡ a = omega arith in rw here parts.0
-    ]
-
-pub range_none : (p : ℕ → Bool) (a n : ℕ) → ((i : ℕ) → a ≤ i → i < a + n → p i ≡ false) → list_any p (range_with_len a n) ≡ false
-range_none p a zero h = refl
-range_none p a (suc n) h =
-    rw (h a (omega arith) (omega arith)) (range_none p (a + 1) n (λ i low high. h i (omega arith) (omega arith)))
-
 -- a test that holds of some number of a range
 pub range_some : (p : ℕ → Bool) (a n i : ℕ) → a ≤ i → i < a + n → p i ≡ true → list_any p (range_with_len a n) ≡ true
 range_some p a zero i low high h = absurd (omega arith)
@@ -58,3 +39,16 @@ some_in_range p a (suc n) e = elim (one_from_or (p a) (list_any p (range_with_le
       let there = some_in_range p (a + 1) n later in
       (there.0, omega (arith, there.1), omega (arith, there.2), there.3)
 ]
+
+-- a test that holds of no number of a range
+is_false : (t : Bool) → (t ≡ true → ⊥) → t ≡ false
+is_false true h = absurd (h refl)
+is_false false h = refl
+
+pub none_in_range : (p : ℕ → Bool) (a n i : ℕ) → list_any p (range_with_len a n) ≡ false → a ≤ i → i < a + n → p i ≡ false
+none_in_range p a n i e low high = is_false (p i) (λ h. false≢true (sym e ∙ range_some p a n i low high h))
+
+pub range_none : (p : ℕ → Bool) (a n : ℕ) → ((i : ℕ) → a ≤ i → i < a + n → p i ≡ false) → list_any p (range_with_len a n) ≡ false
+range_none p a n h =
+    is_false (list_any p (range_with_len a n))
+    (λ some. let there = some_in_range p a n some in false≢true (sym (h there.0 there.1 there.2) ∙ there.3))

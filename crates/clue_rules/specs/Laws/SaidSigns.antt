@@ -34,29 +34,26 @@ direction_back w i a b d small sides e =
       | inr behind ↦ let same : there.sign ≡ i = same_sign w there.sign i a b behind.0 sides in behind.1 ∙ ap (back w) same
     ]
 
+-- a letter that says that a square is greater than another is that of the direction between them
+letter_says : (w a b : ℕ) (d : Direction) (pieces : List Piece) → (h : Says w pieces a b) → h.direction ≡ d → says (map piece_text pieces) a d ≡ true
+letter_says w a b d pieces h way = rw (← way) (contains_says pieces a h.direction h.letter)
+
+says_by : (w a b : ℕ) (d : Direction) (pieces : List Piece) → says (map piece_text pieces) a d ≡ true → neighbour w a d ≡ Some b → Says w pieces a b
+says_by w a b d pieces h points = record { direction = d; letter = says_contains pieces a d h; points = points }
+
 pub first_from_says : (w i : ℕ) (pieces : List Piece) → 3 ≤ w → i < sign_count w → Says w pieces (first_of w i) (second_of w i) → first_says w (map piece_text pieces) i ≡ true
 first_from_says w i pieces small inside h =
-    let d : h.direction ≡ forth w i = direction_forth w i _ _ h.direction small (sides_at w i small inside) h.points in
-    rw (← d) (contains_says pieces (first_of w i) h.direction h.letter)
-
-pub says_from_first : (w i : ℕ) (pieces : List Piece) → 3 ≤ w → i < sign_count w → first_says w (map piece_text pieces) i ≡ true → Says w pieces (first_of w i) (second_of w i)
-says_from_first w i pieces small inside h = record {
-  direction = forth w i;
-  letter = says_contains pieces (first_of w i) (forth w i) h;
-  points = (sides_at w i small inside).points;
-}
+    letter_says w _ _ (forth w i) pieces h (direction_forth w i _ _ h.direction small (sides_at w i small inside) h.points)
 
 pub second_from_says : (w i : ℕ) (pieces : List Piece) → 3 ≤ w → i < sign_count w → Says w pieces (second_of w i) (first_of w i) → second_says w (map piece_text pieces) i ≡ true
 second_from_says w i pieces small inside h =
-    let d : h.direction ≡ back w i = direction_back w i _ _ h.direction small (sides_at w i small inside) h.points in
-    rw (← d) (contains_says pieces (second_of w i) h.direction h.letter)
+    letter_says w _ _ (back w i) pieces h (direction_back w i _ _ h.direction small (sides_at w i small inside) h.points)
+
+pub says_from_first : (w i : ℕ) (pieces : List Piece) → 3 ≤ w → i < sign_count w → first_says w (map piece_text pieces) i ≡ true → Says w pieces (first_of w i) (second_of w i)
+says_from_first w i pieces small inside h = says_by w _ _ (forth w i) pieces h (sides_at w i small inside).points
 
 pub says_from_second : (w i : ℕ) (pieces : List Piece) → 3 ≤ w → i < sign_count w → second_says w (map piece_text pieces) i ≡ true → Says w pieces (second_of w i) (first_of w i)
-says_from_second w i pieces small inside h = record {
-  direction = back w i;
-  letter = says_contains pieces (second_of w i) (back w i) h;
-  points = (sides_at w i small inside).points_back;
-}
+says_from_second w i pieces small inside h = says_by w _ _ (back w i) pieces h (sides_at w i small inside).points_back
 
 -- a sign and which of its squares is the greater
 

@@ -63,35 +63,35 @@ between_found w a b i small a_in b_in e =
           ]
     ]
 
-sign_pair_first : (v : UnequalValue) (a b : ℕ) → 3 ≤ v.size → a < v.size * v.size → b < v.size * v.size → says_first (sign_of_pair v a b) ≡ true → (i : ℕ) × IsBetween v.size i a b × (sign_at v i ≡ FirstGreater)
-sign_pair_first v a b small a_in b_in h =
-    elim (sign_between v.size a b) as (λ o. sign_between v.size a b ≡ o → says_first (option_map_or (λ i. sign_at v i) o Absent) ≡ true → (i : ℕ) × IsBetween v.size i a b × (sign_at v i ≡ FirstGreater)) [
-      | None ↦ λ e t. absurd (false≢true t)
-      | Some i ↦ λ e t. (i, between_found v.size a b i small a_in b_in e, is_first (sign_at v i) t)
+-- the sign that stands between two squares
+sign_there : (v : UnequalValue) (a b : ℕ) (s : Sign) → 3 ≤ v.size → a < v.size * v.size → b < v.size * v.size → (Absent ≡ s → ⊥) → sign_of_pair v a b ≡ s → (i : ℕ) × IsBetween v.size i a b × (sign_at v i ≡ s)
+sign_there v a b s small a_in b_in some h =
+    elim (sign_between v.size a b) as (λ o. sign_between v.size a b ≡ o → option_map_or (λ i. sign_at v i) o Absent ≡ s → (i : ℕ) × IsBetween v.size i a b × (sign_at v i ≡ s)) [
+      | None ↦ λ e t. absurd (some t)
+      | Some i ↦ λ e t. (i, between_found v.size a b i small a_in b_in e, t)
     ] refl h
-  where
-    is_first : (s : Sign) → says_first s ≡ true → s ≡ FirstGreater
-    is_first FirstGreater e = refl
-    is_first Absent e = absurd (false≢true e)
-    is_first SecondGreater e = absurd (false≢true e)
 
-sign_pair_second : (v : UnequalValue) (a b : ℕ) → 3 ≤ v.size → a < v.size * v.size → b < v.size * v.size → says_second (sign_of_pair v a b) ≡ true → (i : ℕ) × IsBetween v.size i a b × (sign_at v i ≡ SecondGreater)
-sign_pair_second v a b small a_in b_in h =
-    elim (sign_between v.size a b) as (λ o. sign_between v.size a b ≡ o → says_second (option_map_or (λ i. sign_at v i) o Absent) ≡ true → (i : ℕ) × IsBetween v.size i a b × (sign_at v i ≡ SecondGreater)) [
-      | None ↦ λ e t. absurd (false≢true t)
-      | Some i ↦ λ e t. (i, between_found v.size a b i small a_in b_in e, is_second (sign_at v i) t)
-    ] refl h
-  where
-    is_second : (s : Sign) → says_second s ≡ true → s ≡ SecondGreater
-    is_second SecondGreater e = refl
-    is_second Absent e = absurd (false≢true e)
-    is_second FirstGreater e = absurd (false≢true e)
+is_first : (s : Sign) → says_first s ≡ true → s ≡ FirstGreater
+is_first FirstGreater e = refl
+is_first Absent e = absurd (false≢true e)
+is_first SecondGreater e = absurd (false≢true e)
+
+is_second : (s : Sign) → says_second s ≡ true → s ≡ SecondGreater
+is_second SecondGreater e = refl
+is_second Absent e = absurd (false≢true e)
+is_second FirstGreater e = absurd (false≢true e)
+
+not_first : Absent ≡ FirstGreater → ⊥
+not_first e = cc
+
+not_second : Absent ≡ SecondGreater → ⊥
+not_second e = cc
 
 pub greater_found : (v : UnequalValue) (a b : ℕ) → 3 ≤ v.size → a < v.size * v.size → b < v.size * v.size → is_greater v a b ≡ true → IsGreater v a b
 greater_found v a b small a_in b_in h =
     elim (one_from_or (says_first (sign_of_pair v a b)) (says_second (sign_of_pair v b a)) h) [
-      | inl t ↦ let there = sign_pair_first v a b small a_in b_in t in record { sign = there.0; says = inl (there.1, there.2) }
-      | inr t ↦ let there = sign_pair_second v b a small b_in a_in t in record { sign = there.0; says = inr (there.1, there.2) }
+      | inl t ↦ let there = sign_there v a b FirstGreater small a_in b_in not_first (is_first (sign_of_pair v a b) t) in record { sign = there.0; says = inl (there.1, there.2) }
+      | inr t ↦ let there = sign_there v b a SecondGreater small b_in a_in not_second (is_second (sign_of_pair v b a) t) in record { sign = there.0; says = inr (there.1, there.2) }
     ]
 
 pub greater_tested : (v : UnequalValue) (a b : ℕ) → 3 ≤ v.size → IsGreater v a b → is_greater v a b ≡ true

@@ -26,7 +26,8 @@ fn keep_given(candidates: &mut Candidates, cell: usize, given: u8)
     requires cell { cell < candidates.old.size * candidates.old.size }
     requires given { given < 16 }
     ensures less { IsEarlier candidates.old candidates.new }
-    ensures keeps { KeepsEach (λ g. 0 < given → number_at g cell ≡ given) candidates.old candidates.new }
+    ensures keeps { KeepsEach (λ g. 0 < given → number_at g cell ≡ given)
+        candidates.old candidates.new }
 {
     if given > 0 {
         let _struck = strike_missing(candidates, cell, 1 << given);

@@ -9,9 +9,8 @@ ghost use Rattle.clue_rules.specs.Views.{view_cell, front_place};
 
 use crate::lines::changed::ChangedLines;
 use crate::lines::value_sets::{is_single, without};
-use crate::lines::view_candidates::{keep_along, view_sets};
+use crate::lines::view_candidates::{keep_fewer, view_sets};
 use crate::lines::views::{LINE, front_place};
-use latin_board::Size;
 use trail_solver::Candidates;
 
 /// Takes away what rows and columns rule out, until they say no more: the value of a square that has just one goes from
@@ -92,7 +91,7 @@ fn strike_line(candidates: &mut Candidates, line: u8, changed: &mut ChangedLines
         return false;
     };
     let kept = tally.kept_along(&sets, width);
-    keep_along(candidates, place, &kept, changed)
+    keep_fewer(candidates, place, &sets, &kept, changed)
 }
 
 // What the sets of candidates of a line say together: the values of which one of them has one, of which two have one,

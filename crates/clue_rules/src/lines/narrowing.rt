@@ -53,6 +53,22 @@ pub(crate) fn narrow_by_lines<P: LineRules>(p: &P, candidates: &mut Candidates) 
     settle_rules(p, candidates, &mut changed)
 }
 
+/// Takes away what is struck, until nothing more is, where nothing more was before the square lost candidates: it begins
+/// with the lines of the square. Answers false where nothing is left for some square or value.
+pub(crate) fn narrow_by_lines_of<P: LineRules>(
+    p: &P,
+    candidates: &mut Candidates,
+    cell: usize,
+) -> bool
+    requires size { candidates.old.size ≡ P.width p.now }
+    requires inside { cell < candidates.old.size * candidates.old.size }
+    ensures { Narrows (P.sought p.now) NoneStruck candidates.old candidates.new result }
+{
+    let mut changed = ChangedLines::none();
+    changed.note(candidates.size(), cell);
+    settle_latin(candidates, &mut changed) && settle_rules(p, candidates, &mut changed)
+}
+
 // Looks at the game's rule along every line once.
 fn strike_rules<P: LineRules>(
     p: &P,

@@ -1,7 +1,7 @@
 //! The candidates of the squares that an edge place looks along.
 
-ghost use Rattle.std.specs.Prelude.{◌≡◌, ℕ, ◌*◌, ◌<◌, ◌≤◌, ◌==◌, not, length};
-ghost use Rattle.std.specs.Bool.{OnFalse};
+ghost use Rattle.std.specs.Prelude.{◌≡◌, ℕ, ◌*◌, ◌<◌, ◌≤◌, ◌==◌, not, length, slice_index};
+ghost use Rattle.std.specs.Bool.{OnFalse, OnTrue};
 ghost use Rattle.trail_solver.specs.Pairs.{IsPair};
 ghost use Rattle.clue_rules.specs.Inner.Narrowing.{AreSetsOf, KeepsAlong, KeepsOf};
 ghost use Rattle.clue_rules.specs.Views.{view_cell};
@@ -22,6 +22,37 @@ pub(crate) fn view_sets(candidates: &Candidates, place: u8) -> [u16; LINE]
         sets[k] = candidates.values(view_cell(size, place, k));
     }
     sets
+}
+
+/// As `keep_along`, where the squares have these sets now: there is nothing to do where they keep all of them.
+pub(crate) fn keep_fewer(
+    candidates: &mut Candidates,
+    place: u8,
+    sets: &[u16; LINE],
+    kept: &[u16; LINE],
+    changed: &mut ChangedLines,
+) -> bool
+    requires place { place < 4 * candidates.old.size }
+    requires sets { AreSetsOf candidates.old place sets.now }
+    ensures { KeepsAlong place kept.now candidates.old candidates.new result }
+{
+    if are_same(sets, kept, candidates.size().get() as usize) {
+        return true;
+    }
+    keep_along(candidates, place, kept, changed)
+}
+
+// Whether the first sets of two rows are the same.
+fn are_same(sets: &[u16; LINE], others: &[u16; LINE], width: usize) -> bool
+    requires { width ≤ 9 }
+    ensures { OnTrue result ((k : ℕ) → k < width → slice_index sets.now k ≡ slice_index others.now k) }
+{
+    for k in 0..width {
+        if sets[k] != others[k] {
+            return false;
+        }
+    }
+    true
 }
 
 /// Takes all values but those of these sets from the squares from an edge place. Stops with false at an empty set.

@@ -18,11 +18,11 @@ ghost use Rattle.clue_rules.specs.Towers.{clue_of};
 use crate::lines::changed::ChangedLines;
 use crate::lines::narrowing::LineRules;
 use crate::lines::value_sets::is_single;
-use crate::lines::view_candidates::{keep_along, view_sets};
+use crate::lines::view_candidates::{keep_fewer, view_sets};
 use crate::lines::views::{LINE, front_place};
 use crate::towers::Towers;
 use tower_lines::{seen, supported};
-use trail_solver::{Candidates, Rules};
+use trail_solver::Candidates;
 
 impl LineRules for Towers {
     ghost use Rattle.trail_solver.specs.Puzzles.{Solves};
@@ -101,7 +101,8 @@ impl Towers {
 fn narrow_view(candidates: &mut Candidates, place: u8, clue: u8, changed: &mut ChangedLines) -> bool
     requires place { place < 4 * candidates.old.size }
     requires clue { clue ≤ candidates.old.size }
-    ensures { Narrows (ShowsClue place clue) (IsViewStruck place clue) candidates.old candidates.new result }
+    ensures { Narrows (ShowsClue place clue) (IsViewStruck place clue)
+        candidates.old candidates.new result }
 {
     let width = candidates.size().get() as usize;
     let sets = view_sets(candidates, place);
@@ -109,7 +110,7 @@ fn narrow_view(candidates: &mut Candidates, place: u8, clue: u8, changed: &mut C
         return true;
     }
     let kept = supported(&sets[..width], clue);
-    keep_along(candidates, place, &kept, changed)
+    keep_fewer(candidates, place, &sets, &kept, changed)
 }
 
 // Whether each set has one value, all different, and these show as many towers as the clue says.

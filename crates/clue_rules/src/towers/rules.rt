@@ -14,7 +14,7 @@ ghost use Rattle.clue_rules.specs.Struck.{IsTowersStruck, KeepsSolutions, HasNoS
 ghost use Rattle.clue_rules.specs.Towers.{towers_puzzle, towers_items, has_towers, cut_towers, full_towers};
 
 use crate::lines::given_squares::keep_givens;
-use crate::lines::narrowing::narrow_by_lines;
+use crate::lines::narrowing::{narrow_by_lines, narrow_by_lines_of};
 use crate::lines::views::{LINE, view_cell};
 use crate::towers::{PLACES, Towers};
 use latin_board::{Grid, Size};
@@ -115,10 +115,15 @@ impl Rules for Towers {
         ensures less { IsEarlier candidates.old candidates.new }
         ensures keeps { KeepsSolutions (towers_puzzle self.now) candidates.old candidates.new }
         ensures refutes { OnFalse result (HasNoSolution (towers_puzzle self.now) candidates.old) }
-        ensures struck { OnTrue result (NoneLeft (IsTowersStruck self.now) candidates.old candidates.new) }
+        ensures struck { OnTrue result
+            (NoneLeft (IsTowersStruck self.now) candidates.old candidates.new) }
     {
         keep_givens(candidates, self.givens());
         narrow_by_lines(self, candidates)
+    }
+
+    fn narrow_from(&self, candidates: &mut Candidates, cell: usize) -> bool {
+        narrow_by_lines_of(self, candidates, cell)
     }
 
     fn item_count(size: Size) -> usize {

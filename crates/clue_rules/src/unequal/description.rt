@@ -176,7 +176,8 @@ fn push_letter(
 ) -> Result<(), AllocError>
     requires { cell < puzzle.now.size * puzzle.now.size }
     ensures { OnOk result (text.new.items ≡ text.old.items
-        ++ (if is_greater_towards puzzle.now cell direction then (letter_of direction ∷ []) else [])) }
+        ++ (if is_greater_towards puzzle.now cell direction
+        then (letter_of direction ∷ []) else [])) }
 {
     if is_greater_towards(puzzle, cell, direction) {
         text.push(direction.letter())?;

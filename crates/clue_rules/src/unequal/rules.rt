@@ -7,14 +7,14 @@ ghost use Rattle.latin_board.specs.Squares.{GridValue, IsGrid, IsFull, IsLatin, 
 ghost use Rattle.trail_solver.specs.Pairs.{IsPair};
 ghost use Rattle.trail_solver.specs.Candidates.{IsEarlier, IsWithin, may_be};
 ghost use Rattle.trail_solver.specs.Puzzles.{Solves};
-ghost use Rattle.clue_rules.specs.Unequal.{IsUnequal, givens_of, IsGreater, AreNeighbours, is_greater, holds_signs, HoldsSigns, holds_sign, sign_count, sign_at, sign_of_pair, first_of, second_of};
+ghost use Rattle.clue_rules.specs.Unequal.{IsUnequal, givens_of, IsGreater, AreNeighbours, is_greater, holds_signs, HoldsSigns, holds_sign_at, sign_count, sign_at, sign_of_pair, first_of, second_of};
 ghost use Rattle.clue_rules.specs.Unequal.{puzzle_of, full_unequal};
 ghost use Rattle.clue_rules.specs.Inner.UnequalFields.{HoldsPlaces};
 ghost use Rattle.clue_rules.specs.Struck.{IsUnequalStruck, KeepsSolutions, HasNoSolution, NoneLeft};
 ghost use Rattle.clue_rules.specs.Laws.UnequalSameness.{same_unequal, same_unequal_decides};
 
 use crate::lines::given_squares::keep_givens;
-use crate::lines::narrowing::narrow_by_lines;
+use crate::lines::narrowing::{narrow_by_lines, narrow_by_lines_of};
 use crate::unequal::sign::{Sign, sign_count, squares};
 use crate::unequal::{SIGNS, Unequal};
 use latin_board::{Grid, Size};
@@ -34,8 +34,7 @@ impl Unequal {
     fn holds_sign(&self, grid: &Grid, sign: usize) -> bool
         requires size { grid.now.size ≡ self.now.size }
         requires inside { sign < sign_count self.now.size }
-        ensures { result ≡ holds_sign (sign_at self.now sign)
-            (number_at grid.now (first_of self.now.size sign)) (number_at grid.now (second_of self.now.size sign)) }
+        ensures { result ≡ holds_sign_at self.now grid.now sign }
     {
         let (first, second) = squares(self.givens.size(), sign);
         match self.signs[sign] {
@@ -103,10 +102,15 @@ impl Rules for Unequal {
         ensures less { IsEarlier candidates.old candidates.new }
         ensures keeps { KeepsSolutions (puzzle_of self.now) candidates.old candidates.new }
         ensures refutes { OnFalse result (HasNoSolution (puzzle_of self.now) candidates.old) }
-        ensures struck { OnTrue result (NoneLeft (IsUnequalStruck self.now) candidates.old candidates.new) }
+        ensures struck { OnTrue result
+            (NoneLeft (IsUnequalStruck self.now) candidates.old candidates.new) }
     {
         keep_givens(candidates, self.givens());
         narrow_by_lines(self, candidates)
+    }
+
+    fn narrow_from(&self, candidates: &mut Candidates, cell: usize) -> bool {
+        narrow_by_lines_of(self, candidates, cell)
     }
 
     fn item_count(size: Size) -> usize {

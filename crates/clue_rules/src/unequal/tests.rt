@@ -1,9 +1,12 @@
 //! Descriptions, rules and items of Unequal at worked puzzles.
 
-use super::*;
-use std::alloc::AllocError;
+use super::Unequal;
+use crate::game::Game;
+use crate::id_fault::IdFault;
+use latin_board::{Grid, Size};
+use std::alloc::{AllocError, Global};
 use std::test::Fail;
-use trail_solver::{Answer, solve};
+use trail_solver::{Answer, Rules, solve};
 
 // The puzzle of width 3 that a text describes, read as any game reads it.
 fn read<G: Game>(text: &str) -> Result<G, IdFault> {

@@ -1,13 +1,10 @@
-use Rattle.std.proofs.Common.{Bor, List, ℕ, ◌∙◌, ap}
-use Rattle.puzzle_cli.specs.Commands.{command_at}
-use Rattle.puzzle_cli.proofs.CommandLaws.{read_found, read_bound, command_again}
+use Rattle.std.proofs.Common.{Bor, List, ℕ}
+use Rattle.std.specs.Option.{option_copied}
+use Rattle.puzzle_cli.proofs.CommandLaws.{read_found, read_range}
 use Rattle.puzzle_cli.proofs.command.read_command.Goals as goal
 
-pub returns-clause-found : goal.returns-clause-found
-returns-clause-found c = read_found (λ (text : Bor (List ℕ)). text.now) c.args.line.now c.parse_command.result c.parse_command.ensures
+pub returns-clause-read : goal.returns-clause-read
+returns-clause-read c = read_found (λ (text : Bor (List ℕ)). text.now) (option_copied c.args.line) c.parse_line.result c.parse_line.ensures
 
-pub returns-clause-bound : goal.returns-clause-bound
-returns-clause-bound c = read_bound (λ (text : Bor (List ℕ)). text.now) c.args.line.now c.parse_command.result c.parse_command.ensures
-
-pub returns-clause-only : goal.returns-clause-only
-returns-clause-only c = λ command valid h. c.parse_command.ensures ∙ ap command_at h ∙ command_again command valid
+pub returns-clause-range : goal.returns-clause-range
+returns-clause-range c = read_range (λ (text : Bor (List ℕ)). text.now) (option_copied c.args.line) c.parse_line.result c.parse_line.ensures

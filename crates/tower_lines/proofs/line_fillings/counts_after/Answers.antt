@@ -1,9 +1,10 @@
 use Rattle.std.proofs.Common.{◌+◌, ◌<◌, length, refl, ap, arith, count_ones}
 use Rattle.std.proofs.lemmas.Nat.{ones-le, one_shl}
-use Rattle.tower_lines.proofs.BackLemmas.{back_full, back_unreached, back_none, back_step, next_in_table, back_more, back_all, passed_small}
+use Rattle.tower_lines.proofs.BackLemmas.{back_full, back_unreached, back_none, back_step, back_more, back_all, passed_small}
 use Rattle.tower_lines.proofs.KeptLemmas.{kept_same, kept_more, unpassed_full, unpassed_unreached}
 use Rattle.tower_lines.proofs.MarkLemmas.{added_with, added_above, added_below, pow_most}
 use Rattle.tower_lines.proofs.MaskLemmas.{mask_in_table}
+use Rattle.tower_lines.proofs.NextValues.{next_in_table}
 use Rattle.tower_lines.proofs.line_fillings.counts_after.Goals as goal
 
 pub returns-then-place-sets-clause-back : goal.returns-then-place-sets-clause-back
@@ -26,7 +27,7 @@ pub bounds-sets-place : goal.bounds-sets-place
 bounds-sets-place c = omega (arith, ones-le (length c.args.sets.now) c.args.mask c.requires.inside)
 
 pub loop-left-init : goal.loop-left-init
-loop-left-init c = back_none c.next_values-left.ensures
+loop-left-init c = back_none (record { bits = c.next_values-left.ensures })
 
 pub overflow_add-mask : goal.overflow_add-mask
 overflow_add-mask c =

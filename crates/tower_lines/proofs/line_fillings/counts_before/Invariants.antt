@@ -1,9 +1,9 @@
-use Rattle.std.proofs.Common.{◌≡◌, ℕ, ◌<◌, length, slice_index}
-use Rattle.tower_lines.specs.LineMasks.{AreFrontCounts}
+use Rattle.std.proofs.Common.{◌≡◌, length}
+use Rattle.tower_lines.specs.LineMasks.{AreDoneBelow}
 use Rattle.tower_lines.proofs.line_fillings.counts_before.Given as goal
 
 abbrev pub invariant-loop-mask : goal.invariant-loop-mask
 invariant-loop-mask l = record {
-  below : (m : ℕ) → m < l.mask → AreFrontCounts l.sets m (slice_index l.front m);
+  done : AreDoneBelow l.sets l.clue l.mask l.front;
   long : length l.front ≡ 512;
 }

@@ -1,35 +1,70 @@
-use Rattle.std.proofs.Common.{◌≡◌, ◌+◌, refl, ◌∙◌, subst, arith}
-use Rattle.trail_solver.specs.Puzzles.{IsAmongAt}
+use Rattle.std.proofs.Common.{◌∙◌, subst}
+use Rattle.std.proofs.lemmas.Bool.{OnFalse_at}
 use Rattle.trail_solver.specs.Candidates.{CandidatesValue}
-use Rattle.trail_solver.specs.Answers.{Adds}
-use Rattle.trail_solver.proofs.SearchSteps.{narrowed_adds, guess_adds, value_none, value_more, value_all, value_several}
+use Rattle.trail_solver.specs.Puzzles.{IsAmong}
+use Rattle.trail_solver.proofs.Earlier.{earlier_trans, prefix_length}
+use Rattle.trail_solver.proofs.OneKept.{Removes, removed_earlier}
+use Rattle.trail_solver.proofs.SearchSteps.{narrowed_adds, refuted_adds, guess_adds, left_narrowed, left_branched, left_several, left_none, dead_none}
 use Rattle.trail_solver.proofs.solver.+search.Goals as goal
+use Rattle.trail_solver.proofs.solver.+search.Goals.{guess-then-narrow_from, guess-else-narrow_from}
 
 pub guess-returns-clause-adds : goal.guess-returns-clause-adds
 guess-returns-clause-adds g t c =
-    guess_adds (g.P.Rules.puzzle c.args.p.now) c.args.candidates.now c.keep_only.new.candidates c.args.cell c.args.value c.args.found c.search-found.result c.requires.size c.keep_only.ensures.kept c.requires.open_cell.inside c.search-found.ensures.adds
+    let p = g.P.Rules.puzzle c.args.p.now in
+    let old = c.args.candidates.now in
+    let kept = c.keep_only.new.candidates in
+    let inside = c.requires.branch.pair.inside in
+    elim c.if-narrow_from.branch [
+      | guess-then-narrow_from w ↦ (let found = w.search-answer.result in
+          rw w.answer-is (guess_adds p old kept c.args.cell c.args.value c.args.found found c.requires.size c.keep_only.ensures.kept inside
+          (narrowed_adds p kept c.narrow_from.new.candidates c.args.found found c.narrow_from.ensures.less c.narrow_from.ensures.keeps w.search-answer.ensures.adds)))
+      | guess-else-narrow_from w ↦ rw w.answer-is (guess_adds p old kept c.args.cell c.args.value c.args.found c.args.found c.requires.size c.keep_only.ensures.kept inside
+          (refuted_adds p kept c.args.found (OnFalse_at w.if-narrow_from.false c.narrow_from.ensures.refutes)))
+    ]
 
-pub search-returns-in_default-clause-adds : goal.search-returns-in_default-clause-adds
-search-returns-in_default-clause-adds g t c =
-    narrowed_adds (g.P.Rules.puzzle c.args.p.now) c.args.candidates.now c.narrow.new.candidates c.args.found c.at_leaf.result c.narrow.ensures.less c.narrow.ensures.keeps c.at_leaf.ensures
+pub search-returns-in-Settled-clause-adds : goal.search-returns-in-Settled-clause-adds
+search-returns-in-Settled-clause-adds g t c = c.loop-candidates.invariant.rest.joins c.at_leaf.result c.at_leaf.ensures
 
-pub search-loop-value-init : goal.search-loop-value-init
-search-loop-value-init g t c =
-    (refl, value_none (g.P.Rules.puzzle c.args.p.now) c.narrow.new.candidates c.in-Some.cell c.args.found (c.narrow.ensures.less.size ∙ c.requires) c.in-Some.ensures.inside)
+pub search-returns-in-Dead-clause-adds : goal.search-returns-in-Dead-clause-adds
+search-returns-in-Dead-clause-adds g t c =
+    let p = g.P.Rules.puzzle c.args.p.now in
+    let now = c.loop-candidates.candidates in
+    left_none (IsAmong p c.args.candidates.now) c.args.found (IsAmong p now) c.loop-candidates.found c.loop-candidates.invariant.rest
+    (dead_none p now c.in-Dead.ensures.0 (c.loop-candidates.invariant.less.size ∙ c.requires) c.in-Dead.ensures.1)
 
 pub search-returns-in-Several-clause-adds : goal.search-returns-in-Several-clause-adds
 search-returns-in-Several-clause-adds g t c =
     let p = g.P.Rules.puzzle c.args.p.now in
-    let P : CandidatesValue → Type 0 = λ k. Adds (IsAmongAt p k c.in-Some.cell c.loop-value.value) c.loop-value.found c.guess-found.result in
-    let here = subst P c.loop-value.invariant.0 c.guess-found.ensures.adds in
-    narrowed_adds p c.args.candidates.now c.narrow.new.candidates c.args.found c.guess-found.result c.narrow.ensures.less c.narrow.ensures.keeps
-    (value_several p c.narrow.new.candidates c.in-Some.cell (c.loop-value.value + 1) c.args.found c.guess-found.result c.in-Several.field-0 c.in-Several.field-1 c.in-Several.is
-    (value_more p c.narrow.new.candidates c.in-Some.cell c.loop-value.value c.args.found c.loop-value.found c.guess-found.result c.loop-value.invariant.1 here))
+    left_several p (IsAmong p c.args.candidates.now) c.args.found c.loop-candidates.found c.guess-found.result c.loop-candidates.candidates c.in-Branch.cell c.in-Branch.value c.in-Several.field-0 c.in-Several.field-1 c.loop-candidates.invariant.rest c.guess-found.ensures.adds c.in-Several.is
 
-pub search-returns-clause-adds : goal.search-returns-clause-adds
-search-returns-clause-adds g t c =
+pub search-returns-then-not-narrow_from : goal.search-returns-then-not-narrow_from
+search-returns-then-not-narrow_from g t c =
     let p = g.P.Rules.puzzle c.args.p.now in
-    let size = c.narrow.ensures.less.size ∙ c.requires in
-    let width : c.get-width.result ≡ c.narrow.new.candidates.size = c.get-width.ensures.value ∙ c.size.ensures.value in
-    narrowed_adds p c.args.candidates.now c.narrow.new.candidates c.args.found c.loop-value.found c.narrow.ensures.less c.narrow.ensures.keeps
-    (value_all p c.narrow.new.candidates c.in-Some.cell c.loop-value.value c.args.found c.loop-value.found size c.in-Some.ensures.inside (omega arith) c.loop-value.invariant.1)
+    let old = c.loop-candidates.candidates in
+    let next = c.take_away.new.candidates in
+    let P : CandidatesValue → Type 0 = λ k. Removes k next c.in-Branch.cell c.in-Branch.value in
+    let taken = subst P c.guess-found.ensures.same (record { size = c.take_away.ensures.size; trail = c.take_away.ensures.trail }) in
+    let so_far = earlier_trans c.args.candidates.now old next c.loop-candidates.invariant.less (removed_earlier old next c.in-Branch.cell c.in-Branch.value taken) in
+    let left = left_branched p (IsAmong p c.args.candidates.now) c.args.found c.loop-candidates.found c.guess-found.result old next c.in-Branch.cell c.in-Branch.value c.loop-candidates.invariant.rest c.guess-found.ensures.adds taken in
+    record {
+      less = earlier_trans c.args.candidates.now next c.narrow_from.new.candidates so_far c.narrow_from.ensures.less;
+      adds = left_none (IsAmong p c.args.candidates.now) c.args.found (IsAmong p next) c.guess-found.result left
+          (λ h s. OnFalse_at c.if-not-narrow_from.true c.narrow_from.ensures.refutes h s.0 s.1);
+    }
+
+pub search-loop-candidates-preserved : goal.search-loop-candidates-preserved
+search-loop-candidates-preserved g t c =
+    let p = g.P.Rules.puzzle c.args.p.now in
+    let old = c.loop-candidates.candidates in
+    let next = c.take_away.new.candidates in
+    let now = c.narrow_from.new.candidates in
+    let P : CandidatesValue → Type 0 = λ k. Removes k next c.in-Branch.cell c.in-Branch.value in
+    let taken = subst P c.guess-found.ensures.same (record { size = c.take_away.ensures.size; trail = c.take_away.ensures.trail }) in
+    let so_far = earlier_trans c.args.candidates.now old next c.loop-candidates.invariant.less (removed_earlier old next c.in-Branch.cell c.in-Branch.value taken) in
+    let less = earlier_trans c.args.candidates.now next now so_far c.narrow_from.ensures.less in
+    let left = left_branched p (IsAmong p c.args.candidates.now) c.args.found c.loop-candidates.found c.guess-found.result old next c.in-Branch.cell c.in-Branch.value c.loop-candidates.invariant.rest c.guess-found.ensures.adds taken in
+    record {
+      less = less;
+      longer = prefix_length c.args.candidates.now.trail now.trail less.adds;
+      rest = left_narrowed p (IsAmong p c.args.candidates.now) c.args.found c.guess-found.result next now left c.narrow_from.ensures.less c.narrow_from.ensures.keeps;
+    }

@@ -1,6 +1,7 @@
-use Rattle.std.proofs.Common.{◌≡◌, ◌+◌, ◌-◌, ◌*◌, length}
-use Rattle.trail_solver.specs.Puzzles.{IsAmongBelow}
-use Rattle.trail_solver.specs.Answers.{Adds}
+use Rattle.std.proofs.Common.{◌+◌, ◌-◌, ◌*◌, ◌≤◌, length}
+use Rattle.trail_solver.specs.Candidates.{IsEarlier}
+use Rattle.trail_solver.specs.Puzzles.{IsAmong}
+use Rattle.trail_solver.proofs.SearchSteps.{IsLeft}
 use Rattle.trail_solver.proofs.solver.+search.Given as goal
 
 abbrev pub decreases-guess : goal.decreases-guess
@@ -9,8 +10,13 @@ decreases-guess g l = 2 * (729 - length l.candidates.now.trail)
 abbrev pub decreases-search : goal.decreases-search
 decreases-search g l = 2 * (729 - length l.candidates.now.trail) + 1
 
--- the solutions with a smaller value in the cell have joined
-abbrev pub invariant-search-loop-value : goal.invariant-search-loop-value
-invariant-search-loop-value g l =
-    (l.candidates ≡ l.initial.candidates)
-    × Adds (IsAmongBelow (g.P.Rules.puzzle l.p) l.initial.candidates l.cell l.value) l.initial.found l.found
+abbrev pub decreases-search-loop-candidates : goal.decreases-search-loop-candidates
+decreases-search-loop-candidates g l = 729 - length l.candidates.trail
+
+-- what is left to do
+abbrev pub invariant-search-loop-candidates : goal.invariant-search-loop-candidates
+invariant-search-loop-candidates g l = record {
+  less : IsEarlier l.initial.candidates l.candidates;
+  longer : length l.initial.candidates.trail ≤ length l.candidates.trail;
+  rest : IsLeft (IsAmong (g.P.Rules.puzzle l.p) l.initial.candidates) l.initial.found (IsAmong (g.P.Rules.puzzle l.p) l.candidates) l.found;
+}

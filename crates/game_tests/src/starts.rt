@@ -1,0 +1,251 @@
+//! Command lines, and the first sessions that they begin.
+
+use clue_rules::{Towers, Unequal};
+use play_midend::Session;
+use puzzle_cli::{Draw, Args, CommandFault, GameName, StartFault, begin, read_words};
+use std::alloc::Global;
+use std::process::Abort;
+use std::test::Fail;
+
+const SMALL_ID: &str = "3:3//////3/////";
+
+const SAVED: &str = "SAVEFILE:41:Simon Tatham's Portable Puzzle Collection
+VERSION :1:1
+GAME    :6:Towers
+PARAMS  :1:3
+CPARAMS :1:3
+DESC    :13:3//////3/////
+NSTATES :1:3
+STATEPOS:1:2
+MOVE    :6:R0,0,1
+MOVE    :6:R1,0,2
+";
+
+// The same, where the second move is off the grid.
+const BAD_SECOND_MOVE: &str = "SAVEFILE:41:Simon Tatham's Portable Puzzle Collection
+VERSION :1:1
+GAME    :6:Towers
+PARAMS  :1:3
+CPARAMS :1:3
+DESC    :13:3//////3/////
+NSTATES :1:3
+STATEPOS:1:2
+MOVE    :6:R0,0,1
+MOVE    :6:R9,0,2
+";
+
+const KEPT_BYTES: &str = "SAVEFILE:41:Simon Tatham's Portable Puzzle Collection\r
+VERSION :1:1\r
+GAME    :6:Towers\r
+PARAMS  :3:3de\r
+CPARAMS :3:3de\r
+SEED    :15:123456789012345\r
+COMMENT :5:hello\r
+DESC    :13:3//////3/////\r
+AUXINFO :8:0011aabb\r
+NSTATES :1:1\r
+STATEPOS:1:1\r
+";
+
+fn check_args(
+    rt: &impl Abort,
+    args: &Args,
+    game: GameName,
+    id: Option<&str>,
+    load: Option<&str>,
+    save: Option<&str>,
+) {
+    assert_eq!(rt; args.game, game);
+    assert_eq!(rt; args.id.as_ref().map(|text| text.as_str()), id);
+    assert_eq!(rt; args.load.as_ref().map(|text| text.as_str()), load);
+    assert_eq!(rt; args.save.as_ref().map(|text| text.as_str()), save);
+}
+
+#[test]
+fn words_that_name_a_game(rt: HostRuntime) -> Result<(), Fail> {
+    let alloc = rt.alloc();
+    let args = read_words(alloc, &["puzzles", "towers", "--id", SMALL_ID])?;
+    check_args(&rt, &args, GameName::Towers, Some(SMALL_ID), None, None);
+    let args = read_words(alloc, &["puzzles", "towers"])?;
+    check_args(&rt, &args, GameName::Towers, None, None, None);
+    let args = read_words(alloc, &["puzzles", "unequal", "--load", "a", "--save", "b"])?;
+    check_args(&rt, &args, GameName::Unequal, None, Some("a"), Some("b"));
+    let args = read_words(alloc, &["puzzles", "--save", "b", "towers", "--id", ""])?;
+    check_args(&rt, &args, GameName::Towers, Some(""), None, Some("b"));
+    Ok(())
+}
+
+fn check_refused(rt: &impl Abort, alloc: Global, words: &[&str]) {
+    match read_words(alloc, words) {
+        Err(fault) => {
+            assert_eq!(rt; fault.number(), 1);
+            assert_eq!(rt; fault.name(), "BadWords");
+            assert_eq!(rt; fault.status(), 2);
+            match &fault {
+                CommandFault::BadWords(text) => assert!(rt; text.as_str().ends_with("\n")),
+                _ => assert!(rt; false, "refused words have a text"),
+            }
+        }
+        Ok(_) => assert!(rt; false, "{words:?}"),
+    }
+}
+
+#[test]
+fn words_that_are_refused(rt: HostRuntime) {
+    let alloc = rt.alloc();
+    check_refused(&rt, alloc, &[]);
+    check_refused(&rt, alloc, &["puzzles"]);
+    check_refused(&rt, alloc, &["puzzles", "chess"]);
+    check_refused(
+        &rt,
+        alloc,
+        &["puzzles", "towers", "--id", "3", "--load", "f"],
+    );
+}
+
+fn check_help(rt: &impl Abort, alloc: Global, word: &str, part: &str) {
+    match read_words(alloc, &["puzzles", word]) {
+        Err(fault) => {
+            assert_eq!(rt; fault.number(), 2);
+            assert_eq!(rt; fault.name(), "HelpAsked");
+            assert_eq!(rt; fault.status(), 0);
+            match &fault {
+                CommandFault::HelpAsked(text) => assert!(rt; text.as_str().contains(part)),
+                _ => assert!(rt; false, "help is a text"),
+            }
+        }
+        Ok(_) => assert!(rt; false, "{word}"),
+    }
+}
+
+#[test]
+fn words_that_ask_for_help(rt: HostRuntime) {
+    let alloc = rt.alloc();
+    check_help(&rt, alloc, "--help", "Usage: puzzles");
+    check_help(&rt, alloc, "-h", "Usage: puzzles");
+    check_help(&rt, alloc, "--version", "puzzles 1.0");
+    check_help(&rt, alloc, "-V", "puzzles 1.0");
+}
+
+fn begun<P: Draw>(
+    alloc: Global,
+    id: Option<&str>,
+    file: Option<&str>,
+) -> Result<Option<Session<P>>, StartFault> {
+    match (id, file) {
+        (Some(id), _) => begin::<P>(alloc, Some(id.as_bytes()), None),
+        (None, Some(file)) => begin::<P>(alloc, None, Some(file.as_bytes())),
+        (None, None) => begin::<P>(alloc, None, None),
+    }
+}
+
+#[test]
+fn sessions_that_begin(rt: HostRuntime) -> Result<(), Fail> {
+    let alloc = rt.alloc();
+    assert!(rt; begun::<Towers>(alloc, None, None)?.is_none());
+
+    let new = begun::<Towers>(alloc, Some(SMALL_ID), None)?.expect(&rt, "a session");
+    assert_eq!(rt; (new.position(), new.states()), (1, 1));
+    assert_eq!(rt;
+        new.puzzle().write_desc(alloc)?.as_slice(),
+        b"3//////3/////".as_slice()
+    );
+
+    let loaded = begun::<Towers>(alloc, None, Some(SAVED))?.expect(&rt, "a session");
+    assert_eq!(rt; (loaded.position(), loaded.states()), (2, 3));
+    assert!(rt; loaded.puzzle().same(new.puzzle()));
+
+    let seeded = begun::<Unequal>(alloc, Some("4!7"), None)?.expect(&rt, "a session");
+    let again = begun::<Unequal>(alloc, Some("4!7"), None)?.expect(&rt, "a session");
+    assert_eq!(rt; (seeded.position(), seeded.states()), (1, 1));
+    assert!(rt; seeded.puzzle().same(again.puzzle()));
+    assert!(rt; seeded.extras().seed.is_none());
+    Ok(())
+}
+
+#[test]
+fn kept_bytes_of_a_file(rt: HostRuntime) -> Result<(), Fail> {
+    let session = begun::<Towers>(rt.alloc(), None, Some(KEPT_BYTES))?.expect(&rt, "a session");
+    let extras = session.extras();
+    let seed = extras.seed.as_ref().map(|kept| kept.as_slice());
+    let auxinfo = extras.auxinfo.as_ref().map(|kept| kept.as_slice());
+    assert_eq!(rt; seed, Some(b"123456789012345".as_slice()));
+    assert_eq!(rt; auxinfo, Some(b"0011aabb".as_slice()));
+    assert!(rt; extras.ui.is_none() && extras.time.is_none());
+    Ok(())
+}
+
+fn check_start<P: Draw>(
+    rt: &impl Abort,
+    alloc: Global,
+    id: Option<&str>,
+    file: Option<&str>,
+    number: u8,
+    name: &str,
+    line: &str,
+) {
+    match begun::<P>(alloc, id, file) {
+        Err(fault) => {
+            assert_eq!(rt; fault.number(), number);
+            assert_eq!(rt; fault.name(), name);
+            assert_eq!(rt; fault.status(), 3);
+            assert_eq!(rt; fault.fault_line().as_str(), line);
+        }
+        Ok(_) => assert!(rt; false, "{name}"),
+    }
+}
+
+#[test]
+fn starts_that_are_refused(rt: HostRuntime) {
+    let alloc = rt.alloc();
+    check_start::<Towers>(
+        &rt,
+        alloc,
+        Some("5#7"),
+        None,
+        1,
+        "ForeignSeed",
+        "refused: ForeignSeed",
+    );
+    check_start::<Towers>(
+        &rt,
+        alloc,
+        Some("7!1"),
+        None,
+        2,
+        "SizeTooLarge",
+        "refused: SizeTooLarge",
+    );
+    check_start::<Unequal>(
+        &rt,
+        alloc,
+        None,
+        Some(SAVED),
+        3,
+        "WrongGame",
+        "refused: WrongGame",
+    );
+    check_start::<Towers>(
+        &rt,
+        alloc,
+        None,
+        Some(BAD_SECOND_MOVE),
+        3,
+        "BadState",
+        "refused: BadState 2",
+    );
+}
+
+#[test]
+fn want_of_memory(rt: HostRuntime) {
+    assert_eq!(rt; CommandFault::OutOfMemory.number(), 3);
+    assert_eq!(rt; CommandFault::OutOfMemory.name(), "OutOfMemory");
+    assert_eq!(rt; CommandFault::OutOfMemory.status(), 1);
+    assert_eq!(rt; StartFault::OutOfMemory.number(), 4);
+    assert_eq!(rt; StartFault::OutOfMemory.name(), "OutOfMemory");
+    assert_eq!(rt; StartFault::OutOfMemory.status(), 1);
+    assert_eq!(rt;
+        StartFault::OutOfMemory.fault_line().as_str(),
+        "out of memory"
+    );
+}

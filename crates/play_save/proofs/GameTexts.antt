@@ -1,0 +1,50 @@
+-- What a game owes of its descriptions, and that puzzles with the same written description are the same.
+use Rattle.std.proofs.Common.{◌≡◌, ◌≢◌, ℕ, ◌≤◌, true, false, List, Some, None, Result, Ok, bytes_eq, cond, refl, ap}
+use Rattle.std.proofs.lemmas.Slice.Eq.{bytes_eq-Decides}
+use Rattle.trail_solver.specs.Puzzles.{Puzzle}
+use Rattle.clue_rules.specs.declared.id_fault.IdFault.{IdFault}
+use Rattle.clue_rules.specs.GameIds.{ReadsGrammar}
+use Rattle.clue_rules.proofs.GameIdLemmas.{game_reads}
+use Rattle.play_midend.specs.declared.moves.Move.{Move}
+use Rattle.play_midend.specs.declared.moves.Move.TheVariants.{Restart}
+use Rattle.play_save.specs.SaveTexts.{SavedGame, saved_game}
+use Rattle.play_save.specs.FirstFaults.{restart_of}
+
+pub record IsGame {P : Type 0} (game : SavedGame P) : Type 0 where
+  pub reads : ReadsGrammar P game.desc_at game.Describes
+  pub sized : (w : ℕ) (p : P) (text : List ℕ) → game.Describes w p text → (game.puzzle p).size ≡ w
+  pub canonical : (w : ℕ) (p : P) (text : List ℕ) → game.Describes w p text → game.Describes w p (game.desc_of p)
+
+pub game_owes : {P : Type 0} (title letters : List ℕ) (puzzle : P → Puzzle) (of_game : P → Type 0) (describes : List ℕ → P → Type 0) (desc_at : ℕ → List ℕ → Result P IdFault) (desc_of : P → List ℕ) → ((w : ℕ) (text : List ℕ) (d : P) → 3 ≤ w → w ≤ 9 → desc_at w text ≡ Ok d → describes text d × of_game d × ((puzzle d).size ≡ w)) → ((text : List ℕ) (d : P) → of_game d → describes text d → desc_at (puzzle d).size text ≡ Ok d) → ((p : P) → of_game p → describes (desc_of p) p) → IsGame (saved_game title letters puzzle of_game describes desc_at desc_of)
+game_owes {P} title letters puzzle of_game describes desc_at desc_of taken again canonical = record {
+  reads = game_reads P puzzle of_game describes desc_at taken again;
+  sized = λ w p text is. is.2;
+  canonical = λ w p text is. (canonical p is.1, is.1, is.2);
+}
+
+-- the written description tells puzzles of a width apart
+pub same_puzzle : {P : Type 0} (game : SavedGame P) (w : ℕ) (p q : P) (p_text q_text : List ℕ) → IsGame game → game.Describes w p p_text → game.Describes w q q_text → game.desc_of q ≡ game.desc_of p → q ≡ p
+same_puzzle game w p q p_text q_text owes p_is q_is same =
+    let read_p = owes.reads.again w (game.desc_of p) p (owes.canonical w p p_text p_is) in
+    let read_q = owes.reads.again w (game.desc_of q) q (owes.canonical w q q_text q_is) in
+    let both : game.desc_at w (game.desc_of q) ≡ game.desc_at w (game.desc_of p) = ap (game.desc_at w) same in
+    cc
+
+-- a description that is read restarts the puzzle just where it is the same
+pub restart_taken : {P : Type 0} (game : SavedGame P) (p q : P) (m : Move) → restart_of game p q ≡ Some m → (m ≡ Restart) × (game.desc_of q ≡ game.desc_of p)
+restart_taken game p q m =
+    elim (bytes_eq (game.desc_of q) (game.desc_of p)) as (λ t. bytes_eq (game.desc_of q) (game.desc_of p) ≡ t → cond t (Some Restart) None ≡ Some m → (m ≡ Restart) × (game.desc_of q ≡ game.desc_of p)) [
+      | true ↦ λ same is. (cc, (bytes_eq-Decides (game.desc_of q) (game.desc_of p)).0 same)
+      | false ↦ λ same is. cc
+    ] refl
+
+pub restart_again : {P : Type 0} (game : SavedGame P) (p : P) → restart_of game p p ≡ Some Restart
+restart_again game p = rw ((bytes_eq-Decides (game.desc_of p) (game.desc_of p)).1 refl) refl
+
+-- another puzzle is no restart
+pub other_puzzle : {P : Type 0} (game : SavedGame P) (w : ℕ) (p q : P) (p_text q_text : List ℕ) → IsGame game → game.Describes w p p_text → game.Describes w q q_text → q ≢ p → restart_of game p q ≡ None
+other_puzzle game w p q p_text q_text owes p_is q_is other =
+    elim (bytes_eq (game.desc_of q) (game.desc_of p)) as (λ t. bytes_eq (game.desc_of q) (game.desc_of p) ≡ t → cond t (Some Restart) None ≡ None) [
+      | true ↦ λ same. absurd (other (same_puzzle game w p q p_text q_text owes p_is q_is ((bytes_eq-Decides (game.desc_of q) (game.desc_of p)).0 same)))
+      | false ↦ λ same. refl
+    ] refl

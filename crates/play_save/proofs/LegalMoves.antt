@@ -1,0 +1,117 @@
+-- What is known of the moves of a legal list: they fit what a text holds.
+use Rattle.std.proofs.Common.{◌≡◌, ℕ, zero, suc, ◌+◌, ◌*◌, ◌≤◌, ℤ, pos, negsuc, Bool, true, false, ◌==◌, ◌&&◌, not, nat_lt, List, [], ◌∷◌, Option, Some, None, IsOk, cond, refl, arith}
+use Rattle.std.specs.Option.{option_or, option_map_or}
+use borrow.Author.Tests.{eqb-true, ltb-true, ltb-false}
+use Rattle.latin_board.specs.Boards.{BoardValue}
+use Rattle.latin_board.specs.Edges.{edge_place}
+use Rattle.trail_solver.specs.Puzzles.{Puzzle, solves_test}
+use Rattle.play_midend.specs.declared.moves.Move.{Move}
+use Rattle.play_midend.specs.declared.moves.Move.TheVariants.{Real, Pencil, MarkAll, Solve, Restart, Done}
+use Rattle.play_midend.specs.declared.fault.PlayFault.{PlayFault}
+use Rattle.play_midend.specs.declared.fault.PlayFault.TheVariants.{OffGrid, OffRange, GivenSquare, BadSolution}
+use Rattle.play_midend.specs.MoveTexts.{AreBytes, IsCoordinate}
+use Rattle.play_midend.specs.Steps.{cell_of, entry_refusal, mark_refusal, refusal_of, moved, unless_refused, step, after_move, ArePlayable}
+
+-- the numbers are within what a text holds, and a solution has the puzzle's size
+abbrev pub FitsText : Puzzle → Move → Type 0
+FitsText p (Real x y n) = AreBytes x y n
+FitsText p (Pencil x y n) = AreBytes x y n
+FitsText p MarkAll = Unit {0}
+FitsText p (Solve g) = (g.size ≡ p.size) × (solves_test p g ≡ true)
+FitsText p Restart = Unit {0}
+FitsText p (Done x y) = IsCoordinate x × IsCoordinate y
+
+abbrev pub AllFit : Puzzle → List Move → Type 0
+AllFit p [] = Unit {0}
+AllFit p (m ∷ ms) = FitsText p m × AllFit p ms
+
+and_parts : (a b : Bool) → (a && b) ≡ true → (a ≡ true) × (b ≡ true)
+and_parts true b is = (refl, is)
+and_parts false b is = cc
+
+entry_fits : (p : Puzzle) (x y n : ℕ) → p.size ≤ 9 → entry_refusal p x y n ≡ None → AreBytes x y n
+entry_fits p x y n small =
+    elim (nat_lt x p.size && nat_lt y p.size) as (λ t. (nat_lt x p.size && nat_lt y p.size) ≡ t → cond (not t) (Some OffGrid) (cond (nat_lt p.size n) (Some OffRange) (cond (p.given (cell_of p.size x y) == 0) None (Some GivenSquare))) ≡ None → AreBytes x y n) [
+      | true ↦ λ inside.
+          elim (nat_lt p.size n) as (λ t. nat_lt p.size n ≡ t → cond t (Some OffRange) (cond (p.given (cell_of p.size x y) == 0) None (Some GivenSquare)) ≡ None → AreBytes x y n) [
+            | true ↦ λ above none. cc
+            | false ↦ λ within none.
+                let both = and_parts (nat_lt x p.size) (nat_lt y p.size) inside in
+                record {
+                  x_is = omega (arith, ltb-true x p.size both.0);
+                  y_is = omega (arith, ltb-true y p.size both.1);
+                  n_is = omega (arith, ltb-false p.size n within);
+                }
+          ] refl
+      | false ↦ λ outside none. cc
+    ] refl
+
+-- an edge place has coordinates that a text holds
+edge_fits : (w : ℕ) (x y : ℤ) (k : ℕ) → w ≤ 9 → edge_place w x y ≡ Some k → IsCoordinate x × IsCoordinate y
+edge_fits w (pos x) (negsuc zero) k small =
+    elim (nat_lt x w) as (λ t. nat_lt x w ≡ t → cond t (Some x) None ≡ Some k → (x ≤ 127) × (zero ≡ zero)) [
+      | true ↦ λ below is. (omega (arith, ltb-true x w below), refl)
+      | false ↦ λ below is. cc
+    ] refl
+edge_fits w (pos x) (pos y) k small =
+    elim (nat_lt x w && (y == w)) as (λ t. (nat_lt x w && (y == w)) ≡ t → cond t (Some (w + x)) (cond (nat_lt y w && (x == w)) (Some (3 * w + y)) None) ≡ Some k → (x ≤ 127) × (y ≤ 127)) [
+      | true ↦ λ both is.
+          let parts = and_parts (nat_lt x w) (y == w) both in
+          (omega (arith, ltb-true x w parts.0), omega (arith, eqb-true y w parts.1))
+      | false ↦ λ both.
+          elim (nat_lt y w && (x == w)) as (λ t. (nat_lt y w && (x == w)) ≡ t → cond t (Some (3 * w + y)) None ≡ Some k → (x ≤ 127) × (y ≤ 127)) [
+            | true ↦ λ others is.
+                let parts = and_parts (nat_lt y w) (x == w) others in
+                (omega (arith, eqb-true x w parts.1), omega (arith, ltb-true y w parts.0))
+            | false ↦ λ others is. cc
+          ] refl
+    ] refl
+edge_fits w (negsuc zero) (pos y) k small =
+    elim (nat_lt y w) as (λ t. nat_lt y w ≡ t → cond t (Some (2 * w + y)) None ≡ Some k → (zero ≡ zero) × (y ≤ 127)) [
+      | true ↦ λ below is. (refl, omega (arith, ltb-true y w below))
+      | false ↦ λ below is. cc
+    ] refl
+edge_fits w (pos x) (negsuc (suc n)) k small = λ is. cc
+edge_fits w (negsuc zero) (negsuc n) k small = λ is. cc
+edge_fits w (negsuc (suc n)) y k small = λ is. cc
+
+or_none : (a b : Option PlayFault) → option_or a b ≡ None → a ≡ None
+or_none None b is = refl
+or_none (Some f) b is = cc
+
+pub move_fits : (p : Puzzle) (b : BoardValue) (m : Move) → p.size ≤ 9 → refusal_of p b m ≡ None → FitsText p m
+move_fits p b (Real x y n) small none = entry_fits p x y n small none
+move_fits p b (Pencil x y n) small none =
+    entry_fits p x y n small (or_none (entry_refusal p x y n) (mark_refusal b (cell_of p.size x y) n) none)
+move_fits p b MarkAll small none = tt
+move_fits p b Restart small none = tt
+move_fits p b (Solve g) small none =
+    elim (solves_test p g) as (λ t. solves_test p g ≡ t → cond t None (Some BadSolution) ≡ None → (g.size ≡ p.size) × (solves_test p g ≡ true)) [
+      | true ↦ λ solves no_fault. (same_size solves, solves)
+      | false ↦ λ solves no_fault. cc
+    ] refl none
+  where
+    first_of_and : (x y : Bool) → (x && y) ≡ true → x ≡ true
+    first_of_and true y e = refl
+    first_of_and false y e = cc
+
+    same_size : solves_test p g ≡ true → g.size ≡ p.size
+    same_size solves = eqb-true g.size p.size (first_of_and _ _ (first_of_and _ _ (first_of_and _ _ solves)))
+move_fits p b (Done x y) small none = by_place (edge_place p.size x y) refl none
+  where
+    by_place : (place : Option ℕ) → edge_place p.size x y ≡ place → cond (option_map_or p.clued place false) None (Some OffGrid) ≡ None → IsCoordinate x × IsCoordinate y
+    by_place None at no_fault = cc
+    by_place (Some k) at no_fault = edge_fits p.size x y k small at
+
+-- a move that isn't refused, and all moves of a legal list
+allowed : (p : Puzzle) (b : BoardValue) (m : Move) → IsOk (step p b m) → refusal_of p b m ≡ None
+allowed p b m is = by_refusal (refusal_of p b m) is
+  where
+    by_refusal : (o : Option PlayFault) → IsOk (unless_refused o (moved p b m)) → o ≡ None
+    by_refusal None good = refl
+    by_refusal (Some f) good = cc
+
+pub all_fit : (p : Puzzle) (b : BoardValue) (ms : List Move) → p.size ≤ 9 → ArePlayable p b ms → AllFit p ms
+all_fit p b [] small playable = tt
+all_fit p b (m ∷ ms) small playable =
+    (move_fits p b m small (allowed p b m playable.0), all_fit p (after_move p b m) ms small playable.1)

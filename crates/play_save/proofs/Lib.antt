@@ -1,0 +1,19 @@
+-- Lemmas on the texts of save files.
+pub mod OptionSteps
+pub mod RecordLaws
+pub mod RecordAnswers
+pub mod LineLists
+pub mod Meeting
+pub mod RightLists
+pub mod ReadingOn
+pub mod Counting
+pub mod GameTexts
+pub mod StatesPlayed
+pub mod SavedTaken
+pub mod SavedAgain
+pub mod LoadAnswers
+pub mod WrittenLists
+pub mod WrittenRecords
+pub mod LegalMoves
+pub mod WrittenLines
+pub mod SavedWritten

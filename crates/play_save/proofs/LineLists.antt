@@ -1,0 +1,118 @@
+-- Lists of records: the values of a key, and the state records, along a list that is put together.
+use Rattle.std.proofs.Common.{◌≡◌, ℕ, true, false, ◌==◌, List, [], ◌∷◌, ◌++◌, Option, Some, None, option_map, is_some, cond, refl, ap, ◌∙◌}
+use borrow.Author.Tests.{eqb-true}
+use Rattle.play_save.specs.declared.key.Key.{Key}
+use Rattle.play_save.specs.declared.key.Key.TheVariants.{SaveFile, FormatVersion, GameName, NextParams, CurrentParams, Seed, Desc, PrivateDesc, AuxInfo, Ui, Time, StateCount, Position, State, Other}
+use Rattle.play_save.specs.Keys.{rank}
+use Rattle.play_save.specs.Lines.{Line, StateLine, values_of, onto_states, states_in, is_state}
+use Rattle.play_save.specs.FirstFaults.{first_of}
+
+-- a key is known by its number, unless it is one of the three of states
+by_rank : ℕ → Option Key
+by_rank n =
+    cond (n == 0) (Some SaveFile) (cond (n == 1) (Some FormatVersion) (cond (n == 2) (Some GameName)
+    (cond (n == 3) (Some NextParams) (cond (n == 4) (Some CurrentParams) (cond (n == 5) (Some Seed)
+    (cond (n == 6) (Some Desc) (cond (n == 7) (Some AuxInfo) (cond (n == 8) (Some Ui) (cond (n == 9) (Some Time)
+    (cond (n == 10) (Some StateCount) (cond (n == 11) (Some Position) (cond (n == 13) (Some PrivateDesc)
+    (cond (n == 14) (Some Other) None)))))))))))))
+
+by_own_rank : (k : Key) → by_rank (rank k) ≡ cond (is_state k) None (Some k)
+unfolding by_rank
+by_own_rank SaveFile = refl
+by_own_rank FormatVersion = refl
+by_own_rank GameName = refl
+by_own_rank NextParams = refl
+by_own_rank CurrentParams = refl
+by_own_rank Seed = refl
+by_own_rank Desc = refl
+by_own_rank AuxInfo = refl
+by_own_rank Ui = refl
+by_own_rank Time = refl
+by_own_rank StateCount = refl
+by_own_rank Position = refl
+by_own_rank (State k) = refl
+by_own_rank PrivateDesc = refl
+by_own_rank Other = refl
+
+pub same_key : (a k : Key) → is_state k ≡ false → (rank a == rank k) ≡ true → a ≡ k
+same_key a k other same =
+    let ranks : by_rank (rank a) ≡ by_rank (rank k) = ap by_rank (eqb-true (rank a) (rank k) same) in
+    let right : by_rank (rank k) ≡ Some k = by_own_rank k ∙ ap (λ t. cond t None (Some k)) other in
+    elim (is_state a) as (λ t. is_state a ≡ t → a ≡ k) [
+      | true ↦ λ is. let left : by_rank (rank a) ≡ None = by_own_rank a ∙ ap (λ t. cond t None (Some a)) is in cc
+      | false ↦ λ is. let left : by_rank (rank a) ≡ Some a = by_own_rank a ∙ ap (λ t. cond t None (Some a)) is in cc
+    ] refl
+
+pub own_rank : (k : Key) → (rank k == rank k) ≡ true
+own_rank SaveFile = refl
+own_rank FormatVersion = refl
+own_rank GameName = refl
+own_rank NextParams = refl
+own_rank CurrentParams = refl
+own_rank Seed = refl
+own_rank Desc = refl
+own_rank AuxInfo = refl
+own_rank Ui = refl
+own_rank Time = refl
+own_rank StateCount = refl
+own_rank Position = refl
+own_rank (State k) = refl
+own_rank PrivateDesc = refl
+own_rank Other = refl
+
+-- lists that are put together
+pub values_of-append : (k : Key) (xs ys : List Line) → values_of k (xs ++ ys) ≡ values_of k xs ++ values_of k ys
+values_of-append k [] ys = refl
+values_of-append k (x ∷ xs) ys =
+    elim (rank x.key == rank k) as (λ t. cond t (x.value ∷ values_of k (xs ++ ys)) (values_of k (xs ++ ys)) ≡ cond t (x.value ∷ values_of k xs) (values_of k xs) ++ values_of k ys) [
+      | true ↦ ap (λ vs. x.value ∷ vs) (values_of-append k xs ys)
+      | false ↦ values_of-append k xs ys
+    ]
+
+onto_states-append : (k : Key) (value : List ℕ) (xs ys : List StateLine) → onto_states k value (xs ++ ys) ≡ onto_states k value xs ++ ys
+onto_states-append (State k) value xs ys = refl
+onto_states-append SaveFile value xs ys = refl
+onto_states-append FormatVersion value xs ys = refl
+onto_states-append GameName value xs ys = refl
+onto_states-append NextParams value xs ys = refl
+onto_states-append CurrentParams value xs ys = refl
+onto_states-append Seed value xs ys = refl
+onto_states-append Desc value xs ys = refl
+onto_states-append AuxInfo value xs ys = refl
+onto_states-append Ui value xs ys = refl
+onto_states-append Time value xs ys = refl
+onto_states-append StateCount value xs ys = refl
+onto_states-append Position value xs ys = refl
+onto_states-append PrivateDesc value xs ys = refl
+onto_states-append Other value xs ys = refl
+
+pub states_in-append : (xs ys : List Line) → states_in (xs ++ ys) ≡ states_in xs ++ states_in ys
+states_in-append [] ys = refl
+states_in-append (x ∷ xs) ys =
+    ap (onto_states x.key x.value) (states_in-append xs ys) ∙ onto_states-append x.key x.value (states_in xs) (states_in ys)
+
+-- the first of some values
+pub first_none : {A : Type 0} (xs : List A) → first_of xs ≡ None → xs ≡ []
+first_none [] none = refl
+first_none (x ∷ xs) none = cc
+
+pub first_some : {A : Type 0} (xs : List A) (x : A) → first_of xs ≡ Some x → (more : List A) × (xs ≡ x ∷ more)
+first_some [] x some = cc
+first_some (y ∷ ys) x some = (ys, cc)
+
+pub not_some : {A : Type 0} (o : Option A) → is_some o ≡ false → o ≡ None
+not_some None none = refl
+not_some (Some a) none = cc
+
+pub is_some_taken : {A : Type 0} (o : Option A) → is_some o ≡ true → (a : A) × (o ≡ Some a)
+is_some_taken None some = cc
+is_some_taken (Some a) some = (a, refl)
+
+pub map_none : {A B : Type 0} (f : A → B) (o : Option A) → option_map f o ≡ None → o ≡ None
+map_none f None none = refl
+map_none f (Some a) none = cc
+
+-- a key that stands before still does with more behind
+pub first_before : {A : Type 0} (xs ys : List A) (x : A) → first_of xs ≡ Some x → first_of (xs ++ ys) ≡ Some x
+first_before [] ys x some = cc
+first_before (y ∷ xs) ys x some = some

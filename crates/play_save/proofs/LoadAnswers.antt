@@ -1,0 +1,37 @@
+-- The laws of save texts, of an answer.
+use Rattle.std.proofs.Common.{◌≡◌, ℕ, List, Result, Ok, Err, IfOk, refl, sym, ◌∙◌, inl, inr}
+use Rattle.byte_text.specs.Reading.{GivesUnless}
+use Rattle.play_midend.specs.Histories.{History}
+use Rattle.play_save.specs.declared.fault.LoadFault.{LoadFault}
+use Rattle.play_save.specs.declared.fault.LoadFault.TheVariants.{OutOfMemory}
+use Rattle.play_save.specs.SaveTexts.{SavedGame, SaveText}
+use Rattle.play_save.specs.FirstFaults.{load_at}
+use Rattle.play_save.specs.Laws.{SavesOneSession, FaultsWhereNone}
+use Rattle.play_save.proofs.GameTexts.{IsGame}
+use Rattle.play_save.proofs.SavedTaken.{load_taken}
+use Rattle.play_save.proofs.SavedAgain.{load_again}
+
+pub load_found : {P : Type 0} (game : SavedGame P) (text : List ℕ) (answer : Result (History P) LoadFault) → IsGame game → GivesUnless OutOfMemory (λ s. s) answer (load_at game text) → IfOk answer (λ s. SaveText game s text)
+load_found game text (Ok s) owes gives = load_taken game text s owes gives
+load_found game text (Err e) owes gives = tt
+
+pub load_only : {P : Type 0} (game : SavedGame P) (text : List ℕ) (h : History P) (answer : Result (History P) LoadFault) → IsGame game → GivesUnless OutOfMemory (λ s. s) answer (load_at game text) → SaveText game h text → GivesUnless OutOfMemory (λ s. s) answer (Ok h)
+load_only game text h (Ok s) owes gives is = sym (load_again game text h owes is) ∙ gives
+load_only game text h (Err e) owes (inl memory) is = inl memory
+load_only game text h (Err e) owes (inr refused) is = let read = load_again game text h owes is in cc
+
+pub saves_one_session : {P : Type 0} (game : SavedGame P) → IsGame game → SavesOneSession game
+saves_one_session game owes one other text one_is other_is =
+    let read_one = load_again game text one owes one_is in
+    let read_other = load_again game text other owes other_is in
+    cc
+
+pub faults_where_none : {P : Type 0} (game : SavedGame P) → IsGame game → FaultsWhereNone game
+faults_where_none {P} game owes text = (
+  λ fault. λ h is. (let read = load_again game text h owes is in let no_read = fault.1 in cc),
+  λ none. by_read (load_at game text) refl none,
+)
+  where
+    by_read : (read : Result (History P) LoadFault) → load_at game text ≡ read → ((h : History P) → SaveText game h text → ⊥) → (fault : LoadFault) × (read ≡ Err fault)
+    by_read (Ok h) is none = absurd (none h (load_taken game text h owes is))
+    by_read (Err fault) is none = (fault, refl)

@@ -1,0 +1,344 @@
+-- The records that are written for a session: which value stands with which key, and where.
+use Rattle.std.proofs.Common.{◌≡◌, ℕ, ◌+◌, Bool, true, false, ◌==◌, List, [], ◌∷◌, ◌++◌, length, map, codes, Option, Some, None, cond, refl, ap, ◌∙◌}
+use Rattle.std.specs.Fmt.{decimal}
+use Rattle.std.proofs.lemmas.List.{append-nil}
+use Rattle.clue_rules.specs.Parameters.{params_text}
+use Rattle.play_midend.specs.declared.moves.Move.{Move}
+use Rattle.play_midend.specs.MoveTexts.{move_text}
+use Rattle.play_midend.specs.Steps.{is_restart}
+use Rattle.play_midend.specs.Histories.{History}
+use Rattle.play_save.specs.declared.key.StateKey.TheVariants.{AnyMove, SolveMove, RestartMove}
+use Rattle.play_save.specs.declared.key.Key.{Key}
+use Rattle.play_save.specs.declared.key.Key.TheVariants.{SaveFile, FormatVersion, GameName, NextParams, CurrentParams, Seed, Desc, PrivateDesc, AuxInfo, Ui, Time, StateCount, Position, State, Other}
+use Rattle.play_save.specs.Keys.{rank}
+use Rattle.play_save.specs.Lines.{Line, StateLine, values_of, onto_states, states_in, once_if_kept, is_state, CountsStandFirst, may_be_last, EndsWithState}
+use Rattle.play_save.specs.SaveTexts.{is_solve}
+use Rattle.play_save.specs.Written.{with_value, kept_line, state_line, body_lines, state_lines}
+use Rattle.play_save.proofs.LineLists.{values_of-append, states_in-append, own_rank}
+use Rattle.play_save.proofs.WrittenRecords.{is_known, AreKnown}
+
+-- the records behind the first
+abbrev pub four : {P : Type 0} → List ℕ → History P → List Line
+four title h =
+    with_value FormatVersion (codes "1") ∷ with_value GameName title ∷ with_value NextParams (params_text h.next_params)
+    ∷ with_value CurrentParams (params_text h.params) ∷ []
+
+abbrev pub tail_lines : {P : Type 0} → List ℕ → List ℕ → History P → List Line
+tail_lines title desc h = four title h ++ (body_lines desc h ++ state_lines desc h)
+
+-- the state record of a move
+abbrev pub state_value : List ℕ → Move → StateLine
+state_value desc m =
+    cond (is_restart m) (record { key = RestartMove; value = desc })
+    (record { key = cond (is_solve m) SolveMove AnyMove; value = move_text m })
+
+abbrev states_of : List ℕ → List Move → List Line
+states_of desc ms = map (state_line desc) ms
+
+state_is : (desc : List ℕ) (m : Move) → is_state (state_line desc m).key ≡ true
+state_is desc m = elim (is_restart m) as (λ t. is_state (cond t (with_value (State RestartMove) desc) (with_value (State (cond (is_solve m) SolveMove AnyMove)) (move_text m))).key ≡ true) [ true ↦ refl | false ↦ refl ]
+
+state_rank : (desc : List ℕ) (m : Move) (k : Key) → is_state k ≡ false → (rank (state_line desc m).key == rank k) ≡ false
+state_rank desc m k header =
+    elim (is_restart m) as (λ t. (rank (cond t (with_value (State RestartMove) desc) (with_value (State (cond (is_solve m) SolveMove AnyMove)) (move_text m))).key == rank k) ≡ false) [ true ↦ other k header | false ↦ other k header ]
+  where
+    other : (j : Key) → is_state j ≡ false → (12 == rank j) ≡ false
+    other SaveFile no_state = refl
+    other FormatVersion no_state = refl
+    other GameName no_state = refl
+    other NextParams no_state = refl
+    other CurrentParams no_state = refl
+    other Seed no_state = refl
+    other Desc no_state = refl
+    other PrivateDesc no_state = refl
+    other AuxInfo no_state = refl
+    other Ui no_state = refl
+    other Time no_state = refl
+    other StateCount no_state = refl
+    other Position no_state = refl
+    other Other no_state = refl
+    other (State j) no_state = cc
+
+states_none : (k : Key) (desc : List ℕ) (ms : List Move) → is_state k ≡ false → values_of k (states_of desc ms) ≡ []
+states_none k desc [] header = refl
+states_none k desc (m ∷ ms) header = rw (state_rank desc m k header) (states_none k desc ms header)
+
+kept_none : (k j : Key) (kept : Option (List ℕ)) → (rank j == rank k) ≡ false → values_of k (kept_line j kept) ≡ []
+kept_none k j None other = refl
+kept_none k j (Some v) other = rw other refl
+
+kept_own : (k : Key) (kept : Option (List ℕ)) → values_of k (kept_line k kept) ≡ once_if_kept kept
+kept_own k None = refl
+kept_own k (Some v) = rw (own_rank k) refl
+
+-- the values of each key
+pub values_SaveFile : {P : Type 0} (title desc : List ℕ) (h : History P) → values_of SaveFile (tail_lines title desc h) ≡ []
+values_SaveFile title desc h =
+    let seed = kept_none SaveFile Seed h.extras.seed refl in
+    let auxinfo = kept_none SaveFile AuxInfo h.extras.auxinfo refl in
+    let ui = kept_none SaveFile Ui h.extras.ui refl in
+    let time = kept_none SaveFile Time h.extras.time refl in
+    let states = states_none SaveFile desc h.moves refl in
+    simp (values_of-append, seed, auxinfo, ui, time, states, append-nil)
+
+pub values_FormatVersion : {P : Type 0} (title desc : List ℕ) (h : History P) → values_of FormatVersion (tail_lines title desc h) ≡ codes "1" ∷ []
+values_FormatVersion title desc h =
+    let seed = kept_none FormatVersion Seed h.extras.seed refl in
+    let auxinfo = kept_none FormatVersion AuxInfo h.extras.auxinfo refl in
+    let ui = kept_none FormatVersion Ui h.extras.ui refl in
+    let time = kept_none FormatVersion Time h.extras.time refl in
+    let states = states_none FormatVersion desc h.moves refl in
+    simp (values_of-append, seed, auxinfo, ui, time, states, append-nil)
+
+pub values_GameName : {P : Type 0} (title desc : List ℕ) (h : History P) → values_of GameName (tail_lines title desc h) ≡ title ∷ []
+values_GameName title desc h =
+    let seed = kept_none GameName Seed h.extras.seed refl in
+    let auxinfo = kept_none GameName AuxInfo h.extras.auxinfo refl in
+    let ui = kept_none GameName Ui h.extras.ui refl in
+    let time = kept_none GameName Time h.extras.time refl in
+    let states = states_none GameName desc h.moves refl in
+    simp (values_of-append, seed, auxinfo, ui, time, states, append-nil)
+
+pub values_NextParams : {P : Type 0} (title desc : List ℕ) (h : History P) → values_of NextParams (tail_lines title desc h) ≡ params_text h.next_params ∷ []
+values_NextParams title desc h =
+    let seed = kept_none NextParams Seed h.extras.seed refl in
+    let auxinfo = kept_none NextParams AuxInfo h.extras.auxinfo refl in
+    let ui = kept_none NextParams Ui h.extras.ui refl in
+    let time = kept_none NextParams Time h.extras.time refl in
+    let states = states_none NextParams desc h.moves refl in
+    simp (values_of-append, seed, auxinfo, ui, time, states, append-nil)
+
+pub values_CurrentParams : {P : Type 0} (title desc : List ℕ) (h : History P) → values_of CurrentParams (tail_lines title desc h) ≡ params_text h.params ∷ []
+values_CurrentParams title desc h =
+    let seed = kept_none CurrentParams Seed h.extras.seed refl in
+    let auxinfo = kept_none CurrentParams AuxInfo h.extras.auxinfo refl in
+    let ui = kept_none CurrentParams Ui h.extras.ui refl in
+    let time = kept_none CurrentParams Time h.extras.time refl in
+    let states = states_none CurrentParams desc h.moves refl in
+    simp (values_of-append, seed, auxinfo, ui, time, states, append-nil)
+
+pub values_Desc : {P : Type 0} (title desc : List ℕ) (h : History P) → values_of Desc (tail_lines title desc h) ≡ desc ∷ []
+values_Desc title desc h =
+    let seed = kept_none Desc Seed h.extras.seed refl in
+    let auxinfo = kept_none Desc AuxInfo h.extras.auxinfo refl in
+    let ui = kept_none Desc Ui h.extras.ui refl in
+    let time = kept_none Desc Time h.extras.time refl in
+    let states = states_none Desc desc h.moves refl in
+    simp (values_of-append, seed, auxinfo, ui, time, states, append-nil)
+
+pub values_PrivateDesc : {P : Type 0} (title desc : List ℕ) (h : History P) → values_of PrivateDesc (tail_lines title desc h) ≡ []
+values_PrivateDesc title desc h =
+    let seed = kept_none PrivateDesc Seed h.extras.seed refl in
+    let auxinfo = kept_none PrivateDesc AuxInfo h.extras.auxinfo refl in
+    let ui = kept_none PrivateDesc Ui h.extras.ui refl in
+    let time = kept_none PrivateDesc Time h.extras.time refl in
+    let states = states_none PrivateDesc desc h.moves refl in
+    simp (values_of-append, seed, auxinfo, ui, time, states, append-nil)
+
+pub values_StateCount : {P : Type 0} (title desc : List ℕ) (h : History P) → values_of StateCount (tail_lines title desc h) ≡ decimal (length h.moves + 1) ∷ []
+values_StateCount title desc h =
+    let seed = kept_none StateCount Seed h.extras.seed refl in
+    let auxinfo = kept_none StateCount AuxInfo h.extras.auxinfo refl in
+    let ui = kept_none StateCount Ui h.extras.ui refl in
+    let time = kept_none StateCount Time h.extras.time refl in
+    let states = states_none StateCount desc h.moves refl in
+    simp (values_of-append, seed, auxinfo, ui, time, states, append-nil)
+
+pub values_Position : {P : Type 0} (title desc : List ℕ) (h : History P) → values_of Position (tail_lines title desc h) ≡ decimal h.position ∷ []
+values_Position title desc h =
+    let seed = kept_none Position Seed h.extras.seed refl in
+    let auxinfo = kept_none Position AuxInfo h.extras.auxinfo refl in
+    let ui = kept_none Position Ui h.extras.ui refl in
+    let time = kept_none Position Time h.extras.time refl in
+    let states = states_none Position desc h.moves refl in
+    simp (values_of-append, seed, auxinfo, ui, time, states, append-nil)
+
+pub values_Seed : {P : Type 0} (title desc : List ℕ) (h : History P) → values_of Seed (tail_lines title desc h) ≡ once_if_kept h.extras.seed
+values_Seed title desc h =
+    let seed = kept_own Seed h.extras.seed in
+    let auxinfo = kept_none Seed AuxInfo h.extras.auxinfo refl in
+    let ui = kept_none Seed Ui h.extras.ui refl in
+    let time = kept_none Seed Time h.extras.time refl in
+    let states = states_none Seed desc h.moves refl in
+    simp (values_of-append, seed, auxinfo, ui, time, states, append-nil)
+
+pub values_AuxInfo : {P : Type 0} (title desc : List ℕ) (h : History P) → values_of AuxInfo (tail_lines title desc h) ≡ once_if_kept h.extras.auxinfo
+values_AuxInfo title desc h =
+    let seed = kept_none AuxInfo Seed h.extras.seed refl in
+    let auxinfo = kept_own AuxInfo h.extras.auxinfo in
+    let ui = kept_none AuxInfo Ui h.extras.ui refl in
+    let time = kept_none AuxInfo Time h.extras.time refl in
+    let states = states_none AuxInfo desc h.moves refl in
+    simp (values_of-append, seed, auxinfo, ui, time, states, append-nil)
+
+pub values_Ui : {P : Type 0} (title desc : List ℕ) (h : History P) → values_of Ui (tail_lines title desc h) ≡ once_if_kept h.extras.ui
+values_Ui title desc h =
+    let seed = kept_none Ui Seed h.extras.seed refl in
+    let auxinfo = kept_none Ui AuxInfo h.extras.auxinfo refl in
+    let ui = kept_own Ui h.extras.ui in
+    let time = kept_none Ui Time h.extras.time refl in
+    let states = states_none Ui desc h.moves refl in
+    simp (values_of-append, seed, auxinfo, ui, time, states, append-nil)
+
+pub values_Time : {P : Type 0} (title desc : List ℕ) (h : History P) → values_of Time (tail_lines title desc h) ≡ once_if_kept h.extras.time
+values_Time title desc h =
+    let seed = kept_none Time Seed h.extras.seed refl in
+    let auxinfo = kept_none Time AuxInfo h.extras.auxinfo refl in
+    let ui = kept_none Time Ui h.extras.ui refl in
+    let time = kept_own Time h.extras.time in
+    let states = states_none Time desc h.moves refl in
+    simp (values_of-append, seed, auxinfo, ui, time, states, append-nil)
+
+-- the state records
+states_none_kept : (j : Key) (kept : Option (List ℕ)) → is_state j ≡ false → states_in (kept_line j kept) ≡ []
+states_none_kept j None header = refl
+states_none_kept j (Some v) header = no_state j header
+  where
+    no_state : (k : Key) → is_state k ≡ false → onto_states k v [] ≡ []
+    no_state SaveFile other = refl
+    no_state FormatVersion other = refl
+    no_state GameName other = refl
+    no_state NextParams other = refl
+    no_state CurrentParams other = refl
+    no_state Seed other = refl
+    no_state Desc other = refl
+    no_state PrivateDesc other = refl
+    no_state AuxInfo other = refl
+    no_state Ui other = refl
+    no_state Time other = refl
+    no_state StateCount other = refl
+    no_state Position other = refl
+    no_state Other other = refl
+    no_state (State k) other = cc
+
+states_map : (desc : List ℕ) (ms : List Move) → states_in (states_of desc ms) ≡ map (state_value desc) ms
+states_map desc [] = refl
+states_map desc (m ∷ ms) =
+    one (is_restart m) (is_solve m) (move_text m) (states_in (states_of desc ms)) ∙ ap (λ ss. state_value desc m ∷ ss) (states_map desc ms)
+  where
+    one : (restart solve : Bool) (text : List ℕ) (ss : List StateLine) → onto_states (cond restart (with_value (State RestartMove) desc) (with_value (State (cond solve SolveMove AnyMove)) text)).key (cond restart (with_value (State RestartMove) desc) (with_value (State (cond solve SolveMove AnyMove)) text)).value ss ≡ cond restart (record { key = RestartMove; value = desc }) (record { key = cond solve SolveMove AnyMove; value = text }) ∷ ss
+    one true solve text ss = refl
+    one false solve text ss = refl
+
+states_body : {P : Type 0} (desc : List ℕ) (h : History P) → states_in (body_lines desc h) ≡ []
+states_body desc h =
+    let seed = states_none_kept Seed h.extras.seed refl in
+    let auxinfo = states_none_kept AuxInfo h.extras.auxinfo refl in
+    let ui = states_none_kept Ui h.extras.ui refl in
+    let time = states_none_kept Time h.extras.time refl in
+    simp (states_in-append, seed, auxinfo, ui, time)
+
+pub states_tail : {P : Type 0} (title desc : List ℕ) (h : History P) → states_in (tail_lines title desc h) ≡ map (state_value desc) h.moves
+states_tail title desc h =
+    let body = states_body desc h in
+    states_in-append (body_lines desc h) (state_lines desc h) ∙ (ap (λ ss. ss ++ states_in (state_lines desc h)) body ∙ states_map desc h.moves)
+
+-- the counts come before the states, and a state or a count is the last
+front_first : (xs ys : List Line) → states_in xs ≡ [] → CountsStandFirst ys → CountsStandFirst (xs ++ ys)
+front_first [] ys none first = first
+front_first (x ∷ xs) ys none first =
+    let parts = none_first x.key x.value (states_in xs) none in
+    ((λ state. absurd (never x.key parts.0 state)), front_first xs ys parts.1 first)
+  where
+    never : (k : Key) → is_state k ≡ false → is_state k ≡ true → ⊥
+    never k header state = cc
+
+    none_first : (k : Key) (v : List ℕ) (ss : List StateLine) → onto_states k v ss ≡ [] → (is_state k ≡ false) × (ss ≡ [])
+    none_first SaveFile v ss e = (refl, e)
+    none_first FormatVersion v ss e = (refl, e)
+    none_first GameName v ss e = (refl, e)
+    none_first NextParams v ss e = (refl, e)
+    none_first CurrentParams v ss e = (refl, e)
+    none_first Seed v ss e = (refl, e)
+    none_first Desc v ss e = (refl, e)
+    none_first PrivateDesc v ss e = (refl, e)
+    none_first AuxInfo v ss e = (refl, e)
+    none_first Ui v ss e = (refl, e)
+    none_first Time v ss e = (refl, e)
+    none_first StateCount v ss e = (refl, e)
+    none_first Position v ss e = (refl, e)
+    none_first Other v ss e = (refl, e)
+    none_first (State k) v ss e = cc
+
+states_first : (desc : List ℕ) (ms : List Move) → CountsStandFirst (states_of desc ms)
+states_first desc [] = tt
+states_first desc (m ∷ ms) = ((λ state. (states_none StateCount desc ms refl, states_none Position desc ms refl)), states_first desc ms)
+
+pub counts_first_tail : {P : Type 0} (title desc : List ℕ) (h : History P) → CountsStandFirst (tail_lines title desc h)
+counts_first_tail title desc h =
+    let states : CountsStandFirst (state_lines desc h) = ((λ state. cc), ((λ state. cc), states_first desc h.moves)) in
+    front_first (four title h) (body_lines desc h ++ state_lines desc h) refl
+    (front_first (body_lines desc h) (state_lines desc h) (states_body desc h) states)
+
+ends_behind : (xs ys : List Line) → EndsWithState ys → EndsWithState (xs ++ ys)
+ends_behind [] ys ends = ends
+ends_behind (x ∷ []) [] ends = absurd ends
+ends_behind (x ∷ []) (y ∷ ys) ends = ends
+ends_behind (x ∷ z ∷ xs) ys ends = ends_behind (z ∷ xs) ys ends
+
+ends_states : (l : Line) (desc : List ℕ) (ms : List Move) → may_be_last l.key ≡ true → EndsWithState (l ∷ states_of desc ms)
+ends_states l desc [] last = last
+ends_states l desc (m ∷ ms) last = ends_states (state_line desc m) desc ms (state_last (state_line desc m).key (state_is desc m))
+  where
+    state_last : (k : Key) → is_state k ≡ true → may_be_last k ≡ true
+    state_last (State k) state = refl
+    state_last SaveFile state = cc
+    state_last FormatVersion state = cc
+    state_last GameName state = cc
+    state_last NextParams state = cc
+    state_last CurrentParams state = cc
+    state_last Seed state = cc
+    state_last Desc state = cc
+    state_last PrivateDesc state = cc
+    state_last AuxInfo state = cc
+    state_last Ui state = cc
+    state_last Time state = cc
+    state_last StateCount state = cc
+    state_last Position state = cc
+    state_last Other state = cc
+
+pub ends_tail : {P : Type 0} (title desc : List ℕ) (h : History P) → EndsWithState (tail_lines title desc h)
+ends_tail title desc h =
+    ends_behind (four title h) (body_lines desc h ++ state_lines desc h)
+    (ends_behind (body_lines desc h) (state_lines desc h) (ends_states (with_value Position (decimal h.position)) desc h.moves refl))
+
+-- all keys have a name
+known_append : (xs ys : List Line) → AreKnown xs → AreKnown ys → AreKnown (xs ++ ys)
+known_append [] ys known more = more
+known_append (x ∷ xs) ys known more = (known.0, known_append xs ys known.1 more)
+
+known_kept : (k : Key) (kept : Option (List ℕ)) → is_known k ≡ true → AreKnown (kept_line k kept)
+known_kept k None known = tt
+known_kept k (Some v) known = (known, tt)
+
+known_states : (desc : List ℕ) (ms : List Move) → AreKnown (states_of desc ms)
+known_states desc [] = tt
+known_states desc (m ∷ ms) = (state_known (state_line desc m).key (state_is desc m), known_states desc ms)
+  where
+    state_known : (k : Key) → is_state k ≡ true → is_known k ≡ true
+    state_known (State k) state = refl
+    state_known SaveFile state = cc
+    state_known FormatVersion state = cc
+    state_known GameName state = cc
+    state_known NextParams state = cc
+    state_known CurrentParams state = cc
+    state_known Seed state = cc
+    state_known Desc state = cc
+    state_known PrivateDesc state = cc
+    state_known AuxInfo state = cc
+    state_known Ui state = cc
+    state_known Time state = cc
+    state_known StateCount state = cc
+    state_known Position state = cc
+    state_known Other state = cc
+
+pub known_tail : {P : Type 0} (title desc : List ℕ) (h : History P) → AreKnown (tail_lines title desc h)
+known_tail title desc h =
+    known_append (four title h) (body_lines desc h ++ state_lines desc h) (refl, (refl, (refl, (refl, tt))))
+    (known_append (body_lines desc h) (state_lines desc h)
+    (known_append (kept_line Seed h.extras.seed) _ (known_kept Seed h.extras.seed refl) (
+      refl,
+      known_append (kept_line AuxInfo h.extras.auxinfo) _ (known_kept AuxInfo h.extras.auxinfo refl)
+          (known_append (kept_line Ui h.extras.ui) _ (known_kept Ui h.extras.ui refl) (known_kept Time h.extras.time refl)),
+    ))
+    (refl, (refl, known_states desc h.moves)))

@@ -1,0 +1,239 @@
+-- Reading a save text: the session, or the first fault.
+use Rattle.std.specs.Prelude.{ℕ, zero, suc, ◌+◌, Bool, true, false, ◌&&◌, nat_lt, nat_le, bytes_eq, is_some, if◌then◌else◌, List, [], ◌∷◌, ◌++◌, length, codes, Option, Some, None, option_map, option_and_then, Result, Ok, Err, ok_or}
+use Rattle.std.specs.Result.{result_ok}
+use Rattle.byte_text.specs.Decimals.{decimal_value}
+use Rattle.byte_text.specs.Reading.{◌>>=◌}
+use Rattle.clue_rules.specs.declared.id_fault.IdFault.{IdFault}
+use Rattle.clue_rules.specs.declared.params.Params.{Params}
+use Rattle.clue_rules.specs.Parameters.{params_at, has_adjacent}
+use Rattle.play_midend.specs.declared.extras.Extras.{Extras}
+use Rattle.play_midend.specs.declared.moves.Move.{Move}
+use Rattle.play_midend.specs.declared.moves.Move.TheVariants.{Restart}
+use Rattle.play_midend.specs.declared.fault.PlayFault.{PlayFault}
+use Rattle.play_midend.specs.declared.fault.PlayFault.TheVariants.{Unsupported as HintOrSign}
+use Rattle.play_midend.specs.MoveTexts.{move_at}
+use Rattle.play_midend.specs.Histories.{History, started, at_position, played, most_states}
+use Rattle.play_save.specs.declared.fault.LoadFault.{LoadFault}
+use Rattle.play_save.specs.declared.fault.LoadFault.TheVariants.{NotASave, Malformed, Version, WrongGame, Repeated, EarlyState, Unsupported, BadParams, BadDesc, BadCount, Missing, BadState, TooLarge}
+use Rattle.play_save.specs.declared.key.StateKey.{StateKey}
+use Rattle.play_save.specs.declared.key.StateKey.TheVariants.{AnyMove, SolveMove, RestartMove}
+use Rattle.play_save.specs.declared.key.Key.{Key}
+use Rattle.play_save.specs.declared.key.Key.TheVariants.{SaveFile, FormatVersion, GameName, NextParams, CurrentParams, Seed, Desc, PrivateDesc, AuxInfo, Ui, Time, StateCount, Position, State, Other}
+use Rattle.play_save.specs.Records.{Entry, record_at}
+use Rattle.play_save.specs.Lines.{Line, line_of, StateLine, values_of, states_in}
+use Rattle.play_save.specs.SaveTexts.{SavedGame, collection, most_bytes, is_solve}
+
+-- parameters of the game, and a count of states: decimal from 1 to 100,000
+abbrev pub saved_params_at : {P : Type 0} → SavedGame P → List ℕ → Result Params IdFault
+saved_params_at game value = params_at game.letters (has_adjacent game.title) value
+
+abbrev pub positive : ℕ → Option ℕ
+positive zero = None
+positive (suc n) = Some (suc n)
+
+abbrev pub count_at : List ℕ → Option ℕ
+count_at value = option_and_then positive (decimal_value most_states value)
+
+-- What some records say: for each key the first value, parameters and counts as they read.
+pub record Met : Type 0 where
+  pub version : Bool
+  pub name : Bool
+  pub next_params : Option (Result Params IdFault)
+  pub params : Option (Result Params IdFault)
+  pub seed : Option (List ℕ)
+  pub desc : Option (List ℕ)
+  pub auxinfo : Option (List ℕ)
+  pub ui : Option (List ℕ)
+  pub time : Option (List ℕ)
+  pub count : Option (Option ℕ)
+  pub position : Option (Option ℕ)
+  pub states : List StateLine
+
+abbrev pub first_of : {A : Type 0} → List A → Option A
+first_of [] = None
+first_of (v ∷ vs) = Some v
+
+abbrev pub met : {P : Type 0} → SavedGame P → List Line → Met
+met game ls = record {
+  version = is_some (first_of (values_of FormatVersion ls));
+  name = is_some (first_of (values_of GameName ls));
+  next_params = option_map (saved_params_at game) (first_of (values_of NextParams ls));
+  params = option_map (saved_params_at game) (first_of (values_of CurrentParams ls));
+  seed = first_of (values_of Seed ls);
+  desc = first_of (values_of Desc ls);
+  auxinfo = first_of (values_of AuxInfo ls);
+  ui = first_of (values_of Ui ls);
+  time = first_of (values_of Time ls);
+  count = option_map count_at (first_of (values_of StateCount ls));
+  position = option_map count_at (first_of (values_of Position ls));
+  states = states_in ls;
+}
+
+-- a fault, where the test fails
+abbrev pub fault_unless : Bool → LoadFault → Option LoadFault
+fault_unless true fault = None
+fault_unless false fault = Some fault
+
+-- a record that may stand once: the fault of its value, where it stands for the first time
+abbrev pub once : Bool → Option LoadFault → Option LoadFault
+once true fault = Some Repeated
+once false fault = fault
+
+abbrev pub params_fault : Result Params IdFault → Option LoadFault
+params_fault (Ok p) = None
+params_fault (Err fault) = Some BadParams
+
+-- the number of states, with the position where that was met; and the other way round
+abbrev pub count_fault : Option ℕ → Option (Option ℕ) → Option LoadFault
+count_fault None position = Some BadCount
+count_fault (Some n) (Some (Some position)) = fault_unless (nat_le position n) BadCount
+count_fault (Some n) _ = None
+
+abbrev pub position_fault : Option ℕ → Option (Option ℕ) → Option LoadFault
+position_fault None count = Some BadCount
+position_fault (Some position) (Some (Some n)) = fault_unless (nat_le position n) BadCount
+position_fault (Some position) _ = None
+
+-- a hint or a spent sign
+abbrev pub text_fault : Result Move PlayFault → Option LoadFault
+text_fault (Err HintOrSign) = Some Unsupported
+text_fault _ = None
+
+abbrev pub state_fault : StateKey → List ℕ → Option LoadFault
+state_fault AnyMove value = text_fault (move_at value)
+state_fault SolveMove value = text_fault (move_at value)
+state_fault RestartMove value = None
+
+abbrev pub behind_counts : Met → Option LoadFault → Option LoadFault
+behind_counts m fault = if is_some m.count && is_some m.position then fault else Some EarlyState
+
+-- the fault of a record behind those that were met
+abbrev pub fault_by : {P : Type 0} → SavedGame P → Met → Key → List ℕ → Option LoadFault
+fault_by game m SaveFile value = Some Repeated
+fault_by game m FormatVersion value = once m.version (fault_unless (bytes_eq value (codes "1")) Version)
+fault_by game m GameName value = once m.name (fault_unless (bytes_eq value game.title) WrongGame)
+fault_by game m NextParams value = once (is_some m.next_params) (params_fault (saved_params_at game value))
+fault_by game m CurrentParams value = once (is_some m.params) (params_fault (saved_params_at game value))
+fault_by game m Seed value = once (is_some m.seed) None
+fault_by game m Desc value = once (is_some m.desc) None
+fault_by game m PrivateDesc value = Some Unsupported
+fault_by game m AuxInfo value = once (is_some m.auxinfo) None
+fault_by game m Ui value = once (is_some m.ui) None
+fault_by game m Time value = once (is_some m.time) None
+fault_by game m StateCount value = once (is_some m.count) (count_fault (count_at value) m.position)
+fault_by game m Position value = once (is_some m.position) (position_fault (count_at value) m.count)
+fault_by game m (State k) value = behind_counts m (state_fault k value)
+fault_by game m Other value = None
+
+-- both counts were met, and all states behind the first
+abbrev pub has_all : Option (Option ℕ) → Option (Option ℕ) → ℕ → Bool
+has_all (Some (Some n)) (Some (Some position)) states = nat_le n (states + 1)
+has_all _ _ states = false
+
+abbrev pub is_complete : Met → Bool
+is_complete m = has_all m.count m.position (length m.states)
+
+-- the records of a text up to its end, or to what is no record
+pub data Listing : Type 0 where
+  nothing : Listing
+  broken : Listing
+  first : Line → Listing → Listing
+
+abbrev pub listed : (List ℕ → Listing) → Result (Option (Entry × List ℕ)) LoadFault → Listing
+listed more (Err fault) = broken
+listed more (Ok None) = nothing
+listed more (Ok (Some parts)) = first (line_of parts.0) (more parts.1)
+
+-- a text has no more records than bytes
+unfoldable pub listing_within : ℕ → List ℕ → Listing
+listing_within zero text = nothing
+listing_within (suc n) text = listed (listing_within n) (record_at text)
+
+unfoldable pub records_of : List ℕ → Listing
+records_of text = listing_within (length text) text
+
+-- the records up to the last that is needed, or the first fault among them
+abbrev pub unless : {A : Type 0} → Option LoadFault → Result A LoadFault → Result A LoadFault
+unless None more = more
+unless (Some fault) more = Err fault
+
+abbrev pub needed : {P : Type 0} → SavedGame P → List Line → Listing → Result (List Line) LoadFault
+needed game before nothing = if is_complete (met game before) then Ok before else Err Missing
+needed game before broken = if is_complete (met game before) then Ok before else Err Malformed
+needed game before (first l more) =
+    if is_complete (met game before) then Ok before
+    else unless (fault_by game (met game before) l.key l.value) (needed game (before ++ l ∷ []) more)
+
+-- the move of a state record, where it is one of the puzzle: a restart has a description of it
+abbrev pub solution_alone : Move → Option Move
+solution_alone m = if is_solve m then Some m else None
+
+abbrev pub restart_of : {P : Type 0} → SavedGame P → P → P → Option Move
+restart_of game p q = if bytes_eq (game.desc_of q) (game.desc_of p) then Some Restart else None
+
+abbrev pub state_move : {P : Type 0} → SavedGame P → P → StateKey → List ℕ → Option Move
+state_move game p AnyMove value = result_ok (move_at value)
+state_move game p SolveMove value = option_and_then solution_alone (result_ok (move_at value))
+state_move game p RestartMove value =
+    option_and_then (restart_of game p) (result_ok (game.desc_at (game.puzzle p).size value))
+
+-- the state records played in turn, from the record with the number i on
+abbrev pub state_played : {P : Type 0} → SavedGame P → History P → ℕ → Option Move → Result (History P) LoadFault
+state_played game h i None = Err (BadState i)
+state_played game h i (Some m) = ok_or (result_ok (played (game.puzzle h.puzzle) h m)) (BadState i)
+
+abbrev pub states_played : {P : Type 0} → SavedGame P → History P → ℕ → List StateLine → Result (History P) LoadFault
+states_played game h i [] = Ok h
+states_played game h i (s ∷ ss) =
+    state_played game h i (state_move game h.puzzle s.key s.value) >>= λ next. states_played game next (i + 1) ss
+
+-- what has to be there
+abbrev pub needed_params : Option (Result Params IdFault) → Result Params LoadFault
+needed_params None = Err Missing
+needed_params (Some (Ok p)) = Ok p
+needed_params (Some (Err fault)) = Err BadParams
+
+abbrev pub needed_count : Option (Option ℕ) → Result ℕ LoadFault
+needed_count None = Err Missing
+needed_count (Some None) = Err BadCount
+needed_count (Some (Some n)) = Ok n
+
+abbrev pub extras_in : Met → Extras
+extras_in m = record { seed = m.seed; auxinfo = m.auxinfo; ui = m.ui; time = m.time }
+
+-- the session of a puzzle, or the first state record that is wrong
+abbrev pub session_with : {P : Type 0} → SavedGame P → Met → Params → Params → ℕ → P → Result (History P) LoadFault
+session_with game m params next_params position puzzle =
+    states_played game (started puzzle params next_params (extras_in m)) 1 m.states
+    >>= λ last. Ok (at_position last position)
+
+abbrev pub session_at : {P : Type 0} → SavedGame P → Met → Params → Params → List ℕ → ℕ → Result (History P) LoadFault
+session_at game m params next_params desc position =
+    ok_or (result_ok (game.desc_at params.size desc)) BadDesc
+    >>= λ puzzle. session_with game m params next_params position puzzle
+
+-- the session of what was met, or the first thing that is missing or wrong
+unfoldable pub session_of : {P : Type 0} → SavedGame P → Met → Result (History P) LoadFault
+session_of game m =
+    unless (fault_unless (m.version && m.name) Missing)
+    (needed_params m.next_params >>= λ next_params. needed_params m.params >>= λ params.
+    ok_or m.desc Missing >>= λ desc. needed_count m.position >>= λ position.
+    session_at game m params next_params desc position)
+
+-- what follows the first record, which names the format
+abbrev pub head_or_fault : Entry → List ℕ → Result (List ℕ) LoadFault
+head_or_fault e rest =
+    if bytes_eq e.key (codes "SAVEFILE") && bytes_eq e.value collection then Ok rest else Err NotASave
+
+abbrev pub behind_head : Result (Option (Entry × List ℕ)) LoadFault → Result (List ℕ) LoadFault
+behind_head (Ok (Some parts)) = head_or_fault parts.0 parts.1
+behind_head _ = Err NotASave
+
+abbrev pub met_in : {P : Type 0} → SavedGame P → Listing → Result Met LoadFault
+met_in game listing = needed game [] listing >>= λ ls. Ok (met game ls)
+
+-- a save text: its session, or its first fault
+unfoldable pub load_at : {P : Type 0} → SavedGame P → List ℕ → Result (History P) LoadFault
+load_at game text =
+    if nat_lt most_bytes (length text) then Err TooLarge
+    else (behind_head (record_at text) >>= λ rest. met_in game (records_of rest) >>= λ m. session_of game m)

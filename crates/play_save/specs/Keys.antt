@@ -1,0 +1,70 @@
+-- The keys of records: their names, and what each is about.
+use Rattle.std.specs.Prelude.{ℕ, ◌-◌, if◌then◌else◌, List, [], ◌++◌, length, replicate, codes, bytes_eq}
+use Rattle.play_save.specs.declared.key.StateKey.{StateKey}
+use Rattle.play_save.specs.declared.key.StateKey.TheVariants.{AnyMove, SolveMove, RestartMove}
+use Rattle.play_save.specs.declared.key.Key.{Key}
+use Rattle.play_save.specs.declared.key.Key.TheVariants.{SaveFile, FormatVersion, GameName, NextParams, CurrentParams, Seed, Desc, PrivateDesc, AuxInfo, Ui, Time, StateCount, Position, State, Other}
+
+-- the keys in the order in which their records are written
+abbrev pub rank : Key → ℕ
+rank SaveFile = 0
+rank FormatVersion = 1
+rank GameName = 2
+rank NextParams = 3
+rank CurrentParams = 4
+rank Seed = 5
+rank Desc = 6
+rank AuxInfo = 7
+rank Ui = 8
+rank Time = 9
+rank StateCount = 10
+rank Position = 11
+rank (State k) = 12
+rank PrivateDesc = 13
+rank Other = 14
+
+-- the names; any other name is nothing's
+abbrev pub state_name : StateKey → List ℕ
+state_name AnyMove = codes "MOVE"
+state_name SolveMove = codes "SOLVE"
+state_name RestartMove = codes "RESTART"
+
+abbrev pub key_name : Key → List ℕ
+key_name SaveFile = codes "SAVEFILE"
+key_name FormatVersion = codes "VERSION"
+key_name GameName = codes "GAME"
+key_name NextParams = codes "PARAMS"
+key_name CurrentParams = codes "CPARAMS"
+key_name Seed = codes "SEED"
+key_name Desc = codes "DESC"
+key_name AuxInfo = codes "AUXINFO"
+key_name Ui = codes "UI"
+key_name Time = codes "TIME"
+key_name StateCount = codes "NSTATES"
+key_name Position = codes "STATEPOS"
+key_name (State k) = state_name k
+key_name PrivateDesc = codes "PRIVDESC"
+key_name Other = []
+
+-- a name with blanks up to the eight bytes of a key
+abbrev pub padded : List ℕ → List ℕ
+padded name = name ++ replicate (8 - length name) 32
+
+-- what has the name
+abbrev pub kept_key_of : List ℕ → Key
+kept_key_of name =
+    if bytes_eq name (codes "SEED") then Seed else (if bytes_eq name (codes "AUXINFO") then AuxInfo
+    else (if bytes_eq name (codes "UI") then Ui else (if bytes_eq name (codes "TIME") then Time else Other)))
+
+abbrev pub header_key_of : List ℕ → Key
+header_key_of name =
+    if bytes_eq name (codes "SAVEFILE") then SaveFile else (if bytes_eq name (codes "VERSION") then FormatVersion
+    else (if bytes_eq name (codes "GAME") then GameName else (if bytes_eq name (codes "PARAMS") then NextParams
+    else (if bytes_eq name (codes "CPARAMS") then CurrentParams else (if bytes_eq name (codes "DESC") then Desc
+    else (if bytes_eq name (codes "PRIVDESC") then PrivateDesc else (if bytes_eq name (codes "NSTATES") then StateCount
+    else (if bytes_eq name (codes "STATEPOS") then Position else kept_key_of name))))))))
+
+unfoldable pub key_of : List ℕ → Key
+key_of name =
+    if bytes_eq name (codes "MOVE") then State AnyMove else (if bytes_eq name (codes "SOLVE") then State SolveMove
+    else (if bytes_eq name (codes "RESTART") then State RestartMove else header_key_of name))

@@ -1,0 +1,11 @@
+-- Save files: their records, the saves of a session, what is written, and the first fault of a text.
+pub mod Faults
+pub mod Records
+pub mod Views
+pub mod Keys
+pub mod Lines
+pub mod SaveTexts
+pub mod Written
+pub mod FirstFaults
+pub mod Taking
+pub mod Laws

@@ -1,0 +1,71 @@
+-- Lists of records, each seen by what its key is about: which value stands how often with which key.
+use Rattle.std.specs.Prelude.{◌≡◌, ℕ, Bool, true, false, ◌==◌, if◌then◌else◌, List, [], ◌∷◌, Option, Some, None}
+use Rattle.play_save.specs.declared.key.StateKey.{StateKey}
+use Rattle.play_save.specs.declared.key.Key.{Key}
+use Rattle.play_save.specs.declared.key.Key.TheVariants.{StateCount, Position, State}
+use Rattle.play_save.specs.Records.{Entry, BeginsWith}
+use Rattle.play_save.specs.Keys.{rank, key_of}
+
+-- a record by what its key is about
+pub record Line : Type 0 where
+  pub key : Key
+  pub value : List ℕ
+
+abbrev pub line_of : Entry → Line
+line_of e = record { key = key_of e.key; value = e.value }
+
+-- a state record
+pub record StateLine : Type 0 where
+  pub key : StateKey
+  pub value : List ℕ
+
+-- The text is these records and then anything.
+abbrev pub BeginsWithAll : List Line → List ℕ → Type 0
+BeginsWithAll [] text = Unit {0}
+BeginsWithAll (l ∷ ls) text =
+    (e : Entry) × (rest : List ℕ) × (line_of e ≡ l) × BeginsWith e rest text × BeginsWithAll ls rest
+
+-- the values that stand with a key, in turn
+abbrev pub values_of : Key → List Line → List (List ℕ)
+values_of k [] = []
+values_of k (l ∷ ls) = if rank l.key == rank k then (l.value ∷ values_of k ls) else values_of k ls
+
+-- the state records, in turn
+abbrev pub onto_states : Key → List ℕ → List StateLine → List StateLine
+onto_states (State k) value states = record { key = k; value = value } ∷ states
+onto_states _ value states = states
+
+abbrev pub states_in : List Line → List StateLine
+states_in [] = []
+states_in (l ∷ ls) = onto_states l.key l.value (states_in ls)
+
+-- the key stands once, with a value of which this holds
+abbrev pub StandsOnce : Key → (List ℕ → Type 0) → List Line → Type 0
+StandsOnce k P ls = (value : List ℕ) × (values_of k ls ≡ value ∷ []) × P value
+
+-- bytes that are kept stand once, and nothing stands where none are
+abbrev pub once_if_kept : Option (List ℕ) → List (List ℕ)
+once_if_kept None = []
+once_if_kept (Some value) = value ∷ []
+
+abbrev pub is_state : Key → Bool
+is_state (State k) = true
+is_state _ = false
+
+-- behind a state record neither count follows
+abbrev pub CountsStandFirst : List Line → Type 0
+CountsStandFirst [] = Unit {0}
+CountsStandFirst (l ∷ ls) =
+    (is_state l.key ≡ true → (values_of StateCount ls ≡ []) × (values_of Position ls ≡ [])) × CountsStandFirst ls
+
+-- the last record is a state record or a count
+abbrev pub may_be_last : Key → Bool
+may_be_last (State k) = true
+may_be_last StateCount = true
+may_be_last Position = true
+may_be_last _ = false
+
+abbrev pub EndsWithState : List Line → Type 0
+EndsWithState [] = ⊥
+EndsWithState (l ∷ []) = may_be_last l.key ≡ true
+EndsWithState (l ∷ m ∷ ls) = EndsWithState (m ∷ ls)

@@ -1,0 +1,92 @@
+-- Which texts are a save of a session.
+use Rattle.std.specs.Prelude.{◌≡◌, ℕ, ◌+◌, ◌≤◌, Bool, true, false, List, [], ◌∷◌, length, codes, Result}
+use Rattle.std.specs.Fmt.{decimal}
+use Rattle.trail_solver.specs.Puzzles.{Puzzle}
+use Rattle.clue_rules.specs.declared.id_fault.IdFault.{IdFault}
+use Rattle.clue_rules.specs.Parameters.{IsParamText}
+use Rattle.clue_rules.specs.GameIds.{describes_at}
+use Rattle.play_midend.specs.declared.moves.Move.{Move}
+use Rattle.play_midend.specs.declared.moves.Move.TheVariants.{Solve, Restart}
+use Rattle.play_midend.specs.MoveTexts.{IsMoveText}
+use Rattle.play_midend.specs.Histories.{History, IsValid}
+use Rattle.play_save.specs.declared.key.StateKey.{StateKey}
+use Rattle.play_save.specs.declared.key.StateKey.TheVariants.{AnyMove, SolveMove, RestartMove}
+use Rattle.play_save.specs.declared.key.Key.TheVariants.{SaveFile, FormatVersion, GameName, NextParams, CurrentParams, Seed, Desc, PrivateDesc, AuxInfo, Ui, Time, StateCount, Position}
+use Rattle.play_save.specs.Records.{BeginsWith}
+use Rattle.play_save.specs.Lines.{Line, StateLine, BeginsWithAll, values_of, states_in, StandsOnce, once_if_kept, CountsStandFirst, EndsWithState}
+
+-- What saves ask of a game: its name and letters, what its puzzles are, which text describes which puzzle of which width, the
+-- puzzle that is read of a description, and the description that is written.
+pub record SavedGame (P : Type 0) : Type 1 where
+  pub title : List ℕ
+  pub letters : List ℕ
+  pub puzzle : P → Puzzle
+  pub Describes : ℕ → P → List ℕ → Type 0
+  pub desc_at : ℕ → List ℕ → Result P IdFault
+  pub desc_of : P → List ℕ
+
+-- the same, of the ghost members of a game
+abbrev pub saved_game : {P : Type 0} → List ℕ → List ℕ → (P → Puzzle) → (P → Type 0) → (List ℕ → P → Type 0)
+    → (ℕ → List ℕ → Result P IdFault) → (P → List ℕ) → SavedGame P
+saved_game title letters puzzle of_game describes desc_at desc_of = record {
+  title = title;
+  letters = letters;
+  puzzle = puzzle;
+  Describes = describes_at puzzle of_game describes;
+  desc_at = desc_at;
+  desc_of = desc_of;
+}
+
+-- the value of the first record, which names the format
+abbrev pub collection : List ℕ
+collection = codes "Simon Tatham's Portable Puzzle Collection"
+
+-- the size that a save text may have
+abbrev pub most_bytes : ℕ
+most_bytes = 16777216
+
+abbrev pub is_solve : Move → Bool
+is_solve (Solve g) = true
+is_solve _ = false
+
+-- the state record's move: any move but a restart by its text, a solution also as SOLVE, a restart by the puzzle
+abbrev pub IsStateOf : {P : Type 0} → SavedGame P → P → Move → StateKey → List ℕ → Type 0
+IsStateOf game p m AnyMove text = IsMoveText m text
+IsStateOf game p m SolveMove text = IsMoveText m text × (is_solve m ≡ true)
+IsStateOf game p m RestartMove text = (m ≡ Restart) × game.Describes (game.puzzle p).size p text
+
+-- each move has its state record, in turn
+abbrev pub HaveStates : {P : Type 0} → SavedGame P → P → List Move → List StateLine → Type 0
+HaveStates game p [] [] = Unit {0}
+HaveStates game p [] (s ∷ ss) = ⊥
+HaveStates game p (m ∷ ms) [] = ⊥
+HaveStates game p (m ∷ ms) (s ∷ ss) = IsStateOf game p m s.key s.value × HaveStates game p ms ss
+
+-- the records behind the first, up to the last that is needed
+pub record AreSaved {P : Type 0} (game : SavedGame P) (h : History P) (ls : List Line) : Type 0 where
+  pub no_second_head : values_of SaveFile ls ≡ []
+  pub version : values_of FormatVersion ls ≡ codes "1" ∷ []
+  pub name : values_of GameName ls ≡ game.title ∷ []
+  pub next_params : StandsOnce NextParams (IsParamText game.letters h.next_params) ls
+  pub params : StandsOnce CurrentParams (IsParamText game.letters h.params) ls
+  pub desc : StandsOnce Desc (game.Describes h.params.size h.puzzle) ls
+  pub no_private_desc : values_of PrivateDesc ls ≡ []
+  pub seed : values_of Seed ls ≡ once_if_kept h.extras.seed
+  pub auxinfo : values_of AuxInfo ls ≡ once_if_kept h.extras.auxinfo
+  pub ui : values_of Ui ls ≡ once_if_kept h.extras.ui
+  pub time : values_of Time ls ≡ once_if_kept h.extras.time
+  pub count : values_of StateCount ls ≡ decimal (length h.moves + 1) ∷ []
+  pub position : values_of Position ls ≡ decimal h.position ∷ []
+  pub states : HaveStates game h.puzzle h.moves (states_in ls)
+  pub counts_first : CountsStandFirst ls
+  pub last : EndsWithState ls
+  pub valid : IsValid (game.puzzle h.puzzle) h
+
+-- The text is a save of the session: the record that names the format, the records of the session, and then anything.
+pub record SaveText {P : Type 0} (game : SavedGame P) (h : History P) (text : List ℕ) : Type 0 where
+  pub small : length text ≤ most_bytes
+  pub behind_head : List ℕ
+  pub head : BeginsWith (record { key = codes "SAVEFILE"; value = collection }) behind_head text
+  pub records : List Line
+  pub begins : BeginsWithAll records behind_head
+  pub saved : AreSaved game h records

@@ -1,0 +1,270 @@
+//! What the records of a save file say, found one by one.
+
+ghost use Rattle.std.specs.Prelude.{◌≡◌, ℕ, ◌+◌, ◌≤◌, true, false, Some, None, Ok, Err, OnOk, IfOk, IfErr, IsErr, length, bytes_eq, codes};
+ghost use Rattle.play_save.specs.declared.key.Key.TheVariants.{FormatVersion, GameName, NextParams, CurrentParams, Seed, Desc, AuxInfo, Ui, Time, StateCount, Position, State};
+ghost use Rattle.play_save.specs.SaveTexts.{saved_game};
+ghost use Rattle.play_save.specs.FirstFaults.{is_complete, count_at, once, text_fault, state_fault, saved_params_at, fault_unless};
+ghost use Rattle.play_save.specs.Taking.{met_of, nothing_met, Taken};
+
+use crate::fault::LoadFault;
+use crate::key::{Key, StateKey};
+use byte_text::number;
+use clue_rules::{Game, Params};
+use play_midend::{PlayFault, read_move};
+use std::alloc::Global;
+
+/// How many states a history may have, the first included.
+const MOST_STATES: u64 = 100_000;
+
+/// A state record.
+#[derive(Clone, Copy, Debug)]
+pub(crate) struct StateRecord<'a> {
+    pub(crate) key: StateKey,
+    pub(crate) value: &'a [u8],
+}
+
+/// What the records of a save file said so far.
+#[derive(Drop, Debug)]
+pub(crate) struct Found<'a> {
+    pub(crate) version: bool,
+    pub(crate) name: bool,
+    pub(crate) next_params: Option<Params>,
+    pub(crate) params: Option<Params>,
+    pub(crate) seed: Option<&'a [u8]>,
+    pub(crate) desc: Option<&'a [u8]>,
+    pub(crate) auxinfo: Option<&'a [u8]>,
+    pub(crate) ui: Option<&'a [u8]>,
+    pub(crate) time: Option<&'a [u8]>,
+    pub(crate) count: Option<usize>,
+    pub(crate) position: Option<usize>,
+    // The state records are played once the puzzle is known, which may stand behind them.
+    pub(crate) states: Vec<StateRecord<'a>>,
+}
+
+// A record that may stand once.
+fn once(met: bool) -> Result<(), LoadFault>
+    ensures ok { OnOk result (met ≡ false) }
+    ensures err { IfErr result (λ fault. (met ≡ true) × (fault ≡ LoadFault.Repeated)) }
+{
+    if met {
+        return Err(LoadFault::Repeated);
+    }
+    Ok(())
+}
+
+// A count of states: a decimal number from 1 to 100,000.
+fn count(value: &[u8]) -> Result<usize, LoadFault>
+    ensures ok { IfOk result (λ n. count_at value.now ≡ Some n) }
+    ensures err { IfErr result (λ fault. (count_at value.now ≡ None) × (fault ≡ LoadFault.BadCount)) }
+{
+    match number(value, MOST_STATES) {
+        Some(0) | None => Err(LoadFault::BadCount),
+        Some(n) => Ok(n as usize),
+    }
+}
+
+fn params<P: Game>(value: &[u8]) -> Result<Params, LoadFault>
+    ensures ok { IfOk result (λ p. saved_params_at (saved_game P.title P.letter_codes P.puzzle P.valid P.describes P.desc_at P.desc_of) value.now ≡ Ok p) }
+    ensures err { IfErr result (λ fault. (IsErr (saved_params_at (saved_game P.title P.letter_codes P.puzzle P.valid P.describes P.desc_at P.desc_of) value.now)) × (fault ≡ LoadFault.BadParams)) }
+{
+    Params::read::<P>(value).map_err(|_| LoadFault::BadParams)
+}
+
+// Hints and spent signs are refused before their turn to be played has come.
+fn check_state(key: StateKey, value: &[u8]) -> Result<(), LoadFault>
+    ensures ok { OnOk result (state_fault key value.now ≡ None) }
+    ensures err { IfErr result (λ fault. state_fault key value.now ≡ Some fault) }
+{
+    match key {
+        StateKey::RestartMove => Ok(()),
+        StateKey::AnyMove | StateKey::SolveMove => match read_move(value) {
+            Err(PlayFault::Unsupported) => Err(LoadFault::Unsupported),
+            _ => Ok(()),
+        },
+    }
+}
+
+impl<'a> Found<'a> {
+    /// Nothing yet.
+    pub(crate) fn new(alloc: Global) -> Found<'a>
+        ensures { met_of result ≡ nothing_met }
+    {
+        Found {
+            version: false,
+            name: false,
+            next_params: None,
+            params: None,
+            seed: None,
+            desc: None,
+            auxinfo: None,
+            ui: None,
+            time: None,
+            count: None,
+            position: None,
+            states: Vec::new(alloc),
+        }
+    }
+
+    /// Whether both counts were met, and all states behind the first.
+    pub(crate) fn is_complete(&self) -> bool
+        ensures { result ≡ is_complete (met_of self.now) }
+    {
+        match (self.count, self.position) {
+            (Some(count), Some(_)) => count <= self.states.len() + 1,
+            _ => false,
+        }
+    }
+
+    /// Takes one more record, of the game `P`, or refuses it: `Repeated` before the fault of its value.
+    pub(crate) fn take<P: Game>(&mut self, key: Key, value: &'a [u8]) -> Result<(), LoadFault>
+        ensures { Taken (saved_game P.title P.letter_codes P.puzzle P.valid P.describes P.desc_at P.desc_of)
+            (met_of self.old) key value.now result (met_of self.new) }
+    {
+        match key {
+            Key::SaveFile => Err(LoadFault::Repeated),
+            Key::PrivateDesc => Err(LoadFault::Unsupported),
+            Key::FormatVersion => self.take_version::<P>(value),
+            Key::GameName => self.take_name::<P>(value),
+            Key::NextParams => self.take_next_params::<P>(value),
+            Key::CurrentParams => self.take_params::<P>(value),
+            Key::Seed => self.take_seed::<P>(value),
+            Key::Desc => self.take_desc::<P>(value),
+            Key::AuxInfo => self.take_auxinfo::<P>(value),
+            Key::Ui => self.take_ui::<P>(value),
+            Key::Time => self.take_time::<P>(value),
+            Key::StateCount => self.take_count::<P>(value),
+            Key::Position => self.take_position::<P>(value),
+            Key::State(key) => self.take_state::<P>(key, value),
+            Key::Other => Ok(()),
+        }
+    }
+
+    fn take_version<P: Game>(&mut self, value: &'a [u8]) -> Result<(), LoadFault>
+        ensures { Taken (saved_game P.title P.letter_codes P.puzzle P.valid P.describes P.desc_at P.desc_of)
+            (met_of self.old) FormatVersion value.now result (met_of self.new) }
+    {
+        once(self.version)?;
+        if value != b"1".as_slice() {
+            return Err(LoadFault::Version);
+        }
+        self.version = true;
+        Ok(())
+    }
+
+    fn take_name<P: Game>(&mut self, value: &'a [u8]) -> Result<(), LoadFault>
+        ensures { Taken (saved_game P.title P.letter_codes P.puzzle P.valid P.describes P.desc_at P.desc_of)
+            (met_of self.old) GameName value.now result (met_of self.new) }
+    {
+        once(self.name)?;
+        if value != P::name().as_bytes() {
+            return Err(LoadFault::WrongGame);
+        }
+        self.name = true;
+        Ok(())
+    }
+
+    fn take_next_params<P: Game>(&mut self, value: &'a [u8]) -> Result<(), LoadFault>
+        ensures { Taken (saved_game P.title P.letter_codes P.puzzle P.valid P.describes P.desc_at P.desc_of)
+            (met_of self.old) NextParams value.now result (met_of self.new) }
+    {
+        once(self.next_params.is_some())?;
+        self.next_params = Some(params::<P>(value)?);
+        Ok(())
+    }
+
+    fn take_params<P: Game>(&mut self, value: &'a [u8]) -> Result<(), LoadFault>
+        ensures { Taken (saved_game P.title P.letter_codes P.puzzle P.valid P.describes P.desc_at P.desc_of)
+            (met_of self.old) CurrentParams value.now result (met_of self.new) }
+    {
+        once(self.params.is_some())?;
+        self.params = Some(params::<P>(value)?);
+        Ok(())
+    }
+
+    fn take_seed<P: Game>(&mut self, value: &'a [u8]) -> Result<(), LoadFault>
+        ensures { Taken (saved_game P.title P.letter_codes P.puzzle P.valid P.describes P.desc_at P.desc_of)
+            (met_of self.old) Seed value.now result (met_of self.new) }
+    {
+        once(self.seed.is_some())?;
+        self.seed = Some(value);
+        Ok(())
+    }
+
+    fn take_desc<P: Game>(&mut self, value: &'a [u8]) -> Result<(), LoadFault>
+        ensures { Taken (saved_game P.title P.letter_codes P.puzzle P.valid P.describes P.desc_at P.desc_of)
+            (met_of self.old) Desc value.now result (met_of self.new) }
+    {
+        once(self.desc.is_some())?;
+        self.desc = Some(value);
+        Ok(())
+    }
+
+    fn take_auxinfo<P: Game>(&mut self, value: &'a [u8]) -> Result<(), LoadFault>
+        ensures { Taken (saved_game P.title P.letter_codes P.puzzle P.valid P.describes P.desc_at P.desc_of)
+            (met_of self.old) AuxInfo value.now result (met_of self.new) }
+    {
+        once(self.auxinfo.is_some())?;
+        self.auxinfo = Some(value);
+        Ok(())
+    }
+
+    fn take_ui<P: Game>(&mut self, value: &'a [u8]) -> Result<(), LoadFault>
+        ensures { Taken (saved_game P.title P.letter_codes P.puzzle P.valid P.describes P.desc_at P.desc_of)
+            (met_of self.old) Ui value.now result (met_of self.new) }
+    {
+        once(self.ui.is_some())?;
+        self.ui = Some(value);
+        Ok(())
+    }
+
+    fn take_time<P: Game>(&mut self, value: &'a [u8]) -> Result<(), LoadFault>
+        ensures { Taken (saved_game P.title P.letter_codes P.puzzle P.valid P.describes P.desc_at P.desc_of)
+            (met_of self.old) Time value.now result (met_of self.new) }
+    {
+        once(self.time.is_some())?;
+        self.time = Some(value);
+        Ok(())
+    }
+
+    fn take_count<P: Game>(&mut self, value: &'a [u8]) -> Result<(), LoadFault>
+        ensures { Taken (saved_game P.title P.letter_codes P.puzzle P.valid P.describes P.desc_at P.desc_of)
+            (met_of self.old) StateCount value.now result (met_of self.new) }
+    {
+        once(self.count.is_some())?;
+        let count = count(value)?;
+        if let Some(position) = self.position
+            && position > count
+        {
+            return Err(LoadFault::BadCount);
+        }
+        self.count = Some(count);
+        Ok(())
+    }
+
+    fn take_position<P: Game>(&mut self, value: &'a [u8]) -> Result<(), LoadFault>
+        ensures { Taken (saved_game P.title P.letter_codes P.puzzle P.valid P.describes P.desc_at P.desc_of)
+            (met_of self.old) Position value.now result (met_of self.new) }
+    {
+        once(self.position.is_some())?;
+        let position = count(value)?;
+        if let Some(count) = self.count
+            && position > count
+        {
+            return Err(LoadFault::BadCount);
+        }
+        self.position = Some(position);
+        Ok(())
+    }
+
+    fn take_state<P: Game>(&mut self, key: StateKey, value: &'a [u8]) -> Result<(), LoadFault>
+        ensures { Taken (saved_game P.title P.letter_codes P.puzzle P.valid P.describes P.desc_at P.desc_of)
+            (met_of self.old) (State key) value.now result (met_of self.new) }
+    {
+        if self.count.is_none() || self.position.is_none() {
+            return Err(LoadFault::EarlyState);
+        }
+        check_state(key, value)?;
+        self.states.push(StateRecord { key, value })?;
+        Ok(())
+    }
+}

@@ -1,0 +1,229 @@
+//! Loading: a save text is read record by record, and its session is played.
+
+ghost use Rattle.std.specs.Prelude.{◌≡◌, ◌⊎◌, ℕ, ◌+◌, ◌-◌, ◌<◌, ◌≤◌, Some, None, Ok, Err, ok_or, IfOk, IfErr, OnOk, IfSome, length, map};
+ghost use Rattle.std.specs.Result.{result_ok};
+ghost use Rattle.byte_text.specs.Reading.{Gives, GivesUnless};
+ghost use Rattle.play_midend.specs.Histories.{History, started, at_position};
+ghost use Rattle.play_save.specs.Records.{record_at};
+ghost use Rattle.play_save.specs.SaveTexts.{saved_game, is_solve, SaveText};
+ghost use Rattle.play_save.specs.FirstFaults.{behind_head, records_of, extras_in, met_in, state_move, state_played, states_played, session_of, load_at};
+ghost use Rattle.play_save.specs.Taking.{IsPlayable, bytes_of, met_of, state_of};
+
+use crate::fault::LoadFault;
+use crate::found::{Found, StateRecord};
+use crate::key::{Key, StateKey};
+use crate::record::next_record;
+use clue_rules::{Game, Params};
+use latin_board::Size;
+use play_midend::{Extras, KeptBytes, Move, PlayFault, Session, read_move};
+use std::alloc::{AllocError, Global};
+
+/// The size that a save text may have.
+const MOST_BYTES: usize = 16_777_216;
+
+/// The value of the first record, which names the format.
+pub(crate) const COLLECTION: &[u8] = b"Simon Tatham's Portable Puzzle Collection";
+
+// What follows the first record, which has to name the format.
+fn behind_head(bytes: &[u8]) -> Result<&[u8], LoadFault>
+    ensures { Gives (λ rest. rest.now) result (behind_head (record_at bytes.now)) }
+{
+    match next_record(bytes) {
+        Ok(Some((record, rest))) => {
+            if record.key == b"SAVEFILE".as_slice() && record.value == COLLECTION {
+                Ok(rest)
+            } else {
+                Err(LoadFault::NotASave)
+            }
+        }
+        Ok(None) | Err(_) => Err(LoadFault::NotASave),
+    }
+}
+
+// Takes records in turn, up to the last that is needed. What follows is ignored.
+fn find<'a, P: Game>(alloc: Global, bytes: &'a [u8]) -> Result<Found<'a>, LoadFault>
+    ensures given { GivesUnless LoadFault.OutOfMemory met_of result
+        (met_in (saved_game P.title P.letter_codes P.puzzle P.valid P.describes P.desc_at P.desc_of) (records_of bytes.now)) }
+    ensures playable { IfOk result (λ found. IsPlayable (met_of found)) }
+{
+    let mut found = Found::new(alloc);
+    let mut rest = bytes;
+    while !found.is_complete() {
+        let (record, after) = next_record(rest)?.ok_or(LoadFault::Missing)?;
+        found.take::<P>(Key::of(record.key), record.value)?;
+        rest = after;
+    }
+    Ok(found)
+}
+
+// The bytes of a record, kept for the session.
+fn kept(alloc: Global, bytes: Option<&[u8]>) -> Result<Option<KeptBytes>, AllocError>
+    ensures { IfOk result (λ kept. kept ≡ bytes_of bytes.entry) }
+{
+    match bytes {
+        Some(bytes) => Ok(Some(KeptBytes::new(bytes.to_vec(alloc)?))),
+        None => Ok(None),
+    }
+}
+
+fn extras(alloc: Global, found: &Found) -> Result<Extras, AllocError>
+    ensures { IfOk result (λ extras. extras ≡ extras_in (met_of found.now)) }
+{
+    Ok(Extras {
+        seed: kept(alloc, found.seed)?,
+        auxinfo: kept(alloc, found.auxinfo)?,
+        ui: kept(alloc, found.ui)?,
+        time: kept(alloc, found.time)?,
+    })
+}
+
+fn is_solve(made: &Move) -> bool
+    ensures { result ≡ is_solve made.now }
+{
+    matches!(made, Move::Solve(_))
+}
+
+// The move of a state record, where it is one of the puzzle.
+fn move_of<P: Game>(puzzle: &P, state: &StateRecord) -> Option<Move>
+    ensures { result ≡ state_move (saved_game P.title P.letter_codes P.puzzle P.valid P.describes P.desc_at P.desc_of) puzzle.now state.now.key state.now.value.now }
+{
+    match state.key {
+        StateKey::AnyMove => read_move(state.value).ok(),
+        StateKey::SolveMove => match read_move(state.value) {
+            Ok(made) if is_solve(&made) => Some(made),
+            _ => None,
+        },
+        StateKey::RestartMove => match P::read_desc(puzzle.size(), state.value) {
+            Ok(again) if again.same(puzzle) => Some(Move::Restart),
+            _ => None,
+        },
+    }
+}
+
+// Plays one state record; `number` is its number, counted from 1.
+fn play_state<P: Game>(
+    session: &mut Session<P>,
+    number: u32,
+    state: &StateRecord,
+) -> Result<(), LoadFault>
+    ensures ok { OnOk result (state_played (saved_game P.title P.letter_codes P.puzzle P.valid P.describes P.desc_at P.desc_of) session.old number
+        (state_move (saved_game P.title P.letter_codes P.puzzle P.valid P.describes P.desc_at P.desc_of) session.old.puzzle state.now.key state.now.value.now) ≡ Ok session.new) }
+    ensures err { IfErr result (λ fault. (fault ≡ LoadFault.OutOfMemory) ⊎ (state_played (saved_game P.title P.letter_codes P.puzzle P.valid P.describes P.desc_at P.desc_of) session.old number
+        (state_move (saved_game P.title P.letter_codes P.puzzle P.valid P.describes P.desc_at P.desc_of) session.old.puzzle state.now.key state.now.value.now) ≡ Err fault)) }
+{
+    let made = move_of(session.puzzle(), state).ok_or(LoadFault::BadState(number))?;
+    match session.play(made) {
+        Ok(()) => Ok(()),
+        Err(PlayFault::OutOfMemory) => Err(LoadFault::OutOfMemory),
+        Err(_) => Err(LoadFault::BadState(number)),
+    }
+}
+
+// Plays the state records in turn, up to the first that is wrong.
+fn play_states<P: Game>(session: &mut Session<P>, states: &[StateRecord]) -> Result<(), LoadFault>
+    requires { length states.now < 100000 }
+    ensures ok { OnOk result (states_played (saved_game P.title P.letter_codes P.puzzle P.valid P.describes P.desc_at P.desc_of) session.old 1 (map state_of states.now) ≡ Ok session.new) }
+    ensures err { IfErr result (λ fault. (fault ≡ LoadFault.OutOfMemory)
+        ⊎ (states_played (saved_game P.title P.letter_codes P.puzzle P.valid P.describes P.desc_at P.desc_of) session.old 1 (map state_of states.now) ≡ Err fault)) }
+{
+    for (index, state) in states.iter().enumerate() {
+        play_state(session, index as u32 + 1, state)?;
+    }
+    Ok(())
+}
+
+// An undo that can't be refused.
+fn step_back<P: Game>(session: &mut Session<P>)
+    requires { 1 < session.old.position }
+    ensures { session.new ≡ at_position session.old (session.old.position - 1) }
+{
+    let _ = session.undo();
+}
+
+// Goes back to a position, from a later one.
+fn go_back<P: Game>(session: &mut Session<P>, position: usize)
+    requires first { 1 ≤ position }
+    requires inside { position ≤ session.old.position }
+    ensures { session.new ≡ at_position session.old position }
+{
+    while session.position() > position {
+        step_back(session);
+    }
+}
+
+fn read_puzzle<P: Game>(size: Size, desc: &[u8]) -> Result<P, LoadFault>
+    ensures value { result ≡ ok_or (result_ok (P.desc_at size desc.now)) LoadFault.BadDesc }
+    ensures size { IfOk result (λ puzzle. size ≡ (P.puzzle puzzle).size) }
+{
+    match P::read_desc(size, desc) {
+        Ok(puzzle) => Ok(puzzle),
+        Err(_) => Err(LoadFault::BadDesc),
+    }
+}
+
+// The session at its start, with the bytes that are kept.
+fn start<P: Game>(
+    alloc: Global,
+    params: Params,
+    next_params: Params,
+    puzzle: P,
+    found: &Found,
+) -> Result<Session<P>, LoadFault>
+    requires { params.size ≡ (P.puzzle puzzle).size }
+    ensures ok { IfOk result (λ s. s ≡ started puzzle params next_params (extras_in (met_of found.now))) }
+    ensures err { IfErr result (λ fault. fault ≡ LoadFault.OutOfMemory) }
+{
+    let extras = extras(alloc, found)?;
+    match Session::new(alloc, params, next_params, puzzle, extras) {
+        Ok(session) => Ok(session),
+        Err(_) => Err(LoadFault::OutOfMemory),
+    }
+}
+
+// What the records say, as a session at their position.
+#[tactic(auto, unfolding(crate::specs::FirstFaults::session_of))]
+fn session<P: Game>(alloc: Global, found: &Found) -> Result<Session<P>, LoadFault>
+    requires { IsPlayable (met_of found.now) }
+    ensures { GivesUnless LoadFault.OutOfMemory (λ s. s) result
+        (session_of (saved_game P.title P.letter_codes P.puzzle P.valid P.describes P.desc_at P.desc_of) (met_of found.now)) }
+{
+    if !found.version || !found.name {
+        return Err(LoadFault::Missing);
+    }
+    let next_params = found.next_params.ok_or(LoadFault::Missing)?;
+    let params = found.params.ok_or(LoadFault::Missing)?;
+    let desc = found.desc.ok_or(LoadFault::Missing)?;
+    let position = found.position.ok_or(LoadFault::Missing)?;
+    let puzzle = read_puzzle::<P>(params.size, desc)?;
+    let mut session = start(alloc, params, next_params, puzzle, found)?;
+    play_states(&mut session, &found.states)?;
+    go_back(&mut session, position);
+    Ok(session)
+}
+
+/// The session of which the bytes are a save.
+///
+/// Refused, where the bytes are a save of no session: `TooLarge` for more than 16,777,216 bytes; `NotASave` where the first
+/// record doesn't name the format; then the first fault of a record in turn, up to the last that is needed, `Malformed` where
+/// none can be read and `Missing` where none is left; then `Missing` where a record is missing still, `BadDesc`, and `BadState`
+/// with the number of the first state record that is wrong. `OutOfMemory` may come in place of any answer, and nothing is handed
+/// out then.
+pub fn load<P: Game>(alloc: Global, bytes: &[u8]) -> Result<Session<P>, LoadFault>
+    ensures found { IfOk result (λ s. SaveText (saved_game P.title P.letter_codes P.puzzle P.valid P.describes P.desc_at P.desc_of) s bytes.now) }
+    ensures only { (h : History P) → SaveText (saved_game P.title P.letter_codes P.puzzle P.valid P.describes P.desc_at P.desc_of) h bytes.now
+        → GivesUnless LoadFault.OutOfMemory (λ s. s) result (Ok h) }
+    ensures exact { GivesUnless LoadFault.OutOfMemory (λ s. s) result (load_at (saved_game P.title P.letter_codes P.puzzle P.valid P.describes P.desc_at P.desc_of) bytes.now) }
+{
+    read(alloc, bytes)
+}
+
+#[tactic(auto, unfolding(crate::specs::FirstFaults::load_at))]
+fn read<P: Game>(alloc: Global, bytes: &[u8]) -> Result<Session<P>, LoadFault>
+    ensures { GivesUnless LoadFault.OutOfMemory (λ s. s) result (load_at (saved_game P.title P.letter_codes P.puzzle P.valid P.describes P.desc_at P.desc_of) bytes.now) }
+{
+    if bytes.len() > MOST_BYTES {
+        return Err(LoadFault::TooLarge);
+    }
+    let found = find::<P>(alloc, behind_head(bytes)?)?;
+    session(alloc, &found)
+}

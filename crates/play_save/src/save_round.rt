@@ -1,0 +1,34 @@
+//! A session that is saved and loaded again.
+
+ghost use Rattle.std.specs.Prelude.{◌≡◌, ◌≤◌, All, length, IfOk, IfErr};
+ghost use Rattle.play_midend.specs.Histories.{IsStorable, shown};
+ghost use Rattle.play_save.specs.Written.{save_of};
+ghost use Rattle.play_save.specs.Laws.{HasGrid};
+
+use crate::fault::LoadFault;
+use crate::loading::load;
+use crate::saving::save;
+use clue_rules::Game;
+use play_midend::Session;
+use std::alloc::Global;
+use trail_solver::Rules;
+
+/// Saves a session and loads what was written: where both succeed, it is the session again, its later moves included, and it
+/// shows the same board.
+///
+/// A session that can be stored, and whose text is within the size that `load` takes, is refused for want of memory alone.
+pub fn saved_and_loaded<P: Game>(
+    alloc: Global,
+    session: &Session<P>,
+) -> Result<Session<P>, LoadFault>
+    ensures same { IfOk result (λ s. s ≡ session.now) }
+    ensures board { IfOk result (λ s. shown (P.puzzle s.puzzle) s ≡ shown (P.puzzle session.now.puzzle) session.now) }
+    ensures loads { IsStorable P.puzzle P.valid P.letter_codes session.now → All HasGrid session.now.moves
+        → length (save_of P.title P.desc_of session.now) ≤ 16777216
+        → IfErr result (λ fault. fault ≡ LoadFault.OutOfMemory) }
+{
+    let _board = session.board();
+    let _size = session.puzzle().size();
+    let text = save(alloc, session)?;
+    load(alloc, &text)
+}

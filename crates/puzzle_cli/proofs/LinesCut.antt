@@ -1,0 +1,71 @@
+-- The lines that are cut byte by byte are those that LF separates.
+use Rattle.std.proofs.Common.{◌≡◌, ℕ, ◌-◌, ◌==◌, true, false, if◌then◌else◌, Some, List, [], ◌∷◌, ◌++◌, length, map, take, refl, sym, ap, ◌∙◌, append_assoc, append-nil, arith}
+use Rattle.std.proofs.Math.Seq.{take-append_seam}
+use Rattle.std.proofs.lemmas.List.{length_push}
+use Rattle.std.proofs.lemmas.Bool.Decides.{nat_tests}
+use Rattle.puzzle_cli.specs.Lines.{Line, onto, pieces, kept, line_of, all_lines, ended_lines}
+use Rattle.puzzle_cli.specs.LineBuffer.{pushed, ended_from, last_from}
+
+-- ---- one list of bytes after another
+
+pub ended_from-append : (part : Line) (xs ys : List ℕ) → ended_from part (xs ++ ys) ≡ ended_from part xs ++ ended_from (last_from part xs) ys
+ended_from-append part [] ys = refl
+ended_from-append part (b ∷ xs) ys =
+    elim (b == 10) as (λ t. (if t then line_of part ∷ ended_from (Some []) (xs ++ ys) else ended_from (pushed part b) (xs ++ ys))
+    ≡ (if t then line_of part ∷ ended_from (Some []) xs else ended_from (pushed part b) xs)
+    ++ ended_from (if t then last_from (Some []) xs else last_from (pushed part b) xs) ys)
+    [ true ↦ ap (λ l. line_of part ∷ l) (ended_from-append (Some []) xs ys) | false ↦ ended_from-append (pushed part b) xs ys ]
+
+pub last_from-append : (part : Line) (xs ys : List ℕ) → last_from part (xs ++ ys) ≡ last_from (last_from part xs) ys
+last_from-append part [] ys = refl
+last_from-append part (b ∷ xs) ys =
+    elim (b == 10) as (λ t. (if t then last_from (Some []) (xs ++ ys) else last_from (pushed part b) (xs ++ ys))
+    ≡ last_from (if t then last_from (Some []) xs else last_from (pushed part b) xs) ys)
+    [ true ↦ last_from-append (Some []) xs ys | false ↦ last_from-append (pushed part b) xs ys ]
+
+-- ---- the plain meaning
+
+-- the pieces, with a front before the first
+abbrev join : List ℕ → List (List ℕ) → List (List ℕ)
+join front [] = front ∷ []
+join front (piece ∷ rest) = (front ++ piece) ∷ rest
+
+abbrev lines_of : List (List ℕ) → List (Line)
+lines_of ps = map (λ piece. line_of (kept piece)) ps
+
+join-pieces : (bytes : List ℕ) → join [] (pieces bytes) ≡ pieces bytes
+join-pieces [] = refl
+join-pieces (b ∷ bs) =
+    elim (b == 10) as (λ t. join [] (if t then [] ∷ pieces bs else onto b (pieces bs)) ≡ (if t then [] ∷ pieces bs else onto b (pieces bs)))
+    [ true ↦ refl | false ↦ elim (pieces bs) as (λ ps. join [] (onto b ps) ≡ onto b ps) [ [] ↦ refl | p ∷ ps ↦ refl ] ]
+
+join-onto : (front : List ℕ) (b : ℕ) (ps : List (List ℕ)) → join front (onto b ps) ≡ join (front ++ b ∷ []) ps
+join-onto front b [] = refl
+join-onto front b (p ∷ ps) = ap (λ l. l ∷ ps) (sym (append_assoc front (b ∷ []) p))
+
+pushed-kept : (front : List ℕ) (b : ℕ) → pushed (kept front) b ≡ kept (front ++ b ∷ [])
+pushed-kept front b = rw (length_push front b) (grind (arith, nat_tests))
+
+lines_of-join : (front bytes : List ℕ) → lines_of (join front (pieces bytes)) ≡ ended_from (kept front) bytes ++ line_of (last_from (kept front) bytes) ∷ []
+lines_of-join front [] = ap (λ l. line_of (kept l) ∷ []) (append-nil front)
+lines_of-join front (b ∷ bs) =
+    elim (b == 10) as (λ t. lines_of (join front (if t then [] ∷ pieces bs else onto b (pieces bs)))
+    ≡ (if t then line_of (kept front) ∷ ended_from (Some []) bs else ended_from (pushed (kept front) b) bs)
+    ++ line_of (if t then last_from (Some []) bs else last_from (pushed (kept front) b) bs) ∷ []) [
+      | true ↦ ap (λ l. line_of (kept l) ∷ lines_of (pieces bs)) (append-nil front)
+          ∙ ap (λ l. line_of (kept front) ∷ l) (ap lines_of (sym (join-pieces bs)) ∙ lines_of-join [] bs)
+      | false ↦ ap lines_of (join-onto front b (pieces bs)) ∙ lines_of-join (front ++ b ∷ []) bs
+          ∙ ap (λ part. ended_from part bs ++ line_of (last_from part bs) ∷ []) (sym (pushed-kept front b))
+    ]
+
+pub all_lines-by-parts : (bytes : List ℕ) → all_lines bytes ≡ ended_from (Some []) bytes ++ line_of (last_from (Some []) bytes) ∷ []
+all_lines-by-parts bytes = ap lines_of (sym (join-pieces bytes)) ∙ lines_of-join [] bytes
+
+front-push : (lines : List (Line)) (line : Line) → take (length (lines ++ line ∷ []) - 1) (lines ++ line ∷ []) ≡ lines
+front-push lines line =
+    let n : length (lines ++ line ∷ []) - 1 ≡ length lines = omega (arith, length_push lines line) in
+    ap (λ k. take k (lines ++ line ∷ [])) n ∙ take-append_seam lines (line ∷ [])
+
+pub ended_lines-by-parts : (bytes : List ℕ) → ended_lines bytes ≡ ended_from (Some []) bytes
+ended_lines-by-parts bytes =
+    ap (λ l. take (length l - 1) l) (all_lines-by-parts bytes) ∙ front-push (ended_from (Some []) bytes) (line_of (last_from (Some []) bytes))

@@ -1,0 +1,143 @@
+-- How runs over lines follow one another.
+use Rattle.std.proofs.Common.{◌≡◌, ℕ, Bool, true, false, if◌then◌else◌, List, [], ◌∷◌, ◌++◌, refl, sym, ap, ◌∙◌, subst, append_assoc, append-nil, take}
+use Rattle.std.proofs.KnownBytes.{Appends-nil, Appends-trans}
+use Rattle.std.specs.Io.KnownBytes.{Appends}
+use Rattle.puzzle_cli.specs.Lines.{Line}
+use Rattle.puzzle_cli.specs.Runs.{Progress, Run, has_quit, before_quit, Served, Breaks}
+use Rattle.puzzle_cli.specs.Steps.{Goes}
+use Rattle.puzzle_cli.specs.declared.line_loop.Status.{Status}
+use Rattle.puzzle_cli.specs.declared.line_loop.Status.TheVariants.{More, Quit, Fault}
+
+-- ---- the lines before quit
+
+module _ (quit : Line → Bool) where
+  pub has_quit-append : (xs ys : List Line) → has_quit quit xs ≡ false → has_quit quit (xs ++ ys) ≡ has_quit quit ys
+  has_quit-append [] ys h = refl
+  has_quit-append (x ∷ xs) ys h =
+      elim (quit x) as (λ t. (if t then true else has_quit quit xs) ≡ false → (if t then true else has_quit quit (xs ++ ys)) ≡ has_quit quit ys)
+      [ true ↦ λ e. cc | false ↦ λ e. has_quit-append xs ys e ] h
+
+  pub has_quit-more : (xs ys : List Line) → has_quit quit xs ≡ true → has_quit quit (xs ++ ys) ≡ true
+  has_quit-more [] ys h = cc
+  has_quit-more (x ∷ xs) ys h =
+      elim (quit x) as (λ t. (if t then true else has_quit quit xs) ≡ true → (if t then true else has_quit quit (xs ++ ys)) ≡ true)
+      [ true ↦ λ e. refl | false ↦ λ e. has_quit-more xs ys e ] h
+
+  pub before_quit-all : (xs : List Line) → has_quit quit xs ≡ false → before_quit quit xs ≡ xs
+  before_quit-all [] h = refl
+  before_quit-all (x ∷ xs) h =
+      elim (quit x) as (λ t. (if t then true else has_quit quit xs) ≡ false → (if t then [] else x ∷ before_quit quit xs) ≡ x ∷ xs)
+      [ true ↦ λ e. cc | false ↦ λ e. ap (λ l. x ∷ l) (before_quit-all xs e) ] h
+
+  pub before_quit-append : (xs ys : List Line) → has_quit quit xs ≡ false → before_quit quit (xs ++ ys) ≡ xs ++ before_quit quit ys
+  before_quit-append [] ys h = refl
+  before_quit-append (x ∷ xs) ys h =
+      elim (quit x) as (λ t. (if t then true else has_quit quit xs) ≡ false → (if t then [] else x ∷ before_quit quit (xs ++ ys)) ≡ x ∷ (xs ++ before_quit quit ys))
+      [ true ↦ λ e. cc | false ↦ λ e. ap (λ l. x ∷ l) (before_quit-append xs ys e) ] h
+
+  pub before_quit-more : (xs ys : List Line) → has_quit quit xs ≡ true → before_quit quit (xs ++ ys) ≡ before_quit quit xs
+  before_quit-more [] ys h = cc
+  before_quit-more (x ∷ xs) ys h =
+      elim (quit x) as (λ t. (if t then true else has_quit quit xs) ≡ true → (if t then [] else x ∷ before_quit quit (xs ++ ys)) ≡ (if t then [] else x ∷ before_quit quit xs))
+      [ true ↦ λ e. refl | false ↦ λ e. ap (λ l. x ∷ l) (before_quit-more xs ys e) ] h
+
+-- ---- one run after another
+
+module _ {S : Type 0} (reply : S → Line → List ℕ → S → Type 0) where
+  pub Run-append : (xs ys : List Line) (old mid new : S) (v w : List ℕ) → Run reply xs old v mid → Run reply ys mid w new → Run reply (xs ++ ys) old (v ++ w) new
+  Run-append [] ys old mid new v w p q =
+      let from_old : Run reply ys old w new = subst (λ s. Run reply ys s w new) p.1 q in
+      subst (λ l. Run reply ys old l new) (sym (ap (λ l. l ++ w) p.0)) from_old
+  Run-append (x ∷ xs) ys old mid new v w p q =
+      (p.0, p.1, p.2 ++ w, p.3, ap (λ l. l ++ w) p.4 ∙ append_assoc p.0 p.2 w, Run-append xs ys p.1 mid new p.2 w p.5 q)
+
+  pub Served-append : (xs ys : List Line) (old mid new : Progress S) → Served reply xs old mid → Served reply ys mid new → Served reply (xs ++ ys) old new
+  Served-append xs ys old mid new p q = (
+    p.0 ++ q.0,
+    Run-append xs ys old.session mid.session new.session p.0 q.0 p.1 q.1,
+    Appends-trans old.taken mid.taken new.taken p.0 q.0 p.2 q.2,
+  )
+
+module _ {S : Type 0} (reply : S → Line → List ℕ → S → Type 0) (quit : Line → Bool) where
+  -- lines that were answered, and then a reply that didn't go out
+  Breaks-after : (xs ys : List Line) (old mid new : Progress S) → has_quit quit xs ≡ false → Served reply xs old mid
+      → Breaks reply quit ys mid new → Breaks reply quit (xs ++ ys) old new
+  Breaks-after xs ys old mid new no_quit served k = record {
+    earlier = xs ++ k.earlier;
+    line = k.line;
+    later = k.later;
+    split = ap (λ l. xs ++ l) k.split ∙ sym (append_assoc xs k.earlier (k.line ∷ k.later));
+    no_quit = has_quit-append quit xs k.earlier no_quit ∙ k.no_quit;
+    mid = k.mid;
+    served = Served-append reply xs k.earlier old mid k.mid served k.served;
+    bytes = k.bytes;
+    count = k.count;
+    said = k.said;
+    front = k.front;
+  }
+
+  -- what stands behind the line whose reply didn't go out makes no difference
+  Breaks-more : (xs ys : List Line) (old new : Progress S) → Breaks reply quit xs old new → Breaks reply quit (xs ++ ys) old new
+  Breaks-more xs ys old new k = record {
+    earlier = k.earlier;
+    line = k.line;
+    later = k.later ++ ys;
+    split = ap (λ l. l ++ ys) k.split ∙ append_assoc k.earlier (k.line ∷ k.later) ys;
+    no_quit = k.no_quit;
+    mid = k.mid;
+    served = k.served;
+    bytes = k.bytes;
+    count = k.count;
+    said = k.said;
+    front = k.front;
+  }
+
+  -- ---- steps
+
+  pub Goes-after : (status : Status) (xs ys : List Line) (old mid new : Progress S)
+      → Goes reply quit More xs old mid → Goes reply quit status ys mid new → Goes reply quit status (xs ++ ys) old new
+  Goes-after More xs ys old mid new p q =
+      (has_quit-append quit xs ys p.0 ∙ q.0, q.1, Served-append reply xs ys old mid new p.2 q.2)
+  Goes-after Quit xs ys old mid new p q =
+      let both : Served reply (xs ++ before_quit quit ys) old new = Served-append reply xs (before_quit quit ys) old mid new p.2 q.2 in
+      (has_quit-append quit xs ys p.0 ∙ q.0, q.1, subst (λ l. Served reply l old new) (sym (before_quit-append quit xs ys p.0)) both)
+  Goes-after Fault xs ys old mid new p q = (q.0, Breaks-after xs ys old mid new p.0 p.2 q.1)
+
+  pub Quit-more : (xs ys : List Line) (old new : Progress S) → Goes reply quit Quit xs old new → Goes reply quit Quit (xs ++ ys) old new
+  Quit-more xs ys old new q =
+      (has_quit-more quit xs ys q.0, q.1, subst (λ l. Served reply l old new) (sym (before_quit-more quit xs ys q.0)) q.2)
+
+  pub Fault-more : (xs ys : List Line) (old new : Progress S) → Goes reply quit Fault xs old new → Goes reply quit Fault (xs ++ ys) old new
+  Fault-more xs ys old new q = (q.0, Breaks-more xs ys old new q.1)
+
+  -- one line, whose reply went out
+  pub Goes-answered : (line : Line) (old new : Progress S) (bytes : List ℕ) → quit line ≡ false → new.failed ≡ false
+      → reply old.session line bytes new.session → Appends old.taken new.taken bytes → Goes reply quit More (line ∷ []) old new
+  Goes-answered line old new bytes no_quit works said went =
+      (rw no_quit, works, (bytes, (bytes, new.session, [], said, sym (append-nil bytes), (refl, refl)), went))
+
+  -- one line, whose reply didn't go out
+  pub Goes-unsent : (line : Line) (old new : Progress S) (bytes : List ℕ) (count : ℕ) → new.failed ≡ true
+      → reply old.session line bytes new.session → Appends old.taken new.taken (take count bytes) → Goes reply quit Fault (line ∷ []) old new
+  Goes-unsent line old new bytes count fails said went = (
+    fails,
+    record {
+      earlier = [];
+      line = line;
+      later = [];
+      split = refl;
+      no_quit = refl;
+      mid = old;
+      served = ([], (refl, refl), Appends-nil old.taken);
+      bytes = bytes;
+      count = count;
+      said = said;
+      front = went;
+    },
+  )
+
+  -- one line that ends the run
+  pub Goes-quit : (line : Line) (old new : Progress S) → quit line ≡ true → new.failed ≡ false → new.session ≡ old.session
+      → new.taken ≡ old.taken → Goes reply quit Quit (line ∷ []) old new
+  Goes-quit line old new quits works stays same =
+      (rw quits refl, works, rw quits ([], (refl, stays), subst (λ t. Appends old.taken t []) (sym same) (Appends-nil old.taken)))

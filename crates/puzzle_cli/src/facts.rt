@@ -1,0 +1,23 @@
+//! What replies know of a game, as one word for contracts.
+
+use crate::draw::Draw;
+use trail_solver::Rules;
+
+/// The facts of a game by which replies are told. It has no call, since contracts alone name it.
+pub(crate) trait Facts {
+    ghost use Rattle.puzzle_cli.specs.GameFacts.{GameFacts};
+
+    ghost facts: { GameFacts Self };
+}
+
+impl<P: Draw> Facts for P {
+    ghost facts = { record {
+      title = P.title;
+      letters = P.letter_codes;
+      rules = ⟦<P as Rules>⟧;
+      describes = P.describes;
+      desc_at = P.desc_at;
+      desc_of = P.desc_of;
+      drawing = P.drawing;
+    } };
+}

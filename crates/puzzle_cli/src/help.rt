@@ -1,0 +1,41 @@
+//! What the program's help says below the options.
+
+/// Game IDs, commands, moves, examples and statuses.
+pub(crate) const MORE_HELP: &str = "\
+Game IDs:
+  SIZE:DESCRIPTION  this puzzle, of size 3 to 9: towers 3:3//////3/////, unequal 3:1,0,0R,0,0,0,0,0,0,
+  SIZE!SEED         a puzzle made from a number, of size 3 to 6, as 5!7; it has one solution
+
+Commands, one a line:
+  new ID     begin the game of this ID
+  show       draw the board
+  move TEXT  make a move, as below
+  undo       take the last move back
+  redo       make it again
+  restart    go back to the start, which undo takes back
+  solve      fill in the only solution
+  list N     list the first solutions, at most N, from 1 to 100
+  marks      list the pencil marks
+  done       list the clues with a done mark
+  status     playing, solved or helped, and which of how many states is shown
+  id         print the game's ID
+  save       print the save text
+  quit       end, as the end of the input does
+
+Moves, in column x and row y, counted from 0 at the top left:
+  Rx,y,n     put number n into a square; n = 0 clears it
+  Px,y,n     flip pencil mark n of a square
+  M          mark every empty square with all numbers
+  SDIGITS    fill the board with this solution, row by row
+  Dx,y       flip the done mark of a Towers clue, as D0,-1 above column 0
+
+Examples:
+  puzzles towers --id '5!7' --save tower.sav
+  puzzles towers --load tower.sav --save tower.sav
+  printf 'show\\nsolve\\nshow\\n' | puzzles unequal --id '4!1'
+
+Exit status:
+  0  the commands are at their end, or help was asked for
+  1  a file, the input or the output failed, or memory was refused
+  2  the command line is refused
+  3  the game ID or the loaded file is refused";

@@ -1,0 +1,24 @@
+//! The laws of the replies to lines. They speak of what `run` writes and leaves, so the function here does nothing.
+ghost use Rattle.puzzle_cli.specs.RunLaws.{LinesAreReadOnce, RefusedLinesLeave, OutputIsOne, RepliesStayStorable, RepliesAreCalls, OtherRequestsLeave, UndoLineTakesBack, RedoLineTakesUndoBack};
+
+use crate::draw::Draw;
+use crate::facts::Facts;
+
+/// The laws of the replies that `run` gives to lines, in any game.
+///
+/// Each line is read in one way. A line that is refused leaves the session. With ample memory there is one output and one
+/// session for each list of lines. Where a session can be stored, or there is none, so it is behind each reply.
+///
+/// A line that asks for a call of the session is answered as the session answers the call; one that asks for anything else
+/// leaves the session. A move, a restart or a solution that was made and then `undo` give back the board, the past, the
+/// position, the puzzle, the parameters and the kept bytes. `undo` and then `redo` give back the whole session.
+pub fn laws<P: Draw>()
+    ensures read_once { LinesAreReadOnce }
+    ensures refused { RefusedLinesLeave ⟦<P as Facts>⟧.facts }
+    ensures one_output { OutputIsOne ⟦<P as Facts>⟧.facts }
+    ensures stays_storable { RepliesStayStorable ⟦<P as Facts>⟧.facts }
+    ensures calls { RepliesAreCalls ⟦<P as Facts>⟧.facts }
+    ensures others { OtherRequestsLeave ⟦<P as Facts>⟧.facts }
+    ensures undone { UndoLineTakesBack ⟦<P as Facts>⟧.facts }
+    ensures redone { RedoLineTakesUndoBack ⟦<P as Facts>⟧.facts }
+{}

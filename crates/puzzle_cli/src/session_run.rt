@@ -1,0 +1,53 @@
+//! The run of a session: lines come in, and their replies go out.
+ghost use Rattle.std.specs.Prelude.{◌≡◌, false};
+ghost use Rattle.puzzle_cli.specs.Commands.{is_quit};
+ghost use Rattle.puzzle_cli.specs.Replies.{Reply};
+ghost use Rattle.puzzle_cli.specs.Runs.{Ends};
+
+use crate::draw::Draw;
+use crate::facts::Facts;
+use crate::line_loop::run_machine;
+use crate::run_end::End;
+use play_midend::Session;
+use puzzle_io::{Sink, Source};
+use std::alloc::Global;
+
+/// Answers the lines of the source in turn, up to `quit`, and gives back the session that they left.
+///
+/// It begins with the session, or with none. Each reply is made whole, written and flushed before the next line is looked
+/// at. A line ends with LF, or at the end of the input, and loses one CR at its end; an empty one has no reply, and one of
+/// more than 1,024 bytes is refused as `LongLine`.
+///
+/// `Finished` where the input is at its end or a line was `quit`. `ReadFault` where a read fails, or 1,000,000,000 bytes were
+/// read and neither had come: a line that has not ended then has no reply. `WriteFault` where a write or a flush fails, or a
+/// write takes no byte: the session is the one behind the command whose reply failed.
+///
+/// Neither device has failed before.
+pub fn run<P: Draw, R: Source, W: Sink>(
+    alloc: Global,
+    session: Option<Session<P>>,
+    source: &mut R,
+    sink: &mut W,
+) -> (Option<Session<P>>, End)
+    requires source { R.has_failed source.old ≡ false }
+    requires sink { W.has_failed sink.old ≡ false }
+    ensures { Ends (Reply ⟦<P as Facts>⟧.facts) is_quit result.1
+        (record {
+          session = session;
+          to_come = R.to_come source.old;
+          read_failed = R.has_failed source.old;
+          taken = W.taken sink.old;
+          write_failed = W.has_failed sink.old;
+        })
+        (record {
+          session = result.0;
+          to_come = R.to_come source.new;
+          read_failed = R.has_failed source.new;
+          taken = W.taken sink.new;
+          write_failed = W.has_failed sink.new;
+        }) }
+{
+    let mut session = session;
+    let end = run_machine(alloc, &mut session, source, sink);
+    (session, end)
+}

@@ -1,0 +1,43 @@
+//! The first session of the program: of a game ID, of a file, or none.
+
+ghost use Rattle.std.specs.Prelude.{◌≡◌, Ok, None, IfOk, IfErr, IfSome, IsSomeAnd};
+ghost use Rattle.play_save.specs.SaveTexts.{SaveText};
+ghost use Rattle.play_save.specs.FirstFaults.{load_at};
+ghost use Rattle.puzzle_cli.specs.CommandLine.{NotBoth};
+ghost use Rattle.puzzle_cli.specs.NewSessions.{TextBegins, IsStartRefusal};
+ghost use Rattle.puzzle_cli.specs.Starts.{saved_facts, IsFileRefusal};
+
+use crate::draw::Draw;
+use crate::facts::Facts;
+use crate::new_session::new_session;
+use crate::start_fault::StartFault;
+use play_midend::Session;
+use play_save::load;
+use std::alloc::Global;
+
+/// The first session: the new one of a game ID, the one that was saved to a file, or none where neither is there.
+///
+/// An ID is refused as `read_id` refuses its text, or as `generate` refuses its seed; a file as `load` refuses its bytes; and
+/// either for want of memory, which is `StartFault::OutOfMemory` also where the fault inside says so.
+pub fn begin<P: Draw>(
+    alloc: Global,
+    id: Option<&[u8]>,
+    file: Option<&[u8]>,
+) -> Result<Option<Session<P>>, StartFault>
+    requires { NotBoth id file }
+    ensures none { id.entry ≡ None → file.entry ≡ None → result ≡ Ok None }
+    ensures of_id { IfSome id.entry (λ text. IfOk result (λ first. IsSomeAnd first (λ session.
+        TextBegins ⟦<P as Facts>⟧.facts text.now (Ok session)))) }
+    ensures id_refused { IfSome id.entry (λ text. IfErr result
+        (IsStartRefusal (TextBegins ⟦<P as Facts>⟧.facts text.now))) }
+    ensures of_file { IfSome file.entry (λ bytes. IfOk result (λ first. IsSomeAnd first (λ session.
+        SaveText (saved_facts ⟦<P as Facts>⟧.facts) session bytes.now))) }
+    ensures file_refused { IfSome file.entry (λ bytes. IfErr result
+        (IsFileRefusal (load_at (saved_facts ⟦<P as Facts>⟧.facts) bytes.now))) }
+{
+    match (id, file) {
+        (Some(id), _) => Ok(Some(new_session(alloc, id)?)),
+        (None, Some(file)) => Ok(Some(load(alloc, file)?)),
+        (None, None) => Ok(None),
+    }
+}

@@ -1,0 +1,6 @@
+pub mod OrderPlaces
+pub mod CombinedSquares
+pub mod ItemLaws
+pub mod PruningSteps
+pub mod GeneratedOnce
+pub mod ForcedNumbers

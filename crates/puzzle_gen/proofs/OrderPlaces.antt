@@ -1,0 +1,106 @@
+-- A permutation of the numbers below n is an order of them, each at one place.
+use Rattle.std.proofs.Common.{◌≡◌, ℕ, zero, suc, ◌+◌, ◌<◌, ◌≤◌, List, [], ◌∷◌, ◌++◌, length, drop, get_or, eqb, cond, map, All, IsPermutation, inl, inr, refl, sym, ◌∙◌, ap, arith, eq-eqb, subst, add-one}
+use Rattle.std.specs.List.{range_with_len, refill}
+use Rattle.std.proofs.Math.Seq.{take-append_seam}
+use Rattle.std.proofs.lemmas.Bool.{cases_eq, cases_lt, ne_eqb}
+use Rattle.std.proofs.lemmas.List.FromFn.{length-range_with_len, get_or-range_with_len, fill_by_all, map-range_with_len_more}
+use Rattle.std.proofs.lemmas.List.Sorted.{All-permutation, length_permutation, sum_by-IsPermutation}
+use Rattle.latin_board.specs.Squares.{times_in}
+use Rattle.latin_board.proofs.Counts.{times_in_more_yes, times_in_more_no, twice_at_least, place_of_counted}
+use Rattle.puzzle_gen.specs.Orders.{place_in, IsOrder}
+
+-- a number that stands in a list stands at its place there, and not before
+pub place_found : (x : ℕ) (xs : List ℕ) (k : ℕ) → k < length xs → get_or xs k 0 ≡ x → (place_in x xs ≤ k) × (get_or xs (place_in x xs) 0 ≡ x)
+place_found x [] k within here = absurd (omega arith)
+place_found x (y ∷ ys) zero within here = rw (eq-eqb x y (sym here)) (omega arith, here)
+place_found x (y ∷ ys) (suc k) within here =
+    elim (cases_eq x y) [
+      | inl same ↦ rw (eq-eqb x y same) (omega arith, sym same)
+      | inr other ↦
+          let rest = place_found x ys k (omega arith) here in
+          rw (ne_eqb x y other) (omega (arith, rest.0), rest.1)
+    ]
+
+-- ---- how often a value stands in a list that is made by places
+
+none_so_far : (f : ℕ → ℕ) (v n : ℕ) → ((j : ℕ) → j < n → f j ≡ v → ⊥) → 0 ≡ times_in v (map f (range_with_len 0 n))
+none_so_far f v zero none = refl
+none_so_far f v (suc n) none =
+    let None : ℕ → Type 0 = λ m. 0 ≡ times_in v (map f (range_with_len 0 m)) in
+    subst None (add-one n)
+    (times_in_more_no f v n 0 (none_so_far f v n (λ j below. none j (omega arith))) (none n (omega arith)))
+
+-- a value that stands at just one place of a list that is made by places is there once
+pub once_at : (f : ℕ → ℕ) (v k n : ℕ) → k < n → f k ≡ v → ((j : ℕ) → j < n → f j ≡ v → j ≡ k) → 1 ≡ times_in v (map f (range_with_len 0 n))
+once_at f v k zero within here only = absurd (omega arith)
+once_at f v k (suc n) within here only =
+    let Once : ℕ → Type 0 = λ m. 1 ≡ times_in v (map f (range_with_len 0 m)) in
+    subst Once (add-one n) (elim (cases_eq n k) [
+      | inl last ↦
+          times_in_more_yes f v n 0
+          (none_so_far f v n (λ j below there. let same : j ≡ k = only j (omega arith) there in omega arith))
+          (ap f last ∙ here)
+      | inr other ↦
+          times_in_more_no f v n 1
+          (once_at f v k n (omega arith) here (λ j below. only j (omega arith)))
+          (λ there. other (only n (omega arith) there))
+    ])
+
+-- the numbers below n are a list that is made by places
+pub range_made : (n : ℕ) → range_with_len 0 n ≡ map (λ k. k) (range_with_len 0 n)
+range_made n =
+    fill_by_all (λ k. k) (range_with_len 0 n) n 0 (length-range_with_len 0 n)
+    (λ k inside. let at = get_or-range_with_len 0 n k 0 inside in omega (arith, at))
+
+-- and one more
+pub range_more : (n : ℕ) → range_with_len 0 (n + 1) ≡ range_with_len 0 n ++ n ∷ []
+range_more n =
+    range_made (n + 1) ∙ map-range_with_len_more (λ k. k) 0 n n (omega arith) ∙ ap (λ (xs : List ℕ). xs ++ n ∷ []) (sym (range_made n))
+
+range_once : (n v : ℕ) → v < n → 1 ≡ times_in v (range_with_len 0 n)
+range_once n v below =
+    let once : 1 ≡ times_in v (map (λ k. k) (range_with_len 0 n)) = once_at (λ k. k) v v n below refl (λ j less same. same) in
+    once ∙ sym (ap (times_in v) (range_made n))
+
+-- ---- orders
+
+range_below : (n : ℕ) → All (λ i. i < n) (range_with_len 0 n)
+range_below n = λ k d inside.
+    let len = length-range_with_len 0 n in
+    let at = get_or-range_with_len 0 n k d (omega arith) in
+    omega (arith, at)
+
+pub order_of_permutation : (n : ℕ) (xs : List ℕ) → IsPermutation (range_with_len 0 n) xs → IsOrder n xs
+order_of_permutation n xs same =
+    let count : length xs ≡ n = length_permutation (range_with_len 0 n) xs same ∙ length-range_with_len 0 n in
+    let below = All-permutation (λ i. i < n) (range_with_len 0 n) xs same (range_below n) in
+    let once : (v : ℕ) → v < n → times_in v xs ≡ 1 = λ v small.
+    sum_by-IsPermutation (λ x. cond (eqb x v) 1 0) (range_with_len 0 n) xs same ∙ sym (range_once n v small) in
+    let found : (i : ℕ) → i < n → (k : ℕ) × (k < length xs) × (get_or xs k 0 ≡ i) = λ i small.
+    place_of_counted i xs (omega (arith, once i small)) in
+    record {
+      count = count;
+      items = λ k small. below k 0 (omega arith);
+      places = λ k small.
+          let within : k < length xs = omega arith in
+          let first = place_found (get_or xs k 0) xs k within refl in
+          elim (cases_lt (place_in (get_or xs k 0) xs) k) [
+            | inl before ↦ absurd (omega (
+              arith,
+              twice_at_least (get_or xs k 0) xs (place_in (get_or xs k 0) xs) k before within first.1 refl,
+              once (get_or xs k 0) (below k 0 within),
+            ))
+            | inr here ↦ omega (arith, first.0)
+          ];
+      inside = λ i small. let at = found i small in omega (arith, at.1, (place_found i xs at.0 at.1 at.2).0);
+      back = λ i small. let at = found i small in (place_found i xs at.0 at.1 at.2).1;
+    }
+
+-- ---- lists that are filled up in place
+
+pub length_range_made : (n : ℕ) (xs : List ℕ) → xs ≡ range_with_len 0 n → length xs ≡ n
+length_range_made n xs made = ap length made ∙ length-range_with_len 0 n
+
+-- a list that is written over as a whole
+pub refill_whole : (xs ws : List ℕ) → length ws ≡ length xs → refill (length xs) xs ws ≡ ws
+refill_whole xs ws same = rw (← same) (take-append_seam ws (drop (length ws) xs))

@@ -1,0 +1,20 @@
+//! Seeded puzzles: for each game, size and seed one puzzle, with exactly one solution and no item that it could do without.
+//!
+//! A seed gives a stream of random words, the stream gives a Latin square and an order of the items, and `generate` tries
+//! each item of the square's full puzzle once, in that order: it goes where the rest still has just one solution. `square`
+//! is the square alone. Nothing here takes memory.
+#![tactic(auto)]
+
+mod draws;
+mod forced_squares;
+mod gen_fault;
+mod generator;
+mod pruning;
+mod seeded_square;
+
+pub use gen_fault::GenFault;
+pub use generator::generate;
+pub use seeded_square::square;
+
+#[cfg(test)]
+mod tests;

@@ -1,0 +1,30 @@
+-- The statuses of the program, and its lines on standard error.
+use Rattle.std.specs.Prelude.{ℕ, List, [], codes}
+use Rattle.puzzle_cli.specs.declared.command_fault.CommandFault.TheVariants.{BadWords, HelpAsked}
+use Rattle.puzzle_cli.specs.declared.command_fault.CommandFault.TheVariants.{OutOfMemory as WordsMemory}
+use Rattle.puzzle_cli.specs.CommandFault.{command_fault_status}
+use Rattle.puzzle_cli.specs.StartFault.{start_fault_status, start_fault_line}
+use Rattle.puzzle_cli.specs.End.{end_status, end_fault_line}
+use Rattle.puzzles.specs.declared.fault.Fault.{Fault}
+use Rattle.puzzles.specs.declared.fault.Fault.TheVariants.{Words, Start, Run, LoadFile, SaveFile, Output, OutOfMemory}
+
+abbrev pub fault_status : Fault → ℕ
+fault_status (Words fault) = command_fault_status fault
+fault_status (Start fault) = start_fault_status fault
+fault_status (Run end) = end_status end
+fault_status LoadFile = 1
+fault_status SaveFile = 1
+fault_status Output = 1
+fault_status OutOfMemory = 1
+
+-- the line, without its LF: what is said of refused words, and help, are whole texts
+abbrev pub fault_line : Fault → List ℕ
+fault_line (Words (BadWords text)) = []
+fault_line (Words (HelpAsked text)) = []
+fault_line (Words WordsMemory) = codes "out of memory"
+fault_line (Start fault) = start_fault_line fault
+fault_line (Run end) = end_fault_line end
+fault_line LoadFile = codes "cannot read the file"
+fault_line SaveFile = codes "cannot write the file"
+fault_line Output = codes "cannot write the output"
+fault_line OutOfMemory = codes "out of memory"

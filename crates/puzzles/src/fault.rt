@@ -1,0 +1,65 @@
+//! Why the program ends before its work is done.
+
+ghost use Rattle.std.specs.Prelude.{◌≡◌, ◌≤◌, length};
+ghost use Rattle.puzzles.specs.Faults.{fault_status, fault_line};
+
+use arrayvec::ArrayString;
+use puzzle_cli::{CommandFault, End, StartFault};
+
+/// Why the program ends before its work is done.
+#[derive(Drop)]
+pub(crate) enum Fault {
+    /// The command line gives no game.
+    Words(CommandFault),
+    /// The first session is refused.
+    Start(StartFault),
+    /// A device failed in the run.
+    Run(End),
+    /// The file to load can't be read.
+    LoadFile,
+    /// The file to save to can't be written.
+    SaveFile,
+    /// Help can't be written to standard output.
+    Output,
+    /// A growth was refused.
+    OutOfMemory,
+}
+
+impl Fault {
+    /// The status that the program ends with.
+    pub(crate) fn status(&self) -> u8
+        ensures { result ≡ fault_status self.now }
+    {
+        match self {
+            Fault::Words(fault) => fault.status(),
+            Fault::Start(fault) => fault.status(),
+            Fault::Run(end) => end.status(),
+            Fault::LoadFile | Fault::SaveFile | Fault::Output | Fault::OutOfMemory => 1,
+        }
+    }
+
+    /// The line on standard error, without its LF. The text of a refused command line is no line of ours.
+    pub(crate) fn line(&self) -> ArrayString<40>
+        ensures { result.bytes ≡ fault_line self.now }
+    {
+        match self {
+            Fault::Words(CommandFault::BadWords(_) | CommandFault::HelpAsked(_)) => line_of(""),
+            Fault::Words(CommandFault::OutOfMemory) => line_of("out of memory"),
+            Fault::Start(fault) => fault.fault_line(),
+            Fault::Run(end) => end.fault_line(),
+            Fault::LoadFile => line_of("cannot read the file"),
+            Fault::SaveFile => line_of("cannot write the file"),
+            Fault::Output => line_of("cannot write the output"),
+            Fault::OutOfMemory => line_of("out of memory"),
+        }
+    }
+}
+
+fn line_of(words: &str) -> ArrayString<40>
+    requires { length words.now ≤ 40 }
+    ensures { result.bytes ≡ words.now }
+{
+    let mut line = ArrayString::new();
+    line.push_str(words);
+    line
+}

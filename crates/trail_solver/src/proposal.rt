@@ -1,0 +1,151 @@
+//! Where a search had best branch: at a square with few candidates, or at a value with few places in a row or column,
+//! and rather in lines where the search failed before. This is a rule of thumb, and no answer rests on it.
+
+ghost use Rattle.std.specs.Prelude.{◌≡◌, ◌+◌, ◌*◌, ◌<◌};
+ghost use Rattle.latin_board.specs.Lines.{line_cell};
+
+use crate::candidates::Candidates;
+use crate::failures::Failures;
+use crate::tally::Tally;
+use latin_board::Size;
+
+/// What a square or a value weighs in whose lines nothing failed: a few failures don't make much of it.
+const WEIGHT: u32 = 4;
+
+/// A square, the value to try there first, and how good it is to branch there: in how many ways it goes on, and how much
+/// it weighs, more where its lines failed.
+#[derive(Clone, Copy)]
+pub(crate) struct Proposal {
+    pub cell: usize,
+    pub value: u8,
+    ways: u32,
+    weight: u32,
+}
+
+/// The place to branch that has the fewest ways for its weight, if there is any.
+pub(crate) fn best_proposal(candidates: &Candidates, failures: &Failures) -> Option<Proposal> {
+    let width = candidates.size().get();
+    let mut best = None;
+    for row in 0..width {
+        best = best_square(candidates, failures, row, best);
+    }
+    for line in 0..2 * width {
+        best = best_value(candidates, failures, line, best);
+    }
+    best
+}
+
+// The best, or the first square of a row that is better.
+fn best_square(
+    candidates: &Candidates,
+    failures: &Failures,
+    row: u8,
+    best: Option<Proposal>,
+) -> Option<Proposal>
+    requires { row < candidates.now.size }
+{
+    let size = candidates.size();
+    let width = size.get();
+    let row_failures = failures.of_line(row);
+    let mut best = best;
+    for column in 0..width {
+        let cell = line_cell(size, row, column);
+        let set = candidates.values(cell);
+        let ways = set.count_ones();
+        let weight = WEIGHT + row_failures + failures.of_line(width + column);
+        if ways > 1 && is_better(best, ways, weight) {
+            best = Some(Proposal {
+                cell,
+                value: greatest(set),
+                ways,
+                weight,
+            });
+        }
+    }
+    best
+}
+
+// The greatest value of a set: tall towers, and the ends of signs, say most.
+fn greatest(set: u16) -> u8 {
+    if set == 0 {
+        return 0;
+    }
+    set.ilog2() as u8
+}
+
+// The best, or the value of a line with the fewest places, where that is better.
+fn best_value(
+    candidates: &Candidates,
+    failures: &Failures,
+    line: u8,
+    best: Option<Proposal>,
+) -> Option<Proposal>
+    requires { line < 2 * candidates.now.size }
+{
+    let _size = candidates.size();
+    let weight = WEIGHT + 2 * failures.of_line(line);
+    let Some((value, ways)) = tally_of(candidates, line).fewest() else {
+        return best;
+    };
+    if !is_better(best, ways, weight) {
+        return best;
+    }
+    let cell = first_place(candidates, line, value)?;
+    Some(Proposal {
+        cell,
+        value,
+        ways,
+        weight,
+    })
+}
+
+// Whether there is none yet, or this one has fewer ways for its weight.
+fn is_better(best: Option<Proposal>, ways: u32, weight: u32) -> bool {
+    match best {
+        Some(best) => ways.saturating_mul(best.weight) < best.ways.saturating_mul(weight),
+        None => true,
+    }
+}
+
+// How many places each value has in a line.
+fn tally_of(candidates: &Candidates, line: u8) -> Tally
+    requires { line < 2 * candidates.now.size }
+{
+    let size = candidates.size();
+    let mut tally = Tally::none();
+    for place in 0..size.get() {
+        tally = tally.with(candidates.values(line_cell(size, line, place)));
+    }
+    tally
+}
+
+// The first square of a line that may have a value.
+fn first_place(candidates: &Candidates, line: u8, value: u8) -> Option<usize>
+    requires { line < 2 * candidates.now.size }
+{
+    let size = candidates.size();
+    for place in 0..size.get() {
+        let cell = line_cell(size, line, place);
+        if u32::from(candidates.values(cell)) >> value.min(15) & 1 == 1 {
+            return Some(cell);
+        }
+    }
+    None
+}
+
+// The square at a place of a line.
+fn line_cell(size: Size, line: u8, place: u8) -> usize
+    requires line { line < 2 * size }
+    requires place { place < size }
+    ensures value { result ≡ line_cell size line place }
+    ensures inside { result < size * size }
+{
+    let width = size.get() as usize;
+    let line = line as usize;
+    let place = place as usize;
+    if line < width {
+        line * width + place
+    } else {
+        place * width + (line - width)
+    }
+}
