@@ -3,8 +3,7 @@ use Rattle.std.proofs.Common.{◌≡◌, ◌≢◌, ℕ, ◌≤◌, true, false,
 use Rattle.std.proofs.lemmas.Slice.Eq.{bytes_eq-Decides}
 use Rattle.trail_solver.specs.Puzzles.{Puzzle}
 use Rattle.clue_rules.specs.declared.id_fault.IdFault.{IdFault}
-use Rattle.clue_rules.specs.GameIds.{ReadsGrammar}
-use Rattle.clue_rules.proofs.GameIdLemmas.{game_reads}
+use Rattle.clue_rules.proofs.GameIdLemmas.{ReadsGrammar, game_reads}
 use Rattle.play_midend.specs.declared.moves.Move.{Move}
 use Rattle.play_midend.specs.declared.moves.Move.TheVariants.{Restart}
 use Rattle.play_save.specs.SaveTexts.{SavedGame, saved_game}
