@@ -9,7 +9,11 @@ use std::alloc::{AllocError, Global};
 static VALUES: [u8; 10] = [0, b'\n', b'\r', b' ', b'0', b'3', b':', b'H', b'S', 0xff];
 
 /// Loads a text with each damage in turn, and takes the answers down.
-pub(crate) fn damage<P: Game>(alloc: Global, text: &[u8], tally: &mut Tally) -> Result<(), AllocError> {
+pub(crate) fn damage<P: Game>(
+    alloc: Global,
+    text: &[u8],
+    tally: &mut Tally,
+) -> Result<(), AllocError> {
     tally.load::<P>(alloc, text);
     damage_bytes::<P>(alloc, text, tally)?;
     let records = records_of(alloc, text)?;
