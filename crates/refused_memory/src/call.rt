@@ -4,7 +4,7 @@ use crate::fixture::Start;
 use crate::made::Made;
 use clue_rules::Params;
 use latin_board::Change;
-use play_midend::{Extras, Move, PlayFault, Session, change_of, read_move, write_move};
+use play_midend::{Extras, PlayFault, Session, change_of, read_move, write_move};
 use play_save::{load, save};
 use puzzle_cli::{Draw, begin, marks_text, picture, read_words};
 use std::alloc::Global;
@@ -39,7 +39,14 @@ pub(crate) enum Call {
 }
 
 /// The words that are read.
-static WORDS: [&str; 6] = ["puzzles", "towers", "--id", "3:3//////3/////", "--save", "a.sav"];
+static WORDS: [&str; 6] = [
+    "puzzles",
+    "towers",
+    "--id",
+    "3:3//////3/////",
+    "--save",
+    "a.sav",
+];
 
 /// The calls by name, each with the place where its session stands. The names of those that are refused by names of their own
 /// begin with `wrong-` or `full-`.
@@ -52,12 +59,20 @@ pub(crate) static CALLS: [(&str, Start, Call); 35] = [
     ("restart", Start::Undone, Call::Restart),
     ("solve", Start::Undone, Call::Solve),
     ("change-of-marks", Start::Undone, Call::ChangeOf("M")),
-    ("change-of-solution", Start::Undone, Call::ChangeOf("S123231312")),
+    (
+        "change-of-solution",
+        Start::Undone,
+        Call::ChangeOf("S123231312"),
+    ),
     ("whole", Start::Undone, Call::Whole),
     ("write-number", Start::Undone, Call::WriteMove("R0,0,1")),
     ("write-pencil", Start::Undone, Call::WriteMove("P0,0,1")),
     ("write-marks", Start::Undone, Call::WriteMove("M")),
-    ("write-solution", Start::Undone, Call::WriteMove("S123231312")),
+    (
+        "write-solution",
+        Start::Undone,
+        Call::WriteMove("S123231312"),
+    ),
     ("write-done", Start::Undone, Call::WriteMove("D-1,0")),
     ("write-desc", Start::Undone, Call::WriteDesc),
     ("draw", Start::Undone, Call::Draw),

@@ -65,7 +65,8 @@ fn go_on_alike<P: Draw>(one: &mut Session<P>, other: &mut Session<P>) -> bool {
 }
 
 fn show_the_same<P: Draw>(one: &Session<P>, other: &Session<P>) -> bool {
-    are_equal_boards(one.board(), other.board()) && done_text(one).as_slice() == done_text(other).as_slice()
+    are_equal_boards(one.board(), other.board())
+        && done_text(one).as_slice() == done_text(other).as_slice()
 }
 
 fn are_equal_boards(one: &Board, other: &Board) -> bool {
