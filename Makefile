@@ -1,6 +1,7 @@
 # make            proves and builds the program, and leaves it as build/puzzles
 # make play       a game on the terminal; GAME=towers (the default) or GAME=unequal, ID= an ID or a save file
-# make test       the gate: every proof from nothing, wrong bodies, tests, stored runs, and the program from outside
+# make test       the gate: every proof from nothing, wrong bodies, tests, stored runs, and the program from outside and under fire
+# make test-faults the last part of it alone: memory, reads and writes that fail in turn
 # make test-tools the scripts around the program: the front, installing, and the texts for its users
 # make exchange   saves and IDs against the usual programs, of Debian's package sgt-puzzles; no part of the gate
 # make bench      how long the solver and the generator take, class by class, or the solver on the lines of IDS=file; no part of the gate
@@ -20,7 +21,7 @@ CRATE ?=
 FMT ?= $(RT) fmt
 PREFIX ?= /usr/local
 
-.PHONY: all play test test-tools exchange bench check try must-fail fmt install uninstall clean help crate
+.PHONY: all play test test-faults test-tools exchange bench check try must-fail fmt install uninstall clean help crate
 
 all:
 	@RT='$(RT)' tools/build
@@ -33,6 +34,10 @@ play:
 
 test:
 	@RT='$(RT)' tools/gate
+
+test-faults: all
+	@cd crates/refused_memory && $(RT) run < /dev/null > /dev/null
+	tools/test_faults build/puzzles crates/refused_memory/out/refused_memory
 
 test-tools: all
 	tools/test_texts
