@@ -1,11 +1,10 @@
 //! The status of a session, as words.
 
-ghost use Rattle.std.specs.Prelude.{◌≡◌, ◌+◌, ◌<◌, ◌≤◌, [], ◌∷◌, ◌++◌, length};
-ghost use Rattle.std.specs.Fmt.{decimal};
-ghost use Rattle.arrayvec.specs.ArrayString.{array_string_len};
+ghost use Rattle.std.specs.Prelude.{◌≡◌, ◌+◌, ◌≤◌, length};
 ghost use Rattle.play_midend.specs.Histories.{shown};
 ghost use Rattle.puzzle_cli.specs.BoardTexts.{status_word, status_words};
 
+use crate::decimal_text::decimal_text;
 use arrayvec::ArrayString;
 use clue_rules::Game;
 use latin_board::Board;
@@ -20,9 +19,9 @@ pub fn status_text<P: Game>(session: &Session<P>) -> ArrayString<32>
     let mut text = ArrayString::new();
     text.push_str(status_word(session.board()));
     text.push_str(" ");
-    push_decimal(&mut text, session.position());
+    text.push_str(decimal_text(session.position()).as_str());
     text.push_str("/");
-    push_decimal(&mut text, session.states());
+    text.push_str(decimal_text(session.states()).as_str());
     text
 }
 
@@ -37,22 +36,4 @@ fn status_word(board: &Board) -> &'static str
     } else {
         "playing"
     }
-}
-
-fn push_decimal(text: &mut ArrayString<32>, n: usize)
-    requires { array_string_len text.old + length (decimal n) ≤ 32 }
-    ensures { text.new.bytes ≡ text.old.bytes ++ decimal n }
-{
-    if n >= 10 {
-        push_decimal(text, n / 10);
-    }
-    push_digit(text, (n % 10) as u8);
-}
-
-fn push_digit(text: &mut ArrayString<32>, digit: u8)
-    requires digit { digit < 10 }
-    requires room { array_string_len text.old < 32 }
-    ensures { text.new.bytes ≡ text.old.bytes ++ (48 + digit) ∷ [] }
-{
-    text.push(char::from(b'0' + digit));
 }

@@ -1,21 +1,14 @@
-use Rattle.std.proofs.Common.{ℕ, ap, arith, length, length-append}
+use Rattle.std.proofs.Common.{ap, arith, length}
 use Rattle.std.proofs.lemmas.Fmt.{length-decimal-le}
 use Rattle.puzzle_cli.proofs.status.status_text.Goals as goal
 
-pub push_decimal-requires : goal.push_decimal-requires
-push_decimal-requires g c = omega (arith, length-decimal-le 6 c.position.result, ap length c.new-text.ensures)
-
-pub push_str-requires-3 : goal.push_str-requires-3
-push_str-requires-3 g c =
-    (omega arith, omega (arith, length-decimal-le 6 c.position.result, ap length c.new-text.ensures, ap length c.push_decimal.ensures, length-append {A = ℕ}))
-
-pub push_decimal-requires-2 : goal.push_decimal-requires-2
-push_decimal-requires-2 g c =
-    omega (
-      arith,
-      length-decimal-le 6 c.position.result,
-      length-decimal-le 6 c.states.result,
-      ap length c.new-text.ensures,
-      ap length c.push_decimal.ensures,
-      length-append {A = ℕ},
-    )
+pub push_str-requires-5 : goal.push_str-requires-5
+push_str-requires-5 g c =
+    let none = ap length c.new-text.ensures in
+    let first = length-decimal-le 6 c.position.result in
+    let second = length-decimal-le 6 c.states.result in
+    let one = ap length c.decimal_text.ensures in
+    let two = ap length c.decimal_text-2.ensures in
+    let shown = ap length c.as_str.ensures.value in
+    let told = ap length c.as_str-2.ensures.value in
+    omega arith
