@@ -2,7 +2,7 @@
 
 use clue_rules::{Towers, Unequal};
 use play_midend::Session;
-use puzzle_cli::{Draw, Args, CommandFault, GameName, StartFault, begin, read_words};
+use puzzle_cli::{Args, CommandFault, Draw, GameName, StartFault, begin, read_words};
 use std::alloc::Global;
 use std::process::Abort;
 use std::test::Fail;

@@ -111,14 +111,18 @@ states_again game h last i [] (s ∷ ss) owes have is = absurd have
 states_again game h last i (m ∷ ms) [] owes have is = absurd have
 states_again {P} game h last i (m ∷ ms) (s ∷ ss) owes have is =
     let step = and_then_ok (played (game.puzzle h.puzzle) h m) is in
-    let keeps = played_keeps (game.puzzle h.puzzle) h step.0 m step.1 in
-    let one : state_played game h i (state_move game h.puzzle s.key s.value) ≡ Ok step.0 = ap (state_played game h i) (state_of_move game h.puzzle s.key s.value m owes have.0) ∙ played_ok game h step.0 i m step.1 in
-    let rest = states_again game step.0 last (i + 1) ms ss owes (subst (λ p. HaveStates game p ms ss) (sym keeps) have.1) (subst (λ p. played_all (game.puzzle p) step.0 ms ≡ Ok last) (sym keeps) step.2) in
-    bind_again (state_played game h i (state_move game h.puzzle s.key s.value)) (λ next. states_played game next (i + 1) ss) step.0 one ∙ rest
+    more step.0 step.1 step.2 (λ next kept all. states_again game next last (i + 1) ms ss owes kept all)
   where
     and_then_ok : (r : Result (History P) PlayFault) → result_and_then (λ next. played_all (game.puzzle h.puzzle) next ms) r ≡ Ok last → (next : History P) × (r ≡ Ok next) × (played_all (game.puzzle h.puzzle) next ms ≡ Ok last)
     and_then_ok (Ok next) made = (next, refl, made)
     and_then_ok (Err e) made = cc
+
+    more : (next : History P) → played (game.puzzle h.puzzle) h m ≡ Ok next → played_all (game.puzzle h.puzzle) next ms ≡ Ok last → ((after : History P) → HaveStates game after.puzzle ms ss → played_all (game.puzzle after.puzzle) after ms ≡ Ok last → states_played game after (i + 1) ss ≡ Ok last) → states_played game h i (s ∷ ss) ≡ Ok last
+    more next made all along =
+        let keeps = played_keeps (game.puzzle h.puzzle) h next m made in
+        let one : state_played game h i (state_move game h.puzzle s.key s.value) ≡ Ok next = ap (state_played game h i) (state_of_move game h.puzzle s.key s.value m owes have.0) ∙ played_ok game h next i m made in
+        let rest = along next (subst (λ p. HaveStates game p ms ss) (sym keeps) have.1) (subst (λ p. played_all (game.puzzle p) next ms ≡ Ok last) (sym keeps) all) in
+        bind_again (state_played game h i (state_move game h.puzzle s.key s.value)) (λ after. states_played game after (i + 1) ss) next one ∙ rest
 
 -- as many moves as state records
 pub have_length : {P : Type 0} (game : SavedGame P) (p : P) (ms : List Move) (ss : List StateLine) → HaveStates game p ms ss → length ms ≡ length ss

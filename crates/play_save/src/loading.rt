@@ -77,7 +77,7 @@ fn extras(alloc: Global, found: &Found) -> Result<Extras, AllocError>
     })
 }
 
-fn is_solve(made: &Move) -> bool
+pub(crate) fn is_solve(made: &Move) -> bool
     ensures { result ≡ is_solve made.now }
 {
     matches!(made, Move::Solve(_))

@@ -3,12 +3,11 @@
 ghost use Rattle.std.specs.Prelude.{◌≡◌, ℕ, ◌+◌, ◌++◌, [], ◌∷◌, length, map, Some, None, IfOk, IfErr, OnOk};
 ghost use Rattle.std.specs.Fmt.{decimal};
 ghost use Rattle.play_midend.specs.Steps.{is_restart};
-ghost use Rattle.play_save.specs.SaveTexts.{is_solve};
 ghost use Rattle.play_save.specs.Written.{with_value, record_text, records_text, kept_line, head_lines, body_lines, state_line, state_lines, save_of};
 
 use crate::fault::LoadFault;
 use crate::key::{Key, StateKey};
-use crate::loading::COLLECTION;
+use crate::loading::{COLLECTION, is_solve};
 use clue_rules::Game;
 use play_midend::{Extras, KeptBytes, Move, Session, write_move};
 use std::alloc::{AllocError, Global};
@@ -87,12 +86,6 @@ fn is_restart(made: &Move) -> bool
     ensures { result ≡ is_restart made.now }
 {
     matches!(made, Move::Restart)
-}
-
-fn is_solve(made: &Move) -> bool
-    ensures { result ≡ is_solve made.now }
-{
-    matches!(made, Move::Solve(_))
 }
 
 // Writes the state record of a move.

@@ -30,8 +30,9 @@ fn begin_game<P: Draw>(alloc: Global, params: Params, puzzle: P) -> Result<Sessi
     ensures why { IfErr result (λ fault. fault ≡ StartFault.OutOfMemory) }
 {
     let next_params = params;
-    Session::new(alloc, params, next_params, puzzle, no_extras())
-        .map_err(|_| StartFault::OutOfMemory)
+    Session::new(alloc, params, next_params, puzzle, no_extras()).map_err(
+        |_| StartFault::OutOfMemory,
+    )
 }
 
 fn no_extras() -> Extras

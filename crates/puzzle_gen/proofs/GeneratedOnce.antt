@@ -36,6 +36,7 @@ pub generated_valid : {P : Type 0} (f : Ghosts P) (params : Params) (seed : ℕ)
 generated_valid {P} f params seed p laws (small, none, pruned) =
     let g = square_of params.size seed in
     let full = laws.full_valid g pruned.is_grid pruned.is_latin in
-    let Sized : P → Type 0 = λ q. (f.puzzle q).size ≡ params.size in
-    (subst f.valid (sym pruned.is_cut) (laws.cut_valid (f.full_of g) (f.has p) full),
-     subst Sized (sym pruned.is_cut) (laws.cut_size (f.full_of g) (f.has p) full ∙ laws.full_size g pruned.is_grid pruned.is_latin))
+    let Sized : P → Type 0 = λ q. (f.puzzle q).size ≡ params.size in (
+      subst f.valid (sym pruned.is_cut) (laws.cut_valid (f.full_of g) (f.has p) full),
+      subst Sized (sym pruned.is_cut) (laws.cut_size (f.full_of g) (f.has p) full ∙ laws.full_size g pruned.is_grid pruned.is_latin),
+    )

@@ -8,8 +8,6 @@
 use clue_rules::{Game, Towers, Unequal};
 use play_midend::Session;
 use play_save::{load, save};
-
-
 use std::{fs, io};
 
 // The word of the status line.
@@ -23,7 +21,11 @@ fn word<P: Game>(session: &Session<P>) -> &'static str {
     }
 }
 
-fn print_answer<P: Game + Drop>(rt: &(impl Print + AllocGlobal), name: &str, bytes: &[u8]) -> io::Result<()> {
+fn print_answer<P: Game + Drop>(
+    rt: &(impl Print + AllocGlobal),
+    name: &str,
+    bytes: &[u8],
+) -> io::Result<()> {
     let session = match load::<P>(rt.alloc(), bytes) {
         Ok(session) => session,
         Err(fault) => return println!(rt; "{name}; {}", fault.name()),
@@ -36,8 +38,17 @@ fn print_answer<P: Game + Drop>(rt: &(impl Print + AllocGlobal), name: &str, byt
         return println!(rt; "{name}; no memory");
     };
     let desc = String::from_utf8_lossy(rt.alloc(), &text)?;
-    let respelled = if again.as_slice() == bytes { "" } else { " respelled" };
-    println!(rt; "{name}; ok; {} {}/{}; {params}:{desc};{respelled}", word(&session), session.position(), session.states())
+    let respelled = if again.as_slice() == bytes {
+        ""
+    } else {
+        " respelled"
+    };
+    println!(rt;
+        "{name}; ok; {} {}/{}; {params}:{desc};{respelled}",
+        word(&session),
+        session.position(),
+        session.states()
+    )
 }
 
 fn main(rt: HostRuntime) -> io::Result<()> {

@@ -14,7 +14,8 @@ use std::time::Instant;
 const ROUNDS: u64 = 5;
 
 /// A new game of size 9 without a clue.
-const FRESH: &[u8] = b"SAVEFILE:41:Simon Tatham's Portable Puzzle Collection\nVERSION :1:1\nGAME    :6:Towers\nPARAMS  :1:9\nCPARAMS :1:9\nDESC    :35:///////////////////////////////////\nNSTATES :1:1\nSTATEPOS:1:1\n";
+const FRESH: &[u8] =
+    b"SAVEFILE:41:Simon Tatham's Portable Puzzle Collection\nVERSION :1:1\nGAME    :6:Towers\nPARAMS  :1:9\nCPARAMS :1:9\nDESC    :35:///////////////////////////////////\nNSTATES :1:1\nSTATEPOS:1:1\n";
 
 // The moves of a full history: numbers, cleared squares, and now and then all marks or a restart.
 fn made(i: u32) -> Move {
@@ -68,7 +69,11 @@ fn run(rt: &(impl Print + AllocGlobal + Clock)) -> io::Result<()> {
     for _ in 0..ROUNDS {
         size = save(rt.alloc(), &session).map_or(0, |text| text.len());
     }
-    println!(rt; "save of {} states, {size} bytes: {} us", session.states(), microseconds(rt, start)?)?;
+    println!(rt;
+        "save of {} states, {size} bytes: {} us",
+        session.states(),
+        microseconds(rt, start)?
+    )?;
     let Ok(text) = save(rt.alloc(), &session) else {
         return println!(rt; "no memory");
     };
@@ -90,7 +95,11 @@ fn run_skipped(rt: &(impl Print + AllocGlobal + Clock)) -> io::Result<()> {
     for _ in 0..ROUNDS {
         states = load::<Towers>(rt.alloc(), &long).map_or(0, |again| again.states());
     }
-    println!(rt; "load of {states} state behind {} bytes: {} us", long.len(), microseconds(rt, start)?)
+    println!(rt;
+        "load of {states} state behind {} bytes: {} us",
+        long.len(),
+        microseconds(rt, start)?
+    )
 }
 
 fn main(rt: HostRuntime) -> io::Result<()> {

@@ -11,8 +11,20 @@ fn other_spellings_load_as_the_sample(rt: HostRuntime) -> Result<(), Fail> {
     let rows: [(usize, &[&str]); 11] = [
         (8, &["MOVE    :00000006:R0,0,1"]),
         (5, &["DESC    :15:3//////3/////,i"]),
-        (5, &["DESC    :13:3//////3/////", "COMMENT :5:hello", " GAME   :1:x", "GAME\t   :1:x", "        :1:x"]),
-        (4, &["DESC    :13:3//////3/////", "CPARAMS :1:3", "NSTATES :1:3"]),
+        (
+            5,
+            &[
+                "DESC    :13:3//////3/////",
+                "COMMENT :5:hello",
+                " GAME   :1:x",
+                "GAME\t   :1:x",
+                "        :1:x",
+            ],
+        ),
+        (
+            4,
+            &["DESC    :13:3//////3/////", "CPARAMS :1:3", "NSTATES :1:3"],
+        ),
         (4, &["STATEPOS:1:2", "NSTATES :1:3", "CPARAMS :1:3"]),
         (9, &["MOVE    :6:R1,0,2", "garbage"]),
         (9, &["MOVE    :6:R1,0,2", "PRIVDESC:1:x"]),
@@ -51,7 +63,11 @@ fn records_need_no_line_ends(rt: HostRuntime) -> Result<(), Fail> {
     let sample = text_of(alloc, &SAMPLE, "\n")?;
     for end in ["", "\r", "\r\n", "\n\n\r"] {
         let text = text_of(alloc, &SAMPLE, end)?;
-        assert_eq!(rt; answer::<Towers>(alloc, text.as_bytes())?.as_str(), sample.as_str(), "{text}");
+        assert_eq!(rt;
+            answer::<Towers>(alloc, text.as_bytes())?.as_str(),
+            sample.as_str(),
+            "{text}"
+        );
     }
     Ok(())
 }
@@ -68,14 +84,27 @@ fn lengths_that_are_no_lengths(rt: HostRuntime) -> Result<(), Fail> {
         "MOVE     :6:R0,0,1",
     ] {
         let text = sample_with(alloc, 8, &[line])?;
-        assert_eq!(rt; answer::<Towers>(alloc, text.as_bytes())?.as_str(), "Malformed", "{line}");
+        assert_eq!(rt;
+            answer::<Towers>(alloc, text.as_bytes())?.as_str(),
+            "Malformed",
+            "{line}"
+        );
     }
     let text = sample_with(alloc, 9, &["MOVE    :9:R1,0,2"])?;
-    assert_eq!(rt; answer::<Towers>(alloc, text.as_bytes())?.as_str(), "Malformed");
+    assert_eq!(rt;
+        answer::<Towers>(alloc, text.as_bytes())?.as_str(),
+        "Malformed"
+    );
     // A length one too great takes the line's end for a byte of the move, where there is one.
     let text = sample_with(alloc, 9, &["MOVE    :7:R1,0,2"])?;
-    assert_eq!(rt; answer::<Towers>(alloc, text.as_bytes())?.as_str(), "BadState 2");
-    let cut = text.as_bytes().strip_suffix(b"\n".as_slice()).ok_or("no line end")?;
+    assert_eq!(rt;
+        answer::<Towers>(alloc, text.as_bytes())?.as_str(),
+        "BadState 2"
+    );
+    let cut = text
+        .as_bytes()
+        .strip_suffix(b"\n".as_slice())
+        .ok_or("no line end")?;
     assert_eq!(rt; answer::<Towers>(alloc, cut)?.as_str(), "Malformed");
     Ok(())
 }
@@ -92,7 +121,11 @@ fn moves_are_written_in_their_own_form(rt: HostRuntime) -> Result<(), Fail> {
     for (line, written) in rows {
         let text = sample_with(alloc, 9, &[line])?;
         let wanted = sample_with(alloc, 9, &[written])?;
-        assert_eq!(rt; answer::<Towers>(alloc, text.as_bytes())?.as_str(), wanted.as_str(), "{line}");
+        assert_eq!(rt;
+            answer::<Towers>(alloc, text.as_bytes())?.as_str(),
+            wanted.as_str(),
+            "{line}"
+        );
     }
     Ok(())
 }
@@ -103,10 +136,19 @@ fn counts_decide_where_reading_stops(rt: HostRuntime) -> Result<(), Fail> {
     let text = sample_with(alloc, 6, &["NSTATES :1:2"])?;
     let mut wanted = text_of(alloc, &SAMPLE[..6], "\n")?;
     wanted.push_str("NSTATES :1:2\nSTATEPOS:1:2\nMOVE    :6:R0,0,1\n")?;
-    assert_eq!(rt; answer::<Towers>(alloc, text.as_bytes())?.as_str(), wanted.as_str());
+    assert_eq!(rt;
+        answer::<Towers>(alloc, text.as_bytes())?.as_str(),
+        wanted.as_str()
+    );
     let text = sample_with(alloc, 7, &["STATEPOS:1:3"])?;
-    assert_eq!(rt; answer::<Towers>(alloc, text.as_bytes())?.as_str(), text.as_str());
+    assert_eq!(rt;
+        answer::<Towers>(alloc, text.as_bytes())?.as_str(),
+        text.as_str()
+    );
     let text = sample_with(alloc, 7, &["STATEPOS:1:1"])?;
-    assert_eq!(rt; answer::<Towers>(alloc, text.as_bytes())?.as_str(), text.as_str());
+    assert_eq!(rt;
+        answer::<Towers>(alloc, text.as_bytes())?.as_str(),
+        text.as_str()
+    );
     Ok(())
 }

@@ -8,11 +8,26 @@ use std::test::Fail;
 #[test]
 fn each_edit_has_its_fault(rt: HostRuntime) -> Result<(), Fail> {
     let alloc = rt.alloc();
-    let rows: [(usize, &[&str], &str); 34] = [
-        (0, &["XAVEFILE:41:Simon Tatham's Portable Puzzle Collection"], "NotASave"),
-        (0, &["SAVEFILE:41:Simon Tatham's Portable Puzzle collection"], "NotASave"),
+    let rows: [(usize, &[&str], &str); 30] = [
+        (
+            0,
+            &["XAVEFILE:41:Simon Tatham's Portable Puzzle Collection"],
+            "NotASave",
+        ),
+        (
+            0,
+            &["SAVEFILE:41:Simon Tatham's Portable Puzzle collection"],
+            "NotASave",
+        ),
         (0, &["SAVEFILE:41"], "NotASave"),
-        (0, &["COMMENT :1:x", SAMPLE[0]], "NotASave"),
+        (
+            0,
+            &[
+                "COMMENT :1:x",
+                "SAVEFILE:41:Simon Tatham's Portable Puzzle Collection",
+            ],
+            "NotASave",
+        ),
         (1, &["VERSION :1:2"], "Version"),
         (2, &["GAME    :6:towers"], "WrongGame"),
         (2, &["GAME    :6:Towers", "GAME    :6:Towers"], "Repeated"),
@@ -21,12 +36,14 @@ fn each_edit_has_its_fault(rt: HostRuntime) -> Result<(), Fail> {
         (7, &["MOVE    :6:R0,0,1", "STATEPOS:1:2"], "EarlyState"),
         (6, &["MOVE    :6:H0,0,1", "NSTATES :1:3"], "EarlyState"),
         (6, &["RESTART :1:x", "NSTATES :1:3"], "EarlyState"),
-        (6, &[], "EarlyState"),
-        (7, &[], "EarlyState"),
         (8, &["MOVE    :6:F0,0,2"], "Unsupported"),
         (8, &["MOVE    :6:H0,0,2"], "Unsupported"),
         (9, &["SOLVE   :1:H"], "Unsupported"),
-        (5, &[SAMPLE[5], "PRIVDESC:1:x"], "Unsupported"),
+        (
+            5,
+            &["DESC    :13:3//////3/////", "PRIVDESC:1:x"],
+            "Unsupported",
+        ),
         (3, &["PARAMS  :3:3dt"], "BadParams"),
         (4, &["CPARAMS :2:10"], "BadParams"),
         (5, &["DESC    :1:3"], "BadDesc"),
@@ -36,8 +53,6 @@ fn each_edit_has_its_fault(rt: HostRuntime) -> Result<(), Fail> {
         (6, &["NSTATES :2:03"], "BadCount"),
         (7, &["STATEPOS:1:0"], "BadCount"),
         (7, &["STATEPOS:1:4"], "BadCount"),
-        (5, &[], "Missing"),
-        (1, &[], "Missing"),
         (6, &["NSTATES :1:4"], "Missing"),
         (6, &["NSTATES :6:100000"], "Missing"),
         (8, &["MOVE    :7:R01,0,1"], "BadState 1"),
@@ -46,6 +61,29 @@ fn each_edit_has_its_fault(rt: HostRuntime) -> Result<(), Fail> {
     ];
     for (place, lines, wanted) in rows {
         let text = sample_with(alloc, place, lines)?;
+        let given = answer::<Towers>(alloc, text.as_bytes())?;
+        assert_eq!(rt; given.as_str(), wanted, "{text}");
+    }
+    Ok(())
+}
+
+#[test]
+fn a_line_that_is_left_out(rt: HostRuntime) -> Result<(), Fail> {
+    let alloc = rt.alloc();
+    let rows = [
+        (0, "NotASave"),
+        (1, "Missing"),
+        (2, "Missing"),
+        (3, "Missing"),
+        (4, "Missing"),
+        (5, "Missing"),
+        (6, "EarlyState"),
+        (7, "EarlyState"),
+        (8, "Missing"),
+        (9, "Missing"),
+    ];
+    for (place, wanted) in rows {
+        let text = sample_with(alloc, place, [].as_slice())?;
         let given = answer::<Towers>(alloc, text.as_bytes())?;
         assert_eq!(rt; given.as_str(), wanted, "{text}");
     }
@@ -84,25 +122,70 @@ fn the_first_fault_decides(rt: HostRuntime) -> Result<(), Fail> {
     let rows: [(&[&str], &str); 5] = [
         // A later hint comes before an earlier state that can't be played.
         (
-            &[SAMPLE[0], SAMPLE[1], SAMPLE[2], SAMPLE[3], SAMPLE[4], SAMPLE[5], SAMPLE[6], SAMPLE[7], "MOVE    :6:R9,0,1", "MOVE    :1:H"],
+            &[
+                SAMPLE[0],
+                SAMPLE[1],
+                SAMPLE[2],
+                SAMPLE[3],
+                SAMPLE[4],
+                SAMPLE[5],
+                SAMPLE[6],
+                SAMPLE[7],
+                "MOVE    :6:R9,0,1",
+                "MOVE    :1:H",
+            ],
             "Unsupported",
         ),
         // So does a cut end.
         (
-            &[SAMPLE[0], SAMPLE[1], SAMPLE[2], SAMPLE[3], SAMPLE[4], SAMPLE[5], SAMPLE[6], SAMPLE[7], "MOVE    :6:R9,0,1"],
+            &[
+                SAMPLE[0],
+                SAMPLE[1],
+                SAMPLE[2],
+                SAMPLE[3],
+                SAMPLE[4],
+                SAMPLE[5],
+                SAMPLE[6],
+                SAMPLE[7],
+                "MOVE    :6:R9,0,1",
+            ],
             "Missing",
         ),
         // What is missing comes before a description that can't be read, and that before a state.
         (
-            &[SAMPLE[0], SAMPLE[2], SAMPLE[3], SAMPLE[4], "DESC    :1:3", SAMPLE[6], SAMPLE[7], SAMPLE[8], SAMPLE[9]],
+            &[
+                SAMPLE[0],
+                SAMPLE[2],
+                SAMPLE[3],
+                SAMPLE[4],
+                "DESC    :1:3",
+                SAMPLE[6],
+                SAMPLE[7],
+                SAMPLE[8],
+                SAMPLE[9],
+            ],
             "Missing",
         ),
         (
-            &[SAMPLE[0], SAMPLE[1], SAMPLE[2], SAMPLE[3], SAMPLE[4], "DESC    :1:3", SAMPLE[6], SAMPLE[7], "MOVE    :6:R9,0,1", SAMPLE[9]],
+            &[
+                SAMPLE[0],
+                SAMPLE[1],
+                SAMPLE[2],
+                SAMPLE[3],
+                SAMPLE[4],
+                "DESC    :1:3",
+                SAMPLE[6],
+                SAMPLE[7],
+                "MOVE    :6:R9,0,1",
+                SAMPLE[9],
+            ],
             "BadDesc",
         ),
         // The parameters stand before the game.
-        (&[SAMPLE[0], SAMPLE[1], "PARAMS  :3:3dt", "GAME    :7:Unequal"], "BadParams"),
+        (
+            &[SAMPLE[0], SAMPLE[1], "PARAMS  :3:3dt", "GAME    :7:Unequal"],
+            "BadParams",
+        ),
     ];
     for (lines, wanted) in rows {
         let text = text_of(alloc, lines, "\n")?;
@@ -110,7 +193,10 @@ fn the_first_fault_decides(rt: HostRuntime) -> Result<(), Fail> {
         assert_eq!(rt; given.as_str(), wanted, "{text}");
     }
     let sample = text_of(alloc, &SAMPLE, "\n")?;
-    assert_eq!(rt; answer::<Unequal>(alloc, sample.as_bytes())?.as_str(), "WrongGame");
+    assert_eq!(rt;
+        answer::<Unequal>(alloc, sample.as_bytes())?.as_str(),
+        "WrongGame"
+    );
     Ok(())
 }
 

@@ -48,6 +48,9 @@ fn refuses_what_is_no_record(rt: HostRuntime) {
         b"GA:E    :1:x",
         b"\nGAME   :1:x",
     ] {
-        assert!(rt; matches!(next_record(text), Err(LoadFault::Malformed)), "{text:?}");
+        assert!(rt;
+            matches!(next_record(text), Err(LoadFault::Malformed)),
+            "{text:?}"
+        );
     }
 }

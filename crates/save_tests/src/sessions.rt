@@ -1,18 +1,27 @@
 //! Sessions that are saved and loaded, prefixes of a save, and bytes that are kept.
 
 use crate::sample::{SAMPLE, answer, text_of};
-use clue_rules::{GameId, Towers, read_id};
+use clue_rules::{Game, Params, Towers};
+use latin_board::Size;
 use play_midend::{Extras, Session, read_move};
 use play_save::{load, save};
 use std::alloc::Global;
 use std::test::Fail;
+use trail_solver::Rules;
 
 // A new game of Towers.
 fn new_game(alloc: Global) -> Result<Session<Towers>, Fail> {
-    let Ok(GameId::Described(params, puzzle)) = read_id::<Towers>(b"3:3//////3/////") else {
-        return Err(Fail::from("no puzzle"));
+    let puzzle = Towers::read_desc(Size::new(3).ok_or("no size")?, b"3//////3/////")?;
+    let params = Params {
+        size: puzzle.size(),
+        letter: None,
     };
-    let extras = Extras { seed: None, auxinfo: None, ui: None, time: None };
+    let extras = Extras {
+        seed: None,
+        auxinfo: None,
+        ui: None,
+        time: None,
+    };
     Ok(Session::new(alloc, params, params, puzzle, extras)?)
 }
 
@@ -49,7 +58,9 @@ fn prefixes_of_a_save(rt: HostRuntime) -> Result<(), Fail> {
     }
     for length in 0..=sample.len() {
         let given = answer::<Towers>(alloc, &sample.as_bytes()[..length])?;
-        let is_end = ends.iter().any(|e| length == *e || length == e.saturating_add(1));
+        let is_end = ends
+            .iter()
+            .any(|e| length == *e || length == e.saturating_add(1));
         let wanted = match length {
             0..=52 => "NotASave",
             198..=199 => sample.as_str(),
@@ -80,12 +91,18 @@ fn a_foreign_file_with_kept_bytes(rt: HostRuntime) -> Result<(), Fail> {
     text.push_str("COMMENT :5:hello\r\n")?;
     text.push_str(text_of(alloc, &lines[6..], "\r\n")?.as_str())?;
     let written = text_of(alloc, &lines, "\n")?;
-    assert_eq!(rt; answer::<Towers>(alloc, text.as_bytes())?.as_str(), written.as_str());
+    assert_eq!(rt;
+        answer::<Towers>(alloc, text.as_bytes())?.as_str(),
+        written.as_str()
+    );
     // Reading stops at the later count.
     let mut moved = text_of(alloc, &lines[..6], "\r\n")?;
     moved.push_str(text_of(alloc, &lines[7..], "\r\n")?.as_str())?;
     moved.push_str("DESC    :13:3//////3/////\r\n")?;
-    assert_eq!(rt; answer::<Towers>(alloc, moved.as_bytes())?.as_str(), "Missing");
+    assert_eq!(rt;
+        answer::<Towers>(alloc, moved.as_bytes())?.as_str(),
+        "Missing"
+    );
     Ok(())
 }
 
