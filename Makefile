@@ -51,6 +51,8 @@ bench:
 	@RT='$(RT)' tools/bench $(IDS)
 	@[ -n '$(IDS)' ] || (cd crates/gen_bench && $(RT) run < /dev/null)
 	@[ -n '$(IDS)' ] || crates/gen_bench/out/gen_bench < bench/generated.txt
+	@[ -n '$(IDS)' ] || (cd crates/save_bench && $(RT) run < /dev/null)
+	@[ -n '$(IDS)' ] || crates/save_bench/out/save_bench < bench/saves.txt
 
 check: crate
 	@cd 'crates/$(CRATE)' && $(RT) check

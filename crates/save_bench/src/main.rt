@@ -1,5 +1,6 @@
 //! Times loading and saving: a history of 100,000 states of Towers of size 9, with each kind of move in it, and a save file with
-//! 16 MiB of records that are skipped. It prints the mean of some rounds for each, in microseconds.
+//! 16 MiB of records that are skipped. It reads which of them to time, a line each, and prints the mean of some rounds in
+//! microseconds.
 #![tactic(auto)]
 
 use clue_rules::Towers;
@@ -103,6 +104,13 @@ fn run_skipped(rt: &(impl Print + AllocGlobal + Clock)) -> io::Result<()> {
 }
 
 fn main(rt: HostRuntime) -> io::Result<()> {
-    run(&rt)?;
-    run_skipped(&rt)
+    for line in rt.lines(rt.alloc()) {
+        let line = line?;
+        match line.as_str() {
+            "history" => run(&rt)?,
+            "skipped" => run_skipped(&rt)?,
+            other => eprintln!(rt; "cannot measure {other}")?,
+        }
+    }
+    Ok(())
 }
