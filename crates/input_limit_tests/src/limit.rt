@@ -1,3 +1,4 @@
+//! An input without end, and one of just the size at which a run stops.
 ghost use Rattle.std.specs.Prelude.{None, false};
 
 use clue_rules::Towers;

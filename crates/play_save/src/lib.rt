@@ -2,6 +2,12 @@
 //!
 //! A save file is a list of records. `load` plays its state records on a real session and `save` writes a session's moves, so
 //! a session that is saved loads back equal. No record is copied to be looked at, and both are linear in the text.
+//!
+//! ```
+//! let text = save(alloc, &session)?;
+//! let again = load::<Towers>(alloc, &text)?;
+//! assert_eq!(rt; again.board(), session.board());
+//! ```
 #![tactic(auto)]
 
 mod fault;

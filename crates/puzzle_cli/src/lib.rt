@@ -6,6 +6,12 @@
 //!
 //! A reply is made whole before its first byte is written. A refused line leaves the session as it was. [`laws`] has what holds
 //! of the replies in turn: `undo` and `redo`, refusals, and that each reply is a step of the session's own calls.
+//!
+//! ```
+//! let session = begin::<Towers>(alloc, Some(b"3:3//////3/////"), None)?;
+//! let (session, end) = run(alloc, session, &mut source, &mut sink);
+//! assert_eq!(rt; end, End::Finished);
+//! ```
 #![tactic(auto)]
 
 mod answers;

@@ -3,6 +3,12 @@
 //! A seed gives a stream of random words, the stream gives a Latin square and an order of the items, and `generate` tries
 //! each item of the square's full puzzle once, in that order: it goes where the rest still has just one solution. `square`
 //! is the square alone. Nothing here takes memory.
+//!
+//! ```
+//! let params = Params::read::<Towers>(b"5")?;
+//! let puzzle = generate::<Towers>(&params, 7)?;
+//! assert!(rt; solves(&puzzle, &square(params.size, 7)));
+//! ```
 #![tactic(auto)]
 
 mod draws;

@@ -1,3 +1,4 @@
+//! What the solver answers: none, one or several solutions.
 ghost use Rattle.std.specs.Prelude.{◌≡◌};
 ghost use Rattle.trail_solver.specs.Answers.{Adds};
 

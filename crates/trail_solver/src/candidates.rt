@@ -1,3 +1,4 @@
+//! Candidates: which values each square may still have, with the trail of what was removed.
 ghost use Rattle.std.specs.Prelude.{◌≡◌, ℕ, ◌+◌, ◌-◌, ◌*◌, ◌<◌, ◌≤◌, ◌↔◌, true, List, [], length, take, MatchOption};
 ghost use Rattle.latin_board.specs.Marks.{has_mark};
 ghost use Rattle.trail_solver.specs.Pairs.{IsPair, with_pair};

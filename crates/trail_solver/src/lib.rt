@@ -4,6 +4,14 @@
 //! A game writes `Rules`: its size, givens and clues, how it narrows candidates, and the laws that generic code builds
 //! on. Of that alone `solves` tells whether a grid is a solution, `solve` whether there are none, one or several, and
 //! `solutions` lists the first of them in order. Only `solutions` takes memory.
+//!
+//! ```
+//! match solve(&puzzle) {
+//!     Answer::None => println!(rt; "no solution")?,
+//!     Answer::One(grid) => assert!(rt; solves(&puzzle, &grid)),
+//!     Answer::Several(first, second) => assert!(rt; first != second),
+//! }
+//! ```
 #![tactic(auto)]
 
 mod answer;

@@ -1,3 +1,4 @@
+//! What the rules of a game owe, and whether a grid is a solution.
 ghost use Rattle.std.specs.Prelude.{◌≡◌, ℕ, ◌*◌, ◌<◌, ◌≤◌, ◌↔◌, ◌==◌, ◌&&◌, Bool, true, not, IsTrue};
 ghost use Rattle.std.specs.Bool.{OnFalse};
 ghost use Rattle.latin_board.specs.Squares.{GridValue, IsGrid, IsFull, IsLatin, number_at};

@@ -1,3 +1,4 @@
+//! Squares of the candidates: the givens put in, one value kept, and the grid of settled squares.
 ghost use Rattle.std.specs.Prelude.{◌≡◌, ◌<◌, ◌≤◌, length};
 ghost use Rattle.latin_board.specs.Squares.{GridValue};
 ghost use Rattle.trail_solver.specs.Pairs.{IsPair, with_pair};

@@ -1,3 +1,4 @@
+//! Tests over a small puzzle of their own.
 ghost use Rattle.std.specs.Prelude.{◌≡◌, IfOk};
 
 use crate::{Answer, Candidates, Rules, solutions, solve, solves};

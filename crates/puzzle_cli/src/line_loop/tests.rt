@@ -1,3 +1,4 @@
+//! Tests of the loop over lines, with a machine of their own.
 ghost use Rattle.std.specs.Prelude.{◌≡◌, ⊤};
 ghost use Rattle.puzzle_cli.specs.Commands.{is_quit};
 

@@ -1,3 +1,5 @@
+//! Tests of the values that a clued line leaves.
+
 use super::*;
 
 // The sets of a line of w squares, each with every number from 1 to w.
