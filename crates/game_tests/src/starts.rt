@@ -1,6 +1,6 @@
 //! Command lines, and the first sessions that they begin.
 
-use clue_rules::{Towers, Unequal};
+use clue_rules::{Game, Towers, Unequal};
 use play_midend::Session;
 use puzzle_cli::{Args, CommandFault, Draw, GameName, StartFault, begin, read_words};
 use std::alloc::Global;
