@@ -5,7 +5,7 @@ use Rattle.std.proofs.lemmas.List.Elements.{All-nil, All-cons, All-replicate, Al
 use Rattle.std.proofs.lemmas.List.{length-take-le}
 use borrow.Author.Tests.{le-ltb, lt-ltb}
 use Rattle.clue_rules.specs.declared.id_fault.IdFault.TheVariants.{TooFew, TooMany}
-use Rattle.clue_rules.specs.IdFaults.{counted}
+use Rattle.clue_rules.specs.IdFaults.{exactly}
 use Rattle.clue_rules.specs.Inner.Filled.{IsFilledTo}
 use Rattle.clue_rules.specs.TowersText.{is_square_byte, is_square_part, squares_of}
 use Rattle.clue_rules.specs.Laws.JoinedTests.{both_from_and}
@@ -50,19 +50,19 @@ givens_step w b part bs cell next numbers more fills filled taken = record {
 front_length : (w cell : ℕ) (numbers : List ℕ) → IsFilledTo (w * w) cell numbers → length (take cell numbers) ≡ cell
 front_length w cell numbers filled = length-take-le cell numbers (omega (arith, filled.count, filled.within))
 
-pub givens_many : (w b : ℕ) (part bs : List ℕ) (cell : ℕ) (numbers : List ℕ) → FillsGivens w part (b ∷ bs) cell numbers → w * w < cell + length (squares_of b) → counted (w * w) (flat_map squares_of part) ≡ Err TooMany
+pub givens_many : (w b : ℕ) (part bs : List ℕ) (cell : ℕ) (numbers : List ℕ) → FillsGivens w part (b ∷ bs) cell numbers → w * w < cell + length (squares_of b) → exactly (w * w) (flat_map squares_of part) ≡ Err TooMany
 givens_many w b part bs cell numbers fills full =
     let lengths : length (flat_map squares_of part) ≡ cell + length (squares_of b ++ flat_map squares_of bs) =
     ap length fills.squares ∙ (length-append (take cell numbers) (squares_of b ++ flat_map squares_of bs) ∙ ap (λ n. n + length (squares_of b ++ flat_map squares_of bs)) (front_length w cell numbers fills.filled)) in
     let more : w * w < length (flat_map squares_of part) = omega (arith, lengths, length-append (squares_of b) (flat_map squares_of bs)) in
     rw (le-ltb (length (flat_map squares_of part)) (w * w) (omega arith), lt-ltb (w * w) (length (flat_map squares_of part)) more) refl
 
-pub givens_few : (w : ℕ) (part : List ℕ) (cell : ℕ) (numbers : List ℕ) → FillsGivens w part [] cell numbers → cell < w * w → counted (w * w) (flat_map squares_of part) ≡ Err TooFew
+pub givens_few : (w : ℕ) (part : List ℕ) (cell : ℕ) (numbers : List ℕ) → FillsGivens w part [] cell numbers → cell < w * w → exactly (w * w) (flat_map squares_of part) ≡ Err TooFew
 givens_few w part cell numbers fills few =
     let lengths : length (flat_map squares_of part) ≡ cell = ap length (fills.squares ∙ append-nil (take cell numbers)) ∙ front_length w cell numbers fills.filled in
     rw (lt-ltb (length (flat_map squares_of part)) (w * w) (omega (arith, lengths))) refl
 
-pub givens_end : (w : ℕ) (part : List ℕ) (cell : ℕ) (numbers : List ℕ) → FillsGivens w part [] cell numbers → w * w ≤ cell → counted (w * w) (flat_map squares_of part) ≡ Ok numbers
+pub givens_end : (w : ℕ) (part : List ℕ) (cell : ℕ) (numbers : List ℕ) → FillsGivens w part [] cell numbers → w * w ≤ cell → exactly (w * w) (flat_map squares_of part) ≡ Ok numbers
 givens_end w part cell numbers fills all =
     let whole : flat_map squares_of part ≡ numbers = fills.squares ∙ (append-nil (take cell numbers) ∙ take_all cell numbers (omega (arith, fills.filled.count))) in
     rw whole (counted_again (w * w) numbers fills.filled.count)

@@ -5,7 +5,7 @@ use Rattle.std.proofs.lemmas.Bool.{lt-ltb, ltb-true}
 use Rattle.latin_board.specs.Squares.{GridValue, number_at}
 use Rattle.clue_rules.specs.declared.unequal.sign.Sign.{Sign}
 use Rattle.clue_rules.specs.declared.unequal.sign.Sign.TheVariants.{Absent, FirstGreater, SecondGreater}
-use Rattle.clue_rules.specs.Unequal.{UnequalValue, sign_count, IsGreater, sign_at, first_of, second_of, holds_sign, holds_sign_at, holds_signs, HoldsSigns, is_greater}
+use Rattle.clue_rules.specs.Unequal.{UnequalValue, sign_count, IsGreater, sign_at, first_side, second_side, holds_sign, holds_sign_at, holds_signs, HoldsSigns, is_greater}
 use Rattle.clue_rules.specs.Laws.SignPlaces.{between_sides, between_at}
 use Rattle.clue_rules.specs.Laws.RangeTests.{all_in_range, range_all}
 use Rattle.clue_rules.specs.Laws.Signs.{greater_found, greater_tested}
@@ -37,7 +37,7 @@ held_signs v g small h =
     range_all (holds_sign_at v g) 0 (sign_count v.size)
     (λ i low high. at (sign_at v i) i refl (omega arith))
   where
-    at : (s : Sign) (i : ℕ) → sign_at v i ≡ s → i < sign_count v.size → holds_sign s (number_at g (first_of v.size i)) (number_at g (second_of v.size i)) ≡ true
+    at : (s : Sign) (i : ℕ) → sign_at v i ≡ s → i < sign_count v.size → holds_sign s (number_at g (first_side v.size i)) (number_at g (second_side v.size i)) ≡ true
     at Absent i e inside = refl
     at FirstGreater i e inside = lt-ltb _ _ (h.each _ _ (record { sign = i; says = inl (between_at v.size i small inside, e) }))
     at SecondGreater i e inside = lt-ltb _ _ (h.each _ _ (record { sign = i; says = inr (between_at v.size i small inside, e) }))

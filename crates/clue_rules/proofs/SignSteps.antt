@@ -10,7 +10,7 @@ use Rattle.trail_solver.specs.Candidates.{CandidatesValue, IsEarlier, IsWithin, 
 use Rattle.trail_solver.specs.Puzzles.{Solves}
 use Rattle.trail_solver.proofs.Earlier.{was_left}
 use Rattle.clue_rules.specs.Inner.Narrowing.{IsSquare, IsStruckByLines, KeepsOf, Narrows, StruckBelow}
-use Rattle.clue_rules.specs.Unequal.{UnequalValue, IsBetween, IsGreater, sign_count, sign_at, first_of}
+use Rattle.clue_rules.specs.Unequal.{UnequalValue, IsBetween, IsGreater, sign_count, sign_at, first_side}
 use Rattle.clue_rules.specs.Unequal.{puzzle_of}
 use Rattle.clue_rules.specs.Laws.SignPlaces.{between_at, between_sides}
 use Rattle.clue_rules.proofs.SignLemmas.{signs_held}
@@ -104,8 +104,8 @@ ends_greater v sign upper lower small inside ends =
     record {
       sign = sign;
       says = elim ends.is [
-        | inl first ↦ inl (subst (λ a. P a lower) (sym first.1) (subst (P (first_of v.size sign)) (sym first.2) between), first.0)
-        | inr second ↦ inr (subst (λ a. P a upper) (sym second.2) (subst (P (first_of v.size sign)) (sym second.1) between), second.0)
+        | inl first ↦ inl (subst (λ a. P a lower) (sym first.1) (subst (P (first_side v.size sign)) (sym first.2) between), first.0)
+        | inr second ↦ inr (subst (λ a. P a upper) (sym second.2) (subst (P (first_side v.size sign)) (sym second.1) between), second.0)
       ];
     }
 

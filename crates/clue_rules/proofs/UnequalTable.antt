@@ -8,7 +8,7 @@ use Rattle.std.proofs.lemmas.List.FromFn.{map-range_with_len_more}
 use Rattle.latin_board.specs.Squares.{GridValue, IsGrid, number_at}
 use Rattle.clue_rules.specs.declared.unequal.sign.Sign.{Sign}
 use Rattle.clue_rules.specs.declared.unequal.sign.Sign.TheVariants.{Absent}
-use Rattle.clue_rules.specs.Unequal.{UnequalValue, sign_count, first_of, second_of}
+use Rattle.clue_rules.specs.Unequal.{UnequalValue, sign_count, first_side, second_side}
 use Rattle.clue_rules.specs.Unequal.{cut_unequal, sign_of}
 use Rattle.clue_rules.proofs.KeptItemLemmas.{kept-but_one, kept-past, kept-before}
 use Rattle.clue_rules.specs.Inner.UnequalFields.{KeepsSigns}
@@ -54,5 +54,5 @@ given_dropped old new places i k h e size numbers =
     ) refl
 
 -- the sign that is made of the numbers on both sides
-pub sign_read : (g : GridValue) (w a b i x y : ℕ) (s : Sign) → s ≡ sign_of x y → x ≡ number_at g a → y ≡ number_at g b → a ≡ first_of w i → b ≡ second_of w i → w ≡ g.size → s ≡ sign_of (number_at g (first_of g.size i)) (number_at g (second_of g.size i))
+pub sign_read : (g : GridValue) (w a b i x y : ℕ) (s : Sign) → s ≡ sign_of x y → x ≡ number_at g a → y ≡ number_at g b → a ≡ first_side w i → b ≡ second_side w i → w ≡ g.size → s ≡ sign_of (number_at g (first_side g.size i)) (number_at g (second_side g.size i))
 sign_read g w a b i x y s made left right first second size = rw (made, left, right, rw size at first, rw size at second) refl

@@ -17,7 +17,7 @@ use Rattle.clue_rules.specs.Laws.TowersItems.{length-view_of, clues_decide}
 use Rattle.clue_rules.specs.Towers.{towers_puzzle}
 use Rattle.clue_rules.specs.Towers.{TowersValue}
 use Rattle.clue_rules.specs.Struck.{IsViewFilling, IsViewStruck, IsTowersStruck}
-use Rattle.clue_rules.specs.Inner.TowersLines.{IsEndStruck}
+use Rattle.clue_rules.specs.Inner.TowersLines.{IsEndStruck, IsClueStruck}
 use Rattle.clue_rules.specs.Views.{view_of, view_cell, view_line, view_index, front_place}
 use Rattle.clue_rules.specs.Towers.{clue_of}
 use Rattle.clue_rules.proofs.LineSteps.{along_narrows, grid_pair}
@@ -83,8 +83,8 @@ view_differs g place i j s inside first second apart =
     (view_index_apart g.size place i j first second apart)
 
 -- what `supported` says of the sets of a line
-abbrev pub AreSupported : ℕ → ℕ → List ℕ → List ℕ → Type 0
-AreSupported w clue sets kept = (k v : ℕ) → (has_mark (get_or kept k 0) v ≡ true) ↔ IsSupported (take w sets) clue k v
+abbrev pub AreKeptSupported : ℕ → ℕ → List ℕ → List ℕ → Type 0
+AreKeptSupported w clue sets kept = (k v : ℕ) → (has_mark (get_or kept k 0) v ≡ true) ↔ IsSupported (take w sets) clue k v
 
 view_filling : (c : CandidatesValue) (place clue : ℕ) (sets : List ℕ) (g : GridValue) → place < 4 * c.size → AreSetsOf c place sets → c.size ≤ 9 → IsSquare g → g.size ≡ c.size → IsWithin c g → seen (view_of g place) ≡ clue → IsFilling (take c.size sets) clue (view_of g place)
 view_filling c place clue sets g inside is small s size within shown =
@@ -121,7 +121,7 @@ view_filling c place clue sets g inside is small s size within shown =
       shown = shown;
     }
 
-view_solved : (c : CandidatesValue) (place clue : ℕ) (sets kept : List ℕ) (g : GridValue) → place < 4 * c.size → AreSetsOf c place sets → c.size ≤ 9 → AreSupported c.size clue sets kept → IsSquare g → seen (view_of g place) ≡ clue → g.size ≡ c.size → IsWithin c g → (k : ℕ) → k < c.size → has_mark (get_or kept k 0) (number_at g (view_cell c.size place k)) ≡ true
+view_solved : (c : CandidatesValue) (place clue : ℕ) (sets kept : List ℕ) (g : GridValue) → place < 4 * c.size → AreSetsOf c place sets → c.size ≤ 9 → AreKeptSupported c.size clue sets kept → IsSquare g → seen (view_of g place) ≡ clue → g.size ≡ c.size → IsWithin c g → (k : ℕ) → k < c.size → has_mark (get_or kept k 0) (number_at g (view_cell c.size place k)) ≡ true
 view_solved c place clue sets kept g inside is small supported s shown size within k low =
     let long : length (take c.size sets) ≡ c.size = length-take-le c.size sets (omega (arith, is.count)) in
     (supported k (number_at g (view_cell c.size place k))).1 (record {
@@ -151,7 +151,7 @@ filling_earlier first c place clue sets line e is small f =
       shown = f.shown;
     }
 
-view_struck : (c : CandidatesValue) (place clue : ℕ) (sets kept : List ℕ) → AreSetsOf c place sets → c.size ≤ 9 → AreSupported c.size clue sets kept → (first : CandidatesValue) → IsEarlier first c → (cell v : ℕ) → IsViewStruck place clue first cell v → (k : ℕ) × (k < c.size) × (view_cell c.size place k ≡ cell) × (has_mark (get_or kept k 0) v ≡ false)
+view_struck : (c : CandidatesValue) (place clue : ℕ) (sets kept : List ℕ) → AreSetsOf c place sets → c.size ≤ 9 → AreKeptSupported c.size clue sets kept → (first : CandidatesValue) → IsEarlier first c → (cell v : ℕ) → IsViewStruck place clue first cell v → (k : ℕ) × (k < c.size) × (view_cell c.size place k ≡ cell) × (has_mark (get_or kept k 0) v ≡ false)
 view_struck c place clue sets kept is small supported first e cell v s = (
   s.index,
   omega (arith, s.inside, e.size),
@@ -161,16 +161,12 @@ view_struck c place clue sets kept is small supported first e cell v s = (
       s.unfilled.none found.line (filling_earlier first c place clue sets found.line e is small found.filling) found.here),
 )
 
-pub view_narrows : (old new : CandidatesValue) (place clue : ℕ) (sets kept : List ℕ) (left : Bool) → place < 4 * old.size → AreSetsOf old place sets → old.size ≤ 9 → AreSupported old.size clue sets kept → KeepsAlong place kept old new left → Narrows (λ g. IsSquare g × (seen (view_of g place) ≡ clue)) (IsViewStruck place clue) old new left
+pub view_narrows : (old new : CandidatesValue) (place clue : ℕ) (sets kept : List ℕ) (left : Bool) → place < 4 * old.size → AreSetsOf old place sets → old.size ≤ 9 → AreKeptSupported old.size clue sets kept → KeepsAlong place kept old new left → Narrows (λ g. IsSquare g × (seen (view_of g place) ≡ clue)) (IsViewStruck place clue) old new left
 view_narrows old new place clue sets kept left inside is small supported h =
     along_narrows (λ g s size w k low. view_solved old place clue sets kept g inside is small supported s.0 s.1 size w k low)
     (λ first e cell v s. view_struck old place clue sets kept is small supported first e cell v s) h
 
 -- ---- a clue of a puzzle, and the clues at both ends of a line
-
--- what a clue strikes, if there is one
-abbrev pub IsClueStruck : TowersValue → ℕ → CandidatesValue → ℕ → ℕ → Type 0
-IsClueStruck v place c cell value = (0 < clue_of v place) × IsViewStruck place (clue_of v place) c cell value
 
 pub no_clue_narrows : (v : TowersValue) (place : ℕ) (c : CandidatesValue) → clue_of v place ≡ 0 → Narrows (λ g. Solves (towers_puzzle v) g) (IsClueStruck v place) c c true
 no_clue_narrows v place c none = narrows_by (λ first e cell value pair s. absurd (omega (arith, s.0))) (narrows_nothing (λ g. Solves (towers_puzzle v) g) c)

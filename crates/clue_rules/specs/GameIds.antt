@@ -10,7 +10,7 @@ use Rattle.clue_rules.specs.declared.id_fault.IdFault.{IdFault}
 use Rattle.clue_rules.specs.declared.id_fault.IdFault.TheVariants.{ForeignSeed, NoDescription, BadSeed}
 use Rattle.clue_rules.specs.declared.params.Params.{Params}
 use Rattle.trail_solver.specs.Puzzles.{Puzzle}
-use Rattle.clue_rules.specs.Bytes.{colon, hash, exclamation}
+use Rattle.byte_text.specs.Bytes.{colon, hash, exclamation}
 
 -- The text says the ID, where IsDesc w d desc is that desc describes the puzzle d, of size w.
 abbrev pub IsIdText : {D : Type 0} → List ℕ → (ℕ → D → List ℕ → Type 0) → GameId D → List ℕ → Type 0

@@ -8,8 +8,6 @@ pub mod Towers
 pub mod Unequal
 -- what narrowing rules out
 pub mod Struck
--- the bytes of texts
-pub mod Bytes
 -- the texts: for each its grammar, the form that is written, and what is read; and the faults of reading
 pub mod IdFaults
 pub mod Parameters

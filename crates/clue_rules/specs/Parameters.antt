@@ -6,7 +6,7 @@ use Rattle.std.specs.Str.{bytes_eq}
 use Rattle.byte_text.specs.Decimals.{begins_digit}
 use Rattle.clue_rules.specs.declared.id_fault.IdFault.{IdFault}
 use Rattle.clue_rules.specs.declared.id_fault.IdFault.TheVariants.{BadSize, BadLetter, AdjacentMode, BadParams}
-use Rattle.clue_rules.specs.Bytes.{digit_zero, letter_a, letter_d}
+use Rattle.byte_text.specs.Bytes.{digit_zero, letter_a, letter_d}
 
 -- parameters of a game with these letters
 pub record IsParams (letters : List ℕ) (p : Params) : Type 0 where

@@ -92,8 +92,8 @@ abbrev pub KeepsSolutions : Puzzle → CandidatesValue → CandidatesValue → T
 KeepsSolutions p old new = (g : GridValue) → Solves p g → IsWithin old g → IsWithin new g
 
 -- no solution of the puzzle is within the candidates
-abbrev pub HasNoSolution : Puzzle → CandidatesValue → Type 0
-HasNoSolution p c = (g : GridValue) → Solves p g → IsWithin c g → ⊥
+abbrev pub HasNoSolutionWithin : Puzzle → CandidatesValue → Type 0
+HasNoSolutionWithin p c = (g : GridValue) → Solves p g → IsWithin c g → ⊥
 
 -- no pair is left that is struck by the old candidates
 abbrev pub NoneLeft : (CandidatesValue → ℕ → ℕ → Type 0) → CandidatesValue → CandidatesValue → Type 0

@@ -7,8 +7,8 @@ use Rattle.byte_text.specs.Cuts.{before, behind}
 use Rattle.byte_text.specs.Reading.{◌>>=◌}
 use Rattle.clue_rules.specs.declared.id_fault.IdFault.{IdFault}
 use Rattle.clue_rules.specs.declared.id_fault.IdFault.TheVariants.{BadClue, BadSquares}
-use Rattle.clue_rules.specs.IdFaults.{counted}
-use Rattle.clue_rules.specs.Bytes.{comma, slash, underscore, digit_zero, letter_a, letter_z}
+use Rattle.clue_rules.specs.IdFaults.{exactly}
+use Rattle.byte_text.specs.Bytes.{comma, slash, underscore, digit_zero, letter_a, letter_z}
 
 -- a clue is one digit, and no clue is nothing
 abbrev pub clue_field : ℕ → List ℕ
@@ -79,7 +79,7 @@ abbrev pub clues_in : ℕ → List (List ℕ) → Result (List ℕ) IdFault
 clues_in w fs = if list_all (is_clue_field w) fs then Ok (map clue_in fs) else Err BadClue
 
 unfoldable pub clues_at : ℕ → List ℕ → Result (List ℕ) IdFault
-clues_at w part = counted (4 * w) (fields part) >>= clues_in w
+clues_at w part = exactly (4 * w) (fields part) >>= clues_in w
 
 abbrev pub is_blank_letter : ℕ → Bool
 is_blank_letter b = nat_le letter_a b && nat_le b letter_z
@@ -97,7 +97,7 @@ abbrev pub squares_of : ℕ → List ℕ
 squares_of b = if is_blank_letter b then replicate (blanks_of b) 0 else (if is_digit b then ((b - digit_zero) ∷ []) else [])
 
 unfoldable pub givens_at : ℕ → List ℕ → Result (List ℕ) IdFault
-givens_at w part = if is_square_part w part then counted (w * w) (flat_map squares_of part) else Err BadSquares
+givens_at w part = if is_square_part w part then exactly (w * w) (flat_map squares_of part) else Err BadSquares
 
 -- without a square part no square is given
 abbrev pub givens_behind : ℕ → Option (List ℕ) → Result (List ℕ) IdFault

@@ -14,8 +14,8 @@ pub record UnequalValue : Type 0 where
   pub signs : List Sign
   pub givens : List ℕ
 
-abbrev pub givens_of : UnequalValue → GridValue
-givens_of v = record { size = v.size; numbers = v.givens }
+abbrev pub given_grid : UnequalValue → GridValue
+given_grid v = record { size = v.size; numbers = v.givens }
 
 -- how many pairs of neighbours stand in the rows, and as many in the columns
 abbrev pub pairs_across : ℕ → ℕ
@@ -26,7 +26,7 @@ sign_count w = 2 * pairs_across w
 
 -- what each puzzle of the program keeps
 pub record IsUnequal (v : UnequalValue) : Type 0 where
-  pub givens : IsGrid (givens_of v)
+  pub givens : IsGrid (given_grid v)
   pub signs : length v.signs ≡ sign_count v.size
 
 -- the sign stands in a row, between its squares in the columns c and c + 1
@@ -68,12 +68,12 @@ pub record IsGreater (v : UnequalValue) (a b : ℕ) : Type 0 where
       ⊎ (IsBetween v.size sign b a × (sign_at v sign ≡ SecondGreater))
 
 -- the squares on both sides of a sign
-abbrev pub first_of : ℕ → ℕ → ℕ
-first_of w sign =
+abbrev pub first_side : ℕ → ℕ → ℕ
+first_side w sign =
     if nat_lt sign (pairs_across w) then sign / (w - 1) * w + sign % (w - 1) else sign - pairs_across w
 
-abbrev pub second_of : ℕ → ℕ → ℕ
-second_of w sign = if nat_lt sign (pairs_across w) then first_of w sign + 1 else first_of w sign + w
+abbrev pub second_side : ℕ → ℕ → ℕ
+second_side w sign = if nat_lt sign (pairs_across w) then first_side w sign + 1 else first_side w sign + w
 
 -- two numbers hold a sign between them
 abbrev pub holds_sign : Sign → ℕ → ℕ → Bool
@@ -83,7 +83,7 @@ holds_sign SecondGreater x y = nat_lt x y
 
 -- the numbers of a grid hold the sign at a place
 abbrev pub holds_sign_at : UnequalValue → GridValue → ℕ → Bool
-holds_sign_at v g i = holds_sign (sign_at v i) (number_at g (first_of v.size i)) (number_at g (second_of v.size i))
+holds_sign_at v g i = holds_sign (sign_at v i) (number_at g (first_side v.size i)) (number_at g (second_side v.size i))
 
 -- the numbers of a grid hold every sign
 abbrev pub holds_signs : UnequalValue → GridValue → Bool
@@ -156,7 +156,7 @@ sign_of x y = if nat_lt y x then FirstGreater else (if nat_lt x y then SecondGre
 abbrev pub full_unequal : GridValue → UnequalValue
 full_unequal g = record {
   size = g.size;
-  signs = map (λ i. sign_of (number_at g (first_of g.size i)) (number_at g (second_of g.size i)))
+  signs = map (λ i. sign_of (number_at g (first_side g.size i)) (number_at g (second_side g.size i)))
       (range_with_len 0 (sign_count g.size));
   givens = g.numbers;
 }

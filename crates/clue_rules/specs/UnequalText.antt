@@ -4,7 +4,7 @@ use Rattle.std.specs.Option.{option_map_or}
 use Rattle.std.specs.List.{join_with_byte, flat_map, range_with_len, list_all, list_any, slice_split}
 use Rattle.clue_rules.specs.declared.unequal.direction.Direction.{Direction}
 use Rattle.clue_rules.specs.declared.unequal.direction.Direction.TheVariants.{Up, Right, Down, Left}
-use Rattle.clue_rules.specs.Unequal.{UnequalValue, IsUnequal, IsGreater, is_greater, pairs_across, sign_count, first_of, second_of}
+use Rattle.clue_rules.specs.Unequal.{UnequalValue, IsUnequal, IsGreater, is_greater, pairs_across, sign_count, first_side, second_side}
 use Rattle.byte_text.specs.Decimals.{begins_digit}
 use Rattle.byte_text.specs.Reading.{◌>>=◌}
 use Rattle.latin_board.specs.Squares.{GridValue}
@@ -12,8 +12,8 @@ use Rattle.clue_rules.specs.declared.id_fault.IdFault.{IdFault}
 use Rattle.clue_rules.specs.declared.id_fault.IdFault.TheVariants.{BadClue, BadSquares, OffGrid, Contradiction}
 use Rattle.clue_rules.specs.declared.unequal.sign.Sign.{Sign}
 use Rattle.clue_rules.specs.declared.unequal.sign.Sign.TheVariants.{Absent, FirstGreater, SecondGreater}
-use Rattle.clue_rules.specs.IdFaults.{counted}
-use Rattle.clue_rules.specs.Bytes.{comma, digit_zero, capital_u, capital_r, capital_d, capital_l}
+use Rattle.clue_rules.specs.IdFaults.{exactly}
+use Rattle.byte_text.specs.Bytes.{comma, digit_zero, capital_u, capital_r, capital_d, capital_l}
 
 -- the letters U, R, D, L
 abbrev pub letter_of : Direction → ℕ
@@ -132,10 +132,10 @@ abbrev pub back : ℕ → ℕ → Direction
 back w sign = if nat_lt sign (pairs_across w) then Left else Up
 
 abbrev pub first_says : ℕ → List (List ℕ) → ℕ → Bool
-first_says w pieces sign = says pieces (first_of w sign) (forth w sign)
+first_says w pieces sign = says pieces (first_side w sign) (forth w sign)
 
 abbrev pub second_says : ℕ → List (List ℕ) → ℕ → Bool
-second_says w pieces sign = says pieces (second_of w sign) (back w sign)
+second_says w pieces sign = says pieces (second_side w sign) (back w sign)
 
 -- the sign that stands where the first square says that it is greater, and the second that it is
 abbrev pub said_sign : Bool → Bool → Sign
@@ -176,4 +176,4 @@ puzzle_at w pieces =
 
 -- the value of a description for the width, or its first fault
 unfoldable pub unequal_at : ℕ → List ℕ → Result UnequalValue IdFault
-unequal_at w text = counted (w * w) (pieces_of text) >>= puzzle_at w
+unequal_at w text = exactly (w * w) (pieces_of text) >>= puzzle_at w

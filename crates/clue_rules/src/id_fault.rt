@@ -53,11 +53,11 @@ pub enum IdFault {
 }
 
 impl IdFault {
-    ghost use Rattle.clue_rules.specs.IdFaults.{fault_number, fault_name};
+    ghost use Rattle.clue_rules.specs.IdFaults.{id_fault_number, id_fault_name};
 
     /// The fault's number, from 1 to 14.
     pub fn number(&self) -> u8
-        ensures { result ≡ fault_number self.now }
+        ensures { result ≡ id_fault_number self.now }
     {
         match self {
             IdFault::BadSize => 1,
@@ -79,7 +79,7 @@ impl IdFault {
 
     /// The fault's name, as a program prints it.
     pub fn name(&self) -> &'static str
-        ensures { result.now ≡ fault_name self.now }
+        ensures { result.now ≡ id_fault_name self.now }
     {
         match self {
             IdFault::BadSize => "BadSize",

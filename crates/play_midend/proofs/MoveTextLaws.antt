@@ -11,8 +11,9 @@ use Rattle.byte_text.proofs.DecimalLaws.{number_taken, number_again, lacks_decim
 use Rattle.play_midend.specs.declared.moves.Move.{Move}
 use Rattle.play_midend.specs.declared.moves.Move.TheVariants.{Real, Pencil, MarkAll, Solve, Restart, Done}
 use Rattle.play_midend.specs.declared.fault.PlayFault.{PlayFault}
-use Rattle.play_midend.specs.MoveTexts.{byte_r, byte_p, byte_m, byte_s, byte_d, comma, three_text, coordinate_text, move_text, AreBytes, IsCoordinate, IsWritable, IsMoveText, move_fault, all_three, three_behind, three_at, coordinate_at, both, two_at, solution_at, nothing_more, move_by, move_at}
+use Rattle.play_midend.specs.MoveTexts.{three_text, coordinate_text, move_text, AreBytes, IsCoordinate, IsWritable, IsMoveText, move_fault, all_three, three_behind, three_at, coordinate_at, both, two_at, solution_at, nothing_more, move_by, move_at}
 use Rattle.play_midend.proofs.SolutionTexts.{solution_taken, solution_again}
+use Rattle.byte_text.specs.Bytes.{capital_r, capital_p, capital_m, capital_s, capital_d, comma}
 
 -- three numbers
 abbrev IsThree : List ℕ → ℕ × ℕ × ℕ → Type 0
@@ -130,40 +131,40 @@ entry_taken make b bs m text =
       | Some t ↦ λ is read. let e : make t ≡ m = cc in subst (λ (k : Move). IsMoveText k (b ∷ bs)) e (text t is)
     ] refl
 
-real_taken : (bs : List ℕ) (m : Move) → Reads (option_map (λ t. Real t.0 t.1 t.2) (three_at bs)) byte_r bs m
+real_taken : (bs : List ℕ) (m : Move) → Reads (option_map (λ t. Real t.0 t.1 t.2) (three_at bs)) capital_r bs m
 real_taken bs m =
-    entry_taken (λ t. Real t.0 t.1 t.2) byte_r bs m
-    (λ t is. let h = three_taken bs t is in record { writable = h.0; spelled = ap (λ xs. byte_r ∷ xs) h.1 })
+    entry_taken (λ t. Real t.0 t.1 t.2) capital_r bs m
+    (λ t is. let h = three_taken bs t is in record { writable = h.0; spelled = ap (λ xs. capital_r ∷ xs) h.1 })
 
-pencil_taken : (bs : List ℕ) (m : Move) → Reads (option_map (λ t. Pencil t.0 t.1 t.2) (three_at bs)) byte_p bs m
+pencil_taken : (bs : List ℕ) (m : Move) → Reads (option_map (λ t. Pencil t.0 t.1 t.2) (three_at bs)) capital_p bs m
 pencil_taken bs m =
-    entry_taken (λ t. Pencil t.0 t.1 t.2) byte_p bs m
-    (λ t is. let h = three_taken bs t is in record { writable = h.0; spelled = ap (λ xs. byte_p ∷ xs) h.1 })
+    entry_taken (λ t. Pencil t.0 t.1 t.2) capital_p bs m
+    (λ t is. let h = three_taken bs t is in record { writable = h.0; spelled = ap (λ xs. capital_p ∷ xs) h.1 })
 
-mark_all_taken : (bs : List ℕ) (m : Move) → Reads (nothing_more bs) byte_m bs m
+mark_all_taken : (bs : List ℕ) (m : Move) → Reads (nothing_more bs) capital_m bs m
 mark_all_taken [] m read =
     let e : MarkAll ≡ m = cc in
-    subst (λ (k : Move). IsMoveText k (byte_m ∷ [])) e (record { writable = tt; spelled = refl })
+    subst (λ (k : Move). IsMoveText k (capital_m ∷ [])) e (record { writable = tt; spelled = refl })
 mark_all_taken (b ∷ bs) m read = cc
 
-solve_taken : (bs : List ℕ) (m : Move) → Reads (option_map Solve (solution_at bs)) byte_s bs m
+solve_taken : (bs : List ℕ) (m : Move) → Reads (option_map Solve (solution_at bs)) capital_s bs m
 solve_taken bs m =
-    elim (solution_at bs) as (λ o. solution_at bs ≡ o → Reads (option_map Solve o) byte_s bs m) [
+    elim (solution_at bs) as (λ o. solution_at bs ≡ o → Reads (option_map Solve o) capital_s bs m) [
       | None ↦ λ is read. cc
       | Some g ↦ λ is read.
           let h = solution_taken bs g is in
           let e : Solve g ≡ m = cc in
-          subst (λ (k : Move). IsMoveText k (byte_s ∷ bs)) e (record { writable = h.0; spelled = ap (λ xs. byte_s ∷ xs) h.1 })
+          subst (λ (k : Move). IsMoveText k (capital_s ∷ bs)) e (record { writable = h.0; spelled = ap (λ xs. capital_s ∷ xs) h.1 })
     ] refl
 
-done_taken : (bs : List ℕ) (m : Move) → Reads (option_map (λ t. Done t.0 t.1) (two_at bs)) byte_d bs m
+done_taken : (bs : List ℕ) (m : Move) → Reads (option_map (λ t. Done t.0 t.1) (two_at bs)) capital_d bs m
 done_taken bs m =
-    elim (two_at bs) as (λ o. two_at bs ≡ o → Reads (option_map (λ t. Done t.0 t.1) o) byte_d bs m) [
+    elim (two_at bs) as (λ o. two_at bs ≡ o → Reads (option_map (λ t. Done t.0 t.1) o) capital_d bs m) [
       | None ↦ λ is read. cc
       | Some t ↦ λ is read.
           let h = two_taken bs t is in
           let e : Done t.0 t.1 ≡ m = cc in
-          subst (λ (k : Move). IsMoveText k (byte_d ∷ bs)) e (record { writable = (h.0, h.1); spelled = ap (λ xs. byte_d ∷ xs) h.2 })
+          subst (λ (k : Move). IsMoveText k (capital_d ∷ bs)) e (record { writable = (h.0, h.1); spelled = ap (λ xs. capital_d ∷ xs) h.2 })
     ] refl
 
 -- what is read of a first byte is read of any byte that is equal
@@ -174,16 +175,16 @@ by_byte read b k bs m h is = subst (λ (x : ℕ). Reads read x bs m) (sym (eqb-t
 pub move_taken : (text : List ℕ) (m : Move) → move_by text ≡ Some m → IsMoveText m text
 move_taken [] m = λ read. cc
 move_taken (b ∷ bs) m =
-    elim (b == byte_r) as (λ t. (b == byte_r) ≡ t → Reads (cond t (option_map (λ t. Real t.0 t.1 t.2) (three_at bs)) (cond (b == byte_p) (option_map (λ t. Pencil t.0 t.1 t.2) (three_at bs)) (cond (b == byte_m) (nothing_more bs) (cond (b == byte_s) (option_map Solve (solution_at bs)) (cond (b == byte_d) (option_map (λ t. Done t.0 t.1) (two_at bs)) None))))) b bs m) [
-      | true ↦ by_byte (option_map (λ t. Real t.0 t.1 t.2) (three_at bs)) b byte_r bs m (real_taken bs m)
-      | false ↦ λ _. elim (b == byte_p) as (λ t. (b == byte_p) ≡ t → Reads (cond t (option_map (λ t. Pencil t.0 t.1 t.2) (three_at bs)) (cond (b == byte_m) (nothing_more bs) (cond (b == byte_s) (option_map Solve (solution_at bs)) (cond (b == byte_d) (option_map (λ t. Done t.0 t.1) (two_at bs)) None)))) b bs m) [
-        | true ↦ by_byte (option_map (λ t. Pencil t.0 t.1 t.2) (three_at bs)) b byte_p bs m (pencil_taken bs m)
-        | false ↦ λ _. elim (b == byte_m) as (λ t. (b == byte_m) ≡ t → Reads (cond t (nothing_more bs) (cond (b == byte_s) (option_map Solve (solution_at bs)) (cond (b == byte_d) (option_map (λ t. Done t.0 t.1) (two_at bs)) None))) b bs m) [
-          | true ↦ by_byte (nothing_more bs) b byte_m bs m (mark_all_taken bs m)
-          | false ↦ λ _. elim (b == byte_s) as (λ t. (b == byte_s) ≡ t → Reads (cond t (option_map Solve (solution_at bs)) (cond (b == byte_d) (option_map (λ t. Done t.0 t.1) (two_at bs)) None)) b bs m) [
-            | true ↦ by_byte (option_map Solve (solution_at bs)) b byte_s bs m (solve_taken bs m)
-            | false ↦ λ _. elim (b == byte_d) as (λ t. (b == byte_d) ≡ t → Reads (cond t (option_map (λ t. Done t.0 t.1) (two_at bs)) None) b bs m) [
-              | true ↦ by_byte (option_map (λ t. Done t.0 t.1) (two_at bs)) b byte_d bs m (done_taken bs m)
+    elim (b == capital_r) as (λ t. (b == capital_r) ≡ t → Reads (cond t (option_map (λ t. Real t.0 t.1 t.2) (three_at bs)) (cond (b == capital_p) (option_map (λ t. Pencil t.0 t.1 t.2) (three_at bs)) (cond (b == capital_m) (nothing_more bs) (cond (b == capital_s) (option_map Solve (solution_at bs)) (cond (b == capital_d) (option_map (λ t. Done t.0 t.1) (two_at bs)) None))))) b bs m) [
+      | true ↦ by_byte (option_map (λ t. Real t.0 t.1 t.2) (three_at bs)) b capital_r bs m (real_taken bs m)
+      | false ↦ λ _. elim (b == capital_p) as (λ t. (b == capital_p) ≡ t → Reads (cond t (option_map (λ t. Pencil t.0 t.1 t.2) (three_at bs)) (cond (b == capital_m) (nothing_more bs) (cond (b == capital_s) (option_map Solve (solution_at bs)) (cond (b == capital_d) (option_map (λ t. Done t.0 t.1) (two_at bs)) None)))) b bs m) [
+        | true ↦ by_byte (option_map (λ t. Pencil t.0 t.1 t.2) (three_at bs)) b capital_p bs m (pencil_taken bs m)
+        | false ↦ λ _. elim (b == capital_m) as (λ t. (b == capital_m) ≡ t → Reads (cond t (nothing_more bs) (cond (b == capital_s) (option_map Solve (solution_at bs)) (cond (b == capital_d) (option_map (λ t. Done t.0 t.1) (two_at bs)) None))) b bs m) [
+          | true ↦ by_byte (nothing_more bs) b capital_m bs m (mark_all_taken bs m)
+          | false ↦ λ _. elim (b == capital_s) as (λ t. (b == capital_s) ≡ t → Reads (cond t (option_map Solve (solution_at bs)) (cond (b == capital_d) (option_map (λ t. Done t.0 t.1) (two_at bs)) None)) b bs m) [
+            | true ↦ by_byte (option_map Solve (solution_at bs)) b capital_s bs m (solve_taken bs m)
+            | false ↦ λ _. elim (b == capital_d) as (λ t. (b == capital_d) ≡ t → Reads (cond t (option_map (λ t. Done t.0 t.1) (two_at bs)) None) b bs m) [
+              | true ↦ by_byte (option_map (λ t. Done t.0 t.1) (two_at bs)) b capital_d bs m (done_taken bs m)
               | false ↦ λ _ read. cc
             ] refl
           ] refl

@@ -11,7 +11,7 @@ use Rattle.play_midend.specs.declared.fault.PlayFault.{PlayFault}
 use Rattle.play_midend.specs.declared.fault.PlayFault.TheVariants.{NothingToUndo, NothingToRedo}
 use Rattle.play_midend.specs.Steps.{start_of, is_restart, begins_with_restart, replay_from}
 use Rattle.play_midend.specs.Histories.{History, IsValid, past, shown, refusal_in, with_move, at_position, played, SolveGives, undone, redone}
-use Rattle.play_midend.specs.Laws.{Call, Play, FromStart, ToSolution, Undo, Redo, CallGives, Answered, Run, RunsStayValid, IsSameBack, UndoTakesBack, UndoTakesRestartBack, UndoTakesSolveBack, RedoTakesUndoBack}
+use Rattle.play_midend.specs.Laws.{Call, Play, FromStart, ToSolution, Undo, Redo, CallGives, Answered, AnsweredInTurn, RunsStayValid, IsSameBack, UndoTakesBack, UndoTakesRestartBack, UndoTakesSolveBack, RedoTakesUndoBack}
 use Rattle.play_midend.proofs.Making.{step_allowed}
 use Rattle.play_midend.proofs.Replaying.{ArePlayable-append, ArePlayable-take, restart_first-take}
 use Rattle.play_midend.proofs.Playing.{Allowed, allowed_in, accepted, solved_as_played}
@@ -94,7 +94,7 @@ valid_answered : {P : Type 0} (p : Puzzle) (h new : History P) (call : Call) (an
 valid_answered p h new call (Ok u) v is = valid_called p h new call v is
 valid_answered {P} p h new call (Err fault) v is = subst (λ (k : History P). IsValid p k) (sym is.0) v
 
-valid_run : {P : Type 0} (p : Puzzle) (h new : History P) (calls : List (Call × Result (Unit {0}) PlayFault)) → IsValid p h → Run p h calls new → IsValid p new
+valid_run : {P : Type 0} (p : Puzzle) (h new : History P) (calls : List (Call × Result (Unit {0}) PlayFault)) → IsValid p h → AnsweredInTurn p h calls new → IsValid p new
 valid_run {P} p h new [] v run = subst (λ (k : History P). IsValid p k) (sym run) v
 valid_run p h new (c ∷ calls) v run = valid_run p run.0 new calls (valid_answered p h run.0 c.0 c.1 v run.1) run.2
 

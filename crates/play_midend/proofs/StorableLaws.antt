@@ -8,7 +8,7 @@ use Rattle.play_midend.specs.declared.moves.Move.TheVariants.{Solve, Restart}
 use Rattle.play_midend.specs.declared.fault.PlayFault.{PlayFault}
 use Rattle.play_midend.specs.declared.fault.PlayFault.TheVariants.{NothingToUndo, NothingToRedo}
 use Rattle.play_midend.specs.Histories.{History, IsValid, IsStorable, with_move, at_position, refusal_in, played, restarted, SolveGives, undone, redone}
-use Rattle.play_midend.specs.Laws.{Call, Play, FromStart, ToSolution, Undo, Redo, CallGives, Answered, Run, StartsStorable, RunsStayStorable}
+use Rattle.play_midend.specs.Laws.{Call, Play, FromStart, ToSolution, Undo, Redo, CallGives, Answered, AnsweredInTurn, StartsStorable, RunsStayStorable}
 use Rattle.play_midend.proofs.Playing.{accepted, solved_as_played}
 use Rattle.play_midend.proofs.SessionLaws.{valid_called}
 
@@ -90,12 +90,12 @@ same_puzzle_answered : {P : Type 0} (p : Puzzle) (h new : History P) (call : Cal
 same_puzzle_answered p h new call (Ok u) is = let same = same_game_called p h new call is in same.puzzle
 same_puzzle_answered {P} p h new call (Err fault) is = subst (λ (k : History P). k.puzzle ≡ h.puzzle) (sym is.0) refl
 
-storable_run : {P : Type 0} (puzzle : P → Puzzle) (of_game : P → Type 0) (letters : List ℕ) (h new : History P) (calls : List (Call × Result (Unit {0}) PlayFault)) → IsStorable puzzle of_game letters h → Run (puzzle h.puzzle) h calls new → IsStorable puzzle of_game letters new
+storable_run : {P : Type 0} (puzzle : P → Puzzle) (of_game : P → Type 0) (letters : List ℕ) (h new : History P) (calls : List (Call × Result (Unit {0}) PlayFault)) → IsStorable puzzle of_game letters h → AnsweredInTurn (puzzle h.puzzle) h calls new → IsStorable puzzle of_game letters new
 storable_run {P} puzzle of_game letters h new [] s run = subst (λ (k : History P). IsStorable puzzle of_game letters k) (sym run) s
 storable_run {P} puzzle of_game letters h new (c ∷ calls) s run =
     let first = storable_answered puzzle of_game letters h run.0 c.0 c.1 s run.1 in
     let same = same_puzzle_answered (puzzle h.puzzle) h run.0 c.0 c.1 run.1 in
-    storable_run puzzle of_game letters run.0 new calls first (subst (λ (q : P). Run (puzzle q) run.0 calls new) (sym same) run.2)
+    storable_run puzzle of_game letters run.0 new calls first (subst (λ (q : P). AnsweredInTurn (puzzle q) run.0 calls new) (sym same) run.2)
 
 pub runs_stay_storable : {P : Type 0} (puzzle : P → Puzzle) (of_game : P → Type 0) (letters : List ℕ) → RunsStayStorable puzzle of_game letters
 runs_stay_storable puzzle of_game letters old new calls s run = storable_run puzzle of_game letters old new calls s run

@@ -3,34 +3,34 @@ use Rattle.std.specs.Prelude.{ℕ, List, codes}
 use Rattle.play_midend.specs.declared.fault.PlayFault.{PlayFault}
 use Rattle.play_midend.specs.declared.fault.PlayFault.TheVariants.{BadMove, Unsupported, OffGrid, OffRange, GivenSquare, FilledSquare, BadSolution, HistoryFull, OutOfMemory, NothingToUndo, NothingToRedo, NothingToRestart, NoSolution, SeveralSolutions}
 
-abbrev pub number_of : PlayFault → ℕ
-number_of BadMove = 1
-number_of Unsupported = 2
-number_of OffGrid = 3
-number_of OffRange = 4
-number_of GivenSquare = 5
-number_of FilledSquare = 6
-number_of BadSolution = 7
-number_of HistoryFull = 8
-number_of OutOfMemory = 9
-number_of NothingToUndo = 10
-number_of NothingToRedo = 11
-number_of NothingToRestart = 12
-number_of NoSolution = 13
-number_of SeveralSolutions = 14
+abbrev pub play_fault_number : PlayFault → ℕ
+play_fault_number BadMove = 1
+play_fault_number Unsupported = 2
+play_fault_number OffGrid = 3
+play_fault_number OffRange = 4
+play_fault_number GivenSquare = 5
+play_fault_number FilledSquare = 6
+play_fault_number BadSolution = 7
+play_fault_number HistoryFull = 8
+play_fault_number OutOfMemory = 9
+play_fault_number NothingToUndo = 10
+play_fault_number NothingToRedo = 11
+play_fault_number NothingToRestart = 12
+play_fault_number NoSolution = 13
+play_fault_number SeveralSolutions = 14
 
-abbrev pub name_of : PlayFault → List ℕ
-name_of BadMove = codes "BadMove"
-name_of Unsupported = codes "Unsupported"
-name_of OffGrid = codes "OffGrid"
-name_of OffRange = codes "OffRange"
-name_of GivenSquare = codes "GivenSquare"
-name_of FilledSquare = codes "FilledSquare"
-name_of BadSolution = codes "BadSolution"
-name_of HistoryFull = codes "HistoryFull"
-name_of OutOfMemory = codes "OutOfMemory"
-name_of NothingToUndo = codes "NothingToUndo"
-name_of NothingToRedo = codes "NothingToRedo"
-name_of NothingToRestart = codes "NothingToRestart"
-name_of NoSolution = codes "NoSolution"
-name_of SeveralSolutions = codes "SeveralSolutions"
+abbrev pub play_fault_name : PlayFault → List ℕ
+play_fault_name BadMove = codes "BadMove"
+play_fault_name Unsupported = codes "Unsupported"
+play_fault_name OffGrid = codes "OffGrid"
+play_fault_name OffRange = codes "OffRange"
+play_fault_name GivenSquare = codes "GivenSquare"
+play_fault_name FilledSquare = codes "FilledSquare"
+play_fault_name BadSolution = codes "BadSolution"
+play_fault_name HistoryFull = codes "HistoryFull"
+play_fault_name OutOfMemory = codes "OutOfMemory"
+play_fault_name NothingToUndo = codes "NothingToUndo"
+play_fault_name NothingToRedo = codes "NothingToRedo"
+play_fault_name NothingToRestart = codes "NothingToRestart"
+play_fault_name NoSolution = codes "NoSolution"
+play_fault_name SeveralSolutions = codes "SeveralSolutions"

@@ -43,15 +43,15 @@ Answered {P} p old call (Err fault) new =
     × MatchBool (may_want_memory call) (IsRefusal exact fault) (exact ≡ Err fault))
 
 -- calls in turn, each with its answer
-abbrev pub Run : {P : Type 0} → Puzzle → History P → List (Call × Result (Unit {0}) PlayFault) → History P → Type 0
-Run p old [] new = new ≡ old
-Run {P} p old (c ∷ calls) new = (mid : History P) × Answered p old c.0 c.1 mid × Run p mid calls new
+abbrev pub AnsweredInTurn : {P : Type 0} → Puzzle → History P → List (Call × Result (Unit {0}) PlayFault) → History P → Type 0
+AnsweredInTurn p old [] new = new ≡ old
+AnsweredInTurn {P} p old (c ∷ calls) new = (mid : History P) × Answered p old c.0 c.1 mid × AnsweredInTurn p mid calls new
 
 -- from a valid session each list of calls leaves a valid one
 abbrev pub RunsStayValid : {P : Type 0} → (P → Puzzle) → Type 0
 RunsStayValid {P} puzzle =
     (old new : History P) (calls : List (Call × Result (Unit {0}) PlayFault)) → let p = puzzle old.puzzle in
-    IsValid p old → Run p old calls new → IsValid p new
+    IsValid p old → AnsweredInTurn p old calls new → IsValid p new
 
 -- a new session of a puzzle of the game, with parameters of the game, is storable
 abbrev pub StartsStorable : {P : Type 0} → (P → Puzzle) → (P → Type 0) → List ℕ → Type 0
@@ -64,7 +64,7 @@ StartsStorable {P} puzzle of_game letters =
 abbrev pub RunsStayStorable : {P : Type 0} → (P → Puzzle) → (P → Type 0) → List ℕ → Type 0
 RunsStayStorable {P} puzzle of_game letters =
     (old new : History P) (calls : List (Call × Result (Unit {0}) PlayFault)) →
-    IsStorable puzzle of_game letters old → Run (puzzle old.puzzle) old calls new
+    IsStorable puzzle of_game letters old → AnsweredInTurn (puzzle old.puzzle) old calls new
     → IsStorable puzzle of_game letters new
 
 -- the same puzzle, parameters, kept bytes, past, position and board; what stood behind the position may be gone

@@ -8,31 +8,7 @@ use Rattle.play_midend.specs.declared.moves.Move.{Move}
 use Rattle.play_midend.specs.declared.moves.Move.TheVariants.{Real, Pencil, MarkAll, Solve, Restart, Done}
 use Rattle.play_midend.specs.declared.fault.PlayFault.{PlayFault}
 use Rattle.play_midend.specs.declared.fault.PlayFault.TheVariants.{BadMove, Unsupported}
-
--- the bytes of move texts
-abbrev pub byte_r : ℕ
-byte_r = 82
-
-abbrev pub byte_p : ℕ
-byte_p = 80
-
-abbrev pub byte_m : ℕ
-byte_m = 77
-
-abbrev pub byte_s : ℕ
-byte_s = 83
-
-abbrev pub byte_d : ℕ
-byte_d = 68
-
-abbrev pub byte_h : ℕ
-byte_h = 72
-
-abbrev pub byte_f : ℕ
-byte_f = 70
-
-abbrev pub comma : ℕ
-comma = 44
+use Rattle.byte_text.specs.Bytes.{capital_r, capital_p, capital_m, capital_s, capital_d, capital_h, capital_f, comma, dash, digit_zero, digit}
 
 -- three numbers in decimal, with commas
 abbrev pub three_text : ℕ → ℕ → ℕ → List ℕ
@@ -41,16 +17,16 @@ three_text x y n = decimal x ++ (comma ∷ (decimal y ++ (comma ∷ decimal n)))
 -- one number of a done mark's place
 abbrev pub coordinate_text : ℤ → List ℕ
 coordinate_text (pos n) = decimal n
-coordinate_text (negsuc n) = 45 ∷ decimal (n + 1)
+coordinate_text (negsuc n) = dash ∷ decimal (n + 1)
 
 -- a move as it is written; a restart has no text
 abbrev pub move_text : Move → List ℕ
-move_text (Real x y n) = byte_r ∷ three_text x y n
-move_text (Pencil x y n) = byte_p ∷ three_text x y n
-move_text MarkAll = byte_m ∷ []
-move_text (Solve g) = byte_s ∷ map (λ n. 48 + n) g.numbers
+move_text (Real x y n) = capital_r ∷ three_text x y n
+move_text (Pencil x y n) = capital_p ∷ three_text x y n
+move_text MarkAll = capital_m ∷ []
+move_text (Solve g) = capital_s ∷ map digit g.numbers
 move_text Restart = []
-move_text (Done x y) = byte_d ∷ (coordinate_text x ++ (comma ∷ coordinate_text y))
+move_text (Done x y) = capital_d ∷ (coordinate_text x ++ (comma ∷ coordinate_text y))
 
 -- the numbers are within what a text holds
 pub record AreBytes (x y n : ℕ) : Type 0 where
@@ -84,7 +60,7 @@ pub record IsMoveText (m : Move) (text : List ℕ) : Type 0 where
 -- the fault of a text that is no move: hints and spent signs are told by their first byte
 abbrev pub move_fault : List ℕ → PlayFault
 move_fault [] = BadMove
-move_fault (b ∷ bs) = if (b == byte_h) || (b == byte_f) then Unsupported else BadMove
+move_fault (b ∷ bs) = if (b == capital_h) || (b == capital_f) then Unsupported else BadMove
 
 -- reading: the pieces round two commas, as numbers
 abbrev pub all_three : Option ℕ → Option ℕ → Option ℕ → Option (ℕ × ℕ × ℕ)
@@ -116,7 +92,7 @@ size_by_count n =
 
 -- digits from 1 to w
 abbrev pub digit_at : ℕ → ℕ → Option ℕ
-digit_at w b = if nat_le 49 b && nat_le b (48 + w) then Some (b - 48) else None
+digit_at w b = if nat_le (digit 1) b && nat_le b (digit w) then Some (b - digit_zero) else None
 
 abbrev pub digits_at : ℕ → List ℕ → Option (List ℕ)
 digits_at w [] = Some []
@@ -136,11 +112,11 @@ nothing_more (b ∷ bs) = None
 abbrev pub move_by : List ℕ → Option Move
 move_by [] = None
 move_by (b ∷ bs) =
-    if b == byte_r then option_map (λ t. Real t.0 t.1 t.2) (three_at bs)
-    else (if b == byte_p then option_map (λ t. Pencil t.0 t.1 t.2) (three_at bs)
-    else (if b == byte_m then nothing_more bs
-    else (if b == byte_s then option_map Solve (solution_at bs)
-    else (if b == byte_d then option_map (λ t. Done t.0 t.1) (two_at bs) else None))))
+    if b == capital_r then option_map (λ t. Real t.0 t.1 t.2) (three_at bs)
+    else (if b == capital_p then option_map (λ t. Pencil t.0 t.1 t.2) (three_at bs)
+    else (if b == capital_m then nothing_more bs
+    else (if b == capital_s then option_map Solve (solution_at bs)
+    else (if b == capital_d then option_map (λ t. Done t.0 t.1) (two_at bs) else None))))
 
 -- reading a text: its move, or its fault
 unfoldable pub move_at : List ℕ → Result Move PlayFault

@@ -2,7 +2,7 @@
 
 ghost use Rattle.std.specs.Prelude.{◌≡◌, codes};
 ghost use Rattle.play_midend.specs.declared.fault.PlayFault.TheVariants.{OutOfMemory};
-ghost use Rattle.play_midend.specs.Faults.{number_of, name_of};
+ghost use Rattle.play_midend.specs.Faults.{play_fault_number, play_fault_name};
 
 use latin_board::OutOfMemory;
 use std::alloc::{AllocError, AllocFailed};
@@ -58,14 +58,14 @@ pub enum PlayFault {
 impl PlayFault {
     /// The fault's number, from 1 to 14.
     pub fn number(&self) -> u8
-        ensures { result ≡ number_of self.now }
+        ensures { result ≡ play_fault_number self.now }
     {
         *self as u8 + 1
     }
 
     /// The fault's name.
     pub fn name(&self) -> &'static str
-        ensures { result.now ≡ name_of self.now }
+        ensures { result.now ≡ play_fault_name self.now }
     {
         match self {
             PlayFault::BadMove => "BadMove",

@@ -3,7 +3,8 @@
 ghost use Rattle.std.specs.Prelude.{◌≡◌, ◌≢◌, ◌+◌, ◌*◌, ◌≤◌, ◌∷◌, map, IfOk, IfErr, IfSome};
 ghost use Rattle.byte_text.specs.Decimals.{decimal_value};
 ghost use Rattle.play_midend.specs.declared.moves.Move.{Move};
-ghost use Rattle.play_midend.specs.MoveTexts.{byte_s, move_text, three_at, two_at, coordinate_at, solution_at, size_by_count, digit_at, move_by, move_at, move_fault, IsMoveText};
+ghost use Rattle.play_midend.specs.MoveTexts.{move_text, three_at, two_at, coordinate_at, solution_at, size_by_count, digit_at, move_by, move_at, move_fault, IsMoveText};
+ghost use Rattle.byte_text.specs.Bytes.{capital_s, digit};
 
 use crate::fault::PlayFault;
 use crate::moves::Move;
@@ -152,7 +153,7 @@ pub fn write_move(alloc: Global, m: &Move) -> Result<Vec<u8>, PlayFault>
 }
 
 fn solution_text(alloc: Global, grid: &Grid) -> Result<Vec<u8>, AllocError>
-    ensures { IfOk result (λ text. text.items ≡ byte_s ∷ map (λ n. 48 + n) grid.now.numbers) }
+    ensures { IfOk result (λ text. text.items ≡ capital_s ∷ map digit grid.now.numbers) }
 {
     let width = grid.size().get() as usize;
     let mut text = Vec::with_capacity(alloc, 1 + width * width)?;

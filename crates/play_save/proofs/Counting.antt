@@ -12,7 +12,7 @@ use Rattle.play_save.specs.declared.fault.LoadFault.TheVariants.{BadCount, Early
 use Rattle.play_save.specs.declared.key.StateKey.{StateKey}
 use Rattle.play_save.specs.declared.key.Key.{Key}
 use Rattle.play_save.specs.declared.key.Key.TheVariants.{SaveFile, FormatVersion, GameName, NextParams, CurrentParams, Seed, Desc, PrivateDesc, AuxInfo, Ui, Time, StateCount, Position, State, Other}
-use Rattle.play_save.specs.Lines.{Line}
+use Rattle.play_save.specs.KeyedRecords.{KeyedRecord}
 use Rattle.play_save.specs.SaveTexts.{SavedGame}
 use Rattle.play_save.specs.FirstFaults.{Met, met, positive, count_at, fault_unless, count_fault, position_fault, behind_counts, state_fault, fault_by, has_all, is_complete, Listing, needed, met_in}
 use Rattle.play_save.specs.Taking.{IsPlayable, added}
@@ -153,13 +153,13 @@ pub record IsWhole (m : Met) : Type 0 where
   pub sound : IsSound m
   pub complete : is_complete m ≡ true
 
-pub right_whole : {P : Type 0} (game : SavedGame P) (before ls : List Line) → IsSound (met game before) → AreRight game before ls → IsWhole (met game (before ++ ls))
+pub right_whole : {P : Type 0} (game : SavedGame P) (before ls : List KeyedRecord) → IsSound (met game before) → AreRight game before ls → IsWhole (met game (before ++ ls))
 right_whole game before [] s right = rw (append-nil before) (record { sound = s; complete = right })
 right_whole game before (l ∷ ls) s right =
     let added_is = met_added game before l.key l.value right.1 in
     let next = sound_added game (met game before) l.key l.value s right.0 right.1 in
     let seam : before ++ l ∷ [] ++ ls ≡ before ++ l ∷ ls = append_assoc before (l ∷ []) ls in
-    subst (λ (b : List Line). IsWhole (met game b)) seam
+    subst (λ (b : List KeyedRecord). IsWhole (met game b)) seam
     (right_whole game (before ++ l ∷ []) ls (subst (λ (m : Met). IsSound m) (sym added_is) next) right.2)
 
 pub sound_start : {P : Type 0} (game : SavedGame P) → IsSound (met game [])

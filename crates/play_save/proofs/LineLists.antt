@@ -4,7 +4,7 @@ use borrow.Author.Tests.{eqb-true}
 use Rattle.play_save.specs.declared.key.Key.{Key}
 use Rattle.play_save.specs.declared.key.Key.TheVariants.{SaveFile, FormatVersion, GameName, NextParams, CurrentParams, Seed, Desc, PrivateDesc, AuxInfo, Ui, Time, StateCount, Position, State, Other}
 use Rattle.play_save.specs.Keys.{rank}
-use Rattle.play_save.specs.Lines.{Line, StateLine, values_of, onto_states, states_in, is_state}
+use Rattle.play_save.specs.KeyedRecords.{KeyedRecord, KeyedState, values_of, onto_states, states_in, is_state}
 use Rattle.play_save.specs.FirstFaults.{first_of}
 
 -- a key is known by its number, unless it is one of the three of states
@@ -61,7 +61,7 @@ own_rank PrivateDesc = refl
 own_rank Other = refl
 
 -- lists that are put together
-pub values_of-append : (k : Key) (xs ys : List Line) → values_of k (xs ++ ys) ≡ values_of k xs ++ values_of k ys
+pub values_of-append : (k : Key) (xs ys : List KeyedRecord) → values_of k (xs ++ ys) ≡ values_of k xs ++ values_of k ys
 values_of-append k [] ys = refl
 values_of-append k (x ∷ xs) ys =
     elim (rank x.key == rank k) as (λ t. cond t (x.value ∷ values_of k (xs ++ ys)) (values_of k (xs ++ ys)) ≡ cond t (x.value ∷ values_of k xs) (values_of k xs) ++ values_of k ys) [
@@ -69,7 +69,7 @@ values_of-append k (x ∷ xs) ys =
       | false ↦ values_of-append k xs ys
     ]
 
-onto_states-append : (k : Key) (value : List ℕ) (xs ys : List StateLine) → onto_states k value (xs ++ ys) ≡ onto_states k value xs ++ ys
+onto_states-append : (k : Key) (value : List ℕ) (xs ys : List KeyedState) → onto_states k value (xs ++ ys) ≡ onto_states k value xs ++ ys
 onto_states-append (State k) value xs ys = refl
 onto_states-append SaveFile value xs ys = refl
 onto_states-append FormatVersion value xs ys = refl
@@ -86,7 +86,7 @@ onto_states-append Position value xs ys = refl
 onto_states-append PrivateDesc value xs ys = refl
 onto_states-append Other value xs ys = refl
 
-pub states_in-append : (xs ys : List Line) → states_in (xs ++ ys) ≡ states_in xs ++ states_in ys
+pub states_in-append : (xs ys : List KeyedRecord) → states_in (xs ++ ys) ≡ states_in xs ++ states_in ys
 states_in-append [] ys = refl
 states_in-append (x ∷ xs) ys =
     ap (onto_states x.key x.value) (states_in-append xs ys) ∙ onto_states-append x.key x.value (states_in xs) (states_in ys)

@@ -4,7 +4,7 @@ use Rattle.std.proofs.lemmas.List.{append-nil}
 use Rattle.play_save.specs.declared.fault.LoadFault.{LoadFault}
 use Rattle.play_save.specs.declared.key.Key.{Key}
 use Rattle.play_save.specs.declared.key.Key.TheVariants.{SaveFile, FormatVersion, GameName, NextParams, CurrentParams, Seed, Desc, PrivateDesc, AuxInfo, Ui, Time, StateCount, Position, State, Other}
-use Rattle.play_save.specs.Lines.{Line, values_of}
+use Rattle.play_save.specs.KeyedRecords.{KeyedRecord, values_of}
 use Rattle.play_save.specs.SaveTexts.{SavedGame}
 use Rattle.play_save.specs.FirstFaults.{saved_params_at, count_at, first_of, met, once, fault_by}
 use Rattle.play_save.specs.Taking.{added}
@@ -26,10 +26,10 @@ none_yet xs fault none = first_none xs (not_some (first_of xs) (once_taken (is_s
 none_read : {A B : Type 0} (f : A → B) (xs : List A) (fault : Option LoadFault) → once (is_some (option_map f (first_of xs))) fault ≡ None → xs ≡ []
 none_read f xs fault none = first_none xs (map_none f (first_of xs) (not_some (option_map f (first_of xs)) (once_taken (is_some (option_map f (first_of xs))) fault none).0))
 
-abbrev pub one : Key → List ℕ → List Line
+abbrev pub one : Key → List ℕ → List KeyedRecord
 one k value = record { key = k; value = value } ∷ []
 
-pub met_added : {P : Type 0} (game : SavedGame P) (before : List Line) (k : Key) (value : List ℕ) → fault_by game (met game before) k value ≡ None → met game (before ++ one k value) ≡ added game (met game before) k value
+pub met_added : {P : Type 0} (game : SavedGame P) (before : List KeyedRecord) (k : Key) (value : List ℕ) → fault_by game (met game before) k value ≡ None → met game (before ++ one k value) ≡ added game (met game before) k value
 met_added game before SaveFile value none = cc
 met_added game before PrivateDesc value none = cc
 met_added game before Other value none = simp (values_of-append, states_in-append, append-nil)
@@ -58,7 +58,7 @@ met_added game before Position value none =
     let first = none_read count_at (values_of Position before) _ none in simp (values_of-append, states_in-append, append-nil, first)
 
 -- where the key stands already, the record has a fault
-pub stands_alone : {P : Type 0} (game : SavedGame P) (before : List Line) (k : Key) (value : List ℕ) → is_once k ≡ true → fault_by game (met game before) k value ≡ None → values_of k before ≡ []
+pub stands_alone : {P : Type 0} (game : SavedGame P) (before : List KeyedRecord) (k : Key) (value : List ℕ) → is_once k ≡ true → fault_by game (met game before) k value ≡ None → values_of k before ≡ []
 stands_alone game before SaveFile value single none = cc
 stands_alone game before PrivateDesc value single none = cc
 stands_alone game before Other value single none = cc

@@ -6,7 +6,7 @@ use Rattle.play_save.specs.declared.fault.LoadFault.TheVariants.{Malformed, Miss
 use Rattle.play_save.specs.declared.key.Key.{Key}
 use Rattle.play_save.specs.Records.{Entry, record_at}
 use Rattle.play_save.specs.Keys.{rank}
-use Rattle.play_save.specs.Lines.{Line, BeginsWithAll, values_of, is_state}
+use Rattle.play_save.specs.KeyedRecords.{KeyedRecord, BeginsWithAll, values_of, is_state}
 use Rattle.play_save.specs.SaveTexts.{SavedGame}
 use Rattle.play_save.specs.FirstFaults.{met, fault_by, is_complete, Listing, nothing, broken, first, listed, listing_within, records_of, unless, needed}
 use Rattle.play_save.proofs.RecordLaws.{record_taken, record_again, record_shorter}
@@ -14,33 +14,33 @@ use Rattle.play_save.proofs.LineLists.{same_key, values_of-append}
 use Rattle.play_save.proofs.Meeting.{is_once, one, stands_alone}
 
 -- behind what stands before, no record has a fault, and the last is the first that completes them
-abbrev pub AreRight : {P : Type 0} → SavedGame P → List Line → List Line → Type 0
+abbrev pub AreRight : {P : Type 0} → SavedGame P → List KeyedRecord → List KeyedRecord → Type 0
 AreRight game before [] = is_complete (met game before) ≡ true
 AreRight game before (l ∷ ls) =
     (is_complete (met game before) ≡ false) × (fault_by game (met game before) l.key l.value ≡ None)
     × AreRight game (before ++ l ∷ []) ls
 
 -- the listing begins with these records
-abbrev pub Follow : List Line → Listing → Type 0
+abbrev pub Follow : List KeyedRecord → Listing → Type 0
 Follow [] listing = Unit {0}
 Follow (l ∷ ls) nothing = ⊥
 Follow (l ∷ ls) broken = ⊥
 Follow (l ∷ ls) (first m more) = (l ≡ m) × Follow ls more
 
-pub record IsNeeded {P : Type 0} (game : SavedGame P) (before : List Line) (listing : Listing) (all : List Line) : Type 0 where
-  pub more : List Line
+pub record IsNeeded {P : Type 0} (game : SavedGame P) (before : List KeyedRecord) (listing : Listing) (all : List KeyedRecord) : Type 0 where
+  pub more : List KeyedRecord
   pub all_is : all ≡ before ++ more
   pub right : AreRight game before more
   pub follow : Follow more listing
 
-done_needed : {P : Type 0} (game : SavedGame P) (before all : List Line) (listing : Listing) (fault : Result (List Line) LoadFault) → ((b : List Line) → fault ≡ Ok b → IsNeeded game before listing b) → (if_done : Bool) → is_complete (met game before) ≡ if_done → cond if_done (Ok before) fault ≡ Ok all → IsNeeded game before listing all
+done_needed : {P : Type 0} (game : SavedGame P) (before all : List KeyedRecord) (listing : Listing) (fault : Result (List KeyedRecord) LoadFault) → ((b : List KeyedRecord) → fault ≡ Ok b → IsNeeded game before listing b) → (if_done : Bool) → is_complete (met game before) ≡ if_done → cond if_done (Ok before) fault ≡ Ok all → IsNeeded game before listing all
 done_needed game before all listing fault more true done is =
     let same : before ≡ all = cc in
     record { more = []; all_is = sym same ∙ sym (append-nil before); right = done; follow = tt }
 done_needed game before all listing fault more false done is = more all is
 
 -- what is needed of a listing begins it, and is right
-pub needed_taken : {P : Type 0} (game : SavedGame P) (before : List Line) (listing : Listing) (all : List Line) → needed game before listing ≡ Ok all → IsNeeded game before listing all
+pub needed_taken : {P : Type 0} (game : SavedGame P) (before : List KeyedRecord) (listing : Listing) (all : List KeyedRecord) → needed game before listing ≡ Ok all → IsNeeded game before listing all
 needed_taken game before nothing all is =
     done_needed game before all nothing (Err Missing) (λ b e. cc) (is_complete (met game before)) refl is
 needed_taken game before broken all is =
@@ -65,7 +65,7 @@ needed_taken game before (first l more) all is =
         }
 
 -- what begins a listing and is right is what is needed of it
-pub needed_again : {P : Type 0} (game : SavedGame P) (before ls : List Line) (listing : Listing) → AreRight game before ls → Follow ls listing → needed game before listing ≡ Ok (before ++ ls)
+pub needed_again : {P : Type 0} (game : SavedGame P) (before ls : List KeyedRecord) (listing : Listing) → AreRight game before ls → Follow ls listing → needed game before listing ≡ Ok (before ++ ls)
 needed_again game before [] nothing right follow = rw right (ap Ok (sym (append-nil before)))
 needed_again game before [] broken right follow = rw right (ap Ok (sym (append-nil before)))
 needed_again game before [] (first m more) right follow = rw right (ap Ok (sym (append-nil before)))
@@ -74,11 +74,11 @@ needed_again game before (l ∷ ls) broken right follow = absurd follow
 needed_again game before (l ∷ ls) (first m more) right follow =
     let rest = needed_again game (before ++ l ∷ []) ls more right.2 follow.1 in
     let same : l ≡ m = follow.0 in
-    subst (λ (x : Line). needed game before (first x more) ≡ Ok (before ++ l ∷ ls)) same
+    subst (λ (x : KeyedRecord). needed game before (first x more) ≡ Ok (before ++ l ∷ ls)) same
     (rw (right.0, right.1) (rest ∙ ap Ok (append_assoc before (l ∷ []) ls)))
 
 -- the listing of a text, and the records with which the text begins
-follows_taken : (n : ℕ) (ls : List Line) (text : List ℕ) → Follow ls (listing_within n text) → BeginsWithAll ls text
+follows_taken : (n : ℕ) (ls : List KeyedRecord) (text : List ℕ) → Follow ls (listing_within n text) → BeginsWithAll ls text
 unfolding listing_within
 follows_taken n [] text follow = tt
 follows_taken zero (l ∷ ls) text follow = absurd follow
@@ -90,11 +90,11 @@ follows_taken (suc n) (l ∷ ls) text follow = at_record (λ rest. follows_taken
     at_record along (Ok (Some parts)) is f =
         (parts.0, parts.1, sym f.0, record_taken text parts.0 parts.1 is, along parts.1 f.1)
 
-pub records_taken : (ls : List Line) (text : List ℕ) → Follow ls (records_of text) → BeginsWithAll ls text
+pub records_taken : (ls : List KeyedRecord) (text : List ℕ) → Follow ls (records_of text) → BeginsWithAll ls text
 unfolding records_of
 records_taken ls text follow = follows_taken (length text) ls text follow
 
-follows_again : (n : ℕ) (ls : List Line) (text : List ℕ) → length text ≤ n → BeginsWithAll ls text → Follow ls (listing_within n text)
+follows_again : (n : ℕ) (ls : List KeyedRecord) (text : List ℕ) → length text ≤ n → BeginsWithAll ls text → Follow ls (listing_within n text)
 unfolding listing_within
 follows_again n [] text within begins = tt
 follows_again zero (l ∷ ls) text within begins =
@@ -105,15 +105,15 @@ follows_again (suc n) (l ∷ ls) text within begins =
     subst (λ (r : Result (Option (Entry × List ℕ)) LoadFault). Follow (l ∷ ls) (listed (listing_within n) r)) (sym read)
     (sym begins.2, follows_again n ls begins.1 (omega arith) begins.4)
 
-pub records_again : (ls : List Line) (text : List ℕ) → BeginsWithAll ls text → Follow ls (records_of text)
+pub records_again : (ls : List KeyedRecord) (text : List ℕ) → BeginsWithAll ls text → Follow ls (records_of text)
 unfolding records_of
 records_again ls text begins = follows_again (length text) ls text (omega arith) begins
 
 -- a key that may stand once, once it was met, doesn't stand again
-values-cons : (k : Key) (l : Line) (ls : List Line) → (rank l.key == rank k) ≡ false → values_of k (l ∷ ls) ≡ values_of k ls
+values-cons : (k : Key) (l : KeyedRecord) (ls : List KeyedRecord) → (rank l.key == rank k) ≡ false → values_of k (l ∷ ls) ≡ values_of k ls
 values-cons k l ls other = rw other refl
 
-pub none_again : {P : Type 0} (game : SavedGame P) (before ls : List Line) (k : Key) → is_once k ≡ true → is_state k ≡ false → 0 < length (values_of k before) → AreRight game before ls → values_of k ls ≡ []
+pub none_again : {P : Type 0} (game : SavedGame P) (before ls : List KeyedRecord) (k : Key) → is_once k ≡ true → is_state k ≡ false → 0 < length (values_of k before) → AreRight game before ls → values_of k ls ≡ []
 none_again game before [] k single header some right = refl
 none_again game before (l ∷ ls) k single header some right =
     elim (rank l.key == rank k) as (λ t. (rank l.key == rank k) ≡ t → cond t (l.value ∷ values_of k ls) (values_of k ls) ≡ []) [
@@ -130,21 +130,21 @@ none_again game before (l ∷ ls) k single header some right =
     longer_with [] ys more = absurd (omega arith)
     longer_with (x ∷ xs) ys more = omega arith
 
-pub same_line : (l : Line) (k : Key) (value : List ℕ) → l.key ≡ k → l.value ≡ value → l ≡ record { key = k; value = value }
+pub same_line : (l : KeyedRecord) (k : Key) (value : List ℕ) → l.key ≡ k → l.value ≡ value → l ≡ record { key = k; value = value }
 same_line l k value key same_value =
-    ap (λ (x : Key). let y : Line = record { key = x; value = l.value } in y) key
-    ∙ ap (λ (v : List ℕ). let y : Line = record { key = k; value = v } in y) same_value
+    ap (λ (x : Key). let y : KeyedRecord = record { key = x; value = l.value } in y) key
+    ∙ ap (λ (v : List ℕ). let y : KeyedRecord = record { key = k; value = v } in y) same_value
 
 -- where a value of such a key stands, it stands alone and has no fault
-pub record StandsAlone {P : Type 0} (game : SavedGame P) (k : Key) (value : List ℕ) (ls : List Line) (before : List Line) : Type 0 where
+pub record StandsAlone {P : Type 0} (game : SavedGame P) (k : Key) (value : List ℕ) (ls : List KeyedRecord) (before : List KeyedRecord) : Type 0 where
   pub alone : values_of k ls ≡ value ∷ []
-  pub front : List Line
-  pub later : List Line
+  pub front : List KeyedRecord
+  pub later : List KeyedRecord
   pub split : ls ≡ front ++ (one k value ++ later)
   pub faultless : fault_by game (met game (before ++ front)) k value ≡ None
   pub undone : is_complete (met game (before ++ front)) ≡ false
 
-pub stands_at : {P : Type 0} (game : SavedGame P) (before ls : List Line) (k : Key) (value : List ℕ) (more : List (List ℕ)) → is_once k ≡ true → is_state k ≡ false → AreRight game before ls → values_of k ls ≡ value ∷ more → StandsAlone game k value ls before
+pub stands_at : {P : Type 0} (game : SavedGame P) (before ls : List KeyedRecord) (k : Key) (value : List ℕ) (more : List (List ℕ)) → is_once k ≡ true → is_state k ≡ false → AreRight game before ls → values_of k ls ≡ value ∷ more → StandsAlone game k value ls before
 stands_at game before [] k value more single header right is = cc
 stands_at game before (l ∷ ls) k value more single header right is =
     elim (rank l.key == rank k) as (λ t. (rank l.key == rank k) ≡ t → cond t (l.value ∷ values_of k ls) (values_of k ls) ≡ value ∷ more → StandsAlone game k value (l ∷ ls) before) [
@@ -159,7 +159,7 @@ stands_at game before (l ∷ ls) k value more single header right is =
             front = [];
             later = ls;
             split = ap (λ x. x ∷ ls) line;
-            faultless = rw (append-nil before) (subst (λ (x : Line). fault_by game (met game before) x.key x.value ≡ None) line right.1);
+            faultless = rw (append-nil before) (subst (λ (x : KeyedRecord). fault_by game (met game before) x.key x.value ≡ None) line right.1);
             undone = rw (append-nil before) right.0;
           }
       | false ↦ λ other e.
@@ -170,8 +170,8 @@ stands_at game before (l ∷ ls) k value more single header right is =
             front = l ∷ rest.front;
             later = rest.later;
             split = ap (λ xs. l ∷ xs) rest.split;
-            faultless = subst (λ (b : List Line). fault_by game (met game b) k value ≡ None) seam rest.faultless;
-            undone = subst (λ (b : List Line). is_complete (met game b) ≡ false) seam rest.undone;
+            faultless = subst (λ (b : List KeyedRecord). fault_by game (met game b) k value ≡ None) seam rest.faultless;
+            undone = subst (λ (b : List KeyedRecord). is_complete (met game b) ≡ false) seam rest.undone;
           }
     ] refl is
   where

@@ -20,8 +20,8 @@ use Rattle.play_save.specs.declared.fault.LoadFault.TheVariants.{Version, WrongG
 use Rattle.play_save.specs.declared.key.Key.{Key}
 use Rattle.play_save.specs.declared.key.Key.TheVariants.{SaveFile, FormatVersion, GameName, NextParams, CurrentParams, Seed, Desc, PrivateDesc, AuxInfo, Ui, Time, StateCount, Position, State, Other}
 use Rattle.play_save.specs.Records.{record_at}
-use Rattle.play_save.specs.Lines.{Line, StateLine, values_of, states_in, onto_states, once_if_kept, is_state, CountsStandFirst, may_be_last, EndsWithState}
-use Rattle.play_save.specs.SaveTexts.{SavedGame, collection, most_bytes, HaveStates, AreSaved, SaveText}
+use Rattle.play_save.specs.KeyedRecords.{KeyedRecord, KeyedState, values_of, states_in, onto_states, once_if_kept, is_state, CountsStandFirst, may_be_last, EndsWithState}
+use Rattle.play_save.specs.SaveTexts.{SavedGame, collection, longest_save, HaveStates, AreSaved, SaveText}
 use Rattle.play_save.specs.FirstFaults.{saved_params_at, count_at, first_of, met, fault_unless, once, params_fault, count_fault, position_fault, behind_counts, state_fault, fault_by, has_all, is_complete, records_of, needed, states_played, extras_in, session_of, behind_head, met_in, load_at}
 use Rattle.play_save.proofs.RecordLaws.{record_again}
 use Rattle.play_save.proofs.LineLists.{values_of-append, states_in-append, own_rank}
@@ -32,11 +32,11 @@ use Rattle.play_save.proofs.GameTexts.{IsGame}
 use Rattle.play_save.proofs.StatesPlayed.{states_again, state_faultless, have_length}
 
 -- a value that stands alone, at a place where it stands
-record AtPlace (k : Key) (value other : List ℕ) (before : List Line) : Type 0 where
+record AtPlace (k : Key) (value other : List ℕ) (before : List KeyedRecord) : Type 0 where
   first : values_of k before ≡ []
   same : other ≡ value
 
-at_place : (k : Key) (value other : List ℕ) (before later : List Line) → values_of k (before ++ (one k other ++ later)) ≡ value ∷ [] → AtPlace k value other before
+at_place : (k : Key) (value other : List ℕ) (before later : List KeyedRecord) → values_of k (before ++ (one k other ++ later)) ≡ value ∷ [] → AtPlace k value other before
 at_place k value other before later is =
     by_values (values_of k before) refl (sym (values_of-append k before (one k other ++ later)) ∙ is)
   where
@@ -49,7 +49,7 @@ at_place k value other before later is =
         absurd (omega (arith, ap length here, length-append (v ∷ vs) (other ∷ values_of k later)))
 
 -- a value that stands alone, in what stands before a place
-before_place : (k : Key) (value : List ℕ) (before later : List Line) → values_of k (before ++ later) ≡ value ∷ [] → (values_of k before ≡ []) ⊎ ((values_of k before ≡ value ∷ []) × (values_of k later ≡ []))
+before_place : (k : Key) (value : List ℕ) (before later : List KeyedRecord) → values_of k (before ++ later) ≡ value ∷ [] → (values_of k before ≡ []) ⊎ ((values_of k before ≡ value ∷ []) × (values_of k later ≡ []))
 before_place k value before later is = by_values (values_of k before) refl (sym (values_of-append k before later) ∙ is)
   where
     by_values : (values : List (List ℕ)) → values_of k before ≡ values → values_of k before ++ values_of k later ≡ value ∷ [] → (values_of k before ≡ []) ⊎ ((values_of k before ≡ value ∷ []) × (values_of k later ≡ []))
@@ -71,7 +71,7 @@ before_place k value before later is = by_values (values_of k before) refl (sym 
         back_none (x ∷ xs) ys e = cc
 
 -- the value of a key that may stand at most once
-at_most : (k : Key) (kept : Option (List ℕ)) (other : List ℕ) (before later : List Line) → values_of k (before ++ (one k other ++ later)) ≡ once_if_kept kept → values_of k before ≡ []
+at_most : (k : Key) (kept : Option (List ℕ)) (other : List ℕ) (before later : List KeyedRecord) → values_of k (before ++ (one k other ++ later)) ≡ once_if_kept kept → values_of k before ≡ []
 at_most k (Some value) other before later is = (at_place k value other before later is).first
 at_most k None other before later is =
     let none : values_of k before ++ values_of k (one k other ++ later) ≡ [] = sym (values_of-append k before (one k other ++ later)) ∙ is in
@@ -82,7 +82,7 @@ at_most k None other before later is =
     front_none (x ∷ xs) ys e = cc
 
 -- a key that never stands stands at no place
-never_at : (k : Key) (other : List ℕ) (before later : List Line) → values_of k (before ++ (one k other ++ later)) ≡ [] → ⊥
+never_at : (k : Key) (other : List ℕ) (before later : List KeyedRecord) → values_of k (before ++ (one k other ++ later)) ≡ [] → ⊥
 never_at k other before later is =
     let both : values_of k before ++ (other ∷ values_of k later) ≡ [] = sym (rw (own_rank k) refl) ∙ (sym (values_of-append k before (one k other ++ later)) ∙ is) in
     absurd (omega (arith, ap length both, length-append (values_of k before) (other ∷ values_of k later)))
@@ -91,10 +91,10 @@ same_bytes : (xs ys : List ℕ) → xs ≡ ys → bytes_eq xs ys ≡ true
 same_bytes xs ys e = (bytes_eq-Decides xs ys).1 e
 
 -- no record of a save has a fault
-abbrev AreFaultless : List StateLine → Type 0
+abbrev AreFaultless : List KeyedState → Type 0
 AreFaultless ss = AllByRecursion (λ s. state_fault s.key s.value ≡ None) ss
 
-all_faultless : {P : Type 0} (game : SavedGame P) (p : P) (ms : List Move) (ss : List StateLine) → HaveStates game p ms ss → AreFaultless ss
+all_faultless : {P : Type 0} (game : SavedGame P) (p : P) (ms : List Move) (ss : List KeyedState) → HaveStates game p ms ss → AreFaultless ss
 all_faultless game p [] [] have = tt
 all_faultless game p [] (s ∷ ss) have = absurd have
 all_faultless game p (m ∷ ms) [] have = absurd have
@@ -114,7 +114,7 @@ position_below : (n p : ℕ) (count : Option (Option ℕ)) → p ≤ n → (coun
 position_below n p count within (inl none) = rw none refl
 position_below n p count within (inr some) = rw (some, le-leb p n within) refl
 
-read_before : (k : Key) (n : ℕ) (before later : List Line) → count_at (decimal n) ≡ Some n → values_of k (before ++ later) ≡ decimal n ∷ [] → (option_map count_at (first_of (values_of k before)) ≡ None) ⊎ (option_map count_at (first_of (values_of k before)) ≡ Some (Some n))
+read_before : (k : Key) (n : ℕ) (before later : List KeyedRecord) → count_at (decimal n) ≡ Some n → values_of k (before ++ later) ≡ decimal n ∷ [] → (option_map count_at (first_of (values_of k before)) ≡ None) ⊎ (option_map count_at (first_of (values_of k before)) ≡ Some (Some n))
 read_before k n before later good is = by_case (before_place k (decimal n) before later is)
   where
     by_case : (values_of k before ≡ []) ⊎ ((values_of k before ≡ decimal n ∷ []) × (values_of k later ≡ [])) → (option_map count_at (first_of (values_of k before)) ≡ None) ⊎ (option_map count_at (first_of (values_of k before)) ≡ Some (Some n))
@@ -127,7 +127,7 @@ record Ranges {P : Type 0} (h : History P) : Type 0 where
   position_good : count_at (decimal h.position) ≡ Some h.position
   inside : h.position ≤ length h.moves + 1
 
-ranges : {P : Type 0} (game : SavedGame P) (ls : List Line) (h : History P) → AreSaved game h ls → Ranges h
+ranges : {P : Type 0} (game : SavedGame P) (ls : List KeyedRecord) (h : History P) → AreSaved game h ls → Ranges h
 ranges game ls h s = record {
   count_good = count_again (length h.moves + 1) (omega arith) s.valid.few;
   position_good = let few = s.valid.few in let last = s.valid.last in count_again h.position s.valid.first (omega arith);
@@ -137,7 +137,7 @@ ranges game ls h s = record {
 params_good : {P : Type 0} (game : SavedGame P) (p : Params) (value : List ℕ) → IsParamText game.letters p value → saved_params_at game value ≡ Ok p
 params_good game p value is = params_again game.letters (has_adjacent game.title) value p is
 
-stands_before : (c : Key) (v : List ℕ) (before later here : List Line) → values_of c here ≡ [] → values_of c (before ++ (here ++ later)) ≡ v ∷ [] → values_of c later ≡ [] → is_some (option_map count_at (first_of (values_of c before))) ≡ true
+stands_before : (c : Key) (v : List ℕ) (before later here : List KeyedRecord) → values_of c here ≡ [] → values_of c (before ++ (here ++ later)) ≡ v ∷ [] → values_of c later ≡ [] → is_some (option_map count_at (first_of (values_of c before))) ≡ true
 stands_before c v before later here not_here is none = by_case (before_place c v before (here ++ later) is)
   where
     by_case : (values_of c before ≡ []) ⊎ ((values_of c before ≡ v ∷ []) × (values_of c (here ++ later) ≡ [])) → is_some (option_map count_at (first_of (values_of c before))) ≡ true
@@ -146,7 +146,7 @@ stands_before c v before later here not_here is none = by_case (before_place c v
         let nothing_at_all : values_of c (before ++ (here ++ later)) ≡ [] = values_of-append c before (here ++ later) ∙ rw (empty, values_of-append c here later, not_here, none) refl in
         cc
 
-faultless_at : {P : Type 0} (game : SavedGame P) (ls : List Line) (h : History P) (before later : List Line) (k : Key) (value : List ℕ) → AreSaved game h ls → ls ≡ before ++ (one k value ++ later) → (is_state k ≡ true → (values_of StateCount later ≡ []) × (values_of Position later ≡ [])) → AreFaultless (onto_states k value (states_in later)) → fault_by game (met game before) k value ≡ None
+faultless_at : {P : Type 0} (game : SavedGame P) (ls : List KeyedRecord) (h : History P) (before later : List KeyedRecord) (k : Key) (value : List ℕ) → AreSaved game h ls → ls ≡ before ++ (one k value ++ later) → (is_state k ≡ true → (values_of StateCount later ≡ []) × (values_of Position later ≡ [])) → AreFaultless (onto_states k value (states_in later)) → fault_by game (met game before) k value ≡ None
 faultless_at game ls h before later SaveFile value s split counts fine =
     absurd (never_at SaveFile value before later (ap (values_of SaveFile) (sym split) ∙ s.no_second_head))
 faultless_at game ls h before later PrivateDesc value s split counts fine =
@@ -199,16 +199,16 @@ faultless_at game ls h before later (State k) value s split counts fine =
     both ∙ fine.0
 
 -- before the last record the save isn't complete
-abbrev Ends : List Line → Type 0
-Ends [] = Unit {0}
-Ends (l ∷ ls) = EndsWithState (l ∷ ls)
+abbrev EndsIfAny : List KeyedRecord → Type 0
+EndsIfAny [] = Unit {0}
+EndsIfAny (l ∷ ls) = EndsWithState (l ∷ ls)
 
-ends_later : (l : Line) (ls : List Line) → EndsWithState (l ∷ ls) → Ends ls
+ends_later : (l : KeyedRecord) (ls : List KeyedRecord) → EndsWithState (l ∷ ls) → EndsIfAny ls
 ends_later l [] ends = tt
 ends_later l (k ∷ ls) ends = ends
 
 -- a list that ends with a state record or a count has one
-pub has_state_or_count : (ls : List Line) → EndsWithState ls → values_of StateCount ls ≡ [] → values_of Position ls ≡ [] → 0 < length (states_in ls)
+pub has_state_or_count : (ls : List KeyedRecord) → EndsWithState ls → values_of StateCount ls ≡ [] → values_of Position ls ≡ [] → 0 < length (states_in ls)
 has_state_or_count [] ends no_count no_position = absurd ends
 has_state_or_count (l ∷ []) ends no_count no_position = by_key l.key l.value ends no_count no_position
   where
@@ -232,14 +232,14 @@ has_state_or_count (l ∷ k ∷ ls) ends no_count no_position =
     let more = has_state_or_count (k ∷ ls) ends (later_none StateCount l (k ∷ ls) no_count) (later_none Position l (k ∷ ls) no_position) in
     omega (arith, more, longer_states l.key l.value (states_in (k ∷ ls)))
   where
-    later_none : (c : Key) (x : Line) (xs : List Line) → values_of c (x ∷ xs) ≡ [] → values_of c xs ≡ []
+    later_none : (c : Key) (x : KeyedRecord) (xs : List KeyedRecord) → values_of c (x ∷ xs) ≡ [] → values_of c xs ≡ []
     later_none c x xs none = values_none (values_of c (one x.key x.value)) (values_of c xs) (sym (values_of-append c (one x.key x.value) xs) ∙ none)
       where
         values_none : (ys zs : List (List ℕ)) → ys ++ zs ≡ [] → zs ≡ []
         values_none [] zs e = e
         values_none (y ∷ ys) zs e = cc
 
-    longer_states : (c : Key) (value : List ℕ) (ss : List StateLine) → length ss ≤ length (onto_states c value ss)
+    longer_states : (c : Key) (value : List ℕ) (ss : List KeyedState) → length ss ≤ length (onto_states c value ss)
     longer_states (State c) value ss = omega arith
     longer_states StateCount value ss = omega arith
     longer_states Position value ss = omega arith
@@ -256,7 +256,7 @@ has_state_or_count (l ∷ k ∷ ls) ends no_count no_position =
     longer_states Time value ss = omega arith
     longer_states Other value ss = omega arith
 
-undone_at : {P : Type 0} (game : SavedGame P) (ls : List Line) (h : History P) (before later : List Line) → AreSaved game h ls → ls ≡ before ++ later → EndsWithState later → is_complete (met game before) ≡ false
+undone_at : {P : Type 0} (game : SavedGame P) (ls : List KeyedRecord) (h : History P) (before later : List KeyedRecord) → AreSaved game h ls → ls ≡ before ++ later → EndsWithState later → is_complete (met game before) ≡ false
 undone_at game ls h before later s split ends =
     let r = ranges game ls h s in
     by_case (before_place StateCount (decimal (length h.moves + 1)) before later (ap (values_of StateCount) (sym split) ∙ s.count))
@@ -282,7 +282,7 @@ undone_at game ls h before later s split ends =
         rw (some.0, place.0, r.count_good, r.position_good) (grind (arith, nat_tests))
 
 -- the records of a save are right
-right_along : {P : Type 0} (game : SavedGame P) (ls : List Line) (h : History P) (before later : List Line) → AreSaved game h ls → ls ≡ before ++ later → CountsStandFirst later → Ends later → AreFaultless (states_in later) → AreRight game before later
+right_along : {P : Type 0} (game : SavedGame P) (ls : List KeyedRecord) (h : History P) (before later : List KeyedRecord) → AreSaved game h ls → ls ≡ before ++ later → CountsStandFirst later → EndsIfAny later → AreFaultless (states_in later) → AreRight game before later
 right_along game ls h before [] s split counts ends fine =
     let r = ranges game ls h s in
     let whole : ls ≡ before = split ∙ append-nil before in
@@ -297,7 +297,7 @@ right_along game ls h before (l ∷ later) s split counts ends fine = (
   right_along game ls h (before ++ l ∷ []) later s (split ∙ sym (append_assoc before (l ∷ []) later)) counts.1 (ends_later l later ends) (fine_later l.key l.value (states_in later) fine),
 )
   where
-    fine_later : (c : Key) (value : List ℕ) (ss : List StateLine) → AreFaultless (onto_states c value ss) → AreFaultless ss
+    fine_later : (c : Key) (value : List ℕ) (ss : List KeyedState) → AreFaultless (onto_states c value ss) → AreFaultless ss
     fine_later (State c) value ss all = all.1
     fine_later StateCount value ss all = all
     fine_later Position value ss all = all
@@ -314,11 +314,11 @@ right_along game ls h before (l ∷ later) s split counts ends fine = (
     fine_later Time value ss all = all
     fine_later Other value ss all = all
 
-ends_at_all : (ls : List Line) → EndsWithState ls → Ends ls
+ends_at_all : (ls : List KeyedRecord) → EndsWithState ls → EndsIfAny ls
 ends_at_all [] ends = tt
 ends_at_all (l ∷ ls) ends = ends
 
-pub saved_right : {P : Type 0} (game : SavedGame P) (ls : List Line) (h : History P) → AreSaved game h ls → AreRight game [] ls
+pub saved_right : {P : Type 0} (game : SavedGame P) (ls : List KeyedRecord) (h : History P) → AreSaved game h ls → AreRight game [] ls
 saved_right game ls h s =
     right_along game ls h [] ls s refl s.counts_first (ends_at_all ls s.last) (all_faultless game h.puzzle h.moves (states_in ls) s.states)
 
@@ -327,7 +327,7 @@ first_kept : (kept : Option (List ℕ)) (values : List (List ℕ)) → values �
 first_kept None values is = ap first_of is
 first_kept (Some v) values is = ap first_of is
 
-extras_again : {P : Type 0} (game : SavedGame P) (ls : List Line) (h : History P) → AreSaved game h ls → extras_in (met game ls) ≡ h.extras
+extras_again : {P : Type 0} (game : SavedGame P) (ls : List KeyedRecord) (h : History P) → AreSaved game h ls → extras_in (met game ls) ≡ h.extras
 extras_again game ls h s =
     let seed = first_kept h.extras.seed (values_of Seed ls) s.seed in
     let auxinfo = first_kept h.extras.auxinfo (values_of AuxInfo ls) s.auxinfo in
@@ -335,7 +335,7 @@ extras_again game ls h s =
     let time = first_kept h.extras.time (values_of Time ls) s.time in
     rw (seed, auxinfo, ui, time) refl
 
-pub session_again : {P : Type 0} (game : SavedGame P) (ls : List Line) (h : History P) → IsGame game → AreSaved game h ls → session_of game (met game ls) ≡ Ok h
+pub session_again : {P : Type 0} (game : SavedGame P) (ls : List KeyedRecord) (h : History P) → IsGame game → AreSaved game h ls → session_of game (met game ls) ≡ Ok h
 unfolding session_of
 session_again {P} game ls h owes s =
     let m = met game ls in
@@ -358,8 +358,8 @@ session_again {P} game ls h owes s =
 pub load_again : {P : Type 0} (game : SavedGame P) (text : List ℕ) (h : History P) → IsGame game → SaveText game h text → load_at game text ≡ Ok h
 unfolding load_at
 load_again game text h owes t =
-    let small : nat_lt most_bytes (length text) ≡ false = (let within = t.small in grind (arith, nat_tests)) in
+    let small : nat_lt longest_save (length text) ≡ false = (let within = t.small in grind (arith, nat_tests)) in
     let head : behind_head (record_at text) ≡ Ok t.behind_head = ap behind_head (record_again text (record { key = codes "SAVEFILE"; value = collection }) t.behind_head t.head) in
     let read : needed game [] (records_of t.behind_head) ≡ Ok t.records = needed_again game [] t.records (records_of t.behind_head) (saved_right game t.records h t.saved) (records_again t.records t.behind_head t.begins) in
-    let all : met_in game (records_of t.behind_head) ≡ Ok (met game t.records) = ap (λ (s : Result (List Line) LoadFault). s >>= λ ls. Ok (met game ls)) read in
+    let all : met_in game (records_of t.behind_head) ≡ Ok (met game t.records) = ap (λ (s : Result (List KeyedRecord) LoadFault). s >>= λ ls. Ok (met game ls)) read in
     rw (small, head, all) (session_again game t.records h owes t.saved)

@@ -19,8 +19,8 @@ use Rattle.play_save.specs.declared.fault.LoadFault.TheVariants.{NotASave, Versi
 use Rattle.play_save.specs.declared.key.Key.{Key}
 use Rattle.play_save.specs.declared.key.Key.TheVariants.{SaveFile, FormatVersion, GameName, NextParams, CurrentParams, Seed, Desc, PrivateDesc, AuxInfo, Ui, Time, StateCount, Position, State, Other}
 use Rattle.play_save.specs.Records.{Entry, BeginsWith, record_at}
-use Rattle.play_save.specs.Lines.{Line, values_of, states_in, StandsOnce, once_if_kept, is_state, CountsStandFirst, may_be_last, EndsWithState}
-use Rattle.play_save.specs.SaveTexts.{SavedGame, collection, most_bytes, AreSaved, SaveText}
+use Rattle.play_save.specs.KeyedRecords.{KeyedRecord, values_of, states_in, StandsOnce, once_if_kept, is_state, CountsStandFirst, may_be_last, EndsWithState}
+use Rattle.play_save.specs.SaveTexts.{SavedGame, collection, longest_save, AreSaved, SaveText}
 use Rattle.play_save.specs.FirstFaults.{Met, saved_params_at, count_at, first_of, met, fault_unless, state_fault, fault_by, is_complete, records_of, unless, needed, states_played, needed_params, needed_count, extras_in, session_with, session_at, session_of, head_or_fault, behind_head, met_in, load_at}
 use Rattle.play_save.specs.Taking.{added}
 use Rattle.play_save.proofs.OptionSteps.{map_taken, ok_or_taken}
@@ -33,13 +33,13 @@ use Rattle.play_save.proofs.GameTexts.{IsGame}
 use Rattle.play_save.proofs.StatesPlayed.{ok_taken, IsDescribed, states_taken, have_length}
 
 -- a key that stands, stands alone
-alone_at : {P : Type 0} (game : SavedGame P) (ls : List Line) (k : Key) (value : List ℕ) → is_once k ≡ true → is_state k ≡ false → AreRight game [] ls → first_of (values_of k ls) ≡ Some value → StandsAlone game k value ls []
+alone_at : {P : Type 0} (game : SavedGame P) (ls : List KeyedRecord) (k : Key) (value : List ℕ) → is_once k ≡ true → is_state k ≡ false → AreRight game [] ls → first_of (values_of k ls) ≡ Some value → StandsAlone game k value ls []
 alone_at game ls k value single header right is =
     let some = first_some (values_of k ls) value is in
     stands_at game [] ls k value some.0 single header right some.1
 
 -- kept bytes stand once or never
-kept_once : {P : Type 0} (game : SavedGame P) (ls : List Line) (k : Key) → is_once k ≡ true → is_state k ≡ false → AreRight game [] ls → values_of k ls ≡ once_if_kept (first_of (values_of k ls))
+kept_once : {P : Type 0} (game : SavedGame P) (ls : List KeyedRecord) (k : Key) → is_once k ≡ true → is_state k ≡ false → AreRight game [] ls → values_of k ls ≡ once_if_kept (first_of (values_of k ls))
 kept_once game ls k single header right = by_values (values_of k ls) refl
   where
     by_values : (values : List (List ℕ)) → values_of k ls ≡ values → values ≡ once_if_kept (first_of values)
@@ -47,7 +47,7 @@ kept_once game ls k single header right = by_values (values_of k ls) refl
     by_values (v ∷ vs) is = sym is ∙ (stands_at game [] ls k v vs single header right is).alone
 
 -- a key whose record is always refused never stands
-never : {P : Type 0} (game : SavedGame P) (ls : List Line) (k : Key) (fault : LoadFault) → is_once k ≡ true → is_state k ≡ false → ((m : Met) (value : List ℕ) → fault_by game m k value ≡ Some fault) → AreRight game [] ls → values_of k ls ≡ []
+never : {P : Type 0} (game : SavedGame P) (ls : List KeyedRecord) (k : Key) (fault : LoadFault) → is_once k ≡ true → is_state k ≡ false → ((m : Met) (value : List ℕ) → fault_by game m k value ≡ Some fault) → AreRight game [] ls → values_of k ls ≡ []
 never game ls k fault single header refused right = by_values (values_of k ls) refl
   where
     by_values : (values : List (List ℕ)) → values_of k ls ≡ values → values ≡ []
@@ -59,7 +59,7 @@ never game ls k fault single header refused right = by_values (values_of k ls) r
         cc
 
 -- the values that have to stand
-version_is : {P : Type 0} (game : SavedGame P) (ls : List Line) → AreRight game [] ls → is_some (first_of (values_of FormatVersion ls)) ≡ true → values_of FormatVersion ls ≡ codes "1" ∷ []
+version_is : {P : Type 0} (game : SavedGame P) (ls : List KeyedRecord) → AreRight game [] ls → is_some (first_of (values_of FormatVersion ls)) ≡ true → values_of FormatVersion ls ≡ codes "1" ∷ []
 version_is game ls right some =
     let first = is_some_taken (first_of (values_of FormatVersion ls)) some in
     let at = alone_at game ls FormatVersion first.0 refl refl right first.1 in
@@ -67,7 +67,7 @@ version_is game ls right some =
     let same = (bytes_eq-Decides first.0 (codes "1")).0 (fault_unless_taken _ Version good.1) in
     at.alone ∙ ap (λ v. v ∷ []) same
 
-name_is : {P : Type 0} (game : SavedGame P) (ls : List Line) → AreRight game [] ls → is_some (first_of (values_of GameName ls)) ≡ true → values_of GameName ls ≡ game.title ∷ []
+name_is : {P : Type 0} (game : SavedGame P) (ls : List KeyedRecord) → AreRight game [] ls → is_some (first_of (values_of GameName ls)) ≡ true → values_of GameName ls ≡ game.title ∷ []
 name_is game ls right some =
     let first = is_some_taken (first_of (values_of GameName ls)) some in
     let at = alone_at game ls GameName first.0 refl refl right first.1 in
@@ -80,28 +80,28 @@ needed_params_taken None p is = cc
 needed_params_taken (Some (Ok q)) p is = cc
 needed_params_taken (Some (Err e)) p is = cc
 
-params_are : {P : Type 0} (game : SavedGame P) (ls : List Line) (k : Key) (p : Params) → is_once k ≡ true → is_state k ≡ false → AreRight game [] ls → needed_params (option_map (saved_params_at game) (first_of (values_of k ls))) ≡ Ok p → StandsOnce k (IsParamText game.letters p) ls
+params_are : {P : Type 0} (game : SavedGame P) (ls : List KeyedRecord) (k : Key) (p : Params) → is_once k ≡ true → is_state k ≡ false → AreRight game [] ls → needed_params (option_map (saved_params_at game) (first_of (values_of k ls))) ≡ Ok p → StandsOnce k (IsParamText game.letters p) ls
 params_are game ls k p single header right is =
     let read = map_taken (saved_params_at game) (first_of (values_of k ls)) (Ok p) (needed_params_taken _ p is) in
     let at = alone_at game ls k read.0 single header right read.1 in
     (read.0, at.alone, params_taken game.letters (has_adjacent game.title) read.0 p read.2)
 
 -- the counts
-count_stands : {P : Type 0} (game : SavedGame P) (ls : List Line) (k : Key) (n : ℕ) → is_once k ≡ true → is_state k ≡ false → AreRight game [] ls → option_map count_at (first_of (values_of k ls)) ≡ Some (Some n) → values_of k ls ≡ decimal n ∷ []
+count_stands : {P : Type 0} (game : SavedGame P) (ls : List KeyedRecord) (k : Key) (n : ℕ) → is_once k ≡ true → is_state k ≡ false → AreRight game [] ls → option_map count_at (first_of (values_of k ls)) ≡ Some (Some n) → values_of k ls ≡ decimal n ∷ []
 count_stands game ls k n single header right is =
     let read = map_taken count_at (first_of (values_of k ls)) (Some n) is in
     let at = alone_at game ls k read.0 single header right read.1 in
     at.alone ∙ ap (λ v. v ∷ []) (count_taken read.0 n read.2).0
 
 -- no count follows a state record
-abbrev BothBefore : List Line → Type 0
+abbrev BothBefore : List KeyedRecord → Type 0
 BothBefore before = (0 < length (values_of StateCount before)) × (0 < length (values_of Position before))
 
 some_values : {A : Type 0} (f : List ℕ → A) (values : List (List ℕ)) (x : A) → option_map f (first_of values) ≡ Some x → 0 < length values
 some_values f [] x is = cc
 some_values f (v ∷ vs) x is = omega arith
 
-state_behind_counts : {P : Type 0} (game : SavedGame P) (before : List Line) (k : Key) (value : List ℕ) → is_state k ≡ true → fault_by game (met game before) k value ≡ None → BothBefore before
+state_behind_counts : {P : Type 0} (game : SavedGame P) (before : List KeyedRecord) (k : Key) (value : List ℕ) → is_state k ≡ true → fault_by game (met game before) k value ≡ None → BothBefore before
 state_behind_counts game before (State k) value state none =
     let m = met game before in
     let both = counts_met m.count m.position m (state_fault k value) refl refl none in
@@ -121,14 +121,14 @@ state_behind_counts game before StateCount value state none = cc
 state_behind_counts game before Position value state none = cc
 state_behind_counts game before Other value state none = cc
 
-longer_values : (k : Key) (before : List Line) (l : Line) → 0 < length (values_of k before) → 0 < length (values_of k (before ++ l ∷ []))
+longer_values : (k : Key) (before : List KeyedRecord) (l : KeyedRecord) → 0 < length (values_of k before) → 0 < length (values_of k (before ++ l ∷ []))
 longer_values k before l some = rw (values_of-append k before (l ∷ [])) (longer (values_of k before) (values_of k (l ∷ [])) some)
   where
     longer : (xs ys : List (List ℕ)) → 0 < length xs → 0 < length (xs ++ ys)
     longer [] ys more = absurd (omega arith)
     longer (x ∷ xs) ys more = omega arith
 
-right_counts_first : {P : Type 0} (game : SavedGame P) (before ls : List Line) → AreRight game before ls → CountsStandFirst ls
+right_counts_first : {P : Type 0} (game : SavedGame P) (before ls : List KeyedRecord) → AreRight game before ls → CountsStandFirst ls
 right_counts_first game before [] right = tt
 right_counts_first game before (l ∷ ls) right = (
   λ state.
@@ -157,13 +157,13 @@ completes game m Position value undone done = refl
 completes game m (State k) value undone done = refl
 completes game m Other value undone done = cc
 
-right_ends : {P : Type 0} (game : SavedGame P) (before : List Line) (l : Line) (ls : List Line) → AreRight game before (l ∷ ls) → EndsWithState (l ∷ ls)
+right_ends : {P : Type 0} (game : SavedGame P) (before : List KeyedRecord) (l : KeyedRecord) (ls : List KeyedRecord) → AreRight game before (l ∷ ls) → EndsWithState (l ∷ ls)
 right_ends game before l [] right =
     let done : is_complete (added game (met game before) l.key l.value) ≡ true = ap is_complete (sym (met_added game before l.key l.value right.1)) ∙ right.2 in
     completes game (met game before) l.key l.value right.0 done
 right_ends game before l (k ∷ ls) right = right_ends game (before ++ l ∷ []) k ls right.2
 
-ends_with_state : {P : Type 0} (game : SavedGame P) (ls : List Line) → AreRight game [] ls → EndsWithState ls
+ends_with_state : {P : Type 0} (game : SavedGame P) (ls : List KeyedRecord) → AreRight game [] ls → EndsWithState ls
 ends_with_state game [] right = cc
 ends_with_state game (l ∷ ls) right = right_ends game [] l ls right
 
@@ -231,7 +231,7 @@ parts_taken {P} game m h is =
     same_ok : (a b : History P) → (let r : Result (History P) LoadFault = Ok a in r) ≡ Ok b → a ≡ b
     same_ok a b e = cc
 
-pub saved_taken : {P : Type 0} (game : SavedGame P) (ls : List Line) (h : History P) → IsGame game → AreRight game [] ls → session_of game (met game ls) ≡ Ok h → AreSaved game h ls
+pub saved_taken : {P : Type 0} (game : SavedGame P) (ls : List KeyedRecord) (h : History P) → IsGame game → AreRight game [] ls → session_of game (met game ls) ≡ Ok h → AreSaved game h ls
 saved_taken {P} game ls h owes right is =
     let m = met game ls in
     let parts = parts_taken game m h is in
@@ -305,7 +305,7 @@ behind_head_taken text rest (Err fault) read is = cc
 pub load_taken : {P : Type 0} (game : SavedGame P) (text : List ℕ) (h : History P) → IsGame game → load_at game text ≡ Ok h → SaveText game h text
 unfolding load_at
 load_taken {P} game text h owes =
-    elim (nat_lt most_bytes (length text)) as (λ t. nat_lt most_bytes (length text) ≡ t → cond t (Err TooLarge) (behind_head (record_at text) >>= λ rest. met_in game (records_of rest) >>= λ m. session_of game m) ≡ Ok h → SaveText game h text) [
+    elim (nat_lt longest_save (length text)) as (λ t. nat_lt longest_save (length text) ≡ t → cond t (Err TooLarge) (behind_head (record_at text) >>= λ rest. met_in game (records_of rest) >>= λ m. session_of game m) ≡ Ok h → SaveText game h text) [
       | true ↦ λ large is. cc
       | false ↦ λ large is.
           let head = bind_taken (behind_head (record_at text)) (λ rest. met_in game (records_of rest) >>= λ m. session_of game m) h is in
@@ -314,7 +314,7 @@ load_taken {P} game text h owes =
           let need = needed_taken game [] (records_of head.0) all.0 all.1 in
           let same : met game need.more ≡ some.0 = ap (met game) (sym need.all_is) ∙ same_ok (met game all.0) some.0 all.2 in
           record {
-            small = ltb-false most_bytes (length text) large;
+            small = ltb-false longest_save (length text) large;
             behind_head = head.0;
             head = behind_head_taken text head.0 (record_at text) refl head.1;
             records = need.more;

@@ -22,8 +22,8 @@ use Rattle.play_save.specs.declared.fault.LoadFault.TheVariants.{OutOfMemory}
 use Rattle.play_save.specs.declared.key.Key.{Key}
 use Rattle.play_save.specs.declared.key.Key.TheVariants.{SaveFile, NextParams, CurrentParams, Desc, StateCount, Position}
 use Rattle.play_save.specs.Records.{Entry, record_at}
-use Rattle.play_save.specs.Lines.{Line, BeginsWithAll, values_of, states_in, once_if_kept, EndsWithState}
-use Rattle.play_save.specs.SaveTexts.{SavedGame, collection, most_bytes, is_solve, IsStateOf, HaveStates, AreSaved, SaveText}
+use Rattle.play_save.specs.KeyedRecords.{KeyedRecord, BeginsWithAll, values_of, states_in, once_if_kept, EndsWithState}
+use Rattle.play_save.specs.SaveTexts.{SavedGame, collection, longest_save, is_solve, IsStateOf, HaveStates, AreSaved, SaveText}
 use Rattle.play_save.specs.FirstFaults.{count_at}
 use Rattle.play_save.specs.Written.{with_value, record_text, records_text, save_of}
 use Rattle.play_save.specs.Laws.{HasGrid, WrittenIsSaved, WrittenSavesNoOther}
@@ -33,7 +33,7 @@ use Rattle.play_save.proofs.Counting.{count_again}
 use Rattle.play_save.proofs.GameTexts.{IsGame}
 use Rattle.play_save.proofs.StatesPlayed.{text_again, have_length}
 use Rattle.play_save.proofs.SavedAgain.{has_state_or_count}
-use Rattle.play_save.proofs.WrittenRecords.{entry_written, written_begins, AreAll, all_written, begins_prefix, all_begin}
+use Rattle.play_save.proofs.WrittenRecords.{entry_written, written_begins, AreToTheEnd, all_written, begins_prefix, all_begin}
 use Rattle.play_save.proofs.WrittenLines.{tail_lines, state_value, values_SaveFile, values_FormatVersion, values_GameName, values_NextParams, values_CurrentParams, values_Desc, values_PrivateDesc, values_StateCount, values_Position, values_Seed, values_AuxInfo, values_Ui, values_Time, states_tail, counts_first_tail, ends_tail, known_tail}
 use Rattle.play_save.proofs.LegalMoves.{FitsText, AllFit, all_fit}
 
@@ -134,14 +134,14 @@ written_text game h = refl
 
 record Read {P : Type 0} (game : SavedGame P) (h : History P) (text : List ℕ) : Type 0 where
   head : record_at text ≡ Ok (Some (entry_written (with_value SaveFile collection), 10 ∷ records_text (tail_lines game.title (game.desc_of h.puzzle) h)))
-  all : AreAll (tail_lines game.title (game.desc_of h.puzzle) h) (10 ∷ records_text (tail_lines game.title (game.desc_of h.puzzle) h))
+  all : AreToTheEnd (tail_lines game.title (game.desc_of h.puzzle) h) (10 ∷ records_text (tail_lines game.title (game.desc_of h.puzzle) h))
 
-read_written : {P : Type 0} (game : SavedGame P) (h : History P) → length (save_of game.title game.desc_of h) ≤ most_bytes → Read game h (save_of game.title game.desc_of h)
+read_written : {P : Type 0} (game : SavedGame P) (h : History P) → length (save_of game.title game.desc_of h) ≤ longest_save → Read game h (save_of game.title game.desc_of h)
 read_written {P} game h small =
     let ls = tail_lines game.title (game.desc_of h.puzzle) h in
     let head = with_value SaveFile collection in
     let text = written_text game h in
-    let short : length (records_text ls) ≤ most_bytes = omega (arith, ap length text, length-append (record_text head) (records_text ls)) in
+    let short : length (records_text ls) ≤ longest_save = omega (arith, ap length text, length-append (record_text head) (records_text ls)) in
     let made : Read game h (record_text head ++ records_text ls) = record {
       head = record_again (record_text head ++ records_text ls) (entry_written head) (10 ∷ records_text ls) (written_begins head [] (records_text ls) tt refl (lit≤ tt));
       all = all_written ls (10 ∷ []) (refl, tt) (known_tail game.title (game.desc_of h.puzzle) h) short;
@@ -191,13 +191,13 @@ written_is_saved {P} game of_game owes canonical h storable grids small =
     }
 
 -- the records of any save of it are those that were written
-one_value : (k : Key) (v w : List ℕ) (ls later all : List Line) → all ≡ ls ++ later → values_of k all ≡ v ∷ [] → values_of k ls ≡ w ∷ [] → (v ≡ w) × (values_of k later ≡ [])
+one_value : (k : Key) (v w : List ℕ) (ls later all : List KeyedRecord) → all ≡ ls ++ later → values_of k all ≡ v ∷ [] → values_of k ls ≡ w ∷ [] → (v ≡ w) × (values_of k later ≡ [])
 one_value k v w ls later all split whole part =
     let both : v ∷ [] ≡ w ∷ values_of k later = sym whole ∙ (ap (values_of k) split ∙ (values_of-append k ls later ∙ ap (λ vs. vs ++ values_of k later) part)) in
     let rest : values_of k later ≡ [] = cc in
     (cc, rest)
 
-ends_later : (xs : List Line) (y : Line) (ys : List Line) → EndsWithState (xs ++ y ∷ ys) → EndsWithState (y ∷ ys)
+ends_later : (xs : List KeyedRecord) (y : KeyedRecord) (ys : List KeyedRecord) → EndsWithState (xs ++ y ∷ ys) → EndsWithState (y ∷ ys)
 ends_later [] y ys ends = ends
 ends_later (x ∷ []) y ys ends = ends
 ends_later (x ∷ z ∷ xs) y ys ends = ends_later (z ∷ xs) y ys ends
@@ -207,7 +207,7 @@ record IsSameSave {P : Type 0} (game : SavedGame P) (h other : History P) : Type
   count : length other.moves ≡ length h.moves
   position : other.position ≡ h.position
 
-same_save : {P : Type 0} (game : SavedGame P) (h other : History P) (ls later : List Line) → IsValid (game.puzzle h.puzzle) h → tail_lines game.title (game.desc_of h.puzzle) h ≡ ls ++ later → AreSaved game other ls → IsSameSave game h other
+same_save : {P : Type 0} (game : SavedGame P) (h other : History P) (ls later : List KeyedRecord) → IsValid (game.puzzle h.puzzle) h → tail_lines game.title (game.desc_of h.puzzle) h ≡ ls ++ later → AreSaved game other ls → IsSameSave game h other
 same_save {P} game h other ls later valid split saved =
     let title = game.title in
     let desc = game.desc_of h.puzzle in
@@ -231,7 +231,7 @@ same_save {P} game h other ls later valid split saved =
     let same : ls ≡ all = sym (append-nil ls) ∙ (ap (λ xs. ls ++ xs) (sym empty) ∙ sym split) in
     record { saved = subst (λ xs. AreSaved game other xs) same saved; count = omega arith; position = sym places }
   where
-    no_more : (xs : List Line) → tail_lines game.title (game.desc_of h.puzzle) h ≡ ls ++ xs → values_of StateCount xs ≡ [] → values_of Position xs ≡ [] → length (states_in xs) ≡ 0 → xs ≡ []
+    no_more : (xs : List KeyedRecord) → tail_lines game.title (game.desc_of h.puzzle) h ≡ ls ++ xs → values_of StateCount xs ≡ [] → values_of Position xs ≡ [] → length (states_in xs) ≡ 0 → xs ≡ []
     no_more [] cut no_count no_place no_state = refl
     no_more (x ∷ xs) cut no_count no_place no_state =
         let ends = ends_later ls x xs (subst (λ zs. EndsWithState zs) cut (ends_tail game.title (game.desc_of h.puzzle) h)) in

@@ -14,7 +14,7 @@ use Rattle.play_midend.proofs.Playing.{accepted}
 use Rattle.play_save.specs.declared.fault.LoadFault.TheVariants.{BadState}
 use Rattle.play_save.specs.declared.key.StateKey.{StateKey}
 use Rattle.play_save.specs.declared.key.StateKey.TheVariants.{AnyMove, SolveMove, RestartMove}
-use Rattle.play_save.specs.Lines.{StateLine}
+use Rattle.play_save.specs.KeyedRecords.{KeyedState}
 use Rattle.play_save.specs.SaveTexts.{SavedGame, is_solve, IsStateOf, HaveStates}
 use Rattle.play_save.specs.FirstFaults.{solution_alone, restart_of, state_move, state_played, states_played, state_fault}
 use Rattle.play_save.proofs.OptionSteps.{and_then_taken, ok_or_taken}
@@ -79,12 +79,12 @@ pub played_keeps : {P : Type 0} (pz : Puzzle) (h next : History P) (m : Move) �
 played_keeps pz h next m is = ap (λ k. k.puzzle) (sym (accepted (refusal_in pz h m) (with_move h m) next is).1)
 
 -- all state records
-pub record ArePlayed {P : Type 0} (game : SavedGame P) (h : History P) (ss : List StateLine) (last : History P) : Type 0 where
+pub record ArePlayed {P : Type 0} (game : SavedGame P) (h : History P) (ss : List KeyedState) (last : History P) : Type 0 where
   pub moves : List Move
   pub have : HaveStates game h.puzzle moves ss
   pub played_is : played_all (game.puzzle h.puzzle) h moves ≡ Ok last
 
-pub states_taken : {P : Type 0} (game : SavedGame P) (h last : History P) (i : ℕ) (ss : List StateLine) → IsGame game → IsDescribed game h.puzzle → states_played game h i ss ≡ Ok last → ArePlayed game h ss last
+pub states_taken : {P : Type 0} (game : SavedGame P) (h last : History P) (i : ℕ) (ss : List KeyedState) → IsGame game → IsDescribed game h.puzzle → states_played game h i ss ≡ Ok last → ArePlayed game h ss last
 states_taken game h last i [] owes d is = let same : h ≡ last = cc in record { moves = []; have = tt; played_is = ap Ok same }
 states_taken {P} game h last i (s ∷ ss) owes d is =
     let step = bind_taken (state_played game h i (state_move game h.puzzle s.key s.value)) (λ next. states_played game next (i + 1) ss) last is in
@@ -105,7 +105,7 @@ states_taken {P} game h last i (s ∷ ss) owes d is =
 played_ok : {P : Type 0} (game : SavedGame P) (h next : History P) (i : ℕ) (m : Move) → played (game.puzzle h.puzzle) h m ≡ Ok next → state_played game h i (Some m) ≡ Ok next
 played_ok game h next i m is = rw is refl
 
-pub states_again : {P : Type 0} (game : SavedGame P) (h last : History P) (i : ℕ) (ms : List Move) (ss : List StateLine) → IsGame game → HaveStates game h.puzzle ms ss → played_all (game.puzzle h.puzzle) h ms ≡ Ok last → states_played game h i ss ≡ Ok last
+pub states_again : {P : Type 0} (game : SavedGame P) (h last : History P) (i : ℕ) (ms : List Move) (ss : List KeyedState) → IsGame game → HaveStates game h.puzzle ms ss → played_all (game.puzzle h.puzzle) h ms ≡ Ok last → states_played game h i ss ≡ Ok last
 states_again game h last i [] [] owes have is = let same : h ≡ last = cc in ap Ok same
 states_again game h last i [] (s ∷ ss) owes have is = absurd have
 states_again game h last i (m ∷ ms) [] owes have is = absurd have
@@ -125,7 +125,7 @@ states_again {P} game h last i (m ∷ ms) (s ∷ ss) owes have is =
         bind_again (state_played game h i (state_move game h.puzzle s.key s.value)) (λ after. states_played game after (i + 1) ss) next one ∙ rest
 
 -- as many moves as state records
-pub have_length : {P : Type 0} (game : SavedGame P) (p : P) (ms : List Move) (ss : List StateLine) → HaveStates game p ms ss → length ms ≡ length ss
+pub have_length : {P : Type 0} (game : SavedGame P) (p : P) (ms : List Move) (ss : List KeyedState) → HaveStates game p ms ss → length ms ≡ length ss
 have_length game p [] [] have = refl
 have_length game p [] (s ∷ ss) have = absurd have
 have_length game p (m ∷ ms) [] have = absurd have
@@ -141,7 +141,7 @@ other_restart game p q value owes d other is =
     rw is (other_puzzle game w p q d.text value owes d.described (owes.reads.taken w value q d.smallest d.largest is) other)
 
 -- each state record leads on by one position
-pub position_played : {P : Type 0} (game : SavedGame P) (h last : History P) (i : ℕ) (ss : List StateLine) → states_played game h i ss ≡ Ok last → last.position ≡ h.position + length ss
+pub position_played : {P : Type 0} (game : SavedGame P) (h last : History P) (i : ℕ) (ss : List KeyedState) → states_played game h i ss ≡ Ok last → last.position ≡ h.position + length ss
 position_played game h last i [] is = let same : h ≡ last = cc in ap (λ k. k.position) (sym same) ∙ sym (add-zero h.position)
 position_played {P} game h last i (s ∷ ss) is =
     let step = bind_taken (state_played game h i (state_move game h.puzzle s.key s.value)) (λ next. states_played game next (i + 1) ss) last is in

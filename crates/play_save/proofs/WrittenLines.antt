@@ -11,28 +11,28 @@ use Rattle.play_save.specs.declared.key.StateKey.TheVariants.{AnyMove, SolveMove
 use Rattle.play_save.specs.declared.key.Key.{Key}
 use Rattle.play_save.specs.declared.key.Key.TheVariants.{SaveFile, FormatVersion, GameName, NextParams, CurrentParams, Seed, Desc, PrivateDesc, AuxInfo, Ui, Time, StateCount, Position, State, Other}
 use Rattle.play_save.specs.Keys.{rank}
-use Rattle.play_save.specs.Lines.{Line, StateLine, values_of, onto_states, states_in, once_if_kept, is_state, CountsStandFirst, may_be_last, EndsWithState}
+use Rattle.play_save.specs.KeyedRecords.{KeyedRecord, KeyedState, values_of, onto_states, states_in, once_if_kept, is_state, CountsStandFirst, may_be_last, EndsWithState}
 use Rattle.play_save.specs.SaveTexts.{is_solve}
 use Rattle.play_save.specs.Written.{with_value, kept_line, state_line, body_lines, state_lines}
 use Rattle.play_save.proofs.LineLists.{values_of-append, states_in-append, own_rank}
 use Rattle.play_save.proofs.WrittenRecords.{is_known, AreKnown}
 
 -- the records behind the first
-abbrev pub four : {P : Type 0} → List ℕ → History P → List Line
+abbrev pub four : {P : Type 0} → List ℕ → History P → List KeyedRecord
 four title h =
     with_value FormatVersion (codes "1") ∷ with_value GameName title ∷ with_value NextParams (params_text h.next_params)
     ∷ with_value CurrentParams (params_text h.params) ∷ []
 
-abbrev pub tail_lines : {P : Type 0} → List ℕ → List ℕ → History P → List Line
+abbrev pub tail_lines : {P : Type 0} → List ℕ → List ℕ → History P → List KeyedRecord
 tail_lines title desc h = four title h ++ (body_lines desc h ++ state_lines desc h)
 
 -- the state record of a move
-abbrev pub state_value : List ℕ → Move → StateLine
+abbrev pub state_value : List ℕ → Move → KeyedState
 state_value desc m =
     cond (is_restart m) (record { key = RestartMove; value = desc })
     (record { key = cond (is_solve m) SolveMove AnyMove; value = move_text m })
 
-abbrev states_of : List ℕ → List Move → List Line
+abbrev states_of : List ℕ → List Move → List KeyedRecord
 states_of desc ms = map (state_line desc) ms
 
 state_is : (desc : List ℕ) (m : Move) → is_state (state_line desc m).key ≡ true
@@ -216,7 +216,7 @@ states_map desc [] = refl
 states_map desc (m ∷ ms) =
     one (is_restart m) (is_solve m) (move_text m) (states_in (states_of desc ms)) ∙ ap (λ ss. state_value desc m ∷ ss) (states_map desc ms)
   where
-    one : (restart solve : Bool) (text : List ℕ) (ss : List StateLine) → onto_states (cond restart (with_value (State RestartMove) desc) (with_value (State (cond solve SolveMove AnyMove)) text)).key (cond restart (with_value (State RestartMove) desc) (with_value (State (cond solve SolveMove AnyMove)) text)).value ss ≡ cond restart (record { key = RestartMove; value = desc }) (record { key = cond solve SolveMove AnyMove; value = text }) ∷ ss
+    one : (restart solve : Bool) (text : List ℕ) (ss : List KeyedState) → onto_states (cond restart (with_value (State RestartMove) desc) (with_value (State (cond solve SolveMove AnyMove)) text)).key (cond restart (with_value (State RestartMove) desc) (with_value (State (cond solve SolveMove AnyMove)) text)).value ss ≡ cond restart (record { key = RestartMove; value = desc }) (record { key = cond solve SolveMove AnyMove; value = text }) ∷ ss
     one true solve text ss = refl
     one false solve text ss = refl
 
@@ -234,7 +234,7 @@ states_tail title desc h =
     states_in-append (body_lines desc h) (state_lines desc h) ∙ (ap (λ ss. ss ++ states_in (state_lines desc h)) body ∙ states_map desc h.moves)
 
 -- the counts come before the states, and a state or a count is the last
-front_first : (xs ys : List Line) → states_in xs ≡ [] → CountsStandFirst ys → CountsStandFirst (xs ++ ys)
+front_first : (xs ys : List KeyedRecord) → states_in xs ≡ [] → CountsStandFirst ys → CountsStandFirst (xs ++ ys)
 front_first [] ys none first = first
 front_first (x ∷ xs) ys none first =
     let parts = none_first x.key x.value (states_in xs) none in
@@ -243,7 +243,7 @@ front_first (x ∷ xs) ys none first =
     never : (k : Key) → is_state k ≡ false → is_state k ≡ true → ⊥
     never k header state = cc
 
-    none_first : (k : Key) (v : List ℕ) (ss : List StateLine) → onto_states k v ss ≡ [] → (is_state k ≡ false) × (ss ≡ [])
+    none_first : (k : Key) (v : List ℕ) (ss : List KeyedState) → onto_states k v ss ≡ [] → (is_state k ≡ false) × (ss ≡ [])
     none_first SaveFile v ss e = (refl, e)
     none_first FormatVersion v ss e = (refl, e)
     none_first GameName v ss e = (refl, e)
@@ -270,13 +270,13 @@ counts_first_tail title desc h =
     front_first (four title h) (body_lines desc h ++ state_lines desc h) refl
     (front_first (body_lines desc h) (state_lines desc h) (states_body desc h) states)
 
-ends_behind : (xs ys : List Line) → EndsWithState ys → EndsWithState (xs ++ ys)
+ends_behind : (xs ys : List KeyedRecord) → EndsWithState ys → EndsWithState (xs ++ ys)
 ends_behind [] ys ends = ends
 ends_behind (x ∷ []) [] ends = absurd ends
 ends_behind (x ∷ []) (y ∷ ys) ends = ends
 ends_behind (x ∷ z ∷ xs) ys ends = ends_behind (z ∷ xs) ys ends
 
-ends_states : (l : Line) (desc : List ℕ) (ms : List Move) → may_be_last l.key ≡ true → EndsWithState (l ∷ states_of desc ms)
+ends_states : (l : KeyedRecord) (desc : List ℕ) (ms : List Move) → may_be_last l.key ≡ true → EndsWithState (l ∷ states_of desc ms)
 ends_states l desc [] last = last
 ends_states l desc (m ∷ ms) last = ends_states (state_line desc m) desc ms (state_last (state_line desc m).key (state_is desc m))
   where
@@ -303,7 +303,7 @@ ends_tail title desc h =
     (ends_behind (body_lines desc h) (state_lines desc h) (ends_states (with_value Position (decimal h.position)) desc h.moves refl))
 
 -- all keys have a name
-known_append : (xs ys : List Line) → AreKnown xs → AreKnown ys → AreKnown (xs ++ ys)
+known_append : (xs ys : List KeyedRecord) → AreKnown xs → AreKnown ys → AreKnown (xs ++ ys)
 known_append [] ys known more = more
 known_append (x ∷ xs) ys known more = (known.0, known_append xs ys known.1 more)
 

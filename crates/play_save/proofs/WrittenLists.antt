@@ -3,10 +3,10 @@ use Rattle.std.proofs.Common.{◌≡◌, ℕ, ◌+◌, ◌<◌, List, [], ◌∷
 use Rattle.std.proofs.lemmas.List.{append-nil, append_assoc, map_more}
 use Rattle.std.proofs.lemmas.Option.{get_or_from_slice_get}
 use Rattle.play_midend.specs.declared.moves.Move.{Move}
-use Rattle.play_save.specs.Lines.{Line}
+use Rattle.play_save.specs.KeyedRecords.{KeyedRecord}
 use Rattle.play_save.specs.Written.{record_text, records_text, state_line}
 
-pub records_text-append : (xs ys : List Line) → records_text (xs ++ ys) ≡ records_text xs ++ records_text ys
+pub records_text-append : (xs ys : List KeyedRecord) → records_text (xs ++ ys) ≡ records_text xs ++ records_text ys
 records_text-append [] ys = refl
 records_text-append (x ∷ xs) ys =
     ap (λ t. record_text x ++ t) (records_text-append xs ys) ∙ sym (append_assoc (record_text x) (records_text xs) (records_text ys))

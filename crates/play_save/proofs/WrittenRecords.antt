@@ -12,8 +12,8 @@ use Rattle.play_save.specs.declared.key.Key.{Key}
 use Rattle.play_save.specs.declared.key.Key.TheVariants.{SaveFile, FormatVersion, GameName, NextParams, CurrentParams, Seed, Desc, PrivateDesc, AuxInfo, Ui, Time, StateCount, Position, State, Other}
 use Rattle.play_save.specs.Records.{Entry, AreBreaks, begins_with_break, unpadded, length_at, BeginsWith}
 use Rattle.play_save.specs.Keys.{key_name, padded, key_of}
-use Rattle.play_save.specs.Lines.{Line, line_of, BeginsWithAll}
-use Rattle.play_save.specs.SaveTexts.{most_bytes}
+use Rattle.play_save.specs.KeyedRecords.{KeyedRecord, keyed, BeginsWithAll}
+use Rattle.play_save.specs.SaveTexts.{longest_save}
 use Rattle.play_save.specs.Written.{record_text, records_text}
 use Rattle.play_save.proofs.RecordLaws.{record_again, end_again}
 use Rattle.play_save.proofs.RightLists.{same_line}
@@ -155,10 +155,10 @@ length_written n few =
     big = lit< tt
 
 -- a record behind line breaks
-abbrev pub entry_written : Line → Entry
+abbrev pub entry_written : KeyedRecord → Entry
 entry_written l = record { key = key_name l.key; value = l.value }
 
-pub written_begins : (l : Line) (breaks more : List ℕ) → AreBreaks breaks → is_known l.key ≡ true → length l.value ≤ 99999999 → BeginsWith (entry_written l) (10 ∷ more) (breaks ++ (record_text l ++ more))
+pub written_begins : (l : KeyedRecord) (breaks more : List ℕ) → AreBreaks breaks → is_known l.key ≡ true → length l.value ≤ 99999999 → BeginsWith (entry_written l) (10 ∷ more) (breaks ++ (record_text l ++ more))
 unfolding record_text
 written_begins l breaks more are known few =
     let key = padded (key_name l.key) in
@@ -180,26 +180,26 @@ written_begins l breaks more are known few =
     }
 
 -- all records of a text, up to its end
-abbrev pub AreAll : List Line → List ℕ → Type 0
-AreAll [] text = AreBreaks text
-AreAll (l ∷ ls) text =
-    (e : Entry) × (rest : List ℕ) × (line_of e ≡ l) × BeginsWith e rest text × AreAll ls rest
+abbrev pub AreToTheEnd : List KeyedRecord → List ℕ → Type 0
+AreToTheEnd [] text = AreBreaks text
+AreToTheEnd (l ∷ ls) text =
+    (e : Entry) × (rest : List ℕ) × (keyed e ≡ l) × BeginsWith e rest text × AreToTheEnd ls rest
 
-abbrev pub AreKnown : List Line → Type 0
+abbrev pub AreKnown : List KeyedRecord → Type 0
 AreKnown [] = Unit {0}
 AreKnown (l ∷ ls) = (is_known l.key ≡ true) × AreKnown ls
 
-value_within : (l : Line) → length l.value ≤ length (record_text l)
+value_within : (l : KeyedRecord) → length l.value ≤ length (record_text l)
 unfolding record_text
 value_within l =
     let key = padded (key_name l.key) in
     let size = decimal (length l.value) in
     omega (arith, length-append key (58 ∷ (size ++ (58 ∷ (l.value ++ (10 ∷ []))))), length-append size (58 ∷ (l.value ++ (10 ∷ []))), length-append l.value (10 ∷ []))
 
-own_line : (l : Line) → is_known l.key ≡ true → line_of (entry_written l) ≡ l
-own_line l known = same_line (line_of (entry_written l)) l.key l.value (key_again l.key known) refl
+own_line : (l : KeyedRecord) → is_known l.key ≡ true → keyed (entry_written l) ≡ l
+own_line l known = same_line (keyed (entry_written l)) l.key l.value (key_again l.key known) refl
 
-pub all_written : (ls : List Line) (breaks : List ℕ) → AreBreaks breaks → AreKnown ls → length (records_text ls) ≤ most_bytes → AreAll ls (breaks ++ records_text ls)
+pub all_written : (ls : List KeyedRecord) (breaks : List ℕ) → AreBreaks breaks → AreKnown ls → length (records_text ls) ≤ longest_save → AreToTheEnd ls (breaks ++ records_text ls)
 all_written [] breaks are known small = subst (λ t. AreBreaks t) (sym (append_nil breaks)) are
   where
     append_nil : (xs : List ℕ) → xs ++ [] ≡ xs
@@ -216,11 +216,11 @@ all_written (l ∷ ls) breaks are known small =
     )
 
 -- the records with which a text begins are the first of all of them
-pub record IsPrefix (ls ms : List Line) : Type 0 where
-  pub later : List Line
+pub record IsPrefix (ls ms : List KeyedRecord) : Type 0 where
+  pub later : List KeyedRecord
   pub split : ms ≡ ls ++ later
 
-pub begins_prefix : (ls ms : List Line) (text : List ℕ) → BeginsWithAll ls text → AreAll ms text → IsPrefix ls ms
+pub begins_prefix : (ls ms : List KeyedRecord) (text : List ℕ) → BeginsWithAll ls text → AreToTheEnd ms text → IsPrefix ls ms
 begins_prefix [] ms text begins all = record { later = ms; split = refl }
 begins_prefix (l ∷ ls) [] text begins all =
     let read = record_again text begins.0 begins.1 begins.3 in
@@ -232,13 +232,13 @@ begins_prefix (l ∷ ls) (m ∷ ms) text begins all =
     let both : (begins.0, begins.1) ≡ (all.0, all.1) = same_pair (begins.0, begins.1) (all.0, all.1) (sym read ∙ other) in
     let entry : begins.0 ≡ all.0 = ap (λ p. p.0) both in
     let rest : begins.1 ≡ all.1 = ap (λ p. p.1) both in
-    let line : l ≡ m = sym begins.2 ∙ (ap line_of entry ∙ all.2) in
+    let line : l ≡ m = sym begins.2 ∙ (ap keyed entry ∙ all.2) in
     let more = begins_prefix ls ms all.1 (subst (λ t. BeginsWithAll ls t) rest begins.4) all.4 in
     record { later = more.later; split = ap (λ x. x ∷ ms) (sym line) ∙ ap (λ xs. l ∷ xs) more.split }
   where
     same_pair : (a b : Entry × List ℕ) → (let r : Result (Option (Entry × List ℕ)) LoadFault = Ok (Some a) in r) ≡ Ok (Some b) → a ≡ b
     same_pair a b e = cc
 
-pub all_begin : (ls : List Line) (text : List ℕ) → AreAll ls text → BeginsWithAll ls text
+pub all_begin : (ls : List KeyedRecord) (text : List ℕ) → AreToTheEnd ls text → BeginsWithAll ls text
 all_begin [] text all = tt
 all_begin (l ∷ ls) text all = (all.0, all.1, all.2, all.3, all_begin ls all.1 all.4)

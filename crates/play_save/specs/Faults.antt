@@ -3,34 +3,34 @@ use Rattle.std.specs.Prelude.{ℕ, List, codes}
 use Rattle.play_save.specs.declared.fault.LoadFault.{LoadFault}
 use Rattle.play_save.specs.declared.fault.LoadFault.TheVariants.{NotASave, Malformed, Version, WrongGame, Repeated, EarlyState, Unsupported, BadParams, BadDesc, BadCount, Missing, BadState, TooLarge, OutOfMemory}
 
-abbrev pub number_of : LoadFault → ℕ
-number_of NotASave = 1
-number_of Malformed = 2
-number_of Version = 3
-number_of WrongGame = 4
-number_of Repeated = 5
-number_of EarlyState = 6
-number_of Unsupported = 7
-number_of BadParams = 8
-number_of BadDesc = 9
-number_of BadCount = 10
-number_of Missing = 11
-number_of (BadState i) = 12
-number_of TooLarge = 13
-number_of OutOfMemory = 14
+abbrev pub load_fault_number : LoadFault → ℕ
+load_fault_number NotASave = 1
+load_fault_number Malformed = 2
+load_fault_number Version = 3
+load_fault_number WrongGame = 4
+load_fault_number Repeated = 5
+load_fault_number EarlyState = 6
+load_fault_number Unsupported = 7
+load_fault_number BadParams = 8
+load_fault_number BadDesc = 9
+load_fault_number BadCount = 10
+load_fault_number Missing = 11
+load_fault_number (BadState i) = 12
+load_fault_number TooLarge = 13
+load_fault_number OutOfMemory = 14
 
-abbrev pub name_of : LoadFault → List ℕ
-name_of NotASave = codes "NotASave"
-name_of Malformed = codes "Malformed"
-name_of Version = codes "Version"
-name_of WrongGame = codes "WrongGame"
-name_of Repeated = codes "Repeated"
-name_of EarlyState = codes "EarlyState"
-name_of Unsupported = codes "Unsupported"
-name_of BadParams = codes "BadParams"
-name_of BadDesc = codes "BadDesc"
-name_of BadCount = codes "BadCount"
-name_of Missing = codes "Missing"
-name_of (BadState i) = codes "BadState"
-name_of TooLarge = codes "TooLarge"
-name_of OutOfMemory = codes "OutOfMemory"
+abbrev pub load_fault_name : LoadFault → List ℕ
+load_fault_name NotASave = codes "NotASave"
+load_fault_name Malformed = codes "Malformed"
+load_fault_name Version = codes "Version"
+load_fault_name WrongGame = codes "WrongGame"
+load_fault_name Repeated = codes "Repeated"
+load_fault_name EarlyState = codes "EarlyState"
+load_fault_name Unsupported = codes "Unsupported"
+load_fault_name BadParams = codes "BadParams"
+load_fault_name BadDesc = codes "BadDesc"
+load_fault_name BadCount = codes "BadCount"
+load_fault_name Missing = codes "Missing"
+load_fault_name (BadState i) = codes "BadState"
+load_fault_name TooLarge = codes "TooLarge"
+load_fault_name OutOfMemory = codes "OutOfMemory"

@@ -20,8 +20,8 @@ use Rattle.play_save.specs.declared.key.StateKey.TheVariants.{AnyMove, SolveMove
 use Rattle.play_save.specs.declared.key.Key.{Key}
 use Rattle.play_save.specs.declared.key.Key.TheVariants.{SaveFile, FormatVersion, GameName, NextParams, CurrentParams, Seed, Desc, PrivateDesc, AuxInfo, Ui, Time, StateCount, Position, State, Other}
 use Rattle.play_save.specs.Records.{Entry, record_at}
-use Rattle.play_save.specs.Lines.{Line, line_of, StateLine, values_of, states_in}
-use Rattle.play_save.specs.SaveTexts.{SavedGame, collection, most_bytes, is_solve}
+use Rattle.play_save.specs.KeyedRecords.{KeyedRecord, keyed, KeyedState, values_of, states_in}
+use Rattle.play_save.specs.SaveTexts.{SavedGame, collection, longest_save, is_solve}
 
 -- parameters of the game, and a count of states: decimal from 1 to 100,000
 abbrev pub saved_params_at : {P : Type 0} → SavedGame P → List ℕ → Result Params IdFault
@@ -47,13 +47,13 @@ pub record Met : Type 0 where
   pub time : Option (List ℕ)
   pub count : Option (Option ℕ)
   pub position : Option (Option ℕ)
-  pub states : List StateLine
+  pub states : List KeyedState
 
 abbrev pub first_of : {A : Type 0} → List A → Option A
 first_of [] = None
 first_of (v ∷ vs) = Some v
 
-abbrev pub met : {P : Type 0} → SavedGame P → List Line → Met
+abbrev pub met : {P : Type 0} → SavedGame P → List KeyedRecord → Met
 met game ls = record {
   version = is_some (first_of (values_of FormatVersion ls));
   name = is_some (first_of (values_of GameName ls));
@@ -137,12 +137,12 @@ is_complete m = has_all m.count m.position (length m.states)
 pub data Listing : Type 0 where
   nothing : Listing
   broken : Listing
-  first : Line → Listing → Listing
+  first : KeyedRecord → Listing → Listing
 
 abbrev pub listed : (List ℕ → Listing) → Result (Option (Entry × List ℕ)) LoadFault → Listing
 listed more (Err fault) = broken
 listed more (Ok None) = nothing
-listed more (Ok (Some parts)) = first (line_of parts.0) (more parts.1)
+listed more (Ok (Some parts)) = first (keyed parts.0) (more parts.1)
 
 -- a text has no more records than bytes
 unfoldable pub listing_within : ℕ → List ℕ → Listing
@@ -157,7 +157,7 @@ abbrev pub unless : {A : Type 0} → Option LoadFault → Result A LoadFault →
 unless None more = more
 unless (Some fault) more = Err fault
 
-abbrev pub needed : {P : Type 0} → SavedGame P → List Line → Listing → Result (List Line) LoadFault
+abbrev pub needed : {P : Type 0} → SavedGame P → List KeyedRecord → Listing → Result (List KeyedRecord) LoadFault
 needed game before nothing = if is_complete (met game before) then Ok before else Err Missing
 needed game before broken = if is_complete (met game before) then Ok before else Err Malformed
 needed game before (first l more) =
@@ -182,7 +182,7 @@ abbrev pub state_played : {P : Type 0} → SavedGame P → History P → ℕ →
 state_played game h i None = Err (BadState i)
 state_played game h i (Some m) = ok_or (result_ok (played (game.puzzle h.puzzle) h m)) (BadState i)
 
-abbrev pub states_played : {P : Type 0} → SavedGame P → History P → ℕ → List StateLine → Result (History P) LoadFault
+abbrev pub states_played : {P : Type 0} → SavedGame P → History P → ℕ → List KeyedState → Result (History P) LoadFault
 states_played game h i [] = Ok h
 states_played game h i (s ∷ ss) =
     state_played game h i (state_move game h.puzzle s.key s.value) >>= λ next. states_played game next (i + 1) ss
@@ -235,5 +235,5 @@ met_in game listing = needed game [] listing >>= λ ls. Ok (met game ls)
 -- a save text: its session, or its first fault
 unfoldable pub load_at : {P : Type 0} → SavedGame P → List ℕ → Result (History P) LoadFault
 load_at game text =
-    if nat_lt most_bytes (length text) then Err TooLarge
+    if nat_lt longest_save (length text) then Err TooLarge
     else (behind_head (record_at text) >>= λ rest. met_in game (records_of rest) >>= λ m. session_of game m)

@@ -4,6 +4,7 @@ use Rattle.play_save.specs.declared.key.StateKey.{StateKey}
 use Rattle.play_save.specs.declared.key.StateKey.TheVariants.{AnyMove, SolveMove, RestartMove}
 use Rattle.play_save.specs.declared.key.Key.{Key}
 use Rattle.play_save.specs.declared.key.Key.TheVariants.{SaveFile, FormatVersion, GameName, NextParams, CurrentParams, Seed, Desc, PrivateDesc, AuxInfo, Ui, Time, StateCount, Position, State, Other}
+use Rattle.byte_text.specs.Bytes.{space}
 
 -- the keys in the order in which their records are written
 abbrev pub rank : Key → ℕ
@@ -48,7 +49,7 @@ key_name Other = []
 
 -- a name with blanks up to the eight bytes of a key
 abbrev pub padded : List ℕ → List ℕ
-padded name = name ++ replicate (8 - length name) 32
+padded name = name ++ replicate (8 - length name) space
 
 -- what has the name
 abbrev pub kept_key_of : List ℕ → Key

@@ -3,7 +3,7 @@ pub mod Faults
 pub mod Records
 pub mod Views
 pub mod Keys
-pub mod Lines
+pub mod KeyedRecords
 pub mod SaveTexts
 pub mod Written
 pub mod FirstFaults

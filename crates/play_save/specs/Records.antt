@@ -5,6 +5,7 @@ use Rattle.byte_text.specs.Cuts.{Lacks, before, behind}
 use Rattle.byte_text.specs.Decimals.{number_from}
 use Rattle.play_save.specs.declared.fault.LoadFault.{LoadFault}
 use Rattle.play_save.specs.declared.fault.LoadFault.TheVariants.{Malformed}
+use Rattle.byte_text.specs.Bytes.{colon, line_feed, carriage_return, space}
 
 -- the name of a key, without the blanks at its end, and the value
 pub record Entry : Type 0 where
@@ -13,7 +14,7 @@ pub record Entry : Type 0 where
 
 -- LF or CR
 abbrev pub is_break : ℕ → Bool
-is_break b = (b == 10) || (b == 13)
+is_break b = (b == line_feed) || (b == carriage_return)
 
 abbrev pub begins_with_break : List ℕ → Bool
 begins_with_break [] = false
@@ -29,7 +30,7 @@ is_empty (b ∷ bs) = false
 -- a name without the blanks at its end
 abbrev pub unpadded : List ℕ → List ℕ
 unpadded [] = []
-unpadded (b ∷ bs) = if (b == 32) && is_empty (unpadded bs) then [] else (b ∷ unpadded bs)
+unpadded (b ∷ bs) = if (b == space) && is_empty (unpadded bs) then [] else (b ∷ unpadded bs)
 
 -- 1 to 8 digits, leading zeros among them, and the number that they stand for
 abbrev pub length_at : List ℕ → Option ℕ
@@ -41,10 +42,10 @@ pub record BeginsWith (e : Entry) (rest : List ℕ) (text : List ℕ) : Type 0 w
   pub breaks : List ℕ
   pub key : List ℕ
   pub digits : List ℕ
-  pub spelled : text ≡ breaks ++ (key ++ (58 ∷ (digits ++ (58 ∷ (e.value ++ rest)))))
+  pub spelled : text ≡ breaks ++ (key ++ (colon ∷ (digits ++ (colon ∷ (e.value ++ rest)))))
   pub are_breaks : AreBreaks breaks
   pub eight : length key ≡ 8
-  pub no_colon : Lacks 58 key
+  pub no_colon : Lacks colon key
   pub no_break : begins_with_break key ≡ false
   pub name_is : e.key ≡ unpadded key
   pub length_is : length_at digits ≡ Some (length e.value)
@@ -56,7 +57,7 @@ skip_breaks (b ∷ bs) = if is_break b then skip_breaks bs else (b ∷ bs)
 
 -- what stands before the first colon and behind it
 abbrev pub field_at : List ℕ → Option (List ℕ × List ℕ)
-field_at bytes = option_map (λ rest. (before 58 bytes, rest)) (behind 58 bytes)
+field_at bytes = option_map (λ rest. (before colon bytes, rest)) (behind colon bytes)
 
 -- the value of a length, and the rest
 abbrev pub value_at : ℕ → List ℕ → Option (List ℕ × List ℕ)

@@ -13,7 +13,7 @@ use Rattle.play_save.specs.declared.key.StateKey.{StateKey}
 use Rattle.play_save.specs.declared.key.StateKey.TheVariants.{AnyMove, SolveMove, RestartMove}
 use Rattle.play_save.specs.declared.key.Key.TheVariants.{SaveFile, FormatVersion, GameName, NextParams, CurrentParams, Seed, Desc, PrivateDesc, AuxInfo, Ui, Time, StateCount, Position}
 use Rattle.play_save.specs.Records.{BeginsWith}
-use Rattle.play_save.specs.Lines.{Line, StateLine, BeginsWithAll, values_of, states_in, StandsOnce, once_if_kept, CountsStandFirst, EndsWithState}
+use Rattle.play_save.specs.KeyedRecords.{KeyedRecord, KeyedState, BeginsWithAll, values_of, states_in, StandsOnce, once_if_kept, CountsStandFirst, EndsWithState}
 
 -- What saves ask of a game: its name and letters, what its puzzles are, which text describes which puzzle of which width, the
 -- puzzle that is read of a description, and the description that is written.
@@ -42,8 +42,8 @@ abbrev pub collection : List ℕ
 collection = codes "Simon Tatham's Portable Puzzle Collection"
 
 -- the size that a save text may have
-abbrev pub most_bytes : ℕ
-most_bytes = 16777216
+abbrev pub longest_save : ℕ
+longest_save = 16777216
 
 abbrev pub is_solve : Move → Bool
 is_solve (Solve g) = true
@@ -56,14 +56,14 @@ IsStateOf game p m SolveMove text = IsMoveText m text × (is_solve m ≡ true)
 IsStateOf game p m RestartMove text = (m ≡ Restart) × game.Describes (game.puzzle p).size p text
 
 -- each move has its state record, in turn
-abbrev pub HaveStates : {P : Type 0} → SavedGame P → P → List Move → List StateLine → Type 0
+abbrev pub HaveStates : {P : Type 0} → SavedGame P → P → List Move → List KeyedState → Type 0
 HaveStates game p [] [] = Unit {0}
 HaveStates game p [] (s ∷ ss) = ⊥
 HaveStates game p (m ∷ ms) [] = ⊥
 HaveStates game p (m ∷ ms) (s ∷ ss) = IsStateOf game p m s.key s.value × HaveStates game p ms ss
 
 -- the records behind the first, up to the last that is needed
-pub record AreSaved {P : Type 0} (game : SavedGame P) (h : History P) (ls : List Line) : Type 0 where
+pub record AreSaved {P : Type 0} (game : SavedGame P) (h : History P) (ls : List KeyedRecord) : Type 0 where
   pub no_second_head : values_of SaveFile ls ≡ []
   pub version : values_of FormatVersion ls ≡ codes "1" ∷ []
   pub name : values_of GameName ls ≡ game.title ∷ []
@@ -84,9 +84,9 @@ pub record AreSaved {P : Type 0} (game : SavedGame P) (h : History P) (ls : List
 
 -- The text is a save of the session: the record that names the format, the records of the session, and then anything.
 pub record SaveText {P : Type 0} (game : SavedGame P) (h : History P) (text : List ℕ) : Type 0 where
-  pub small : length text ≤ most_bytes
+  pub small : length text ≤ longest_save
   pub behind_head : List ℕ
   pub head : BeginsWith (record { key = codes "SAVEFILE"; value = collection }) behind_head text
-  pub records : List Line
+  pub records : List KeyedRecord
   pub begins : BeginsWithAll records behind_head
   pub saved : AreSaved game h records

@@ -8,12 +8,12 @@ use Rattle.play_save.specs.declared.found.StateRecord.{StateRecord}
 use Rattle.play_save.specs.declared.found.Found.{Found}
 use Rattle.play_save.specs.declared.key.Key.{Key}
 use Rattle.play_save.specs.declared.key.Key.TheVariants.{FormatVersion, GameName, NextParams, CurrentParams, Seed, Desc, AuxInfo, Ui, Time, StateCount, Position, State}
-use Rattle.play_save.specs.Lines.{StateLine}
+use Rattle.play_save.specs.KeyedRecords.{KeyedState}
 use Rattle.play_save.specs.SaveTexts.{SavedGame}
 use Rattle.play_save.specs.FirstFaults.{Met, saved_params_at, count_at, fault_by}
 
 -- what the code keeps, as what was met
-abbrev pub state_of : StateRecord → StateLine
+abbrev pub state_of : StateRecord → KeyedState
 state_of s = record { key = s.key; value = s.value.now }
 
 abbrev pub bytes_of : Option (Bor (List ℕ)) → Option (List ℕ)

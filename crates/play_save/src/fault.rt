@@ -1,7 +1,7 @@
 //! Why a save file isn't loaded.
 
 ghost use Rattle.std.specs.Prelude.{◌≡◌};
-ghost use Rattle.play_save.specs.Faults.{number_of, name_of};
+ghost use Rattle.play_save.specs.Faults.{load_fault_number, load_fault_name};
 
 use std::alloc::{AllocError, AllocFailed};
 use thiserror::Error;
@@ -56,7 +56,7 @@ pub enum LoadFault {
 impl LoadFault {
     /// The fault's number, from 1 to 14.
     pub fn number(&self) -> u8
-        ensures { result ≡ number_of self.now }
+        ensures { result ≡ load_fault_number self.now }
     {
         match self {
             LoadFault::NotASave => 1,
@@ -78,7 +78,7 @@ impl LoadFault {
 
     /// The fault's name, without the number of a state record.
     pub fn name(&self) -> &'static str
-        ensures { result.now ≡ name_of self.now }
+        ensures { result.now ≡ load_fault_name self.now }
     {
         match self {
             LoadFault::NotASave => "NotASave",

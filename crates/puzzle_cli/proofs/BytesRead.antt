@@ -2,9 +2,9 @@
 use Rattle.std.proofs.Common.{◌≡◌, ℕ, Bool, true, false, Option, Some, List, [], ◌∷◌, ◌++◌, length, sym, ap, ◌∙◌, subst, append-nil, ◌⊎◌, inl, inr, refl, take}
 use Rattle.std.proofs.KnownBytes.{Consumes-trans}
 use Rattle.std.specs.Io.KnownBytes.{Consumes}
-use Rattle.puzzle_cli.specs.Lines.{Line, line_of, all_lines, ended_lines}
+use Rattle.puzzle_cli.specs.Lines.{Line, as_line, all_lines, ended_lines}
 use Rattle.puzzle_cli.specs.LineBuffer.{ended_from, last_from}
-use Rattle.puzzle_cli.specs.Runs.{most_bytes, Point, Progress, progress_of, before_quit, Served, WereRead, AreAll, Ends}
+use Rattle.puzzle_cli.specs.Runs.{longest_input, Point, Progress, progress_of, before_quit, Served, WereRead, AreAll, Ends}
 use Rattle.puzzle_cli.specs.Steps.{Goes}
 use Rattle.puzzle_cli.specs.declared.line_loop.Status.{Status}
 use Rattle.puzzle_cli.specs.declared.line_loop.Status.TheVariants.{More, Quit, Fault}
@@ -46,12 +46,12 @@ module _ {S : Type 0} (reply : S → Line → List ℕ → S → Type 0) (quit :
 
   -- the steps of all that was read, the last line with them
   all_read : (status : Status) (read : List ℕ) (now : Line) (old mid new : Progress S)
-      → Goes reply quit More (ended_from (Some []) read) old mid → now ≡ last_from (Some []) read → Goes reply quit status (line_of now ∷ []) mid new
+      → Goes reply quit More (ended_from (Some []) read) old mid → now ≡ last_from (Some []) read → Goes reply quit status (as_line now ∷ []) mid new
       → Goes reply quit status (all_lines read) old new
   all_read status read now old mid new p here q =
-      let last : Goes reply quit status (line_of (last_from (Some []) read) ∷ []) mid new = subst (λ l. Goes reply quit status (line_of l ∷ []) mid new) here q in
+      let last : Goes reply quit status (as_line (last_from (Some []) read) ∷ []) mid new = subst (λ l. Goes reply quit status (as_line l ∷ []) mid new) here q in
       subst (λ l. Goes reply quit status l old new) (sym (all_lines-by-parts read))
-      (Goes-after reply quit status (ended_from (Some []) read) (line_of (last_from (Some []) read) ∷ []) old mid new p last)
+      (Goes-after reply quit status (ended_from (Some []) read) (as_line (last_from (Some []) read) ∷ []) old mid new p last)
 
   ended_read : (status : Status) (read : List ℕ) (old new : Progress S)
       → Goes reply quit status (ended_from (Some []) read) old new → Goes reply quit status (ended_lines read) old new
@@ -69,7 +69,7 @@ module _ {S : Type 0} (reply : S → Line → List ℕ → S → Type 0) (quit :
     pub Finished-at-end : (status : Status) (now : Line) (mid : Progress S) → WereRead old new read → AreAll new read
         → new.read_failed ≡ false → (status ≡ Fault → ⊥)
         → Goes reply quit More (ended_from (Some []) read) (progress_of old) mid → now ≡ last_from (Some []) read
-        → Goes reply quit status (line_of now ∷ []) mid (progress_of new) → Ends reply quit Finished old new
+        → Goes reply quit status (as_line now ∷ []) mid (progress_of new) → Ends reply quit Finished old new
     Finished-at-end status now mid were all works went p here q =
         let done = served status (all_lines read) (progress_of old) (progress_of new) went (all_read status read now (progress_of old) mid (progress_of new) p here q) in
         (works, done.0, (read, were, inl (all, done.1)))
@@ -81,7 +81,7 @@ module _ {S : Type 0} (reply : S → Line → List ℕ → S → Type 0) (quit :
         let done = ended_read Quit read (progress_of old) (progress_of new) p in
         (works, done.1, (read, were, inr (done.0, done.2)))
 
-    pub ReadFault-ends : WereRead old new read → (new.read_failed ≡ true) ⊎ (length read ≡ most_bytes)
+    pub ReadFault-ends : WereRead old new read → (new.read_failed ≡ true) ⊎ (length read ≡ longest_input)
         → Goes reply quit More (ended_from (Some []) read) (progress_of old) (progress_of new) → Ends reply quit ReadFault old new
     ReadFault-ends were cause p =
         let done = ended_read More read (progress_of old) (progress_of new) p in
@@ -90,7 +90,7 @@ module _ {S : Type 0} (reply : S → Line → List ℕ → S → Type 0) (quit :
     -- the reply to the last line didn't go out
     pub WriteFault-at-end : (now : Line) (mid : Progress S) → WereRead old new read → AreAll new read → new.read_failed ≡ false
         → Goes reply quit More (ended_from (Some []) read) (progress_of old) mid → now ≡ last_from (Some []) read
-        → Goes reply quit Fault (line_of now ∷ []) mid (progress_of new) → Ends reply quit WriteFault old new
+        → Goes reply quit Fault (as_line now ∷ []) mid (progress_of new) → Ends reply quit WriteFault old new
     WriteFault-at-end now mid were all works p here q =
         let done = all_read Fault read now (progress_of old) mid (progress_of new) p here q in
         (works, done.0, (read, were, inl (all, done.1)))

@@ -5,7 +5,7 @@ use Rattle.play_midend.specs.declared.fault.PlayFault.{PlayFault}
 use Rattle.play_midend.specs.declared.fault.PlayFault.TheVariants.{OutOfMemory, NothingToUndo, NothingToRedo}
 use Rattle.play_midend.specs.declared.moves.Move.{Move}
 use Rattle.play_midend.specs.declared.moves.Move.TheVariants.{Solve as Filling}
-use Rattle.play_midend.specs.Faults.{name_of}
+use Rattle.play_midend.specs.Faults.{play_fault_name}
 use Rattle.play_midend.specs.MoveTexts.{IsMoveText}
 use Rattle.play_midend.specs.Histories.{at_position, History, IsRefusal, played, restarted, SolveGives, undone, redone}
 use Rattle.play_midend.specs.Laws.{Call, Play, FromStart, ToSolution, CallGives, Answered, may_want_memory}
@@ -67,7 +67,7 @@ module _ {P : Type 0} (f : GameFacts P) (h : History P) where
   ok_told ToUndo p bytes e = e
   ok_told ToRedo p bytes e = e
 
-  refusal_told : (call : Call) → IsPlain call → (fault : PlayFault) (bytes : List ℕ) → bytes ≡ refusal_line (name_of fault) → IsRefused call fault bytes
+  refusal_told : (call : Call) → IsPlain call → (fault : PlayFault) (bytes : List ℕ) → bytes ≡ refusal_line (play_fault_name fault) → IsRefused call fault bytes
   refusal_told (Play m) p fault bytes e = e
   refusal_told FromStart p fault bytes e = e
   refusal_told ToSolution p fault bytes e = absurd p
@@ -140,7 +140,7 @@ module _ {P : Type 0} (f : GameFacts P) (h : History P) where
   unsolved fault (Some text) is bytes new gives (inl e) =
       let parts = outcome_parts text bytes (Some h) new (ap (λ (s : Option (List ℕ)). sentence_outcome h s fault) (sym is) ∙ e) in
       refused_call ToSolution fault bytes new gives (spared fault gives)
-      (sym parts.0 ∙ ap (λ (s : Option (List ℕ)). unwrap_or s (refusal_line (name_of fault))) (sym is)) (sym parts.1)
+      (sym parts.0 ∙ ap (λ (s : Option (List ℕ)). unwrap_or s (refusal_line (play_fault_name fault))) (sym is)) (sym parts.1)
   unsolved fault (Some text) is bytes new gives (inr (refusal, e, name, stays)) =
       absurd (said_or_refused text (Some h) refusal (ap (λ (s : Option (List ℕ)). sentence_outcome h s fault) (sym is) ∙ e))
   unsolved fault None is bytes new gives (inl e) =
@@ -148,7 +148,7 @@ module _ {P : Type 0} (f : GameFacts P) (h : History P) where
   unsolved fault None is bytes new gives (inr (refusal, e, name, stays)) =
       let called : OfPlay fault ≡ refusal = refusal_parts P (OfPlay fault) refusal (ap (λ (s : Option (List ℕ)). sentence_outcome h s fault) (sym is) ∙ e) in
       refused_call ToSolution fault bytes new gives (spared fault gives)
-      (name ∙ ap (λ (r : Refusal). refusal_line (refusal_name r)) (sym called) ∙ ap (λ (s : Option (List ℕ)). unwrap_or s (refusal_line (name_of fault))) (sym is)) stays
+      (name ∙ ap (λ (r : Refusal). refusal_line (refusal_name r)) (sym called) ∙ ap (λ (s : Option (List ℕ)). unwrap_or s (refusal_line (play_fault_name fault))) (sym is)) stays
 
   solved : (exact : Result (History P) PlayFault) (bytes : List ℕ) (new : Option (History P)) → SolveGives (f.rules.puzzle h.puzzle) h exact
       → Writes (SolveSays h exact) (Some h) bytes new → IsAnswered ToSolution bytes new

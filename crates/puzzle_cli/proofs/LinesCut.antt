@@ -3,7 +3,7 @@ use Rattle.std.proofs.Common.{◌≡◌, ℕ, ◌-◌, ◌==◌, true, false, if
 use Rattle.std.proofs.Math.Seq.{take-append_seam}
 use Rattle.std.proofs.lemmas.List.{length_push}
 use Rattle.std.proofs.lemmas.Bool.Decides.{nat_tests}
-use Rattle.puzzle_cli.specs.Lines.{Line, onto, pieces, kept, line_of, all_lines, ended_lines}
+use Rattle.puzzle_cli.specs.Lines.{Line, onto, pieces, kept, as_line, all_lines, ended_lines}
 use Rattle.puzzle_cli.specs.LineBuffer.{pushed, ended_from, last_from}
 
 -- ---- one list of bytes after another
@@ -11,10 +11,10 @@ use Rattle.puzzle_cli.specs.LineBuffer.{pushed, ended_from, last_from}
 pub ended_from-append : (part : Line) (xs ys : List ℕ) → ended_from part (xs ++ ys) ≡ ended_from part xs ++ ended_from (last_from part xs) ys
 ended_from-append part [] ys = refl
 ended_from-append part (b ∷ xs) ys =
-    elim (b == 10) as (λ t. (if t then line_of part ∷ ended_from (Some []) (xs ++ ys) else ended_from (pushed part b) (xs ++ ys))
-    ≡ (if t then line_of part ∷ ended_from (Some []) xs else ended_from (pushed part b) xs)
+    elim (b == 10) as (λ t. (if t then as_line part ∷ ended_from (Some []) (xs ++ ys) else ended_from (pushed part b) (xs ++ ys))
+    ≡ (if t then as_line part ∷ ended_from (Some []) xs else ended_from (pushed part b) xs)
     ++ ended_from (if t then last_from (Some []) xs else last_from (pushed part b) xs) ys)
-    [ true ↦ ap (λ l. line_of part ∷ l) (ended_from-append (Some []) xs ys) | false ↦ ended_from-append (pushed part b) xs ys ]
+    [ true ↦ ap (λ l. as_line part ∷ l) (ended_from-append (Some []) xs ys) | false ↦ ended_from-append (pushed part b) xs ys ]
 
 pub last_from-append : (part : Line) (xs ys : List ℕ) → last_from part (xs ++ ys) ≡ last_from (last_from part xs) ys
 last_from-append part [] ys = refl
@@ -31,7 +31,7 @@ join front [] = front ∷ []
 join front (piece ∷ rest) = (front ++ piece) ∷ rest
 
 abbrev lines_of : List (List ℕ) → List (Line)
-lines_of ps = map (λ piece. line_of (kept piece)) ps
+lines_of ps = map (λ piece. as_line (kept piece)) ps
 
 join-pieces : (bytes : List ℕ) → join [] (pieces bytes) ≡ pieces bytes
 join-pieces [] = refl
@@ -46,19 +46,19 @@ join-onto front b (p ∷ ps) = ap (λ l. l ∷ ps) (sym (append_assoc front (b �
 pushed-kept : (front : List ℕ) (b : ℕ) → pushed (kept front) b ≡ kept (front ++ b ∷ [])
 pushed-kept front b = rw (length_push front b) (grind (arith, nat_tests))
 
-lines_of-join : (front bytes : List ℕ) → lines_of (join front (pieces bytes)) ≡ ended_from (kept front) bytes ++ line_of (last_from (kept front) bytes) ∷ []
-lines_of-join front [] = ap (λ l. line_of (kept l) ∷ []) (append-nil front)
+lines_of-join : (front bytes : List ℕ) → lines_of (join front (pieces bytes)) ≡ ended_from (kept front) bytes ++ as_line (last_from (kept front) bytes) ∷ []
+lines_of-join front [] = ap (λ l. as_line (kept l) ∷ []) (append-nil front)
 lines_of-join front (b ∷ bs) =
     elim (b == 10) as (λ t. lines_of (join front (if t then [] ∷ pieces bs else onto b (pieces bs)))
-    ≡ (if t then line_of (kept front) ∷ ended_from (Some []) bs else ended_from (pushed (kept front) b) bs)
-    ++ line_of (if t then last_from (Some []) bs else last_from (pushed (kept front) b) bs) ∷ []) [
-      | true ↦ ap (λ l. line_of (kept l) ∷ lines_of (pieces bs)) (append-nil front)
-          ∙ ap (λ l. line_of (kept front) ∷ l) (ap lines_of (sym (join-pieces bs)) ∙ lines_of-join [] bs)
+    ≡ (if t then as_line (kept front) ∷ ended_from (Some []) bs else ended_from (pushed (kept front) b) bs)
+    ++ as_line (if t then last_from (Some []) bs else last_from (pushed (kept front) b) bs) ∷ []) [
+      | true ↦ ap (λ l. as_line (kept l) ∷ lines_of (pieces bs)) (append-nil front)
+          ∙ ap (λ l. as_line (kept front) ∷ l) (ap lines_of (sym (join-pieces bs)) ∙ lines_of-join [] bs)
       | false ↦ ap lines_of (join-onto front b (pieces bs)) ∙ lines_of-join (front ++ b ∷ []) bs
-          ∙ ap (λ part. ended_from part bs ++ line_of (last_from part bs) ∷ []) (sym (pushed-kept front b))
+          ∙ ap (λ part. ended_from part bs ++ as_line (last_from part bs) ∷ []) (sym (pushed-kept front b))
     ]
 
-pub all_lines-by-parts : (bytes : List ℕ) → all_lines bytes ≡ ended_from (Some []) bytes ++ line_of (last_from (Some []) bytes) ∷ []
+pub all_lines-by-parts : (bytes : List ℕ) → all_lines bytes ≡ ended_from (Some []) bytes ++ as_line (last_from (Some []) bytes) ∷ []
 all_lines-by-parts bytes = ap lines_of (sym (join-pieces bytes)) ∙ lines_of-join [] bytes
 
 front-push : (lines : List (Line)) (line : Line) → take (length (lines ++ line ∷ []) - 1) (lines ++ line ∷ []) ≡ lines
@@ -68,4 +68,4 @@ front-push lines line =
 
 pub ended_lines-by-parts : (bytes : List ℕ) → ended_lines bytes ≡ ended_from (Some []) bytes
 ended_lines-by-parts bytes =
-    ap (λ l. take (length l - 1) l) (all_lines-by-parts bytes) ∙ front-push (ended_from (Some []) bytes) (line_of (last_from (Some []) bytes))
+    ap (λ l. take (length l - 1) l) (all_lines-by-parts bytes) ∙ front-push (ended_from (Some []) bytes) (as_line (last_from (Some []) bytes))

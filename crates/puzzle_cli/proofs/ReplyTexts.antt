@@ -4,7 +4,7 @@ use Rattle.latin_board.specs.Squares.{GridValue}
 use Rattle.play_midend.specs.declared.fault.PlayFault.{PlayFault}
 use Rattle.play_midend.specs.declared.fault.PlayFault.TheVariants.{BadMove, Unsupported, OffGrid, OffRange, GivenSquare, FilledSquare, BadSolution, HistoryFull, OutOfMemory, NothingToUndo, NothingToRedo, NothingToRestart, NoSolution, SeveralSolutions}
 use Rattle.play_midend.specs.declared.moves.Move.TheVariants.{Solve as Filling}
-use Rattle.play_midend.specs.Faults.{name_of}
+use Rattle.play_midend.specs.Faults.{play_fault_name}
 use Rattle.play_midend.specs.Laws.{Call, Play, FromStart, ToSolution}
 use Rattle.play_midend.specs.Laws.{Undo as ToUndo, Redo as ToRedo}
 use Rattle.puzzle_cli.specs.SolutionTexts.{move_line, no_solution_line, several_solutions_line}
@@ -40,21 +40,21 @@ made_or_several bytes (g, a) b = let e : 83 ≡ 77 = first_byte (move_line (Fill
 -- a call that is told as made was made
 pub told_made : (call : Call) (answer : Result (Unit {0}) PlayFault) (bytes : List ℕ) → IsToldOf call answer bytes → IsMade call bytes → IsOk answer
 told_made call (Ok u) bytes told made = refl
-told_made (Play m) (Err fault) bytes told made = absurd (made_or_refused (Play m) bytes (name_of fault) made told)
-told_made FromStart (Err fault) bytes told made = absurd (made_or_refused FromStart bytes (name_of fault) made told)
-told_made ToUndo (Err fault) bytes told made = absurd (made_or_refused ToUndo bytes (name_of fault) made told)
-told_made ToRedo (Err fault) bytes told made = absurd (made_or_refused ToRedo bytes (name_of fault) made told)
+told_made (Play m) (Err fault) bytes told made = absurd (made_or_refused (Play m) bytes (play_fault_name fault) made told)
+told_made FromStart (Err fault) bytes told made = absurd (made_or_refused FromStart bytes (play_fault_name fault) made told)
+told_made ToUndo (Err fault) bytes told made = absurd (made_or_refused ToUndo bytes (play_fault_name fault) made told)
+told_made ToRedo (Err fault) bytes told made = absurd (made_or_refused ToRedo bytes (play_fault_name fault) made told)
 told_made ToSolution (Err NoSolution) bytes told made = absurd (made_or_none bytes made told)
 told_made ToSolution (Err SeveralSolutions) bytes told made = absurd (made_or_several bytes made told)
-told_made ToSolution (Err BadMove) bytes told made = absurd (made_or_refused ToSolution bytes (name_of BadMove) made told)
-told_made ToSolution (Err Unsupported) bytes told made = absurd (made_or_refused ToSolution bytes (name_of Unsupported) made told)
-told_made ToSolution (Err OffGrid) bytes told made = absurd (made_or_refused ToSolution bytes (name_of OffGrid) made told)
-told_made ToSolution (Err OffRange) bytes told made = absurd (made_or_refused ToSolution bytes (name_of OffRange) made told)
-told_made ToSolution (Err GivenSquare) bytes told made = absurd (made_or_refused ToSolution bytes (name_of GivenSquare) made told)
-told_made ToSolution (Err FilledSquare) bytes told made = absurd (made_or_refused ToSolution bytes (name_of FilledSquare) made told)
-told_made ToSolution (Err BadSolution) bytes told made = absurd (made_or_refused ToSolution bytes (name_of BadSolution) made told)
-told_made ToSolution (Err HistoryFull) bytes told made = absurd (made_or_refused ToSolution bytes (name_of HistoryFull) made told)
-told_made ToSolution (Err OutOfMemory) bytes told made = absurd (made_or_refused ToSolution bytes (name_of OutOfMemory) made told)
-told_made ToSolution (Err NothingToUndo) bytes told made = absurd (made_or_refused ToSolution bytes (name_of NothingToUndo) made told)
-told_made ToSolution (Err NothingToRedo) bytes told made = absurd (made_or_refused ToSolution bytes (name_of NothingToRedo) made told)
-told_made ToSolution (Err NothingToRestart) bytes told made = absurd (made_or_refused ToSolution bytes (name_of NothingToRestart) made told)
+told_made ToSolution (Err BadMove) bytes told made = absurd (made_or_refused ToSolution bytes (play_fault_name BadMove) made told)
+told_made ToSolution (Err Unsupported) bytes told made = absurd (made_or_refused ToSolution bytes (play_fault_name Unsupported) made told)
+told_made ToSolution (Err OffGrid) bytes told made = absurd (made_or_refused ToSolution bytes (play_fault_name OffGrid) made told)
+told_made ToSolution (Err OffRange) bytes told made = absurd (made_or_refused ToSolution bytes (play_fault_name OffRange) made told)
+told_made ToSolution (Err GivenSquare) bytes told made = absurd (made_or_refused ToSolution bytes (play_fault_name GivenSquare) made told)
+told_made ToSolution (Err FilledSquare) bytes told made = absurd (made_or_refused ToSolution bytes (play_fault_name FilledSquare) made told)
+told_made ToSolution (Err BadSolution) bytes told made = absurd (made_or_refused ToSolution bytes (play_fault_name BadSolution) made told)
+told_made ToSolution (Err HistoryFull) bytes told made = absurd (made_or_refused ToSolution bytes (play_fault_name HistoryFull) made told)
+told_made ToSolution (Err OutOfMemory) bytes told made = absurd (made_or_refused ToSolution bytes (play_fault_name OutOfMemory) made told)
+told_made ToSolution (Err NothingToUndo) bytes told made = absurd (made_or_refused ToSolution bytes (play_fault_name NothingToUndo) made told)
+told_made ToSolution (Err NothingToRedo) bytes told made = absurd (made_or_refused ToSolution bytes (play_fault_name NothingToRedo) made told)
+told_made ToSolution (Err NothingToRestart) bytes told made = absurd (made_or_refused ToSolution bytes (play_fault_name NothingToRestart) made told)

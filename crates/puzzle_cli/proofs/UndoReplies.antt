@@ -4,7 +4,7 @@ use Rattle.std.specs.Option.{IsSomeAnd}
 use Rattle.std.specs.Result.{IsOkAnd}
 use Rattle.trail_solver.specs.Puzzles.{Puzzle}
 use Rattle.play_midend.specs.declared.fault.PlayFault.{PlayFault}
-use Rattle.play_midend.specs.Faults.{name_of}
+use Rattle.play_midend.specs.Faults.{play_fault_name}
 use Rattle.play_midend.specs.Histories.{History, IsValid, undone, redone}
 use Rattle.play_midend.specs.Laws.{Call, Play, FromStart, ToSolution, CallGives, Answered, IsSameBack, may_want_memory}
 use Rattle.play_midend.specs.Laws.{Undo as ToUndo, Redo as ToRedo}
@@ -75,7 +75,7 @@ after_undo f h said None last valid answer reply = absurd answer
 after_undo f h said (Some k) last valid (Ok u, gives, told) reply =
     redo_said (f.rules.puzzle k.puzzle) h k said last (redo_takes_undo_back f.rules.puzzle h k valid (sym gives))
     (replies_are_calls f k redo_line (Plain Redo) ToRedo said last redo_asks refl reply)
-after_undo f h said (Some k) last valid (Err fault, gives, told) reply = absurd (not_ok ok_line (name_of fault) refl told)
+after_undo f h said (Some k) last valid (Err fault, gives, told) reply = absurd (not_ok ok_line (play_fault_name fault) refl told)
 
 pub redo_line_takes_undo_back : {P : Type 0} (f : GameFacts P) → RedoLineTakesUndoBack f
 redo_line_takes_undo_back f h said new last valid reply again =

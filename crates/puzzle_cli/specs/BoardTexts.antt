@@ -6,7 +6,7 @@ use Rattle.latin_board.specs.Marks.{has_mark}
 use Rattle.latin_board.specs.Boards.{BoardValue, marks_at, is_done}
 use Rattle.latin_board.specs.Edges.{edge_xy}
 use Rattle.play_midend.specs.MoveTexts.{coordinate_text}
-use Rattle.puzzle_cli.specs.Symbols.{line_feed, space, comma, slash, colon, digit}
+use Rattle.byte_text.specs.Bytes.{line_feed, space, comma, slash, colon, digit}
 
 -- the lines, or a sentence where there is none
 abbrev pub lines_or : List ℕ → List ℕ → List ℕ

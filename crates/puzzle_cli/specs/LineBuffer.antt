@@ -1,6 +1,7 @@
 -- The lines byte by byte: a part is what has come of a line so far, or None where that is more than 1,024 bytes.
 use Rattle.std.specs.Prelude.{ℕ, ◌==◌, if◌then◌else◌, nat_lt, Some, None, List, [], ◌∷◌, ◌++◌, length}
-use Rattle.puzzle_cli.specs.Lines.{Line, line_of}
+use Rattle.puzzle_cli.specs.Lines.{Line, as_line}
+use Rattle.byte_text.specs.Bytes.{line_feed}
 
 -- the part with one more byte
 abbrev pub pushed : Line → ℕ → Line
@@ -10,9 +11,9 @@ pushed (Some bytes) b = if nat_lt (length bytes) 1024 then Some (bytes ++ b ∷ 
 -- the lines that LF ends, behind the part
 abbrev pub ended_from : Line → List ℕ → List (Line)
 ended_from part [] = []
-ended_from part (b ∷ bs) = if b == 10 then line_of part ∷ ended_from (Some []) bs else ended_from (pushed part b) bs
+ended_from part (b ∷ bs) = if b == line_feed then as_line part ∷ ended_from (Some []) bs else ended_from (pushed part b) bs
 
 -- the part behind the last LF
 abbrev pub last_from : Line → List ℕ → Line
 last_from part [] = part
-last_from part (b ∷ bs) = if b == 10 then last_from (Some []) bs else last_from (pushed part b) bs
+last_from part (b ∷ bs) = if b == line_feed then last_from (Some []) bs else last_from (pushed part b) bs

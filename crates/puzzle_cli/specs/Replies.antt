@@ -10,11 +10,11 @@ use Rattle.puzzle_cli.specs.declared.refusal.Refusal.TheVariants.{Line as OfLine
 use Rattle.puzzle_cli.specs.declared.start_fault.StartFault.{StartFault}
 use Rattle.puzzle_cli.specs.Lines.{Line}
 use Rattle.puzzle_cli.specs.Commands.{IsRead}
-use Rattle.puzzle_cli.specs.Symbols.{line_feed}
 use Rattle.puzzle_cli.specs.Refusals.{refusal_name}
 use Rattle.puzzle_cli.specs.GameFacts.{GameFacts}
 use Rattle.puzzle_cli.specs.NewSessions.{TextBegins}
 use Rattle.puzzle_cli.specs.SessionReplies.{Outcome, ok_line, RequestGives, RequestTakesMemory}
+use Rattle.byte_text.specs.Bytes.{line_feed}
 
 abbrev pub refusal_line : List ℕ → List ℕ
 refusal_line name = codes "refused: " ++ name ++ line_feed ∷ []

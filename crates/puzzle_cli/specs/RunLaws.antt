@@ -5,7 +5,7 @@ use Rattle.latin_board.specs.Squares.{GridValue}
 use Rattle.play_midend.specs.declared.fault.PlayFault.{PlayFault}
 use Rattle.play_midend.specs.declared.moves.Move.{Move}
 use Rattle.play_midend.specs.declared.moves.Move.TheVariants.{Solve as Filling}
-use Rattle.play_midend.specs.Faults.{name_of}
+use Rattle.play_midend.specs.Faults.{play_fault_name}
 use Rattle.play_midend.specs.MoveTexts.{IsMoveText}
 use Rattle.play_midend.specs.Histories.{History, IsValid, IsStorable}
 use Rattle.play_midend.specs.Laws.{Call, Play, FromStart, ToSolution, IsSameBack, Answered, may_want_memory}
@@ -86,8 +86,8 @@ IsMade ToSolution bytes = (g : GridValue) × (bytes ≡ move_line (Filling g))
 IsMade _ bytes = bytes ≡ ok_line
 
 abbrev pub IsRefused : Call → PlayFault → List ℕ → Type 0
-IsRefused ToSolution fault bytes = bytes ≡ unwrap_or (solve_sentence fault) (refusal_line (name_of fault))
-IsRefused _ fault bytes = bytes ≡ refusal_line (name_of fault)
+IsRefused ToSolution fault bytes = bytes ≡ unwrap_or (solve_sentence fault) (refusal_line (play_fault_name fault))
+IsRefused _ fault bytes = bytes ≡ refusal_line (play_fault_name fault)
 
 abbrev pub IsToldOf : Call → Result (Unit {0}) PlayFault → List ℕ → Type 0
 IsToldOf call (Ok u) bytes = IsMade call bytes

@@ -6,8 +6,8 @@ use Rattle.puzzle_cli.specs.declared.run_end.End.{End}
 use Rattle.puzzle_cli.specs.declared.run_end.End.TheVariants.{Finished, ReadFault, WriteFault}
 
 -- the most bytes that a run reads
-abbrev pub most_bytes : ℕ
-most_bytes = 1000000000
+abbrev pub longest_input : ℕ
+longest_input = 1000000000
 
 -- A point in a run: what answers lines; the bytes that are to come in the source and those that the sink took, where they
 -- tell them; and whether each has failed.
@@ -62,11 +62,11 @@ pub record Breaks {S : Type 0} (reply : S → Line → List ℕ → S → Type 0
 
 -- the bytes were read, no more than a run reads
 abbrev pub WereRead : {S : Type 0} → Point S → Point S → List ℕ → Type 0
-WereRead old new read = Consumes old.to_come new.to_come read × (length read ≤ most_bytes)
+WereRead old new read = Consumes old.to_come new.to_come read × (length read ≤ longest_input)
 
 -- the bytes are the whole input, which is shorter than what a run reads
 abbrev pub AreAll : {S : Type 0} → Point S → List ℕ → Type 0
-AreAll new read = IsAtEnd new.to_come × (length read < most_bytes)
+AreAll new read = IsAtEnd new.to_come × (length read < longest_input)
 
 -- How a run ends that began at the one point, at the other.
 --
@@ -81,7 +81,7 @@ Ends reply quit Finished old new =
     × Served reply (before_quit quit (ended_lines read)) (progress_of old) (progress_of new))))
 Ends reply quit ReadFault old new =
     (new.write_failed ≡ false) × ((read : List ℕ) × WereRead old new read
-    × ((new.read_failed ≡ true) ⊎ (length read ≡ most_bytes)) × (has_quit quit (ended_lines read) ≡ false)
+    × ((new.read_failed ≡ true) ⊎ (length read ≡ longest_input)) × (has_quit quit (ended_lines read) ≡ false)
     × Served reply (ended_lines read) (progress_of old) (progress_of new))
 Ends reply quit WriteFault old new =
     (new.read_failed ≡ false) × (new.write_failed ≡ true) × ((read : List ℕ) × WereRead old new read

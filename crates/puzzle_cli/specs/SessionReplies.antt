@@ -17,11 +17,11 @@ use Rattle.puzzle_cli.specs.declared.command.Word.{Word}
 use Rattle.puzzle_cli.specs.declared.command.Word.TheVariants.{Undo, Redo, Restart, Show, Marks, Status, Id, Done, Solve, Save}
 use Rattle.puzzle_cli.specs.declared.refusal.Refusal.{Refusal}
 use Rattle.puzzle_cli.specs.declared.refusal.Refusal.TheVariants.{Play}
-use Rattle.puzzle_cli.specs.Symbols.{line_feed, colon}
 use Rattle.puzzle_cli.specs.BoardTexts.{marks_lines, status_words, done_lines}
 use Rattle.puzzle_cli.specs.SolutionTexts.{listed_lines, move_line, solve_sentence}
 use Rattle.play_save.specs.Written.{save_of}
 use Rattle.puzzle_cli.specs.GameFacts.{GameFacts}
+use Rattle.byte_text.specs.Bytes.{line_feed, colon}
 
 abbrev pub ok_line : List ℕ
 ok_line = codes "ok" ++ line_feed ∷ []

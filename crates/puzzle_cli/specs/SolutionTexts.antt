@@ -6,8 +6,8 @@ use Rattle.play_midend.specs.declared.moves.Move.{Move}
 use Rattle.play_midend.specs.declared.fault.PlayFault.{PlayFault}
 use Rattle.play_midend.specs.declared.fault.PlayFault.TheVariants.{NoSolution, SeveralSolutions}
 use Rattle.play_midend.specs.MoveTexts.{move_text}
-use Rattle.puzzle_cli.specs.Symbols.{line_feed, digit}
 use Rattle.puzzle_cli.specs.BoardTexts.{lines_or}
+use Rattle.byte_text.specs.Bytes.{line_feed, digit}
 
 -- the digits of a grid in reading order
 abbrev pub grid_digits : GridValue → List ℕ

@@ -1,11 +1,11 @@
 -- The numbers and the names of the refusals of a first session, and what the program makes of each.
 use Rattle.std.specs.Prelude.{ℕ, List, ◌∷◌, [], ◌++◌, codes}
 use Rattle.std.specs.Fmt.{decimal}
-use Rattle.clue_rules.specs.IdFaults.{fault_name}
-use Rattle.puzzle_gen.specs.GenFaults.{fault_name as gen_fault_name}
+use Rattle.clue_rules.specs.IdFaults.{id_fault_name}
+use Rattle.puzzle_gen.specs.GenFaults.{gen_fault_name}
 use Rattle.play_save.specs.declared.fault.LoadFault.{LoadFault}
 use Rattle.play_save.specs.declared.fault.LoadFault.TheVariants.{BadState}
-use Rattle.play_save.specs.Faults.{name_of as load_fault_name}
+use Rattle.play_save.specs.Faults.{load_fault_name}
 use Rattle.puzzle_cli.specs.declared.start_fault.StartFault.{StartFault}
 use Rattle.puzzle_cli.specs.declared.start_fault.StartFault.TheVariants.{Id, Gen, Load, OutOfMemory}
 
@@ -16,7 +16,7 @@ start_fault_number (Load fault) = 3
 start_fault_number OutOfMemory = 4
 
 abbrev pub start_fault_name : StartFault → List ℕ
-start_fault_name (Id fault) = fault_name fault
+start_fault_name (Id fault) = id_fault_name fault
 start_fault_name (Gen fault) = gen_fault_name fault
 start_fault_name (Load fault) = load_fault_name fault
 start_fault_name OutOfMemory = codes "OutOfMemory"
@@ -35,7 +35,7 @@ load_fault_place _ = []
 
 -- the line on standard error, without its LF
 abbrev pub start_fault_line : StartFault → List ℕ
-start_fault_line (Id fault) = codes "refused: " ++ fault_name fault
+start_fault_line (Id fault) = codes "refused: " ++ id_fault_name fault
 start_fault_line (Gen fault) = codes "refused: " ++ gen_fault_name fault
 start_fault_line (Load fault) = codes "refused: " ++ load_fault_name fault ++ load_fault_place fault
 start_fault_line OutOfMemory = codes "out of memory"

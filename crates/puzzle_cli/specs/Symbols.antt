@@ -3,31 +3,7 @@ use Rattle.std.specs.Prelude.{ℕ, ◌+◌, ◌==◌, if◌then◌else◌, List,
 use Rattle.std.specs.List.{join_with_byte}
 use Rattle.latin_board.specs.Squares.{number_at}
 use Rattle.latin_board.specs.Boards.{BoardValue, grid_of}
-
-abbrev pub line_feed : ℕ
-line_feed = 10
-
-abbrev pub space : ℕ
-space = 32
-
-abbrev pub comma : ℕ
-comma = 44
-
-abbrev pub dash : ℕ
-dash = 45
-
-abbrev pub dot : ℕ
-dot = 46
-
-abbrev pub slash : ℕ
-slash = 47
-
-abbrev pub colon : ℕ
-colon = 58
-
--- a number below ten as its digit
-abbrev pub digit : ℕ → ℕ
-digit n = 48 + n
+use Rattle.byte_text.specs.Bytes.{line_feed, space, comma, dash, dot, slash, colon, digit}
 
 -- a square's number, or a dot where the square is empty
 abbrev pub square_symbol : ℕ → ℕ

@@ -3,7 +3,8 @@ use Rattle.std.specs.Prelude.{ℕ, ◌+◌, ◌-◌, ◌*◌, if◌then◌else�
 use Rattle.std.specs.List.{range_with_len, flat_map}
 use Rattle.latin_board.specs.Boards.{BoardValue}
 use Rattle.clue_rules.specs.Unequal.{UnequalValue, is_greater}
-use Rattle.puzzle_cli.specs.Symbols.{line_feed, space, dash, square_at, spaced_line}
+use Rattle.puzzle_cli.specs.Symbols.{square_at, spaced_line}
+use Rattle.byte_text.specs.Bytes.{line_feed, space, dash}
 
 -- before a square: `<` where the one at its left is smaller, `>` where that one is greater
 abbrev pub sign_before : UnequalValue → ℕ → ℕ

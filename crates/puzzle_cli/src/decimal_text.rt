@@ -3,6 +3,7 @@
 ghost use Rattle.std.specs.Prelude.{◌≡◌, ◌+◌, ◌<◌, ◌≤◌, [], ◌∷◌, ◌++◌, length};
 ghost use Rattle.std.specs.Fmt.{decimal};
 ghost use Rattle.arrayvec.specs.ArrayString.{array_string_len};
+ghost use Rattle.byte_text.specs.Bytes.{digit_zero};
 
 use arrayvec::ArrayString;
 
@@ -28,7 +29,7 @@ fn push_decimal(text: &mut ArrayString<20>, n: usize)
 fn push_digit(text: &mut ArrayString<20>, digit: u8)
     requires digit { digit < 10 }
     requires room { array_string_len text.old < 20 }
-    ensures { text.new.bytes ≡ text.old.bytes ++ (48 + digit) ∷ [] }
+    ensures { text.new.bytes ≡ text.old.bytes ++ (digit_zero + digit) ∷ [] }
 {
     text.push(char::from(b'0' + digit));
 }

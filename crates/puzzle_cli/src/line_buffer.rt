@@ -2,7 +2,7 @@
 
 ghost use Rattle.std.specs.Prelude.{◌≡◌, [], Some};
 ghost use Rattle.std.specs.Option.{option_copied};
-ghost use Rattle.puzzle_cli.specs.Lines.{line_of, without_cr};
+ghost use Rattle.puzzle_cli.specs.Lines.{as_line, without_cr};
 ghost use Rattle.puzzle_cli.specs.LineBuffer.{pushed};
 
 use std::marker::Model;
@@ -59,7 +59,7 @@ impl LineBuffer {
 
     /// The line without one CR at its end, or `None` where it is too long.
     pub(crate) fn line(&self) -> Option<&[u8]>
-        ensures { option_copied result ≡ line_of self.now }
+        ensures { option_copied result ≡ as_line self.now }
     {
         if self.is_long {
             return None;

@@ -3,7 +3,7 @@
 ghost use Rattle.std.specs.Prelude.{◌≡◌, ℕ, ◌+◌, ◌≤◌, ◌∷◌, [], Some, true, false, length, take, is_err, IfOk, OnOk, OnErr};
 ghost use Rattle.std.specs.Option.{option_copied};
 ghost use Rattle.std.specs.Io.KnownBytes.{Appends, Consumes, IsAtEnd, Keeps};
-ghost use Rattle.puzzle_cli.specs.Lines.{line_of};
+ghost use Rattle.puzzle_cli.specs.Lines.{as_line};
 ghost use Rattle.puzzle_cli.specs.LineBuffer.{ended_from, last_from};
 ghost use Rattle.puzzle_cli.specs.Runs.{Ends};
 ghost use Rattle.puzzle_cli.specs.Steps.{Goes};
@@ -149,7 +149,7 @@ fn end_line<M: Machine, W: Sink>(
     sink: &mut W,
 ) -> Status
     requires { W.has_failed sink.old ≡ false }
-    ensures goes { Goes M.reply M.is_quit result (line_of line.old ∷ [])
+    ensures goes { Goes M.reply M.is_quit result (as_line line.old ∷ [])
         (record { session = machine.old; taken = W.taken sink.old; failed = W.has_failed sink.old })
         (record { session = machine.new; taken = W.taken sink.new; failed = W.has_failed sink.new }) }
     ensures line { line.new ≡ Some [] }

@@ -2,6 +2,7 @@
 
 ghost use Rattle.std.specs.Prelude.{◌≡◌, ◌≤◌, ◌<◌, ◌++◌, ◌∷◌, [], length, codes};
 ghost use Rattle.puzzle_cli.specs.Text.{text_bytes};
+ghost use Rattle.byte_text.specs.Bytes.{line_feed};
 
 use arrayvec::{ArrayString, ArrayVec};
 
@@ -21,7 +22,7 @@ impl Text {
     /// The words as a line.
     pub(crate) fn line(words: &str) -> Text
         requires { length words.now < 64 }
-        ensures { text_bytes result ≡ words.now ++ 10 ∷ [] }
+        ensures { text_bytes result ≡ words.now ++ line_feed ∷ [] }
     {
         let mut text = ArrayString::new();
         text.push_str(words);
@@ -32,7 +33,7 @@ impl Text {
     /// The line that names a refusal.
     pub(crate) fn refused(name: &str) -> Text
         requires { length name.now ≤ 54 }
-        ensures { text_bytes result ≡ codes "refused: " ++ name.now ++ 10 ∷ [] }
+        ensures { text_bytes result ≡ codes "refused: " ++ name.now ++ line_feed ∷ [] }
     {
         let mut text = ArrayString::new();
         text.push_str("refused: ");

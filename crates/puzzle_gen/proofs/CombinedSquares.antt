@@ -6,7 +6,7 @@ use Rattle.std.proofs.lemmas.Nat.{mul-add-lt, div-mul-add, mod-mul-add, mod_belo
 use Rattle.std.proofs.lemmas.List.FromFn.{get_or-map-range_with_len, fill_by_all}
 use Rattle.latin_board.specs.Squares.{GridValue, IsGrid, IsLatin, HasEachOnce, number_at}
 use Rattle.puzzle_gen.specs.Orders.{place_in, IsOrder}
-use Rattle.puzzle_gen.specs.SeededSquares.{number_of, combined}
+use Rattle.puzzle_gen.specs.SeededSquares.{seeded_number, combined}
 use Rattle.puzzle_gen.proofs.OrderPlaces.{once_at}
 
 -- ---- turning round a circle of w places, and back
@@ -51,7 +51,7 @@ line_once w d turns symbols f some step in_turn in_symbols made = λ v low high.
 
 number_in : (w row column : ℕ) (rows columns symbols : List ℕ) → row < w → column < w → number_at (combined w rows columns symbols) (row * w + column) ≡ get_or symbols ((get_or rows row 0 + get_or columns column 0) % w) 0 + 1
 number_in w row column rows columns symbols low left =
-    get_or-map-range_with_len (number_of w rows columns symbols) 0 (w * w) (row * w + column) (row * w + column) 0
+    get_or-map-range_with_len (seeded_number w rows columns symbols) 0 (w * w) (row * w + column) (row * w + column) 0
     (mul-add-lt row w column w low left) (omega arith)
     ∙ ap (λ (r : ℕ). get_or symbols ((get_or rows r 0 + get_or columns ((row * w + column) % w) 0) % w) 0 + 1) (div-mul-add row w column left)
     ∙ ap (λ (c : ℕ). get_or symbols ((get_or rows row 0 + get_or columns c 0) % w) 0 + 1) (mod-mul-add row w column left)
@@ -71,8 +71,8 @@ latin_combined w rows columns symbols some in_rows in_columns in_symbols = recor
 }
 
 -- a grid with these numbers is the square
-pub combined_all : (w : ℕ) (rows columns symbols : List ℕ) (g : GridValue) → g.size ≡ w → IsGrid g → ((j : ℕ) → j < w * w → number_at g j ≡ number_of w rows columns symbols j) → g ≡ combined w rows columns symbols
+pub combined_all : (w : ℕ) (rows columns symbols : List ℕ) (g : GridValue) → g.size ≡ w → IsGrid g → ((j : ℕ) → j < w * w → number_at g j ≡ seeded_number w rows columns symbols j) → g ≡ combined w rows columns symbols
 combined_all w rows columns symbols g size grid numbers =
     let count : length g.numbers ≡ w * w = grid.count ∙ ap (λ (n : ℕ). n * n) size in
-    let filled = fill_by_all (number_of w rows columns symbols) g.numbers (w * w) 0 count numbers in
+    let filled = fill_by_all (seeded_number w rows columns symbols) g.numbers (w * w) 0 count numbers in
     λ i. record { size = size i; numbers = filled i }

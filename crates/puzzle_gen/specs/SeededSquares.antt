@@ -21,13 +21,13 @@ abbrev pub drawn_order : ℕ → Stream → List ℕ × Stream
 drawn_order n s = shuffled (range_with_len 0 n) 0 s
 
 -- the number at a square: a symbol, at the row's and the column's numbers added
-abbrev pub number_of : ℕ → List ℕ → List ℕ → List ℕ → ℕ → ℕ
-number_of w rows columns symbols cell =
+abbrev pub seeded_number : ℕ → List ℕ → List ℕ → List ℕ → ℕ → ℕ
+seeded_number w rows columns symbols cell =
     slice_index symbols ((slice_index rows (cell / w) + slice_index columns (cell % w)) % w) + 1
 
 abbrev pub combined : ℕ → List ℕ → List ℕ → List ℕ → GridValue
 combined w rows columns symbols =
-    record { size = w; numbers = map (number_of w rows columns symbols) (range_with_len 0 (w * w)) }
+    record { size = w; numbers = map (seeded_number w rows columns symbols) (range_with_len 0 (w * w)) }
 
 -- a square of three orders, each drawn afresh: of the rows, the columns and the symbols; and the stream that is left
 abbrev pub drawn_square : ℕ → Stream → GridValue × Stream

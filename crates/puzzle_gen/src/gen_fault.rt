@@ -16,11 +16,11 @@ pub enum GenFault {
 }
 
 impl GenFault {
-    ghost use Rattle.puzzle_gen.specs.GenFaults.{fault_number, fault_name};
+    ghost use Rattle.puzzle_gen.specs.GenFaults.{gen_fault_number, gen_fault_name};
 
     /// The fault's number: 1 for `SizeTooLarge`, 2 for `Graded`.
     pub fn number(&self) -> u8
-        ensures { result ≡ fault_number self.now }
+        ensures { result ≡ gen_fault_number self.now }
     {
         match self {
             GenFault::SizeTooLarge => 1,
@@ -30,7 +30,7 @@ impl GenFault {
 
     /// The fault's name, as a program prints it.
     pub fn name(&self) -> &'static str
-        ensures { result.now ≡ fault_name self.now }
+        ensures { result.now ≡ gen_fault_name self.now }
     {
         match self {
             GenFault::SizeTooLarge => "SizeTooLarge",

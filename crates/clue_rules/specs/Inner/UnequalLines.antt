@@ -4,7 +4,7 @@ use Rattle.trail_solver.specs.Candidates.{CandidatesValue}
 use Rattle.clue_rules.specs.declared.unequal.sign.Sign.TheVariants.{FirstGreater, SecondGreater}
 use Rattle.clue_rules.specs.Inner.Narrowing.{StruckBelow}
 use Rattle.clue_rules.specs.Struck.{HasNoneAbove, HasNoneBelow}
-use Rattle.clue_rules.specs.Unequal.{UnequalValue, pairs_across, sign_at, first_of, second_of}
+use Rattle.clue_rules.specs.Unequal.{UnequalValue, pairs_across, sign_at, first_side, second_side}
 use Rattle.latin_board.specs.Squares.{GridValue, number_at}
 use Rattle.clue_rules.specs.Inner.Narrowing.{IsSquare}
 
@@ -12,8 +12,8 @@ use Rattle.clue_rules.specs.Inner.Narrowing.{IsSquare}
 pub record AreEnds (v : UnequalValue) (sign upper lower : ℕ) : Type 0 where
   pub upper_in : upper < v.size * v.size
   pub lower_in : lower < v.size * v.size
-  pub is : ((sign_at v sign ≡ FirstGreater) × (upper ≡ first_of v.size sign) × (lower ≡ second_of v.size sign))
-      ⊎ ((sign_at v sign ≡ SecondGreater) × (upper ≡ second_of v.size sign) × (lower ≡ first_of v.size sign))
+  pub is : ((sign_at v sign ≡ FirstGreater) × (upper ≡ first_side v.size sign) × (lower ≡ second_side v.size sign))
+      ⊎ ((sign_at v sign ≡ SecondGreater) × (upper ≡ second_side v.size sign) × (lower ≡ first_side v.size sign))
 
 -- what the lower, or the upper, of two squares can't hold
 pub record IsLowerStruck (upper lower : ℕ) (c : CandidatesValue) (cell value : ℕ) : Type 0 where

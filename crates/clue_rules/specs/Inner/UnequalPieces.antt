@@ -5,6 +5,7 @@ use Rattle.clue_rules.specs.declared.unequal.sign.Sign.{Sign}
 use Rattle.clue_rules.specs.UnequalText.{first_says, second_says, said_sign}
 use Rattle.std.specs.List.{list_any, range_with_len}
 use Rattle.clue_rules.specs.Unequal.{sign_count}
+use Rattle.byte_text.specs.Bytes.{comma}
 
 -- the texts that references point to
 abbrev pub texts_of : List (Bor (List ℕ)) → List (List ℕ)
@@ -13,7 +14,7 @@ texts_of pieces = map (λ p. p.now) pieces
 -- the rest is the text without one comma at its end, where there is one
 abbrev pub IsWithoutLastComma : List ℕ → List ℕ → Type 0
 IsWithoutLastComma text rest =
-    (text ≡ rest ++ 44 ∷ []) ⊎ ((text ≡ rest) × ((front : List ℕ) → text ≢ front ++ 44 ∷ []))
+    (text ≡ rest ++ comma ∷ []) ⊎ ((text ≡ rest) × ((front : List ℕ) → text ≢ front ++ comma ∷ []))
 
 -- the sign that the pieces on both sides say, unless each says that its square is the greater one
 abbrev pub sign_in : ℕ → List (List ℕ) → ℕ → Option Sign

@@ -8,7 +8,7 @@ use Rattle.byte_text.specs.Cuts.{Lacks}
 use Rattle.byte_text.proofs.CutLaws.{lacks_join, pieces_join}
 use Rattle.byte_text.proofs.ReadingLaws.{bind_taken, bind_again}
 use Rattle.clue_rules.specs.declared.id_fault.IdFault.TheVariants.{BadClue}
-use Rattle.clue_rules.specs.IdFaults.{counted}
+use Rattle.clue_rules.specs.IdFaults.{exactly}
 use Rattle.clue_rules.specs.TowersText.{clue_field, clue_part, fields, is_clue_field, clue_in, clues_in, clues_at}
 use Rattle.clue_rules.specs.Laws.JoinedTests.{both_from_and, and_from_both}
 use Rattle.clue_rules.specs.Laws.Counted.{counted_taken, counted_again}
@@ -78,7 +78,7 @@ clues_in_taken w fs clues =
 pub clues_taken : (w : ℕ) (part clues : List ℕ) → clues_at w part ≡ Ok clues → (part ≡ clue_part clues) × (length clues ≡ 4 * w) × AllByRecursion (λ clue. clue ≤ w) clues
 unfolding clues_at
 clues_taken w part clues read =
-    let steps = bind_taken (counted (4 * w) (fields part)) (clues_in w) clues read in
+    let steps = bind_taken (exactly (4 * w) (fields part)) (clues_in w) clues read in
     let count = counted_taken (4 * w) (fields part) steps.0 steps.1 in
     let ones = clues_in_taken w steps.0 clues steps.2 in
     let each = fields_taken w steps.0 ones.0 in
@@ -94,6 +94,6 @@ clues_again w clues some count within =
     let lengths : length fs ≡ length clues = length-map clues clue_field in
     let pieces : fields (clue_part clues) ≡ fs = pieces_join 47 fs (omega arith) (fields_lack 47 clues (omega arith)) in
     let right = fields_again w clues within in
-    let counts : counted (4 * w) (fields (clue_part clues)) ≡ Ok fs = ap (counted (4 * w)) pieces ∙ counted_again (4 * w) fs (lengths ∙ count) in
+    let counts : exactly (4 * w) (fields (clue_part clues)) ≡ Ok fs = ap (exactly (4 * w)) pieces ∙ counted_again (4 * w) fs (lengths ∙ count) in
     let ones : clues_in w fs ≡ Ok clues = rw right.0 (ap Ok right.1) in
-    bind_again (counted (4 * w) (fields (clue_part clues))) (clues_in w) fs counts ∙ ones
+    bind_again (exactly (4 * w) (fields (clue_part clues))) (clues_in w) fs counts ∙ ones

@@ -5,7 +5,7 @@ use Rattle.std.specs.List.{list_any}
 use Rattle.std.proofs.lemmas.Bool.{eqb-true, eq-eqb, false≢true}
 use Rattle.clue_rules.specs.declared.unequal.direction.Direction.{Direction}
 use Rattle.clue_rules.specs.declared.unequal.direction.Direction.TheVariants.{Up, Right, Down, Left}
-use Rattle.clue_rules.specs.Unequal.{sign_count, first_of, second_of}
+use Rattle.clue_rules.specs.Unequal.{sign_count, first_side, second_side}
 use Rattle.clue_rules.specs.UnequalText.{neighbour, directions, says, forth, back, first_says, second_says, says_greater, contradicts}
 use Rattle.clue_rules.specs.Inner.UnequalPieces.{signs_contradict}
 use Rattle.clue_rules.specs.Laws.JoinedTests.{both_from_and, and_from_both, one_from_or, or_from_second}
@@ -82,11 +82,11 @@ squares_from_signs : (w : ℕ) (pieces : List (List ℕ)) (i : ℕ) → 3 ≤ w 
 unfolding contradicts
 squares_from_signs w pieces i small inside first second =
     let sides = sides_at w i small inside in
-    range_some _ 0 (w * w) (first_of w i) (omega arith) (omega (arith, sides.order, sides.inside))
-    (range_some _ 0 (w * w) (second_of w i) (omega arith) (omega (arith, sides.inside))
-    (and_from_both (says_greater w pieces (first_of w i) (second_of w i)) (says_greater w pieces (second_of w i) (first_of w i))
-    (said w pieces (first_of w i) (second_of w i) (forth w i) first sides.points)
-    (said w pieces (second_of w i) (first_of w i) (back w i) second sides.points_back)))
+    range_some _ 0 (w * w) (first_side w i) (omega arith) (omega (arith, sides.order, sides.inside))
+    (range_some _ 0 (w * w) (second_side w i) (omega arith) (omega (arith, sides.inside))
+    (and_from_both (says_greater w pieces (first_side w i) (second_side w i)) (says_greater w pieces (second_side w i) (first_side w i))
+    (said w pieces (first_side w i) (second_side w i) (forth w i) first sides.points)
+    (said w pieces (second_side w i) (first_side w i) (back w i) second sides.points_back)))
 
 same_tests : (s t : Bool) → (s ≡ true → t ≡ true) → (t ≡ true → s ≡ true) → s ≡ t
 same_tests true true f g = refl

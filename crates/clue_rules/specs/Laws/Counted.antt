@@ -2,9 +2,9 @@
 use Rattle.std.proofs.Common.{◌≡◌, ℕ, true, false, nat_lt, List, length, Ok, Err, cond, refl, arith}
 use borrow.Author.Tests.{ltb-false, le-ltb}
 use Rattle.clue_rules.specs.declared.id_fault.IdFault.TheVariants.{TooFew, TooMany}
-use Rattle.clue_rules.specs.IdFaults.{counted}
+use Rattle.clue_rules.specs.IdFaults.{exactly}
 
-pub counted_taken : {X : Type 0} (n : ℕ) (xs ys : List X) → counted n xs ≡ Ok ys → (xs ≡ ys) × (length xs ≡ n)
+pub counted_taken : {X : Type 0} (n : ℕ) (xs ys : List X) → exactly n xs ≡ Ok ys → (xs ≡ ys) × (length xs ≡ n)
 counted_taken n xs ys =
     elim (nat_lt (length xs) n) as (λ t. nat_lt (length xs) n ≡ t → cond t (Err TooFew) (cond (nat_lt n (length xs)) (Err TooMany) (Ok xs)) ≡ Ok ys → (xs ≡ ys) × (length xs ≡ n)) [
       | true ↦ λ few is. cc
@@ -15,5 +15,5 @@ counted_taken n xs ys =
           ] refl
     ] refl
 
-pub counted_again : {X : Type 0} (n : ℕ) (xs : List X) → length xs ≡ n → counted n xs ≡ Ok xs
+pub counted_again : {X : Type 0} (n : ℕ) (xs : List X) → length xs ≡ n → exactly n xs ≡ Ok xs
 counted_again n xs count = rw (le-ltb (length xs) n (omega arith), le-ltb n (length xs) (omega arith)) refl

@@ -12,11 +12,11 @@ use Rattle.byte_text.specs.Reading.{◌>>=◌}
 use Rattle.clue_rules.specs.declared.id_fault.IdFault.{IdFault}
 use Rattle.clue_rules.specs.declared.id_fault.IdFault.TheVariants.{BadClue, BadSquares, TooFew, TooMany, OffGrid, Contradiction}
 use Rattle.clue_rules.specs.declared.unequal.direction.Direction.{Direction}
-use Rattle.clue_rules.specs.IdFaults.{counted}
+use Rattle.clue_rules.specs.IdFaults.{exactly}
 use Rattle.clue_rules.specs.Unequal.{UnequalValue, IsUnequal, sign_count}
 use Rattle.clue_rules.specs.UnequalText.{Piece, letter_of, neighbour, piece_text, without_empty_last, pieces_of, number_in, has_number, direction_of, has_letters, is_inside, points_inside, contradicts, puzzle_in, puzzle_at}
 use Rattle.clue_rules.specs.Laws.Pieces.{comma_pieces, pieces-join, join-push, dropped_last, drop-push, pieces-push}
-use Rattle.clue_rules.specs.Laws.Letters.{direction_of-letter, contains_here, contains_there, contains_cases, number_in-piece, letters_piece, lacks_comma, read_piece, piece_written, number_small}
+use Rattle.clue_rules.specs.Laws.Letters.{direction_of-letter, contains_here, contains_there, contains_cases, number_in-piece, letters_piece, lacks_comma, read_piece, read_piece_written, number_small}
 use Rattle.clue_rules.specs.Laws.JoinedTests.{both_from_and}
 
 -- reading that succeeds
@@ -47,7 +47,7 @@ good_taken w pieces v h =
 pub good_again : (w : ℕ) (pieces : List (List ℕ)) → AreGood w pieces → puzzle_at w pieces ≡ Ok (puzzle_in w pieces)
 good_again w pieces h = rw (h.numbers, h.letters, h.inside, h.agree) refl
 
-pub counted_ok : (n : ℕ) (ps qs : List (List ℕ)) → counted n ps ≡ Ok qs → (length ps ≡ n) × (ps ≡ qs)
+pub counted_ok : (n : ℕ) (ps qs : List (List ℕ)) → exactly n ps ≡ Ok qs → (length ps ≡ n) × (ps ≡ qs)
 counted_ok n ps qs h = go (ltb (length ps) n) (ltb n (length ps)) refl refl h
   where
     go : (few many : Bool) → ltb (length ps) n ≡ few → ltb n (length ps) ≡ many → cond few (Err TooFew) (cond many (Err TooMany) (Ok ps)) ≡ Ok qs → (length ps ≡ n) × (ps ≡ qs)
@@ -55,7 +55,7 @@ counted_ok n ps qs h = go (ltb (length ps) n) (ltb n (length ps)) refl refl h
     go false true f m h = absurd (cc)
     go false false f m h = (omega (arith, ltb-false (length ps) n f, ltb-false n (length ps) m), cc)
 
-pub counted_again : (n : ℕ) (ps : List (List ℕ)) → length ps ≡ n → counted n ps ≡ Ok ps
+pub counted_again : (n : ℕ) (ps : List (List ℕ)) → length ps ≡ n → exactly n ps ≡ Ok ps
 counted_again n ps e = rw (le-ltb (length ps) n (omega arith), le-ltb n (length ps) (omega arith)) refl
 
 pub read_ok : (w : ℕ) (r : Result (List (List ℕ)) IdFault) (v : UnequalValue) → (r >>= puzzle_at w) ≡ Ok v → (ps : List (List ℕ)) × (r ≡ Ok ps) × (puzzle_at w ps ≡ Ok v)
@@ -68,7 +68,7 @@ read_pieces w [] numbers letters = refl
 read_pieces w (p ∷ ps) numbers letters =
     let number = both_from_and (has_number w p) (list_all (has_number w) ps) numbers in
     let letter = both_from_and (has_letters p) (list_all has_letters ps) letters in
-    rw (piece_written w p number.0 letter.0, read_pieces w ps number.1 letter.1) refl
+    rw (read_piece_written w p number.0 letter.0, read_pieces w ps number.1 letter.1) refl
 
 pub map-number : (w : ℕ) (bytes : List (List ℕ)) → map (λ p. p.number) (map (read_piece w) bytes) ≡ map (λ p. unwrap_or (number_in w p) 0) bytes
 map-number w [] = refl

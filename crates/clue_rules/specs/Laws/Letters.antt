@@ -182,9 +182,9 @@ number_written w b bs e = go (leb 48 b && leb b (48 + w) && not (begins_digit bs
         let more : 48 ≤ b = grind (arith, nat_tests, low.0) in
         omega arith
 
-pub piece_written : (w : ℕ) (bytes : List ℕ) → has_number w bytes ≡ true → has_letters bytes ≡ true → piece_text (read_piece w bytes) ≡ bytes
-piece_written w [] number letters = absurd (false≢true number)
-piece_written w (b ∷ bs) number letters = rw (number_written w b bs number, letters_written bs letters) refl
+pub read_piece_written : (w : ℕ) (bytes : List ℕ) → has_number w bytes ≡ true → has_letters bytes ≡ true → piece_text (read_piece w bytes) ≡ bytes
+read_piece_written w [] number letters = absurd (false≢true number)
+read_piece_written w (b ∷ bs) number letters = rw (number_written w b bs number, letters_written bs letters) refl
 
 pub number_small : (w : ℕ) (bytes : List ℕ) → unwrap_or (number_in w bytes) 0 ≤ w
 number_small w [] = omega arith

@@ -5,12 +5,12 @@ use Rattle.std.proofs.lemmas.Nat.{div-mul-add, mod-mul-add, mul-add-lt}
 use Rattle.std.proofs.lemmas.Bool.{lt-ltb, le-ltb, ltb-true, ltb-false, eq-eqb, ne_eqb, eqb-false, cases_lt}
 use Rattle.clue_rules.specs.declared.unequal.direction.Direction.{Direction}
 use Rattle.clue_rules.specs.declared.unequal.direction.Direction.TheVariants.{Up, Right, Down, Left}
-use Rattle.clue_rules.specs.Unequal.{pairs_across, sign_count, IsAcross, IsDown, IsBetween, first_of, second_of, sign_between}
+use Rattle.clue_rules.specs.Unequal.{pairs_across, sign_count, IsAcross, IsDown, IsBetween, first_side, second_side, sign_between}
 use Rattle.clue_rules.specs.UnequalText.{neighbour, forth, back}
 
-pub across_at : (w i : ℕ) → 3 ≤ w → i < pairs_across w → IsAcross w i (first_of w i) (second_of w i)
+pub across_at : (w i : ℕ) → 3 ≤ w → i < pairs_across w → IsAcross w i (first_side w i) (second_side w i)
 across_at w i small h =
-    let first : first_of w i ≡ i / (w - 1) * w + i % (w - 1) = rw (lt-ltb i (pairs_across w) h) in
+    let first : first_side w i ≡ i / (w - 1) * w + i % (w - 1) = rw (lt-ltb i (pairs_across w) h) in
     let column : i % (w - 1) < w - 1 = mod-lt i (omega arith) in
     record {
       row = i / (w - 1);
@@ -22,7 +22,7 @@ across_at w i small h =
       second_is = rw (lt-ltb i (pairs_across w) h) (omega arith);
     }
 
-pub down_at : (w i : ℕ) → 3 ≤ w → pairs_across w ≤ i → i < sign_count w → IsDown w i (first_of w i) (second_of w i)
+pub down_at : (w i : ℕ) → 3 ≤ w → pairs_across w ≤ i → i < sign_count w → IsDown w i (first_side w i) (second_side w i)
 down_at w i small low h =
     let square : i - pairs_across w < (w - 1) * w = omega arith in
     let column : (i - pairs_across w) % w < w = mod-lt (i - pairs_across w) (omega arith) in
@@ -40,8 +40,8 @@ down_at w i small low h =
 -- what is known of the squares on both sides of a sign
 pub record AreSides (w i a b : ℕ) : Type 0 where
   pub sign : i < sign_count w
-  pub first : a ≡ first_of w i
-  pub second : b ≡ second_of w i
+  pub first : a ≡ first_side w i
+  pub second : b ≡ second_side w i
   pub order : a < b
   pub inside : b < w * w
   pub between : sign_between w a b ≡ Some i
@@ -101,18 +101,18 @@ pub between_sides : (w i a b : ℕ) → 3 ≤ w → IsBetween w i a b → AreSid
 between_sides w i a b small h = elim h [ inl across ↦ across_sides w i a b small across | inr down ↦ down_sides w i a b small down ]
 
 -- each sign stands between its squares
-pub between_at : (w i : ℕ) → 3 ≤ w → i < sign_count w → IsBetween w i (first_of w i) (second_of w i)
+pub between_at : (w i : ℕ) → 3 ≤ w → i < sign_count w → IsBetween w i (first_side w i) (second_side w i)
 between_at w i small h = elim (cases_lt i (pairs_across w)) [
   | inl low ↦ inl (across_at w i small low)
   | inr high ↦ inr (down_at w i small high h)
 ]
 
-pub sides_at : (w i : ℕ) → 3 ≤ w → i < sign_count w → AreSides w i (first_of w i) (second_of w i)
+pub sides_at : (w i : ℕ) → 3 ≤ w → i < sign_count w → AreSides w i (first_side w i) (second_side w i)
 sides_at w i small h = between_sides w i _ _ small (between_at w i small h)
 
 -- two squares have one sign between them
-pub same_sign : (w i j a b : ℕ) → AreSides w i a b → AreSides w j a b → i ≡ j
-same_sign w i j a b one other = let e : Some i ≡ Some j = sym one.between ∙ other.between in cc
+pub one_sign_between : (w i j a b : ℕ) → AreSides w i a b → AreSides w j a b → i ≡ j
+one_sign_between w i j a b one other = let e : Some i ≡ Some j = sym one.between ∙ other.between in cc
 
 -- from a square to the one on its right, and to the one below it
 pub across_from : (w a : ℕ) → 3 ≤ w → a < w * w → a % w + 1 < w → IsAcross w (a / w * (w - 1) + a % w) a (a + 1)

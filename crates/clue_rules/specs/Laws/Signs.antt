@@ -7,7 +7,7 @@ use Rattle.std.proofs.lemmas.Bool.{ltb-true, eqb-true, cases_lt, false≢true}
 use Rattle.clue_rules.specs.declared.unequal.sign.Sign.{Sign}
 use Rattle.clue_rules.specs.declared.unequal.sign.Sign.TheVariants.{Absent, FirstGreater, SecondGreater}
 use Rattle.clue_rules.specs.Unequal.{UnequalValue, pairs_across, IsBetween, IsGreater, sign_at, sign_between, sign_of_pair, says_first, says_second, is_greater}
-use Rattle.clue_rules.specs.Laws.SignPlaces.{AreSides, between_sides, same_sign, across_from, down_from}
+use Rattle.clue_rules.specs.Laws.SignPlaces.{AreSides, between_sides, one_sign_between, across_from, down_from}
 use Rattle.clue_rules.specs.Laws.RangeTests.{some_if}
 use Rattle.clue_rules.specs.Laws.JoinedTests.{both_from_and, one_from_or, or_from_second}
 
@@ -28,7 +28,7 @@ never_both v a b small one other = elim one.says [
     sides_of {i} {x} {y} h = between_sides v.size i x y small h
 
     clash : {i j x y : ℕ} → AreSides v.size i x y → AreSides v.size j x y → sign_at v i ≡ FirstGreater → sign_at v j ≡ SecondGreater → ⊥
-    clash {i} {j} {x} {y} s t e f = let same : i ≡ j = same_sign v.size i j x y s t in cc
+    clash {i} {j} {x} {y} s t e f = let same : i ≡ j = one_sign_between v.size i j x y s t in cc
 
 -- a square that doesn't begin a row has the one before it on its left
 next_column : (w a : ℕ) → 3 ≤ w → 0 < (a + 1) % w → a % w + 1 < w

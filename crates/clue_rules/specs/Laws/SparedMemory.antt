@@ -5,7 +5,7 @@ use Rattle.byte_text.specs.Cuts.{before, behind}
 use Rattle.byte_text.specs.Reading.{◌>>=◌}
 use Rattle.clue_rules.specs.declared.id_fault.IdFault.{IdFault}
 use Rattle.clue_rules.specs.declared.id_fault.IdFault.TheVariants.{BadClue, BadSquares, TooFew, TooMany, OffGrid, Contradiction}
-use Rattle.clue_rules.specs.IdFaults.{SparesMemory, counted}
+use Rattle.clue_rules.specs.IdFaults.{SparesMemory, exactly}
 use Rattle.clue_rules.specs.TowersText.{fields, is_clue_field, clues_in, clues_at, is_square_part, squares_of, givens_at, givens_behind, towers_at}
 use Rattle.clue_rules.specs.UnequalText.{pieces_of, has_number, has_letters, points_inside, contradicts, puzzle_in, puzzle_at, unequal_at}
 
@@ -17,13 +17,13 @@ pub spares-if : {A : Type 0} (b : Bool) (x y : Result A IdFault) → SparesMemor
 spares-if true x y h k = h
 spares-if false x y h k = k
 
-counted_spares : {X : Type 0} (n : ℕ) (xs : List X) → SparesMemory (counted n xs)
+counted_spares : {X : Type 0} (n : ℕ) (xs : List X) → SparesMemory (exactly n xs)
 counted_spares n xs = spares-if (ltb (length xs) n) (Err TooFew) _ (λ e. cc) (spares-if (ltb n (length xs)) (Err TooMany) (Ok xs) (λ e. cc) tt)
 
 clues_spare : (w : ℕ) (part : List ℕ) → SparesMemory (clues_at w part)
 unfolding clues_at
 clues_spare w part =
-    spares-then (counted (4 * w) (fields part)) (clues_in w) (counted_spares (4 * w) (fields part))
+    spares-then (exactly (4 * w) (fields part)) (clues_in w) (counted_spares (4 * w) (fields part))
     (λ fs. spares-if (list_all (is_clue_field w) fs) _ (Err BadClue) tt (λ e. cc))
 
 givens_spare : (w : ℕ) (part : List ℕ) → SparesMemory (givens_at w part)
@@ -43,7 +43,7 @@ towers_spares w text =
 pub unequal_spares : (w : ℕ) (text : List ℕ) → SparesMemory (unequal_at w text)
 unfolding unequal_at
 unequal_spares w text =
-    spares-then (counted (w * w) (pieces_of text)) (puzzle_at w) (counted_spares (w * w) (pieces_of text))
+    spares-then (exactly (w * w) (pieces_of text)) (puzzle_at w) (counted_spares (w * w) (pieces_of text))
     (λ pieces. spares-if (not (list_all (has_number w) pieces)) (Err BadSquares) _ (λ e. cc)
     (spares-if (not (list_all has_letters pieces)) (Err BadClue) _ (λ e. cc)
     (spares-if (not (list_all (points_inside w pieces) (range_with_len 0 (w * w)))) (Err OffGrid) _ (λ e. cc)

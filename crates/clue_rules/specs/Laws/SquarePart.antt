@@ -4,7 +4,7 @@ use Rattle.std.specs.List.{AllByRecursion, flat_map}
 use borrow.Author.Tests.{eqb-true, eq-eqb, leb-true, le-leb, lt-leb, not-true}
 use Rattle.byte_text.specs.Decimals.{is_digit, begins_digit}
 use Rattle.clue_rules.specs.declared.id_fault.IdFault.TheVariants.{BadSquares}
-use Rattle.clue_rules.specs.IdFaults.{counted}
+use Rattle.clue_rules.specs.IdFaults.{exactly}
 use Rattle.clue_rules.specs.TowersText.{IsSquareText, is_blank_letter, is_square_byte, is_square_part, squares_of, givens_at}
 use Rattle.clue_rules.specs.Laws.JoinedTests.{both_from_and, and_from_both, one_from_or, or_from_second}
 use Rattle.clue_rules.specs.Laws.Counted.{counted_taken, counted_again}
@@ -129,7 +129,7 @@ squares_within w (b ∷ bs) squares text =
 pub givens_taken : (w : ℕ) (part givens : List ℕ) → w ≤ 9 → givens_at w part ≡ Ok givens → (length givens ≡ w * w) × IsSquareText w part givens
 unfolding givens_at
 givens_taken w part givens small =
-    elim (is_square_part w part) as (λ t. is_square_part w part ≡ t → cond t (counted (w * w) (flat_map squares_of part)) (Err BadSquares) ≡ Ok givens → (length givens ≡ w * w) × IsSquareText w part givens) [
+    elim (is_square_part w part) as (λ t. is_square_part w part ≡ t → cond t (exactly (w * w) (flat_map squares_of part)) (Err BadSquares) ≡ Ok givens → (length givens ≡ w * w) × IsSquareText w part givens) [
       | true ↦ λ is read.
           let count = counted_taken (w * w) (flat_map squares_of part) givens read in
           (ap length (sym count.0) ∙ count.1, subst (IsSquareText w part) count.0 (squares_taken w part small is))

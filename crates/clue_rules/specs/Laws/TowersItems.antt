@@ -79,11 +79,11 @@ cut_cut v first second = rw (kept-kept zero first second 0 v.clues, kept-kept ze
 pub few_items : (w : ℕ) → 3 ≤ w → w ≤ 6 → towers_items w ≤ 96
 few_items w low high = small_widths (λ n. towers_items n ≤ 96) (omega arith) (omega arith) (omega arith) (omega arith) w low high
 
-has_clue : (v : TowersValue) (place : ℕ) → place < 4 * v.size → has_towers v place ≡ ltb 0 (clue_of v place)
-has_clue v place inside = rw (lt-ltb place (4 * v.size) inside) refl
+clue_is_item : (v : TowersValue) (place : ℕ) → place < 4 * v.size → has_towers v place ≡ ltb 0 (clue_of v place)
+clue_is_item v place inside = rw (lt-ltb place (4 * v.size) inside) refl
 
-has_given : (v : TowersValue) (cell : ℕ) → has_towers v (4 * v.size + cell) ≡ ltb 0 (get_or v.givens cell 0)
-has_given v cell =
+given_is_item : (v : TowersValue) (cell : ℕ) → has_towers v (4 * v.size + cell) ≡ ltb 0 (get_or v.givens cell 0)
+given_is_item v cell =
     let back : 4 * v.size + cell - 4 * v.size ≡ cell = omega arith in
     rw (le-ltb (4 * v.size + cell) (4 * v.size) (omega arith), back) refl
 
@@ -91,10 +91,10 @@ pub cut_agrees : (v : TowersValue) (a b : ℕ → Bool) → IsTowers v → ((i :
 cut_agrees v a b h same =
     let clues : kept_items zero a 0 v.clues ≡ kept_items zero b 0 v.clues =
     kept-agrees zero (ltb 0) not_positive a b 0 v.clues (λ k inside here.
-    at_zero k (same k (omega (arith, h.clue_count)) (has_clue v k (omega (arith, h.clue_count)) ∙ here))) in
+    at_zero k (same k (omega (arith, h.clue_count)) (clue_is_item v k (omega (arith, h.clue_count)) ∙ here))) in
     let givens : kept_items zero a (4 * v.size) v.givens ≡ kept_items zero b (4 * v.size) v.givens =
     kept-agrees zero (ltb 0) not_positive a b (4 * v.size) v.givens (λ k inside here.
-    same (4 * v.size + k) (omega (arith, h.given_count)) (has_given v k ∙ here)) in
+    same (4 * v.size + k) (omega (arith, h.given_count)) (given_is_item v k ∙ here)) in
     rw (clues, givens) refl
   where
     at_zero : (k : ℕ) → a k ≡ b k → a (0 + k) ≡ b (0 + k)

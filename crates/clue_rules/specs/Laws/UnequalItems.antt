@@ -10,7 +10,7 @@ use Rattle.latin_board.proofs.LatinLines.{latin_full, peers_differ}
 use Rattle.trail_solver.specs.Puzzles.{Solves}
 use Rattle.clue_rules.specs.declared.unequal.sign.Sign.{Sign}
 use Rattle.clue_rules.specs.declared.unequal.sign.Sign.TheVariants.{Absent, FirstGreater, SecondGreater}
-use Rattle.clue_rules.specs.Unequal.{UnequalValue, IsUnequal, IsAcross, IsDown, sign_count, sign_at, first_of, second_of, holds_sign, puzzle_of, unequal_items, is_present, has_unequal, cut_unequal, sign_of, full_unequal}
+use Rattle.clue_rules.specs.Unequal.{UnequalValue, IsUnequal, IsAcross, IsDown, sign_count, sign_at, first_side, second_side, holds_sign, puzzle_of, unequal_items, is_present, has_unequal, cut_unequal, sign_of, full_unequal}
 use Rattle.clue_rules.specs.Items.{kept_items}
 use Rattle.clue_rules.specs.Laws.KeptItems.{length-kept, get_or-kept, kept-all, kept-kept, kept-agrees, kept-within, positive-cond, asked_still, not_positive, small_widths}
 use Rattle.clue_rules.specs.Laws.SignPlaces.{sides_at, between_at}
@@ -68,8 +68,8 @@ not_present SecondGreater h = cc
 has_sign : (v : UnequalValue) (i : ℕ) → i < sign_count v.size → has_unequal v i ≡ is_present (sign_at v i)
 has_sign v i inside = rw (lt-ltb i (sign_count v.size) inside) refl
 
-has_given : (v : UnequalValue) (cell : ℕ) → has_unequal v (sign_count v.size + cell) ≡ ltb 0 (get_or v.givens cell 0)
-has_given v cell =
+given_is_item : (v : UnequalValue) (cell : ℕ) → has_unequal v (sign_count v.size + cell) ≡ ltb 0 (get_or v.givens cell 0)
+given_is_item v cell =
     let back : sign_count v.size + cell - sign_count v.size ≡ cell = omega arith in
     rw (le-ltb (sign_count v.size + cell) (sign_count v.size) (omega arith), back) refl
 
@@ -80,7 +80,7 @@ cut_agrees v a b h same =
     at_zero k (same k (omega (arith, h.signs)) (has_sign v k (omega (arith, h.signs)) ∙ here))) in
     let givens : kept_items zero a (sign_count v.size) v.givens ≡ kept_items zero b (sign_count v.size) v.givens =
     kept-agrees zero (ltb 0) not_positive a b (sign_count v.size) v.givens (λ k inside here.
-    same (sign_count v.size + k) (omega (arith, h.givens.count)) (has_given v k ∙ here)) in
+    same (sign_count v.size + k) (omega (arith, h.givens.count)) (given_is_item v k ∙ here)) in
     rw (signs, givens) refl
   where
     at_zero : (k : ℕ) → a k ≡ b k → a (0 + k) ≡ b (0 + k)
@@ -109,7 +109,7 @@ cut_solved v keep g h = record {
 pub full_valid : (g : GridValue) → IsGrid g → IsUnequal (full_unequal g)
 full_valid g h = record { givens = h; signs = length-map-range_with_len _ 0 (sign_count g.size) }
 
-pub full_sign : (g : GridValue) (i : ℕ) → i < sign_count g.size → sign_at (full_unequal g) i ≡ sign_of (number_at g (first_of g.size i)) (number_at g (second_of g.size i))
+pub full_sign : (g : GridValue) (i : ℕ) → i < sign_count g.size → sign_at (full_unequal g) i ≡ sign_of (number_at g (first_side g.size i)) (number_at g (second_side g.size i))
 full_sign g i inside = get_or-map-range_with_len _ 0 (sign_count g.size) i i Absent inside (omega arith)
 
 sign_present : (x y : ℕ) → x ≢ y → is_present (sign_of x y) ≡ true
@@ -136,11 +136,11 @@ full_solved g is_grid latin = record {
   same_size = refl;
   latin = latin;
   givens = λ cell inside low. refl;
-  clues = range_all _ 0 (sign_count g.size) (λ i low high. rw (full_sign g i (omega arith)) (sign_of_holds (number_at g (first_of g.size i)) (number_at g (second_of g.size i))));
+  clues = range_all _ 0 (sign_count g.size) (λ i low high. rw (full_sign g i (omega arith)) (sign_of_holds (number_at g (first_side g.size i)) (number_at g (second_side g.size i))));
 }
 
 -- the squares on both sides of a sign share a row or a column
-sides_peers : (w i : ℕ) → 3 ≤ w → i < sign_count w → ArePeers w (first_of w i) (second_of w i)
+sides_peers : (w i : ℕ) → 3 ≤ w → i < sign_count w → ArePeers w (first_side w i) (second_side w i)
 sides_peers w i small inside =
     let sides = sides_at w i small inside in
     record {
@@ -153,13 +153,13 @@ sides_peers w i small inside =
       ];
     }
   where
-    rows : IsAcross w i (first_of w i) (second_of w i) → first_of w i / w ≡ second_of w i / w
+    rows : IsAcross w i (first_side w i) (second_side w i) → first_side w i / w ≡ second_side w i / w
     rows h = row_of _ _ h.first_is (omega (arith, h.column_inside)) ∙ sym (row_of _ _ h.second_is h.column_inside)
       where
         row_of : (a c : ℕ) → a ≡ h.row * w + c → c < w → a / w ≡ h.row
         row_of a c e inside = rw e (div-mul-add h.row w c inside)
 
-    columns : IsDown w i (first_of w i) (second_of w i) → first_of w i % w ≡ second_of w i % w
+    columns : IsDown w i (first_side w i) (second_side w i) → first_side w i % w ≡ second_side w i % w
     columns h = column_of _ _ h.first_is ∙ sym (column_of _ _ h.second_is)
       where
         column_of : (a r : ℕ) → a ≡ r * w + h.column → a % w ≡ h.column
@@ -168,7 +168,7 @@ sides_peers w i small inside =
 pub full_has : (g : GridValue) (i : ℕ) → IsGrid g → IsLatin g → i < unequal_items g.size → has_unequal (full_unequal g) i ≡ true
 full_has g i is_grid latin inside = elim (cases_lt i (sign_count g.size)) [
   | inl low ↦
-      let differ = peers_differ g is_grid latin (first_of g.size i) (second_of g.size i) (sides_peers g.size i is_grid.smallest low) in
+      let differ = peers_differ g is_grid latin (first_side g.size i) (second_side g.size i) (sides_peers g.size i is_grid.smallest low) in
       rw (lt-ltb i (sign_count g.size) low, full_sign g i low) (sign_present _ _ differ)
   | inr high ↦
       rw (le-ltb i (sign_count g.size) high) (full_has_given g latin (i - sign_count g.size) (omega arith))

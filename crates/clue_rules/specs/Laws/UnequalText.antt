@@ -7,14 +7,14 @@ use Rattle.std.proofs.lemmas.List.Elements.{recursion_from_All}
 use Rattle.std.proofs.lemmas.List.FromFn.{length-map-range_with_len, get_or-map-range_with_len}
 use Rattle.clue_rules.specs.declared.unequal.sign.Sign.{Sign}
 use Rattle.clue_rules.specs.declared.unequal.sign.Sign.TheVariants.{Absent, FirstGreater, SecondGreater}
-use Rattle.clue_rules.specs.IdFaults.{counted}
-use Rattle.clue_rules.specs.Unequal.{UnequalValue, IsUnequal, IsGreater, sign_count, sign_at, first_of, second_of}
+use Rattle.clue_rules.specs.IdFaults.{exactly}
+use Rattle.clue_rules.specs.Unequal.{UnequalValue, IsUnequal, IsGreater, sign_count, sign_at, first_side, second_side}
 use Rattle.clue_rules.specs.UnequalText.{Piece, Says, IsUnequalText, piece_text, directions_at, pieces_of, number_in, points_inside, first_says, second_says, said_sign, contradicts, puzzle_in, unequal_at}
 use Rattle.clue_rules.specs.Laws.RangeTests.{all_in_range, range_all, none_in_range, range_none}
 use Rattle.clue_rules.specs.Laws.Contradiction.{contradicts_signs}
 use Rattle.clue_rules.specs.Laws.Signs.{never_both}
 use Rattle.clue_rules.specs.Laws.Letters.{letters_at, directions_inside, read_piece}
-use Rattle.clue_rules.specs.Laws.SaidSigns.{first_from_says, says_from_first, second_from_says, says_from_second, greater_first, greater_second, first_greater, second_greater, SaysSigns, greater_says, says_greater}
+use Rattle.clue_rules.specs.Laws.SaidSigns.{first_from_says, says_from_first, second_from_says, says_from_second, greater_first, greater_second, first_greater, second_greater, SaysSigns, greater_says, said_greater}
 use Rattle.clue_rules.specs.Laws.GoodPieces.{AreGood, good_taken, good_again, counted_ok, counted_again, read_ok, read_pieces, map-number, read_valid, letters_inside, inside_letters, some_pieces, pieces_some, square_some, good_numbers, good_letters, numbers_again}
 
 said_first : (s t : Bool) → said_sign s t ≡ FirstGreater → s ≡ true
@@ -62,7 +62,7 @@ read_text w text pieces small large count split good numbers =
           let inside : cell < w * w = omega (arith, directions_inside pieces cell d h) in
           let letters = all_in_range (points_inside w (map piece_text pieces)) 0 (w * w) cell good.inside (omega arith) (omega arith) in
           letters_inside w cell (directions_at pieces cell) d (rw (letters_at pieces cell) at letters) h;
-      signs = λ a b. (greater_says v pieces small signs a b, says_greater v pieces small count signs a b);
+      signs = λ a b. (greater_says v pieces small signs a b, said_greater v pieces small count signs a b);
     }
 
 taken_pieces : (w : ℕ) (text : List ℕ) (bytes : List (List ℕ)) → 3 ≤ w → w ≤ 9 → length bytes ≡ w * w → pieces_of text ≡ bytes → AreGood w bytes → IsUnequalText (puzzle_in w bytes) text
@@ -78,7 +78,7 @@ taken_pieces w text bytes small large count split good =
 pub unequal_taken : (w : ℕ) (text : List ℕ) (v : UnequalValue) → 3 ≤ w → w ≤ 9 → unequal_at w text ≡ Ok v → IsUnequalText v text × (v.size ≡ w)
 unfolding unequal_at
 unequal_taken w text v small large h =
-    let read = read_ok w (counted (w * w) (pieces_of text)) v h in
+    let read = read_ok w (exactly (w * w) (pieces_of text)) v h in
     let count = counted_ok (w * w) (pieces_of text) read.0 read.1 in
     let good = good_taken w read.0 v read.2 in
     let described = taken_pieces w text read.0 small large (sym (ap length count.1) ∙ count.0) count.1 good.0 in
@@ -99,17 +99,17 @@ sign_matches SecondGreater false false a b c d = absurd (false≢true (c refl))
 
 -- what the letters of a described puzzle say of a sign
 record SaysSign (v : UnequalValue) (pieces : List Piece) (i : ℕ) : Type 0 where
-  first : first_says v.size (map piece_text pieces) i ≡ true → IsGreater v (first_of v.size i) (second_of v.size i)
-  second : second_says v.size (map piece_text pieces) i ≡ true → IsGreater v (second_of v.size i) (first_of v.size i)
-  first_back : IsGreater v (first_of v.size i) (second_of v.size i) → first_says v.size (map piece_text pieces) i ≡ true
-  second_back : IsGreater v (second_of v.size i) (first_of v.size i) → second_says v.size (map piece_text pieces) i ≡ true
+  first : first_says v.size (map piece_text pieces) i ≡ true → IsGreater v (first_side v.size i) (second_side v.size i)
+  second : second_says v.size (map piece_text pieces) i ≡ true → IsGreater v (second_side v.size i) (first_side v.size i)
+  first_back : IsGreater v (first_side v.size i) (second_side v.size i) → first_says v.size (map piece_text pieces) i ≡ true
+  second_back : IsGreater v (second_side v.size i) (first_side v.size i) → second_says v.size (map piece_text pieces) i ≡ true
 
 described_sign : (v : UnequalValue) (pieces : List Piece) (i : ℕ) → 3 ≤ v.size → i < sign_count v.size → ((a b : ℕ) → IsGreater v a b ↔ Says v.size pieces a b) → SaysSign v pieces i
 described_sign v pieces i small inside h = record {
-  first = λ e. (h (first_of v.size i) (second_of v.size i)).1 (says_from_first v.size i pieces small inside e);
-  second = λ e. (h (second_of v.size i) (first_of v.size i)).1 (says_from_second v.size i pieces small inside e);
-  first_back = λ g. first_from_says v.size i pieces small inside ((h (first_of v.size i) (second_of v.size i)).0 g);
-  second_back = λ g. second_from_says v.size i pieces small inside ((h (second_of v.size i) (first_of v.size i)).0 g);
+  first = λ e. (h (first_side v.size i) (second_side v.size i)).1 (says_from_first v.size i pieces small inside e);
+  second = λ e. (h (second_side v.size i) (first_side v.size i)).1 (says_from_second v.size i pieces small inside e);
+  first_back = λ g. first_from_says v.size i pieces small inside ((h (first_side v.size i) (second_side v.size i)).0 g);
+  second_back = λ g. second_from_says v.size i pieces small inside ((h (second_side v.size i) (first_side v.size i)).0 g);
 }
 
 again_pieces : (v : UnequalValue) (text : List ℕ) → (h : IsUnequalText v text) → AreGood v.size (map piece_text h.pieces) × (puzzle_in v.size (map piece_text h.pieces) ≡ v)

@@ -4,11 +4,11 @@
 //! squares in reading order: a letter for a run of 1 to 26 blank squares, a digit for a given, and `_` between two
 //! givens that stand side by side. This is the collection's form.
 
-ghost use Rattle.clue_rules.specs.Bytes.{slash};
+ghost use Rattle.byte_text.specs.Bytes.{slash};
 ghost use Rattle.std.specs.Prelude.{◌≡◌, ◌+◌, ◌*◌, ◌<◌, ◌≤◌, ◌==◌, ◌++◌, ◌&&◌, not, false, IsOkUnless, count_by, true, take, length, if◌then◌else◌, Some, None, Result, Ok, Err, IfOk, OnOk, IfSome, IfNone, All};
 ghost use Rattle.std.specs.List.{flat_map, list_any};
 ghost use Rattle.byte_text.specs.Reading.{Gives};
-ghost use Rattle.clue_rules.specs.IdFaults.{counted};
+ghost use Rattle.clue_rules.specs.IdFaults.{exactly};
 ghost use Rattle.clue_rules.specs.Inner.Filled.{IsFilledTo};
 ghost use Rattle.clue_rules.specs.Towers.{TowersValue};
 ghost use Rattle.clue_rules.specs.TowersText.{IsTowersText, clue_field, clue_part, given_written, blank_letters, squares_written, towers_text};
@@ -131,7 +131,7 @@ fn is_square_byte(size: Size, byte: u8, after: &[u8]) -> bool
 fn fill_givens(size: Size, part: &[u8]) -> Result<Grid, IdFault>
     requires { is_square_part size part.now ≡ true }
     ensures value { Gives (λ givens. givens.numbers) result
-        (counted (size * size) (flat_map squares_of part.now)) }
+        (exactly (size * size) (flat_map squares_of part.now)) }
     ensures size { IfOk result (λ givens. givens.size ≡ size) }
 {
     let width = size.get() as usize;

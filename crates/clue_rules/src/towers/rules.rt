@@ -10,7 +10,7 @@ ghost use Rattle.trail_solver.specs.Pairs.{IsPair};
 ghost use Rattle.trail_solver.specs.Puzzles.{Solves};
 ghost use Rattle.clue_rules.specs.Towers.{TowersValue, IsTowers};
 ghost use Rattle.clue_rules.specs.Towers.{clue_of, meets_clue, meets_clues, HoldsClues};
-ghost use Rattle.clue_rules.specs.Struck.{IsTowersStruck, KeepsSolutions, HasNoSolution, NoneLeft};
+ghost use Rattle.clue_rules.specs.Struck.{IsTowersStruck, KeepsSolutions, HasNoSolutionWithin, NoneLeft};
 ghost use Rattle.clue_rules.specs.Towers.{towers_puzzle, towers_items, has_towers, cut_towers, full_towers};
 
 use crate::lines::given_squares::keep_givens;
@@ -114,7 +114,7 @@ impl Rules for Towers {
         requires { candidates.old.size ≡ self.now.size }
         ensures less { IsEarlier candidates.old candidates.new }
         ensures keeps { KeepsSolutions (towers_puzzle self.now) candidates.old candidates.new }
-        ensures refutes { OnFalse result (HasNoSolution (towers_puzzle self.now) candidates.old) }
+        ensures refutes { OnFalse result (HasNoSolutionWithin (towers_puzzle self.now) candidates.old) }
         ensures struck { OnTrue result
             (NoneLeft (IsTowersStruck self.now) candidates.old candidates.new) }
     {

@@ -1,10 +1,10 @@
 //! The pieces of a description: one for each square, separated by commas, each a digit and letters.
 
-ghost use Rattle.clue_rules.specs.Bytes.{comma};
+ghost use Rattle.byte_text.specs.Bytes.{comma};
 ghost use Rattle.std.specs.Prelude.{◌≡◌, ◌*◌, ◌<◌, ◌≤◌, ◌==◌, drop};
 ghost use Rattle.std.specs.List.{list_all, list_any, slice_split};
 ghost use Rattle.byte_text.specs.Reading.{Gives};
-ghost use Rattle.clue_rules.specs.IdFaults.{counted};
+ghost use Rattle.clue_rules.specs.IdFaults.{exactly};
 ghost use Rattle.clue_rules.specs.UnequalText.{letter_of};
 ghost use Rattle.clue_rules.specs.Inner.UnequalPieces.{IsWithoutLastComma, texts_of};
 ghost use Rattle.clue_rules.specs.UnequalText.{pieces_of, number_in, has_letters, is_inside};
@@ -24,7 +24,7 @@ pub(super) type Pieces<'a> = ArrayVec<&'a [u8], 81>;
 pub(super) fn pieces_of(text: &[u8], wanted: usize) -> Result<Pieces<'_>, IdFault>
     requires some { 1 < wanted }
     requires few { wanted ≤ 81 }
-    ensures { Gives (λ v. texts_of v.items) result (counted wanted (pieces_of text.now)) }
+    ensures { Gives (λ v. texts_of v.items) result (exactly wanted (pieces_of text.now)) }
 {
     split_at_commas(without_last_comma(text), wanted)
 }
@@ -41,7 +41,7 @@ fn without_last_comma(text: &[u8]) -> &[u8]
 fn split_at_commas(text: &[u8], wanted: usize) -> Result<Pieces<'_>, IdFault>
     requires { wanted ≤ 81 }
     ensures { Gives (λ v. texts_of v.items) result
-        (counted wanted (slice_split (λ b. b == comma) text.now)) }
+        (exactly wanted (slice_split (λ b. b == comma) text.now)) }
 {
     let mut pieces = ArrayVec::new();
     let mut rest = Some(text);

@@ -7,10 +7,10 @@ ghost use Rattle.latin_board.specs.Squares.{GridValue, IsGrid, IsFull, IsLatin, 
 ghost use Rattle.trail_solver.specs.Pairs.{IsPair};
 ghost use Rattle.trail_solver.specs.Candidates.{IsEarlier, IsWithin, may_be};
 ghost use Rattle.trail_solver.specs.Puzzles.{Solves};
-ghost use Rattle.clue_rules.specs.Unequal.{IsUnequal, givens_of, IsGreater, AreNeighbours, is_greater, holds_signs, HoldsSigns, holds_sign_at, sign_count, sign_at, sign_of_pair, first_of, second_of};
+ghost use Rattle.clue_rules.specs.Unequal.{IsUnequal, given_grid, IsGreater, AreNeighbours, is_greater, holds_signs, HoldsSigns, holds_sign_at, sign_count, sign_at, sign_of_pair, first_side, second_side};
 ghost use Rattle.clue_rules.specs.Unequal.{puzzle_of, full_unequal};
 ghost use Rattle.clue_rules.specs.Inner.UnequalFields.{HoldsPlaces};
-ghost use Rattle.clue_rules.specs.Struck.{IsUnequalStruck, KeepsSolutions, HasNoSolution, NoneLeft};
+ghost use Rattle.clue_rules.specs.Struck.{IsUnequalStruck, KeepsSolutions, HasNoSolutionWithin, NoneLeft};
 ghost use Rattle.clue_rules.specs.Laws.UnequalSameness.{same_unequal, same_unequal_decides};
 
 use crate::lines::given_squares::keep_givens;
@@ -101,7 +101,7 @@ impl Rules for Unequal {
         requires { candidates.old.size ≡ self.now.size }
         ensures less { IsEarlier candidates.old candidates.new }
         ensures keeps { KeepsSolutions (puzzle_of self.now) candidates.old candidates.new }
-        ensures refutes { OnFalse result (HasNoSolution (puzzle_of self.now) candidates.old) }
+        ensures refutes { OnFalse result (HasNoSolutionWithin (puzzle_of self.now) candidates.old) }
         ensures struck { OnTrue result
             (NoneLeft (IsUnequalStruck self.now) candidates.old candidates.new) }
     {

@@ -1,7 +1,7 @@
 //! What stands between neighbouring squares, and how those places are numbered.
 
 ghost use Rattle.std.specs.Prelude.{◌≡◌, ◌*◌, ◌<◌, ◌≤◌, IfSome};
-ghost use Rattle.clue_rules.specs.Unequal.{pairs_across, sign_count, first_of, second_of, sign_between};
+ghost use Rattle.clue_rules.specs.Unequal.{pairs_across, sign_count, first_side, second_side, sign_between};
 ghost use Rattle.clue_rules.specs.Unequal.{sign_of};
 
 use latin_board::Size;
@@ -52,8 +52,8 @@ pub(super) fn sign_count(size: Size) -> usize
 /// The squares on both sides of a sign, the left or the upper one first; the number is below the count.
 pub(super) fn squares(size: Size, sign: usize) -> (usize, usize)
     requires { sign < sign_count size }
-    ensures first { result.0 ≡ first_of size sign }
-    ensures second { result.1 ≡ second_of size sign }
+    ensures first { result.0 ≡ first_side size sign }
+    ensures second { result.1 ≡ second_side size sign }
     ensures order { result.0 < result.1 }
     ensures inside { result.1 < size * size }
 {

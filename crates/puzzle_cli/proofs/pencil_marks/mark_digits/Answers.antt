@@ -1,10 +1,10 @@
 use Rattle.std.proofs.Common.{◌≡◌, ℕ, ◌-◌, true, false, map, filter, subst, arith}
 use Rattle.std.specs.List.{range_with_len}
 use Rattle.latin_board.specs.Marks.{has_mark}
-use Rattle.puzzle_cli.specs.Symbols.{digit}
 use Rattle.puzzle_cli.proofs.Ranges.{filter_kept, filter_dropped}
 use Rattle.puzzle_cli.proofs.pencil_marks.mark_digits.Goals as goal
 use Rattle.puzzle_cli.proofs.pencil_marks.mark_digits.Goals.{then-has, else-has}
+use Rattle.byte_text.specs.Bytes.{digit}
 
 pub loop-n-preserved : goal.loop-n-preserved
 loop-n-preserved c =

@@ -2,8 +2,8 @@ use Rattle.std.proofs.Common.{◌≡◌, ◌+◌, ◌-◌, ◌≤◌, map, filte
 use Rattle.std.specs.List.{range_with_len}
 use Rattle.arrayvec.specs.ArrayVec.{array_vec_len}
 use Rattle.latin_board.specs.Marks.{has_mark}
-use Rattle.puzzle_cli.specs.Symbols.{digit}
 use Rattle.puzzle_cli.proofs.pencil_marks.mark_digits.Given as goal
+use Rattle.byte_text.specs.Bytes.{digit}
 
 abbrev pub invariant-loop-n : goal.invariant-loop-n
 invariant-loop-n l =

@@ -7,40 +7,40 @@ use Rattle.play_save.specs.Records.{Entry, BeginsWith}
 use Rattle.play_save.specs.Keys.{rank, key_of}
 
 -- a record by what its key is about
-pub record Line : Type 0 where
+pub record KeyedRecord : Type 0 where
   pub key : Key
   pub value : List ℕ
 
-abbrev pub line_of : Entry → Line
-line_of e = record { key = key_of e.key; value = e.value }
+abbrev pub keyed : Entry → KeyedRecord
+keyed e = record { key = key_of e.key; value = e.value }
 
 -- a state record
-pub record StateLine : Type 0 where
+pub record KeyedState : Type 0 where
   pub key : StateKey
   pub value : List ℕ
 
 -- The text is these records and then anything.
-abbrev pub BeginsWithAll : List Line → List ℕ → Type 0
+abbrev pub BeginsWithAll : List KeyedRecord → List ℕ → Type 0
 BeginsWithAll [] text = Unit {0}
 BeginsWithAll (l ∷ ls) text =
-    (e : Entry) × (rest : List ℕ) × (line_of e ≡ l) × BeginsWith e rest text × BeginsWithAll ls rest
+    (e : Entry) × (rest : List ℕ) × (keyed e ≡ l) × BeginsWith e rest text × BeginsWithAll ls rest
 
 -- the values that stand with a key, in turn
-abbrev pub values_of : Key → List Line → List (List ℕ)
+abbrev pub values_of : Key → List KeyedRecord → List (List ℕ)
 values_of k [] = []
 values_of k (l ∷ ls) = if rank l.key == rank k then (l.value ∷ values_of k ls) else values_of k ls
 
 -- the state records, in turn
-abbrev pub onto_states : Key → List ℕ → List StateLine → List StateLine
+abbrev pub onto_states : Key → List ℕ → List KeyedState → List KeyedState
 onto_states (State k) value states = record { key = k; value = value } ∷ states
 onto_states _ value states = states
 
-abbrev pub states_in : List Line → List StateLine
+abbrev pub states_in : List KeyedRecord → List KeyedState
 states_in [] = []
 states_in (l ∷ ls) = onto_states l.key l.value (states_in ls)
 
 -- the key stands once, with a value of which this holds
-abbrev pub StandsOnce : Key → (List ℕ → Type 0) → List Line → Type 0
+abbrev pub StandsOnce : Key → (List ℕ → Type 0) → List KeyedRecord → Type 0
 StandsOnce k P ls = (value : List ℕ) × (values_of k ls ≡ value ∷ []) × P value
 
 -- bytes that are kept stand once, and nothing stands where none are
@@ -53,7 +53,7 @@ is_state (State k) = true
 is_state _ = false
 
 -- behind a state record neither count follows
-abbrev pub CountsStandFirst : List Line → Type 0
+abbrev pub CountsStandFirst : List KeyedRecord → Type 0
 CountsStandFirst [] = Unit {0}
 CountsStandFirst (l ∷ ls) =
     (is_state l.key ≡ true → (values_of StateCount ls ≡ []) × (values_of Position ls ≡ [])) × CountsStandFirst ls
@@ -65,7 +65,7 @@ may_be_last StateCount = true
 may_be_last Position = true
 may_be_last _ = false
 
-abbrev pub EndsWithState : List Line → Type 0
+abbrev pub EndsWithState : List KeyedRecord → Type 0
 EndsWithState [] = ⊥
 EndsWithState (l ∷ []) = may_be_last l.key ≡ true
 EndsWithState (l ∷ m ∷ ls) = EndsWithState (m ∷ ls)
