@@ -153,14 +153,14 @@ pub record IsWhole (m : Met) : Type 0 where
   pub sound : IsSound m
   pub complete : is_complete m ≡ true
 
-pub right_whole : {P : Type 0} (game : SavedGame P) (before ls : List KeyedRecord) → IsSound (met game before) → AreRight game before ls → IsWhole (met game (before ++ ls))
+pub right_whole : {P : Type 0} (game : SavedGame P) (before rs : List KeyedRecord) → IsSound (met game before) → AreRight game before rs → IsWhole (met game (before ++ rs))
 right_whole game before [] s right = rw (append-nil before) (record { sound = s; complete = right })
-right_whole game before (l ∷ ls) s right =
-    let added_is = met_added game before l.key l.value right.1 in
-    let next = sound_added game (met game before) l.key l.value s right.0 right.1 in
-    let seam : before ++ l ∷ [] ++ ls ≡ before ++ l ∷ ls = append_assoc before (l ∷ []) ls in
+right_whole game before (r ∷ rs) s right =
+    let added_is = met_added game before r.key r.value right.1 in
+    let next = sound_added game (met game before) r.key r.value s right.0 right.1 in
+    let seam : before ++ r ∷ [] ++ rs ≡ before ++ r ∷ rs = append_assoc before (r ∷ []) rs in
     subst (λ (b : List KeyedRecord). IsWhole (met game b)) seam
-    (right_whole game (before ++ l ∷ []) ls (subst (λ (m : Met). IsSound m) (sym added_is) next) right.2)
+    (right_whole game (before ++ r ∷ []) rs (subst (λ (m : Met). IsSound m) (sym added_is) next) right.2)
 
 pub sound_start : {P : Type 0} (game : SavedGame P) → IsSound (met game [])
 sound_start game = record {
@@ -217,7 +217,7 @@ fits m c = record {
 
 pub playable : {P : Type 0} (game : SavedGame P) (listing : Listing) (m : Met) → met_in game listing ≡ Ok m → IsPlayable m
 playable game listing m is =
-    let step = bind_taken (needed game [] listing) (λ ls. let r : Result Met LoadFault = Ok (met game ls) in r) m is in
+    let step = bind_taken (needed game [] listing) (λ rs. let r : Result Met LoadFault = Ok (met game rs) in r) m is in
     let need = needed_taken game [] listing step.0 step.1 in
     let whole = right_whole game [] need.more (sound_start game) need.right in
     let same : met game need.more ≡ m = ap (met game) (sym need.all_is) ∙ (let e = step.2 in cc) in

@@ -8,7 +8,7 @@ use Rattle.play_save.specs.KeyedRecords.{KeyedRecord, values_of}
 use Rattle.play_save.specs.SaveTexts.{SavedGame}
 use Rattle.play_save.specs.FirstFaults.{saved_params_at, count_at, first_of, met, once, fault_by}
 use Rattle.play_save.specs.Taking.{added}
-use Rattle.play_save.proofs.LineLists.{values_of-append, states_in-append, first_none, not_some, map_none}
+use Rattle.play_save.proofs.RecordLists.{values_of-append, states_in-append, first_none, not_some, map_none}
 
 -- the keys that may stand once
 abbrev pub is_once : Key → Bool

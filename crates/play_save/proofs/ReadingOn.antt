@@ -42,12 +42,12 @@ pub reads_done : {P : Type 0} (game : SavedGame P) (text rest : List ℕ) (m : M
 reads_done game text rest m r complete =
     let done : is_complete (met game r.before) ≡ true = ap is_complete (sym r.now) ∙ complete in
     let all = finished game r.before (listing_within r.most rest) done in
-    ap (λ (s : Result (List KeyedRecord) LoadFault). s >>= λ ls. Ok (met game ls)) (sym r.same ∙ all) ∙ ap Ok (sym r.now)
+    ap (λ (s : Result (List KeyedRecord) LoadFault). s >>= λ rs. Ok (met game rs)) (sym r.same ∙ all) ∙ ap Ok (sym r.now)
   where
     finished : {P : Type 0} (game : SavedGame P) (before : List KeyedRecord) (listing : Listing) → is_complete (met game before) ≡ true → needed game before listing ≡ Ok before
     finished game before nothing done = rw done refl
     finished game before broken done = rw done refl
-    finished game before (first l more) done = rw done refl
+    finished game before (first r more) done = rw done refl
 
 -- a place where no record is left
 pub reads_end : {P : Type 0} (game : SavedGame P) (text rest : List ℕ) (m : Met) → Reads game text rest m → is_complete m ≡ false → record_at rest ≡ Ok None → met_in game (records_of text) ≡ Err Missing
@@ -56,7 +56,7 @@ reads_end game text rest m r undone read =
     let here = listing_at r.most rest r.within in
     let listing : listing_within r.most rest ≡ nothing = here.1 ∙ ap (listed (listing_within here.0)) read in
     let all : needed game r.before (listing_within r.most rest) ≡ Err Missing = ap (needed game r.before) listing ∙ rw unmet refl in
-    ap (λ (s : Result (List KeyedRecord) LoadFault). s >>= λ ls. Ok (met game ls)) (sym r.same ∙ all)
+    ap (λ (s : Result (List KeyedRecord) LoadFault). s >>= λ rs. Ok (met game rs)) (sym r.same ∙ all)
 
 -- a place where no record can be read
 pub reads_broken : {P : Type 0} (game : SavedGame P) (text rest : List ℕ) (m : Met) (fault : LoadFault) → Reads game text rest m → is_complete m ≡ false → record_at rest ≡ Err fault → met_in game (records_of text) ≡ Err Malformed
@@ -65,7 +65,7 @@ reads_broken game text rest m fault r undone read =
     let here = listing_at r.most rest r.within in
     let listing : listing_within r.most rest ≡ broken = here.1 ∙ ap (listed (listing_within here.0)) read in
     let all : needed game r.before (listing_within r.most rest) ≡ Err Malformed = ap (needed game r.before) listing ∙ rw unmet refl in
-    ap (λ (s : Result (List KeyedRecord) LoadFault). s >>= λ ls. Ok (met game ls)) (sym r.same ∙ all)
+    ap (λ (s : Result (List KeyedRecord) LoadFault). s >>= λ rs. Ok (met game rs)) (sym r.same ∙ all)
 
 -- a record with a fault
 pub reads_fault : {P : Type 0} (game : SavedGame P) (text rest : List ℕ) (m : Met) (e : Entry) (after : List ℕ) (fault : LoadFault) → Reads game text rest m → is_complete m ≡ false → record_at rest ≡ Ok (Some (e, after)) → fault_by game m (key_of e.key) e.value ≡ Some fault → met_in game (records_of text) ≡ Err fault
@@ -75,7 +75,7 @@ reads_fault game text rest m e after fault r undone read has =
     let here = listing_at r.most rest r.within in
     let listing : listing_within r.most rest ≡ first (keyed e) (listing_within here.0 after) = here.1 ∙ ap (listed (listing_within here.0)) read in
     let all : needed game r.before (listing_within r.most rest) ≡ Err fault = ap (needed game r.before) listing ∙ rw (unmet, has_it) refl in
-    ap (λ (s : Result (List KeyedRecord) LoadFault). s >>= λ ls. Ok (met game ls)) (sym r.same ∙ all)
+    ap (λ (s : Result (List KeyedRecord) LoadFault). s >>= λ rs. Ok (met game rs)) (sym r.same ∙ all)
 
 -- a record without a fault
 pub reads_more : {P : Type 0} (game : SavedGame P) (text rest : List ℕ) (m new : Met) (e : Entry) (after : List ℕ) → Reads game text rest m → is_complete m ≡ false → record_at rest ≡ Ok (Some (e, after)) → fault_by game m (key_of e.key) e.value ≡ None → new ≡ added game m (key_of e.key) e.value → Reads game text after new

@@ -24,7 +24,7 @@ use Rattle.play_save.specs.KeyedRecords.{KeyedRecord, KeyedState, values_of, sta
 use Rattle.play_save.specs.SaveTexts.{SavedGame, collection, longest_save, HaveStates, AreSaved, SaveText}
 use Rattle.play_save.specs.FirstFaults.{saved_params_at, count_at, first_of, met, fault_unless, once, params_fault, count_fault, position_fault, behind_counts, state_fault, fault_by, has_all, is_complete, records_of, needed, states_played, extras_in, session_of, behind_head, met_in, load_at}
 use Rattle.play_save.proofs.RecordLaws.{record_again}
-use Rattle.play_save.proofs.LineLists.{values_of-append, states_in-append, own_rank}
+use Rattle.play_save.proofs.RecordLists.{values_of-append, states_in-append, own_rank}
 use Rattle.play_save.proofs.Meeting.{one}
 use Rattle.play_save.proofs.RightLists.{AreRight, needed_again, records_again}
 use Rattle.play_save.proofs.Counting.{count_again}
@@ -127,8 +127,8 @@ record Ranges {P : Type 0} (h : History P) : Type 0 where
   position_good : count_at (decimal h.position) ≡ Some h.position
   inside : h.position ≤ length h.moves + 1
 
-ranges : {P : Type 0} (game : SavedGame P) (ls : List KeyedRecord) (h : History P) → AreSaved game h ls → Ranges h
-ranges game ls h s = record {
+ranges : {P : Type 0} (game : SavedGame P) (rs : List KeyedRecord) (h : History P) → AreSaved game h rs → Ranges h
+ranges game rs h s = record {
   count_good = count_again (length h.moves + 1) (omega arith) s.valid.few;
   position_good = let few = s.valid.few in let last = s.valid.last in count_again h.position s.valid.first (omega arith);
   inside = s.valid.last;
@@ -146,52 +146,52 @@ stands_before c v before later here not_here is none = by_case (before_place c v
         let nothing_at_all : values_of c (before ++ (here ++ later)) ≡ [] = values_of-append c before (here ++ later) ∙ rw (empty, values_of-append c here later, not_here, none) refl in
         cc
 
-faultless_at : {P : Type 0} (game : SavedGame P) (ls : List KeyedRecord) (h : History P) (before later : List KeyedRecord) (k : Key) (value : List ℕ) → AreSaved game h ls → ls ≡ before ++ (one k value ++ later) → (is_state k ≡ true → (values_of StateCount later ≡ []) × (values_of Position later ≡ [])) → AreFaultless (onto_states k value (states_in later)) → fault_by game (met game before) k value ≡ None
-faultless_at game ls h before later SaveFile value s split counts fine =
+faultless_at : {P : Type 0} (game : SavedGame P) (rs : List KeyedRecord) (h : History P) (before later : List KeyedRecord) (k : Key) (value : List ℕ) → AreSaved game h rs → rs ≡ before ++ (one k value ++ later) → (is_state k ≡ true → (values_of StateCount later ≡ []) × (values_of Position later ≡ [])) → AreFaultless (onto_states k value (states_in later)) → fault_by game (met game before) k value ≡ None
+faultless_at game rs h before later SaveFile value s split counts fine =
     absurd (never_at SaveFile value before later (ap (values_of SaveFile) (sym split) ∙ s.no_second_head))
-faultless_at game ls h before later PrivateDesc value s split counts fine =
+faultless_at game rs h before later PrivateDesc value s split counts fine =
     absurd (never_at PrivateDesc value before later (ap (values_of PrivateDesc) (sym split) ∙ s.no_private_desc))
-faultless_at game ls h before later Other value s split counts fine = refl
-faultless_at game ls h before later FormatVersion value s split counts fine =
+faultless_at game rs h before later Other value s split counts fine = refl
+faultless_at game rs h before later FormatVersion value s split counts fine =
     let at = at_place FormatVersion (codes "1") value before later (ap (values_of FormatVersion) (sym split) ∙ s.version) in
     once_fresh (values_of FormatVersion before) _ at.first ∙ ap (λ t. fault_unless t Version) (same_bytes value (codes "1") at.same)
-faultless_at game ls h before later GameName value s split counts fine =
+faultless_at game rs h before later GameName value s split counts fine =
     let at = at_place GameName game.title value before later (ap (values_of GameName) (sym split) ∙ s.name) in
     once_fresh (values_of GameName before) _ at.first ∙ ap (λ t. fault_unless t WrongGame) (same_bytes value game.title at.same)
-faultless_at game ls h before later NextParams value s split counts fine =
+faultless_at game rs h before later NextParams value s split counts fine =
     let at = at_place NextParams s.next_params.0 value before later (ap (values_of NextParams) (sym split) ∙ s.next_params.1) in
     let read = ap (saved_params_at game) at.same ∙ params_good game h.next_params s.next_params.0 s.next_params.2 in
     once_unread (saved_params_at game) (values_of NextParams before) _ at.first ∙ ap params_fault read
-faultless_at game ls h before later CurrentParams value s split counts fine =
+faultless_at game rs h before later CurrentParams value s split counts fine =
     let at = at_place CurrentParams s.params.0 value before later (ap (values_of CurrentParams) (sym split) ∙ s.params.1) in
     let read = ap (saved_params_at game) at.same ∙ params_good game h.params s.params.0 s.params.2 in
     once_unread (saved_params_at game) (values_of CurrentParams before) _ at.first ∙ ap params_fault read
-faultless_at game ls h before later Desc value s split counts fine =
+faultless_at game rs h before later Desc value s split counts fine =
     let at = at_place Desc s.desc.0 value before later (ap (values_of Desc) (sym split) ∙ s.desc.1) in
     once_fresh (values_of Desc before) None at.first
-faultless_at game ls h before later Seed value s split counts fine =
+faultless_at game rs h before later Seed value s split counts fine =
     once_fresh (values_of Seed before) None (at_most Seed h.extras.seed value before later (ap (values_of Seed) (sym split) ∙ s.seed))
-faultless_at game ls h before later AuxInfo value s split counts fine =
+faultless_at game rs h before later AuxInfo value s split counts fine =
     once_fresh (values_of AuxInfo before) None (at_most AuxInfo h.extras.auxinfo value before later (ap (values_of AuxInfo) (sym split) ∙ s.auxinfo))
-faultless_at game ls h before later Ui value s split counts fine =
+faultless_at game rs h before later Ui value s split counts fine =
     once_fresh (values_of Ui before) None (at_most Ui h.extras.ui value before later (ap (values_of Ui) (sym split) ∙ s.ui))
-faultless_at game ls h before later Time value s split counts fine =
+faultless_at game rs h before later Time value s split counts fine =
     once_fresh (values_of Time before) None (at_most Time h.extras.time value before later (ap (values_of Time) (sym split) ∙ s.time))
-faultless_at game ls h before later StateCount value s split counts fine =
-    let r = ranges game ls h s in
+faultless_at game rs h before later StateCount value s split counts fine =
+    let r = ranges game rs h s in
     let at = at_place StateCount (decimal (length h.moves + 1)) value before later (ap (values_of StateCount) (sym split) ∙ s.count) in
     let read : count_at value ≡ Some (length h.moves + 1) = ap count_at at.same ∙ r.count_good in
     let place = read_before Position h.position before (one StateCount value ++ later) r.position_good (ap (values_of Position) (sym split) ∙ s.position) in
     once_unread count_at (values_of StateCount before) _ at.first
     ∙ (ap (λ o. count_fault o (met game before).position) read ∙ count_below (length h.moves + 1) h.position (met game before).position r.inside place)
-faultless_at game ls h before later Position value s split counts fine =
-    let r = ranges game ls h s in
+faultless_at game rs h before later Position value s split counts fine =
+    let r = ranges game rs h s in
     let at = at_place Position (decimal h.position) value before later (ap (values_of Position) (sym split) ∙ s.position) in
     let read : count_at value ≡ Some h.position = ap count_at at.same ∙ r.position_good in
     let place = read_before StateCount (length h.moves + 1) before (one Position value ++ later) r.count_good (ap (values_of StateCount) (sym split) ∙ s.count) in
     once_unread count_at (values_of Position before) _ at.first
     ∙ (ap (λ o. position_fault o (met game before).count) read ∙ position_below (length h.moves + 1) h.position (met game before).count r.inside place)
-faultless_at game ls h before later (State k) value s split counts fine =
+faultless_at game rs h before later (State k) value s split counts fine =
     let none = counts refl in
     let count = stands_before StateCount (decimal (length h.moves + 1)) before later (one (State k) value) refl (ap (values_of StateCount) (sym split) ∙ s.count) none.0 in
     let place = stands_before Position (decimal h.position) before later (one (State k) value) refl (ap (values_of Position) (sym split) ∙ s.position) none.1 in
@@ -201,16 +201,16 @@ faultless_at game ls h before later (State k) value s split counts fine =
 -- before the last record the save isn't complete
 abbrev EndsIfAny : List KeyedRecord → Type 0
 EndsIfAny [] = Unit {0}
-EndsIfAny (l ∷ ls) = EndsWithState (l ∷ ls)
+EndsIfAny (r ∷ rs) = EndsWithState (r ∷ rs)
 
-ends_later : (l : KeyedRecord) (ls : List KeyedRecord) → EndsWithState (l ∷ ls) → EndsIfAny ls
-ends_later l [] ends = tt
-ends_later l (k ∷ ls) ends = ends
+ends_later : (r : KeyedRecord) (rs : List KeyedRecord) → EndsWithState (r ∷ rs) → EndsIfAny rs
+ends_later r [] ends = tt
+ends_later r (k ∷ rs) ends = ends
 
 -- a list that ends with a state record or a count has one
-pub has_state_or_count : (ls : List KeyedRecord) → EndsWithState ls → values_of StateCount ls ≡ [] → values_of Position ls ≡ [] → 0 < length (states_in ls)
+pub has_state_or_count : (rs : List KeyedRecord) → EndsWithState rs → values_of StateCount rs ≡ [] → values_of Position rs ≡ [] → 0 < length (states_in rs)
 has_state_or_count [] ends no_count no_position = absurd ends
-has_state_or_count (l ∷ []) ends no_count no_position = by_key l.key l.value ends no_count no_position
+has_state_or_count (r ∷ []) ends no_count no_position = by_key r.key r.value ends no_count no_position
   where
     by_key : (k : Key) (value : List ℕ) → may_be_last k ≡ true → values_of StateCount (one k value) ≡ [] → values_of Position (one k value) ≡ [] → 0 < length (states_in (one k value))
     by_key (State k) value last a b = omega arith
@@ -228,9 +228,9 @@ has_state_or_count (l ∷ []) ends no_count no_position = by_key l.key l.value e
     by_key Ui value last a b = cc
     by_key Time value last a b = cc
     by_key Other value last a b = cc
-has_state_or_count (l ∷ k ∷ ls) ends no_count no_position =
-    let more = has_state_or_count (k ∷ ls) ends (later_none StateCount l (k ∷ ls) no_count) (later_none Position l (k ∷ ls) no_position) in
-    omega (arith, more, longer_states l.key l.value (states_in (k ∷ ls)))
+has_state_or_count (r ∷ k ∷ rs) ends no_count no_position =
+    let more = has_state_or_count (k ∷ rs) ends (later_none StateCount r (k ∷ rs) no_count) (later_none Position r (k ∷ rs) no_position) in
+    omega (arith, more, longer_states r.key r.value (states_in (k ∷ rs)))
   where
     later_none : (c : Key) (x : KeyedRecord) (xs : List KeyedRecord) → values_of c (x ∷ xs) ≡ [] → values_of c xs ≡ []
     later_none c x xs none = values_none (values_of c (one x.key x.value)) (values_of c xs) (sym (values_of-append c (one x.key x.value) xs) ∙ none)
@@ -256,9 +256,9 @@ has_state_or_count (l ∷ k ∷ ls) ends no_count no_position =
     longer_states Time value ss = omega arith
     longer_states Other value ss = omega arith
 
-undone_at : {P : Type 0} (game : SavedGame P) (ls : List KeyedRecord) (h : History P) (before later : List KeyedRecord) → AreSaved game h ls → ls ≡ before ++ later → EndsWithState later → is_complete (met game before) ≡ false
-undone_at game ls h before later s split ends =
-    let r = ranges game ls h s in
+undone_at : {P : Type 0} (game : SavedGame P) (rs : List KeyedRecord) (h : History P) (before later : List KeyedRecord) → AreSaved game h rs → rs ≡ before ++ later → EndsWithState later → is_complete (met game before) ≡ false
+undone_at game rs h before later s split ends =
+    let r = ranges game rs h s in
     by_case (before_place StateCount (decimal (length h.moves + 1)) before later (ap (values_of StateCount) (sym split) ∙ s.count))
     (before_place Position (decimal h.position) before later (ap (values_of Position) (sym split) ∙ s.position)) r
   where
@@ -276,25 +276,25 @@ undone_at game ls h before later s split ends =
     by_case (inr some) (inr place) r =
         let more = has_state_or_count later ends some.1 place.1 in
         let all = ap length (ap states_in split ∙ states_in-append before later) in
-        let long = have_length game h.puzzle h.moves (states_in ls) s.states in
+        let long = have_length game h.puzzle h.moves (states_in rs) s.states in
         let sum = length-append (states_in before) (states_in later) in
         let above : length (states_in before) + 1 < length h.moves + 1 = omega arith in
         rw (some.0, place.0, r.count_good, r.position_good) (grind (arith, nat_tests))
 
 -- the records of a save are right
-right_along : {P : Type 0} (game : SavedGame P) (ls : List KeyedRecord) (h : History P) (before later : List KeyedRecord) → AreSaved game h ls → ls ≡ before ++ later → CountsStandFirst later → EndsIfAny later → AreFaultless (states_in later) → AreRight game before later
-right_along game ls h before [] s split counts ends fine =
-    let r = ranges game ls h s in
-    let whole : ls ≡ before = split ∙ append-nil before in
-    let long = have_length game h.puzzle h.moves (states_in ls) s.states in
+right_along : {P : Type 0} (game : SavedGame P) (rs : List KeyedRecord) (h : History P) (before later : List KeyedRecord) → AreSaved game h rs → rs ≡ before ++ later → CountsStandFirst later → EndsIfAny later → AreFaultless (states_in later) → AreRight game before later
+right_along game rs h before [] s split counts ends fine =
+    let r = ranges game rs h s in
+    let whole : rs ≡ before = split ∙ append-nil before in
+    let long = have_length game h.puzzle h.moves (states_in rs) s.states in
     let count : values_of StateCount before ≡ decimal (length h.moves + 1) ∷ [] = ap (values_of StateCount) (sym whole) ∙ s.count in
     let place : values_of Position before ≡ decimal h.position ∷ [] = ap (values_of Position) (sym whole) ∙ s.position in
     let states = ap (λ xs. length (states_in xs)) whole in
     rw (count, place, r.count_good, r.position_good) (le-leb (length h.moves + 1) (length (states_in before) + 1) (omega arith))
-right_along game ls h before (l ∷ later) s split counts ends fine = (
-  undone_at game ls h before (l ∷ later) s split ends,
-  faultless_at game ls h before later l.key l.value s split counts.0 fine,
-  right_along game ls h (before ++ l ∷ []) later s (split ∙ sym (append_assoc before (l ∷ []) later)) counts.1 (ends_later l later ends) (fine_later l.key l.value (states_in later) fine),
+right_along game rs h before (r ∷ later) s split counts ends fine = (
+  undone_at game rs h before (r ∷ later) s split ends,
+  faultless_at game rs h before later r.key r.value s split counts.0 fine,
+  right_along game rs h (before ++ r ∷ []) later s (split ∙ sym (append_assoc before (r ∷ []) later)) counts.1 (ends_later r later ends) (fine_later r.key r.value (states_in later) fine),
 )
   where
     fine_later : (c : Key) (value : List ℕ) (ss : List KeyedState) → AreFaultless (onto_states c value ss) → AreFaultless ss
@@ -314,32 +314,32 @@ right_along game ls h before (l ∷ later) s split counts ends fine = (
     fine_later Time value ss all = all
     fine_later Other value ss all = all
 
-ends_at_all : (ls : List KeyedRecord) → EndsWithState ls → EndsIfAny ls
+ends_at_all : (rs : List KeyedRecord) → EndsWithState rs → EndsIfAny rs
 ends_at_all [] ends = tt
-ends_at_all (l ∷ ls) ends = ends
+ends_at_all (r ∷ rs) ends = ends
 
-pub saved_right : {P : Type 0} (game : SavedGame P) (ls : List KeyedRecord) (h : History P) → AreSaved game h ls → AreRight game [] ls
-saved_right game ls h s =
-    right_along game ls h [] ls s refl s.counts_first (ends_at_all ls s.last) (all_faultless game h.puzzle h.moves (states_in ls) s.states)
+pub saved_right : {P : Type 0} (game : SavedGame P) (rs : List KeyedRecord) (h : History P) → AreSaved game h rs → AreRight game [] rs
+saved_right game rs h s =
+    right_along game rs h [] rs s refl s.counts_first (ends_at_all rs s.last) (all_faultless game h.puzzle h.moves (states_in rs) s.states)
 
 -- and they are played as the session
 first_kept : (kept : Option (List ℕ)) (values : List (List ℕ)) → values ≡ once_if_kept kept → first_of values ≡ kept
 first_kept None values is = ap first_of is
 first_kept (Some v) values is = ap first_of is
 
-extras_again : {P : Type 0} (game : SavedGame P) (ls : List KeyedRecord) (h : History P) → AreSaved game h ls → extras_in (met game ls) ≡ h.extras
-extras_again game ls h s =
-    let seed = first_kept h.extras.seed (values_of Seed ls) s.seed in
-    let auxinfo = first_kept h.extras.auxinfo (values_of AuxInfo ls) s.auxinfo in
-    let ui = first_kept h.extras.ui (values_of Ui ls) s.ui in
-    let time = first_kept h.extras.time (values_of Time ls) s.time in
+extras_again : {P : Type 0} (game : SavedGame P) (rs : List KeyedRecord) (h : History P) → AreSaved game h rs → extras_in (met game rs) ≡ h.extras
+extras_again game rs h s =
+    let seed = first_kept h.extras.seed (values_of Seed rs) s.seed in
+    let auxinfo = first_kept h.extras.auxinfo (values_of AuxInfo rs) s.auxinfo in
+    let ui = first_kept h.extras.ui (values_of Ui rs) s.ui in
+    let time = first_kept h.extras.time (values_of Time rs) s.time in
     rw (seed, auxinfo, ui, time) refl
 
-pub session_again : {P : Type 0} (game : SavedGame P) (ls : List KeyedRecord) (h : History P) → IsGame game → AreSaved game h ls → session_of game (met game ls) ≡ Ok h
+pub session_again : {P : Type 0} (game : SavedGame P) (rs : List KeyedRecord) (h : History P) → IsGame game → AreSaved game h rs → session_of game (met game rs) ≡ Ok h
 unfolding session_of
-session_again {P} game ls h owes s =
-    let m = met game ls in
-    let r = ranges game ls h s in
+session_again {P} game rs h owes s =
+    let m = met game rs in
+    let r = ranges game rs h s in
     let version : m.version ≡ true = ap (λ vs. is_some (first_of vs)) s.version in
     let name : m.name ≡ true = ap (λ vs. is_some (first_of vs)) s.name in
     let next : m.next_params ≡ Some (Ok h.next_params) = ap (λ vs. option_map (saved_params_at game) (first_of vs)) s.next_params.1 ∙ ap Some (params_good game h.next_params s.next_params.0 s.next_params.2) in
@@ -349,9 +349,9 @@ session_again {P} game ls h owes s =
     let puzzle : game.desc_at h.params.size s.desc.0 ≡ Ok h.puzzle = owes.reads.again h.params.size s.desc.0 h.puzzle s.desc.2 in
     let start = started h.puzzle h.params h.next_params h.extras in
     let legal = legal_list_played (game.puzzle h.puzzle) h.puzzle h.params h.next_params h.extras h.moves s.valid.legal s.valid.few in
-    let played : states_played game start 1 (states_in ls) ≡ Ok (with_moves start h.moves) =
-    states_again game start (with_moves start h.moves) 1 h.moves (states_in ls) owes s.states legal in
-    let extras = extras_again game ls h s in
+    let played : states_played game start 1 (states_in rs) ≡ Ok (with_moves start h.moves) =
+    states_again game start (with_moves start h.moves) 1 h.moves (states_in rs) owes s.states legal in
+    let extras = extras_again game rs h s in
     rw (version, name, next, now, desc, place, puzzle, extras, played) refl
 
 -- the whole text
@@ -361,5 +361,5 @@ load_again game text h owes t =
     let small : nat_lt longest_save (length text) ≡ false = (let within = t.small in grind (arith, nat_tests)) in
     let head : behind_head (record_at text) ≡ Ok t.behind_head = ap behind_head (record_again text (record { key = codes "SAVEFILE"; value = collection }) t.behind_head t.head) in
     let read : needed game [] (records_of t.behind_head) ≡ Ok t.records = needed_again game [] t.records (records_of t.behind_head) (saved_right game t.records h t.saved) (records_again t.records t.behind_head t.begins) in
-    let all : met_in game (records_of t.behind_head) ≡ Ok (met game t.records) = ap (λ (s : Result (List KeyedRecord) LoadFault). s >>= λ ls. Ok (met game ls)) read in
+    let all : met_in game (records_of t.behind_head) ≡ Ok (met game t.records) = ap (λ (s : Result (List KeyedRecord) LoadFault). s >>= λ rs. Ok (met game rs)) read in
     rw (small, head, all) (session_again game t.records h owes t.saved)

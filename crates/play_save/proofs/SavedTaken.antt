@@ -25,7 +25,7 @@ use Rattle.play_save.specs.FirstFaults.{Met, saved_params_at, count_at, first_of
 use Rattle.play_save.specs.Taking.{added}
 use Rattle.play_save.proofs.OptionSteps.{map_taken, ok_or_taken}
 use Rattle.play_save.proofs.RecordLaws.{record_taken}
-use Rattle.play_save.proofs.LineLists.{values_of-append, first_some, is_some_taken}
+use Rattle.play_save.proofs.RecordLists.{values_of-append, first_some, is_some_taken}
 use Rattle.play_save.proofs.Meeting.{is_once, once_taken, met_added}
 use Rattle.play_save.proofs.RightLists.{AreRight, needed_taken, records_taken, none_again, StandsAlone, stands_at}
 use Rattle.play_save.proofs.Counting.{count_taken, fault_unless_taken, counts_met, counted, right_whole, sound_start}
@@ -33,44 +33,44 @@ use Rattle.play_save.proofs.GameTexts.{IsGame}
 use Rattle.play_save.proofs.StatesPlayed.{ok_taken, IsDescribed, states_taken, have_length}
 
 -- a key that stands, stands alone
-alone_at : {P : Type 0} (game : SavedGame P) (ls : List KeyedRecord) (k : Key) (value : List ℕ) → is_once k ≡ true → is_state k ≡ false → AreRight game [] ls → first_of (values_of k ls) ≡ Some value → StandsAlone game k value ls []
-alone_at game ls k value single header right is =
-    let some = first_some (values_of k ls) value is in
-    stands_at game [] ls k value some.0 single header right some.1
+alone_at : {P : Type 0} (game : SavedGame P) (rs : List KeyedRecord) (k : Key) (value : List ℕ) → is_once k ≡ true → is_state k ≡ false → AreRight game [] rs → first_of (values_of k rs) ≡ Some value → StandsAlone game k value rs []
+alone_at game rs k value single header right is =
+    let some = first_some (values_of k rs) value is in
+    stands_at game [] rs k value some.0 single header right some.1
 
 -- kept bytes stand once or never
-kept_once : {P : Type 0} (game : SavedGame P) (ls : List KeyedRecord) (k : Key) → is_once k ≡ true → is_state k ≡ false → AreRight game [] ls → values_of k ls ≡ once_if_kept (first_of (values_of k ls))
-kept_once game ls k single header right = by_values (values_of k ls) refl
+kept_once : {P : Type 0} (game : SavedGame P) (rs : List KeyedRecord) (k : Key) → is_once k ≡ true → is_state k ≡ false → AreRight game [] rs → values_of k rs ≡ once_if_kept (first_of (values_of k rs))
+kept_once game rs k single header right = by_values (values_of k rs) refl
   where
-    by_values : (values : List (List ℕ)) → values_of k ls ≡ values → values ≡ once_if_kept (first_of values)
+    by_values : (values : List (List ℕ)) → values_of k rs ≡ values → values ≡ once_if_kept (first_of values)
     by_values [] is = refl
-    by_values (v ∷ vs) is = sym is ∙ (stands_at game [] ls k v vs single header right is).alone
+    by_values (v ∷ vs) is = sym is ∙ (stands_at game [] rs k v vs single header right is).alone
 
 -- a key whose record is always refused never stands
-never : {P : Type 0} (game : SavedGame P) (ls : List KeyedRecord) (k : Key) (fault : LoadFault) → is_once k ≡ true → is_state k ≡ false → ((m : Met) (value : List ℕ) → fault_by game m k value ≡ Some fault) → AreRight game [] ls → values_of k ls ≡ []
-never game ls k fault single header refused right = by_values (values_of k ls) refl
+never : {P : Type 0} (game : SavedGame P) (rs : List KeyedRecord) (k : Key) (fault : LoadFault) → is_once k ≡ true → is_state k ≡ false → ((m : Met) (value : List ℕ) → fault_by game m k value ≡ Some fault) → AreRight game [] rs → values_of k rs ≡ []
+never game rs k fault single header refused right = by_values (values_of k rs) refl
   where
-    by_values : (values : List (List ℕ)) → values_of k ls ≡ values → values ≡ []
+    by_values : (values : List (List ℕ)) → values_of k rs ≡ values → values ≡ []
     by_values [] is = refl
     by_values (v ∷ vs) is =
-        let at = stands_at game [] ls k v vs single header right is in
+        let at = stands_at game [] rs k v vs single header right is in
         let none = at.faultless in
         let some = refused (met game ([] ++ at.front)) v in
         cc
 
 -- the values that have to stand
-version_is : {P : Type 0} (game : SavedGame P) (ls : List KeyedRecord) → AreRight game [] ls → is_some (first_of (values_of FormatVersion ls)) ≡ true → values_of FormatVersion ls ≡ codes "1" ∷ []
-version_is game ls right some =
-    let first = is_some_taken (first_of (values_of FormatVersion ls)) some in
-    let at = alone_at game ls FormatVersion first.0 refl refl right first.1 in
+version_is : {P : Type 0} (game : SavedGame P) (rs : List KeyedRecord) → AreRight game [] rs → is_some (first_of (values_of FormatVersion rs)) ≡ true → values_of FormatVersion rs ≡ codes "1" ∷ []
+version_is game rs right some =
+    let first = is_some_taken (first_of (values_of FormatVersion rs)) some in
+    let at = alone_at game rs FormatVersion first.0 refl refl right first.1 in
     let good = once_taken _ (fault_unless (bytes_eq first.0 (codes "1")) Version) at.faultless in
     let same = (bytes_eq-Decides first.0 (codes "1")).0 (fault_unless_taken _ Version good.1) in
     at.alone ∙ ap (λ v. v ∷ []) same
 
-name_is : {P : Type 0} (game : SavedGame P) (ls : List KeyedRecord) → AreRight game [] ls → is_some (first_of (values_of GameName ls)) ≡ true → values_of GameName ls ≡ game.title ∷ []
-name_is game ls right some =
-    let first = is_some_taken (first_of (values_of GameName ls)) some in
-    let at = alone_at game ls GameName first.0 refl refl right first.1 in
+name_is : {P : Type 0} (game : SavedGame P) (rs : List KeyedRecord) → AreRight game [] rs → is_some (first_of (values_of GameName rs)) ≡ true → values_of GameName rs ≡ game.title ∷ []
+name_is game rs right some =
+    let first = is_some_taken (first_of (values_of GameName rs)) some in
+    let at = alone_at game rs GameName first.0 refl refl right first.1 in
     let good = once_taken _ (fault_unless (bytes_eq first.0 game.title) WrongGame) at.faultless in
     let same = (bytes_eq-Decides first.0 game.title).0 (fault_unless_taken _ WrongGame good.1) in
     at.alone ∙ ap (λ v. v ∷ []) same
@@ -80,17 +80,17 @@ needed_params_taken None p is = cc
 needed_params_taken (Some (Ok q)) p is = cc
 needed_params_taken (Some (Err e)) p is = cc
 
-params_are : {P : Type 0} (game : SavedGame P) (ls : List KeyedRecord) (k : Key) (p : Params) → is_once k ≡ true → is_state k ≡ false → AreRight game [] ls → needed_params (option_map (saved_params_at game) (first_of (values_of k ls))) ≡ Ok p → StandsOnce k (IsParamText game.letters p) ls
-params_are game ls k p single header right is =
-    let read = map_taken (saved_params_at game) (first_of (values_of k ls)) (Ok p) (needed_params_taken _ p is) in
-    let at = alone_at game ls k read.0 single header right read.1 in
+params_are : {P : Type 0} (game : SavedGame P) (rs : List KeyedRecord) (k : Key) (p : Params) → is_once k ≡ true → is_state k ≡ false → AreRight game [] rs → needed_params (option_map (saved_params_at game) (first_of (values_of k rs))) ≡ Ok p → StandsOnce k (IsParamText game.letters p) rs
+params_are game rs k p single header right is =
+    let read = map_taken (saved_params_at game) (first_of (values_of k rs)) (Ok p) (needed_params_taken _ p is) in
+    let at = alone_at game rs k read.0 single header right read.1 in
     (read.0, at.alone, params_taken game.letters (has_adjacent game.title) read.0 p read.2)
 
 -- the counts
-count_stands : {P : Type 0} (game : SavedGame P) (ls : List KeyedRecord) (k : Key) (n : ℕ) → is_once k ≡ true → is_state k ≡ false → AreRight game [] ls → option_map count_at (first_of (values_of k ls)) ≡ Some (Some n) → values_of k ls ≡ decimal n ∷ []
-count_stands game ls k n single header right is =
-    let read = map_taken count_at (first_of (values_of k ls)) (Some n) is in
-    let at = alone_at game ls k read.0 single header right read.1 in
+count_stands : {P : Type 0} (game : SavedGame P) (rs : List KeyedRecord) (k : Key) (n : ℕ) → is_once k ≡ true → is_state k ≡ false → AreRight game [] rs → option_map count_at (first_of (values_of k rs)) ≡ Some (Some n) → values_of k rs ≡ decimal n ∷ []
+count_stands game rs k n single header right is =
+    let read = map_taken count_at (first_of (values_of k rs)) (Some n) is in
+    let at = alone_at game rs k read.0 single header right read.1 in
     at.alone ∙ ap (λ v. v ∷ []) (count_taken read.0 n read.2).0
 
 -- no count follows a state record
@@ -121,22 +121,22 @@ state_behind_counts game before StateCount value state none = cc
 state_behind_counts game before Position value state none = cc
 state_behind_counts game before Other value state none = cc
 
-longer_values : (k : Key) (before : List KeyedRecord) (l : KeyedRecord) → 0 < length (values_of k before) → 0 < length (values_of k (before ++ l ∷ []))
-longer_values k before l some = rw (values_of-append k before (l ∷ [])) (longer (values_of k before) (values_of k (l ∷ [])) some)
+longer_values : (k : Key) (before : List KeyedRecord) (r : KeyedRecord) → 0 < length (values_of k before) → 0 < length (values_of k (before ++ r ∷ []))
+longer_values k before r some = rw (values_of-append k before (r ∷ [])) (longer (values_of k before) (values_of k (r ∷ [])) some)
   where
     longer : (xs ys : List (List ℕ)) → 0 < length xs → 0 < length (xs ++ ys)
     longer [] ys more = absurd (omega arith)
     longer (x ∷ xs) ys more = omega arith
 
-right_counts_first : {P : Type 0} (game : SavedGame P) (before ls : List KeyedRecord) → AreRight game before ls → CountsStandFirst ls
+right_counts_first : {P : Type 0} (game : SavedGame P) (before rs : List KeyedRecord) → AreRight game before rs → CountsStandFirst rs
 right_counts_first game before [] right = tt
-right_counts_first game before (l ∷ ls) right = (
+right_counts_first game before (r ∷ rs) right = (
   λ state.
-      let both = state_behind_counts game before l.key l.value state right.1 in (
-        none_again game (before ++ l ∷ []) ls StateCount refl refl (longer_values StateCount before l both.0) right.2,
-        none_again game (before ++ l ∷ []) ls Position refl refl (longer_values Position before l both.1) right.2,
+      let both = state_behind_counts game before r.key r.value state right.1 in (
+        none_again game (before ++ r ∷ []) rs StateCount refl refl (longer_values StateCount before r both.0) right.2,
+        none_again game (before ++ r ∷ []) rs Position refl refl (longer_values Position before r both.1) right.2,
       ),
-  right_counts_first game (before ++ l ∷ []) ls right.2,
+  right_counts_first game (before ++ r ∷ []) rs right.2,
 )
 
 -- the last record is one that completes
@@ -157,15 +157,15 @@ completes game m Position value undone done = refl
 completes game m (State k) value undone done = refl
 completes game m Other value undone done = cc
 
-right_ends : {P : Type 0} (game : SavedGame P) (before : List KeyedRecord) (l : KeyedRecord) (ls : List KeyedRecord) → AreRight game before (l ∷ ls) → EndsWithState (l ∷ ls)
-right_ends game before l [] right =
-    let done : is_complete (added game (met game before) l.key l.value) ≡ true = ap is_complete (sym (met_added game before l.key l.value right.1)) ∙ right.2 in
-    completes game (met game before) l.key l.value right.0 done
-right_ends game before l (k ∷ ls) right = right_ends game (before ++ l ∷ []) k ls right.2
+right_ends : {P : Type 0} (game : SavedGame P) (before : List KeyedRecord) (r : KeyedRecord) (rs : List KeyedRecord) → AreRight game before (r ∷ rs) → EndsWithState (r ∷ rs)
+right_ends game before r [] right =
+    let done : is_complete (added game (met game before) r.key r.value) ≡ true = ap is_complete (sym (met_added game before r.key r.value right.1)) ∙ right.2 in
+    completes game (met game before) r.key r.value right.0 done
+right_ends game before r (k ∷ rs) right = right_ends game (before ++ r ∷ []) k rs right.2
 
-ends_with_state : {P : Type 0} (game : SavedGame P) (ls : List KeyedRecord) → AreRight game [] ls → EndsWithState ls
+ends_with_state : {P : Type 0} (game : SavedGame P) (rs : List KeyedRecord) → AreRight game [] rs → EndsWithState rs
 ends_with_state game [] right = cc
-ends_with_state game (l ∷ ls) right = right_ends game [] l ls right
+ends_with_state game (r ∷ rs) right = right_ends game [] r rs right
 
 -- the session of the records
 unless_taken : {A : Type 0} (fault : Option LoadFault) (r : Result A LoadFault) (a : A) → unless fault r ≡ Ok a → (fault ≡ None) × (r ≡ Ok a)
@@ -231,15 +231,15 @@ parts_taken {P} game m h is =
     same_ok : (a b : History P) → (let r : Result (History P) LoadFault = Ok a in r) ≡ Ok b → a ≡ b
     same_ok a b e = cc
 
-pub saved_taken : {P : Type 0} (game : SavedGame P) (ls : List KeyedRecord) (h : History P) → IsGame game → AreRight game [] ls → session_of game (met game ls) ≡ Ok h → AreSaved game h ls
-saved_taken {P} game ls h owes right is =
-    let m = met game ls in
+pub saved_taken : {P : Type 0} (game : SavedGame P) (rs : List KeyedRecord) (h : History P) → IsGame game → AreRight game [] rs → session_of game (met game rs) ≡ Ok h → AreSaved game h rs
+saved_taken {P} game rs h owes right is =
+    let m = met game rs in
     let parts = parts_taken game m h is in
-    let whole = right_whole game [] ls (sound_start game) right in
+    let whole = right_whole game [] rs (sound_start game) right in
     let counts = counted m whole in
-    let next = params_are game ls NextParams parts.next_params refl refl right parts.next_read in
-    let now = params_are game ls CurrentParams parts.params refl refl right parts.read in
-    let desc_at = alone_at game ls Desc parts.desc refl refl right parts.desc_is in
+    let next = params_are game rs NextParams parts.next_params refl refl right parts.next_read in
+    let now = params_are game rs CurrentParams parts.params refl refl right parts.read in
+    let desc_at = alone_at game rs Desc parts.desc refl refl right parts.desc_is in
     let described = owes.reads.taken parts.params.size parts.desc parts.puzzle now.2.params.smallest now.2.params.largest parts.described in
     let size = owes.sized parts.params.size parts.puzzle parts.desc described in
     let own : IsDescribed game parts.puzzle = record {
@@ -251,27 +251,27 @@ saved_taken {P} game ls h owes right is =
     let start = started parts.puzzle parts.params parts.next_params (extras_in m) in
     let played = states_taken game start parts.last 1 m.states owes own parts.played_is in
     let legal = accepted_list_legal (game.puzzle parts.puzzle) parts.puzzle parts.params parts.next_params (extras_in m) played.moves parts.last played.played_is in
-    let long = have_length game parts.puzzle played.moves (states_in ls) played.have in
-    let count : values_of StateCount ls ≡ decimal (length played.moves + 1) ∷ [] =
-    count_stands game ls StateCount counts.n refl refl right counts.count_is ∙ ap (λ n. decimal n ∷ []) (omega (arith, counts.states, long)) in
+    let long = have_length game parts.puzzle played.moves (states_in rs) played.have in
+    let count : values_of StateCount rs ≡ decimal (length played.moves + 1) ∷ [] =
+    count_stands game rs StateCount counts.n refl refl right counts.count_is ∙ ap (λ n. decimal n ∷ []) (omega (arith, counts.states, long)) in
     let here : counts.p ≡ parts.position = (let a = counts.position_is in let b = parts.position_is in cc) in
-    let made : AreSaved game (at_position (with_moves start played.moves) parts.position) ls = record {
-      no_second_head = never game ls SaveFile Repeated refl refl (λ n v. refl) right;
-      version = version_is game ls right parts.version;
-      name = name_is game ls right parts.name;
+    let made : AreSaved game (at_position (with_moves start played.moves) parts.position) rs = record {
+      no_second_head = never game rs SaveFile Repeated refl refl (λ n v. refl) right;
+      version = version_is game rs right parts.version;
+      name = name_is game rs right parts.name;
       next_params = next;
       params = now;
       desc = (parts.desc, desc_at.alone, described);
-      no_private_desc = never game ls PrivateDesc Unsupported refl refl (λ n v. refl) right;
-      seed = kept_once game ls Seed refl refl right;
-      auxinfo = kept_once game ls AuxInfo refl refl right;
-      ui = kept_once game ls Ui refl refl right;
-      time = kept_once game ls Time refl refl right;
+      no_private_desc = never game rs PrivateDesc Unsupported refl refl (λ n v. refl) right;
+      seed = kept_once game rs Seed refl refl right;
+      auxinfo = kept_once game rs AuxInfo refl refl right;
+      ui = kept_once game rs Ui refl refl right;
+      time = kept_once game rs Time refl refl right;
       count = count;
-      position = count_stands game ls Position parts.position refl refl right parts.position_is;
+      position = count_stands game rs Position parts.position refl refl right parts.position_is;
       states = played.have;
-      counts_first = right_counts_first game [] ls right;
-      last = ends_with_state game ls right;
+      counts_first = right_counts_first game [] rs right;
+      last = ends_with_state game rs right;
       valid = record {
         size = sym size;
         legal = legal.0;
@@ -280,7 +280,7 @@ saved_taken {P} game ls h owes right is =
         last = omega (arith, here, counts.inside, counts.states, long);
       };
     } in
-    subst (λ (x : History P). AreSaved game x ls) (ap (λ (x : History P). at_position x parts.position) (sym legal.2) ∙ parts.whole) made
+    subst (λ (x : History P). AreSaved game x rs) (ap (λ (x : History P). at_position x parts.position) (sym legal.2) ∙ parts.whole) made
 
 -- the first record
 head_taken : (e : Entry) (after rest : List ℕ) → head_or_fault e after ≡ Ok rest → (e ≡ record { key = codes "SAVEFILE"; value = collection }) × (after ≡ rest)
@@ -310,7 +310,7 @@ load_taken {P} game text h owes =
       | false ↦ λ large is.
           let head = bind_taken (behind_head (record_at text)) (λ rest. met_in game (records_of rest) >>= λ m. session_of game m) h is in
           let some = bind_taken (met_in game (records_of head.0)) (λ m. session_of game m) h head.2 in
-          let all = bind_taken (needed game [] (records_of head.0)) (λ ls. let r : Result Met LoadFault = Ok (met game ls) in r) some.0 some.1 in
+          let all = bind_taken (needed game [] (records_of head.0)) (λ rs. let r : Result Met LoadFault = Ok (met game rs) in r) some.0 some.1 in
           let need = needed_taken game [] (records_of head.0) all.0 all.1 in
           let same : met game need.more ≡ some.0 = ap (met game) (sym need.all_is) ∙ same_ok (met game all.0) some.0 all.2 in
           record {

@@ -28,13 +28,13 @@ use Rattle.play_save.specs.FirstFaults.{count_at}
 use Rattle.play_save.specs.Written.{with_value, record_text, records_text, save_of}
 use Rattle.play_save.specs.Laws.{HasGrid, WrittenIsSaved, WrittenSavesNoOther}
 use Rattle.play_save.proofs.RecordLaws.{record_again}
-use Rattle.play_save.proofs.LineLists.{values_of-append, states_in-append}
+use Rattle.play_save.proofs.RecordLists.{values_of-append, states_in-append}
 use Rattle.play_save.proofs.Counting.{count_again}
 use Rattle.play_save.proofs.GameTexts.{IsGame}
 use Rattle.play_save.proofs.StatesPlayed.{text_again, have_length}
 use Rattle.play_save.proofs.SavedAgain.{has_state_or_count}
 use Rattle.play_save.proofs.WrittenRecords.{entry_written, written_begins, AreToTheEnd, all_written, begins_prefix, all_begin}
-use Rattle.play_save.proofs.WrittenLines.{tail_lines, state_value, values_SaveFile, values_FormatVersion, values_GameName, values_NextParams, values_CurrentParams, values_Desc, values_PrivateDesc, values_StateCount, values_Position, values_Seed, values_AuxInfo, values_Ui, values_Time, states_tail, counts_first_tail, ends_tail, known_tail}
+use Rattle.play_save.proofs.SessionRecords.{tail_records, state_value, values_SaveFile, values_FormatVersion, values_GameName, values_NextParams, values_CurrentParams, values_Desc, values_PrivateDesc, values_StateCount, values_Position, values_Seed, values_AuxInfo, values_Ui, values_Time, states_tail, counts_first_tail, ends_tail, known_tail}
 use Rattle.play_save.proofs.LegalMoves.{FitsText, AllFit, all_fit}
 
 -- a state record that is written has its move
@@ -128,23 +128,23 @@ same_count m n m_first m_few n_first n_few text =
     cc
 
 -- the written text, record by record
-written_text : {P : Type 0} (game : SavedGame P) (h : History P) → save_of game.title game.desc_of h ≡ record_text (with_value SaveFile collection) ++ records_text (tail_lines game.title (game.desc_of h.puzzle) h)
+written_text : {P : Type 0} (game : SavedGame P) (h : History P) → save_of game.title game.desc_of h ≡ record_text (with_value SaveFile collection) ++ records_text (tail_records game.title (game.desc_of h.puzzle) h)
 unfolding save_of
 written_text game h = refl
 
 record Read {P : Type 0} (game : SavedGame P) (h : History P) (text : List ℕ) : Type 0 where
-  head : record_at text ≡ Ok (Some (entry_written (with_value SaveFile collection), 10 ∷ records_text (tail_lines game.title (game.desc_of h.puzzle) h)))
-  all : AreToTheEnd (tail_lines game.title (game.desc_of h.puzzle) h) (10 ∷ records_text (tail_lines game.title (game.desc_of h.puzzle) h))
+  head : record_at text ≡ Ok (Some (entry_written (with_value SaveFile collection), 10 ∷ records_text (tail_records game.title (game.desc_of h.puzzle) h)))
+  all : AreToTheEnd (tail_records game.title (game.desc_of h.puzzle) h) (10 ∷ records_text (tail_records game.title (game.desc_of h.puzzle) h))
 
 read_written : {P : Type 0} (game : SavedGame P) (h : History P) → length (save_of game.title game.desc_of h) ≤ longest_save → Read game h (save_of game.title game.desc_of h)
 read_written {P} game h small =
-    let ls = tail_lines game.title (game.desc_of h.puzzle) h in
+    let rs = tail_records game.title (game.desc_of h.puzzle) h in
     let head = with_value SaveFile collection in
     let text = written_text game h in
-    let short : length (records_text ls) ≤ longest_save = omega (arith, ap length text, length-append (record_text head) (records_text ls)) in
-    let made : Read game h (record_text head ++ records_text ls) = record {
-      head = record_again (record_text head ++ records_text ls) (entry_written head) (10 ∷ records_text ls) (written_begins head [] (records_text ls) tt refl (lit≤ tt));
-      all = all_written ls (10 ∷ []) (refl, tt) (known_tail game.title (game.desc_of h.puzzle) h) short;
+    let short : length (records_text rs) ≤ longest_save = omega (arith, ap length text, length-append (record_text head) (records_text rs)) in
+    let made : Read game h (record_text head ++ records_text rs) = record {
+      head = record_again (record_text head ++ records_text rs) (entry_written head) (10 ∷ records_text rs) (written_begins head [] (records_text rs) tt refl (lit≤ tt));
+      all = all_written rs (10 ∷ []) (refl, tt) (known_tail game.title (game.desc_of h.puzzle) h) short;
     } in
     subst (λ t. Read game h t) (sym text) made
 
@@ -156,19 +156,19 @@ pub written_is_saved : {P : Type 0} (game : SavedGame P) (of_game : P → Type 0
 written_is_saved {P} game of_game owes canonical h storable grids small =
     let title = game.title in
     let desc = game.desc_of h.puzzle in
-    let ls = tail_lines title desc h in
+    let rs = tail_records title desc h in
     let read = read_written game h small in
     let valid = storable.session in
     let described = canonical h.puzzle storable.puzzle_is in
     let largest : (game.puzzle h.puzzle).size ≤ 9 = (let top = storable.params_are.largest in omega (arith, valid.size)) in
     let fits = all_fit (game.puzzle h.puzzle) (start_of (game.puzzle h.puzzle)) h.moves largest valid.legal.playable in
-    let head_begins = written_begins (with_value SaveFile collection) [] (records_text ls) tt refl (lit≤ tt) in
+    let head_begins = written_begins (with_value SaveFile collection) [] (records_text rs) tt refl (lit≤ tt) in
     record {
       small = small;
-      behind_head = 10 ∷ records_text ls;
+      behind_head = 10 ∷ records_text rs;
       head = rw (written_text game h) head_begins;
-      records = ls;
-      begins = all_begin ls (10 ∷ records_text ls) read.all;
+      records = rs;
+      begins = all_begin rs (10 ∷ records_text rs) read.all;
       saved = record {
         no_second_head = values_SaveFile title desc h;
         version = values_FormatVersion title desc h;
@@ -191,9 +191,9 @@ written_is_saved {P} game of_game owes canonical h storable grids small =
     }
 
 -- the records of any save of it are those that were written
-one_value : (k : Key) (v w : List ℕ) (ls later all : List KeyedRecord) → all ≡ ls ++ later → values_of k all ≡ v ∷ [] → values_of k ls ≡ w ∷ [] → (v ≡ w) × (values_of k later ≡ [])
-one_value k v w ls later all split whole part =
-    let both : v ∷ [] ≡ w ∷ values_of k later = sym whole ∙ (ap (values_of k) split ∙ (values_of-append k ls later ∙ ap (λ vs. vs ++ values_of k later) part)) in
+one_value : (k : Key) (v w : List ℕ) (rs later all : List KeyedRecord) → all ≡ rs ++ later → values_of k all ≡ v ∷ [] → values_of k rs ≡ w ∷ [] → (v ≡ w) × (values_of k later ≡ [])
+one_value k v w rs later all split whole part =
+    let both : v ∷ [] ≡ w ∷ values_of k later = sym whole ∙ (ap (values_of k) split ∙ (values_of-append k rs later ∙ ap (λ vs. vs ++ values_of k later) part)) in
     let rest : values_of k later ≡ [] = cc in
     (cc, rest)
 
@@ -203,38 +203,38 @@ ends_later (x ∷ []) y ys ends = ends
 ends_later (x ∷ z ∷ xs) y ys ends = ends_later (z ∷ xs) y ys ends
 
 record IsSameSave {P : Type 0} (game : SavedGame P) (h other : History P) : Type 0 where
-  saved : AreSaved game other (tail_lines game.title (game.desc_of h.puzzle) h)
+  saved : AreSaved game other (tail_records game.title (game.desc_of h.puzzle) h)
   count : length other.moves ≡ length h.moves
   position : other.position ≡ h.position
 
-same_save : {P : Type 0} (game : SavedGame P) (h other : History P) (ls later : List KeyedRecord) → IsValid (game.puzzle h.puzzle) h → tail_lines game.title (game.desc_of h.puzzle) h ≡ ls ++ later → AreSaved game other ls → IsSameSave game h other
-same_save {P} game h other ls later valid split saved =
+same_save : {P : Type 0} (game : SavedGame P) (h other : History P) (rs later : List KeyedRecord) → IsValid (game.puzzle h.puzzle) h → tail_records game.title (game.desc_of h.puzzle) h ≡ rs ++ later → AreSaved game other rs → IsSameSave game h other
+same_save {P} game h other rs later valid split saved =
     let title = game.title in
     let desc = game.desc_of h.puzzle in
-    let all = tail_lines title desc h in
+    let all = tail_records title desc h in
     let few = valid.few in
     let first = valid.first in
     let last = valid.last in
     let other_few = saved.valid.few in
     let other_first = saved.valid.first in
     let other_last = saved.valid.last in
-    let count = one_value StateCount (decimal (length h.moves + 1)) (decimal (length other.moves + 1)) ls later all split (values_StateCount title desc h) saved.count in
-    let place = one_value Position (decimal h.position) (decimal other.position) ls later all split (values_Position title desc h) saved.position in
+    let count = one_value StateCount (decimal (length h.moves + 1)) (decimal (length other.moves + 1)) rs later all split (values_StateCount title desc h) saved.count in
+    let place = one_value Position (decimal h.position) (decimal other.position) rs later all split (values_Position title desc h) saved.position in
     let counts : length h.moves + 1 ≡ length other.moves + 1 = same_count (length h.moves + 1) (length other.moves + 1) (omega arith) few (omega arith) other_few count.0 in
     let places : h.position ≡ other.position = same_count h.position other.position first (omega arith) other_first (omega arith) place.0 in
     let written = length-map h.moves (state_value desc) in
-    let sum : length (states_in all) ≡ length (states_in ls) + length (states_in later) = ap length (ap states_in split ∙ states_in-append ls later) ∙ length-append (states_in ls) (states_in later) in
-    let own = have_length game other.puzzle other.moves (states_in ls) saved.states in
+    let sum : length (states_in all) ≡ length (states_in rs) + length (states_in later) = ap length (ap states_in split ∙ states_in-append rs later) ∙ length-append (states_in rs) (states_in later) in
+    let own = have_length game other.puzzle other.moves (states_in rs) saved.states in
     let whole = ap length (states_tail title desc h) in
     let none : length (states_in later) ≡ 0 = omega arith in
     let empty : later ≡ [] = no_more later split count.1 place.1 none in
-    let same : ls ≡ all = sym (append-nil ls) ∙ (ap (λ xs. ls ++ xs) (sym empty) ∙ sym split) in
+    let same : rs ≡ all = sym (append-nil rs) ∙ (ap (λ xs. rs ++ xs) (sym empty) ∙ sym split) in
     record { saved = subst (λ xs. AreSaved game other xs) same saved; count = omega arith; position = sym places }
   where
-    no_more : (xs : List KeyedRecord) → tail_lines game.title (game.desc_of h.puzzle) h ≡ ls ++ xs → values_of StateCount xs ≡ [] → values_of Position xs ≡ [] → length (states_in xs) ≡ 0 → xs ≡ []
+    no_more : (xs : List KeyedRecord) → tail_records game.title (game.desc_of h.puzzle) h ≡ rs ++ xs → values_of StateCount xs ≡ [] → values_of Position xs ≡ [] → length (states_in xs) ≡ 0 → xs ≡ []
     no_more [] cut no_count no_place no_state = refl
     no_more (x ∷ xs) cut no_count no_place no_state =
-        let ends = ends_later ls x xs (subst (λ zs. EndsWithState zs) cut (ends_tail game.title (game.desc_of h.puzzle) h)) in
+        let ends = ends_later rs x xs (subst (λ zs. EndsWithState zs) cut (ends_tail game.title (game.desc_of h.puzzle) h)) in
         let some = has_state_or_count (x ∷ xs) ends no_count no_place in
         absurd (omega arith)
 
@@ -258,7 +258,7 @@ pub written_saves_no_other : {P : Type 0} (game : SavedGame P) (of_game : P → 
 written_saves_no_other {P} game of_game owes canonical h other valid of t =
     let title = game.title in
     let desc = game.desc_of h.puzzle in
-    let all = tail_lines title desc h in
+    let all = tail_records title desc h in
     let read = read_written game h t.small in
     let head = record_again (save_of game.title game.desc_of h) (record { key = codes "SAVEFILE"; value = collection }) t.behind_head t.head in
     let rest : t.behind_head ≡ 10 ∷ records_text all = same_rest (record { key = codes "SAVEFILE"; value = collection }) (entry_written (with_value SaveFile collection)) t.behind_head (10 ∷ records_text all) (sym head ∙ read.head) in

@@ -16,7 +16,7 @@ use Rattle.play_save.specs.KeyedRecords.{KeyedRecord, keyed, BeginsWithAll}
 use Rattle.play_save.specs.SaveTexts.{longest_save}
 use Rattle.play_save.specs.Written.{record_text, records_text}
 use Rattle.play_save.proofs.RecordLaws.{record_again, end_again}
-use Rattle.play_save.proofs.RightLists.{same_line}
+use Rattle.play_save.proofs.RightLists.{same_record}
 
 abbrev pub is_known : Key → Bool
 is_known Other = false
@@ -156,89 +156,89 @@ length_written n few =
 
 -- a record behind line breaks
 abbrev pub entry_written : KeyedRecord → Entry
-entry_written l = record { key = key_name l.key; value = l.value }
+entry_written r = record { key = key_name r.key; value = r.value }
 
-pub written_begins : (l : KeyedRecord) (breaks more : List ℕ) → AreBreaks breaks → is_known l.key ≡ true → length l.value ≤ 99999999 → BeginsWith (entry_written l) (10 ∷ more) (breaks ++ (record_text l ++ more))
+pub written_begins : (r : KeyedRecord) (breaks more : List ℕ) → AreBreaks breaks → is_known r.key ≡ true → length r.value ≤ 99999999 → BeginsWith (entry_written r) (10 ∷ more) (breaks ++ (record_text r ++ more))
 unfolding record_text
-written_begins l breaks more are known few =
-    let key = padded (key_name l.key) in
-    let size = decimal (length l.value) in
-    let e1 : (key ++ (58 ∷ (size ++ (58 ∷ (l.value ++ (10 ∷ [])))))) ++ more ≡ key ++ ((58 ∷ (size ++ (58 ∷ (l.value ++ (10 ∷ []))))) ++ more) = append_assoc key (58 ∷ (size ++ (58 ∷ (l.value ++ (10 ∷ []))))) more in
-    let e2 : (size ++ (58 ∷ (l.value ++ (10 ∷ [])))) ++ more ≡ size ++ ((58 ∷ (l.value ++ (10 ∷ []))) ++ more) = append_assoc size (58 ∷ (l.value ++ (10 ∷ []))) more in
-    let e3 : (l.value ++ (10 ∷ [])) ++ more ≡ l.value ++ (10 ∷ more) = append_assoc l.value (10 ∷ []) more in
+written_begins r breaks more are known few =
+    let key = padded (key_name r.key) in
+    let size = decimal (length r.value) in
+    let e1 : (key ++ (58 ∷ (size ++ (58 ∷ (r.value ++ (10 ∷ [])))))) ++ more ≡ key ++ ((58 ∷ (size ++ (58 ∷ (r.value ++ (10 ∷ []))))) ++ more) = append_assoc key (58 ∷ (size ++ (58 ∷ (r.value ++ (10 ∷ []))))) more in
+    let e2 : (size ++ (58 ∷ (r.value ++ (10 ∷ [])))) ++ more ≡ size ++ ((58 ∷ (r.value ++ (10 ∷ []))) ++ more) = append_assoc size (58 ∷ (r.value ++ (10 ∷ []))) more in
+    let e3 : (r.value ++ (10 ∷ [])) ++ more ≡ r.value ++ (10 ∷ more) = append_assoc r.value (10 ∷ []) more in
     record {
       breaks = breaks;
       key = key;
       digits = size;
       spelled = ap (λ t. breaks ++ t) (e1 ∙ ap (λ t. key ++ (58 ∷ t)) (e2 ∙ ap (λ t. size ++ (58 ∷ t)) e3));
       are_breaks = are;
-      eight = eight l.key known;
-      no_colon = free_lacks key (colon_free l.key known);
-      no_break = breaks_not l.key known;
-      name_is = name_again l.key known;
-      length_is = length_written (length l.value) few;
+      eight = eight r.key known;
+      no_colon = free_lacks key (colon_free r.key known);
+      no_break = breaks_not r.key known;
+      name_is = name_again r.key known;
+      length_is = length_written (length r.value) few;
     }
 
 -- all records of a text, up to its end
 abbrev pub AreToTheEnd : List KeyedRecord → List ℕ → Type 0
 AreToTheEnd [] text = AreBreaks text
-AreToTheEnd (l ∷ ls) text =
-    (e : Entry) × (rest : List ℕ) × (keyed e ≡ l) × BeginsWith e rest text × AreToTheEnd ls rest
+AreToTheEnd (r ∷ rs) text =
+    (e : Entry) × (rest : List ℕ) × (keyed e ≡ r) × BeginsWith e rest text × AreToTheEnd rs rest
 
 abbrev pub AreKnown : List KeyedRecord → Type 0
 AreKnown [] = Unit {0}
-AreKnown (l ∷ ls) = (is_known l.key ≡ true) × AreKnown ls
+AreKnown (r ∷ rs) = (is_known r.key ≡ true) × AreKnown rs
 
-value_within : (l : KeyedRecord) → length l.value ≤ length (record_text l)
+value_within : (r : KeyedRecord) → length r.value ≤ length (record_text r)
 unfolding record_text
-value_within l =
-    let key = padded (key_name l.key) in
-    let size = decimal (length l.value) in
-    omega (arith, length-append key (58 ∷ (size ++ (58 ∷ (l.value ++ (10 ∷ []))))), length-append size (58 ∷ (l.value ++ (10 ∷ []))), length-append l.value (10 ∷ []))
+value_within r =
+    let key = padded (key_name r.key) in
+    let size = decimal (length r.value) in
+    omega (arith, length-append key (58 ∷ (size ++ (58 ∷ (r.value ++ (10 ∷ []))))), length-append size (58 ∷ (r.value ++ (10 ∷ []))), length-append r.value (10 ∷ []))
 
-own_line : (l : KeyedRecord) → is_known l.key ≡ true → keyed (entry_written l) ≡ l
-own_line l known = same_line (keyed (entry_written l)) l.key l.value (key_again l.key known) refl
+own_record : (r : KeyedRecord) → is_known r.key ≡ true → keyed (entry_written r) ≡ r
+own_record r known = same_record (keyed (entry_written r)) r.key r.value (key_again r.key known) refl
 
-pub all_written : (ls : List KeyedRecord) (breaks : List ℕ) → AreBreaks breaks → AreKnown ls → length (records_text ls) ≤ longest_save → AreToTheEnd ls (breaks ++ records_text ls)
+pub all_written : (rs : List KeyedRecord) (breaks : List ℕ) → AreBreaks breaks → AreKnown rs → length (records_text rs) ≤ longest_save → AreToTheEnd rs (breaks ++ records_text rs)
 all_written [] breaks are known small = subst (λ t. AreBreaks t) (sym (append_nil breaks)) are
   where
     append_nil : (xs : List ℕ) → xs ++ [] ≡ xs
     append_nil [] = refl
     append_nil (x ∷ xs) = ap (λ ys. x ∷ ys) (append_nil xs)
-all_written (l ∷ ls) breaks are known small =
-    let split = length-append (record_text l) (records_text ls) in
-    let few : length l.value ≤ 99999999 = omega (arith, value_within l, split) in (
-      entry_written l,
-      10 ∷ records_text ls,
-      own_line l known.0,
-      written_begins l breaks (records_text ls) are known.0 few,
-      all_written ls (10 ∷ []) (refl, tt) known.1 (omega (arith, split)),
+all_written (r ∷ rs) breaks are known small =
+    let split = length-append (record_text r) (records_text rs) in
+    let few : length r.value ≤ 99999999 = omega (arith, value_within r, split) in (
+      entry_written r,
+      10 ∷ records_text rs,
+      own_record r known.0,
+      written_begins r breaks (records_text rs) are known.0 few,
+      all_written rs (10 ∷ []) (refl, tt) known.1 (omega (arith, split)),
     )
 
 -- the records with which a text begins are the first of all of them
-pub record IsPrefix (ls ms : List KeyedRecord) : Type 0 where
+pub record IsPrefix (rs ms : List KeyedRecord) : Type 0 where
   pub later : List KeyedRecord
-  pub split : ms ≡ ls ++ later
+  pub split : ms ≡ rs ++ later
 
-pub begins_prefix : (ls ms : List KeyedRecord) (text : List ℕ) → BeginsWithAll ls text → AreToTheEnd ms text → IsPrefix ls ms
+pub begins_prefix : (rs ms : List KeyedRecord) (text : List ℕ) → BeginsWithAll rs text → AreToTheEnd ms text → IsPrefix rs ms
 begins_prefix [] ms text begins all = record { later = ms; split = refl }
-begins_prefix (l ∷ ls) [] text begins all =
+begins_prefix (r ∷ rs) [] text begins all =
     let read = record_again text begins.0 begins.1 begins.3 in
     let none = end_again text all in
     cc
-begins_prefix (l ∷ ls) (m ∷ ms) text begins all =
+begins_prefix (r ∷ rs) (m ∷ ms) text begins all =
     let read = record_again text begins.0 begins.1 begins.3 in
     let other = record_again text all.0 all.1 all.3 in
     let both : (begins.0, begins.1) ≡ (all.0, all.1) = same_pair (begins.0, begins.1) (all.0, all.1) (sym read ∙ other) in
     let entry : begins.0 ≡ all.0 = ap (λ p. p.0) both in
     let rest : begins.1 ≡ all.1 = ap (λ p. p.1) both in
-    let line : l ≡ m = sym begins.2 ∙ (ap keyed entry ∙ all.2) in
-    let more = begins_prefix ls ms all.1 (subst (λ t. BeginsWithAll ls t) rest begins.4) all.4 in
-    record { later = more.later; split = ap (λ x. x ∷ ms) (sym line) ∙ ap (λ xs. l ∷ xs) more.split }
+    let same : r ≡ m = sym begins.2 ∙ (ap keyed entry ∙ all.2) in
+    let more = begins_prefix rs ms all.1 (subst (λ t. BeginsWithAll rs t) rest begins.4) all.4 in
+    record { later = more.later; split = ap (λ x. x ∷ ms) (sym same) ∙ ap (λ xs. r ∷ xs) more.split }
   where
     same_pair : (a b : Entry × List ℕ) → (let r : Result (Option (Entry × List ℕ)) LoadFault = Ok (Some a) in r) ≡ Ok (Some b) → a ≡ b
     same_pair a b e = cc
 
-pub all_begin : (ls : List KeyedRecord) (text : List ℕ) → AreToTheEnd ls text → BeginsWithAll ls text
+pub all_begin : (rs : List KeyedRecord) (text : List ℕ) → AreToTheEnd rs text → BeginsWithAll rs text
 all_begin [] text all = tt
-all_begin (l ∷ ls) text all = (all.0, all.1, all.2, all.3, all_begin ls all.1 all.4)
+all_begin (r ∷ rs) text all = (all.0, all.1, all.2, all.3, all_begin rs all.1 all.4)

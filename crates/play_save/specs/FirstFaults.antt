@@ -54,19 +54,19 @@ first_of [] = None
 first_of (v ∷ vs) = Some v
 
 abbrev pub met : {P : Type 0} → SavedGame P → List KeyedRecord → Met
-met game ls = record {
-  version = is_some (first_of (values_of FormatVersion ls));
-  name = is_some (first_of (values_of GameName ls));
-  next_params = option_map (saved_params_at game) (first_of (values_of NextParams ls));
-  params = option_map (saved_params_at game) (first_of (values_of CurrentParams ls));
-  seed = first_of (values_of Seed ls);
-  desc = first_of (values_of Desc ls);
-  auxinfo = first_of (values_of AuxInfo ls);
-  ui = first_of (values_of Ui ls);
-  time = first_of (values_of Time ls);
-  count = option_map count_at (first_of (values_of StateCount ls));
-  position = option_map count_at (first_of (values_of Position ls));
-  states = states_in ls;
+met game rs = record {
+  version = is_some (first_of (values_of FormatVersion rs));
+  name = is_some (first_of (values_of GameName rs));
+  next_params = option_map (saved_params_at game) (first_of (values_of NextParams rs));
+  params = option_map (saved_params_at game) (first_of (values_of CurrentParams rs));
+  seed = first_of (values_of Seed rs);
+  desc = first_of (values_of Desc rs);
+  auxinfo = first_of (values_of AuxInfo rs);
+  ui = first_of (values_of Ui rs);
+  time = first_of (values_of Time rs);
+  count = option_map count_at (first_of (values_of StateCount rs));
+  position = option_map count_at (first_of (values_of Position rs));
+  states = states_in rs;
 }
 
 -- a fault, where the test fails
@@ -160,9 +160,9 @@ unless (Some fault) more = Err fault
 abbrev pub needed : {P : Type 0} → SavedGame P → List KeyedRecord → Listing → Result (List KeyedRecord) LoadFault
 needed game before nothing = if is_complete (met game before) then Ok before else Err Missing
 needed game before broken = if is_complete (met game before) then Ok before else Err Malformed
-needed game before (first l more) =
+needed game before (first r more) =
     if is_complete (met game before) then Ok before
-    else unless (fault_by game (met game before) l.key l.value) (needed game (before ++ l ∷ []) more)
+    else unless (fault_by game (met game before) r.key r.value) (needed game (before ++ r ∷ []) more)
 
 -- the move of a state record, where it is one of the puzzle: a restart has a description of it
 abbrev pub solution_alone : Move → Option Move
@@ -230,7 +230,7 @@ behind_head (Ok (Some parts)) = head_or_fault parts.0 parts.1
 behind_head _ = Err NotASave
 
 abbrev pub met_in : {P : Type 0} → SavedGame P → Listing → Result Met LoadFault
-met_in game listing = needed game [] listing >>= λ ls. Ok (met game ls)
+met_in game listing = needed game [] listing >>= λ rs. Ok (met game rs)
 
 -- a save text: its session, or its first fault
 unfoldable pub load_at : {P : Type 0} → SavedGame P → List ℕ → Result (History P) LoadFault

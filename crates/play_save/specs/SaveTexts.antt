@@ -63,23 +63,23 @@ HaveStates game p (m ∷ ms) [] = ⊥
 HaveStates game p (m ∷ ms) (s ∷ ss) = IsStateOf game p m s.key s.value × HaveStates game p ms ss
 
 -- the records behind the first, up to the last that is needed
-pub record AreSaved {P : Type 0} (game : SavedGame P) (h : History P) (ls : List KeyedRecord) : Type 0 where
-  pub no_second_head : values_of SaveFile ls ≡ []
-  pub version : values_of FormatVersion ls ≡ codes "1" ∷ []
-  pub name : values_of GameName ls ≡ game.title ∷ []
-  pub next_params : StandsOnce NextParams (IsParamText game.letters h.next_params) ls
-  pub params : StandsOnce CurrentParams (IsParamText game.letters h.params) ls
-  pub desc : StandsOnce Desc (game.Describes h.params.size h.puzzle) ls
-  pub no_private_desc : values_of PrivateDesc ls ≡ []
-  pub seed : values_of Seed ls ≡ once_if_kept h.extras.seed
-  pub auxinfo : values_of AuxInfo ls ≡ once_if_kept h.extras.auxinfo
-  pub ui : values_of Ui ls ≡ once_if_kept h.extras.ui
-  pub time : values_of Time ls ≡ once_if_kept h.extras.time
-  pub count : values_of StateCount ls ≡ decimal (length h.moves + 1) ∷ []
-  pub position : values_of Position ls ≡ decimal h.position ∷ []
-  pub states : HaveStates game h.puzzle h.moves (states_in ls)
-  pub counts_first : CountsStandFirst ls
-  pub last : EndsWithState ls
+pub record AreSaved {P : Type 0} (game : SavedGame P) (h : History P) (rs : List KeyedRecord) : Type 0 where
+  pub no_second_head : values_of SaveFile rs ≡ []
+  pub version : values_of FormatVersion rs ≡ codes "1" ∷ []
+  pub name : values_of GameName rs ≡ game.title ∷ []
+  pub next_params : StandsOnce NextParams (IsParamText game.letters h.next_params) rs
+  pub params : StandsOnce CurrentParams (IsParamText game.letters h.params) rs
+  pub desc : StandsOnce Desc (game.Describes h.params.size h.puzzle) rs
+  pub no_private_desc : values_of PrivateDesc rs ≡ []
+  pub seed : values_of Seed rs ≡ once_if_kept h.extras.seed
+  pub auxinfo : values_of AuxInfo rs ≡ once_if_kept h.extras.auxinfo
+  pub ui : values_of Ui rs ≡ once_if_kept h.extras.ui
+  pub time : values_of Time rs ≡ once_if_kept h.extras.time
+  pub count : values_of StateCount rs ≡ decimal (length h.moves + 1) ∷ []
+  pub position : values_of Position rs ≡ decimal h.position ∷ []
+  pub states : HaveStates game h.puzzle h.moves (states_in rs)
+  pub counts_first : CountsStandFirst rs
+  pub last : EndsWithState rs
   pub valid : IsValid (game.puzzle h.puzzle) h
 
 -- The text is a save of the session: the record that names the format, the records of the session, and then anything.

@@ -1,6 +1,6 @@
 -- One state record more.
 use Rattle.std.proofs.Common.{◌≡◌, ◌+◌, ◌-◌, ◌++◌, ap, ◌∙◌, arith, take, map}
-use Rattle.play_save.specs.Written.{record_text, records_text, state_line}
+use Rattle.play_save.specs.Written.{record_text, records_text, state_record}
 use Rattle.play_save.proofs.WrittenLists.{state_more}
 use Rattle.play_save.proofs.saving.put_states.Goals as goal
 
@@ -12,4 +12,4 @@ loop-i-preserved g c =
     let desc = c.args.desc.now in
     let more = state_more desc ms (i - 1) c.move_at.result.now front (omega (arith, c.states.ensures)) c.move_at.ensures in
     let next : i - 1 + 1 ≡ i + 1 - 1 = omega arith in
-    c.in_ok-put_state.ensures.ok ∙ (ap (λ t. t ++ record_text (state_line desc c.move_at.result.now)) c.loop-i.invariant ∙ (more ∙ ap (λ n. front ++ records_text (map (state_line desc) (take n ms))) next))
+    c.in_ok-put_state.ensures.ok ∙ (ap (λ t. t ++ record_text (state_record desc c.move_at.result.now)) c.loop-i.invariant ∙ (more ∙ ap (λ n. front ++ records_text (map (state_record desc) (take n ms))) next))

@@ -13,8 +13,8 @@ use Rattle.play_save.specs.declared.key.Key.TheVariants.{SaveFile, FormatVersion
 use Rattle.play_save.specs.Keys.{rank}
 use Rattle.play_save.specs.KeyedRecords.{KeyedRecord, KeyedState, values_of, onto_states, states_in, once_if_kept, is_state, CountsStandFirst, may_be_last, EndsWithState}
 use Rattle.play_save.specs.SaveTexts.{is_solve}
-use Rattle.play_save.specs.Written.{with_value, kept_line, state_line, body_lines, state_lines}
-use Rattle.play_save.proofs.LineLists.{values_of-append, states_in-append, own_rank}
+use Rattle.play_save.specs.Written.{with_value, kept_record, state_record, body_records, state_records}
+use Rattle.play_save.proofs.RecordLists.{values_of-append, states_in-append, own_rank}
 use Rattle.play_save.proofs.WrittenRecords.{is_known, AreKnown}
 
 -- the records behind the first
@@ -23,8 +23,8 @@ four title h =
     with_value FormatVersion (codes "1") ∷ with_value GameName title ∷ with_value NextParams (params_text h.next_params)
     ∷ with_value CurrentParams (params_text h.params) ∷ []
 
-abbrev pub tail_lines : {P : Type 0} → List ℕ → List ℕ → History P → List KeyedRecord
-tail_lines title desc h = four title h ++ (body_lines desc h ++ state_lines desc h)
+abbrev pub tail_records : {P : Type 0} → List ℕ → List ℕ → History P → List KeyedRecord
+tail_records title desc h = four title h ++ (body_records desc h ++ state_records desc h)
 
 -- the state record of a move
 abbrev pub state_value : List ℕ → Move → KeyedState
@@ -33,12 +33,12 @@ state_value desc m =
     (record { key = cond (is_solve m) SolveMove AnyMove; value = move_text m })
 
 abbrev states_of : List ℕ → List Move → List KeyedRecord
-states_of desc ms = map (state_line desc) ms
+states_of desc ms = map (state_record desc) ms
 
-state_is : (desc : List ℕ) (m : Move) → is_state (state_line desc m).key ≡ true
+state_is : (desc : List ℕ) (m : Move) → is_state (state_record desc m).key ≡ true
 state_is desc m = elim (is_restart m) as (λ t. is_state (cond t (with_value (State RestartMove) desc) (with_value (State (cond (is_solve m) SolveMove AnyMove)) (move_text m))).key ≡ true) [ true ↦ refl | false ↦ refl ]
 
-state_rank : (desc : List ℕ) (m : Move) (k : Key) → is_state k ≡ false → (rank (state_line desc m).key == rank k) ≡ false
+state_rank : (desc : List ℕ) (m : Move) (k : Key) → is_state k ≡ false → (rank (state_record desc m).key == rank k) ≡ false
 state_rank desc m k header =
     elim (is_restart m) as (λ t. (rank (cond t (with_value (State RestartMove) desc) (with_value (State (cond (is_solve m) SolveMove AnyMove)) (move_text m))).key == rank k) ≡ false) [ true ↦ other k header | false ↦ other k header ]
   where
@@ -63,16 +63,16 @@ states_none : (k : Key) (desc : List ℕ) (ms : List Move) → is_state k ≡ fa
 states_none k desc [] header = refl
 states_none k desc (m ∷ ms) header = rw (state_rank desc m k header) (states_none k desc ms header)
 
-kept_none : (k j : Key) (kept : Option (List ℕ)) → (rank j == rank k) ≡ false → values_of k (kept_line j kept) ≡ []
+kept_none : (k j : Key) (kept : Option (List ℕ)) → (rank j == rank k) ≡ false → values_of k (kept_record j kept) ≡ []
 kept_none k j None other = refl
 kept_none k j (Some v) other = rw other refl
 
-kept_own : (k : Key) (kept : Option (List ℕ)) → values_of k (kept_line k kept) ≡ once_if_kept kept
+kept_own : (k : Key) (kept : Option (List ℕ)) → values_of k (kept_record k kept) ≡ once_if_kept kept
 kept_own k None = refl
 kept_own k (Some v) = rw (own_rank k) refl
 
 -- the values of each key
-pub values_SaveFile : {P : Type 0} (title desc : List ℕ) (h : History P) → values_of SaveFile (tail_lines title desc h) ≡ []
+pub values_SaveFile : {P : Type 0} (title desc : List ℕ) (h : History P) → values_of SaveFile (tail_records title desc h) ≡ []
 values_SaveFile title desc h =
     let seed = kept_none SaveFile Seed h.extras.seed refl in
     let auxinfo = kept_none SaveFile AuxInfo h.extras.auxinfo refl in
@@ -81,7 +81,7 @@ values_SaveFile title desc h =
     let states = states_none SaveFile desc h.moves refl in
     simp (values_of-append, seed, auxinfo, ui, time, states, append-nil)
 
-pub values_FormatVersion : {P : Type 0} (title desc : List ℕ) (h : History P) → values_of FormatVersion (tail_lines title desc h) ≡ codes "1" ∷ []
+pub values_FormatVersion : {P : Type 0} (title desc : List ℕ) (h : History P) → values_of FormatVersion (tail_records title desc h) ≡ codes "1" ∷ []
 values_FormatVersion title desc h =
     let seed = kept_none FormatVersion Seed h.extras.seed refl in
     let auxinfo = kept_none FormatVersion AuxInfo h.extras.auxinfo refl in
@@ -90,7 +90,7 @@ values_FormatVersion title desc h =
     let states = states_none FormatVersion desc h.moves refl in
     simp (values_of-append, seed, auxinfo, ui, time, states, append-nil)
 
-pub values_GameName : {P : Type 0} (title desc : List ℕ) (h : History P) → values_of GameName (tail_lines title desc h) ≡ title ∷ []
+pub values_GameName : {P : Type 0} (title desc : List ℕ) (h : History P) → values_of GameName (tail_records title desc h) ≡ title ∷ []
 values_GameName title desc h =
     let seed = kept_none GameName Seed h.extras.seed refl in
     let auxinfo = kept_none GameName AuxInfo h.extras.auxinfo refl in
@@ -99,7 +99,7 @@ values_GameName title desc h =
     let states = states_none GameName desc h.moves refl in
     simp (values_of-append, seed, auxinfo, ui, time, states, append-nil)
 
-pub values_NextParams : {P : Type 0} (title desc : List ℕ) (h : History P) → values_of NextParams (tail_lines title desc h) ≡ params_text h.next_params ∷ []
+pub values_NextParams : {P : Type 0} (title desc : List ℕ) (h : History P) → values_of NextParams (tail_records title desc h) ≡ params_text h.next_params ∷ []
 values_NextParams title desc h =
     let seed = kept_none NextParams Seed h.extras.seed refl in
     let auxinfo = kept_none NextParams AuxInfo h.extras.auxinfo refl in
@@ -108,7 +108,7 @@ values_NextParams title desc h =
     let states = states_none NextParams desc h.moves refl in
     simp (values_of-append, seed, auxinfo, ui, time, states, append-nil)
 
-pub values_CurrentParams : {P : Type 0} (title desc : List ℕ) (h : History P) → values_of CurrentParams (tail_lines title desc h) ≡ params_text h.params ∷ []
+pub values_CurrentParams : {P : Type 0} (title desc : List ℕ) (h : History P) → values_of CurrentParams (tail_records title desc h) ≡ params_text h.params ∷ []
 values_CurrentParams title desc h =
     let seed = kept_none CurrentParams Seed h.extras.seed refl in
     let auxinfo = kept_none CurrentParams AuxInfo h.extras.auxinfo refl in
@@ -117,7 +117,7 @@ values_CurrentParams title desc h =
     let states = states_none CurrentParams desc h.moves refl in
     simp (values_of-append, seed, auxinfo, ui, time, states, append-nil)
 
-pub values_Desc : {P : Type 0} (title desc : List ℕ) (h : History P) → values_of Desc (tail_lines title desc h) ≡ desc ∷ []
+pub values_Desc : {P : Type 0} (title desc : List ℕ) (h : History P) → values_of Desc (tail_records title desc h) ≡ desc ∷ []
 values_Desc title desc h =
     let seed = kept_none Desc Seed h.extras.seed refl in
     let auxinfo = kept_none Desc AuxInfo h.extras.auxinfo refl in
@@ -126,7 +126,7 @@ values_Desc title desc h =
     let states = states_none Desc desc h.moves refl in
     simp (values_of-append, seed, auxinfo, ui, time, states, append-nil)
 
-pub values_PrivateDesc : {P : Type 0} (title desc : List ℕ) (h : History P) → values_of PrivateDesc (tail_lines title desc h) ≡ []
+pub values_PrivateDesc : {P : Type 0} (title desc : List ℕ) (h : History P) → values_of PrivateDesc (tail_records title desc h) ≡ []
 values_PrivateDesc title desc h =
     let seed = kept_none PrivateDesc Seed h.extras.seed refl in
     let auxinfo = kept_none PrivateDesc AuxInfo h.extras.auxinfo refl in
@@ -135,7 +135,7 @@ values_PrivateDesc title desc h =
     let states = states_none PrivateDesc desc h.moves refl in
     simp (values_of-append, seed, auxinfo, ui, time, states, append-nil)
 
-pub values_StateCount : {P : Type 0} (title desc : List ℕ) (h : History P) → values_of StateCount (tail_lines title desc h) ≡ decimal (length h.moves + 1) ∷ []
+pub values_StateCount : {P : Type 0} (title desc : List ℕ) (h : History P) → values_of StateCount (tail_records title desc h) ≡ decimal (length h.moves + 1) ∷ []
 values_StateCount title desc h =
     let seed = kept_none StateCount Seed h.extras.seed refl in
     let auxinfo = kept_none StateCount AuxInfo h.extras.auxinfo refl in
@@ -144,7 +144,7 @@ values_StateCount title desc h =
     let states = states_none StateCount desc h.moves refl in
     simp (values_of-append, seed, auxinfo, ui, time, states, append-nil)
 
-pub values_Position : {P : Type 0} (title desc : List ℕ) (h : History P) → values_of Position (tail_lines title desc h) ≡ decimal h.position ∷ []
+pub values_Position : {P : Type 0} (title desc : List ℕ) (h : History P) → values_of Position (tail_records title desc h) ≡ decimal h.position ∷ []
 values_Position title desc h =
     let seed = kept_none Position Seed h.extras.seed refl in
     let auxinfo = kept_none Position AuxInfo h.extras.auxinfo refl in
@@ -153,7 +153,7 @@ values_Position title desc h =
     let states = states_none Position desc h.moves refl in
     simp (values_of-append, seed, auxinfo, ui, time, states, append-nil)
 
-pub values_Seed : {P : Type 0} (title desc : List ℕ) (h : History P) → values_of Seed (tail_lines title desc h) ≡ once_if_kept h.extras.seed
+pub values_Seed : {P : Type 0} (title desc : List ℕ) (h : History P) → values_of Seed (tail_records title desc h) ≡ once_if_kept h.extras.seed
 values_Seed title desc h =
     let seed = kept_own Seed h.extras.seed in
     let auxinfo = kept_none Seed AuxInfo h.extras.auxinfo refl in
@@ -162,7 +162,7 @@ values_Seed title desc h =
     let states = states_none Seed desc h.moves refl in
     simp (values_of-append, seed, auxinfo, ui, time, states, append-nil)
 
-pub values_AuxInfo : {P : Type 0} (title desc : List ℕ) (h : History P) → values_of AuxInfo (tail_lines title desc h) ≡ once_if_kept h.extras.auxinfo
+pub values_AuxInfo : {P : Type 0} (title desc : List ℕ) (h : History P) → values_of AuxInfo (tail_records title desc h) ≡ once_if_kept h.extras.auxinfo
 values_AuxInfo title desc h =
     let seed = kept_none AuxInfo Seed h.extras.seed refl in
     let auxinfo = kept_own AuxInfo h.extras.auxinfo in
@@ -171,7 +171,7 @@ values_AuxInfo title desc h =
     let states = states_none AuxInfo desc h.moves refl in
     simp (values_of-append, seed, auxinfo, ui, time, states, append-nil)
 
-pub values_Ui : {P : Type 0} (title desc : List ℕ) (h : History P) → values_of Ui (tail_lines title desc h) ≡ once_if_kept h.extras.ui
+pub values_Ui : {P : Type 0} (title desc : List ℕ) (h : History P) → values_of Ui (tail_records title desc h) ≡ once_if_kept h.extras.ui
 values_Ui title desc h =
     let seed = kept_none Ui Seed h.extras.seed refl in
     let auxinfo = kept_none Ui AuxInfo h.extras.auxinfo refl in
@@ -180,7 +180,7 @@ values_Ui title desc h =
     let states = states_none Ui desc h.moves refl in
     simp (values_of-append, seed, auxinfo, ui, time, states, append-nil)
 
-pub values_Time : {P : Type 0} (title desc : List ℕ) (h : History P) → values_of Time (tail_lines title desc h) ≡ once_if_kept h.extras.time
+pub values_Time : {P : Type 0} (title desc : List ℕ) (h : History P) → values_of Time (tail_records title desc h) ≡ once_if_kept h.extras.time
 values_Time title desc h =
     let seed = kept_none Time Seed h.extras.seed refl in
     let auxinfo = kept_none Time AuxInfo h.extras.auxinfo refl in
@@ -190,7 +190,7 @@ values_Time title desc h =
     simp (values_of-append, seed, auxinfo, ui, time, states, append-nil)
 
 -- the state records
-states_none_kept : (j : Key) (kept : Option (List ℕ)) → is_state j ≡ false → states_in (kept_line j kept) ≡ []
+states_none_kept : (j : Key) (kept : Option (List ℕ)) → is_state j ≡ false → states_in (kept_record j kept) ≡ []
 states_none_kept j None header = refl
 states_none_kept j (Some v) header = no_state j header
   where
@@ -220,7 +220,7 @@ states_map desc (m ∷ ms) =
     one true solve text ss = refl
     one false solve text ss = refl
 
-states_body : {P : Type 0} (desc : List ℕ) (h : History P) → states_in (body_lines desc h) ≡ []
+states_body : {P : Type 0} (desc : List ℕ) (h : History P) → states_in (body_records desc h) ≡ []
 states_body desc h =
     let seed = states_none_kept Seed h.extras.seed refl in
     let auxinfo = states_none_kept AuxInfo h.extras.auxinfo refl in
@@ -228,10 +228,10 @@ states_body desc h =
     let time = states_none_kept Time h.extras.time refl in
     simp (states_in-append, seed, auxinfo, ui, time)
 
-pub states_tail : {P : Type 0} (title desc : List ℕ) (h : History P) → states_in (tail_lines title desc h) ≡ map (state_value desc) h.moves
+pub states_tail : {P : Type 0} (title desc : List ℕ) (h : History P) → states_in (tail_records title desc h) ≡ map (state_value desc) h.moves
 states_tail title desc h =
     let body = states_body desc h in
-    states_in-append (body_lines desc h) (state_lines desc h) ∙ (ap (λ ss. ss ++ states_in (state_lines desc h)) body ∙ states_map desc h.moves)
+    states_in-append (body_records desc h) (state_records desc h) ∙ (ap (λ ss. ss ++ states_in (state_records desc h)) body ∙ states_map desc h.moves)
 
 -- the counts come before the states, and a state or a count is the last
 front_first : (xs ys : List KeyedRecord) → states_in xs ≡ [] → CountsStandFirst ys → CountsStandFirst (xs ++ ys)
@@ -264,11 +264,11 @@ states_first : (desc : List ℕ) (ms : List Move) → CountsStandFirst (states_o
 states_first desc [] = tt
 states_first desc (m ∷ ms) = ((λ state. (states_none StateCount desc ms refl, states_none Position desc ms refl)), states_first desc ms)
 
-pub counts_first_tail : {P : Type 0} (title desc : List ℕ) (h : History P) → CountsStandFirst (tail_lines title desc h)
+pub counts_first_tail : {P : Type 0} (title desc : List ℕ) (h : History P) → CountsStandFirst (tail_records title desc h)
 counts_first_tail title desc h =
-    let states : CountsStandFirst (state_lines desc h) = ((λ state. cc), ((λ state. cc), states_first desc h.moves)) in
-    front_first (four title h) (body_lines desc h ++ state_lines desc h) refl
-    (front_first (body_lines desc h) (state_lines desc h) (states_body desc h) states)
+    let states : CountsStandFirst (state_records desc h) = ((λ state. cc), ((λ state. cc), states_first desc h.moves)) in
+    front_first (four title h) (body_records desc h ++ state_records desc h) refl
+    (front_first (body_records desc h) (state_records desc h) (states_body desc h) states)
 
 ends_behind : (xs ys : List KeyedRecord) → EndsWithState ys → EndsWithState (xs ++ ys)
 ends_behind [] ys ends = ends
@@ -276,9 +276,9 @@ ends_behind (x ∷ []) [] ends = absurd ends
 ends_behind (x ∷ []) (y ∷ ys) ends = ends
 ends_behind (x ∷ z ∷ xs) ys ends = ends_behind (z ∷ xs) ys ends
 
-ends_states : (l : KeyedRecord) (desc : List ℕ) (ms : List Move) → may_be_last l.key ≡ true → EndsWithState (l ∷ states_of desc ms)
-ends_states l desc [] last = last
-ends_states l desc (m ∷ ms) last = ends_states (state_line desc m) desc ms (state_last (state_line desc m).key (state_is desc m))
+ends_states : (r : KeyedRecord) (desc : List ℕ) (ms : List Move) → may_be_last r.key ≡ true → EndsWithState (r ∷ states_of desc ms)
+ends_states r desc [] last = last
+ends_states r desc (m ∷ ms) last = ends_states (state_record desc m) desc ms (state_last (state_record desc m).key (state_is desc m))
   where
     state_last : (k : Key) → is_state k ≡ true → may_be_last k ≡ true
     state_last (State k) state = refl
@@ -297,23 +297,23 @@ ends_states l desc (m ∷ ms) last = ends_states (state_line desc m) desc ms (st
     state_last Position state = cc
     state_last Other state = cc
 
-pub ends_tail : {P : Type 0} (title desc : List ℕ) (h : History P) → EndsWithState (tail_lines title desc h)
+pub ends_tail : {P : Type 0} (title desc : List ℕ) (h : History P) → EndsWithState (tail_records title desc h)
 ends_tail title desc h =
-    ends_behind (four title h) (body_lines desc h ++ state_lines desc h)
-    (ends_behind (body_lines desc h) (state_lines desc h) (ends_states (with_value Position (decimal h.position)) desc h.moves refl))
+    ends_behind (four title h) (body_records desc h ++ state_records desc h)
+    (ends_behind (body_records desc h) (state_records desc h) (ends_states (with_value Position (decimal h.position)) desc h.moves refl))
 
 -- all keys have a name
 known_append : (xs ys : List KeyedRecord) → AreKnown xs → AreKnown ys → AreKnown (xs ++ ys)
 known_append [] ys known more = more
 known_append (x ∷ xs) ys known more = (known.0, known_append xs ys known.1 more)
 
-known_kept : (k : Key) (kept : Option (List ℕ)) → is_known k ≡ true → AreKnown (kept_line k kept)
+known_kept : (k : Key) (kept : Option (List ℕ)) → is_known k ≡ true → AreKnown (kept_record k kept)
 known_kept k None known = tt
 known_kept k (Some v) known = (known, tt)
 
 known_states : (desc : List ℕ) (ms : List Move) → AreKnown (states_of desc ms)
 known_states desc [] = tt
-known_states desc (m ∷ ms) = (state_known (state_line desc m).key (state_is desc m), known_states desc ms)
+known_states desc (m ∷ ms) = (state_known (state_record desc m).key (state_is desc m), known_states desc ms)
   where
     state_known : (k : Key) → is_state k ≡ true → is_known k ≡ true
     state_known (State k) state = refl
@@ -332,13 +332,13 @@ known_states desc (m ∷ ms) = (state_known (state_line desc m).key (state_is de
     state_known Position state = cc
     state_known Other state = cc
 
-pub known_tail : {P : Type 0} (title desc : List ℕ) (h : History P) → AreKnown (tail_lines title desc h)
+pub known_tail : {P : Type 0} (title desc : List ℕ) (h : History P) → AreKnown (tail_records title desc h)
 known_tail title desc h =
-    known_append (four title h) (body_lines desc h ++ state_lines desc h) (refl, (refl, (refl, (refl, tt))))
-    (known_append (body_lines desc h) (state_lines desc h)
-    (known_append (kept_line Seed h.extras.seed) _ (known_kept Seed h.extras.seed refl) (
+    known_append (four title h) (body_records desc h ++ state_records desc h) (refl, (refl, (refl, (refl, tt))))
+    (known_append (body_records desc h) (state_records desc h)
+    (known_append (kept_record Seed h.extras.seed) _ (known_kept Seed h.extras.seed refl) (
       refl,
-      known_append (kept_line AuxInfo h.extras.auxinfo) _ (known_kept AuxInfo h.extras.auxinfo refl)
-          (known_append (kept_line Ui h.extras.ui) _ (known_kept Ui h.extras.ui refl) (known_kept Time h.extras.time refl)),
+      known_append (kept_record AuxInfo h.extras.auxinfo) _ (known_kept AuxInfo h.extras.auxinfo refl)
+          (known_append (kept_record Ui h.extras.ui) _ (known_kept Ui h.extras.ui refl) (known_kept Time h.extras.time refl)),
     ))
     (refl, (refl, known_states desc h.moves)))
