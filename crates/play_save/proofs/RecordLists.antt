@@ -1,6 +1,6 @@
 -- Lists of records: the values of a key, and the state records, along a list that is put together.
 use Rattle.std.proofs.Common.{◌≡◌, ℕ, true, false, ◌==◌, List, [], ◌∷◌, ◌++◌, Option, Some, None, option_map, is_some, cond, refl, ap, ◌∙◌}
-use borrow.Author.Tests.{eqb-true}
+use borrow.Author.Tests.{eqb-true, eq-eqb}
 use Rattle.play_save.specs.declared.key.Key.{Key}
 use Rattle.play_save.specs.declared.key.Key.TheVariants.{SaveFile, FormatVersion, GameName, NextParams, CurrentParams, Seed, Desc, PrivateDesc, AuxInfo, Ui, Time, StateCount, Position, State, Other}
 use Rattle.play_save.specs.Keys.{rank}
@@ -19,20 +19,7 @@ by_rank n =
 by_own_rank : (k : Key) → by_rank (rank k) ≡ cond (is_state k) None (Some k)
 unfolding by_rank
 by_own_rank SaveFile = refl
-by_own_rank FormatVersion = refl
-by_own_rank GameName = refl
-by_own_rank NextParams = refl
-by_own_rank CurrentParams = refl
-by_own_rank Seed = refl
-by_own_rank Desc = refl
-by_own_rank AuxInfo = refl
-by_own_rank Ui = refl
-by_own_rank Time = refl
-by_own_rank StateCount = refl
-by_own_rank Position = refl
-by_own_rank (State k) = refl
-by_own_rank PrivateDesc = refl
-by_own_rank Other = refl
+by_own_rank k = refl
 
 pub same_key : (a k : Key) → is_state k ≡ false → (rank a == rank k) ≡ true → a ≡ k
 same_key a k other same =
@@ -44,21 +31,7 @@ same_key a k other same =
     ] refl
 
 pub own_rank : (k : Key) → (rank k == rank k) ≡ true
-own_rank SaveFile = refl
-own_rank FormatVersion = refl
-own_rank GameName = refl
-own_rank NextParams = refl
-own_rank CurrentParams = refl
-own_rank Seed = refl
-own_rank Desc = refl
-own_rank AuxInfo = refl
-own_rank Ui = refl
-own_rank Time = refl
-own_rank StateCount = refl
-own_rank Position = refl
-own_rank (State k) = refl
-own_rank PrivateDesc = refl
-own_rank Other = refl
+own_rank k = eq-eqb (rank k) (rank k) refl
 
 -- lists that are put together
 pub values_of-append : (k : Key) (xs ys : List KeyedRecord) → values_of k (xs ++ ys) ≡ values_of k xs ++ values_of k ys
@@ -71,20 +44,7 @@ values_of-append k (x ∷ xs) ys =
 
 onto_states-append : (k : Key) (value : List ℕ) (xs ys : List KeyedState) → onto_states k value (xs ++ ys) ≡ onto_states k value xs ++ ys
 onto_states-append (State k) value xs ys = refl
-onto_states-append SaveFile value xs ys = refl
-onto_states-append FormatVersion value xs ys = refl
-onto_states-append GameName value xs ys = refl
-onto_states-append NextParams value xs ys = refl
-onto_states-append CurrentParams value xs ys = refl
-onto_states-append Seed value xs ys = refl
-onto_states-append Desc value xs ys = refl
-onto_states-append AuxInfo value xs ys = refl
-onto_states-append Ui value xs ys = refl
-onto_states-append Time value xs ys = refl
-onto_states-append StateCount value xs ys = refl
-onto_states-append Position value xs ys = refl
-onto_states-append PrivateDesc value xs ys = refl
-onto_states-append Other value xs ys = refl
+onto_states-append k value xs ys = refl
 
 pub states_in-append : (xs ys : List KeyedRecord) → states_in (xs ++ ys) ≡ states_in xs ++ states_in ys
 states_in-append [] ys = refl

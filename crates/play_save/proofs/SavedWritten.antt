@@ -20,7 +20,7 @@ use Rattle.play_midend.specs.Histories.{History, IsValid, most_states, shown}
 use Rattle.play_save.specs.declared.fault.LoadFault.{LoadFault}
 use Rattle.play_save.specs.declared.fault.LoadFault.TheVariants.{OutOfMemory}
 use Rattle.play_save.specs.declared.key.Key.{Key}
-use Rattle.play_save.specs.declared.key.Key.TheVariants.{SaveFile, NextParams, CurrentParams, Desc, StateCount, Position}
+use Rattle.play_save.specs.declared.key.Key.TheVariants.{SaveFile, FormatVersion, GameName, NextParams, CurrentParams, Seed, Desc, PrivateDesc, AuxInfo, Ui, Time, StateCount, Position}
 use Rattle.play_save.specs.Records.{Entry, record_at}
 use Rattle.play_save.specs.KeyedRecords.{KeyedRecord, BeginsWithAll, values_of, states_in, once_if_kept, EndsWithState}
 use Rattle.play_save.specs.SaveTexts.{SavedGame, collection, longest_save, is_solve, IsStateOf, HaveStates, AreSaved, SaveText}
@@ -34,7 +34,7 @@ use Rattle.play_save.proofs.GameTexts.{IsGame}
 use Rattle.play_save.proofs.StatesPlayed.{text_again, have_length}
 use Rattle.play_save.proofs.SavedAgain.{has_state_or_count}
 use Rattle.play_save.proofs.WrittenRecords.{entry_written, written_begins, AreToTheEnd, all_written, begins_prefix, all_begin}
-use Rattle.play_save.proofs.SessionRecords.{tail_records, state_value, values_SaveFile, values_FormatVersion, values_GameName, values_NextParams, values_CurrentParams, values_Desc, values_PrivateDesc, values_StateCount, values_Position, values_Seed, values_AuxInfo, values_Ui, values_Time, states_tail, counts_first_tail, ends_tail, known_tail}
+use Rattle.play_save.proofs.SessionRecords.{tail_records, state_value, values_tail, states_tail, counts_first_tail, ends_tail, known_tail}
 use Rattle.play_save.proofs.LegalMoves.{FitsText, AllFit, all_fit}
 
 -- a state record that is written has its move
@@ -170,19 +170,19 @@ written_is_saved {P} game of_game owes canonical h storable grids small =
       records = rs;
       begins = all_begin rs (10 ∷ records_text rs) read.all;
       saved = record {
-        no_second_head = values_SaveFile title desc h;
-        version = values_FormatVersion title desc h;
-        name = values_GameName title desc h;
-        next_params = (params_text h.next_params, values_NextParams title desc h, record { params = storable.next_params_are; text_is = refl });
-        params = (params_text h.params, values_CurrentParams title desc h, record { params = storable.params_are; text_is = refl });
-        desc = (desc, values_Desc title desc h, subst (λ w. game.Describes w h.puzzle desc) (sym valid.size) described);
-        no_private_desc = values_PrivateDesc title desc h;
-        seed = values_Seed title desc h;
-        auxinfo = values_AuxInfo title desc h;
-        ui = values_Ui title desc h;
-        time = values_Time title desc h;
-        count = values_StateCount title desc h;
-        position = values_Position title desc h;
+        no_second_head = values_tail title desc h SaveFile refl;
+        version = values_tail title desc h FormatVersion refl;
+        name = values_tail title desc h GameName refl;
+        next_params = (params_text h.next_params, values_tail title desc h NextParams refl, record { params = storable.next_params_are; text_is = refl });
+        params = (params_text h.params, values_tail title desc h CurrentParams refl, record { params = storable.params_are; text_is = refl });
+        desc = (desc, values_tail title desc h Desc refl, subst (λ w. game.Describes w h.puzzle desc) (sym valid.size) described);
+        no_private_desc = values_tail title desc h PrivateDesc refl;
+        seed = values_tail title desc h Seed refl;
+        auxinfo = values_tail title desc h AuxInfo refl;
+        ui = values_tail title desc h Ui refl;
+        time = values_tail title desc h Time refl;
+        count = values_tail title desc h StateCount refl;
+        position = values_tail title desc h Position refl;
         states = rw (states_tail title desc h) (states_again game h.puzzle desc h.moves described fits (recursion_from_All HasGrid h.moves grids));
         counts_first = counts_first_tail title desc h;
         last = ends_tail title desc h;
@@ -218,8 +218,8 @@ same_save {P} game h other rs later valid split saved =
     let other_few = saved.valid.few in
     let other_first = saved.valid.first in
     let other_last = saved.valid.last in
-    let count = one_value StateCount (decimal (length h.moves + 1)) (decimal (length other.moves + 1)) rs later all split (values_StateCount title desc h) saved.count in
-    let place = one_value Position (decimal h.position) (decimal other.position) rs later all split (values_Position title desc h) saved.position in
+    let count = one_value StateCount (decimal (length h.moves + 1)) (decimal (length other.moves + 1)) rs later all split (values_tail title desc h StateCount refl) saved.count in
+    let place = one_value Position (decimal h.position) (decimal other.position) rs later all split (values_tail title desc h Position refl) saved.position in
     let counts : length h.moves + 1 ≡ length other.moves + 1 = same_count (length h.moves + 1) (length other.moves + 1) (omega arith) few (omega arith) other_few count.0 in
     let places : h.position ≡ other.position = same_count h.position other.position first (omega arith) other_first (omega arith) place.0 in
     let written = length-map h.moves (state_value desc) in
@@ -265,21 +265,21 @@ written_saves_no_other {P} game of_game owes canonical h other valid of t =
     let front = begins_prefix t.records all (10 ∷ records_text all) (subst (λ r. BeginsWithAll t.records r) rest t.begins) read.all in
     let same = same_save game h other t.records front.later valid front.split t.saved in
     let s = same.saved in
-    let next_text = one_of s.next_params.0 (params_text h.next_params) (values_of NextParams all) s.next_params.1 (values_NextParams title desc h) in
+    let next_text = one_of s.next_params.0 (params_text h.next_params) (values_of NextParams all) s.next_params.1 (values_tail title desc h NextParams refl) in
     let next = same_params other.next_params h.next_params (sym s.next_params.2.text_is ∙ next_text) in
-    let params_same = one_of s.params.0 (params_text h.params) (values_of CurrentParams all) s.params.1 (values_CurrentParams title desc h) in
+    let params_same = one_of s.params.0 (params_text h.params) (values_of CurrentParams all) s.params.1 (values_tail title desc h CurrentParams refl) in
     let params = same_params other.params h.params (sym s.params.2.text_is ∙ params_same) in
-    let desc_same = one_of s.desc.0 desc (values_of Desc all) s.desc.1 (values_Desc title desc h) in
+    let desc_same = one_of s.desc.0 desc (values_of Desc all) s.desc.1 (values_tail title desc h Desc refl) in
     let w = (game.puzzle h.puzzle).size in
     let own = canonical h.puzzle of in
     let width : other.params.size ≡ w = ap (λ (p : Params). p.size) params ∙ valid.size in
     let described : game.Describes w other.puzzle desc = subst (λ n. game.Describes n other.puzzle desc) width (subst (λ d. game.Describes other.params.size other.puzzle d) desc_same s.desc.2) in
     let puzzle = same_described w h.puzzle other.puzzle desc own described in
     let extras = same_extras other.extras h.extras
-    (same_kept other.extras.seed h.extras.seed (sym s.seed ∙ values_Seed title desc h))
-    (same_kept other.extras.auxinfo h.extras.auxinfo (sym s.auxinfo ∙ values_AuxInfo title desc h))
-    (same_kept other.extras.ui h.extras.ui (sym s.ui ∙ values_Ui title desc h))
-    (same_kept other.extras.time h.extras.time (sym s.time ∙ values_Time title desc h)) in
+    (same_kept other.extras.seed h.extras.seed (sym s.seed ∙ values_tail title desc h Seed refl))
+    (same_kept other.extras.auxinfo h.extras.auxinfo (sym s.auxinfo ∙ values_tail title desc h AuxInfo refl))
+    (same_kept other.extras.ui h.extras.ui (sym s.ui ∙ values_tail title desc h Ui refl))
+    (same_kept other.extras.time h.extras.time (sym s.time ∙ values_tail title desc h Time refl)) in
     let largest : w ≤ 9 = (let top = s.params.2.params.largest in omega (arith, width)) in
     let fits = all_fit (game.puzzle h.puzzle) (start_of (game.puzzle h.puzzle)) h.moves largest valid.legal.playable in
     let other_legal = subst (λ q. IsValid (game.puzzle q) other) puzzle s.valid in

@@ -1,6 +1,7 @@
 -- The records that are written for a session: which value stands with which key, and where.
 use Rattle.std.proofs.Common.{◌≡◌, ℕ, ◌+◌, Bool, true, false, ◌==◌, List, [], ◌∷◌, ◌++◌, length, map, codes, Option, Some, None, cond, refl, ap, ◌∙◌}
 use Rattle.std.specs.Fmt.{decimal}
+use Rattle.std.proofs.lemmas.Bool.{cond_both}
 use Rattle.std.proofs.lemmas.List.{append-nil}
 use Rattle.clue_rules.specs.Parameters.{params_text}
 use Rattle.play_midend.specs.declared.moves.Move.{Move}
@@ -43,150 +44,42 @@ state_rank desc m k header =
     elim (is_restart m) as (λ t. (rank (cond t (with_value (State RestartMove) desc) (with_value (State (cond (is_solve m) SolveMove AnyMove)) (move_text m))).key == rank k) ≡ false) [ true ↦ other k header | false ↦ other k header ]
   where
     other : (j : Key) → is_state j ≡ false → (12 == rank j) ≡ false
-    other SaveFile no_state = refl
-    other FormatVersion no_state = refl
-    other GameName no_state = refl
-    other NextParams no_state = refl
-    other CurrentParams no_state = refl
-    other Seed no_state = refl
-    other Desc no_state = refl
-    other PrivateDesc no_state = refl
-    other AuxInfo no_state = refl
-    other Ui no_state = refl
-    other Time no_state = refl
-    other StateCount no_state = refl
-    other Position no_state = refl
-    other Other no_state = refl
     other (State j) no_state = cc
+    other j no_state = refl
 
 states_none : (k : Key) (desc : List ℕ) (ms : List Move) → is_state k ≡ false → values_of k (states_of desc ms) ≡ []
 states_none k desc [] header = refl
 states_none k desc (m ∷ ms) header = rw (state_rank desc m k header) (states_none k desc ms header)
 
-kept_none : (k j : Key) (kept : Option (List ℕ)) → (rank j == rank k) ≡ false → values_of k (kept_record j kept) ≡ []
-kept_none k j None other = refl
-kept_none k j (Some v) other = rw other refl
+-- bytes that are kept stand with their own key
+kept_values : (k j : Key) (kept : Option (List ℕ)) → values_of k (kept_record j kept) ≡ cond (rank j == rank k) (once_if_kept kept) []
+kept_values k j None = cond_both (rank j == rank k) [] [] (λ (values : List (List ℕ)). [] ≡ values) (λ is. refl) (λ is. refl)
+kept_values k j (Some v) = refl
 
-kept_own : (k : Key) (kept : Option (List ℕ)) → values_of k (kept_record k kept) ≡ once_if_kept kept
-kept_own k None = refl
-kept_own k (Some v) = rw (own_rank k) refl
+-- the values that are written with a key, state records apart
+abbrev pub values_written : {P : Type 0} → List ℕ → List ℕ → History P → Key → List (List ℕ)
+values_written title desc h FormatVersion = codes "1" ∷ []
+values_written title desc h GameName = title ∷ []
+values_written title desc h NextParams = params_text h.next_params ∷ []
+values_written title desc h CurrentParams = params_text h.params ∷ []
+values_written title desc h Seed = once_if_kept h.extras.seed
+values_written title desc h Desc = desc ∷ []
+values_written title desc h AuxInfo = once_if_kept h.extras.auxinfo
+values_written title desc h Ui = once_if_kept h.extras.ui
+values_written title desc h Time = once_if_kept h.extras.time
+values_written title desc h StateCount = decimal (length h.moves + 1) ∷ []
+values_written title desc h Position = decimal h.position ∷ []
+values_written title desc h k = []
 
--- the values of each key
-pub values_SaveFile : {P : Type 0} (title desc : List ℕ) (h : History P) → values_of SaveFile (tail_records title desc h) ≡ []
-values_SaveFile title desc h =
-    let seed = kept_none SaveFile Seed h.extras.seed refl in
-    let auxinfo = kept_none SaveFile AuxInfo h.extras.auxinfo refl in
-    let ui = kept_none SaveFile Ui h.extras.ui refl in
-    let time = kept_none SaveFile Time h.extras.time refl in
-    let states = states_none SaveFile desc h.moves refl in
-    simp (values_of-append, seed, auxinfo, ui, time, states, append-nil)
-
-pub values_FormatVersion : {P : Type 0} (title desc : List ℕ) (h : History P) → values_of FormatVersion (tail_records title desc h) ≡ codes "1" ∷ []
-values_FormatVersion title desc h =
-    let seed = kept_none FormatVersion Seed h.extras.seed refl in
-    let auxinfo = kept_none FormatVersion AuxInfo h.extras.auxinfo refl in
-    let ui = kept_none FormatVersion Ui h.extras.ui refl in
-    let time = kept_none FormatVersion Time h.extras.time refl in
-    let states = states_none FormatVersion desc h.moves refl in
-    simp (values_of-append, seed, auxinfo, ui, time, states, append-nil)
-
-pub values_GameName : {P : Type 0} (title desc : List ℕ) (h : History P) → values_of GameName (tail_records title desc h) ≡ title ∷ []
-values_GameName title desc h =
-    let seed = kept_none GameName Seed h.extras.seed refl in
-    let auxinfo = kept_none GameName AuxInfo h.extras.auxinfo refl in
-    let ui = kept_none GameName Ui h.extras.ui refl in
-    let time = kept_none GameName Time h.extras.time refl in
-    let states = states_none GameName desc h.moves refl in
-    simp (values_of-append, seed, auxinfo, ui, time, states, append-nil)
-
-pub values_NextParams : {P : Type 0} (title desc : List ℕ) (h : History P) → values_of NextParams (tail_records title desc h) ≡ params_text h.next_params ∷ []
-values_NextParams title desc h =
-    let seed = kept_none NextParams Seed h.extras.seed refl in
-    let auxinfo = kept_none NextParams AuxInfo h.extras.auxinfo refl in
-    let ui = kept_none NextParams Ui h.extras.ui refl in
-    let time = kept_none NextParams Time h.extras.time refl in
-    let states = states_none NextParams desc h.moves refl in
-    simp (values_of-append, seed, auxinfo, ui, time, states, append-nil)
-
-pub values_CurrentParams : {P : Type 0} (title desc : List ℕ) (h : History P) → values_of CurrentParams (tail_records title desc h) ≡ params_text h.params ∷ []
-values_CurrentParams title desc h =
-    let seed = kept_none CurrentParams Seed h.extras.seed refl in
-    let auxinfo = kept_none CurrentParams AuxInfo h.extras.auxinfo refl in
-    let ui = kept_none CurrentParams Ui h.extras.ui refl in
-    let time = kept_none CurrentParams Time h.extras.time refl in
-    let states = states_none CurrentParams desc h.moves refl in
-    simp (values_of-append, seed, auxinfo, ui, time, states, append-nil)
-
-pub values_Desc : {P : Type 0} (title desc : List ℕ) (h : History P) → values_of Desc (tail_records title desc h) ≡ desc ∷ []
-values_Desc title desc h =
-    let seed = kept_none Desc Seed h.extras.seed refl in
-    let auxinfo = kept_none Desc AuxInfo h.extras.auxinfo refl in
-    let ui = kept_none Desc Ui h.extras.ui refl in
-    let time = kept_none Desc Time h.extras.time refl in
-    let states = states_none Desc desc h.moves refl in
-    simp (values_of-append, seed, auxinfo, ui, time, states, append-nil)
-
-pub values_PrivateDesc : {P : Type 0} (title desc : List ℕ) (h : History P) → values_of PrivateDesc (tail_records title desc h) ≡ []
-values_PrivateDesc title desc h =
-    let seed = kept_none PrivateDesc Seed h.extras.seed refl in
-    let auxinfo = kept_none PrivateDesc AuxInfo h.extras.auxinfo refl in
-    let ui = kept_none PrivateDesc Ui h.extras.ui refl in
-    let time = kept_none PrivateDesc Time h.extras.time refl in
-    let states = states_none PrivateDesc desc h.moves refl in
-    simp (values_of-append, seed, auxinfo, ui, time, states, append-nil)
-
-pub values_StateCount : {P : Type 0} (title desc : List ℕ) (h : History P) → values_of StateCount (tail_records title desc h) ≡ decimal (length h.moves + 1) ∷ []
-values_StateCount title desc h =
-    let seed = kept_none StateCount Seed h.extras.seed refl in
-    let auxinfo = kept_none StateCount AuxInfo h.extras.auxinfo refl in
-    let ui = kept_none StateCount Ui h.extras.ui refl in
-    let time = kept_none StateCount Time h.extras.time refl in
-    let states = states_none StateCount desc h.moves refl in
-    simp (values_of-append, seed, auxinfo, ui, time, states, append-nil)
-
-pub values_Position : {P : Type 0} (title desc : List ℕ) (h : History P) → values_of Position (tail_records title desc h) ≡ decimal h.position ∷ []
-values_Position title desc h =
-    let seed = kept_none Position Seed h.extras.seed refl in
-    let auxinfo = kept_none Position AuxInfo h.extras.auxinfo refl in
-    let ui = kept_none Position Ui h.extras.ui refl in
-    let time = kept_none Position Time h.extras.time refl in
-    let states = states_none Position desc h.moves refl in
-    simp (values_of-append, seed, auxinfo, ui, time, states, append-nil)
-
-pub values_Seed : {P : Type 0} (title desc : List ℕ) (h : History P) → values_of Seed (tail_records title desc h) ≡ once_if_kept h.extras.seed
-values_Seed title desc h =
-    let seed = kept_own Seed h.extras.seed in
-    let auxinfo = kept_none Seed AuxInfo h.extras.auxinfo refl in
-    let ui = kept_none Seed Ui h.extras.ui refl in
-    let time = kept_none Seed Time h.extras.time refl in
-    let states = states_none Seed desc h.moves refl in
-    simp (values_of-append, seed, auxinfo, ui, time, states, append-nil)
-
-pub values_AuxInfo : {P : Type 0} (title desc : List ℕ) (h : History P) → values_of AuxInfo (tail_records title desc h) ≡ once_if_kept h.extras.auxinfo
-values_AuxInfo title desc h =
-    let seed = kept_none AuxInfo Seed h.extras.seed refl in
-    let auxinfo = kept_own AuxInfo h.extras.auxinfo in
-    let ui = kept_none AuxInfo Ui h.extras.ui refl in
-    let time = kept_none AuxInfo Time h.extras.time refl in
-    let states = states_none AuxInfo desc h.moves refl in
-    simp (values_of-append, seed, auxinfo, ui, time, states, append-nil)
-
-pub values_Ui : {P : Type 0} (title desc : List ℕ) (h : History P) → values_of Ui (tail_records title desc h) ≡ once_if_kept h.extras.ui
-values_Ui title desc h =
-    let seed = kept_none Ui Seed h.extras.seed refl in
-    let auxinfo = kept_none Ui AuxInfo h.extras.auxinfo refl in
-    let ui = kept_own Ui h.extras.ui in
-    let time = kept_none Ui Time h.extras.time refl in
-    let states = states_none Ui desc h.moves refl in
-    simp (values_of-append, seed, auxinfo, ui, time, states, append-nil)
-
-pub values_Time : {P : Type 0} (title desc : List ℕ) (h : History P) → values_of Time (tail_records title desc h) ≡ once_if_kept h.extras.time
-values_Time title desc h =
-    let seed = kept_none Time Seed h.extras.seed refl in
-    let auxinfo = kept_none Time AuxInfo h.extras.auxinfo refl in
-    let ui = kept_none Time Ui h.extras.ui refl in
-    let time = kept_own Time h.extras.time in
-    let states = states_none Time desc h.moves refl in
+-- (the last clause is looked at for each key but those of states)
+pub values_tail : {P : Type 0} (title desc : List ℕ) (h : History P) (k : Key) → is_state k ≡ false → values_of k (tail_records title desc h) ≡ values_written title desc h k
+values_tail title desc h (State k) no_state = cc
+values_tail title desc h k no_state =
+    let seed = kept_values k Seed h.extras.seed in
+    let auxinfo = kept_values k AuxInfo h.extras.auxinfo in
+    let ui = kept_values k Ui h.extras.ui in
+    let time = kept_values k Time h.extras.time in
+    let states = states_none k desc h.moves no_state in
     simp (values_of-append, seed, auxinfo, ui, time, states, append-nil)
 
 -- the state records
@@ -195,21 +88,8 @@ states_none_kept j None header = refl
 states_none_kept j (Some v) header = no_state j header
   where
     no_state : (k : Key) → is_state k ≡ false → onto_states k v [] ≡ []
-    no_state SaveFile other = refl
-    no_state FormatVersion other = refl
-    no_state GameName other = refl
-    no_state NextParams other = refl
-    no_state CurrentParams other = refl
-    no_state Seed other = refl
-    no_state Desc other = refl
-    no_state PrivateDesc other = refl
-    no_state AuxInfo other = refl
-    no_state Ui other = refl
-    no_state Time other = refl
-    no_state StateCount other = refl
-    no_state Position other = refl
-    no_state Other other = refl
     no_state (State k) other = cc
+    no_state k other = refl
 
 states_map : (desc : List ℕ) (ms : List Move) → states_in (states_of desc ms) ≡ map (state_value desc) ms
 states_map desc [] = refl
@@ -244,21 +124,8 @@ front_first (x ∷ xs) ys none first =
     never k header state = cc
 
     none_first : (k : Key) (v : List ℕ) (ss : List KeyedState) → onto_states k v ss ≡ [] → (is_state k ≡ false) × (ss ≡ [])
-    none_first SaveFile v ss e = (refl, e)
-    none_first FormatVersion v ss e = (refl, e)
-    none_first GameName v ss e = (refl, e)
-    none_first NextParams v ss e = (refl, e)
-    none_first CurrentParams v ss e = (refl, e)
-    none_first Seed v ss e = (refl, e)
-    none_first Desc v ss e = (refl, e)
-    none_first PrivateDesc v ss e = (refl, e)
-    none_first AuxInfo v ss e = (refl, e)
-    none_first Ui v ss e = (refl, e)
-    none_first Time v ss e = (refl, e)
-    none_first StateCount v ss e = (refl, e)
-    none_first Position v ss e = (refl, e)
-    none_first Other v ss e = (refl, e)
     none_first (State k) v ss e = cc
+    none_first k v ss e = (refl, e)
 
 states_first : (desc : List ℕ) (ms : List Move) → CountsStandFirst (states_of desc ms)
 states_first desc [] = tt
@@ -282,20 +149,7 @@ ends_states r desc (m ∷ ms) last = ends_states (state_record desc m) desc ms (
   where
     state_last : (k : Key) → is_state k ≡ true → may_be_last k ≡ true
     state_last (State k) state = refl
-    state_last SaveFile state = cc
-    state_last FormatVersion state = cc
-    state_last GameName state = cc
-    state_last NextParams state = cc
-    state_last CurrentParams state = cc
-    state_last Seed state = cc
-    state_last Desc state = cc
-    state_last PrivateDesc state = cc
-    state_last AuxInfo state = cc
-    state_last Ui state = cc
-    state_last Time state = cc
-    state_last StateCount state = cc
-    state_last Position state = cc
-    state_last Other state = cc
+    state_last k state = cc
 
 pub ends_tail : {P : Type 0} (title desc : List ℕ) (h : History P) → EndsWithState (tail_records title desc h)
 ends_tail title desc h =
@@ -317,20 +171,7 @@ known_states desc (m ∷ ms) = (state_known (state_record desc m).key (state_is 
   where
     state_known : (k : Key) → is_state k ≡ true → is_known k ≡ true
     state_known (State k) state = refl
-    state_known SaveFile state = cc
-    state_known FormatVersion state = cc
-    state_known GameName state = cc
-    state_known NextParams state = cc
-    state_known CurrentParams state = cc
-    state_known Seed state = cc
-    state_known Desc state = cc
-    state_known PrivateDesc state = cc
-    state_known AuxInfo state = cc
-    state_known Ui state = cc
-    state_known Time state = cc
-    state_known StateCount state = cc
-    state_known Position state = cc
-    state_known Other state = cc
+    state_known k state = cc
 
 pub known_tail : {P : Type 0} (title desc : List ℕ) (h : History P) → AreKnown (tail_records title desc h)
 known_tail title desc h =

@@ -36,102 +36,20 @@ free_lacks (b ∷ bs) free =
       | false ↦ λ other both. (eqb-false b 58 other, free_lacks bs both)
     ] refl free
 
-eight : (k : Key) → is_known k ≡ true → length (padded (key_name k)) ≡ 8
-eight SaveFile known = refl
-eight FormatVersion known = refl
-eight GameName known = refl
-eight NextParams known = refl
-eight CurrentParams known = refl
-eight Seed known = refl
-eight Desc known = refl
-eight PrivateDesc known = refl
-eight AuxInfo known = refl
-eight Ui known = refl
-eight Time known = refl
-eight StateCount known = refl
-eight Position known = refl
-eight (State AnyMove) known = refl
-eight (State SolveMove) known = refl
-eight (State RestartMove) known = refl
-eight Other known = cc
+-- A key that is written has eight bytes, without a colon and a line break in front, and is read as itself.
+record IsKey (k : Key) : Type 0 where
+  eight : length (padded (key_name k)) ≡ 8
+  colon_free : free_of_colon (padded (key_name k)) ≡ true
+  no_break : begins_with_break (padded (key_name k)) ≡ false
+  name_again : key_name k ≡ unpadded (padded (key_name k))
+  key_again : key_of (key_name k) ≡ k
 
-colon_free : (k : Key) → is_known k ≡ true → free_of_colon (padded (key_name k)) ≡ true
-unfolding free_of_colon
-colon_free SaveFile known = refl
-colon_free FormatVersion known = refl
-colon_free GameName known = refl
-colon_free NextParams known = refl
-colon_free CurrentParams known = refl
-colon_free Seed known = refl
-colon_free Desc known = refl
-colon_free PrivateDesc known = refl
-colon_free AuxInfo known = refl
-colon_free Ui known = refl
-colon_free Time known = refl
-colon_free StateCount known = refl
-colon_free Position known = refl
-colon_free (State AnyMove) known = refl
-colon_free (State SolveMove) known = refl
-colon_free (State RestartMove) known = refl
-colon_free Other known = cc
-
-breaks_not : (k : Key) → is_known k ≡ true → begins_with_break (padded (key_name k)) ≡ false
-breaks_not SaveFile known = refl
-breaks_not FormatVersion known = refl
-breaks_not GameName known = refl
-breaks_not NextParams known = refl
-breaks_not CurrentParams known = refl
-breaks_not Seed known = refl
-breaks_not Desc known = refl
-breaks_not PrivateDesc known = refl
-breaks_not AuxInfo known = refl
-breaks_not Ui known = refl
-breaks_not Time known = refl
-breaks_not StateCount known = refl
-breaks_not Position known = refl
-breaks_not (State AnyMove) known = refl
-breaks_not (State SolveMove) known = refl
-breaks_not (State RestartMove) known = refl
-breaks_not Other known = cc
-
-name_again : (k : Key) → is_known k ≡ true → key_name k ≡ unpadded (padded (key_name k))
-name_again SaveFile known = refl
-name_again FormatVersion known = refl
-name_again GameName known = refl
-name_again NextParams known = refl
-name_again CurrentParams known = refl
-name_again Seed known = refl
-name_again Desc known = refl
-name_again PrivateDesc known = refl
-name_again AuxInfo known = refl
-name_again Ui known = refl
-name_again Time known = refl
-name_again StateCount known = refl
-name_again Position known = refl
-name_again (State AnyMove) known = refl
-name_again (State SolveMove) known = refl
-name_again (State RestartMove) known = refl
-name_again Other known = cc
-
-key_again : (k : Key) → is_known k ≡ true → key_of (key_name k) ≡ k
-unfolding key_of
-key_again SaveFile known = refl
-key_again FormatVersion known = refl
-key_again GameName known = refl
-key_again NextParams known = refl
-key_again CurrentParams known = refl
-key_again Seed known = refl
-key_again Desc known = refl
-key_again PrivateDesc known = refl
-key_again AuxInfo known = refl
-key_again Ui known = refl
-key_again Time known = refl
-key_again StateCount known = refl
-key_again Position known = refl
-key_again (State AnyMove) known = refl
-key_again (State SolveMove) known = refl
-key_again (State RestartMove) known = refl
-key_again Other known = cc
+-- (the last clause is looked at for each of the other keys, and each time all is computed)
+is_key : (k : Key) → is_known k ≡ true → IsKey k
+unfolding free_of_colon key_of
+is_key Other known = cc
+is_key (State AnyMove) known = record { eight = refl; colon_free = refl; no_break = refl; name_again = refl; key_again = refl }
+is_key k known = record { eight = refl; colon_free = refl; no_break = refl; name_again = refl; key_again = refl }
 
 -- the length of a value is read
 from_at : (bs : List ℕ) (n : ℕ) → decimal_value 99999999 bs ≡ Some n → number_from 99999999 0 bs ≡ Some n
@@ -161,6 +79,7 @@ entry_written r = record { key = key_name r.key; value = r.value }
 pub written_begins : (r : KeyedRecord) (breaks more : List ℕ) → AreBreaks breaks → is_known r.key ≡ true → length r.value ≤ 99999999 → BeginsWith (entry_written r) (10 ∷ more) (breaks ++ (record_text r ++ more))
 unfolding record_text
 written_begins r breaks more are known few =
+    let own = is_key r.key known in
     let key = padded (key_name r.key) in
     let size = decimal (length r.value) in
     let e1 : (key ++ (58 ∷ (size ++ (58 ∷ (r.value ++ (10 ∷ [])))))) ++ more ≡ key ++ ((58 ∷ (size ++ (58 ∷ (r.value ++ (10 ∷ []))))) ++ more) = append_assoc key (58 ∷ (size ++ (58 ∷ (r.value ++ (10 ∷ []))))) more in
@@ -172,10 +91,10 @@ written_begins r breaks more are known few =
       digits = size;
       spelled = ap (λ t. breaks ++ t) (e1 ∙ ap (λ t. key ++ (58 ∷ t)) (e2 ∙ ap (λ t. size ++ (58 ∷ t)) e3));
       are_breaks = are;
-      eight = eight r.key known;
-      no_colon = free_lacks key (colon_free r.key known);
-      no_break = breaks_not r.key known;
-      name_is = name_again r.key known;
+      eight = own.eight;
+      no_colon = free_lacks key own.colon_free;
+      no_break = own.no_break;
+      name_is = own.name_again;
       length_is = length_written (length r.value) few;
     }
 
@@ -197,7 +116,7 @@ value_within r =
     omega (arith, length-append key (58 ∷ (size ++ (58 ∷ (r.value ++ (10 ∷ []))))), length-append size (58 ∷ (r.value ++ (10 ∷ []))), length-append r.value (10 ∷ []))
 
 own_record : (r : KeyedRecord) → is_known r.key ≡ true → keyed (entry_written r) ≡ r
-own_record r known = same_record (keyed (entry_written r)) r.key r.value (key_again r.key known) refl
+own_record r known = same_record (keyed (entry_written r)) r.key r.value (is_key r.key known).key_again refl
 
 pub all_written : (rs : List KeyedRecord) (breaks : List ℕ) → AreBreaks breaks → AreKnown rs → length (records_text rs) ≤ longest_save → AreToTheEnd rs (breaks ++ records_text rs)
 all_written [] breaks are known small = subst (λ t. AreBreaks t) (sym (append_nil breaks)) are
