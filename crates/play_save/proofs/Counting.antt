@@ -11,10 +11,10 @@ use Rattle.play_save.specs.declared.fault.LoadFault.{LoadFault}
 use Rattle.play_save.specs.declared.fault.LoadFault.TheVariants.{BadCount, EarlyState}
 use Rattle.play_save.specs.declared.key.StateKey.{StateKey}
 use Rattle.play_save.specs.declared.key.Key.{Key}
-use Rattle.play_save.specs.declared.key.Key.TheVariants.{SaveFile, FormatVersion, GameName, NextParams, CurrentParams, Seed, Desc, PrivateDesc, AuxInfo, Ui, Time, StateCount, Position, State, Other}
+use Rattle.play_save.specs.declared.key.Key.TheVariants.{StateCount, Position, State}
 use Rattle.play_save.specs.KeyedRecords.{KeyedRecord}
 use Rattle.play_save.specs.SaveTexts.{SavedGame}
-use Rattle.play_save.specs.FirstFaults.{Met, met, positive, count_at, fault_unless, count_fault, position_fault, behind_counts, state_fault, fault_by, has_all, is_complete, Listing, needed, met_in}
+use Rattle.play_save.specs.FirstFaults.{Met, met, positive, count_at, fault_unless, count_fault, behind_counts, state_fault, fault_by, has_all, is_complete, Listing, needed, met_in}
 use Rattle.play_save.specs.Taking.{IsPlayable, added}
 use Rattle.play_save.proofs.OptionSteps.{and_then_taken}
 use Rattle.play_save.proofs.Meeting.{once_taken, met_added}
@@ -44,21 +44,14 @@ fault_unless_taken true fault none = refl
 fault_unless_taken false fault none = cc
 
 -- what has no fault
-count_faultless : (read : Option ℕ) (position : Option (Option ℕ)) → count_fault read position ≡ None → (n : ℕ) × (read ≡ Some n) × ((p : ℕ) → position ≡ Some (Some p) → p ≤ n)
-count_faultless None position none = cc
-count_faultless (Some n) None none = (n, refl, λ p is. cc)
-count_faultless (Some n) (Some None) none = (n, refl, λ p is. cc)
-count_faultless (Some n) (Some (Some q)) none =
-    let within = leb-true q n (fault_unless_taken (nat_le q n) BadCount none) in
-    (n, refl, λ p is. let same : q ≡ p = cc in omega arith)
-
-position_faultless : (read : Option ℕ) (count : Option (Option ℕ)) → position_fault read count ≡ None → (p : ℕ) × (read ≡ Some p) × ((n : ℕ) → count ≡ Some (Some n) → p ≤ n)
-position_faultless None count none = cc
-position_faultless (Some p) None none = (p, refl, λ n is. cc)
-position_faultless (Some p) (Some None) none = (p, refl, λ n is. cc)
-position_faultless (Some p) (Some (Some m)) none =
-    let within = leb-true p m (fault_unless_taken (nat_le p m) BadCount none) in
-    (p, refl, λ n is. let same : m ≡ n = cc in omega arith)
+count_faultless : (goes : ℕ → ℕ → Bool) (read : Option ℕ) (other : Option (Option ℕ))
+    → count_fault goes read other ≡ None
+    → (n : ℕ) × (read ≡ Some n) × ((m : ℕ) → other ≡ Some (Some m) → goes n m ≡ true)
+count_faultless goes None other none = cc
+count_faultless goes (Some n) (Some (Some k)) none =
+    let together = fault_unless_taken (goes n k) BadCount none in
+    (n, refl, λ m is. let same : k ≡ m = cc in ap (goes n) (sym same) ∙ together)
+count_faultless goes (Some n) other none = (n, refl, λ m is. cc)
 
 -- both counts were met, well read, before each state
 pub record Sound (count position : Option (Option ℕ)) (states : ℕ) : Type 0 where
@@ -74,8 +67,8 @@ IsSound m = Sound m.count m.position (length m.states)
 
 sound_count : {P : Type 0} (game : SavedGame P) (m : Met) (value : List ℕ) → IsSound m → fault_by game m StateCount value ≡ None → IsSound (added game m StateCount value)
 sound_count game m value s none =
-    let fresh = once_taken (is_some m.count) (count_fault (count_at value) m.position) none in
-    let good = count_faultless (count_at value) m.position fresh.1 in
+    let fresh = once_taken (is_some m.count) _ none in
+    let good = count_faultless (λ n p. nat_le p n) (count_at value) m.position fresh.1 in
     let range = count_taken value good.0 good.1 in
     let empty = s.early (absent m.count fresh.0) in
     record {
@@ -84,7 +77,7 @@ sound_count game m value s none =
       early = λ is. cc;
       few = λ n is. let read = good.1 in let same : good.0 ≡ n = cc in (omega (arith, same, empty, range.1), omega (arith, same, range.2));
       first = s.first;
-      inside = λ n p is at. let read = good.1 in let same : good.0 ≡ n = cc in let within = good.2 p at in omega (arith, same, within);
+      inside = λ n p is at. let read = good.1 in let same : good.0 ≡ n = cc in let within = leb-true p good.0 (good.2 p at) in omega (arith, same, within);
     }
   where
     absent : (o : Option (Option ℕ)) → is_some o ≡ false → o ≡ None
@@ -93,8 +86,8 @@ sound_count game m value s none =
 
 sound_position : {P : Type 0} (game : SavedGame P) (m : Met) (value : List ℕ) → IsSound m → fault_by game m Position value ≡ None → IsSound (added game m Position value)
 sound_position game m value s none =
-    let fresh = once_taken (is_some m.position) (position_fault (count_at value) m.count) none in
-    let good = position_faultless (count_at value) m.count fresh.1 in
+    let fresh = once_taken (is_some m.position) _ none in
+    let good = count_faultless nat_le (count_at value) m.count fresh.1 in
     let range = count_taken value good.0 good.1 in
     record {
       count_read = s.count_read;
@@ -102,7 +95,7 @@ sound_position game m value s none =
       early = s.early;
       few = s.few;
       first = λ p is. let read = good.1 in let same : good.0 ≡ p = cc in omega (arith, same, range.1);
-      inside = λ n p is at. let read = good.1 in let same : good.0 ≡ p = cc in let within = good.2 n is in omega (arith, same, within);
+      inside = λ n p is at. let read = good.1 in let same : good.0 ≡ p = cc in let within = leb-true good.0 n (good.2 n is) in omega (arith, same, within);
     }
 
 -- both counts were met before a state without a fault
@@ -132,21 +125,10 @@ sound_state game m k value s undone none =
         let above = leb-false n (length m.states + 1) test in omega arith
 
 pub sound_added : {P : Type 0} (game : SavedGame P) (m : Met) (k : Key) (value : List ℕ) → IsSound m → is_complete m ≡ false → fault_by game m k value ≡ None → IsSound (added game m k value)
-sound_added game m SaveFile value s undone none = s
-sound_added game m FormatVersion value s undone none = s
-sound_added game m GameName value s undone none = s
-sound_added game m NextParams value s undone none = s
-sound_added game m CurrentParams value s undone none = s
-sound_added game m Seed value s undone none = s
-sound_added game m Desc value s undone none = s
-sound_added game m PrivateDesc value s undone none = s
-sound_added game m AuxInfo value s undone none = s
-sound_added game m Ui value s undone none = s
-sound_added game m Time value s undone none = s
 sound_added game m StateCount value s undone none = sound_count game m value s none
 sound_added game m Position value s undone none = sound_position game m value s none
 sound_added game m (State k) value s undone none = sound_state game m k value s undone none
-sound_added game m Other value s undone none = s
+sound_added game m k value s undone none = s
 
 -- along records that are right
 pub record IsWhole (m : Met) : Type 0 where

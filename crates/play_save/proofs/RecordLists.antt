@@ -1,5 +1,5 @@
 -- Lists of records: the values of a key, and the state records, along a list that is put together.
-use Rattle.std.proofs.Common.{◌≡◌, ℕ, true, false, ◌==◌, List, [], ◌∷◌, ◌++◌, Option, Some, None, option_map, is_some, cond, refl, ap, ◌∙◌}
+use Rattle.std.proofs.Common.{◌≡◌, ℕ, ◌<◌, true, false, ◌==◌, List, [], ◌∷◌, ◌++◌, length, Option, Some, None, option_map, is_some, cond, refl, ap, ◌∙◌, arith, length-append}
 use borrow.Author.Tests.{eqb-true, eq-eqb}
 use Rattle.play_save.specs.declared.key.Key.{Key}
 use Rattle.play_save.specs.declared.key.Key.TheVariants.{SaveFile, FormatVersion, GameName, NextParams, CurrentParams, Seed, Desc, PrivateDesc, AuxInfo, Ui, Time, StateCount, Position, State, Other}
@@ -51,28 +51,27 @@ states_in-append [] ys = refl
 states_in-append (x ∷ xs) ys =
     ap (onto_states x.key x.value) (states_in-append xs ys) ∙ onto_states-append x.key x.value (states_in xs) (states_in ys)
 
--- the first of some values
-pub first_none : {A : Type 0} (xs : List A) → first_of xs ≡ None → xs ≡ []
-first_none [] none = refl
-first_none (x ∷ xs) none = cc
+pub append_none : {A : Type 0} (xs ys : List A) → xs ++ ys ≡ [] → (xs ≡ []) × (ys ≡ [])
+append_none [] ys none = (refl, none)
+append_none (x ∷ xs) ys none = cc
 
+-- a key that stands still does with one more record behind
+pub stands_on : (k : Key) (rs : List KeyedRecord) (r : KeyedRecord)
+    → 0 < length (values_of k rs) → 0 < length (values_of k (rs ++ r ∷ []))
+stands_on k rs r some =
+    omega (arith, ap length (values_of-append k rs (r ∷ [])), length-append (values_of k rs) (values_of k (r ∷ [])))
+
+-- a record of no state adds none
+pub adds_no_state : (k : Key) (value : List ℕ) (states : List KeyedState)
+    → is_state k ≡ false → onto_states k value states ≡ states
+adds_no_state (State k) value states other = cc
+adds_no_state k value states other = refl
+
+-- the first of some values
 pub first_some : {A : Type 0} (xs : List A) (x : A) → first_of xs ≡ Some x → (more : List A) × (xs ≡ x ∷ more)
 first_some [] x some = cc
 first_some (y ∷ ys) x some = (ys, cc)
 
-pub not_some : {A : Type 0} (o : Option A) → is_some o ≡ false → o ≡ None
-not_some None none = refl
-not_some (Some a) none = cc
-
 pub is_some_taken : {A : Type 0} (o : Option A) → is_some o ≡ true → (a : A) × (o ≡ Some a)
 is_some_taken None some = cc
 is_some_taken (Some a) some = (a, refl)
-
-pub map_none : {A B : Type 0} (f : A → B) (o : Option A) → option_map f o ≡ None → o ≡ None
-map_none f None none = refl
-map_none f (Some a) none = cc
-
--- a key that stands before still does with more behind
-pub first_before : {A : Type 0} (xs ys : List A) (x : A) → first_of xs ≡ Some x → first_of (xs ++ ys) ≡ Some x
-first_before [] ys x some = cc
-first_before (y ∷ xs) ys x some = some

@@ -1,5 +1,5 @@
 -- Lists of records without a fault: they are what is read up to the last record that is needed.
-use Rattle.std.proofs.Common.{◌≡◌, ℕ, zero, suc, ◌<◌, ◌≤◌, Bool, true, false, ◌==◌, List, [], ◌∷◌, ◌++◌, length, Option, Some, None, Result, Ok, Err, cond, refl, sym, ap, ◌∙◌, subst, arith}
+use Rattle.std.proofs.Common.{◌≡◌, ℕ, zero, suc, ◌<◌, ◌≤◌, Bool, true, false, ◌==◌, List, [], ◌∷◌, ◌++◌, length, Option, Some, None, Result, Ok, Err, cond, refl, sym, ap, ◌∙◌, subst, arith, length-append}
 use Rattle.std.proofs.lemmas.List.{append-nil, append_assoc}
 use Rattle.play_save.specs.declared.fault.LoadFault.{LoadFault}
 use Rattle.play_save.specs.declared.fault.LoadFault.TheVariants.{Malformed, Missing}
@@ -10,7 +10,7 @@ use Rattle.play_save.specs.KeyedRecords.{KeyedRecord, BeginsWithAll, values_of, 
 use Rattle.play_save.specs.SaveTexts.{SavedGame}
 use Rattle.play_save.specs.FirstFaults.{met, fault_by, is_complete, Listing, nothing, broken, first, listed, listing_within, records_of, unless, needed}
 use Rattle.play_save.proofs.RecordLaws.{record_taken, record_again, record_shorter}
-use Rattle.play_save.proofs.RecordLists.{same_key, values_of-append}
+use Rattle.play_save.proofs.RecordLists.{same_key, values_of-append, stands_on}
 use Rattle.play_save.proofs.Meeting.{is_once, one, stands_alone}
 
 -- behind what stands before, no record has a fault, and the last is the first that completes them
@@ -110,9 +110,6 @@ unfolding records_of
 records_again rs text begins = follows_again (length text) rs text (omega arith) begins
 
 -- a key that may stand once, once it was met, doesn't stand again
-values-cons : (k : Key) (r : KeyedRecord) (rs : List KeyedRecord) → (rank r.key == rank k) ≡ false → values_of k (r ∷ rs) ≡ values_of k rs
-values-cons k r rs other = rw other refl
-
 pub none_again : {P : Type 0} (game : SavedGame P) (before rs : List KeyedRecord) (k : Key) → is_once k ≡ true → is_state k ≡ false → 0 < length (values_of k before) → AreRight game before rs → values_of k rs ≡ []
 none_again game before [] k single header some right = refl
 none_again game before (r ∷ rs) k single header some right =
@@ -122,13 +119,8 @@ none_again game before (r ∷ rs) k single header some right =
           let none : fault_by game (met game before) k r.value ≡ None = subst (λ (x : Key). fault_by game (met game before) x r.value ≡ None) key right.1 in
           absurd (omega (arith, ap length (stands_alone game before k r.value single none)))
       | false ↦ λ other.
-          let longer : 0 < length (values_of k (before ++ r ∷ [])) = rw (values_of-append k before (r ∷ [])) (longer_with (values_of k before) (values_of k (r ∷ [])) some) in
-          none_again game (before ++ r ∷ []) rs k single header longer right.2
+          none_again game (before ++ r ∷ []) rs k single header (stands_on k before r some) right.2
     ] refl
-  where
-    longer_with : (xs ys : List (List ℕ)) → 0 < length xs → 0 < length (xs ++ ys)
-    longer_with [] ys more = absurd (omega arith)
-    longer_with (x ∷ xs) ys more = omega arith
 
 pub same_record : (r : KeyedRecord) (k : Key) (value : List ℕ) → r.key ≡ k → r.value ≡ value → r ≡ record { key = k; value = value }
 same_record r k value key same_value =
@@ -152,7 +144,9 @@ stands_at game before (r ∷ rs) k value more single header right is =
           let key = same_key r.key k header same in
           let same_value : r.value ≡ value = cc in
           let here = same_record r k value key same_value in
-          let some : 0 < length (values_of k (before ++ r ∷ [])) = rw (values_of-append k before (r ∷ [])) (rw same (longer_behind (values_of k before) r.value)) in
+          let own : values_of k (r ∷ []) ≡ r.value ∷ [] = rw same refl in
+          let some : 0 < length (values_of k (before ++ r ∷ [])) =
+          rw (values_of-append k before (r ∷ []), own) (omega (arith, length-append (values_of k before) (r.value ∷ []))) in
           let none = none_again game (before ++ r ∷ []) rs k single header some right.2 in
           record {
             alone = rw (same, none) (ap (λ v. v ∷ []) same_value);
@@ -174,7 +168,3 @@ stands_at game before (r ∷ rs) k value more single header right is =
             undone = subst (λ (b : List KeyedRecord). is_complete (met game b) ≡ false) seam rest.undone;
           }
     ] refl is
-  where
-    longer_behind : (xs : List (List ℕ)) (v : List ℕ) → 0 < length (xs ++ v ∷ [])
-    longer_behind [] v = omega arith
-    longer_behind (x ∷ xs) v = omega arith

@@ -17,7 +17,7 @@ use Rattle.play_midend.proofs.MoveListLaws.{accepted_list_legal}
 use Rattle.play_save.specs.declared.fault.LoadFault.{LoadFault}
 use Rattle.play_save.specs.declared.fault.LoadFault.TheVariants.{NotASave, Version, WrongGame, Repeated, Unsupported, BadDesc, Missing, TooLarge}
 use Rattle.play_save.specs.declared.key.Key.{Key}
-use Rattle.play_save.specs.declared.key.Key.TheVariants.{SaveFile, FormatVersion, GameName, NextParams, CurrentParams, Seed, Desc, PrivateDesc, AuxInfo, Ui, Time, StateCount, Position, State, Other}
+use Rattle.play_save.specs.declared.key.Key.TheVariants.{SaveFile, FormatVersion, GameName, NextParams, CurrentParams, Seed, Desc, PrivateDesc, AuxInfo, Ui, Time, StateCount, Position, State}
 use Rattle.play_save.specs.Records.{Entry, BeginsWith, record_at}
 use Rattle.play_save.specs.KeyedRecords.{KeyedRecord, values_of, states_in, StandsOnce, once_if_kept, is_state, CountsStandFirst, may_be_last, EndsWithState}
 use Rattle.play_save.specs.SaveTexts.{SavedGame, collection, longest_save, AreSaved, SaveText}
@@ -25,7 +25,7 @@ use Rattle.play_save.specs.FirstFaults.{Met, saved_params_at, count_at, first_of
 use Rattle.play_save.specs.Taking.{added}
 use Rattle.play_save.proofs.OptionSteps.{map_taken, ok_or_taken}
 use Rattle.play_save.proofs.RecordLaws.{record_taken}
-use Rattle.play_save.proofs.RecordLists.{values_of-append, first_some, is_some_taken}
+use Rattle.play_save.proofs.RecordLists.{stands_on, first_some, is_some_taken}
 use Rattle.play_save.proofs.Meeting.{is_once, once_taken, met_added}
 use Rattle.play_save.proofs.RightLists.{AreRight, needed_taken, records_taken, none_again, StandsAlone, stands_at}
 use Rattle.play_save.proofs.Counting.{count_taken, fault_unless_taken, counts_met, counted, right_whole, sound_start}
@@ -106,56 +106,25 @@ state_behind_counts game before (State k) value state none =
     let m = met game before in
     let both = counts_met m.count m.position m (state_fault k value) refl refl none in
     (some_values count_at (values_of StateCount before) both.0 both.2, some_values count_at (values_of Position before) both.1 both.3)
-state_behind_counts game before SaveFile value state none = cc
-state_behind_counts game before FormatVersion value state none = cc
-state_behind_counts game before GameName value state none = cc
-state_behind_counts game before NextParams value state none = cc
-state_behind_counts game before CurrentParams value state none = cc
-state_behind_counts game before Seed value state none = cc
-state_behind_counts game before Desc value state none = cc
-state_behind_counts game before PrivateDesc value state none = cc
-state_behind_counts game before AuxInfo value state none = cc
-state_behind_counts game before Ui value state none = cc
-state_behind_counts game before Time value state none = cc
-state_behind_counts game before StateCount value state none = cc
-state_behind_counts game before Position value state none = cc
-state_behind_counts game before Other value state none = cc
-
-longer_values : (k : Key) (before : List KeyedRecord) (r : KeyedRecord) → 0 < length (values_of k before) → 0 < length (values_of k (before ++ r ∷ []))
-longer_values k before r some = rw (values_of-append k before (r ∷ [])) (longer (values_of k before) (values_of k (r ∷ [])) some)
-  where
-    longer : (xs ys : List (List ℕ)) → 0 < length xs → 0 < length (xs ++ ys)
-    longer [] ys more = absurd (omega arith)
-    longer (x ∷ xs) ys more = omega arith
+state_behind_counts game before k value state none = cc
 
 right_counts_first : {P : Type 0} (game : SavedGame P) (before rs : List KeyedRecord) → AreRight game before rs → CountsStandFirst rs
 right_counts_first game before [] right = tt
 right_counts_first game before (r ∷ rs) right = (
   λ state.
       let both = state_behind_counts game before r.key r.value state right.1 in (
-        none_again game (before ++ r ∷ []) rs StateCount refl refl (longer_values StateCount before r both.0) right.2,
-        none_again game (before ++ r ∷ []) rs Position refl refl (longer_values Position before r both.1) right.2,
+        none_again game (before ++ r ∷ []) rs StateCount refl refl (stands_on StateCount before r both.0) right.2,
+        none_again game (before ++ r ∷ []) rs Position refl refl (stands_on Position before r both.1) right.2,
       ),
   right_counts_first game (before ++ r ∷ []) rs right.2,
 )
 
 -- the last record is one that completes
 completes : {P : Type 0} (game : SavedGame P) (m : Met) (k : Key) (value : List ℕ) → is_complete m ≡ false → is_complete (added game m k value) ≡ true → may_be_last k ≡ true
-completes game m SaveFile value undone done = cc
-completes game m FormatVersion value undone done = cc
-completes game m GameName value undone done = cc
-completes game m NextParams value undone done = cc
-completes game m CurrentParams value undone done = cc
-completes game m Seed value undone done = cc
-completes game m Desc value undone done = cc
-completes game m PrivateDesc value undone done = cc
-completes game m AuxInfo value undone done = cc
-completes game m Ui value undone done = cc
-completes game m Time value undone done = cc
 completes game m StateCount value undone done = refl
 completes game m Position value undone done = refl
 completes game m (State k) value undone done = refl
-completes game m Other value undone done = cc
+completes game m k value undone done = cc
 
 right_ends : {P : Type 0} (game : SavedGame P) (before : List KeyedRecord) (r : KeyedRecord) (rs : List KeyedRecord) → AreRight game before (r ∷ rs) → EndsWithState (r ∷ rs)
 right_ends game before r [] right =

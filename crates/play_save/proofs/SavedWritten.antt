@@ -148,9 +148,6 @@ read_written {P} game h small =
     } in
     subst (λ t. Read game h t) (sym text) made
 
-abbrev size_of : {P : Type 0} → SavedGame P → History P → ℕ
-size_of game h = (game.puzzle h.puzzle).size
-
 -- what is written is a save
 pub written_is_saved : {P : Type 0} (game : SavedGame P) (of_game : P → Type 0) → IsGame game → ((p : P) → of_game p → game.Describes (game.puzzle p).size p (game.desc_of p)) → WrittenIsSaved game of_game
 written_is_saved {P} game of_game owes canonical h storable grids small =

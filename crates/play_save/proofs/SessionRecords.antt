@@ -10,12 +10,12 @@ use Rattle.play_midend.specs.Steps.{is_restart}
 use Rattle.play_midend.specs.Histories.{History}
 use Rattle.play_save.specs.declared.key.StateKey.TheVariants.{AnyMove, SolveMove, RestartMove}
 use Rattle.play_save.specs.declared.key.Key.{Key}
-use Rattle.play_save.specs.declared.key.Key.TheVariants.{SaveFile, FormatVersion, GameName, NextParams, CurrentParams, Seed, Desc, PrivateDesc, AuxInfo, Ui, Time, StateCount, Position, State, Other}
+use Rattle.play_save.specs.declared.key.Key.TheVariants.{FormatVersion, GameName, NextParams, CurrentParams, Seed, Desc, AuxInfo, Ui, Time, StateCount, Position, State}
 use Rattle.play_save.specs.Keys.{rank}
 use Rattle.play_save.specs.KeyedRecords.{KeyedRecord, KeyedState, values_of, onto_states, states_in, once_if_kept, is_state, CountsStandFirst, may_be_last, EndsWithState}
 use Rattle.play_save.specs.SaveTexts.{is_solve}
 use Rattle.play_save.specs.Written.{with_value, kept_record, state_record, body_records, state_records}
-use Rattle.play_save.proofs.RecordLists.{values_of-append, states_in-append, own_rank}
+use Rattle.play_save.proofs.RecordLists.{values_of-append, states_in-append, adds_no_state}
 use Rattle.play_save.proofs.WrittenRecords.{is_known, AreKnown}
 
 -- the records behind the first
@@ -85,11 +85,7 @@ values_tail title desc h k no_state =
 -- the state records
 states_none_kept : (j : Key) (kept : Option (List ℕ)) → is_state j ≡ false → states_in (kept_record j kept) ≡ []
 states_none_kept j None header = refl
-states_none_kept j (Some v) header = no_state j header
-  where
-    no_state : (k : Key) → is_state k ≡ false → onto_states k v [] ≡ []
-    no_state (State k) other = cc
-    no_state k other = refl
+states_none_kept j (Some v) header = adds_no_state j v [] header
 
 states_map : (desc : List ℕ) (ms : List Move) → states_in (states_of desc ms) ≡ map (state_value desc) ms
 states_map desc [] = refl

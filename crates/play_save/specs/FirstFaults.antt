@@ -83,16 +83,11 @@ abbrev pub params_fault : Result Params IdFault → Option LoadFault
 params_fault (Ok p) = None
 params_fault (Err fault) = Some BadParams
 
--- the number of states, with the position where that was met; and the other way round
-abbrev pub count_fault : Option ℕ → Option (Option ℕ) → Option LoadFault
-count_fault None position = Some BadCount
-count_fault (Some n) (Some (Some position)) = fault_unless (nat_le position n) BadCount
-count_fault (Some n) _ = None
-
-abbrev pub position_fault : Option ℕ → Option (Option ℕ) → Option LoadFault
-position_fault None count = Some BadCount
-position_fault (Some position) (Some (Some n)) = fault_unless (nat_le position n) BadCount
-position_fault (Some position) _ = None
+-- a count that is none, or that doesn't go together with the other one, where that was met
+abbrev pub count_fault : (ℕ → ℕ → Bool) → Option ℕ → Option (Option ℕ) → Option LoadFault
+count_fault goes None other = Some BadCount
+count_fault goes (Some n) (Some (Some other)) = fault_unless (goes n other) BadCount
+count_fault goes (Some n) _ = None
 
 -- a hint or a spent sign
 abbrev pub text_fault : Result Move PlayFault → Option LoadFault
@@ -120,8 +115,9 @@ fault_by game m PrivateDesc value = Some Unsupported
 fault_by game m AuxInfo value = once (is_some m.auxinfo) None
 fault_by game m Ui value = once (is_some m.ui) None
 fault_by game m Time value = once (is_some m.time) None
-fault_by game m StateCount value = once (is_some m.count) (count_fault (count_at value) m.position)
-fault_by game m Position value = once (is_some m.position) (position_fault (count_at value) m.count)
+fault_by game m StateCount value =
+    once (is_some m.count) (count_fault (λ n position. nat_le position n) (count_at value) m.position)
+fault_by game m Position value = once (is_some m.position) (count_fault nat_le (count_at value) m.count)
 fault_by game m (State k) value = behind_counts m (state_fault k value)
 fault_by game m Other value = None
 

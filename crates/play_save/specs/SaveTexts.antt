@@ -2,6 +2,8 @@
 use Rattle.std.specs.Prelude.{◌≡◌, ℕ, ◌+◌, ◌≤◌, Bool, true, false, List, [], ◌∷◌, length, codes, Result}
 use Rattle.std.specs.Fmt.{decimal}
 use Rattle.trail_solver.specs.Puzzles.{Puzzle}
+use Rattle.trail_solver.specs.declared.rules.Rules.{Ghosts as RulesGhosts}
+use Rattle.clue_rules.specs.declared.game.Game.{Ghosts as GameGhosts}
 use Rattle.clue_rules.specs.declared.id_fault.IdFault.{IdFault}
 use Rattle.clue_rules.specs.Parameters.{IsParamText}
 use Rattle.clue_rules.specs.GameIds.{describes_at}
@@ -36,6 +38,11 @@ saved_game title letters puzzle of_game describes desc_at desc_of = record {
   desc_at = desc_at;
   desc_of = desc_of;
 }
+
+-- the same, of what a game's rules and texts are
+abbrev pub saves_of : {P : Type 0} → RulesGhosts P → GameGhosts P → SavedGame P
+saves_of rules game =
+    saved_game game.title game.letter_codes rules.puzzle rules.valid game.describes game.desc_at game.desc_of
 
 -- the value of the first record, which names the format
 abbrev pub collection : List ℕ
