@@ -1,24 +1,40 @@
 -- What a game owes of its descriptions, and that puzzles with the same written description are the same.
-use Rattle.std.proofs.Common.{◌≡◌, ◌≢◌, ℕ, ◌≤◌, true, false, List, Some, None, Result, Ok, bytes_eq, cond, refl, ap}
+use Rattle.std.proofs.Common.{◌≡◌, ◌≢◌, ℕ, ◌≤◌, true, false, List, Some, None, Ok, bytes_eq, cond, refl, ap}
 use Rattle.std.proofs.lemmas.Slice.Eq.{bytes_eq-Decides}
-use Rattle.trail_solver.specs.Puzzles.{Puzzle}
-use Rattle.clue_rules.specs.declared.id_fault.IdFault.{IdFault}
+use Rattle.trail_solver.specs.declared.rules.Rules.{Ghosts as RulesGhosts}
+use Rattle.clue_rules.specs.declared.game.Game.{Ghosts as GameGhosts}
 use Rattle.clue_rules.proofs.GameIdLemmas.{ReadsGrammar, game_reads}
 use Rattle.play_midend.specs.declared.moves.Move.{Move}
 use Rattle.play_midend.specs.declared.moves.Move.TheVariants.{Restart}
-use Rattle.play_save.specs.SaveTexts.{SavedGame, saved_game}
+use Rattle.play_save.specs.SaveTexts.{SavedGame, saves_of}
 use Rattle.play_save.specs.FirstFaults.{restart_of}
 
+-- reading a description gives the puzzle that it describes, of the width; and what is described so has a written form
 pub record IsGame {P : Type 0} (game : SavedGame P) : Type 0 where
   pub reads : ReadsGrammar P game.desc_at game.Describes
   pub sized : (w : ℕ) (p : P) (text : List ℕ) → game.Describes w p text → (game.puzzle p).size ≡ w
   pub canonical : (w : ℕ) (p : P) (text : List ℕ) → game.Describes w p text → game.Describes w p (game.desc_of p)
 
-pub game_owes : {P : Type 0} (title letters : List ℕ) (puzzle : P → Puzzle) (of_game : P → Type 0) (describes : List ℕ → P → Type 0) (desc_at : ℕ → List ℕ → Result P IdFault) (desc_of : P → List ℕ) → ((w : ℕ) (text : List ℕ) (d : P) → 3 ≤ w → w ≤ 9 → desc_at w text ≡ Ok d → describes text d × of_game d × ((puzzle d).size ≡ w)) → ((text : List ℕ) (d : P) → of_game d → describes text d → desc_at (puzzle d).size text ≡ Ok d) → ((p : P) → of_game p → describes (desc_of p) p) → IsGame (saved_game title letters puzzle of_game describes desc_at desc_of)
-game_owes {P} title letters puzzle of_game describes desc_at desc_of taken again canonical = record {
-  reads = game_reads P puzzle of_game describes desc_at taken again;
-  sized = λ w p text is. is.2;
-  canonical = λ w p text is. (canonical p is.1, is.1, is.2);
+-- the same of a game whose puzzles these are
+pub record Owes {P : Type 0} (game : SavedGame P) (of_game : P → Type 0) : Type 0 where
+  pub texts : IsGame game
+  pub own_text : (p : P) → of_game p → game.Describes (game.puzzle p).size p (game.desc_of p)
+
+-- a game owes it by three of its laws
+pub game_owes : {P : Type 0} (rules : RulesGhosts P) (game : GameGhosts P)
+    → ((w : ℕ) (text : List ℕ) (p : P) → 3 ≤ w → w ≤ 9 → game.desc_at w text ≡ Ok p
+        → game.describes text p × rules.valid p × ((rules.puzzle p).size ≡ w))
+    → ((text : List ℕ) (p : P) → rules.valid p → game.describes text p
+        → game.desc_at (rules.puzzle p).size text ≡ Ok p)
+    → ((p : P) → rules.valid p → game.describes (game.desc_of p) p)
+    → Owes (saves_of rules game) rules.valid
+game_owes {P} rules game taken again canonical = record {
+  texts = record {
+    reads = game_reads P rules.puzzle rules.valid game.describes game.desc_at taken again;
+    sized = λ w p text is. is.2;
+    canonical = λ w p text is. (canonical p is.1, is.1, is.2);
+  };
+  own_text = λ p of. (canonical p of, of, refl);
 }
 
 -- the written description tells puzzles of a width apart

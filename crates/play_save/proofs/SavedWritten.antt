@@ -30,7 +30,7 @@ use Rattle.play_save.specs.Laws.{HasGrid, WrittenIsSaved, WrittenSavesNoOther}
 use Rattle.play_save.proofs.RecordLaws.{record_again}
 use Rattle.play_save.proofs.RecordLists.{values_of-append, states_in-append}
 use Rattle.play_save.proofs.Counting.{count_again}
-use Rattle.play_save.proofs.GameTexts.{IsGame}
+use Rattle.play_save.proofs.GameTexts.{Owes}
 use Rattle.play_save.proofs.StatesPlayed.{text_again, have_length}
 use Rattle.play_save.proofs.SavedAgain.{has_state_or_count}
 use Rattle.play_save.proofs.WrittenRecords.{entry_written, written_begins, AreToTheEnd, all_written, begins_prefix, all_begin}
@@ -149,14 +149,14 @@ read_written {P} game h small =
     subst (λ t. Read game h t) (sym text) made
 
 -- what is written is a save
-pub written_is_saved : {P : Type 0} (game : SavedGame P) (of_game : P → Type 0) → IsGame game → ((p : P) → of_game p → game.Describes (game.puzzle p).size p (game.desc_of p)) → WrittenIsSaved game of_game
-written_is_saved {P} game of_game owes canonical h storable grids small =
+pub written_is_saved : {P : Type 0} (game : SavedGame P) (of_game : P → Type 0) → Owes game of_game → WrittenIsSaved game of_game
+written_is_saved {P} game of_game owes h storable grids small =
     let title = game.title in
     let desc = game.desc_of h.puzzle in
     let rs = tail_records title desc h in
     let read = read_written game h small in
     let valid = storable.session in
-    let described = canonical h.puzzle storable.puzzle_is in
+    let described = owes.own_text h.puzzle storable.puzzle_is in
     let largest : (game.puzzle h.puzzle).size ≤ 9 = (let top = storable.params_are.largest in omega (arith, valid.size)) in
     let fits = all_fit (game.puzzle h.puzzle) (start_of (game.puzzle h.puzzle)) h.moves largest valid.legal.playable in
     let head_begins = written_begins (with_value SaveFile collection) [] (records_text rs) tt refl (lit≤ tt) in
@@ -251,8 +251,8 @@ same_extras a b seed auxinfo ui time =
 one_of : {A : Type 0} (a b : A) (values : List A) → values ≡ a ∷ [] → values ≡ b ∷ [] → a ≡ b
 one_of a b values one other = cc
 
-pub written_saves_no_other : {P : Type 0} (game : SavedGame P) (of_game : P → Type 0) → IsGame game → ((p : P) → of_game p → game.Describes (game.puzzle p).size p (game.desc_of p)) → WrittenSavesNoOther game of_game
-written_saves_no_other {P} game of_game owes canonical h other valid of t =
+pub written_saves_no_other : {P : Type 0} (game : SavedGame P) (of_game : P → Type 0) → Owes game of_game → WrittenSavesNoOther game of_game
+written_saves_no_other {P} game of_game owes h other valid of t =
     let title = game.title in
     let desc = game.desc_of h.puzzle in
     let all = tail_records title desc h in
@@ -268,7 +268,7 @@ written_saves_no_other {P} game of_game owes canonical h other valid of t =
     let params = same_params other.params h.params (sym s.params.2.text_is ∙ params_same) in
     let desc_same = one_of s.desc.0 desc (values_of Desc all) s.desc.1 (values_tail title desc h Desc refl) in
     let w = (game.puzzle h.puzzle).size in
-    let own = canonical h.puzzle of in
+    let own = owes.own_text h.puzzle of in
     let width : other.params.size ≡ w = ap (λ (p : Params). p.size) params ∙ valid.size in
     let described : game.Describes w other.puzzle desc = subst (λ n. game.Describes n other.puzzle desc) width (subst (λ d. game.Describes other.params.size other.puzzle d) desc_same s.desc.2) in
     let puzzle = same_described w h.puzzle other.puzzle desc own described in
@@ -299,8 +299,8 @@ written_saves_no_other {P} game of_game owes canonical h other valid of t =
 
     same_described : (w : ℕ) (p q : P) (text : List ℕ) → game.Describes w p text → game.Describes w q text → q ≡ p
     same_described w p q text p_is q_is =
-        let read_p = owes.reads.again w text p p_is in
-        let read_q = owes.reads.again w text q q_is in
+        let read_p = owes.texts.reads.again w text p p_is in
+        let read_q = owes.texts.reads.again w text q q_is in
         cc
 
 -- the same of an answer

@@ -4,7 +4,7 @@ use Rattle.std.proofs.lemmas.Result.{err_from_is_err_and}
 use Rattle.play_save.specs.declared.fault.LoadFault.TheVariants.{Missing}
 use Rattle.play_save.specs.Records.{record_at}
 use Rattle.play_save.specs.Views.{entry_of, parts_of}
-use Rattle.play_save.specs.SaveTexts.{saved_game}
+use Rattle.play_save.specs.SaveTexts.{saves_of}
 use Rattle.play_save.specs.FirstFaults.{is_complete, records_of}
 use Rattle.play_save.specs.Taking.{met_of}
 use Rattle.play_save.proofs.OptionSteps.{error_of_none}
@@ -15,22 +15,19 @@ use Rattle.play_save.proofs.loading.find.Goals as goal
 
 pub loop-rest-init : goal.loop-rest-init
 loop-rest-init g c =
-    let P = g.P.Game in
-    let game = saved_game P.title P.letter_codes g.P.Rules.puzzle g.P.Rules.valid P.describes P.desc_at P.desc_of in
+    let game = saves_of g.P.Rules g.P.Game in
     rw c.new-found.ensures (reads_all game c.args.bytes.now)
 
 pub returns-in_err-next_record-clause-given : goal.returns-in_err-next_record-clause-given
 returns-in_err-next_record-clause-given g c =
-    let P = g.P.Game in
-    let game = saved_game P.title P.letter_codes g.P.Rules.puzzle g.P.Rules.valid P.describes P.desc_at P.desc_of in
+    let game = saves_of g.P.Rules g.P.Game in
     let undone : is_complete (met_of c.loop-rest.found) ≡ false = search rules in
     let e = err_from_is_err_and c.from_residual.result c.from_residual.ensures.1 in
     rw (e.1, e.2) (given_broken game met_of c.args.bytes.now c.loop-rest.rest.now (met_of c.loop-rest.found) c.in_err-next_record.field-0.0 c.loop-rest.invariant undone c.in_err-next_record.ensures.value)
 
 pub returns-in_err-record-clause-given : goal.returns-in_err-record-clause-given
 returns-in_err-record-clause-given g c =
-    let P = g.P.Game in
-    let game = saved_game P.title P.letter_codes g.P.Rules.puzzle g.P.Rules.valid P.describes P.desc_at P.desc_of in
+    let game = saves_of g.P.Rules g.P.Game in
     let undone : is_complete (met_of c.loop-rest.found) ≡ false = search rules in
     let read : record_at c.loop-rest.rest.now ≡ Ok None = c.in_ok-next_record.ensures.value ∙ ap (λ o. Ok (option_map parts_of o)) c.in_err-record.ensures.ok_part in
     let missing = error_of_none c.in_ok-next_record.field-0 c.in_err-record.field-0.0 Missing c.in_err-record.ensures.value c.in_err-record.ensures.ok_part in
@@ -39,8 +36,7 @@ returns-in_err-record-clause-given g c =
 
 pub returns-in_err-take-clause-given : goal.returns-in_err-take-clause-given
 returns-in_err-take-clause-given g c =
-    let P = g.P.Game in
-    let game = saved_game P.title P.letter_codes g.P.Rules.puzzle g.P.Rules.valid P.describes P.desc_at P.desc_of in
+    let game = saves_of g.P.Rules g.P.Game in
     let undone : is_complete (met_of c.loop-rest.found) ≡ false = search rules in
     let read : record_at c.loop-rest.rest.now ≡ Ok (Some (entry_of c.in_ok-record.record, c.in_ok-record.after.now)) = c.in_ok-next_record.ensures.value ∙ ap (λ o. Ok (option_map parts_of o)) c.in_ok-record.ensures.ok_part in
     let e = err_from_is_err_and c.from_residual-in_err-take.result c.from_residual-in_err-take.ensures.1 in
@@ -54,8 +50,7 @@ loop-rest-smaller g c =
 
 pub loop-rest-preserved : goal.loop-rest-preserved
 loop-rest-preserved g c =
-    let P = g.P.Game in
-    let game = saved_game P.title P.letter_codes g.P.Rules.puzzle g.P.Rules.valid P.describes P.desc_at P.desc_of in
+    let game = saves_of g.P.Rules g.P.Game in
     let undone : is_complete (met_of c.loop-rest.found) ≡ false = search rules in
     let read : record_at c.loop-rest.rest.now ≡ Ok (Some (entry_of c.in_ok-record.record, c.in_ok-record.after.now)) = c.in_ok-next_record.ensures.value ∙ ap (λ o. Ok (option_map parts_of o)) c.in_ok-record.ensures.ok_part in
     let taken = rw c.of.ensures at c.in_ok-take.ensures in
@@ -63,14 +58,12 @@ loop-rest-preserved g c =
 
 pub returns-clause-given : goal.returns-clause-given
 returns-clause-given g c =
-    let P = g.P.Game in
-    let game = saved_game P.title P.letter_codes g.P.Rules.puzzle g.P.Rules.valid P.describes P.desc_at P.desc_of in
+    let game = saves_of g.P.Rules g.P.Game in
     let complete : is_complete (met_of c.loop-rest.found) ≡ true = search rules in
     reads_done game c.args.bytes.now c.loop-rest.rest.now (met_of c.loop-rest.found) c.loop-rest.invariant complete
 
 pub returns-clause-playable : goal.returns-clause-playable
 returns-clause-playable g c =
-    let P = g.P.Game in
-    let game = saved_game P.title P.letter_codes g.P.Rules.puzzle g.P.Rules.valid P.describes P.desc_at P.desc_of in
+    let game = saves_of g.P.Rules g.P.Game in
     let complete : is_complete (met_of c.loop-rest.found) ≡ true = search rules in
     playable game (records_of c.args.bytes.now) (met_of c.loop-rest.found) (reads_done game c.args.bytes.now c.loop-rest.rest.now (met_of c.loop-rest.found) c.loop-rest.invariant complete)
