@@ -16,7 +16,7 @@ use Rattle.play_save.specs.declared.key.StateKey.{StateKey}
 use Rattle.play_save.specs.declared.key.StateKey.TheVariants.{AnyMove, SolveMove, RestartMove}
 use Rattle.play_save.specs.KeyedRecords.{KeyedState}
 use Rattle.play_save.specs.SaveTexts.{SavedGame, is_solve, IsStateOf, HaveStates}
-use Rattle.play_save.specs.FirstFaults.{solution_alone, restart_of, state_move, state_played, states_played, state_fault}
+use Rattle.play_save.specs.FirstFaults.{solution_alone, restart_of, state_move, move_played, state_played, states_played, state_fault}
 use Rattle.play_save.proofs.OptionSteps.{and_then_taken, ok_or_taken}
 use Rattle.play_save.proofs.GameTexts.{IsGame, same_puzzle, restart_taken, restart_again, other_puzzle}
 
@@ -87,7 +87,7 @@ pub record ArePlayed {P : Type 0} (game : SavedGame P) (h : History P) (ss : Lis
 pub states_taken : {P : Type 0} (game : SavedGame P) (h last : History P) (i : ℕ) (ss : List KeyedState) → IsGame game → IsDescribed game h.puzzle → states_played game h i ss ≡ Ok last → ArePlayed game h ss last
 states_taken game h last i [] owes d is = let same : h ≡ last = cc in record { moves = []; have = tt; played_is = ap Ok same }
 states_taken {P} game h last i (s ∷ ss) owes d is =
-    let step = bind_taken (state_played game h i (state_move game h.puzzle s.key s.value)) (λ next. states_played game next (i + 1) ss) last is in
+    let step = bind_taken (state_played game h i s) (λ next. states_played game next (i + 1) ss) last is in
     let one = one_taken (state_move game h.puzzle s.key s.value) step.0 refl step.1 in
     let keeps = played_keeps (game.puzzle h.puzzle) h step.0 one.0 one.2 in
     let rest = states_taken game step.0 last (i + 1) ss owes (subst (λ p. IsDescribed game p) (sym keeps) d) step.2 in
@@ -97,12 +97,12 @@ states_taken {P} game h last i (s ∷ ss) owes d is =
       played_is = rw one.2 (subst (λ p. played_all (game.puzzle p) step.0 rest.moves ≡ Ok last) keeps rest.played_is);
     }
   where
-    one_taken : (o : Option Move) (next : History P) → state_move game h.puzzle s.key s.value ≡ o → state_played game h i o ≡ Ok next → (m : Move) × (state_move game h.puzzle s.key s.value ≡ Some m) × (played (game.puzzle h.puzzle) h m ≡ Ok next)
+    one_taken : (o : Option Move) (next : History P) → state_move game h.puzzle s.key s.value ≡ o → move_played game h i o ≡ Ok next → (m : Move) × (state_move game h.puzzle s.key s.value ≡ Some m) × (played (game.puzzle h.puzzle) h m ≡ Ok next)
     one_taken None next has made = cc
     one_taken (Some m) next has made =
         (m, has, ok_taken (played (game.puzzle h.puzzle) h m) next (ok_or_taken (result_ok (played (game.puzzle h.puzzle) h m)) (BadState i) next made))
 
-played_ok : {P : Type 0} (game : SavedGame P) (h next : History P) (i : ℕ) (m : Move) → played (game.puzzle h.puzzle) h m ≡ Ok next → state_played game h i (Some m) ≡ Ok next
+played_ok : {P : Type 0} (game : SavedGame P) (h next : History P) (i : ℕ) (m : Move) → played (game.puzzle h.puzzle) h m ≡ Ok next → move_played game h i (Some m) ≡ Ok next
 played_ok game h next i m is = rw is refl
 
 pub states_again : {P : Type 0} (game : SavedGame P) (h last : History P) (i : ℕ) (ms : List Move) (ss : List KeyedState) → IsGame game → HaveStates game h.puzzle ms ss → played_all (game.puzzle h.puzzle) h ms ≡ Ok last → states_played game h i ss ≡ Ok last
@@ -120,9 +120,9 @@ states_again {P} game h last i (m ∷ ms) (s ∷ ss) owes have is =
     more : (next : History P) → played (game.puzzle h.puzzle) h m ≡ Ok next → played_all (game.puzzle h.puzzle) next ms ≡ Ok last → ((after : History P) → HaveStates game after.puzzle ms ss → played_all (game.puzzle after.puzzle) after ms ≡ Ok last → states_played game after (i + 1) ss ≡ Ok last) → states_played game h i (s ∷ ss) ≡ Ok last
     more next made all along =
         let keeps = played_keeps (game.puzzle h.puzzle) h next m made in
-        let one : state_played game h i (state_move game h.puzzle s.key s.value) ≡ Ok next = ap (state_played game h i) (state_of_move game h.puzzle s.key s.value m owes have.0) ∙ played_ok game h next i m made in
+        let one : state_played game h i s ≡ Ok next = ap (move_played game h i) (state_of_move game h.puzzle s.key s.value m owes have.0) ∙ played_ok game h next i m made in
         let rest = along next (subst (λ p. HaveStates game p ms ss) (sym keeps) have.1) (subst (λ p. played_all (game.puzzle p) next ms ≡ Ok last) (sym keeps) all) in
-        bind_again (state_played game h i (state_move game h.puzzle s.key s.value)) (λ after. states_played game after (i + 1) ss) next one ∙ rest
+        bind_again (state_played game h i s) (λ after. states_played game after (i + 1) ss) next one ∙ rest
 
 -- as many moves as state records
 pub have_length : {P : Type 0} (game : SavedGame P) (p : P) (ms : List Move) (ss : List KeyedState) → HaveStates game p ms ss → length ms ≡ length ss
@@ -144,12 +144,12 @@ other_restart game p q value owes d other is =
 pub position_played : {P : Type 0} (game : SavedGame P) (h last : History P) (i : ℕ) (ss : List KeyedState) → states_played game h i ss ≡ Ok last → last.position ≡ h.position + length ss
 position_played game h last i [] is = let same : h ≡ last = cc in ap (λ k. k.position) (sym same) ∙ sym (add-zero h.position)
 position_played {P} game h last i (s ∷ ss) is =
-    let step = bind_taken (state_played game h i (state_move game h.puzzle s.key s.value)) (λ next. states_played game next (i + 1) ss) last is in
+    let step = bind_taken (state_played game h i s) (λ next. states_played game next (i + 1) ss) last is in
     let one = one_on (state_move game h.puzzle s.key s.value) step.0 step.1 in
     let rest = position_played game step.0 last (i + 1) ss step.2 in
     omega arith
   where
-    one_on : (o : Option Move) (next : History P) → state_played game h i o ≡ Ok next → next.position ≡ h.position + 1
+    one_on : (o : Option Move) (next : History P) → move_played game h i o ≡ Ok next → next.position ≡ h.position + 1
     one_on None next made = cc
     one_on (Some m) next made =
         let played_is = ok_taken (played (game.puzzle h.puzzle) h m) next (ok_or_taken (result_ok (played (game.puzzle h.puzzle) h m)) (BadState i) next made) in

@@ -173,15 +173,19 @@ state_move game p SolveMove value = option_and_then solution_alone (result_ok (m
 state_move game p RestartMove value =
     option_and_then (restart_of game p) (result_ok (game.desc_at (game.puzzle p).size value))
 
--- the state records played in turn, from the record with the number i on
-abbrev pub state_played : {P : Type 0} → SavedGame P → History P → ℕ → Option Move → Result (History P) LoadFault
-state_played game h i None = Err (BadState i)
-state_played game h i (Some m) = ok_or (result_ok (played (game.puzzle h.puzzle) h m)) (BadState i)
+-- the state record with the number i, played
+abbrev pub move_played : {P : Type 0} → SavedGame P → History P → ℕ → Option Move → Result (History P) LoadFault
+move_played game h i None = Err (BadState i)
+move_played game h i (Some m) = ok_or (result_ok (played (game.puzzle h.puzzle) h m)) (BadState i)
 
+abbrev pub state_played : {P : Type 0} → SavedGame P → History P → ℕ → KeyedState → Result (History P) LoadFault
+state_played game h i s = move_played game h i (state_move game h.puzzle s.key s.value)
+
+-- the state records played in turn, from the record with the number i on
 abbrev pub states_played : {P : Type 0} → SavedGame P → History P → ℕ → List KeyedState → Result (History P) LoadFault
 states_played game h i [] = Ok h
 states_played game h i (s ∷ ss) =
-    state_played game h i (state_move game h.puzzle s.key s.value) >>= λ next. states_played game next (i + 1) ss
+    state_played game h i s >>= λ next. states_played game next (i + 1) ss
 
 -- what has to be there
 abbrev pub needed_params : Option (Result Params IdFault) → Result Params LoadFault

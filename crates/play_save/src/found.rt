@@ -1,6 +1,7 @@
 //! What the records of a save file say, found one by one.
 
-ghost use Rattle.std.specs.Prelude.{◌≡◌, ℕ, ◌+◌, ◌≤◌, true, false, Some, None, Ok, Err, OnOk, IfOk, IfErr, IsErr, length, bytes_eq, codes};
+ghost use Rattle.std.specs.Prelude.{◌≡◌, ℕ, ◌+◌, ◌≤◌, true, false, Some, None, Ok, Err, ok_or, OnOk, IfOk, IfErr, IsErr, length, bytes_eq, codes};
+ghost use Rattle.std.specs.Result.{result_ok};
 ghost use Rattle.play_save.specs.declared.key.Key.TheVariants.{FormatVersion, GameName, NextParams, CurrentParams, Seed, Desc, AuxInfo, Ui, Time, StateCount, Position, State};
 ghost use Rattle.play_save.specs.SaveTexts.{saves_of};
 ghost use Rattle.play_save.specs.FirstFaults.{is_complete, count_at, once, text_fault, state_fault, saved_params_at, fault_unless};
@@ -54,8 +55,7 @@ fn once(met: bool) -> Result<(), LoadFault>
 
 // A count of states: a decimal number from 1 to 100,000.
 fn count(value: &[u8]) -> Result<usize, LoadFault>
-    ensures ok { IfOk result (λ n. count_at value.now ≡ Some n) }
-    ensures err { IfErr result (λ fault. (count_at value.now ≡ None) × (fault ≡ LoadFault.BadCount)) }
+    ensures { result ≡ ok_or (count_at value.now) LoadFault.BadCount }
 {
     match number(value, MOST_STATES) {
         Some(0) | None => Err(LoadFault::BadCount),
@@ -64,8 +64,8 @@ fn count(value: &[u8]) -> Result<usize, LoadFault>
 }
 
 fn params<P: Game>(value: &[u8]) -> Result<Params, LoadFault>
-    ensures ok { IfOk result (λ p. saved_params_at (saves_of P.Rules P.Game.own) value.now ≡ Ok p) }
-    ensures err { IfErr result (λ fault. (IsErr (saved_params_at (saves_of P.Rules P.Game.own) value.now)) × (fault ≡ LoadFault.BadParams)) }
+    ensures { result ≡ ok_or (result_ok (saved_params_at (saves_of P.Rules P.Game.own) value.now))
+        LoadFault.BadParams }
 {
     Params::read::<P>(value).map_err(|_| LoadFault::BadParams)
 }

@@ -85,7 +85,8 @@ pub(crate) fn is_solve(made: &Move) -> bool
 
 // The move of a state record, where it is one of the puzzle.
 fn move_of<P: Game>(puzzle: &P, state: &StateRecord) -> Option<Move>
-    ensures { result ≡ state_move (saves_of P.Rules P.Game.own) puzzle.now state.now.key state.now.value.now }
+    ensures { result ≡ state_move (saves_of P.Rules P.Game.own) puzzle.now
+        state.now.key state.now.value.now }
 {
     match state.key {
         StateKey::AnyMove => read_move(state.value).ok(),
@@ -106,10 +107,8 @@ fn play_state<P: Game>(
     number: u32,
     state: &StateRecord,
 ) -> Result<(), LoadFault>
-    ensures ok { OnOk result (state_played (saves_of P.Rules P.Game.own) session.old number
-        (state_move (saves_of P.Rules P.Game.own) session.old.puzzle state.now.key state.now.value.now) ≡ Ok session.new) }
-    ensures err { IfErr result (λ fault. (fault ≡ LoadFault.OutOfMemory) ⊎ (state_played (saves_of P.Rules P.Game.own) session.old number
-        (state_move (saves_of P.Rules P.Game.own) session.old.puzzle state.now.key state.now.value.now) ≡ Err fault)) }
+    ensures { GivesUnless LoadFault.OutOfMemory (λ _. session.new) result
+        (state_played (saves_of P.Rules P.Game.own) session.old number (state_of state.now)) }
 {
     let made = move_of(session.puzzle(), state).ok_or(LoadFault::BadState(number))?;
     match session.play(made) {
@@ -122,9 +121,8 @@ fn play_state<P: Game>(
 // Plays the state records in turn, up to the first that is wrong.
 fn play_states<P: Game>(session: &mut Session<P>, states: &[StateRecord]) -> Result<(), LoadFault>
     requires { length states.now < 100000 }
-    ensures ok { OnOk result (states_played (saves_of P.Rules P.Game.own) session.old 1 (map state_of states.now) ≡ Ok session.new) }
-    ensures err { IfErr result (λ fault. (fault ≡ LoadFault.OutOfMemory)
-        ⊎ (states_played (saves_of P.Rules P.Game.own) session.old 1 (map state_of states.now) ≡ Err fault)) }
+    ensures { GivesUnless LoadFault.OutOfMemory (λ _. session.new) result
+        (states_played (saves_of P.Rules P.Game.own) session.old 1 (map state_of states.now)) }
 {
     for (index, state) in states.iter().enumerate() {
         play_state(session, index as u32 + 1, state)?;
@@ -170,7 +168,8 @@ fn start<P: Game>(
     found: &Found,
 ) -> Result<Session<P>, LoadFault>
     requires { params.size ≡ (P.puzzle puzzle).size }
-    ensures ok { IfOk result (λ s. s ≡ started puzzle params next_params (extras_in (met_of found.now))) }
+    ensures ok { IfOk result (λ s.
+        s ≡ started puzzle params next_params (extras_in (met_of found.now))) }
     ensures err { IfErr result (λ fault. fault ≡ LoadFault.OutOfMemory) }
 {
     let extras = extras(alloc, found)?;
@@ -212,14 +211,16 @@ pub fn load<P: Game>(alloc: Global, bytes: &[u8]) -> Result<Session<P>, LoadFaul
     ensures found { IfOk result (λ s. SaveText (saves_of P.Rules P.Game.own) s bytes.now) }
     ensures only { (h : History P) → SaveText (saves_of P.Rules P.Game.own) h bytes.now
         → GivesUnless LoadFault.OutOfMemory (λ s. s) result (Ok h) }
-    ensures exact { GivesUnless LoadFault.OutOfMemory (λ s. s) result (load_at (saves_of P.Rules P.Game.own) bytes.now) }
+    ensures exact { GivesUnless LoadFault.OutOfMemory (λ s. s) result
+        (load_at (saves_of P.Rules P.Game.own) bytes.now) }
 {
     read(alloc, bytes)
 }
 
 #[tactic(auto, unfolding(crate::specs::FirstFaults::load_at))]
 fn read<P: Game>(alloc: Global, bytes: &[u8]) -> Result<Session<P>, LoadFault>
-    ensures { GivesUnless LoadFault.OutOfMemory (λ s. s) result (load_at (saves_of P.Rules P.Game.own) bytes.now) }
+    ensures { GivesUnless LoadFault.OutOfMemory (λ s. s) result
+        (load_at (saves_of P.Rules P.Game.own) bytes.now) }
 {
     if bytes.len() > MOST_BYTES {
         return Err(LoadFault::TooLarge);
