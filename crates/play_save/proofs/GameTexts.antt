@@ -22,10 +22,8 @@ pub record Owes {P : Type 0} (game : SavedGame P) (of_game : P → Type 0) : Typ
 
 -- a game owes it by three of its laws
 pub game_owes : {P : Type 0} (rules : RulesGhosts P) (game : GameGhosts P)
-    → ((w : ℕ) (text : List ℕ) (p : P) → 3 ≤ w → w ≤ 9 → game.desc_at w text ≡ Ok p
-        → game.describes text p × rules.valid p × ((rules.puzzle p).size ≡ w))
-    → ((text : List ℕ) (p : P) → rules.valid p → game.describes text p
-        → game.desc_at (rules.puzzle p).size text ≡ Ok p)
+    → ((w : ℕ) (t : List ℕ) (p : P) → 3 ≤ w → w ≤ 9 → game.desc_at w t ≡ Ok p → game.describes t p × rules.valid p × ((rules.puzzle p).size ≡ w))
+    → ((t : List ℕ) (p : P) → rules.valid p → game.describes t p → game.desc_at (rules.puzzle p).size t ≡ Ok p)
     → ((p : P) → rules.valid p → game.describes (game.desc_of p) p)
     → Owes (saves_of rules game) rules.valid
 game_owes {P} rules game taken again canonical = record {

@@ -11,12 +11,8 @@ use clue_rules::Game;
 /// a storable session is a save of it, where it is no longer than 16,777,216 bytes; what is written of a valid session is a save
 /// of no other, and of none where the session isn't storable.
 pub fn laws<P: Game>()
-    ensures one_session { SavesOneSession
-        (saves_of P.Rules P.Game.own) }
-    ensures fault_or_session { FaultsWhereNone
-        (saves_of P.Rules P.Game.own) }
-    ensures written_is_saved { WrittenIsSaved
-        (saves_of P.Rules P.Game.own) P.valid }
-    ensures written_saves_no_other { WrittenSavesNoOther
-        (saves_of P.Rules P.Game.own) P.valid }
+    ensures one_session { SavesOneSession (saves_of P.Rules P.Game.own) }
+    ensures fault_or_session { FaultsWhereNone (saves_of P.Rules P.Game.own) }
+    ensures written_is_saved { WrittenIsSaved (saves_of P.Rules P.Game.own) P.valid }
+    ensures written_saves_no_other { WrittenSavesNoOther (saves_of P.Rules P.Game.own) P.valid }
 {}
