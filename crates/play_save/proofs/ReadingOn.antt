@@ -1,13 +1,13 @@
 -- Reading record by record: what was met of the records before a place, and what is needed from there on.
 use Rattle.std.proofs.Common.{◌≡◌, ◌⊎◌, ℕ, zero, suc, ◌≤◌, true, false, List, [], ◌∷◌, ◌++◌, length, Option, Some, None, Result, Ok, Err, refl, sym, ap, ◌∙◌, arith, inl, inr}
-use Rattle.byte_text.specs.Reading.{◌>>=◌, GivesUnless}
+use Rattle.byte_text.specs.Reading.{◌>>=◌}
 use Rattle.play_save.specs.declared.fault.LoadFault.{LoadFault}
 use Rattle.play_save.specs.declared.fault.LoadFault.TheVariants.{Malformed, Missing, OutOfMemory}
 use Rattle.play_save.specs.Records.{Entry, record_at}
 use Rattle.play_save.specs.Keys.{key_of}
 use Rattle.play_save.specs.KeyedRecords.{KeyedRecord, keyed}
 use Rattle.play_save.specs.SaveTexts.{SavedGame}
-use Rattle.play_save.specs.FirstFaults.{Met, met, fault_by, is_complete, Listing, nothing, broken, first, listed, listing_within, records_of, needed, met_in}
+use Rattle.play_save.specs.FirstFaults.{Met, met, fault_by, is_complete, Listing, nothing, listed, listing_within, records_of, needed, met_in}
 use Rattle.play_save.specs.Taking.{nothing_met, added}
 use Rattle.play_save.proofs.RecordLaws.{record_shorter, end_again, record_fault}
 use Rattle.play_save.proofs.Meeting.{met_added}
@@ -30,9 +30,9 @@ met_by_needed : {P : Type 0} (game : SavedGame P) (text : List ℕ) (all : Resul
 met_by_needed game text all is = ap (λ (x : Result (List KeyedRecord) LoadFault). x >>= λ rs. Ok (met game rs)) (sym is)
 
 -- the end of reading
-pub reads_done : {P : Type 0} (game : SavedGame P) (text rest : List ℕ) (m : Met)
+pub reads_done : {P : Type 0} {game : SavedGame P} {text rest : List ℕ} {m : Met}
     → Reads game text rest m → is_complete m ≡ true → met_in game (records_of text) ≡ Ok m
-reads_done game text rest m r complete =
+reads_done {P} {game} {text} {rest} {m} r complete =
     let done = rw r.now at complete in
     let all = sym (finished r.before (listing_within r.most rest) done) ∙ r.same in
     met_by_needed game text (Ok r.before) all ∙ ap Ok (sym r.now)
@@ -61,9 +61,9 @@ record Onward {P : Type 0} (game : SavedGame P) (text : List ℕ) (m : Met) (rea
   same : needed game before (listed (listing_within most) read) ≡ needed game [] (records_of text)
   within : (e : Entry) (after : List ℕ) → read ≡ Ok (Some (e, after)) → length after ≤ most
 
-onward : {P : Type 0} (game : SavedGame P) (text rest : List ℕ) (m : Met) (read : Result (Option (Entry × List ℕ)) LoadFault)
+onward : {P : Type 0} {game : SavedGame P} {text rest : List ℕ} {m : Met} (read : Result (Option (Entry × List ℕ)) LoadFault)
     → Reads game text rest m → is_complete m ≡ false → record_at rest ≡ read → Onward game text m read
-onward game text rest m read r undone is =
+onward {P} {game} {text} {rest} {m} read r undone is =
     let here = listing_at r.most rest r.within in
     let made : Onward game text m (record_at rest) = record {
       before = r.before;
@@ -76,34 +76,36 @@ onward game text rest m read r undone is =
     rw is at made
 
 -- a place where no record is left
-reads_end : {P : Type 0} (game : SavedGame P) (text rest : List ℕ) (m : Met)
+pub reads_end : {P : Type 0} {game : SavedGame P} {text rest : List ℕ} {m : Met}
     → Reads game text rest m → is_complete m ≡ false → record_at rest ≡ Ok None → met_in game (records_of text) ≡ Err Missing
-reads_end game text rest m r undone read =
-    let o = onward game text rest m (Ok None) r undone read in
+reads_end {P} {game} {text} r undone read =
+    let o = onward (Ok None) r undone read in
     met_by_needed game text (Err Missing) (rw o.undone at o.same)
 
 -- a place where no record can be read
-reads_broken : {P : Type 0} (game : SavedGame P) (text rest : List ℕ) (m : Met) (fault : LoadFault)
-    → Reads game text rest m → is_complete m ≡ false → record_at rest ≡ Err fault → met_in game (records_of text) ≡ Err Malformed
-reads_broken game text rest m fault r undone read =
-    let o = onward game text rest m (Err fault) r undone read in
-    met_by_needed game text (Err Malformed) (rw o.undone at o.same)
+pub reads_broken : {P : Type 0} {game : SavedGame P} {text rest : List ℕ} {m : Met} {fault : LoadFault}
+    → Reads game text rest m → is_complete m ≡ false → record_at rest ≡ Err fault → met_in game (records_of text) ≡ Err fault
+reads_broken {P} {game} {text} {rest} {m} {fault} r undone read =
+    let o = onward (Err fault) r undone read in
+    met_by_needed game text (Err Malformed) (rw o.undone at o.same) ∙ ap Err (sym (record_fault rest fault read))
 
--- a record with a fault
-reads_fault : {P : Type 0} (game : SavedGame P) (text rest : List ℕ) (m : Met) (e : Entry) (after : List ℕ) (fault : LoadFault)
+-- a record that is refused, with its fault or for want of memory
+pub reads_fault : {P : Type 0} {game : SavedGame P} {text rest : List ℕ} {m : Met} {e : Entry} {after : List ℕ} (fault : LoadFault)
     → Reads game text rest m → is_complete m ≡ false → record_at rest ≡ Ok (Some (e, after))
-    → fault_by game m (key_of e.key) e.value ≡ Some fault → met_in game (records_of text) ≡ Err fault
-reads_fault game text rest m e after fault r undone read has =
-    let o = onward game text rest m (Ok (Some (e, after))) r undone read in
+    → (fault ≡ OutOfMemory) ⊎ (fault_by game m (key_of e.key) e.value ≡ Some fault)
+    → (fault ≡ OutOfMemory) ⊎ (met_in game (records_of text) ≡ Err fault)
+reads_fault fault r undone read (inl memory) = inl memory
+reads_fault {P} {game} {text} {rest} {m} {e} {after} fault r undone read (inr has) =
+    let o = onward (Ok (Some (e, after))) r undone read in
     let has_it = rw o.now at has in
-    met_by_needed game text (Err fault) (rw (o.undone, has_it) at o.same)
+    inr (met_by_needed game text (Err fault) (rw (o.undone, has_it) at o.same))
 
 -- a record without a fault
-pub reads_more : {P : Type 0} (game : SavedGame P) (text rest : List ℕ) (m new : Met) (e : Entry) (after : List ℕ)
+pub reads_more : {P : Type 0} {game : SavedGame P} {text rest : List ℕ} {m new : Met} {e : Entry} {after : List ℕ}
     → Reads game text rest m → is_complete m ≡ false → record_at rest ≡ Ok (Some (e, after))
     → fault_by game m (key_of e.key) e.value ≡ None → new ≡ added game m (key_of e.key) e.value → Reads game text after new
-reads_more game text rest m new e after r undone read none is =
-    let o = onward game text rest m (Ok (Some (e, after))) r undone read in
+reads_more {P} {game} {text} {rest} {m} {new} {e} {after} r undone read none is =
+    let o = onward (Ok (Some (e, after))) r undone read in
     let none_here = rw o.now at none in
     record {
       before = o.before ++ keyed e ∷ [];
@@ -112,16 +114,3 @@ reads_more game text rest m new e after r undone read none is =
       now = rw o.now at is ∙ sym (met_added game o.before (key_of e.key) e.value none_here);
       same = rw (o.undone, none_here) at o.same;
     }
-
--- the answers at the three places where the loop ends early
-
-pub given_broken : {P F : Type 0} (game : SavedGame P) (view : F → Met) (text rest : List ℕ) (m : Met) (fault : LoadFault) → Reads game text rest m → is_complete m ≡ false → record_at rest ≡ Err fault → GivesUnless OutOfMemory view (let r : Result F LoadFault = Err fault in r) (met_in game (records_of text))
-given_broken game view text rest m fault r undone read =
-    inr (reads_broken game text rest m fault r undone read ∙ ap Err (sym (record_fault rest fault read)))
-
-pub given_end : {P F : Type 0} (game : SavedGame P) (view : F → Met) (text rest : List ℕ) (m : Met) → Reads game text rest m → is_complete m ≡ false → record_at rest ≡ Ok None → GivesUnless OutOfMemory view (let r : Result F LoadFault = Err Missing in r) (met_in game (records_of text))
-given_end game view text rest m r undone read = inr (reads_end game text rest m r undone read)
-
-pub given_fault : {P F : Type 0} (game : SavedGame P) (view : F → Met) (text rest after : List ℕ) (m : Met) (e : Entry) (fault : LoadFault) → Reads game text rest m → is_complete m ≡ false → record_at rest ≡ Ok (Some (e, after)) → (fault ≡ OutOfMemory) ⊎ (fault_by game m (key_of e.key) e.value ≡ Some fault) → GivesUnless OutOfMemory view (let r : Result F LoadFault = Err fault in r) (met_in game (records_of text))
-given_fault game view text rest after m e fault r undone read (inl memory) = inl memory
-given_fault game view text rest after m e fault r undone read (inr has) = inr (reads_fault game text rest m e after fault r undone read has)
