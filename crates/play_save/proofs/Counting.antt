@@ -8,13 +8,13 @@ use Rattle.byte_text.proofs.DecimalLaws.{number_taken, number_again}
 use Rattle.byte_text.proofs.ReadingLaws.{bind_taken}
 use Rattle.play_midend.specs.Histories.{most_states}
 use Rattle.play_save.specs.declared.fault.LoadFault.{LoadFault}
-use Rattle.play_save.specs.declared.fault.LoadFault.TheVariants.{BadCount, EarlyState}
+use Rattle.play_save.specs.declared.fault.LoadFault.TheVariants.{BadCount}
 use Rattle.play_save.specs.declared.key.StateKey.{StateKey}
 use Rattle.play_save.specs.declared.key.Key.{Key}
 use Rattle.play_save.specs.declared.key.Key.TheVariants.{StateCount, Position, State}
 use Rattle.play_save.specs.KeyedRecords.{KeyedRecord}
 use Rattle.play_save.specs.SaveTexts.{SavedGame}
-use Rattle.play_save.specs.FirstFaults.{Met, met, positive, count_at, fault_unless, count_fault, behind_counts, state_fault, fault_by, has_all, is_complete, Listing, needed, met_in}
+use Rattle.play_save.specs.FirstFaults.{Met, met, positive, count_at, fault_unless, count_fault, behind_counts, state_fault, fault_by, is_complete, Listing, needed, met_in}
 use Rattle.play_save.specs.Taking.{IsPlayable, added}
 use Rattle.play_save.proofs.OptionSteps.{and_then_taken}
 use Rattle.play_save.proofs.Meeting.{once_taken, met_added}
@@ -100,10 +100,10 @@ sound_position game m value s none =
 
 -- both counts were met before a state without a fault
 pub counts_met : (count position : Option (Option ℕ)) (m : Met) (fault : Option LoadFault) → m.count ≡ count → m.position ≡ position → behind_counts m fault ≡ None → (x : Option ℕ) × (y : Option ℕ) × (count ≡ Some x) × (position ≡ Some y) × (fault ≡ None)
-counts_met None position m fault c p none = let early : behind_counts m fault ≡ Some EarlyState = rw c refl in cc
-counts_met (Some x) None m fault c p none = let early : behind_counts m fault ≡ Some EarlyState = rw (c, p) refl in cc
+counts_met None position m fault c p none = let early = rw c at none in cc
+counts_met (Some x) None m fault c p none = let early = rw (c, p) at none in cc
 counts_met (Some x) (Some y) m fault c p none =
-    let same : behind_counts m fault ≡ fault = rw (c, p) refl in (x, y, refl, refl, sym same ∙ none)
+    (x, y, refl, refl, rw (c, p) at none)
 
 sound_state : {P : Type 0} (game : SavedGame P) (m : Met) (k : StateKey) (value : List ℕ) → IsSound m → is_complete m ≡ false → fault_by game m (State k) value ≡ None → IsSound (added game m (State k) value)
 sound_state game m k value s undone none =
@@ -121,7 +121,7 @@ sound_state game m k value s undone none =
     room : (n : ℕ) (y : Option ℕ) → m.count ≡ Some (Some n) → m.position ≡ Some y → length m.states + 1 + 1 ≤ n
     room n None c p = absurd (s.position_read p)
     room n (Some q) c p =
-        let test : nat_le n (length m.states + 1) ≡ false = sym (ap (λ o. has_all o m.position (length m.states)) c ∙ ap (λ o. has_all (Some (Some n)) o (length m.states)) p) ∙ undone in
+        let test : nat_le n (length m.states + 1) ≡ false = rw (c, p) at undone in
         let above = leb-false n (length m.states + 1) test in omega arith
 
 pub sound_added : {P : Type 0} (game : SavedGame P) (m : Met) (k : Key) (value : List ℕ) → IsSound m → is_complete m ≡ false → fault_by game m k value ≡ None → IsSound (added game m k value)
@@ -169,12 +169,12 @@ pub counted : (m : Met) → IsWhole m → Counted m
 counted m w = by_counts m.count m.position refl refl
   where
     by_counts : (count position : Option (Option ℕ)) → m.count ≡ count → m.position ≡ position → Counted m
-    by_counts None position c p = let not_yet : is_complete m ≡ false = rw c refl in let yes = w.complete in cc
+    by_counts None position c p = let done = rw c at w.complete in cc
     by_counts (Some None) position c p = absurd (w.sound.count_read c)
-    by_counts (Some (Some n)) None c p = let not_yet : is_complete m ≡ false = rw (c, p) refl in let yes = w.complete in cc
+    by_counts (Some (Some n)) None c p = let done = rw (c, p) at w.complete in cc
     by_counts (Some (Some n)) (Some None) c p = absurd (w.sound.position_read p)
     by_counts (Some (Some n)) (Some (Some q)) c p =
-        let all : nat_le n (length m.states + 1) ≡ true = sym (ap (λ o. has_all o m.position (length m.states)) c ∙ ap (λ o. has_all (Some (Some n)) o (length m.states)) p) ∙ w.complete in
+        let all : nat_le n (length m.states + 1) ≡ true = rw (c, p) at w.complete in
         let within = leb-true n (length m.states + 1) all in
         let few = w.sound.few n c in
         record {

@@ -173,12 +173,12 @@ unfolding session_of
 parts_taken {P} game m h is =
     let both = unless_taken (fault_unless (m.version && m.name) Missing) _ h is in
     let names = and_taken m.version m.name (fault_unless_taken (m.version && m.name) Missing both.0) in
-    let next = bind_taken (needed_params m.next_params) (λ next_params. needed_params m.params >>= λ params. ok_or m.desc Missing >>= λ desc. needed_count m.position >>= λ position. session_at game m params next_params desc position) h both.1 in
-    let now = bind_taken (needed_params m.params) (λ params. ok_or m.desc Missing >>= λ desc. needed_count m.position >>= λ position. session_at game m params next.0 desc position) h next.2 in
-    let desc = bind_taken (ok_or m.desc Missing) (λ desc. needed_count m.position >>= λ position. session_at game m now.0 next.0 desc position) h now.2 in
-    let place = bind_taken (needed_count m.position) (λ position. session_at game m now.0 next.0 desc.0 position) h desc.2 in
-    let puzzle = bind_taken (ok_or (result_ok (game.desc_at now.0.size desc.0)) BadDesc) (λ puzzle. session_with game m now.0 next.0 place.0 puzzle) h place.2 in
-    let last = bind_taken (states_played game (started puzzle.0 now.0 next.0 (extras_in m)) 1 m.states) (λ last. let r : Result (History P) LoadFault = Ok (at_position last place.0) in r) h puzzle.2 in
+    let next = bind_taken (needed_params m.next_params) _ h both.1 in
+    let now = bind_taken (needed_params m.params) _ h next.2 in
+    let desc = bind_taken (ok_or m.desc Missing) _ h now.2 in
+    let place = bind_taken (needed_count m.position) _ h desc.2 in
+    let puzzle = bind_taken (ok_or (result_ok (game.desc_at now.0.size desc.0)) BadDesc) _ h place.2 in
+    let last = bind_taken (states_played game (started puzzle.0 now.0 next.0 (extras_in m)) 1 m.states) _ h puzzle.2 in
     record {
       version = names.0;
       name = names.1;
