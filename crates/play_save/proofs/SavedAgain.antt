@@ -22,7 +22,7 @@ use Rattle.play_save.specs.declared.key.Key.{Key}
 use Rattle.play_save.specs.declared.key.Key.TheVariants.{SaveFile, FormatVersion, GameName, NextParams, CurrentParams, Seed, Desc, PrivateDesc, AuxInfo, Ui, Time, StateCount, Position, State, Other}
 use Rattle.play_save.specs.Records.{record_at}
 use Rattle.play_save.specs.KeyedRecords.{KeyedRecord, KeyedState, values_of, states_in, onto_states, once_if_kept, is_state, CountsStandFirst, may_be_last, EndsWithState}
-use Rattle.play_save.specs.SaveTexts.{SavedGame, collection, longest_save, HaveStates, AreSaved, SaveText}
+use Rattle.play_save.specs.SaveTexts.{SavedGame, format_record, longest_save, HaveStates, AreSaved, SaveText}
 use Rattle.play_save.specs.FirstFaults.{saved_params_at, count_at, first_of, met, fault_unless, once, params_fault, count_fault, behind_counts, state_fault, fault_by, has_all, is_complete, records_of, needed, states_played, extras_in, session_of, behind_head, met_in, load_at}
 use Rattle.play_save.proofs.RecordLaws.{record_again}
 use Rattle.play_save.proofs.RecordLists.{values_of-append, states_in-append, append_none, own_rank}
@@ -326,7 +326,7 @@ pub load_again : {P : Type 0} (game : SavedGame P) (text : List ℕ) (h : Histor
 unfolding load_at
 load_again game text h owes t =
     let small : nat_lt longest_save (length text) ≡ false = (let within = t.small in grind (arith, nat_tests)) in
-    let head : behind_head (record_at text) ≡ Ok t.behind_head = ap behind_head (record_again text (record { key = codes "SAVEFILE"; value = collection }) t.behind_head t.head) in
+    let head : behind_head (record_at text) ≡ Ok t.behind_head = ap behind_head (record_again text format_record t.behind_head t.head) in
     let read : needed game [] (records_of t.behind_head) ≡ Ok t.records = needed_again game [] t.records (records_of t.behind_head) (saved_right game t.records h t.saved) (records_again t.records t.behind_head t.begins) in
     let all : met_in game (records_of t.behind_head) ≡ Ok (met game t.records) = ap (λ (s : Result (List KeyedRecord) LoadFault). s >>= λ rs. Ok (met game rs)) read in
     rw (small, head, all) (session_again game t.records h owes t.saved)

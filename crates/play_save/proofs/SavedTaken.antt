@@ -20,8 +20,8 @@ use Rattle.play_save.specs.declared.key.Key.{Key}
 use Rattle.play_save.specs.declared.key.Key.TheVariants.{SaveFile, FormatVersion, GameName, NextParams, CurrentParams, Seed, Desc, PrivateDesc, AuxInfo, Ui, Time, StateCount, Position, State}
 use Rattle.play_save.specs.Records.{Entry, BeginsWith, record_at}
 use Rattle.play_save.specs.KeyedRecords.{KeyedRecord, values_of, states_in, StandsOnce, once_if_kept, is_state, CountsStandFirst, may_be_last, EndsWithState}
-use Rattle.play_save.specs.SaveTexts.{SavedGame, collection, longest_save, AreSaved, SaveText}
-use Rattle.play_save.specs.FirstFaults.{Met, saved_params_at, count_at, first_of, met, fault_unless, state_fault, fault_by, is_complete, records_of, unless, needed, states_played, needed_params, needed_count, extras_in, session_with, session_at, session_of, head_or_fault, behind_head, met_in, load_at}
+use Rattle.play_save.specs.SaveTexts.{SavedGame, collection, format_record, longest_save, AreSaved, SaveText}
+use Rattle.play_save.specs.FirstFaults.{Met, saved_params_at, count_at, first_of, met, fault_unless, state_fault, fault_by, is_complete, records_of, unless, needed, states_played, needed_params, needed_count, extras_in, session_of, head_or_fault, behind_head, met_in, load_at}
 use Rattle.play_save.specs.Taking.{added}
 use Rattle.play_save.proofs.OptionSteps.{map_taken, ok_or_taken}
 use Rattle.play_save.proofs.RecordLaws.{record_taken}
@@ -252,9 +252,9 @@ saved_taken {P} game rs h owes right is =
     subst (λ (x : History P). AreSaved game x rs) (ap (λ (x : History P). at_position x parts.position) (sym legal.2) ∙ parts.whole) made
 
 -- the first record
-head_taken : (e : Entry) (after rest : List ℕ) → head_or_fault e after ≡ Ok rest → (e ≡ record { key = codes "SAVEFILE"; value = collection }) × (after ≡ rest)
+head_taken : (e : Entry) (after rest : List ℕ) → head_or_fault e after ≡ Ok rest → (e ≡ format_record) × (after ≡ rest)
 head_taken e after rest =
-    elim (bytes_eq e.key (codes "SAVEFILE") && bytes_eq e.value collection) as (λ t. (bytes_eq e.key (codes "SAVEFILE") && bytes_eq e.value collection) ≡ t → cond t (Ok after) (Err NotASave) ≡ Ok rest → (e ≡ record { key = codes "SAVEFILE"; value = collection }) × (after ≡ rest)) [
+    elim (bytes_eq e.key (codes "SAVEFILE") && bytes_eq e.value collection) as (λ t. (bytes_eq e.key (codes "SAVEFILE") && bytes_eq e.value collection) ≡ t → cond t (Ok after) (Err NotASave) ≡ Ok rest → (e ≡ format_record) × (after ≡ rest)) [
       | true ↦ λ same is.
           let both = and_taken (bytes_eq e.key (codes "SAVEFILE")) (bytes_eq e.value collection) same in
           let key = (bytes_eq-Decides e.key (codes "SAVEFILE")).0 both.0 in
@@ -263,10 +263,10 @@ head_taken e after rest =
       | false ↦ λ same is. cc
     ] refl
 
-behind_head_taken : (text rest : List ℕ) (read : Result (Option (Entry × List ℕ)) LoadFault) → record_at text ≡ read → behind_head read ≡ Ok rest → BeginsWith (record { key = codes "SAVEFILE"; value = collection }) rest text
+behind_head_taken : (text rest : List ℕ) (read : Result (Option (Entry × List ℕ)) LoadFault) → record_at text ≡ read → behind_head read ≡ Ok rest → BeginsWith format_record rest text
 behind_head_taken text rest (Ok (Some parts)) read is =
     let head = head_taken parts.0 parts.1 rest is in
-    subst (λ (p : Entry × List ℕ). BeginsWith p.0 p.1 text) (ap (λ (e : Entry). (e, parts.1)) head.0 ∙ ap (λ (r : List ℕ). let p : Entry × List ℕ = (record { key = codes "SAVEFILE"; value = collection }, r) in p) head.1) (record_taken text parts.0 parts.1 read)
+    subst (λ (p : Entry × List ℕ). BeginsWith p.0 p.1 text) (ap (λ (e : Entry). (e, parts.1)) head.0 ∙ ap (λ (r : List ℕ). let p : Entry × List ℕ = (format_record, r) in p) head.1) (record_taken text parts.0 parts.1 read)
 behind_head_taken text rest (Ok None) read is = cc
 behind_head_taken text rest (Err fault) read is = cc
 

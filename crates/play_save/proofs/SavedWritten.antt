@@ -1,6 +1,7 @@
 -- What is written of a session is a save of it, and of no other.
-use Rattle.std.proofs.Common.{◌≡◌, ℕ, ◌+◌, ◌≤◌, true, List, [], ◌∷◌, ◌++◌, length, map, codes, Option, Some, None, Result, Ok, Err, IfOk, IfErr, inl, inr, refl, sym, ap, ◌∙◌, subst, arith, length-append, lit≤}
+use Rattle.std.proofs.Common.{◌≡◌, ℕ, ◌+◌, ◌≤◌, true, List, [], ◌∷◌, ◌++◌, length, map, Option, Some, None, Result, Ok, Err, IfOk, IfErr, inl, inr, refl, sym, ap, ◌∙◌, subst, arith, length-append, lit≤}
 use Rattle.std.specs.Fmt.{decimal}
+use Rattle.std.proofs.lemmas.Option.{some_pair_parts}
 use Rattle.std.proofs.lemmas.List.{append-nil, length-map}
 use Rattle.std.proofs.lemmas.List.Elements.{recursion_from_All}
 use Rattle.std.specs.List.{AllByRecursion}
@@ -21,11 +22,11 @@ use Rattle.play_save.specs.declared.fault.LoadFault.{LoadFault}
 use Rattle.play_save.specs.declared.fault.LoadFault.TheVariants.{OutOfMemory}
 use Rattle.play_save.specs.declared.key.Key.{Key}
 use Rattle.play_save.specs.declared.key.Key.TheVariants.{SaveFile, FormatVersion, GameName, NextParams, CurrentParams, Seed, Desc, PrivateDesc, AuxInfo, Ui, Time, StateCount, Position}
-use Rattle.play_save.specs.Records.{Entry, record_at}
+use Rattle.play_save.specs.Records.{record_at}
 use Rattle.play_save.specs.KeyedRecords.{KeyedRecord, BeginsWithAll, values_of, states_in, once_if_kept, EndsWithState}
-use Rattle.play_save.specs.SaveTexts.{SavedGame, collection, longest_save, is_solve, IsStateOf, HaveStates, AreSaved, SaveText}
+use Rattle.play_save.specs.SaveTexts.{SavedGame, collection, format_record, longest_save, is_solve, IsStateOf, HaveStates, AreSaved, SaveText}
 use Rattle.play_save.specs.FirstFaults.{count_at}
-use Rattle.play_save.specs.Written.{with_value, record_text, records_text, save_of}
+use Rattle.play_save.specs.Written.{with_value, state_value, record_text, records_text, save_of}
 use Rattle.play_save.specs.Laws.{HasGrid, WrittenIsSaved, WrittenSavesNoOther}
 use Rattle.play_save.proofs.RecordLaws.{record_again}
 use Rattle.play_save.proofs.RecordLists.{values_of-append, states_in-append}
@@ -34,7 +35,7 @@ use Rattle.play_save.proofs.GameTexts.{Owes}
 use Rattle.play_save.proofs.StatesPlayed.{text_again, have_length}
 use Rattle.play_save.proofs.SavedAgain.{has_state_or_count}
 use Rattle.play_save.proofs.WrittenRecords.{entry_written, written_begins, AreToTheEnd, all_written, begins_prefix, all_begin}
-use Rattle.play_save.proofs.SessionRecords.{tail_records, state_value, values_tail, states_tail, counts_first_tail, ends_tail, known_tail}
+use Rattle.play_save.proofs.SessionRecords.{tail_records, values_tail, states_tail, counts_first_tail, ends_tail, known_tail}
 use Rattle.play_save.proofs.LegalMoves.{FitsText, AllFit, all_fit}
 
 -- a state record that is written has its move
@@ -257,8 +258,8 @@ written_saves_no_other {P} game of_game owes h other valid of t =
     let desc = game.desc_of h.puzzle in
     let all = tail_records title desc h in
     let read = read_written game h t.small in
-    let head = record_again (save_of game.title game.desc_of h) (record { key = codes "SAVEFILE"; value = collection }) t.behind_head t.head in
-    let rest : t.behind_head ≡ 10 ∷ records_text all = same_rest (record { key = codes "SAVEFILE"; value = collection }) (entry_written (with_value SaveFile collection)) t.behind_head (10 ∷ records_text all) (sym head ∙ read.head) in
+    let head = record_again (save_of game.title game.desc_of h) format_record t.behind_head t.head in
+    let rest = (some_pair_parts format_record format_record t.behind_head (10 ∷ records_text all) (cc (head, read.head))).1 in
     let front = begins_prefix t.records all (10 ∷ records_text all) (subst (λ r. BeginsWithAll t.records r) rest t.begins) read.all in
     let same = same_save game h other t.records front.later valid front.split t.saved in
     let s = same.saved in
@@ -291,12 +292,6 @@ written_saves_no_other {P} game of_game owes h other valid of t =
       },
     )
   where
-    same_rest : (a b : Entry) (r s : List ℕ) → (let x : Result (Option (Entry × List ℕ)) LoadFault = Ok (Some (a, r)) in x) ≡ Ok (Some (b, s)) → r ≡ s
-    same_rest a b r s e =
-        let one : Entry × List ℕ = (a, r) in
-        let two : Entry × List ℕ = (b, s) in
-        let pair : one ≡ two = cc in ap (λ p. p.1) pair
-
     same_described : (w : ℕ) (p q : P) (text : List ℕ) → game.Describes w p text → game.Describes w q text → q ≡ p
     same_described w p q text p_is q_is =
         let read_p = owes.texts.reads.again w text p p_is in

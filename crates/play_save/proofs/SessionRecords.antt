@@ -1,20 +1,16 @@
 -- The records that are written for a session: which value stands with which key, and where.
-use Rattle.std.proofs.Common.{◌≡◌, ℕ, ◌+◌, Bool, true, false, ◌==◌, List, [], ◌∷◌, ◌++◌, length, map, codes, Option, Some, None, cond, refl, ap, ◌∙◌}
+use Rattle.std.proofs.Common.{◌≡◌, ℕ, ◌+◌, true, false, ◌==◌, List, [], ◌∷◌, ◌++◌, length, map, codes, Option, Some, None, cond, refl, ap, ◌∙◌}
 use Rattle.std.specs.Fmt.{decimal}
 use Rattle.std.proofs.lemmas.Bool.{cond_both}
 use Rattle.std.proofs.lemmas.List.{append-nil}
 use Rattle.clue_rules.specs.Parameters.{params_text}
 use Rattle.play_midend.specs.declared.moves.Move.{Move}
-use Rattle.play_midend.specs.MoveTexts.{move_text}
-use Rattle.play_midend.specs.Steps.{is_restart}
 use Rattle.play_midend.specs.Histories.{History}
-use Rattle.play_save.specs.declared.key.StateKey.TheVariants.{AnyMove, SolveMove, RestartMove}
 use Rattle.play_save.specs.declared.key.Key.{Key}
 use Rattle.play_save.specs.declared.key.Key.TheVariants.{FormatVersion, GameName, NextParams, CurrentParams, Seed, Desc, AuxInfo, Ui, Time, StateCount, Position, State}
 use Rattle.play_save.specs.Keys.{rank}
 use Rattle.play_save.specs.KeyedRecords.{KeyedRecord, KeyedState, values_of, onto_states, states_in, once_if_kept, is_state, CountsStandFirst, may_be_last, EndsWithState}
-use Rattle.play_save.specs.SaveTexts.{is_solve}
-use Rattle.play_save.specs.Written.{with_value, kept_record, state_record, body_records, state_records}
+use Rattle.play_save.specs.Written.{with_value, kept_record, state_value, state_record, body_records, state_records}
 use Rattle.play_save.proofs.RecordLists.{values_of-append, states_in-append, adds_no_state}
 use Rattle.play_save.proofs.WrittenRecords.{is_known, AreKnown}
 
@@ -27,29 +23,17 @@ four title h =
 abbrev pub tail_records : {P : Type 0} → List ℕ → List ℕ → History P → List KeyedRecord
 tail_records title desc h = four title h ++ (body_records desc h ++ state_records desc h)
 
--- the state record of a move
-abbrev pub state_value : List ℕ → Move → KeyedState
-state_value desc m =
-    cond (is_restart m) (record { key = RestartMove; value = desc })
-    (record { key = cond (is_solve m) SolveMove AnyMove; value = move_text m })
-
 abbrev states_of : List ℕ → List Move → List KeyedRecord
 states_of desc ms = map (state_record desc) ms
 
-state_is : (desc : List ℕ) (m : Move) → is_state (state_record desc m).key ≡ true
-state_is desc m = elim (is_restart m) as (λ t. is_state (cond t (with_value (State RestartMove) desc) (with_value (State (cond (is_solve m) SolveMove AnyMove)) (move_text m))).key ≡ true) [ true ↦ refl | false ↦ refl ]
-
-state_rank : (desc : List ℕ) (m : Move) (k : Key) → is_state k ≡ false → (rank (state_record desc m).key == rank k) ≡ false
-state_rank desc m k header =
-    elim (is_restart m) as (λ t. (rank (cond t (with_value (State RestartMove) desc) (with_value (State (cond (is_solve m) SolveMove AnyMove)) (move_text m))).key == rank k) ≡ false) [ true ↦ other k header | false ↦ other k header ]
+-- a key of no state is no state record's
+states_none : (k : Key) (desc : List ℕ) (ms : List Move) → is_state k ≡ false → values_of k (states_of desc ms) ≡ []
+states_none k desc [] header = refl
+states_none k desc (m ∷ ms) header = rw (other k header) (states_none k desc ms header)
   where
     other : (j : Key) → is_state j ≡ false → (12 == rank j) ≡ false
     other (State j) no_state = cc
     other j no_state = refl
-
-states_none : (k : Key) (desc : List ℕ) (ms : List Move) → is_state k ≡ false → values_of k (states_of desc ms) ≡ []
-states_none k desc [] header = refl
-states_none k desc (m ∷ ms) header = rw (state_rank desc m k header) (states_none k desc ms header)
 
 -- bytes that are kept stand with their own key
 kept_values : (k j : Key) (kept : Option (List ℕ)) → values_of k (kept_record j kept) ≡ cond (rank j == rank k) (once_if_kept kept) []
@@ -89,12 +73,7 @@ states_none_kept j (Some v) header = adds_no_state j v [] header
 
 states_map : (desc : List ℕ) (ms : List Move) → states_in (states_of desc ms) ≡ map (state_value desc) ms
 states_map desc [] = refl
-states_map desc (m ∷ ms) =
-    one (is_restart m) (is_solve m) (move_text m) (states_in (states_of desc ms)) ∙ ap (λ ss. state_value desc m ∷ ss) (states_map desc ms)
-  where
-    one : (restart solve : Bool) (text : List ℕ) (ss : List KeyedState) → onto_states (cond restart (with_value (State RestartMove) desc) (with_value (State (cond solve SolveMove AnyMove)) text)).key (cond restart (with_value (State RestartMove) desc) (with_value (State (cond solve SolveMove AnyMove)) text)).value ss ≡ cond restart (record { key = RestartMove; value = desc }) (record { key = cond solve SolveMove AnyMove; value = text }) ∷ ss
-    one true solve text ss = refl
-    one false solve text ss = refl
+states_map desc (m ∷ ms) = ap (λ ss. state_value desc m ∷ ss) (states_map desc ms)
 
 states_body : {P : Type 0} (desc : List ℕ) (h : History P) → states_in (body_records desc h) ≡ []
 states_body desc h =
@@ -141,11 +120,7 @@ ends_behind (x ∷ z ∷ xs) ys ends = ends_behind (z ∷ xs) ys ends
 
 ends_states : (r : KeyedRecord) (desc : List ℕ) (ms : List Move) → may_be_last r.key ≡ true → EndsWithState (r ∷ states_of desc ms)
 ends_states r desc [] last = last
-ends_states r desc (m ∷ ms) last = ends_states (state_record desc m) desc ms (state_last (state_record desc m).key (state_is desc m))
-  where
-    state_last : (k : Key) → is_state k ≡ true → may_be_last k ≡ true
-    state_last (State k) state = refl
-    state_last k state = cc
+ends_states r desc (m ∷ ms) last = ends_states (state_record desc m) desc ms refl
 
 pub ends_tail : {P : Type 0} (title desc : List ℕ) (h : History P) → EndsWithState (tail_records title desc h)
 ends_tail title desc h =
@@ -163,11 +138,7 @@ known_kept k (Some v) known = (known, tt)
 
 known_states : (desc : List ℕ) (ms : List Move) → AreKnown (states_of desc ms)
 known_states desc [] = tt
-known_states desc (m ∷ ms) = (state_known (state_record desc m).key (state_is desc m), known_states desc ms)
-  where
-    state_known : (k : Key) → is_state k ≡ true → is_known k ≡ true
-    state_known (State k) state = refl
-    state_known k state = cc
+known_states desc (m ∷ ms) = (refl, known_states desc ms)
 
 pub known_tail : {P : Type 0} (title desc : List ℕ) (h : History P) → AreKnown (tail_records title desc h)
 known_tail title desc h =

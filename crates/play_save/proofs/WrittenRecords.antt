@@ -1,12 +1,14 @@
 -- A record that is written is read, and so is a list of them up to its end.
-use Rattle.std.proofs.Common.{◌≡◌, ℕ, ◌<◌, ◌≤◌, ◌^◌, lit<, Bool, true, false, ◌==◌, ◌&&◌, not, List, [], ◌∷◌, ◌++◌, length, Option, Some, None, Result, Ok, cond, refl, sym, ap, ◌∙◌, subst, arith, length-append, append_assoc}
+use Rattle.std.proofs.Common.{◌≡◌, ℕ, ◌<◌, ◌≤◌, ◌^◌, lit<, Bool, true, false, ◌==◌, ◌&&◌, not, List, [], ◌∷◌, ◌++◌, length, Some, refl, sym, ap, ◌∙◌, subst, arith, length-append, append_assoc}
 use Rattle.std.specs.Fmt.{decimal}
 use Rattle.std.proofs.lemmas.Fmt.{decimal_nonempty, length-decimal-le}
-use borrow.Author.Tests.{eqb-false, le-leb}
+use Rattle.std.proofs.lemmas.Bool.{and_parts, not-true, eqb-false, le-leb}
+use Rattle.std.proofs.lemmas.Option.{some_pair_parts}
+use Rattle.std.proofs.lemmas.List.{append-nil}
+use Rattle.byte_text.specs.Bytes.{colon, line_feed}
 use Rattle.byte_text.specs.Cuts.{Lacks}
 use Rattle.byte_text.specs.Decimals.{has_leading_zero, number_from, decimal_value}
 use Rattle.byte_text.proofs.DecimalLaws.{number_again}
-use Rattle.play_save.specs.declared.fault.LoadFault.{LoadFault}
 use Rattle.play_save.specs.declared.key.StateKey.TheVariants.{AnyMove}
 use Rattle.play_save.specs.declared.key.Key.{Key}
 use Rattle.play_save.specs.declared.key.Key.TheVariants.{State, Other}
@@ -15,6 +17,7 @@ use Rattle.play_save.specs.Keys.{key_name, padded, key_of}
 use Rattle.play_save.specs.KeyedRecords.{KeyedRecord, keyed, BeginsWithAll}
 use Rattle.play_save.specs.SaveTexts.{longest_save}
 use Rattle.play_save.specs.Written.{record_text, records_text}
+use Rattle.play_save.proofs.OptionSteps.{else_taken}
 use Rattle.play_save.proofs.RecordLaws.{record_again, end_again}
 use Rattle.play_save.proofs.RightLists.{same_record}
 
@@ -25,16 +28,14 @@ is_known _ = true
 -- what holds of the eight bytes of a key that is written
 free_of_colon : List ℕ → Bool
 free_of_colon [] = true
-free_of_colon (b ∷ bs) = not (b == 58) && free_of_colon bs
+free_of_colon (b ∷ bs) = not (b == colon) && free_of_colon bs
 
-free_lacks : (bs : List ℕ) → free_of_colon bs ≡ true → Lacks 58 bs
+free_lacks : (bs : List ℕ) → free_of_colon bs ≡ true → Lacks colon bs
 unfolding free_of_colon
 free_lacks [] free = tt
 free_lacks (b ∷ bs) free =
-    elim (b == 58) as (λ t. (b == 58) ≡ t → (not t && free_of_colon bs) ≡ true → Lacks 58 (b ∷ bs)) [
-      | true ↦ λ colon both. cc
-      | false ↦ λ other both. (eqb-false b 58 other, free_lacks bs both)
-    ] refl free
+    let both = and_parts (not (b == colon)) (free_of_colon bs) free in
+    (eqb-false b colon (not-true (b == colon) both.0), free_lacks bs both.1)
 
 -- A key that is written has eight bytes, without a colon and a line break in front, and is read as itself.
 record IsKey (k : Key) : Type 0 where
@@ -54,12 +55,8 @@ is_key k known = record { eight = refl; colon_free = refl; no_break = refl; name
 -- the length of a value is read
 from_at : (bs : List ℕ) (n : ℕ) → decimal_value 99999999 bs ≡ Some n → number_from 99999999 0 bs ≡ Some n
 unfolding decimal_value
-from_at [] n = λ is. cc
-from_at (b ∷ bs) n =
-    elim (has_leading_zero (b ∷ bs)) as (λ t. cond t None (number_from 99999999 0 (b ∷ bs)) ≡ Some n → number_from 99999999 0 (b ∷ bs) ≡ Some n) [
-      | true ↦ λ is. cc
-      | false ↦ λ is. is
-    ]
+from_at [] n is = cc
+from_at (b ∷ bs) n is = (else_taken (has_leading_zero (b ∷ bs)) _ n is).1
 
 length_written : (n : ℕ) → n ≤ 99999999 → length_at (decimal n) ≡ Some n
 length_written n few =
@@ -76,20 +73,17 @@ length_written n few =
 abbrev pub entry_written : KeyedRecord → Entry
 entry_written r = record { key = key_name r.key; value = r.value }
 
-pub written_begins : (r : KeyedRecord) (breaks more : List ℕ) → AreBreaks breaks → is_known r.key ≡ true → length r.value ≤ 99999999 → BeginsWith (entry_written r) (10 ∷ more) (breaks ++ (record_text r ++ more))
+pub written_begins : (r : KeyedRecord) (breaks more : List ℕ) → AreBreaks breaks → is_known r.key ≡ true → length r.value ≤ 99999999 → BeginsWith (entry_written r) (line_feed ∷ more) (breaks ++ (record_text r ++ more))
 unfolding record_text
 written_begins r breaks more are known few =
     let own = is_key r.key known in
     let key = padded (key_name r.key) in
     let size = decimal (length r.value) in
-    let e1 : (key ++ (58 ∷ (size ++ (58 ∷ (r.value ++ (10 ∷ [])))))) ++ more ≡ key ++ ((58 ∷ (size ++ (58 ∷ (r.value ++ (10 ∷ []))))) ++ more) = append_assoc key (58 ∷ (size ++ (58 ∷ (r.value ++ (10 ∷ []))))) more in
-    let e2 : (size ++ (58 ∷ (r.value ++ (10 ∷ [])))) ++ more ≡ size ++ ((58 ∷ (r.value ++ (10 ∷ []))) ++ more) = append_assoc size (58 ∷ (r.value ++ (10 ∷ []))) more in
-    let e3 : (r.value ++ (10 ∷ [])) ++ more ≡ r.value ++ (10 ∷ more) = append_assoc r.value (10 ∷ []) more in
     record {
       breaks = breaks;
       key = key;
       digits = size;
-      spelled = ap (λ t. breaks ++ t) (e1 ∙ ap (λ t. key ++ (58 ∷ t)) (e2 ∙ ap (λ t. size ++ (58 ∷ t)) e3));
+      spelled = simp append_assoc;
       are_breaks = are;
       eight = own.eight;
       no_colon = free_lacks key own.colon_free;
@@ -113,25 +107,21 @@ unfolding record_text
 value_within r =
     let key = padded (key_name r.key) in
     let size = decimal (length r.value) in
-    omega (arith, length-append key (58 ∷ (size ++ (58 ∷ (r.value ++ (10 ∷ []))))), length-append size (58 ∷ (r.value ++ (10 ∷ []))), length-append r.value (10 ∷ []))
+    omega (arith, length-append key (colon ∷ (size ++ (colon ∷ (r.value ++ (line_feed ∷ []))))), length-append size (colon ∷ (r.value ++ (line_feed ∷ []))), length-append r.value (line_feed ∷ []))
 
 own_record : (r : KeyedRecord) → is_known r.key ≡ true → keyed (entry_written r) ≡ r
 own_record r known = same_record (keyed (entry_written r)) r.key r.value (is_key r.key known).key_again refl
 
 pub all_written : (rs : List KeyedRecord) (breaks : List ℕ) → AreBreaks breaks → AreKnown rs → length (records_text rs) ≤ longest_save → AreToTheEnd rs (breaks ++ records_text rs)
-all_written [] breaks are known small = subst (λ t. AreBreaks t) (sym (append_nil breaks)) are
-  where
-    append_nil : (xs : List ℕ) → xs ++ [] ≡ xs
-    append_nil [] = refl
-    append_nil (x ∷ xs) = ap (λ ys. x ∷ ys) (append_nil xs)
+all_written [] breaks are known small = subst (λ t. AreBreaks t) (sym (append-nil breaks)) are
 all_written (r ∷ rs) breaks are known small =
     let split = length-append (record_text r) (records_text rs) in
     let few : length r.value ≤ 99999999 = omega (arith, value_within r, split) in (
       entry_written r,
-      10 ∷ records_text rs,
+      line_feed ∷ records_text rs,
       own_record r known.0,
       written_begins r breaks (records_text rs) are known.0 few,
-      all_written rs (10 ∷ []) (refl, tt) known.1 (omega (arith, split)),
+      all_written rs (line_feed ∷ []) (refl, tt) known.1 (omega (arith, split)),
     )
 
 -- the records with which a text begins are the first of all of them
@@ -148,15 +138,10 @@ begins_prefix (r ∷ rs) [] text begins all =
 begins_prefix (r ∷ rs) (m ∷ ms) text begins all =
     let read = record_again text begins.0 begins.1 begins.3 in
     let other = record_again text all.0 all.1 all.3 in
-    let both : (begins.0, begins.1) ≡ (all.0, all.1) = same_pair (begins.0, begins.1) (all.0, all.1) (sym read ∙ other) in
-    let entry : begins.0 ≡ all.0 = ap (λ p. p.0) both in
-    let rest : begins.1 ≡ all.1 = ap (λ p. p.1) both in
-    let same : r ≡ m = sym begins.2 ∙ (ap keyed entry ∙ all.2) in
-    let more = begins_prefix rs ms all.1 (subst (λ t. BeginsWithAll rs t) rest begins.4) all.4 in
+    let both = some_pair_parts begins.0 all.0 begins.1 all.1 (cc) in
+    let same : r ≡ m = sym begins.2 ∙ (ap keyed both.0 ∙ all.2) in
+    let more = begins_prefix rs ms all.1 (subst (λ t. BeginsWithAll rs t) both.1 begins.4) all.4 in
     record { later = more.later; split = ap (λ x. x ∷ ms) (sym same) ∙ ap (λ xs. r ∷ xs) more.split }
-  where
-    same_pair : (a b : Entry × List ℕ) → (let r : Result (Option (Entry × List ℕ)) LoadFault = Ok (Some a) in r) ≡ Ok (Some b) → a ≡ b
-    same_pair a b e = cc
 
 pub all_begin : (rs : List KeyedRecord) (text : List ℕ) → AreToTheEnd rs text → BeginsWithAll rs text
 all_begin [] text all = tt

@@ -14,7 +14,7 @@ use Rattle.play_midend.specs.Histories.{History, IsValid}
 use Rattle.play_save.specs.declared.key.StateKey.{StateKey}
 use Rattle.play_save.specs.declared.key.StateKey.TheVariants.{AnyMove, SolveMove, RestartMove}
 use Rattle.play_save.specs.declared.key.Key.TheVariants.{SaveFile, FormatVersion, GameName, NextParams, CurrentParams, Seed, Desc, PrivateDesc, AuxInfo, Ui, Time, StateCount, Position}
-use Rattle.play_save.specs.Records.{BeginsWith}
+use Rattle.play_save.specs.Records.{Entry, BeginsWith}
 use Rattle.play_save.specs.KeyedRecords.{KeyedRecord, KeyedState, BeginsWithAll, values_of, states_in, StandsOnce, once_if_kept, CountsStandFirst, EndsWithState}
 
 -- What saves ask of a game: its name and letters, what its puzzles are, which text describes which puzzle of which width, the
@@ -47,6 +47,10 @@ saves_of rules game =
 -- the value of the first record, which names the format
 abbrev pub collection : List ℕ
 collection = codes "Simon Tatham's Portable Puzzle Collection"
+
+-- that record
+abbrev pub format_record : Entry
+format_record = record { key = codes "SAVEFILE"; value = collection }
 
 -- the size that a save text may have
 abbrev pub longest_save : ℕ
@@ -93,7 +97,7 @@ pub record AreSaved {P : Type 0} (game : SavedGame P) (h : History P) (rs : List
 pub record SaveText {P : Type 0} (game : SavedGame P) (h : History P) (text : List ℕ) : Type 0 where
   pub small : length text ≤ longest_save
   pub behind_head : List ℕ
-  pub head : BeginsWith (record { key = codes "SAVEFILE"; value = collection }) behind_head text
+  pub head : BeginsWith format_record behind_head text
   pub records : List KeyedRecord
   pub begins : BeginsWithAll records behind_head
   pub saved : AreSaved game h records

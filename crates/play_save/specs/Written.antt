@@ -10,7 +10,7 @@ use Rattle.play_save.specs.declared.key.StateKey.TheVariants.{AnyMove, SolveMove
 use Rattle.play_save.specs.declared.key.Key.{Key}
 use Rattle.play_save.specs.declared.key.Key.TheVariants.{SaveFile, FormatVersion, GameName, NextParams, CurrentParams, Seed, Desc, AuxInfo, Ui, Time, StateCount, Position, State}
 use Rattle.play_save.specs.Keys.{key_name, padded}
-use Rattle.play_save.specs.KeyedRecords.{KeyedRecord}
+use Rattle.play_save.specs.KeyedRecords.{KeyedRecord, KeyedState}
 use Rattle.play_save.specs.SaveTexts.{collection, is_solve}
 use Rattle.byte_text.specs.Bytes.{colon, line_feed}
 
@@ -30,11 +30,15 @@ abbrev pub kept_record : Key → Option (List ℕ) → List KeyedRecord
 kept_record k None = []
 kept_record k (Some value) = with_value k value ∷ []
 
--- the state record of a move, with the description of the puzzle for a restart
+-- the state of a move, with the description of the puzzle for a restart
+abbrev pub state_value : List ℕ → Move → KeyedState
+state_value desc m =
+    if is_restart m then record { key = RestartMove; value = desc }
+    else record { key = if is_solve m then SolveMove else AnyMove; value = move_text m }
+
+-- its record
 abbrev pub state_record : List ℕ → Move → KeyedRecord
-state_record desc m =
-    if is_restart m then with_value (State RestartMove) desc
-    else with_value (State (if is_solve m then SolveMove else AnyMove)) (move_text m)
+state_record desc m = with_value (State (state_value desc m).key) (state_value desc m).value
 
 -- the records in their order, of a game with this name
 abbrev pub head_records : {P : Type 0} → List ℕ → History P → List KeyedRecord
