@@ -1,5 +1,7 @@
 -- What a game owes of its descriptions, and that puzzles with the same written description are the same.
-use Rattle.std.proofs.Common.{◌≡◌, ◌≢◌, ℕ, ◌≤◌, true, false, List, Some, None, Ok, bytes_eq, cond, refl, ap}
+use Rattle.std.proofs.Common.{◌≡◌, ◌≢◌, ℕ, ◌≤◌, true, List, Some, None, Ok, bytes_eq, refl, sym, ap}
+use Rattle.std.proofs.lemmas.Bool.{cond_both}
+use Rattle.std.proofs.lemmas.Option.{cond_some}
 use Rattle.std.proofs.lemmas.Slice.Eq.{bytes_eq-Decides}
 use Rattle.trail_solver.specs.declared.rules.Rules.{Ghosts as RulesGhosts}
 use Rattle.clue_rules.specs.declared.game.Game.{Ghosts as GameGhosts}
@@ -45,11 +47,9 @@ same_puzzle game w p q p_text q_text owes p_is q_is same =
 
 -- a description that is read restarts the puzzle just where it is the same
 pub restart_taken : {P : Type 0} (game : SavedGame P) (p q : P) (m : Move) → restart_of game p q ≡ Some m → (m ≡ Restart) × (game.desc_of q ≡ game.desc_of p)
-restart_taken game p q m =
-    elim (bytes_eq (game.desc_of q) (game.desc_of p)) as (λ t. bytes_eq (game.desc_of q) (game.desc_of p) ≡ t → cond t (Some Restart) None ≡ Some m → (m ≡ Restart) × (game.desc_of q ≡ game.desc_of p)) [
-      | true ↦ λ same is. (cc, (bytes_eq-Decides (game.desc_of q) (game.desc_of p)).0 same)
-      | false ↦ λ same is. cc
-    ] refl
+restart_taken game p q m is =
+    let restarted = cond_some (bytes_eq (game.desc_of q) (game.desc_of p)) Restart m is in
+    (sym restarted.1, (bytes_eq-Decides (game.desc_of q) (game.desc_of p)).0 restarted.0)
 
 pub restart_again : {P : Type 0} (game : SavedGame P) (p : P) → restart_of game p p ≡ Some Restart
 restart_again game p = rw ((bytes_eq-Decides (game.desc_of p) (game.desc_of p)).1 refl) refl
@@ -57,7 +57,8 @@ restart_again game p = rw ((bytes_eq-Decides (game.desc_of p) (game.desc_of p)).
 -- another puzzle is no restart
 pub other_puzzle : {P : Type 0} (game : SavedGame P) (w : ℕ) (p q : P) (p_text q_text : List ℕ) → IsGame game → game.Describes w p p_text → game.Describes w q q_text → q ≢ p → restart_of game p q ≡ None
 other_puzzle game w p q p_text q_text owes p_is q_is other =
-    elim (bytes_eq (game.desc_of q) (game.desc_of p)) as (λ t. bytes_eq (game.desc_of q) (game.desc_of p) ≡ t → cond t (Some Restart) None ≡ None) [
-      | true ↦ λ same. absurd (other (same_puzzle game w p q p_text q_text owes p_is q_is ((bytes_eq-Decides (game.desc_of q) (game.desc_of p)).0 same)))
-      | false ↦ λ same. refl
-    ] refl
+    cond_both (bytes_eq (game.desc_of q) (game.desc_of p)) (Some Restart) None (λ restart. restart ≡ None)
+    (λ same. absurd (other (same_puzzle game w p q p_text q_text owes p_is q_is (same_desc same)))) (λ differs. refl)
+  where
+    same_desc : bytes_eq (game.desc_of q) (game.desc_of p) ≡ true → game.desc_of q ≡ game.desc_of p
+    same_desc same = (bytes_eq-Decides (game.desc_of q) (game.desc_of p)).0 same

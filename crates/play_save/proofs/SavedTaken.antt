@@ -1,10 +1,9 @@
 -- What is read as a session is a save of it.
-use Rattle.std.proofs.Common.{◌≡◌, ℕ, ◌+◌, ◌<◌, Bool, true, false, ◌&&◌, nat_lt, List, [], ◌∷◌, ◌++◌, length, codes, bytes_eq, Option, Some, None, option_map, is_some, Result, Ok, Err, ok_or, cond, refl, sym, ap, ◌∙◌, subst, arith}
+use Rattle.std.proofs.Common.{◌≡◌, ℕ, ◌+◌, ◌<◌, true, false, ◌&&◌, nat_lt, List, [], ◌∷◌, ◌++◌, length, codes, bytes_eq, Option, Some, None, option_map, is_some, Result, Ok, Err, ok_or, refl, sym, ap, ◌∙◌, subst, arith}
 use Rattle.std.specs.Result.{result_ok}
 use Rattle.std.specs.Fmt.{decimal}
 use Rattle.std.proofs.lemmas.Slice.Eq.{bytes_eq-Decides}
-use borrow.Author.Tests.{ltb-false}
-use Rattle.byte_text.specs.Reading.{◌>>=◌}
+use Rattle.std.proofs.lemmas.Bool.{and_parts, ltb-false}
 use Rattle.byte_text.proofs.ReadingLaws.{bind_taken}
 use Rattle.clue_rules.specs.declared.id_fault.IdFault.{IdFault}
 use Rattle.clue_rules.specs.declared.params.Params.{Params}
@@ -23,7 +22,7 @@ use Rattle.play_save.specs.KeyedRecords.{KeyedRecord, values_of, states_in, Stan
 use Rattle.play_save.specs.SaveTexts.{SavedGame, collection, format_record, longest_save, AreSaved, SaveText}
 use Rattle.play_save.specs.FirstFaults.{Met, saved_params_at, count_at, first_of, met, fault_unless, state_fault, fault_by, is_complete, records_of, unless, needed, states_played, needed_params, needed_count, extras_in, session_of, head_or_fault, behind_head, met_in, load_at}
 use Rattle.play_save.specs.Taking.{added}
-use Rattle.play_save.proofs.OptionSteps.{map_taken, ok_or_taken}
+use Rattle.play_save.proofs.OptionSteps.{map_taken, ok_or_taken, ok_else, ok_where}
 use Rattle.play_save.proofs.RecordLaws.{record_taken}
 use Rattle.play_save.proofs.RecordLists.{stands_on, first_some, is_some_taken}
 use Rattle.play_save.proofs.Meeting.{is_once, once_taken, met_added}
@@ -141,10 +140,6 @@ unless_taken : {A : Type 0} (fault : Option LoadFault) (r : Result A LoadFault) 
 unless_taken None r a is = (refl, is)
 unless_taken (Some fault) r a is = cc
 
-and_taken : (a b : Bool) → (a && b) ≡ true → (a ≡ true) × (b ≡ true)
-and_taken true b is = (refl, is)
-and_taken false b is = cc
-
 needed_count_taken : (o : Option (Option ℕ)) (n : ℕ) → needed_count o ≡ Ok n → o ≡ Some (Some n)
 needed_count_taken None n is = cc
 needed_count_taken (Some None) n is = cc
@@ -172,7 +167,7 @@ parts_taken : {P : Type 0} (game : SavedGame P) (m : Met) (h : History P) → se
 unfolding session_of
 parts_taken {P} game m h is =
     let both = unless_taken (fault_unless (m.version && m.name) Missing) _ h is in
-    let names = and_taken m.version m.name (fault_unless_taken (m.version && m.name) Missing both.0) in
+    let names = and_parts m.version m.name (fault_unless_taken (m.version && m.name) Missing both.0) in
     let next = bind_taken (needed_params m.next_params) _ h both.1 in
     let now = bind_taken (needed_params m.params) _ h next.2 in
     let desc = bind_taken (ok_or m.desc Missing) _ h now.2 in
@@ -194,11 +189,8 @@ parts_taken {P} game m h is =
       described = ok_taken (game.desc_at now.0.size desc.0) puzzle.0 (ok_or_taken (result_ok (game.desc_at now.0.size desc.0)) BadDesc puzzle.0 puzzle.1);
       last = last.0;
       played_is = last.1;
-      whole = same_ok (at_position last.0 place.0) h last.2;
+      whole = cc last.2;
     }
-  where
-    same_ok : (a b : History P) → (let r : Result (History P) LoadFault = Ok a in r) ≡ Ok b → a ≡ b
-    same_ok a b e = cc
 
 pub saved_taken : {P : Type 0} (game : SavedGame P) (rs : List KeyedRecord) (h : History P) → IsGame game → AreRight game [] rs → session_of game (met game rs) ≡ Ok h → AreSaved game h rs
 saved_taken {P} game rs h owes right is =
@@ -253,15 +245,13 @@ saved_taken {P} game rs h owes right is =
 
 -- the first record
 head_taken : (e : Entry) (after rest : List ℕ) → head_or_fault e after ≡ Ok rest → (e ≡ format_record) × (after ≡ rest)
-head_taken e after rest =
-    elim (bytes_eq e.key (codes "SAVEFILE") && bytes_eq e.value collection) as (λ t. (bytes_eq e.key (codes "SAVEFILE") && bytes_eq e.value collection) ≡ t → cond t (Ok after) (Err NotASave) ≡ Ok rest → (e ≡ format_record) × (after ≡ rest)) [
-      | true ↦ λ same is.
-          let both = and_taken (bytes_eq e.key (codes "SAVEFILE")) (bytes_eq e.value collection) same in
-          let key = (bytes_eq-Decides e.key (codes "SAVEFILE")).0 both.0 in
-          let value = (bytes_eq-Decides e.value collection).0 both.1 in
-          (ap (λ (k : List ℕ). let x : Entry = record { key = k; value = e.value } in x) key ∙ ap (λ (v : List ℕ). let x : Entry = record { key = codes "SAVEFILE"; value = v } in x) value, cc)
-      | false ↦ λ same is. cc
-    ] refl
+head_taken e after rest is =
+    let named = ok_where (bytes_eq e.key (codes "SAVEFILE") && bytes_eq e.value collection) after NotASave rest is in
+    let both = and_parts (bytes_eq e.key (codes "SAVEFILE")) (bytes_eq e.value collection) named.0 in
+    let key = (bytes_eq-Decides e.key (codes "SAVEFILE")).0 both.0 in
+    let value = (bytes_eq-Decides e.value collection).0 both.1 in
+    (ap (λ (k : List ℕ). let x : Entry = record { key = k; value = e.value } in x) key
+    ∙ ap (λ (v : List ℕ). let x : Entry = record { key = codes "SAVEFILE"; value = v } in x) value, named.1)
 
 behind_head_taken : (text rest : List ℕ) (read : Result (Option (Entry × List ℕ)) LoadFault) → record_at text ≡ read → behind_head read ≡ Ok rest → BeginsWith format_record rest text
 behind_head_taken text rest (Ok (Some parts)) read is =
@@ -273,24 +263,19 @@ behind_head_taken text rest (Err fault) read is = cc
 -- the whole text
 pub load_taken : {P : Type 0} (game : SavedGame P) (text : List ℕ) (h : History P) → IsGame game → load_at game text ≡ Ok h → SaveText game h text
 unfolding load_at
-load_taken {P} game text h owes =
-    elim (nat_lt longest_save (length text)) as (λ t. nat_lt longest_save (length text) ≡ t → cond t (Err TooLarge) (behind_head (record_at text) >>= λ rest. met_in game (records_of rest) >>= λ m. session_of game m) ≡ Ok h → SaveText game h text) [
-      | true ↦ λ large is. cc
-      | false ↦ λ large is.
-          let head = bind_taken (behind_head (record_at text)) (λ rest. met_in game (records_of rest) >>= λ m. session_of game m) h is in
-          let some = bind_taken (met_in game (records_of head.0)) (λ m. session_of game m) h head.2 in
-          let all = bind_taken (needed game [] (records_of head.0)) (λ rs. let r : Result Met LoadFault = Ok (met game rs) in r) some.0 some.1 in
-          let need = needed_taken game [] (records_of head.0) all.0 all.1 in
-          let same : met game need.more ≡ some.0 = ap (met game) (sym need.all_is) ∙ same_ok (met game all.0) some.0 all.2 in
-          record {
-            small = ltb-false longest_save (length text) large;
-            behind_head = head.0;
-            head = behind_head_taken text head.0 (record_at text) refl head.1;
-            records = need.more;
-            begins = records_taken need.more head.0 need.follow;
-            saved = saved_taken game need.more h owes need.right (ap (session_of game) same ∙ some.2);
-          }
-    ] refl
-  where
-    same_ok : (a b : Met) → (let r : Result Met LoadFault = Ok a in r) ≡ Ok b → a ≡ b
-    same_ok a b e = cc
+load_taken {P} game text h owes is =
+    let fits = ok_else (nat_lt longest_save (length text)) TooLarge _ h is in
+    let head = bind_taken (behind_head (record_at text)) _ h fits.1 in
+    let some = bind_taken (met_in game (records_of head.0)) _ h head.2 in
+    let all = bind_taken (needed game [] (records_of head.0)) _ some.0 some.1 in
+    let need = needed_taken game [] (records_of head.0) all.0 all.1 in
+    let met_is : met game all.0 ≡ some.0 = cc all.2 in
+    let same : met game need.more ≡ some.0 = ap (met game) (sym need.all_is) ∙ met_is in
+    record {
+      small = ltb-false longest_save (length text) fits.0;
+      behind_head = head.0;
+      head = behind_head_taken text head.0 (record_at text) refl head.1;
+      records = need.more;
+      begins = records_taken need.more head.0 need.follow;
+      saved = saved_taken game need.more h owes need.right (ap (session_of game) same ∙ some.2);
+    }

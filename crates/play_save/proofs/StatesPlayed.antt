@@ -1,6 +1,7 @@
 -- State records and their moves: what is played of the records is played of the moves.
-use Rattle.std.proofs.Common.{◌≡◌, ◌≢◌, ℕ, suc, add-zero, ◌+◌, ◌≤◌, true, false, List, [], ◌∷◌, length, Option, Some, None, Result, Ok, Err, cond, refl, sym, ap, ◌∙◌, subst, arith}
+use Rattle.std.proofs.Common.{◌≡◌, ◌≢◌, ℕ, suc, add-zero, ◌+◌, ◌≤◌, true, List, [], ◌∷◌, length, Option, Some, None, Result, Ok, Err, refl, sym, ap, ◌∙◌, subst, arith}
 use Rattle.std.specs.Result.{result_ok}
+use Rattle.std.proofs.lemmas.Option.{cond_some}
 use Rattle.byte_text.proofs.ReadingLaws.{bind_taken, bind_again}
 use Rattle.clue_rules.specs.declared.id_fault.IdFault.{IdFault}
 use Rattle.trail_solver.specs.Puzzles.{Puzzle}
@@ -32,11 +33,8 @@ ok_taken (Ok b) a is = cc
 ok_taken (Err e) a is = cc
 
 solution_taken : (m n : Move) → solution_alone m ≡ Some n → (m ≡ n) × (is_solve n ≡ true)
-solution_taken m n =
-    elim (is_solve m) as (λ t. is_solve m ≡ t → cond t (Some m) None ≡ Some n → (m ≡ n) × (is_solve n ≡ true)) [
-      | true ↦ λ solve is. let same : m ≡ n = cc in (same, ap is_solve (sym same) ∙ solve)
-      | false ↦ λ solve is. cc
-    ] refl
+solution_taken m n is =
+    let alone = cond_some (is_solve m) m n is in (alone.1, ap is_solve (sym alone.1) ∙ alone.0)
 
 -- a puzzle of a width that a text describes
 pub record IsDescribed {P : Type 0} (game : SavedGame P) (p : P) : Type 0 where
