@@ -1,5 +1,6 @@
 -- Lists of records without a fault: they are what is read up to the last record that is needed.
-use Rattle.std.proofs.Common.{◌≡◌, ℕ, zero, suc, ◌<◌, ◌≤◌, Bool, true, false, ◌==◌, List, [], ◌∷◌, ◌++◌, length, Option, Some, None, Result, Ok, Err, cond, refl, sym, ap, ◌∙◌, subst, arith, length-append}
+use Rattle.std.proofs.Common.{◌≡◌, ℕ, zero, suc, ◌<◌, ◌≤◌, true, false, ◌==◌, List, [], ◌∷◌, ◌++◌, length, Option, Some, None, Result, Ok, Err, cond, refl, sym, ap, ◌∙◌, subst, arith, length-append}
+use Rattle.std.proofs.lemmas.Bool.{cond_both}
 use Rattle.std.proofs.lemmas.List.{append-nil, append_assoc}
 use Rattle.play_save.specs.declared.fault.LoadFault.{LoadFault}
 use Rattle.play_save.specs.declared.fault.LoadFault.TheVariants.{Malformed, Missing}
@@ -9,6 +10,7 @@ use Rattle.play_save.specs.Keys.{rank}
 use Rattle.play_save.specs.KeyedRecords.{KeyedRecord, BeginsWithAll, values_of, is_state}
 use Rattle.play_save.specs.SaveTexts.{SavedGame}
 use Rattle.play_save.specs.FirstFaults.{met, fault_by, is_complete, Listing, nothing, broken, first, listed, listing_within, records_of, unless, needed}
+use Rattle.play_save.proofs.OptionSteps.{ok_where}
 use Rattle.play_save.proofs.RecordLaws.{record_taken, record_again, record_shorter}
 use Rattle.play_save.proofs.RecordLists.{same_key, values_of-append, stands_on}
 use Rattle.play_save.proofs.Meeting.{is_once, one, stands_alone}
@@ -33,27 +35,30 @@ pub record IsNeeded {P : Type 0} (game : SavedGame P) (before : List KeyedRecord
   pub right : AreRight game before more
   pub follow : Follow more listing
 
-done_needed : {P : Type 0} (game : SavedGame P) (before all : List KeyedRecord) (listing : Listing) (fault : Result (List KeyedRecord) LoadFault) → ((b : List KeyedRecord) → fault ≡ Ok b → IsNeeded game before listing b) → (if_done : Bool) → is_complete (met game before) ≡ if_done → cond if_done (Ok before) fault ≡ Ok all → IsNeeded game before listing all
-done_needed game before all listing fault more true done is =
-    let same : before ≡ all = cc in
+-- before a place where nothing more is needed
+done_needed : {P : Type 0} (game : SavedGame P) (before all : List KeyedRecord) (listing : Listing)
+    → is_complete (met game before) ≡ true → before ≡ all → IsNeeded game before listing all
+done_needed game before all listing done same =
     record { more = []; all_is = sym same ∙ sym (append-nil before); right = done; follow = tt }
-done_needed game before all listing fault more false done is = more all is
 
 -- what is needed of a listing begins it, and is right
 pub needed_taken : {P : Type 0} (game : SavedGame P) (before : List KeyedRecord) (listing : Listing) (all : List KeyedRecord) → needed game before listing ≡ Ok all → IsNeeded game before listing all
 needed_taken game before nothing all is =
-    done_needed game before all nothing (Err Missing) (λ b e. cc) (is_complete (met game before)) refl is
+    let done = ok_where (is_complete (met game before)) before Missing all is in
+    done_needed game before all nothing done.0 done.1
 needed_taken game before broken all is =
-    done_needed game before all broken (Err Malformed) (λ b e. cc) (is_complete (met game before)) refl is
+    let done = ok_where (is_complete (met game before)) before Malformed all is in
+    done_needed game before all broken done.0 done.1
 needed_taken game before (first r more) all is =
-    elim (is_complete (met game before)) as (λ t. is_complete (met game before) ≡ t → cond t (Ok before) (unless (fault_by game (met game before) r.key r.value) (needed game (before ++ r ∷ []) more)) ≡ Ok all → IsNeeded game before (first r more) all) [
-      | true ↦ λ done e.
-          let same : before ≡ all = cc in
-          record { more = []; all_is = sym same ∙ sym (append-nil before); right = done; follow = tt }
-      | false ↦ λ undone e. taken (needed_taken game (before ++ r ∷ []) more all) undone (fault_by game (met game before) r.key r.value) refl e
-    ] refl is
+    cond_both (is_complete (met game before)) _ _ (λ (x : Result (List KeyedRecord) LoadFault). x ≡ Ok all → IsNeeded game before (first r more) all)
+    (λ done e. done_needed game before all (first r more) done (cc))
+    (λ undone e. taken (needed_taken game (before ++ r ∷ []) more all) undone (fault_by game (met game before) r.key r.value) refl e)
+    is
   where
-    taken : (needed game (before ++ r ∷ []) more ≡ Ok all → IsNeeded game (before ++ r ∷ []) more all) → is_complete (met game before) ≡ false → (fault : Option LoadFault) → fault_by game (met game before) r.key r.value ≡ fault → unless fault (needed game (before ++ r ∷ []) more) ≡ Ok all → IsNeeded game before (first r more) all
+    taken : (needed game (before ++ r ∷ []) more ≡ Ok all → IsNeeded game (before ++ r ∷ []) more all)
+        → is_complete (met game before) ≡ false
+        → (fault : Option LoadFault) → fault_by game (met game before) r.key r.value ≡ fault
+        → unless fault (needed game (before ++ r ∷ []) more) ≡ Ok all → IsNeeded game before (first r more) all
     taken along undone (Some fault) has e = cc
     taken along undone None has e =
         let rest = along e in
@@ -113,14 +118,12 @@ records_again rs text begins = follows_again (length text) rs text (omega arith)
 pub none_again : {P : Type 0} (game : SavedGame P) (before rs : List KeyedRecord) (k : Key) → is_once k ≡ true → is_state k ≡ false → 0 < length (values_of k before) → AreRight game before rs → values_of k rs ≡ []
 none_again game before [] k single header some right = refl
 none_again game before (r ∷ rs) k single header some right =
-    elim (rank r.key == rank k) as (λ t. (rank r.key == rank k) ≡ t → cond t (r.value ∷ values_of k rs) (values_of k rs) ≡ []) [
-      | true ↦ λ same.
-          let key = same_key r.key k header same in
-          let none : fault_by game (met game before) k r.value ≡ None = subst (λ (x : Key). fault_by game (met game before) x r.value ≡ None) key right.1 in
-          absurd (omega (arith, ap length (stands_alone game before k r.value single none)))
-      | false ↦ λ other.
-          none_again game (before ++ r ∷ []) rs k single header (stands_on k before r some) right.2
-    ] refl
+    cond_both (rank r.key == rank k) _ _ (λ (values : List (List ℕ)). values ≡ [])
+    (λ same. absurd (omega (arith, ap length (stands_alone game before k r.value single (faultless (same_key r.key k header same))))))
+    (λ other. none_again game (before ++ r ∷ []) rs k single header (stands_on k before r some) right.2)
+  where
+    faultless : r.key ≡ k → fault_by game (met game before) k r.value ≡ None
+    faultless key = rw key at right.1
 
 pub same_record : (r : KeyedRecord) (k : Key) (value : List ℕ) → r.key ≡ k → r.value ≡ value → r ≡ record { key = k; value = value }
 same_record r k value key same_value =
