@@ -1,11 +1,12 @@
 -- Lists of records: the values of a key, and the state records, along a list that is put together.
-use Rattle.std.proofs.Common.{◌≡◌, ℕ, ◌<◌, true, false, ◌==◌, List, [], ◌∷◌, ◌++◌, length, Option, Some, None, is_some, cond, refl, ap, ◌∙◌, arith, length-append}
+use Rattle.std.proofs.Common.{◌≡◌, ℕ, ◌<◌, true, false, ◌==◌, List, [], ◌∷◌, ◌++◌, length, Option, Some, None, is_some, cond, refl, sym, ap, ◌∙◌, arith, length-append}
 use borrow.Author.Tests.{eqb-true, eq-eqb}
 use Rattle.play_save.specs.declared.key.Key.{Key}
 use Rattle.play_save.specs.declared.key.Key.TheVariants.{SaveFile, FormatVersion, GameName, NextParams, CurrentParams, Seed, Desc, PrivateDesc, AuxInfo, Ui, Time, StateCount, Position, State, Other}
 use Rattle.play_save.specs.Keys.{rank}
 use Rattle.play_save.specs.KeyedRecords.{KeyedRecord, KeyedState, values_of, onto_states, states_in, is_state}
 use Rattle.play_save.specs.FirstFaults.{first_of}
+use Rattle.play_save.proofs.OptionSteps.{else_taken}
 
 -- a key is known by its number, unless it is one of the three of states
 by_rank : ℕ → Option Key
@@ -23,12 +24,10 @@ by_own_rank k = refl
 
 pub same_key : (a k : Key) → is_state k ≡ false → (rank a == rank k) ≡ true → a ≡ k
 same_key a k other same =
-    let ranks : by_rank (rank a) ≡ by_rank (rank k) = ap by_rank (eqb-true (rank a) (rank k) same) in
-    let right : by_rank (rank k) ≡ Some k = by_own_rank k ∙ ap (λ t. cond t None (Some k)) other in
-    elim (is_state a) as (λ t. is_state a ≡ t → a ≡ k) [
-      | true ↦ λ is. let left : by_rank (rank a) ≡ None = by_own_rank a ∙ ap (λ t. cond t None (Some a)) is in cc
-      | false ↦ λ is. let left : by_rank (rank a) ≡ Some a = by_own_rank a ∙ ap (λ t. cond t None (Some a)) is in cc
-    ] refl
+    let found : cond (is_state a) None (Some a) ≡ Some k =
+    sym (by_own_rank a) ∙ (ap by_rank (eqb-true (rank a) (rank k) same) ∙ (by_own_rank k ∙ ap (λ t. cond t None (Some k)) other)) in
+    let is = else_taken (is_state a) (Some a) k found in
+    cc is.1
 
 pub own_rank : (k : Key) → (rank k == rank k) ≡ true
 own_rank k = eq-eqb (rank k) (rank k) refl

@@ -1,5 +1,5 @@
 -- Lists of records without a fault: they are what is read up to the last record that is needed.
-use Rattle.std.proofs.Common.{◌≡◌, ℕ, zero, suc, ◌<◌, ◌≤◌, true, false, ◌==◌, List, [], ◌∷◌, ◌++◌, length, Option, Some, None, Result, Ok, Err, cond, refl, sym, ap, ◌∙◌, subst, arith, length-append}
+use Rattle.std.proofs.Common.{◌≡◌, ℕ, zero, suc, ◌<◌, ◌≤◌, true, false, ◌==◌, List, [], ◌∷◌, ◌++◌, length, Option, Some, None, Result, Ok, Err, refl, sym, ap, ◌∙◌, subst, arith, length-append}
 use Rattle.std.proofs.lemmas.Bool.{cond_both}
 use Rattle.std.proofs.lemmas.List.{append-nil, append_assoc}
 use Rattle.play_save.specs.declared.fault.LoadFault.{LoadFault}
@@ -142,32 +142,35 @@ pub record StandsAlone {P : Type 0} (game : SavedGame P) (k : Key) (value : List
 pub stands_at : {P : Type 0} (game : SavedGame P) (before rs : List KeyedRecord) (k : Key) (value : List ℕ) (more : List (List ℕ)) → is_once k ≡ true → is_state k ≡ false → AreRight game before rs → values_of k rs ≡ value ∷ more → StandsAlone game k value rs before
 stands_at game before [] k value more single header right is = cc
 stands_at game before (r ∷ rs) k value more single header right is =
-    elim (rank r.key == rank k) as (λ t. (rank r.key == rank k) ≡ t → cond t (r.value ∷ values_of k rs) (values_of k rs) ≡ value ∷ more → StandsAlone game k value (r ∷ rs) before) [
-      | true ↦ λ same e.
-          let key = same_key r.key k header same in
-          let same_value : r.value ≡ value = cc in
-          let here = same_record r k value key same_value in
-          let own : values_of k (r ∷ []) ≡ r.value ∷ [] = rw same refl in
-          let some : 0 < length (values_of k (before ++ r ∷ [])) =
-          rw (values_of-append k before (r ∷ []), own) (omega (arith, length-append (values_of k before) (r.value ∷ []))) in
-          let none = none_again game (before ++ r ∷ []) rs k single header some right.2 in
-          record {
-            alone = rw (same, none) (ap (λ v. v ∷ []) same_value);
-            front = [];
-            later = rs;
-            split = ap (λ x. x ∷ rs) here;
-            faultless = rw (append-nil before) (subst (λ (x : KeyedRecord). fault_by game (met game before) x.key x.value ≡ None) here right.1);
-            undone = rw (append-nil before) right.0;
-          }
-      | false ↦ λ other e.
-          let rest = stands_at game (before ++ r ∷ []) rs k value more single header right.2 e in
-          let seam : (before ++ r ∷ []) ++ rest.front ≡ before ++ (r ∷ rest.front) = append_assoc before (r ∷ []) rest.front in
-          record {
-            alone = rw other rest.alone;
-            front = r ∷ rest.front;
-            later = rest.later;
-            split = ap (λ xs. r ∷ xs) rest.split;
-            faultless = subst (λ (b : List KeyedRecord). fault_by game (met game b) k value ≡ None) seam rest.faultless;
-            undone = subst (λ (b : List KeyedRecord). is_complete (met game b) ≡ false) seam rest.undone;
-          }
-    ] refl is
+    cond_both (rank r.key == rank k) _ _ (λ (values : List (List ℕ)). values ≡ value ∷ more → StandsAlone game k value (r ∷ rs) before)
+    (λ same e. stands_here same (cc))
+    (λ other e. stands_later other (stands_at game (before ++ r ∷ []) rs k value more single header right.2 e)) is
+  where
+    stands_here : (rank r.key == rank k) ≡ true → r.value ≡ value → StandsAlone game k value (r ∷ rs) before
+    stands_here same same_value =
+        let here = same_record r k value (same_key r.key k header same) same_value in
+        let own : values_of k (r ∷ []) ≡ r.value ∷ [] = rw same refl in
+        let some : 0 < length (values_of k (before ++ r ∷ [])) =
+        rw (values_of-append k before (r ∷ []), own) (omega (arith, length-append (values_of k before) (r.value ∷ []))) in
+        let none = none_again game (before ++ r ∷ []) rs k single header some right.2 in
+        record {
+          alone = rw (same, none) (ap (λ v. v ∷ []) same_value);
+          front = [];
+          later = rs;
+          split = ap (λ x. x ∷ rs) here;
+          faultless = rw (append-nil before) (subst (λ (x : KeyedRecord). fault_by game (met game before) x.key x.value ≡ None) here right.1);
+          undone = rw (append-nil before) right.0;
+        }
+
+    stands_later : (rank r.key == rank k) ≡ false → StandsAlone game k value rs (before ++ r ∷ [])
+        → StandsAlone game k value (r ∷ rs) before
+    stands_later other rest =
+        let seam : (before ++ r ∷ []) ++ rest.front ≡ before ++ (r ∷ rest.front) = append_assoc before (r ∷ []) rest.front in
+        record {
+          alone = rw other rest.alone;
+          front = r ∷ rest.front;
+          later = rest.later;
+          split = ap (λ xs. r ∷ xs) rest.split;
+          faultless = rw seam at rest.faultless;
+          undone = rw seam at rest.undone;
+        }

@@ -14,7 +14,7 @@ use Rattle.clue_rules.specs.declared.params.Params.{Params}
 use Rattle.clue_rules.specs.Parameters.{IsParams, letter_part, params_text}
 use Rattle.play_midend.specs.declared.extras.Extras.{Extras}
 use Rattle.play_midend.specs.declared.moves.Move.{Move}
-use Rattle.play_midend.specs.declared.moves.Move.TheVariants.{Real, Pencil, MarkAll, Solve, Restart, Done}
+use Rattle.play_midend.specs.declared.moves.Move.TheVariants.{Solve, Restart}
 use Rattle.play_midend.specs.MoveTexts.{move_text, IsMoveText}
 use Rattle.play_midend.specs.Steps.{start_of}
 use Rattle.play_midend.specs.Histories.{History, IsValid, most_states, shown}
@@ -40,14 +40,11 @@ use Rattle.play_save.proofs.LegalMoves.{FitsText, AllFit, all_fit}
 
 -- a state record that is written has its move
 state_again : {P : Type 0} (game : SavedGame P) (p : P) (desc : List ℕ) (m : Move) → game.Describes (game.puzzle p).size p desc → FitsText (game.puzzle p) m → HasGrid m → IsStateOf game p m (state_value desc m).key (state_value desc m).value
-state_again game p desc (Real x y n) described fits grid = record { writable = fits; spelled = refl }
-state_again game p desc (Pencil x y n) described fits grid = record { writable = fits; spelled = refl }
-state_again game p desc MarkAll described fits grid = record { writable = tt; spelled = refl }
 state_again game p desc (Solve g) described fits grid =
     let solves = (Decides-solves_test (game.puzzle p) g grid).0 fits.1 in
     (record { writable = record { grid = grid; full = latin_full g solves.latin }; spelled = refl }, refl)
 state_again game p desc Restart described fits grid = (refl, described)
-state_again game p desc (Done x y) described fits grid = record { writable = fits; spelled = refl }
+state_again game p desc m described fits grid = record { writable = fits; spelled = refl }
 
 states_again : {P : Type 0} (game : SavedGame P) (p : P) (desc : List ℕ) (ms : List Move) → game.Describes (game.puzzle p).size p desc → AllFit (game.puzzle p) ms → AllByRecursion HasGrid ms → HaveStates game p ms (map (state_value desc) ms)
 states_again game p desc [] described fits grids = tt
@@ -78,19 +75,12 @@ same_solve p (Solve f) g fits size is solve =
     let numbers = map_injective g.numbers f.numbers digits in
     let sizes : f.size ≡ g.size = fits.0 ∙ sym size in
     ap Solve (ap (λ (n : ℕ). let x : GridValue = record { size = n; numbers = f.numbers } in x) sizes ∙ ap (λ (ns : List ℕ). let x : GridValue = record { size = g.size; numbers = ns } in x) (sym numbers))
-same_solve p (Real x y n) g fits size is solve = cc
-same_solve p (Pencil x y n) g fits size is solve = cc
-same_solve p MarkAll g fits size is solve = cc
-same_solve p Restart g fits size is solve = cc
-same_solve p (Done x y) g fits size is solve = cc
+same_solve p t g fits size is solve = cc
 
 same_move : {P : Type 0} (game : SavedGame P) (q : P) (desc : List ℕ) (p : Puzzle) (t m : Move) → FitsText p t → FitsText p m → IsStateOf game q t (state_value desc m).key (state_value desc m).value → t ≡ m
-same_move game q desc p t (Real x y n) t_fits fits is = same_text t (Real x y n) is (record { writable = fits; spelled = refl })
-same_move game q desc p t (Pencil x y n) t_fits fits is = same_text t (Pencil x y n) is (record { writable = fits; spelled = refl })
-same_move game q desc p t MarkAll t_fits fits is = same_text t MarkAll is (record { writable = tt; spelled = refl })
 same_move game q desc p t (Solve g) t_fits fits is = same_solve p t g t_fits fits.0 is.0 is.1
 same_move game q desc p t Restart t_fits fits is = is.0
-same_move game q desc p t (Done x y) t_fits fits is = same_text t (Done x y) is (record { writable = fits; spelled = refl })
+same_move game q desc p t m t_fits fits is = same_text t m is (record { writable = fits; spelled = refl })
 
 same_moves : {P : Type 0} (game : SavedGame P) (q : P) (desc : List ℕ) (p : Puzzle) (ts ms : List Move) → AllFit p ts → AllFit p ms → HaveStates game q ts (map (state_value desc) ms) → ts ≡ ms
 same_moves game q desc p [] [] t_fits fits have = refl
