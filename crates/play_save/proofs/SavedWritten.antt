@@ -5,6 +5,7 @@ use Rattle.std.proofs.lemmas.Option.{some_pair_parts}
 use Rattle.std.proofs.lemmas.List.{append-nil, length-map}
 use Rattle.std.proofs.lemmas.List.Elements.{recursion_from_All}
 use Rattle.std.specs.List.{AllByRecursion}
+use Rattle.byte_text.specs.Bytes.{line_feed, digit}
 use Rattle.byte_text.specs.Reading.{GivesUnless}
 use Rattle.latin_board.specs.Squares.{GridValue}
 use Rattle.latin_board.proofs.LatinLines.{latin_full}
@@ -52,15 +53,14 @@ states_again game p desc (m ∷ ms) described fits grids =
     (state_again game p desc m described fits.0 grids.0, states_again game p desc ms described fits.1 grids.1)
 
 -- the move of a state record that is written is that move
-map_injective : (xs ys : List ℕ) → map (λ n. 48 + n) xs ≡ map (λ n. 48 + n) ys → xs ≡ ys
-map_injective [] [] e = refl
-map_injective [] (y ∷ ys) e = cc
-map_injective (x ∷ xs) [] e = cc
-map_injective (x ∷ xs) (y ∷ ys) e =
-    let head : 48 + x ≡ 48 + y = cc in
-    let rest : map (λ n. 48 + n) xs ≡ map (λ n. 48 + n) ys = cc in
+same_digits : (xs ys : List ℕ) → map digit xs ≡ map digit ys → xs ≡ ys
+same_digits [] [] e = refl
+same_digits (x ∷ xs) (y ∷ ys) e =
+    let head : digit x ≡ digit y = cc in
+    let rest = same_digits xs ys (cc) in
     let same : x ≡ y = omega arith in
-    ap (λ n. n ∷ xs) same ∙ ap (λ ns. y ∷ ns) (map_injective xs ys rest)
+    cc
+same_digits xs ys e = cc
 
 same_text : (t m : Move) → IsMoveText t (move_text m) → IsMoveText m (move_text m) → t ≡ m
 same_text t m one other =
@@ -71,10 +71,12 @@ same_text t m one other =
 same_solve : (p : Puzzle) (t : Move) (g : GridValue) → FitsText p t → g.size ≡ p.size → IsMoveText t (move_text (Solve g)) → is_solve t ≡ true → t ≡ Solve g
 same_solve p (Solve f) g fits size is solve =
     let text = is.spelled in
-    let digits : map (λ n. 48 + n) g.numbers ≡ map (λ n. 48 + n) f.numbers = cc in
-    let numbers = map_injective g.numbers f.numbers digits in
+    let numbers = same_digits g.numbers f.numbers (cc) in
     let sizes : f.size ≡ g.size = fits.0 ∙ sym size in
-    ap Solve (ap (λ (n : ℕ). let x : GridValue = record { size = n; numbers = f.numbers } in x) sizes ∙ ap (λ (ns : List ℕ). let x : GridValue = record { size = g.size; numbers = ns } in x) (sym numbers))
+    let one : GridValue = record { size = f.size; numbers = f.numbers } in
+    let other : GridValue = record { size = g.size; numbers = g.numbers } in
+    let same : one ≡ other = cc in
+    ap Solve same
 same_solve p t g fits size is solve = cc
 
 same_move : {P : Type 0} (game : SavedGame P) (q : P) (desc : List ℕ) (p : Puzzle) (t m : Move) → FitsText p t → FitsText p m → IsStateOf game q t (state_value desc m).key (state_value desc m).value → t ≡ m
@@ -93,23 +95,23 @@ same_moves game q desc p (t ∷ ts) (m ∷ ms) t_fits fits have =
 -- parameters by their text
 same_params : (p q : Params) → params_text p ≡ params_text q → p ≡ q
 same_params p q text =
-    let first : 48 + p.size ≡ 48 + q.size = cc in
-    let rest : letter_part p.letter ≡ letter_part q.letter = cc in
+    let first : digit p.size ≡ digit q.size = cc in
     let size : p.size ≡ q.size = omega arith in
-    let letter = by_letter p.letter q.letter rest in
-    ap (λ (n : ℕ). let x : Params = record { size = n; letter = p.letter } in x) size ∙ ap (λ (l : Option ℕ). let x : Params = record { size = q.size; letter = l } in x) letter
+    let letter = by_letter p.letter q.letter (cc) in
+    let one : Params = record { size = p.size; letter = p.letter } in
+    let other : Params = record { size = q.size; letter = q.letter } in
+    let same : one ≡ other = cc in
+    same
   where
     by_letter : (a b : Option ℕ) → letter_part a ≡ letter_part b → a ≡ b
     by_letter None None e = refl
-    by_letter None (Some b) e = cc
-    by_letter (Some a) None e = cc
     by_letter (Some a) (Some b) e = cc
+    by_letter a b e = cc
 
 same_kept : (a b : Option (List ℕ)) → once_if_kept a ≡ once_if_kept b → a ≡ b
 same_kept None None e = refl
-same_kept None (Some b) e = cc
-same_kept (Some a) None e = cc
 same_kept (Some a) (Some b) e = cc
+same_kept a b e = cc
 
 same_count : (m n : ℕ) → 1 ≤ m → m ≤ most_states → 1 ≤ n → n ≤ most_states → decimal m ≡ decimal n → m ≡ n
 same_count m n m_first m_few n_first n_few text =
@@ -124,8 +126,8 @@ unfolding save_of
 written_text game h = refl
 
 record Read {P : Type 0} (game : SavedGame P) (h : History P) (text : List ℕ) : Type 0 where
-  head : record_at text ≡ Ok (Some (entry_written (with_value SaveFile collection), 10 ∷ records_text (tail_records game.title (game.desc_of h.puzzle) h)))
-  all : AreToTheEnd (tail_records game.title (game.desc_of h.puzzle) h) (10 ∷ records_text (tail_records game.title (game.desc_of h.puzzle) h))
+  head : record_at text ≡ Ok (Some (entry_written (with_value SaveFile collection), line_feed ∷ records_text (tail_records game.title (game.desc_of h.puzzle) h)))
+  all : AreToTheEnd (tail_records game.title (game.desc_of h.puzzle) h) (line_feed ∷ records_text (tail_records game.title (game.desc_of h.puzzle) h))
 
 read_written : {P : Type 0} (game : SavedGame P) (h : History P) → length (save_of game.title game.desc_of h) ≤ longest_save → Read game h (save_of game.title game.desc_of h)
 read_written {P} game h small =
@@ -134,8 +136,8 @@ read_written {P} game h small =
     let text = written_text game h in
     let short : length (records_text rs) ≤ longest_save = omega (arith, ap length text, length-append (record_text head) (records_text rs)) in
     let made : Read game h (record_text head ++ records_text rs) = record {
-      head = record_again (record_text head ++ records_text rs) (entry_written head) (10 ∷ records_text rs) (written_begins head [] (records_text rs) tt refl (lit≤ tt));
-      all = all_written rs (10 ∷ []) (refl, tt) (known_tail game.title (game.desc_of h.puzzle) h) short;
+      head = record_again (record_text head ++ records_text rs) (entry_written head) (line_feed ∷ records_text rs) (written_begins head [] (records_text rs) tt refl (lit≤ tt));
+      all = all_written rs (line_feed ∷ []) (refl, tt) (known_tail game.title (game.desc_of h.puzzle) h) short;
     } in
     subst (λ t. Read game h t) (sym text) made
 
@@ -153,10 +155,10 @@ written_is_saved {P} game of_game owes h storable grids small =
     let head_begins = written_begins (with_value SaveFile collection) [] (records_text rs) tt refl (lit≤ tt) in
     record {
       small = small;
-      behind_head = 10 ∷ records_text rs;
+      behind_head = line_feed ∷ records_text rs;
       head = rw (written_text game h) head_begins;
       records = rs;
-      begins = all_begin rs (10 ∷ records_text rs) read.all;
+      begins = all_begin rs (line_feed ∷ records_text rs) read.all;
       saved = record {
         no_second_head = values_tail title desc h SaveFile refl;
         version = values_tail title desc h FormatVersion refl;
@@ -229,15 +231,17 @@ same_save {P} game h other rs later valid split saved =
 -- and so it is the session
 same_history : {P : Type 0} (a b : History P) → a.puzzle ≡ b.puzzle → a.params ≡ b.params → a.next_params ≡ b.next_params → a.extras ≡ b.extras → a.moves ≡ b.moves → a.position ≡ b.position → a ≡ b
 same_history {P} a b puzzle params next extras moves position =
-    let one : History P = record { puzzle = a.puzzle; params = a.params; next_params = a.next_params; extras = a.extras; moves = a.moves; position = a.position } in
-    let two : History P = record { puzzle = b.puzzle; params = b.params; next_params = b.next_params; extras = b.extras; moves = b.moves; position = b.position } in
-    let same : one ≡ two = cc in same
+    let one : History P = record a { puzzle = a.puzzle } in
+    let other : History P = record b { puzzle = b.puzzle } in
+    let same : one ≡ other = cc in
+    same
 
 same_extras : (a b : Extras) → a.seed ≡ b.seed → a.auxinfo ≡ b.auxinfo → a.ui ≡ b.ui → a.time ≡ b.time → a ≡ b
 same_extras a b seed auxinfo ui time =
-    let one : Extras = record { seed = a.seed; auxinfo = a.auxinfo; ui = a.ui; time = a.time } in
-    let two : Extras = record { seed = b.seed; auxinfo = b.auxinfo; ui = b.ui; time = b.time } in
-    let same : one ≡ two = cc in same
+    let one : Extras = record a { seed = a.seed } in
+    let other : Extras = record b { seed = b.seed } in
+    let same : one ≡ other = cc in
+    same
 
 one_of : {A : Type 0} (a b : A) (values : List A) → values ≡ a ∷ [] → values ≡ b ∷ [] → a ≡ b
 one_of a b values one other = cc
@@ -249,8 +253,8 @@ written_saves_no_other {P} game of_game owes h other valid of t =
     let all = tail_records title desc h in
     let read = read_written game h t.small in
     let head = record_again (save_of game.title game.desc_of h) format_record t.behind_head t.head in
-    let rest = (some_pair_parts format_record format_record t.behind_head (10 ∷ records_text all) (cc (head, read.head))).1 in
-    let front = begins_prefix t.records all (10 ∷ records_text all) (subst (λ r. BeginsWithAll t.records r) rest t.begins) read.all in
+    let rest = (some_pair_parts format_record format_record t.behind_head (line_feed ∷ records_text all) (cc (head, read.head))).1 in
+    let front = begins_prefix t.records all (line_feed ∷ records_text all) (subst (λ r. BeginsWithAll t.records r) rest t.begins) read.all in
     let same = same_save game h other t.records front.later valid front.split t.saved in
     let s = same.saved in
     let next_text = one_of s.next_params.0 (params_text h.next_params) (values_of NextParams all) s.next_params.1 (values_tail title desc h NextParams refl) in
