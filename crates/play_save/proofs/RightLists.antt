@@ -127,8 +127,9 @@ none_again game before (r ∷ rs) k single header some right =
 
 pub same_record : (r : KeyedRecord) (k : Key) (value : List ℕ) → r.key ≡ k → r.value ≡ value → r ≡ record { key = k; value = value }
 same_record r k value key same_value =
-    ap (λ (x : Key). let y : KeyedRecord = record { key = x; value = r.value } in y) key
-    ∙ ap (λ (v : List ℕ). let y : KeyedRecord = record { key = k; value = v } in y) same_value
+    let own : KeyedRecord = record r { key = r.key } in
+    let same : own ≡ record { key = k; value = value } = cc in
+    same
 
 -- where a value of such a key stands, it stands alone and has no fault
 pub record StandsAlone {P : Type 0} (game : SavedGame P) (k : Key) (value : List ℕ) (rs : List KeyedRecord) (before : List KeyedRecord) : Type 0 where

@@ -250,15 +250,15 @@ head_taken e after rest is =
     let both = and_parts (bytes_eq e.key (codes "SAVEFILE")) (bytes_eq e.value collection) named.0 in
     let key = (bytes_eq-Decides e.key (codes "SAVEFILE")).0 both.0 in
     let value = (bytes_eq-Decides e.value collection).0 both.1 in
-    (ap (λ (k : List ℕ). let x : Entry = record { key = k; value = e.value } in x) key
-    ∙ ap (λ (v : List ℕ). let x : Entry = record { key = codes "SAVEFILE"; value = v } in x) value, named.1)
+    let own : Entry = record e { key = e.key } in
+    let same : own ≡ format_record = cc in
+    (same, named.1)
 
 behind_head_taken : (text rest : List ℕ) (read : Result (Option (Entry × List ℕ)) LoadFault) → record_at text ≡ read → behind_head read ≡ Ok rest → BeginsWith format_record rest text
 behind_head_taken text rest (Ok (Some parts)) read is =
     let head = head_taken parts.0 parts.1 rest is in
-    subst (λ (p : Entry × List ℕ). BeginsWith p.0 p.1 text) (ap (λ (e : Entry). (e, parts.1)) head.0 ∙ ap (λ (r : List ℕ). let p : Entry × List ℕ = (format_record, r) in p) head.1) (record_taken text parts.0 parts.1 read)
-behind_head_taken text rest (Ok None) read is = cc
-behind_head_taken text rest (Err fault) read is = cc
+    rw (head.0, head.1) at (record_taken text parts.0 parts.1 read)
+behind_head_taken text rest other read is = cc
 
 -- the whole text
 pub load_taken : {P : Type 0} (game : SavedGame P) (text : List ℕ) (h : History P) → IsGame game → load_at game text ≡ Ok h → SaveText game h text
