@@ -65,7 +65,8 @@ pub record Sound (count position : Option (Option ℕ)) (states : ℕ) : Type 0 
 abbrev pub IsSound : Met → Type 0
 IsSound m = Sound m.count m.position (length m.states)
 
-sound_count : {P : Type 0} (game : SavedGame P) (m : Met) (value : List ℕ) → IsSound m → fault_by game m StateCount value ≡ None → IsSound (added game m StateCount value)
+sound_count : {P : Type 0} (game : SavedGame P) (m : Met) (value : List ℕ)
+    → IsSound m → fault_by game m StateCount value ≡ None → IsSound (added game m StateCount value)
 sound_count game m value s none =
     let fresh = once_taken (is_some m.count) _ none in
     let good = count_faultless (λ n p. nat_le p n) (count_at value) m.position fresh.1 in
@@ -84,7 +85,8 @@ sound_count game m value s none =
     absent None unmet = refl
     absent (Some x) unmet = cc
 
-sound_position : {P : Type 0} (game : SavedGame P) (m : Met) (value : List ℕ) → IsSound m → fault_by game m Position value ≡ None → IsSound (added game m Position value)
+sound_position : {P : Type 0} (game : SavedGame P) (m : Met) (value : List ℕ)
+    → IsSound m → fault_by game m Position value ≡ None → IsSound (added game m Position value)
 sound_position game m value s none =
     let fresh = once_taken (is_some m.position) _ none in
     let good = count_faultless nat_le (count_at value) m.count fresh.1 in
@@ -99,16 +101,21 @@ sound_position game m value s none =
     }
 
 -- both counts were met before a state without a fault
-pub counts_met : (count position : Option (Option ℕ)) (m : Met) (fault : Option LoadFault) → m.count ≡ count → m.position ≡ position → behind_counts m fault ≡ None → (x : Option ℕ) × (y : Option ℕ) × (count ≡ Some x) × (position ≡ Some y) × (fault ≡ None)
+pub counts_met : (count position : Option (Option ℕ)) (m : Met) (fault : Option LoadFault)
+    → m.count ≡ count → m.position ≡ position → behind_counts m fault ≡ None
+    → (x : Option ℕ) × (y : Option ℕ) × (count ≡ Some x) × (position ≡ Some y) × (fault ≡ None)
 counts_met None position m fault c p none = let early = rw c at none in cc
 counts_met (Some x) None m fault c p none = let early = rw (c, p) at none in cc
 counts_met (Some x) (Some y) m fault c p none =
     (x, y, refl, refl, rw (c, p) at none)
 
-sound_state : {P : Type 0} (game : SavedGame P) (m : Met) (k : StateKey) (value : List ℕ) → IsSound m → is_complete m ≡ false → fault_by game m (State k) value ≡ None → IsSound (added game m (State k) value)
+sound_state : {P : Type 0} (game : SavedGame P) (m : Met) (k : StateKey) (value : List ℕ)
+    → IsSound m → is_complete m ≡ false → fault_by game m (State k) value ≡ None
+    → IsSound (added game m (State k) value)
 sound_state game m k value s undone none =
     let both = counts_met m.count m.position m (state_fault k value) refl refl none in
-    let longer : length (m.states ++ record { key = k; value = value } ∷ []) ≡ length m.states + 1 = length-append m.states (record { key = k; value = value } ∷ []) in
+    let longer : length (m.states ++ record { key = k; value = value } ∷ []) ≡ length m.states + 1 =
+    length-append m.states (record { key = k; value = value } ∷ []) in
     rw longer (record {
       count_read = s.count_read;
       position_read = s.position_read;
@@ -124,7 +131,8 @@ sound_state game m k value s undone none =
         let test : nat_le n (length m.states + 1) ≡ false = rw (c, p) at undone in
         let above = leb-false n (length m.states + 1) test in omega arith
 
-pub sound_added : {P : Type 0} (game : SavedGame P) (m : Met) (k : Key) (value : List ℕ) → IsSound m → is_complete m ≡ false → fault_by game m k value ≡ None → IsSound (added game m k value)
+pub sound_added : {P : Type 0} (game : SavedGame P) (m : Met) (k : Key) (value : List ℕ)
+    → IsSound m → is_complete m ≡ false → fault_by game m k value ≡ None → IsSound (added game m k value)
 sound_added game m StateCount value s undone none = sound_count game m value s none
 sound_added game m Position value s undone none = sound_position game m value s none
 sound_added game m (State k) value s undone none = sound_state game m k value s undone none
@@ -135,7 +143,8 @@ pub record IsWhole (m : Met) : Type 0 where
   pub sound : IsSound m
   pub complete : is_complete m ≡ true
 
-pub right_whole : {P : Type 0} (game : SavedGame P) (before rs : List KeyedRecord) → IsSound (met game before) → AreRight game before rs → IsWhole (met game (before ++ rs))
+pub right_whole : {P : Type 0} (game : SavedGame P) (before rs : List KeyedRecord)
+    → IsSound (met game before) → AreRight game before rs → IsWhole (met game (before ++ rs))
 right_whole game before [] s right = rw (append-nil before) (record { sound = s; complete = right })
 right_whole game before (r ∷ rs) s right =
     let added_is = met_added game before r.key r.value right.1 in
@@ -197,7 +206,8 @@ fits m c = record {
       (omega (arith, same, c.first), omega (arith, same, c.inside, c.states));
 }
 
-pub playable : {P : Type 0} (game : SavedGame P) (listing : Listing) (m : Met) → met_in game listing ≡ Ok m → IsPlayable m
+pub playable : {P : Type 0} (game : SavedGame P) (listing : Listing) (m : Met)
+    → met_in game listing ≡ Ok m → IsPlayable m
 playable game listing m is =
     let step = bind_taken (needed game [] listing) (λ rs. let r : Result Met LoadFault = Ok (met game rs) in r) m is in
     let need = needed_taken game [] listing step.0 step.1 in

@@ -38,7 +38,8 @@ game_owes {P} rules game taken again canonical = record {
 }
 
 -- the written description tells puzzles of a width apart
-pub same_puzzle : {P : Type 0} (game : SavedGame P) (w : ℕ) (p q : P) (p_text q_text : List ℕ) → IsGame game → game.Describes w p p_text → game.Describes w q q_text → game.desc_of q ≡ game.desc_of p → q ≡ p
+pub same_puzzle : {P : Type 0} (game : SavedGame P) (w : ℕ) (p q : P) (p_text q_text : List ℕ)
+    → IsGame game → game.Describes w p p_text → game.Describes w q q_text → game.desc_of q ≡ game.desc_of p → q ≡ p
 same_puzzle game w p q p_text q_text owes p_is q_is same =
     let read_p = owes.reads.again w (game.desc_of p) p (owes.canonical w p p_text p_is) in
     let read_q = owes.reads.again w (game.desc_of q) q (owes.canonical w q q_text q_is) in
@@ -46,7 +47,8 @@ same_puzzle game w p q p_text q_text owes p_is q_is same =
     cc
 
 -- a description that is read restarts the puzzle just where it is the same
-pub restart_taken : {P : Type 0} (game : SavedGame P) (p q : P) (m : Move) → restart_of game p q ≡ Some m → (m ≡ Restart) × (game.desc_of q ≡ game.desc_of p)
+pub restart_taken : {P : Type 0} (game : SavedGame P) (p q : P) (m : Move)
+    → restart_of game p q ≡ Some m → (m ≡ Restart) × (game.desc_of q ≡ game.desc_of p)
 restart_taken game p q m is =
     let restarted = cond_some (bytes_eq (game.desc_of q) (game.desc_of p)) Restart m is in
     (sym restarted.1, (bytes_eq-Decides (game.desc_of q) (game.desc_of p)).0 restarted.0)
@@ -55,7 +57,8 @@ pub restart_again : {P : Type 0} (game : SavedGame P) (p : P) → restart_of gam
 restart_again game p = rw ((bytes_eq-Decides (game.desc_of p) (game.desc_of p)).1 refl) refl
 
 -- another puzzle is no restart
-pub other_puzzle : {P : Type 0} (game : SavedGame P) (w : ℕ) (p q : P) (p_text q_text : List ℕ) → IsGame game → game.Describes w p p_text → game.Describes w q q_text → q ≢ p → restart_of game p q ≡ None
+pub other_puzzle : {P : Type 0} (game : SavedGame P) (w : ℕ) (p q : P) (p_text q_text : List ℕ)
+    → IsGame game → game.Describes w p p_text → game.Describes w q q_text → q ≢ p → restart_of game p q ≡ None
 other_puzzle game w p q p_text q_text owes p_is q_is other =
     cond_both (bytes_eq (game.desc_of q) (game.desc_of p)) (Some Restart) None (λ restart. restart ≡ None)
     (λ same. absurd (other (same_puzzle game w p q p_text q_text owes p_is q_is (same_desc same)))) (λ differs. refl)

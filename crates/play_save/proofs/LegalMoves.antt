@@ -70,7 +70,9 @@ move_fits p b (Solve g) small none =
     (eqb-true g.size p.size (and_parts _ _ (and_parts _ _ (and_parts _ _ solves).0).0).0, solves)
 move_fits p b (Done x y) small none = by_place (edge_place p.size x y) refl none
   where
-    by_place : (place : Option ℕ) → edge_place p.size x y ≡ place → cond (option_map_or p.clued place false) None (Some OffGrid) ≡ None → IsCoordinate x × IsCoordinate y
+    by_place : (place : Option ℕ)
+        → edge_place p.size x y ≡ place → cond (option_map_or p.clued place false) None (Some OffGrid) ≡ None
+        → IsCoordinate x × IsCoordinate y
     by_place None at no_fault = cc
     by_place (Some k) at no_fault = edge_fits p.size x y k small at
 

@@ -36,8 +36,10 @@ stands_alone game before (State k) value single none = cc
 stands_alone game before Other value single none = cc
 stands_alone game before SaveFile value single none = cc
 stands_alone game before PrivateDesc value single none = cc
-stands_alone game before NextParams value single none = none_read (saved_params_at game) (values_of NextParams before) _ none
-stands_alone game before CurrentParams value single none = none_read (saved_params_at game) (values_of CurrentParams before) _ none
+stands_alone game before NextParams value single none =
+    none_read (saved_params_at game) (values_of NextParams before) _ none
+stands_alone game before CurrentParams value single none =
+    none_read (saved_params_at game) (values_of CurrentParams before) _ none
 stands_alone game before StateCount value single none = none_read count_at (values_of StateCount before) _ none
 stands_alone game before Position value single none = none_read count_at (values_of Position before) _ none
 stands_alone game before k value single none = none_yet (values_of k before) _ none

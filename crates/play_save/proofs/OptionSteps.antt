@@ -1,7 +1,8 @@
 -- Steps that may give nothing, or fail: where the whole is there, so was each step.
 use Rattle.std.proofs.Common.{◌≡◌, Bool, true, false, Option, Some, None, option_map, option_and_then, Result, Ok, Err, ok_or, cond, refl}
 
-pub map_taken : {A B : Type 0} (f : A → B) (o : Option A) (y : B) → option_map f o ≡ Some y → (x : A) × (o ≡ Some x) × (f x ≡ y)
+pub map_taken : {A B : Type 0} (f : A → B) (o : Option A) (y : B)
+    → option_map f o ≡ Some y → (x : A) × (o ≡ Some x) × (f x ≡ y)
 map_taken f None y is = cc
 map_taken f (Some x) y is = (x, refl, cc)
 
@@ -19,11 +20,13 @@ error_of_none None e fault is none = cc
 error_of_none (Some x) e fault is none = cc
 
 -- what is there only where a test holds, or only where it fails
-pub where_taken : {A : Type 0} (test : Bool) (o : Option A) (y : A) → cond test o None ≡ Some y → (test ≡ true) × (o ≡ Some y)
+pub where_taken : {A : Type 0} (test : Bool) (o : Option A) (y : A)
+    → cond test o None ≡ Some y → (test ≡ true) × (o ≡ Some y)
 where_taken true o y is = (refl, is)
 where_taken false o y is = cc
 
-pub else_taken : {A : Type 0} (test : Bool) (o : Option A) (y : A) → cond test None o ≡ Some y → (test ≡ false) × (o ≡ Some y)
+pub else_taken : {A : Type 0} (test : Bool) (o : Option A) (y : A)
+    → cond test None o ≡ Some y → (test ≡ false) × (o ≡ Some y)
 else_taken true o y is = cc
 else_taken false o y is = (refl, is)
 

@@ -14,7 +14,8 @@ use Rattle.play_save.proofs.OptionSteps.{map_taken, and_then_taken, ok_or_taken,
 
 -- a name and one more byte
 pub unpadded-snoc : (xs : List ℕ) (b : ℕ) → unpadded (xs ++ b ∷ []) ≡ cond (b == space) (unpadded xs) (xs ++ b ∷ [])
-unpadded-snoc [] b = elim (b == space) as (λ t. cond (t && true) [] (b ∷ []) ≡ cond t [] (b ∷ [])) [ true ↦ refl | false ↦ refl ]
+unpadded-snoc [] b =
+    elim (b == space) as (λ t. cond (t && true) [] (b ∷ []) ≡ cond t [] (b ∷ [])) [ true ↦ refl | false ↦ refl ]
 unpadded-snoc (x ∷ xs) b =
     rw (unpadded-snoc xs b)
     (elim (b == space) as (λ t. cond ((x == space) && is_empty (cond t (unpadded xs) (xs ++ b ∷ []))) [] (x ∷ cond t (unpadded xs) (xs ++ b ∷ [])) ≡ cond t (unpadded (x ∷ xs)) (x ∷ (xs ++ b ∷ []))) [
@@ -38,7 +39,8 @@ skip_no_break [] = refl
 skip_no_break (b ∷ bs) =
     cond_both (is_break b) _ _ (λ (rest : List ℕ). begins_with_break rest ≡ false) (λ is. skip_no_break bs) (λ is. is)
 
-pub skip_again : (breaks rest : List ℕ) → AreBreaks breaks → begins_with_break rest ≡ false → skip_breaks (breaks ++ rest) ≡ rest
+pub skip_again : (breaks rest : List ℕ)
+    → AreBreaks breaks → begins_with_break rest ≡ false → skip_breaks (breaks ++ rest) ≡ rest
 skip_again [] [] are other = refl
 skip_again [] (b ∷ rest) are other = rw other refl
 skip_again (b ∷ breaks) rest are other = rw are.0 (skip_again breaks rest are.1 other)
@@ -57,25 +59,31 @@ all_skipped (b ∷ bs) none =
 digits_lack_colon : (n : ℕ) (bs : List ℕ) (m : ℕ) → number_from 99999999 n bs ≡ Some m → Lacks colon bs
 digits_lack_colon n [] m is = tt
 digits_lack_colon n (b ∷ bs) m is =
-    let step = and_then_taken (λ k. number_from 99999999 k bs) (digit_onto 99999999 n b) m is in
-    (λ colon. let none : digit_onto 99999999 n b ≡ None = rw colon refl in let some = step.1 in cc, digits_lack_colon step.0 bs m step.2)
+    let step = and_then_taken (λ k. number_from 99999999 k bs) (digit_onto 99999999 n b) m is in (
+      λ colon. let none : digit_onto 99999999 n b ≡ None =
+          rw colon refl in let some = step.1 in cc,
+      digits_lack_colon step.0 bs m step.2,
+    )
 
 length_lacks_colon : (digits : List ℕ) (n : ℕ) → length_at digits ≡ Some n → Lacks colon digits
 length_lacks_colon digits n is =
     digits_lack_colon 0 digits n (where_taken (nat_le 1 (length digits) && nat_le (length digits) 8) _ n is).1
 
 -- fields
-field_taken : (bs : List ℕ) (parts : List ℕ × List ℕ) → field_at bs ≡ Some parts → (bs ≡ parts.0 ++ (colon ∷ parts.1)) × Lacks colon parts.0
+field_taken : (bs : List ℕ) (parts : List ℕ × List ℕ)
+    → field_at bs ≡ Some parts → (bs ≡ parts.0 ++ (colon ∷ parts.1)) × Lacks colon parts.0
 field_taken bs parts is =
     let found = map_taken (λ (rest : List ℕ). (before colon bs, rest)) (behind colon bs) parts is in
-    let split : (bs ≡ before colon bs ++ (colon ∷ found.0)) × Lacks colon (before colon bs) = (cut_parts colon bs found.0 found.1, lacks_before colon bs) in
+    let split : (bs ≡ before colon bs ++ (colon ∷ found.0)) × Lacks colon (before colon bs) =
+    (cut_parts colon bs found.0 found.1, lacks_before colon bs) in
     subst (λ (p : List ℕ × List ℕ). (bs ≡ p.0 ++ (colon ∷ p.1)) × Lacks colon p.0) found.2 split
 
 field_again : (front rest : List ℕ) → Lacks colon front → field_at (front ++ (colon ∷ rest)) ≡ Some (front, rest)
 field_again front rest lacks = rw (behind_at colon front rest lacks, before_at colon front rest lacks) refl
 
 -- a value behind its length
-value_taken : (n : ℕ) (bs : List ℕ) (parts : List ℕ × List ℕ) → value_at n bs ≡ Some parts → (length parts.0 ≡ n) × (bs ≡ parts.0 ++ parts.1)
+value_taken : (n : ℕ) (bs : List ℕ) (parts : List ℕ × List ℕ)
+    → value_at n bs ≡ Some parts → (length parts.0 ≡ n) × (bs ≡ parts.0 ++ parts.1)
 value_taken n bs parts is =
     let some = cond_some (nat_le n (length bs)) (take n bs, drop n bs) parts is in
     subst (λ (p : List ℕ × List ℕ). (length p.0 ≡ n) × (bs ≡ p.0 ++ p.1)) some.1
@@ -106,7 +114,8 @@ sized_taken bs parts is =
       sized = size.1 ∙ ap Some (sym value.0);
     }
 
-sized_again : (digits value rest : List ℕ) → length_at digits ≡ Some (length value) → value_behind (digits ++ (colon ∷ (value ++ rest))) ≡ Some (value, rest)
+sized_again : (digits value rest : List ℕ)
+    → length_at digits ≡ Some (length value) → value_behind (digits ++ (colon ∷ (value ++ rest))) ≡ Some (value, rest)
 sized_again digits value rest sized =
     rw (field_again digits (value ++ rest) (length_lacks_colon digits (length value) sized), sized) (value_again value rest)
 
@@ -139,21 +148,27 @@ keyed_taken bs e rest is =
     } in
     subst (λ (p : Entry × List ℕ). IsKeyed p.0 p.1 bs) value.2 keyed
 
-keyed_again : (e : Entry) (rest key digits : List ℕ) → length key ≡ 8 → Lacks colon key → e.key ≡ unpadded key → length_at digits ≡ Some (length e.value) → record_behind (key ++ (colon ∷ (digits ++ (colon ∷ (e.value ++ rest))))) ≡ Some (e, rest)
+keyed_again : (e : Entry) (rest key digits : List ℕ)
+    → length key ≡ 8 → Lacks colon key → e.key ≡ unpadded key → length_at digits ≡ Some (length e.value)
+    → record_behind (key ++ (colon ∷ (digits ++ (colon ∷ (e.value ++ rest))))) ≡ Some (e, rest)
 unfolding record_behind
 keyed_again e rest key digits eight lacks name sized =
-    let made : (record_of key (e.value, rest)) ≡ (e, rest) = ap (λ (n : List ℕ). let x : Entry × List ℕ = (record { key = n; value = e.value }, rest) in x) (sym name) in
+    let made : (record_of key (e.value, rest)) ≡ (e, rest) =
+    ap (λ (n : List ℕ). let x : Entry × List ℕ = (record { key = n; value = e.value }, rest) in x) (sym name) in
     rw (field_again key (digits ++ (colon ∷ (e.value ++ rest))) lacks, eq-eqb (length key) 8 eight, sized_again digits e.value rest sized) (ap Some made)
 
 -- the record of a whole text
-or_end_taken : (bs : List ℕ) (e : Entry) (rest : List ℕ) → record_or_end bs ≡ Ok (Some (e, rest)) → record_behind bs ≡ Some (e, rest)
+or_end_taken : (bs : List ℕ) (e : Entry) (rest : List ℕ)
+    → record_or_end bs ≡ Ok (Some (e, rest)) → record_behind bs ≡ Some (e, rest)
 or_end_taken [] e rest is = cc
 or_end_taken (b ∷ bs) e rest is =
-    let made = map_taken Some (record_behind (b ∷ bs)) (Some (e, rest)) (ok_or_taken (option_map Some (record_behind (b ∷ bs))) Malformed (Some (e, rest)) is) in
+    let made =
+    map_taken Some (record_behind (b ∷ bs)) (Some (e, rest)) (ok_or_taken (option_map Some (record_behind (b ∷ bs))) Malformed (Some (e, rest)) is) in
     let same : made.0 ≡ (e, rest) = let is_it = made.2 in cc in
     made.1 ∙ ap Some same
 
-or_end_again : (bs : List ℕ) (e : Entry) (rest : List ℕ) → 0 < length bs → record_behind bs ≡ Some (e, rest) → record_or_end bs ≡ Ok (Some (e, rest))
+or_end_again : (bs : List ℕ) (e : Entry) (rest : List ℕ)
+    → 0 < length bs → record_behind bs ≡ Some (e, rest) → record_or_end bs ≡ Ok (Some (e, rest))
 or_end_again [] e rest some is = absurd (omega arith)
 or_end_again (b ∷ bs) e rest some is = rw is refl
 
@@ -183,9 +198,12 @@ pub record_again : (bs : List ℕ) (e : Entry) (rest : List ℕ) → BeginsWith 
 unfolding record_at
 record_again bs e rest h =
     let end = colon ∷ (h.digits ++ (colon ∷ (e.value ++ rest))) in
-    let skipped : skip_breaks bs ≡ h.key ++ end = ap skip_breaks h.spelled ∙ skip_again h.breaks (h.key ++ end) h.are_breaks (no_break_on h.key end h.eight h.no_break) in
+    let skipped : skip_breaks bs ≡ h.key ++ end =
+    ap skip_breaks h.spelled
+    ∙ skip_again h.breaks (h.key ++ end) h.are_breaks (no_break_on h.key end h.eight h.no_break) in
     let some : 0 < length (h.key ++ end) = omega (arith, length-append h.key end, h.eight) in
-    ap record_or_end skipped ∙ or_end_again (h.key ++ end) e rest some (keyed_again e rest h.key h.digits h.eight h.no_colon h.name_is h.length_is)
+    ap record_or_end skipped
+    ∙ or_end_again (h.key ++ end) e rest some (keyed_again e rest h.key h.digits h.eight h.no_colon h.name_is h.length_is)
   where
     no_break_on : (xs ys : List ℕ) → length xs ≡ 8 → begins_with_break xs ≡ false → begins_with_break (xs ++ ys) ≡ false
     no_break_on [] ys eight is_none = absurd (omega arith)
@@ -195,7 +213,8 @@ record_again bs e rest h =
 or_end_none : (bs : List ℕ) → record_or_end bs ≡ Ok None → bs ≡ []
 or_end_none [] is = refl
 or_end_none (b ∷ bs) is =
-    let made = map_taken Some (record_behind (b ∷ bs)) None (ok_or_taken (option_map Some (record_behind (b ∷ bs))) Malformed None is) in
+    let made =
+    map_taken Some (record_behind (b ∷ bs)) None (ok_or_taken (option_map Some (record_behind (b ∷ bs))) Malformed None is) in
     let other = made.2 in cc
 
 pub end_taken : (bs : List ℕ) → record_at bs ≡ Ok None → AreBreaks bs
@@ -220,7 +239,8 @@ unfolding record_at
 record_fault bs fault is = or_end_fault (skip_breaks bs) fault is
 
 -- a record takes at least a byte
-pub record_shorter : (bs : List ℕ) (e : Entry) (rest : List ℕ) → record_at bs ≡ Ok (Some (e, rest)) → length rest < length bs
+pub record_shorter : (bs : List ℕ) (e : Entry) (rest : List ℕ)
+    → record_at bs ≡ Ok (Some (e, rest)) → length rest < length bs
 record_shorter bs e rest is =
     let h = record_taken bs e rest is in
     let end = colon ∷ (h.digits ++ (colon ∷ (e.value ++ rest))) in

@@ -25,7 +25,8 @@ by_own_rank k = refl
 pub same_key : (a k : Key) → is_state k ≡ false → (rank a == rank k) ≡ true → a ≡ k
 same_key a k other same =
     let found : cond (is_state a) None (Some a) ≡ Some k =
-    sym (by_own_rank a) ∙ (ap by_rank (eqb-true (rank a) (rank k) same) ∙ (by_own_rank k ∙ ap (λ t. cond t None (Some k)) other)) in
+    sym (by_own_rank a)
+    ∙ (ap by_rank (eqb-true (rank a) (rank k) same) ∙ (by_own_rank k ∙ ap (λ t. cond t None (Some k)) other)) in
     let is = else_taken (is_state a) (Some a) k found in
     cc is.1
 
@@ -41,14 +42,16 @@ values_of-append k (x ∷ xs) ys =
       | false ↦ values_of-append k xs ys
     ]
 
-onto_states-append : (k : Key) (value : List ℕ) (xs ys : List KeyedState) → onto_states k value (xs ++ ys) ≡ onto_states k value xs ++ ys
+onto_states-append : (k : Key) (value : List ℕ) (xs ys : List KeyedState)
+    → onto_states k value (xs ++ ys) ≡ onto_states k value xs ++ ys
 onto_states-append (State k) value xs ys = refl
 onto_states-append k value xs ys = refl
 
 pub states_in-append : (xs ys : List KeyedRecord) → states_in (xs ++ ys) ≡ states_in xs ++ states_in ys
 states_in-append [] ys = refl
 states_in-append (x ∷ xs) ys =
-    ap (onto_states x.key x.value) (states_in-append xs ys) ∙ onto_states-append x.key x.value (states_in xs) (states_in ys)
+    ap (onto_states x.key x.value) (states_in-append xs ys)
+    ∙ onto_states-append x.key x.value (states_in xs) (states_in ys)
 
 pub append_none : {A : Type 0} (xs ys : List A) → xs ++ ys ≡ [] → (xs ≡ []) × (ys ≡ [])
 append_none [] ys none = (refl, none)

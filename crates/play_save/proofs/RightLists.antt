@@ -42,7 +42,8 @@ done_needed game before all listing done same =
     record { more = []; all_is = sym same ∙ sym (append-nil before); right = done; follow = tt }
 
 -- what is needed of a listing begins it, and is right
-pub needed_taken : {P : Type 0} (game : SavedGame P) (before : List KeyedRecord) (listing : Listing) (all : List KeyedRecord) → needed game before listing ≡ Ok all → IsNeeded game before listing all
+pub needed_taken : {P : Type 0} (game : SavedGame P) (before : List KeyedRecord) (listing : Listing) (all : List KeyedRecord)
+    → needed game before listing ≡ Ok all → IsNeeded game before listing all
 needed_taken game before nothing all is =
     let done = ok_where (is_complete (met game before)) before Missing all is in
     done_needed game before all nothing done.0 done.1
@@ -70,7 +71,8 @@ needed_taken game before (first r more) all is =
         }
 
 -- what begins a listing and is right is what is needed of it
-pub needed_again : {P : Type 0} (game : SavedGame P) (before rs : List KeyedRecord) (listing : Listing) → AreRight game before rs → Follow rs listing → needed game before listing ≡ Ok (before ++ rs)
+pub needed_again : {P : Type 0} (game : SavedGame P) (before rs : List KeyedRecord) (listing : Listing)
+    → AreRight game before rs → Follow rs listing → needed game before listing ≡ Ok (before ++ rs)
 needed_again game before [] nothing right follow = rw right (ap Ok (sym (append-nil before)))
 needed_again game before [] broken right follow = rw right (ap Ok (sym (append-nil before)))
 needed_again game before [] (first m more) right follow = rw right (ap Ok (sym (append-nil before)))
@@ -83,13 +85,16 @@ needed_again game before (r ∷ rs) (first m more) right follow =
     (rw (right.0, right.1) (rest ∙ ap Ok (append_assoc before (r ∷ []) rs)))
 
 -- the listing of a text, and the records with which the text begins
-follows_taken : (n : ℕ) (rs : List KeyedRecord) (text : List ℕ) → Follow rs (listing_within n text) → BeginsWithAll rs text
+follows_taken : (n : ℕ) (rs : List KeyedRecord) (text : List ℕ)
+    → Follow rs (listing_within n text) → BeginsWithAll rs text
 unfolding listing_within
 follows_taken n [] text follow = tt
 follows_taken zero (r ∷ rs) text follow = absurd follow
 follows_taken (suc n) (r ∷ rs) text follow = at_record (λ rest. follows_taken n rs rest) (record_at text) refl follow
   where
-    at_record : ((rest : List ℕ) → Follow rs (listing_within n rest) → BeginsWithAll rs rest) → (read : Result (Option (Entry × List ℕ)) LoadFault) → record_at text ≡ read → Follow (r ∷ rs) (listed (listing_within n) read) → BeginsWithAll (r ∷ rs) text
+    at_record : ((rest : List ℕ) → Follow rs (listing_within n rest) → BeginsWithAll rs rest)
+        → (read : Result (Option (Entry × List ℕ)) LoadFault) → record_at text ≡ read
+        → Follow (r ∷ rs) (listed (listing_within n) read) → BeginsWithAll (r ∷ rs) text
     at_record along (Err fault) is f = absurd f
     at_record along (Ok None) is f = absurd f
     at_record along (Ok (Some parts)) is f =
@@ -99,7 +104,8 @@ pub records_taken : (rs : List KeyedRecord) (text : List ℕ) → Follow rs (rec
 unfolding records_of
 records_taken rs text follow = follows_taken (length text) rs text follow
 
-follows_again : (n : ℕ) (rs : List KeyedRecord) (text : List ℕ) → length text ≤ n → BeginsWithAll rs text → Follow rs (listing_within n text)
+follows_again : (n : ℕ) (rs : List KeyedRecord) (text : List ℕ)
+    → length text ≤ n → BeginsWithAll rs text → Follow rs (listing_within n text)
 unfolding listing_within
 follows_again n [] text within begins = tt
 follows_again zero (r ∷ rs) text within begins =
@@ -115,7 +121,9 @@ unfolding records_of
 records_again rs text begins = follows_again (length text) rs text (omega arith) begins
 
 -- a key that may stand once, once it was met, doesn't stand again
-pub none_again : {P : Type 0} (game : SavedGame P) (before rs : List KeyedRecord) (k : Key) → is_once k ≡ true → is_state k ≡ false → 0 < length (values_of k before) → AreRight game before rs → values_of k rs ≡ []
+pub none_again : {P : Type 0} (game : SavedGame P) (before rs : List KeyedRecord) (k : Key)
+    → is_once k ≡ true → is_state k ≡ false → 0 < length (values_of k before) → AreRight game before rs
+    → values_of k rs ≡ []
 none_again game before [] k single header some right = refl
 none_again game before (r ∷ rs) k single header some right =
     cond_both (rank r.key == rank k) _ _ (λ (values : List (List ℕ)). values ≡ [])
@@ -125,7 +133,11 @@ none_again game before (r ∷ rs) k single header some right =
     faultless : r.key ≡ k → fault_by game (met game before) k r.value ≡ None
     faultless key = rw key at right.1
 
-pub same_record : (r : KeyedRecord) (k : Key) (value : List ℕ) → r.key ≡ k → r.value ≡ value → r ≡ record { key = k; value = value }
+pub same_record : (r : KeyedRecord) (k : Key) (value : List ℕ) → r.key ≡ k → r.value ≡ value → r ≡ record {
+  key =
+      k;
+  value = value;
+}
 same_record r k value key same_value =
     let own : KeyedRecord = record r { key = r.key } in
     let same : own ≡ record { key = k; value = value } = cc in
@@ -140,7 +152,9 @@ pub record StandsAlone {P : Type 0} (game : SavedGame P) (k : Key) (value : List
   pub faultless : fault_by game (met game (before ++ front)) k value ≡ None
   pub undone : is_complete (met game (before ++ front)) ≡ false
 
-pub stands_at : {P : Type 0} (game : SavedGame P) (before rs : List KeyedRecord) (k : Key) (value : List ℕ) (more : List (List ℕ)) → is_once k ≡ true → is_state k ≡ false → AreRight game before rs → values_of k rs ≡ value ∷ more → StandsAlone game k value rs before
+pub stands_at : {P : Type 0} (game : SavedGame P) (before rs : List KeyedRecord) (k : Key) (value : List ℕ) (more : List (List ℕ))
+    → is_once k ≡ true → is_state k ≡ false → AreRight game before rs → values_of k rs ≡ value ∷ more
+    → StandsAlone game k value rs before
 stands_at game before [] k value more single header right is = cc
 stands_at game before (r ∷ rs) k value more single header right is =
     cond_both (rank r.key == rank k) _ _ (λ (values : List (List ℕ)). values ≡ value ∷ more → StandsAlone game k value (r ∷ rs) before)
@@ -166,7 +180,8 @@ stands_at game before (r ∷ rs) k value more single header right is =
     stands_later : (rank r.key == rank k) ≡ false → StandsAlone game k value rs (before ++ r ∷ [])
         → StandsAlone game k value (r ∷ rs) before
     stands_later other rest =
-        let seam : (before ++ r ∷ []) ++ rest.front ≡ before ++ (r ∷ rest.front) = append_assoc before (r ∷ []) rest.front in
+        let seam : (before ++ r ∷ []) ++ rest.front ≡ before ++ (r ∷ rest.front) =
+        append_assoc before (r ∷ []) rest.front in
         record {
           alone = rw other rest.alone;
           front = r ∷ rest.front;

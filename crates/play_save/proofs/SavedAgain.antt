@@ -77,7 +77,8 @@ at_most k None other before later is =
 never_at : (k : Key) (other : List ℕ) (before later : List KeyedRecord)
     → values_of k (before ++ (one k other ++ later)) ≡ [] → ⊥
 never_at k other before later is =
-    let none = append_none (values_of k before) (other ∷ values_of k later) (sym (values_at k other before later) ∙ is) in
+    let none =
+    append_none (values_of k before) (other ∷ values_of k later) (sym (values_at k other before later) ∙ is) in
     let here = none.1 in
     cc
 
@@ -88,16 +89,20 @@ same_bytes xs ys e = (bytes_eq-Decides xs ys).1 e
 abbrev AreFaultless : List KeyedState → Type 0
 AreFaultless ss = AllByRecursion (λ s. state_fault s.key s.value ≡ None) ss
 
-all_faultless : {P : Type 0} (game : SavedGame P) (p : P) (ms : List Move) (ss : List KeyedState) → HaveStates game p ms ss → AreFaultless ss
+all_faultless : {P : Type 0} (game : SavedGame P) (p : P) (ms : List Move) (ss : List KeyedState)
+    → HaveStates game p ms ss → AreFaultless ss
 all_faultless game p [] [] have = tt
 all_faultless game p [] (s ∷ ss) have = absurd have
 all_faultless game p (m ∷ ms) [] have = absurd have
-all_faultless game p (m ∷ ms) (s ∷ ss) have = (state_faultless game p s.key s.value m have.0, all_faultless game p ms ss have.1)
+all_faultless game p (m ∷ ms) (s ∷ ss) have =
+    (state_faultless game p s.key s.value m have.0, all_faultless game p ms ss have.1)
 
-once_fresh : {A : Type 0} (values : List A) (fault : Option LoadFault) → values ≡ [] → once (is_some (first_of values)) fault ≡ fault
+once_fresh : {A : Type 0} (values : List A) (fault : Option LoadFault)
+    → values ≡ [] → once (is_some (first_of values)) fault ≡ fault
 once_fresh values fault none = rw none refl
 
-once_unread : {A B : Type 0} (f : A → B) (values : List A) (fault : Option LoadFault) → values ≡ [] → once (is_some (option_map f (first_of values))) fault ≡ fault
+once_unread : {A B : Type 0} (f : A → B) (values : List A) (fault : Option LoadFault)
+    → values ≡ [] → once (is_some (option_map f (first_of values))) fault ≡ fault
 once_unread f values fault none = rw none refl
 
 goes_together : (goes : ℕ → ℕ → Bool) (n m : ℕ) (other : Option (Option ℕ)) → goes n m ≡ true
@@ -105,10 +110,14 @@ goes_together : (goes : ℕ → ℕ → Bool) (n m : ℕ) (other : Option (Optio
 goes_together goes n m other together (inl none) = rw none refl
 goes_together goes n m other together (inr some) = rw (some, together) refl
 
-read_before : (k : Key) (n : ℕ) (before later : List KeyedRecord) → count_at (decimal n) ≡ Some n → values_of k (before ++ later) ≡ decimal n ∷ [] → (option_map count_at (first_of (values_of k before)) ≡ None) ⊎ (option_map count_at (first_of (values_of k before)) ≡ Some (Some n))
+read_before : (k : Key) (n : ℕ) (before later : List KeyedRecord)
+    → count_at (decimal n) ≡ Some n → values_of k (before ++ later) ≡ decimal n ∷ []
+    → (option_map count_at (first_of (values_of k before)) ≡ None) ⊎ (option_map count_at (first_of (values_of k before)) ≡ Some (Some n))
 read_before k n before later good is = by_case (before_place k (decimal n) before later is)
   where
-    by_case : (values_of k before ≡ []) ⊎ ((values_of k before ≡ decimal n ∷ []) × (values_of k later ≡ [])) → (option_map count_at (first_of (values_of k before)) ≡ None) ⊎ (option_map count_at (first_of (values_of k before)) ≡ Some (Some n))
+    by_case : (values_of k before ≡ []) ⊎ ((values_of k before ≡ decimal n ∷ []) × (values_of k later ≡ []))
+        → (option_map count_at (first_of (values_of k before)) ≡ None)
+        ⊎ (option_map count_at (first_of (values_of k before)) ≡ Some (Some n))
     by_case (inl none) = inl (rw none refl)
     by_case (inr some) = inr (rw (some.0, good) refl)
 
@@ -130,7 +139,8 @@ params_good : {P : Type 0} (game : SavedGame P) (p : Params) (value : List ℕ)
 params_good game p value is = params_again game.letters (has_adjacent game.title) value p is
 
 -- a count that stands, and not from a state record on, was met before it
-met_before : (c : Key) (v : List ℕ) (k : StateKey) (value : List ℕ) (before later : List KeyedRecord) → is_state c ≡ false
+met_before : (c : Key) (v : List ℕ) (k : StateKey) (value : List ℕ) (before later : List KeyedRecord)
+    → is_state c ≡ false
     → values_of c (before ++ (one (State k) value ++ later)) ≡ v ∷ [] → values_of c later ≡ []
     → is_some (option_map count_at (first_of (values_of c before))) ≡ true
 met_before c v k value before later header is none =
@@ -156,15 +166,19 @@ faultless_at : {P : Type 0} (game : SavedGame P) (h : History P) (before later :
     → AreSaved game h (before ++ (one k value ++ later))
     → (is_state k ≡ true → (values_of StateCount later ≡ []) × (values_of Position later ≡ []))
     → AreFaultless (onto_states k value (states_in later)) → fault_by game (met game before) k value ≡ None
-faultless_at game h before later SaveFile value s counts fine = absurd (never_at SaveFile value before later s.no_second_head)
-faultless_at game h before later PrivateDesc value s counts fine = absurd (never_at PrivateDesc value before later s.no_private_desc)
+faultless_at game h before later SaveFile value s counts fine =
+    absurd (never_at SaveFile value before later s.no_second_head)
+faultless_at game h before later PrivateDesc value s counts fine =
+    absurd (never_at PrivateDesc value before later s.no_private_desc)
 faultless_at game h before later Other value s counts fine = refl
 faultless_at game h before later FormatVersion value s counts fine =
     let at = at_place FormatVersion (codes "1") value before later s.version in
-    once_fresh (values_of FormatVersion before) _ at.first ∙ ap (λ t. fault_unless t Version) (same_bytes value (codes "1") at.same)
+    once_fresh (values_of FormatVersion before) _ at.first
+    ∙ ap (λ t. fault_unless t Version) (same_bytes value (codes "1") at.same)
 faultless_at game h before later GameName value s counts fine =
     let at = at_place GameName game.title value before later s.name in
-    once_fresh (values_of GameName before) _ at.first ∙ ap (λ t. fault_unless t WrongGame) (same_bytes value game.title at.same)
+    once_fresh (values_of GameName before) _ at.first
+    ∙ ap (λ t. fault_unless t WrongGame) (same_bytes value game.title at.same)
 faultless_at game h before later NextParams value s counts fine =
     let at = at_place NextParams s.next_params.0 value before later s.next_params.1 in
     let read = ap (saved_params_at game) at.same ∙ params_good game h.next_params s.next_params.0 s.next_params.2 in
@@ -215,11 +229,14 @@ ends_later r [] ends = tt
 ends_later r (k ∷ rs) ends = ends
 
 -- a list that ends with a state record or a count has one
-pub has_state_or_count : (rs : List KeyedRecord) → EndsWithState rs → values_of StateCount rs ≡ [] → values_of Position rs ≡ [] → 0 < length (states_in rs)
+pub has_state_or_count : (rs : List KeyedRecord)
+    → EndsWithState rs → values_of StateCount rs ≡ [] → values_of Position rs ≡ [] → 0 < length (states_in rs)
 has_state_or_count [] ends no_count no_position = absurd ends
 has_state_or_count (r ∷ []) ends no_count no_position = by_key r.key r.value ends no_count no_position
   where
-    by_key : (k : Key) (value : List ℕ) → may_be_last k ≡ true → values_of StateCount (one k value) ≡ [] → values_of Position (one k value) ≡ [] → 0 < length (states_in (one k value))
+    by_key : (k : Key) (value : List ℕ)
+        → may_be_last k ≡ true → values_of StateCount (one k value) ≡ [] → values_of Position (one k value) ≡ []
+        → 0 < length (states_in (one k value))
     by_key (State k) value last a b = omega arith
     by_key k value last a b = cc
 has_state_or_count (r ∷ k ∷ rs) ends no_count no_position =
@@ -285,7 +302,8 @@ ends_at_all : (rs : List KeyedRecord) → EndsWithState rs → EndsIfAny rs
 ends_at_all [] ends = tt
 ends_at_all (r ∷ rs) ends = ends
 
-pub saved_right : {P : Type 0} (game : SavedGame P) (rs : List KeyedRecord) (h : History P) → AreSaved game h rs → AreRight game [] rs
+pub saved_right : {P : Type 0} (game : SavedGame P) (rs : List KeyedRecord) (h : History P)
+    → AreSaved game h rs → AreRight game [] rs
 saved_right game rs h s =
     right_along game h [] rs s s.counts_first (ends_at_all rs s.last) (all_faultless game h.puzzle h.moves (states_in rs) s.states)
 
@@ -294,7 +312,8 @@ first_kept : (kept : Option (List ℕ)) (values : List (List ℕ)) → values �
 first_kept None values is = ap first_of is
 first_kept (Some v) values is = ap first_of is
 
-extras_again : {P : Type 0} (game : SavedGame P) (rs : List KeyedRecord) (h : History P) → AreSaved game h rs → extras_in (met game rs) ≡ h.extras
+extras_again : {P : Type 0} (game : SavedGame P) (rs : List KeyedRecord) (h : History P)
+    → AreSaved game h rs → extras_in (met game rs) ≡ h.extras
 extras_again game rs h s =
     let seed = first_kept h.extras.seed (values_of Seed rs) s.seed in
     let auxinfo = first_kept h.extras.auxinfo (values_of AuxInfo rs) s.auxinfo in
@@ -302,31 +321,43 @@ extras_again game rs h s =
     let time = first_kept h.extras.time (values_of Time rs) s.time in
     rw (seed, auxinfo, ui, time) refl
 
-pub session_again : {P : Type 0} (game : SavedGame P) (rs : List KeyedRecord) (h : History P) → IsGame game → AreSaved game h rs → session_of game (met game rs) ≡ Ok h
+pub session_again : {P : Type 0} (game : SavedGame P) (rs : List KeyedRecord) (h : History P)
+    → IsGame game → AreSaved game h rs → session_of game (met game rs) ≡ Ok h
 unfolding session_of
 session_again {P} game rs h owes s =
     let m = met game rs in
     let r = ranges game rs h s in
     let version : m.version ≡ true = ap (λ vs. is_some (first_of vs)) s.version in
     let name : m.name ≡ true = ap (λ vs. is_some (first_of vs)) s.name in
-    let next : m.next_params ≡ Some (Ok h.next_params) = ap (λ vs. option_map (saved_params_at game) (first_of vs)) s.next_params.1 ∙ ap Some (params_good game h.next_params s.next_params.0 s.next_params.2) in
-    let now : m.params ≡ Some (Ok h.params) = ap (λ vs. option_map (saved_params_at game) (first_of vs)) s.params.1 ∙ ap Some (params_good game h.params s.params.0 s.params.2) in
+    let next : m.next_params ≡ Some (Ok h.next_params) =
+    ap (λ vs. option_map (saved_params_at game) (first_of vs)) s.next_params.1
+    ∙ ap Some (params_good game h.next_params s.next_params.0 s.next_params.2) in
+    let now : m.params ≡ Some (Ok h.params) =
+    ap (λ vs. option_map (saved_params_at game) (first_of vs)) s.params.1
+    ∙ ap Some (params_good game h.params s.params.0 s.params.2) in
     let desc : m.desc ≡ Some s.desc.0 = ap first_of s.desc.1 in
-    let place : m.position ≡ Some (Some h.position) = ap (λ vs. option_map count_at (first_of vs)) s.position ∙ ap Some r.position_good in
-    let puzzle : game.desc_at h.params.size s.desc.0 ≡ Ok h.puzzle = owes.reads.again h.params.size s.desc.0 h.puzzle s.desc.2 in
+    let place : m.position ≡ Some (Some h.position) =
+    ap (λ vs. option_map count_at (first_of vs)) s.position ∙ ap Some r.position_good in
+    let puzzle : game.desc_at h.params.size s.desc.0 ≡ Ok h.puzzle =
+    owes.reads.again h.params.size s.desc.0 h.puzzle s.desc.2 in
     let start = started h.puzzle h.params h.next_params h.extras in
-    let legal = legal_list_played (game.puzzle h.puzzle) h.puzzle h.params h.next_params h.extras h.moves s.valid.legal s.valid.few in
+    let legal =
+    legal_list_played (game.puzzle h.puzzle) h.puzzle h.params h.next_params h.extras h.moves s.valid.legal s.valid.few in
     let played : states_played game start 1 (states_in rs) ≡ Ok (with_moves start h.moves) =
     states_again game start (with_moves start h.moves) 1 h.moves (states_in rs) owes s.states legal in
     let extras = extras_again game rs h s in
     rw (version, name, next, now, desc, place, puzzle, extras, played) refl
 
 -- the whole text
-pub load_again : {P : Type 0} (game : SavedGame P) (text : List ℕ) (h : History P) → IsGame game → SaveText game h text → load_at game text ≡ Ok h
+pub load_again : {P : Type 0} (game : SavedGame P) (text : List ℕ) (h : History P)
+    → IsGame game → SaveText game h text → load_at game text ≡ Ok h
 unfolding load_at
 load_again game text h owes t =
     let small : nat_lt longest_save (length text) ≡ false = (let within = t.small in grind (arith, nat_tests)) in
-    let head : behind_head (record_at text) ≡ Ok t.behind_head = ap behind_head (record_again text format_record t.behind_head t.head) in
-    let read : needed game [] (records_of t.behind_head) ≡ Ok t.records = needed_again game [] t.records (records_of t.behind_head) (saved_right game t.records h t.saved) (records_again t.records t.behind_head t.begins) in
-    let all : met_in game (records_of t.behind_head) ≡ Ok (met game t.records) = ap (λ (s : Result (List KeyedRecord) LoadFault). s >>= λ rs. Ok (met game rs)) read in
+    let head : behind_head (record_at text) ≡ Ok t.behind_head =
+    ap behind_head (record_again text format_record t.behind_head t.head) in
+    let read : needed game [] (records_of t.behind_head) ≡ Ok t.records =
+    needed_again game [] t.records (records_of t.behind_head) (saved_right game t.records h t.saved) (records_again t.records t.behind_head t.begins) in
+    let all : met_in game (records_of t.behind_head) ≡ Ok (met game t.records) =
+    ap (λ (s : Result (List KeyedRecord) LoadFault). s >>= λ rs. Ok (met game rs)) read in
     rw (small, head, all) (session_again game t.records h owes t.saved)

@@ -32,13 +32,17 @@ use Rattle.play_save.proofs.GameTexts.{IsGame}
 use Rattle.play_save.proofs.StatesPlayed.{ok_taken, IsDescribed, states_taken, have_length}
 
 -- a key that stands, stands alone
-alone_at : {P : Type 0} (game : SavedGame P) (rs : List KeyedRecord) (k : Key) (value : List ℕ) → is_once k ≡ true → is_state k ≡ false → AreRight game [] rs → first_of (values_of k rs) ≡ Some value → StandsAlone game k value rs []
+alone_at : {P : Type 0} (game : SavedGame P) (rs : List KeyedRecord) (k : Key) (value : List ℕ)
+    → is_once k ≡ true → is_state k ≡ false → AreRight game [] rs → first_of (values_of k rs) ≡ Some value
+    → StandsAlone game k value rs []
 alone_at game rs k value single header right is =
     let some = first_some (values_of k rs) value is in
     stands_at game [] rs k value some.0 single header right some.1
 
 -- kept bytes stand once or never
-kept_once : {P : Type 0} (game : SavedGame P) (rs : List KeyedRecord) (k : Key) → is_once k ≡ true → is_state k ≡ false → AreRight game [] rs → values_of k rs ≡ once_if_kept (first_of (values_of k rs))
+kept_once : {P : Type 0} (game : SavedGame P) (rs : List KeyedRecord) (k : Key)
+    → is_once k ≡ true → is_state k ≡ false → AreRight game [] rs
+    → values_of k rs ≡ once_if_kept (first_of (values_of k rs))
 kept_once game rs k single header right = by_values (values_of k rs) refl
   where
     by_values : (values : List (List ℕ)) → values_of k rs ≡ values → values ≡ once_if_kept (first_of values)
@@ -46,7 +50,9 @@ kept_once game rs k single header right = by_values (values_of k rs) refl
     by_values (v ∷ vs) is = sym is ∙ (stands_at game [] rs k v vs single header right is).alone
 
 -- a key whose record is always refused never stands
-never : {P : Type 0} (game : SavedGame P) (rs : List KeyedRecord) (k : Key) (fault : LoadFault) → is_once k ≡ true → is_state k ≡ false → ((m : Met) (value : List ℕ) → fault_by game m k value ≡ Some fault) → AreRight game [] rs → values_of k rs ≡ []
+never : {P : Type 0} (game : SavedGame P) (rs : List KeyedRecord) (k : Key) (fault : LoadFault)
+    → is_once k ≡ true → is_state k ≡ false → ((m : Met) (value : List ℕ) → fault_by game m k value ≡ Some fault)
+    → AreRight game [] rs → values_of k rs ≡ []
 never game rs k fault single header refused right = by_values (values_of k rs) refl
   where
     by_values : (values : List (List ℕ)) → values_of k rs ≡ values → values ≡ []
@@ -58,7 +64,9 @@ never game rs k fault single header refused right = by_values (values_of k rs) r
         cc
 
 -- the values that have to stand
-version_is : {P : Type 0} (game : SavedGame P) (rs : List KeyedRecord) → AreRight game [] rs → is_some (first_of (values_of FormatVersion rs)) ≡ true → values_of FormatVersion rs ≡ codes "1" ∷ []
+version_is : {P : Type 0} (game : SavedGame P) (rs : List KeyedRecord)
+    → AreRight game [] rs → is_some (first_of (values_of FormatVersion rs)) ≡ true
+    → values_of FormatVersion rs ≡ codes "1" ∷ []
 version_is game rs right some =
     let first = is_some_taken (first_of (values_of FormatVersion rs)) some in
     let at = alone_at game rs FormatVersion first.0 refl refl right first.1 in
@@ -66,7 +74,8 @@ version_is game rs right some =
     let same = (bytes_eq-Decides first.0 (codes "1")).0 (fault_unless_taken _ Version good.1) in
     at.alone ∙ ap (λ v. v ∷ []) same
 
-name_is : {P : Type 0} (game : SavedGame P) (rs : List KeyedRecord) → AreRight game [] rs → is_some (first_of (values_of GameName rs)) ≡ true → values_of GameName rs ≡ game.title ∷ []
+name_is : {P : Type 0} (game : SavedGame P) (rs : List KeyedRecord)
+    → AreRight game [] rs → is_some (first_of (values_of GameName rs)) ≡ true → values_of GameName rs ≡ game.title ∷ []
 name_is game rs right some =
     let first = is_some_taken (first_of (values_of GameName rs)) some in
     let at = alone_at game rs GameName first.0 refl refl right first.1 in
@@ -79,14 +88,19 @@ needed_params_taken None p is = cc
 needed_params_taken (Some (Ok q)) p is = cc
 needed_params_taken (Some (Err e)) p is = cc
 
-params_are : {P : Type 0} (game : SavedGame P) (rs : List KeyedRecord) (k : Key) (p : Params) → is_once k ≡ true → is_state k ≡ false → AreRight game [] rs → needed_params (option_map (saved_params_at game) (first_of (values_of k rs))) ≡ Ok p → StandsOnce k (IsParamText game.letters p) rs
+params_are : {P : Type 0} (game : SavedGame P) (rs : List KeyedRecord) (k : Key) (p : Params)
+    → is_once k ≡ true → is_state k ≡ false → AreRight game [] rs
+    → needed_params (option_map (saved_params_at game) (first_of (values_of k rs))) ≡ Ok p
+    → StandsOnce k (IsParamText game.letters p) rs
 params_are game rs k p single header right is =
     let read = map_taken (saved_params_at game) (first_of (values_of k rs)) (Ok p) (needed_params_taken _ p is) in
     let at = alone_at game rs k read.0 single header right read.1 in
     (read.0, at.alone, params_taken game.letters (has_adjacent game.title) read.0 p read.2)
 
 -- the counts
-count_stands : {P : Type 0} (game : SavedGame P) (rs : List KeyedRecord) (k : Key) (n : ℕ) → is_once k ≡ true → is_state k ≡ false → AreRight game [] rs → option_map count_at (first_of (values_of k rs)) ≡ Some (Some n) → values_of k rs ≡ decimal n ∷ []
+count_stands : {P : Type 0} (game : SavedGame P) (rs : List KeyedRecord) (k : Key) (n : ℕ)
+    → is_once k ≡ true → is_state k ≡ false → AreRight game [] rs
+    → option_map count_at (first_of (values_of k rs)) ≡ Some (Some n) → values_of k rs ≡ decimal n ∷ []
 count_stands game rs k n single header right is =
     let read = map_taken count_at (first_of (values_of k rs)) (Some n) is in
     let at = alone_at game rs k read.0 single header right read.1 in
@@ -96,18 +110,21 @@ count_stands game rs k n single header right is =
 abbrev BothBefore : List KeyedRecord → Type 0
 BothBefore before = (0 < length (values_of StateCount before)) × (0 < length (values_of Position before))
 
-some_values : {A : Type 0} (f : List ℕ → A) (values : List (List ℕ)) (x : A) → option_map f (first_of values) ≡ Some x → 0 < length values
+some_values : {A : Type 0} (f : List ℕ → A) (values : List (List ℕ)) (x : A)
+    → option_map f (first_of values) ≡ Some x → 0 < length values
 some_values f [] x is = cc
 some_values f (v ∷ vs) x is = omega arith
 
-state_behind_counts : {P : Type 0} (game : SavedGame P) (before : List KeyedRecord) (k : Key) (value : List ℕ) → is_state k ≡ true → fault_by game (met game before) k value ≡ None → BothBefore before
+state_behind_counts : {P : Type 0} (game : SavedGame P) (before : List KeyedRecord) (k : Key) (value : List ℕ)
+    → is_state k ≡ true → fault_by game (met game before) k value ≡ None → BothBefore before
 state_behind_counts game before (State k) value state none =
     let m = met game before in
     let both = counts_met m.count m.position m (state_fault k value) refl refl none in
     (some_values count_at (values_of StateCount before) both.0 both.2, some_values count_at (values_of Position before) both.1 both.3)
 state_behind_counts game before k value state none = cc
 
-right_counts_first : {P : Type 0} (game : SavedGame P) (before rs : List KeyedRecord) → AreRight game before rs → CountsStandFirst rs
+right_counts_first : {P : Type 0} (game : SavedGame P) (before rs : List KeyedRecord)
+    → AreRight game before rs → CountsStandFirst rs
 right_counts_first game before [] right = tt
 right_counts_first game before (r ∷ rs) right = (
   λ state.
@@ -119,15 +136,18 @@ right_counts_first game before (r ∷ rs) right = (
 )
 
 -- the last record is one that completes
-completes : {P : Type 0} (game : SavedGame P) (m : Met) (k : Key) (value : List ℕ) → is_complete m ≡ false → is_complete (added game m k value) ≡ true → may_be_last k ≡ true
+completes : {P : Type 0} (game : SavedGame P) (m : Met) (k : Key) (value : List ℕ)
+    → is_complete m ≡ false → is_complete (added game m k value) ≡ true → may_be_last k ≡ true
 completes game m StateCount value undone done = refl
 completes game m Position value undone done = refl
 completes game m (State k) value undone done = refl
 completes game m k value undone done = cc
 
-right_ends : {P : Type 0} (game : SavedGame P) (before : List KeyedRecord) (r : KeyedRecord) (rs : List KeyedRecord) → AreRight game before (r ∷ rs) → EndsWithState (r ∷ rs)
+right_ends : {P : Type 0} (game : SavedGame P) (before : List KeyedRecord) (r : KeyedRecord) (rs : List KeyedRecord)
+    → AreRight game before (r ∷ rs) → EndsWithState (r ∷ rs)
 right_ends game before r [] right =
-    let done : is_complete (added game (met game before) r.key r.value) ≡ true = ap is_complete (sym (met_added game before r.key r.value right.1)) ∙ right.2 in
+    let done : is_complete (added game (met game before) r.key r.value) ≡ true =
+    ap is_complete (sym (met_added game before r.key r.value right.1)) ∙ right.2 in
     completes game (met game before) r.key r.value right.0 done
 right_ends game before r (k ∷ rs) right = right_ends game (before ++ r ∷ []) k rs right.2
 
@@ -136,7 +156,8 @@ ends_with_state game [] right = cc
 ends_with_state game (r ∷ rs) right = right_ends game [] r rs right
 
 -- the session of the records
-unless_taken : {A : Type 0} (fault : Option LoadFault) (r : Result A LoadFault) (a : A) → unless fault r ≡ Ok a → (fault ≡ None) × (r ≡ Ok a)
+unless_taken : {A : Type 0} (fault : Option LoadFault) (r : Result A LoadFault) (a : A)
+    → unless fault r ≡ Ok a → (fault ≡ None) × (r ≡ Ok a)
 unless_taken None r a is = (refl, is)
 unless_taken (Some fault) r a is = cc
 
@@ -192,7 +213,8 @@ parts_taken {P} game m h is =
       whole = cc last.2;
     }
 
-pub saved_taken : {P : Type 0} (game : SavedGame P) (rs : List KeyedRecord) (h : History P) → IsGame game → AreRight game [] rs → session_of game (met game rs) ≡ Ok h → AreSaved game h rs
+pub saved_taken : {P : Type 0} (game : SavedGame P) (rs : List KeyedRecord) (h : History P)
+    → IsGame game → AreRight game [] rs → session_of game (met game rs) ≡ Ok h → AreSaved game h rs
 saved_taken {P} game rs h owes right is =
     let m = met game rs in
     let parts = parts_taken game m h is in
@@ -201,7 +223,8 @@ saved_taken {P} game rs h owes right is =
     let next = params_are game rs NextParams parts.next_params refl refl right parts.next_read in
     let now = params_are game rs CurrentParams parts.params refl refl right parts.read in
     let desc_at = alone_at game rs Desc parts.desc refl refl right parts.desc_is in
-    let described = owes.reads.taken parts.params.size parts.desc parts.puzzle now.2.params.smallest now.2.params.largest parts.described in
+    let described =
+    owes.reads.taken parts.params.size parts.desc parts.puzzle now.2.params.smallest now.2.params.largest parts.described in
     let size = owes.sized parts.params.size parts.puzzle parts.desc described in
     let own : IsDescribed game parts.puzzle = record {
       text = parts.desc;
@@ -211,10 +234,12 @@ saved_taken {P} game rs h owes right is =
     } in
     let start = started parts.puzzle parts.params parts.next_params (extras_in m) in
     let played = states_taken game start parts.last 1 m.states owes own parts.played_is in
-    let legal = accepted_list_legal (game.puzzle parts.puzzle) parts.puzzle parts.params parts.next_params (extras_in m) played.moves parts.last played.played_is in
+    let legal =
+    accepted_list_legal (game.puzzle parts.puzzle) parts.puzzle parts.params parts.next_params (extras_in m) played.moves parts.last played.played_is in
     let long = have_length game parts.puzzle played.moves (states_in rs) played.have in
     let count : values_of StateCount rs ≡ decimal (length played.moves + 1) ∷ [] =
-    count_stands game rs StateCount counts.n refl refl right counts.count_is ∙ ap (λ n. decimal n ∷ []) (omega (arith, counts.states, long)) in
+    count_stands game rs StateCount counts.n refl refl right counts.count_is
+    ∙ ap (λ n. decimal n ∷ []) (omega (arith, counts.states, long)) in
     let here : counts.p ≡ parts.position = (let a = counts.position_is in let b = parts.position_is in cc) in
     let made : AreSaved game (at_position (with_moves start played.moves) parts.position) rs = record {
       no_second_head = never game rs SaveFile Repeated refl refl (λ n v. refl) right;
@@ -254,14 +279,16 @@ head_taken e after rest is =
     let same : own ≡ format_record = cc in
     (same, named.1)
 
-behind_head_taken : (text rest : List ℕ) (read : Result (Option (Entry × List ℕ)) LoadFault) → record_at text ≡ read → behind_head read ≡ Ok rest → BeginsWith format_record rest text
+behind_head_taken : (text rest : List ℕ) (read : Result (Option (Entry × List ℕ)) LoadFault)
+    → record_at text ≡ read → behind_head read ≡ Ok rest → BeginsWith format_record rest text
 behind_head_taken text rest (Ok (Some parts)) read is =
     let head = head_taken parts.0 parts.1 rest is in
     rw (head.0, head.1) at (record_taken text parts.0 parts.1 read)
 behind_head_taken text rest other read is = cc
 
 -- the whole text
-pub load_taken : {P : Type 0} (game : SavedGame P) (text : List ℕ) (h : History P) → IsGame game → load_at game text ≡ Ok h → SaveText game h text
+pub load_taken : {P : Type 0} (game : SavedGame P) (text : List ℕ) (h : History P)
+    → IsGame game → load_at game text ≡ Ok h → SaveText game h text
 unfolding load_at
 load_taken {P} game text h owes is =
     let fits = ok_else (nat_lt longest_save (length text)) TooLarge _ h is in

@@ -40,14 +40,18 @@ use Rattle.play_save.proofs.SessionRecords.{tail_records, values_tail, states_ta
 use Rattle.play_save.proofs.LegalMoves.{FitsText, AllFit, all_fit}
 
 -- a state record that is written has its move
-state_again : {P : Type 0} (game : SavedGame P) (p : P) (desc : List ℕ) (m : Move) → game.Describes (game.puzzle p).size p desc → FitsText (game.puzzle p) m → HasGrid m → IsStateOf game p m (state_value desc m).key (state_value desc m).value
+state_again : {P : Type 0} (game : SavedGame P) (p : P) (desc : List ℕ) (m : Move)
+    → game.Describes (game.puzzle p).size p desc → FitsText (game.puzzle p) m → HasGrid m
+    → IsStateOf game p m (state_value desc m).key (state_value desc m).value
 state_again game p desc (Solve g) described fits grid =
     let solves = (Decides-solves_test (game.puzzle p) g grid).0 fits.1 in
     (record { writable = record { grid = grid; full = latin_full g solves.latin }; spelled = refl }, refl)
 state_again game p desc Restart described fits grid = (refl, described)
 state_again game p desc m described fits grid = record { writable = fits; spelled = refl }
 
-states_again : {P : Type 0} (game : SavedGame P) (p : P) (desc : List ℕ) (ms : List Move) → game.Describes (game.puzzle p).size p desc → AllFit (game.puzzle p) ms → AllByRecursion HasGrid ms → HaveStates game p ms (map (state_value desc) ms)
+states_again : {P : Type 0} (game : SavedGame P) (p : P) (desc : List ℕ) (ms : List Move)
+    → game.Describes (game.puzzle p).size p desc → AllFit (game.puzzle p) ms → AllByRecursion HasGrid ms
+    → HaveStates game p ms (map (state_value desc) ms)
 states_again game p desc [] described fits grids = tt
 states_again game p desc (m ∷ ms) described fits grids =
     (state_again game p desc m described fits.0 grids.0, states_again game p desc ms described fits.1 grids.1)
@@ -68,7 +72,8 @@ same_text t m one other =
     let read_other = text_again (move_text m) m other in
     cc
 
-same_solve : (p : Puzzle) (t : Move) (g : GridValue) → FitsText p t → g.size ≡ p.size → IsMoveText t (move_text (Solve g)) → is_solve t ≡ true → t ≡ Solve g
+same_solve : (p : Puzzle) (t : Move) (g : GridValue)
+    → FitsText p t → g.size ≡ p.size → IsMoveText t (move_text (Solve g)) → is_solve t ≡ true → t ≡ Solve g
 same_solve p (Solve f) g fits size is solve =
     let text = is.spelled in
     let numbers = same_digits g.numbers f.numbers (cc) in
@@ -79,12 +84,14 @@ same_solve p (Solve f) g fits size is solve =
     ap Solve same
 same_solve p t g fits size is solve = cc
 
-same_move : {P : Type 0} (game : SavedGame P) (q : P) (desc : List ℕ) (p : Puzzle) (t m : Move) → FitsText p t → FitsText p m → IsStateOf game q t (state_value desc m).key (state_value desc m).value → t ≡ m
+same_move : {P : Type 0} (game : SavedGame P) (q : P) (desc : List ℕ) (p : Puzzle) (t m : Move)
+    → FitsText p t → FitsText p m → IsStateOf game q t (state_value desc m).key (state_value desc m).value → t ≡ m
 same_move game q desc p t (Solve g) t_fits fits is = same_solve p t g t_fits fits.0 is.0 is.1
 same_move game q desc p t Restart t_fits fits is = is.0
 same_move game q desc p t m t_fits fits is = same_text t m is (record { writable = fits; spelled = refl })
 
-same_moves : {P : Type 0} (game : SavedGame P) (q : P) (desc : List ℕ) (p : Puzzle) (ts ms : List Move) → AllFit p ts → AllFit p ms → HaveStates game q ts (map (state_value desc) ms) → ts ≡ ms
+same_moves : {P : Type 0} (game : SavedGame P) (q : P) (desc : List ℕ) (p : Puzzle) (ts ms : List Move)
+    → AllFit p ts → AllFit p ms → HaveStates game q ts (map (state_value desc) ms) → ts ≡ ms
 same_moves game q desc p [] [] t_fits fits have = refl
 same_moves game q desc p [] (m ∷ ms) t_fits fits have = absurd have
 same_moves game q desc p (t ∷ ts) [] t_fits fits have = absurd have
@@ -121,7 +128,8 @@ same_count m n m_first m_few n_first n_few text =
     cc
 
 -- the written text, record by record
-written_text : {P : Type 0} (game : SavedGame P) (h : History P) → save_of game.title game.desc_of h ≡ record_text (with_value SaveFile collection) ++ records_text (tail_records game.title (game.desc_of h.puzzle) h)
+written_text : {P : Type 0} (game : SavedGame P) (h : History P)
+    → save_of game.title game.desc_of h ≡ record_text (with_value SaveFile collection) ++ records_text (tail_records game.title (game.desc_of h.puzzle) h)
 unfolding save_of
 written_text game h = refl
 
@@ -129,12 +137,14 @@ record Read {P : Type 0} (game : SavedGame P) (h : History P) (text : List ℕ) 
   head : record_at text ≡ Ok (Some (entry_written (with_value SaveFile collection), line_feed ∷ records_text (tail_records game.title (game.desc_of h.puzzle) h)))
   all : AreToTheEnd (tail_records game.title (game.desc_of h.puzzle) h) (line_feed ∷ records_text (tail_records game.title (game.desc_of h.puzzle) h))
 
-read_written : {P : Type 0} (game : SavedGame P) (h : History P) → length (save_of game.title game.desc_of h) ≤ longest_save → Read game h (save_of game.title game.desc_of h)
+read_written : {P : Type 0} (game : SavedGame P) (h : History P)
+    → length (save_of game.title game.desc_of h) ≤ longest_save → Read game h (save_of game.title game.desc_of h)
 read_written {P} game h small =
     let rs = tail_records game.title (game.desc_of h.puzzle) h in
     let head = with_value SaveFile collection in
     let text = written_text game h in
-    let short : length (records_text rs) ≤ longest_save = omega (arith, ap length text, length-append (record_text head) (records_text rs)) in
+    let short : length (records_text rs) ≤ longest_save =
+    omega (arith, ap length text, length-append (record_text head) (records_text rs)) in
     let made : Read game h (record_text head ++ records_text rs) = record {
       head = record_again (record_text head ++ records_text rs) (entry_written head) (line_feed ∷ records_text rs) (written_begins head [] (records_text rs) tt refl (lit≤ tt));
       all = all_written rs (line_feed ∷ []) (refl, tt) (known_tail game.title (game.desc_of h.puzzle) h) short;
@@ -142,7 +152,8 @@ read_written {P} game h small =
     subst (λ t. Read game h t) (sym text) made
 
 -- what is written is a save
-pub written_is_saved : {P : Type 0} (game : SavedGame P) (of_game : P → Type 0) → Owes game of_game → WrittenIsSaved game of_game
+pub written_is_saved : {P : Type 0} (game : SavedGame P) (of_game : P → Type 0)
+    → Owes game of_game → WrittenIsSaved game of_game
 written_is_saved {P} game of_game owes h storable grids small =
     let title = game.title in
     let desc = game.desc_of h.puzzle in
@@ -150,7 +161,8 @@ written_is_saved {P} game of_game owes h storable grids small =
     let read = read_written game h small in
     let valid = storable.session in
     let described = owes.own_text h.puzzle storable.puzzle_is in
-    let largest : (game.puzzle h.puzzle).size ≤ 9 = (let top = storable.params_are.largest in omega (arith, valid.size)) in
+    let largest : (game.puzzle h.puzzle).size ≤ 9 =
+    (let top = storable.params_are.largest in omega (arith, valid.size)) in
     let fits = all_fit (game.puzzle h.puzzle) (start_of (game.puzzle h.puzzle)) h.moves largest valid.legal.playable in
     let head_begins = written_begins (with_value SaveFile collection) [] (records_text rs) tt refl (lit≤ tt) in
     record {
@@ -181,13 +193,16 @@ written_is_saved {P} game of_game owes h storable grids small =
     }
 
 -- the records of any save of it are those that were written
-one_value : (k : Key) (v w : List ℕ) (rs later all : List KeyedRecord) → all ≡ rs ++ later → values_of k all ≡ v ∷ [] → values_of k rs ≡ w ∷ [] → (v ≡ w) × (values_of k later ≡ [])
+one_value : (k : Key) (v w : List ℕ) (rs later all : List KeyedRecord)
+    → all ≡ rs ++ later → values_of k all ≡ v ∷ [] → values_of k rs ≡ w ∷ [] → (v ≡ w) × (values_of k later ≡ [])
 one_value k v w rs later all split whole part =
-    let both : v ∷ [] ≡ w ∷ values_of k later = sym whole ∙ (ap (values_of k) split ∙ (values_of-append k rs later ∙ ap (λ vs. vs ++ values_of k later) part)) in
+    let both : v ∷ [] ≡ w ∷ values_of k later =
+    sym whole ∙ (ap (values_of k) split ∙ (values_of-append k rs later ∙ ap (λ vs. vs ++ values_of k later) part)) in
     let rest : values_of k later ≡ [] = cc in
     (cc, rest)
 
-ends_later : (xs : List KeyedRecord) (y : KeyedRecord) (ys : List KeyedRecord) → EndsWithState (xs ++ y ∷ ys) → EndsWithState (y ∷ ys)
+ends_later : (xs : List KeyedRecord) (y : KeyedRecord) (ys : List KeyedRecord)
+    → EndsWithState (xs ++ y ∷ ys) → EndsWithState (y ∷ ys)
 ends_later [] y ys ends = ends
 ends_later (x ∷ []) y ys ends = ends
 ends_later (x ∷ z ∷ xs) y ys ends = ends_later (z ∷ xs) y ys ends
@@ -197,7 +212,9 @@ record IsSameSave {P : Type 0} (game : SavedGame P) (h other : History P) : Type
   count : length other.moves ≡ length h.moves
   position : other.position ≡ h.position
 
-same_save : {P : Type 0} (game : SavedGame P) (h other : History P) (rs later : List KeyedRecord) → IsValid (game.puzzle h.puzzle) h → tail_records game.title (game.desc_of h.puzzle) h ≡ rs ++ later → AreSaved game other rs → IsSameSave game h other
+same_save : {P : Type 0} (game : SavedGame P) (h other : History P) (rs later : List KeyedRecord)
+    → IsValid (game.puzzle h.puzzle) h → tail_records game.title (game.desc_of h.puzzle) h ≡ rs ++ later
+    → AreSaved game other rs → IsSameSave game h other
 same_save {P} game h other rs later valid split saved =
     let title = game.title in
     let desc = game.desc_of h.puzzle in
@@ -208,12 +225,17 @@ same_save {P} game h other rs later valid split saved =
     let other_few = saved.valid.few in
     let other_first = saved.valid.first in
     let other_last = saved.valid.last in
-    let count = one_value StateCount (decimal (length h.moves + 1)) (decimal (length other.moves + 1)) rs later all split (values_tail title desc h StateCount refl) saved.count in
-    let place = one_value Position (decimal h.position) (decimal other.position) rs later all split (values_tail title desc h Position refl) saved.position in
-    let counts : length h.moves + 1 ≡ length other.moves + 1 = same_count (length h.moves + 1) (length other.moves + 1) (omega arith) few (omega arith) other_few count.0 in
-    let places : h.position ≡ other.position = same_count h.position other.position first (omega arith) other_first (omega arith) place.0 in
+    let count =
+    one_value StateCount (decimal (length h.moves + 1)) (decimal (length other.moves + 1)) rs later all split (values_tail title desc h StateCount refl) saved.count in
+    let place =
+    one_value Position (decimal h.position) (decimal other.position) rs later all split (values_tail title desc h Position refl) saved.position in
+    let counts : length h.moves + 1 ≡ length other.moves + 1 =
+    same_count (length h.moves + 1) (length other.moves + 1) (omega arith) few (omega arith) other_few count.0 in
+    let places : h.position ≡ other.position =
+    same_count h.position other.position first (omega arith) other_first (omega arith) place.0 in
     let written = length-map h.moves (state_value desc) in
-    let sum : length (states_in all) ≡ length (states_in rs) + length (states_in later) = ap length (ap states_in split ∙ states_in-append rs later) ∙ length-append (states_in rs) (states_in later) in
+    let sum : length (states_in all) ≡ length (states_in rs) + length (states_in later) =
+    ap length (ap states_in split ∙ states_in-append rs later) ∙ length-append (states_in rs) (states_in later) in
     let own = have_length game other.puzzle other.moves (states_in rs) saved.states in
     let whole = ap length (states_tail title desc h) in
     let none : length (states_in later) ≡ 0 = omega arith in
@@ -221,15 +243,20 @@ same_save {P} game h other rs later valid split saved =
     let same : rs ≡ all = sym (append-nil rs) ∙ (ap (λ xs. rs ++ xs) (sym empty) ∙ sym split) in
     record { saved = subst (λ xs. AreSaved game other xs) same saved; count = omega arith; position = sym places }
   where
-    no_more : (xs : List KeyedRecord) → tail_records game.title (game.desc_of h.puzzle) h ≡ rs ++ xs → values_of StateCount xs ≡ [] → values_of Position xs ≡ [] → length (states_in xs) ≡ 0 → xs ≡ []
+    no_more : (xs : List KeyedRecord)
+        → tail_records game.title (game.desc_of h.puzzle) h ≡ rs ++ xs → values_of StateCount xs ≡ []
+        → values_of Position xs ≡ [] → length (states_in xs) ≡ 0 → xs ≡ []
     no_more [] cut no_count no_place no_state = refl
     no_more (x ∷ xs) cut no_count no_place no_state =
-        let ends = ends_later rs x xs (subst (λ zs. EndsWithState zs) cut (ends_tail game.title (game.desc_of h.puzzle) h)) in
+        let ends =
+        ends_later rs x xs (subst (λ zs. EndsWithState zs) cut (ends_tail game.title (game.desc_of h.puzzle) h)) in
         let some = has_state_or_count (x ∷ xs) ends no_count no_place in
         absurd (omega arith)
 
 -- and so it is the session
-same_history : {P : Type 0} (a b : History P) → a.puzzle ≡ b.puzzle → a.params ≡ b.params → a.next_params ≡ b.next_params → a.extras ≡ b.extras → a.moves ≡ b.moves → a.position ≡ b.position → a ≡ b
+same_history : {P : Type 0} (a b : History P)
+    → a.puzzle ≡ b.puzzle → a.params ≡ b.params → a.next_params ≡ b.next_params → a.extras ≡ b.extras
+    → a.moves ≡ b.moves → a.position ≡ b.position → a ≡ b
 same_history {P} a b puzzle params next extras moves position =
     let one : History P = record a { puzzle = a.puzzle } in
     let other : History P = record b { puzzle = b.puzzle } in
@@ -246,26 +273,32 @@ same_extras a b seed auxinfo ui time =
 one_of : {A : Type 0} (a b : A) (values : List A) → values ≡ a ∷ [] → values ≡ b ∷ [] → a ≡ b
 one_of a b values one other = cc
 
-pub written_saves_no_other : {P : Type 0} (game : SavedGame P) (of_game : P → Type 0) → Owes game of_game → WrittenSavesNoOther game of_game
+pub written_saves_no_other : {P : Type 0} (game : SavedGame P) (of_game : P → Type 0)
+    → Owes game of_game → WrittenSavesNoOther game of_game
 written_saves_no_other {P} game of_game owes h other valid of t =
     let title = game.title in
     let desc = game.desc_of h.puzzle in
     let all = tail_records title desc h in
     let read = read_written game h t.small in
     let head = record_again (save_of game.title game.desc_of h) format_record t.behind_head t.head in
-    let rest = (some_pair_parts format_record format_record t.behind_head (line_feed ∷ records_text all) (cc (head, read.head))).1 in
-    let front = begins_prefix t.records all (line_feed ∷ records_text all) (subst (λ r. BeginsWithAll t.records r) rest t.begins) read.all in
+    let rest =
+    (some_pair_parts format_record format_record t.behind_head (line_feed ∷ records_text all) (cc (head, read.head))).1 in
+    let front =
+    begins_prefix t.records all (line_feed ∷ records_text all) (subst (λ r. BeginsWithAll t.records r) rest t.begins) read.all in
     let same = same_save game h other t.records front.later valid front.split t.saved in
     let s = same.saved in
-    let next_text = one_of s.next_params.0 (params_text h.next_params) (values_of NextParams all) s.next_params.1 (values_tail title desc h NextParams refl) in
+    let next_text =
+    one_of s.next_params.0 (params_text h.next_params) (values_of NextParams all) s.next_params.1 (values_tail title desc h NextParams refl) in
     let next = same_params other.next_params h.next_params (sym s.next_params.2.text_is ∙ next_text) in
-    let params_same = one_of s.params.0 (params_text h.params) (values_of CurrentParams all) s.params.1 (values_tail title desc h CurrentParams refl) in
+    let params_same =
+    one_of s.params.0 (params_text h.params) (values_of CurrentParams all) s.params.1 (values_tail title desc h CurrentParams refl) in
     let params = same_params other.params h.params (sym s.params.2.text_is ∙ params_same) in
     let desc_same = one_of s.desc.0 desc (values_of Desc all) s.desc.1 (values_tail title desc h Desc refl) in
     let w = (game.puzzle h.puzzle).size in
     let own = owes.own_text h.puzzle of in
     let width : other.params.size ≡ w = ap (λ (p : Params). p.size) params ∙ valid.size in
-    let described : game.Describes w other.puzzle desc = subst (λ n. game.Describes n other.puzzle desc) width (subst (λ d. game.Describes other.params.size other.puzzle d) desc_same s.desc.2) in
+    let described : game.Describes w other.puzzle desc =
+    subst (λ n. game.Describes n other.puzzle desc) width (subst (λ d. game.Describes other.params.size other.puzzle d) desc_same s.desc.2) in
     let puzzle = same_described w h.puzzle other.puzzle desc own described in
     let extras = same_extras other.extras h.extras
     (same_kept other.extras.seed h.extras.seed (sym s.seed ∙ values_tail title desc h Seed refl))
@@ -275,7 +308,8 @@ written_saves_no_other {P} game of_game owes h other valid of t =
     let largest : w ≤ 9 = (let top = s.params.2.params.largest in omega (arith, width)) in
     let fits = all_fit (game.puzzle h.puzzle) (start_of (game.puzzle h.puzzle)) h.moves largest valid.legal.playable in
     let other_legal = subst (λ q. IsValid (game.puzzle q) other) puzzle s.valid in
-    let other_fits = all_fit (game.puzzle h.puzzle) (start_of (game.puzzle h.puzzle)) other.moves largest other_legal.legal.playable in
+    let other_fits =
+    all_fit (game.puzzle h.puzzle) (start_of (game.puzzle h.puzzle)) other.moves largest other_legal.legal.playable in
     let moves = same_moves game other.puzzle desc (game.puzzle h.puzzle) other.moves h.moves other_fits fits (subst (λ ss. HaveStates game other.puzzle other.moves ss) (states_tail title desc h) s.states) in (
       same_history other h puzzle params next extras moves same.position,
       record {
@@ -293,16 +327,20 @@ written_saves_no_other {P} game of_game owes h other valid of t =
         cc
 
 -- the same of an answer
-pub round_same : {P : Type 0} (game : SavedGame P) (of_game : P → Type 0) (h : History P) (text : List ℕ) (answer : Result (History P) LoadFault) → WrittenSavesNoOther game of_game → IsValid (game.puzzle h.puzzle) h → of_game h.puzzle → text ≡ save_of game.title game.desc_of h → IfOk answer (λ s. SaveText game s text) → IfOk answer (λ s. s ≡ h)
+pub round_same : {P : Type 0} (game : SavedGame P) (of_game : P → Type 0) (h : History P) (text : List ℕ) (answer : Result (History P) LoadFault)
+    → WrittenSavesNoOther game of_game → IsValid (game.puzzle h.puzzle) h → of_game h.puzzle
+    → text ≡ save_of game.title game.desc_of h → IfOk answer (λ s. SaveText game s text) → IfOk answer (λ s. s ≡ h)
 round_same game of_game h text (Ok s) law valid of written is =
     (law h s valid of (subst (λ t. SaveText game s t) written is)).0
 round_same game of_game h text (Err e) law valid of written is = tt
 
-pub round_board : {P : Type 0} (puzzle : P → Puzzle) (h : History P) (answer : Result (History P) LoadFault) → IfOk answer (λ s. s ≡ h) → IfOk answer (λ s. shown (puzzle s.puzzle) s ≡ shown (puzzle h.puzzle) h)
+pub round_board : {P : Type 0} (puzzle : P → Puzzle) (h : History P) (answer : Result (History P) LoadFault)
+    → IfOk answer (λ s. s ≡ h) → IfOk answer (λ s. shown (puzzle s.puzzle) s ≡ shown (puzzle h.puzzle) h)
 round_board puzzle h (Ok s) same = ap (λ k. shown (puzzle k.puzzle) k) same
 round_board puzzle h (Err e) same = tt
 
-pub round_refused : {P : Type 0} (game : SavedGame P) (h : History P) (answer : Result (History P) LoadFault) → GivesUnless OutOfMemory (λ s. s) answer (Ok h) → IfErr answer (λ fault. fault ≡ OutOfMemory)
+pub round_refused : {P : Type 0} (game : SavedGame P) (h : History P) (answer : Result (History P) LoadFault)
+    → GivesUnless OutOfMemory (λ s. s) answer (Ok h) → IfErr answer (λ fault. fault ≡ OutOfMemory)
 round_refused game h (Ok s) gives = tt
 round_refused game h (Err e) (inl memory) = memory
 round_refused game h (Err e) (inr refused) = cc

@@ -36,8 +36,10 @@ states_none k desc (m ∷ ms) header = rw (other k header) (states_none k desc m
     other j no_state = refl
 
 -- bytes that are kept stand with their own key
-kept_values : (k j : Key) (kept : Option (List ℕ)) → values_of k (kept_record j kept) ≡ cond (rank j == rank k) (once_if_kept kept) []
-kept_values k j None = cond_both (rank j == rank k) [] [] (λ (values : List (List ℕ)). [] ≡ values) (λ is. refl) (λ is. refl)
+kept_values : (k j : Key) (kept : Option (List ℕ))
+    → values_of k (kept_record j kept) ≡ cond (rank j == rank k) (once_if_kept kept) []
+kept_values k j None =
+    cond_both (rank j == rank k) [] [] (λ (values : List (List ℕ)). [] ≡ values) (λ is. refl) (λ is. refl)
 kept_values k j (Some v) = refl
 
 -- the values that are written with a key, state records apart
@@ -56,7 +58,8 @@ values_written title desc h Position = decimal h.position ∷ []
 values_written title desc h k = []
 
 -- (the last clause is looked at for each key but those of states)
-pub values_tail : {P : Type 0} (title desc : List ℕ) (h : History P) (k : Key) → is_state k ≡ false → values_of k (tail_records title desc h) ≡ values_written title desc h k
+pub values_tail : {P : Type 0} (title desc : List ℕ) (h : History P) (k : Key)
+    → is_state k ≡ false → values_of k (tail_records title desc h) ≡ values_written title desc h k
 values_tail title desc h (State k) no_state = cc
 values_tail title desc h k no_state =
     let seed = kept_values k Seed h.extras.seed in
@@ -83,10 +86,12 @@ states_body desc h =
     let time = states_none_kept Time h.extras.time refl in
     simp (states_in-append, seed, auxinfo, ui, time)
 
-pub states_tail : {P : Type 0} (title desc : List ℕ) (h : History P) → states_in (tail_records title desc h) ≡ map (state_value desc) h.moves
+pub states_tail : {P : Type 0} (title desc : List ℕ) (h : History P)
+    → states_in (tail_records title desc h) ≡ map (state_value desc) h.moves
 states_tail title desc h =
     let body = states_body desc h in
-    states_in-append (body_records desc h) (state_records desc h) ∙ (ap (λ ss. ss ++ states_in (state_records desc h)) body ∙ states_map desc h.moves)
+    states_in-append (body_records desc h) (state_records desc h)
+    ∙ (ap (λ ss. ss ++ states_in (state_records desc h)) body ∙ states_map desc h.moves)
 
 -- the counts come before the states, and a state or a count is the last
 front_first : (xs ys : List KeyedRecord) → states_in xs ≡ [] → CountsStandFirst ys → CountsStandFirst (xs ++ ys)
@@ -98,17 +103,21 @@ front_first (x ∷ xs) ys none first =
     never : (k : Key) → is_state k ≡ false → is_state k ≡ true → ⊥
     never k header state = cc
 
-    none_first : (k : Key) (v : List ℕ) (ss : List KeyedState) → onto_states k v ss ≡ [] → (is_state k ≡ false) × (ss ≡ [])
+    none_first : (k : Key) (v : List ℕ) (ss : List KeyedState)
+        → onto_states k v ss ≡ [] → (is_state k ≡ false) × (ss ≡ [])
     none_first (State k) v ss e = cc
     none_first k v ss e = (refl, e)
 
 states_first : (desc : List ℕ) (ms : List Move) → CountsStandFirst (states_of desc ms)
 states_first desc [] = tt
-states_first desc (m ∷ ms) = ((λ state. (states_none StateCount desc ms refl, states_none Position desc ms refl)), states_first desc ms)
+states_first desc (m ∷ ms) =
+    ((λ state. (states_none StateCount desc ms refl, states_none Position desc ms refl)), states_first desc ms)
 
-pub counts_first_tail : {P : Type 0} (title desc : List ℕ) (h : History P) → CountsStandFirst (tail_records title desc h)
+pub counts_first_tail : {P : Type 0} (title desc : List ℕ) (h : History P)
+    → CountsStandFirst (tail_records title desc h)
 counts_first_tail title desc h =
-    let states : CountsStandFirst (state_records desc h) = ((λ state. cc), ((λ state. cc), states_first desc h.moves)) in
+    let states : CountsStandFirst (state_records desc h) =
+    ((λ state. cc), ((λ state. cc), states_first desc h.moves)) in
     front_first (four title h) (body_records desc h ++ state_records desc h) refl
     (front_first (body_records desc h) (state_records desc h) (states_body desc h) states)
 
@@ -118,7 +127,8 @@ ends_behind (x ∷ []) [] ends = absurd ends
 ends_behind (x ∷ []) (y ∷ ys) ends = ends
 ends_behind (x ∷ z ∷ xs) ys ends = ends_behind (z ∷ xs) ys ends
 
-ends_states : (r : KeyedRecord) (desc : List ℕ) (ms : List Move) → may_be_last r.key ≡ true → EndsWithState (r ∷ states_of desc ms)
+ends_states : (r : KeyedRecord) (desc : List ℕ) (ms : List Move)
+    → may_be_last r.key ≡ true → EndsWithState (r ∷ states_of desc ms)
 ends_states r desc [] last = last
 ends_states r desc (m ∷ ms) last = ends_states (state_record desc m) desc ms refl
 

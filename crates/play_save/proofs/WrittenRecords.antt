@@ -49,7 +49,8 @@ record IsKey (k : Key) : Type 0 where
 is_key : (k : Key) → is_known k ≡ true → IsKey k
 unfolding free_of_colon key_of
 is_key Other known = cc
-is_key (State AnyMove) known = record { eight = refl; colon_free = refl; no_break = refl; name_again = refl; key_again = refl }
+is_key (State AnyMove) known =
+    record { eight = refl; colon_free = refl; no_break = refl; name_again = refl; key_again = refl }
 is_key k known = record { eight = refl; colon_free = refl; no_break = refl; name_again = refl; key_again = refl }
 
 -- the length of a value is read
@@ -73,7 +74,9 @@ length_written n few =
 abbrev pub entry_written : KeyedRecord → Entry
 entry_written r = record { key = key_name r.key; value = r.value }
 
-pub written_begins : (r : KeyedRecord) (breaks more : List ℕ) → AreBreaks breaks → is_known r.key ≡ true → length r.value ≤ 99999999 → BeginsWith (entry_written r) (line_feed ∷ more) (breaks ++ (record_text r ++ more))
+pub written_begins : (r : KeyedRecord) (breaks more : List ℕ)
+    → AreBreaks breaks → is_known r.key ≡ true → length r.value ≤ 99999999
+    → BeginsWith (entry_written r) (line_feed ∷ more) (breaks ++ (record_text r ++ more))
 unfolding record_text
 written_begins r breaks more are known few =
     let own = is_key r.key known in
@@ -112,7 +115,9 @@ value_within r =
 own_record : (r : KeyedRecord) → is_known r.key ≡ true → keyed (entry_written r) ≡ r
 own_record r known = same_record (keyed (entry_written r)) r.key r.value (is_key r.key known).key_again refl
 
-pub all_written : (rs : List KeyedRecord) (breaks : List ℕ) → AreBreaks breaks → AreKnown rs → length (records_text rs) ≤ longest_save → AreToTheEnd rs (breaks ++ records_text rs)
+pub all_written : (rs : List KeyedRecord) (breaks : List ℕ)
+    → AreBreaks breaks → AreKnown rs → length (records_text rs) ≤ longest_save
+    → AreToTheEnd rs (breaks ++ records_text rs)
 all_written [] breaks are known small = subst (λ t. AreBreaks t) (sym (append-nil breaks)) are
 all_written (r ∷ rs) breaks are known small =
     let split = length-append (record_text r) (records_text rs) in
@@ -129,7 +134,8 @@ pub record IsPrefix (rs ms : List KeyedRecord) : Type 0 where
   pub later : List KeyedRecord
   pub split : ms ≡ rs ++ later
 
-pub begins_prefix : (rs ms : List KeyedRecord) (text : List ℕ) → BeginsWithAll rs text → AreToTheEnd ms text → IsPrefix rs ms
+pub begins_prefix : (rs ms : List KeyedRecord) (text : List ℕ)
+    → BeginsWithAll rs text → AreToTheEnd ms text → IsPrefix rs ms
 begins_prefix [] ms text begins all = record { later = ms; split = refl }
 begins_prefix (r ∷ rs) [] text begins all =
     let read = record_again text begins.0 begins.1 begins.3 in

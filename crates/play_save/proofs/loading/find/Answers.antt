@@ -28,7 +28,8 @@ returns-in_err-record-clause-given g c =
     let none = c.in_err-record.ensures.ok_part in
     let read : record_at c.loop-rest.rest.now ≡ Ok None =
     c.in_ok-next_record.ensures.value ∙ ap (λ o. Ok (option_map parts_of o)) none in
-    let missing = error_of_none c.in_ok-next_record.field-0 c.in_err-record.field-0.0 Missing c.in_err-record.ensures.value none in
+    let missing =
+    error_of_none c.in_ok-next_record.field-0 c.in_err-record.field-0.0 Missing c.in_err-record.ensures.value none in
     let e = err_from_is_err_and c.from_residual-in_err-record.result c.from_residual-in_err-record.ensures.1 in
     rw (e.1, e.2, missing) (inr (reads_end c.loop-rest.invariant undone read))
 

@@ -10,7 +10,8 @@ owes : (g : Over) → Owes (saves_of g.P.Rules g.P.Game) g.P.Rules.valid
 owes g = let laws = g.met.P.Game in game_owes g.P.Rules g.P.Game laws.desc_taken laws.desc_again laws.desc_canonical
 
 pub returns-clause-found : goal.returns-clause-found
-returns-clause-found g c = load_found (saves_of g.P.Rules g.P.Game) c.args.bytes.now c.read.result (owes g).texts c.read.ensures
+returns-clause-found g c =
+    load_found (saves_of g.P.Rules g.P.Game) c.args.bytes.now c.read.result (owes g).texts c.read.ensures
 
 pub returns-clause-only : goal.returns-clause-only
 returns-clause-only g c = λ h is.

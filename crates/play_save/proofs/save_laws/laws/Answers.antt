@@ -20,4 +20,5 @@ pub returns-clause-written_is_saved : goal.returns-clause-written_is_saved
 returns-clause-written_is_saved g c = written_is_saved (saves_of g.P.Rules g.P.Game) g.P.Rules.valid (owes g)
 
 pub returns-clause-written_saves_no_other : goal.returns-clause-written_saves_no_other
-returns-clause-written_saves_no_other g c = written_saves_no_other (saves_of g.P.Rules g.P.Game) g.P.Rules.valid (owes g)
+returns-clause-written_saves_no_other g c =
+    written_saves_no_other (saves_of g.P.Rules g.P.Game) g.P.Rules.valid (owes g)

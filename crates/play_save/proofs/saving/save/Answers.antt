@@ -13,8 +13,13 @@ returns-clause-written g c =
     let a = records_text-append (head_records g.P.Game.title h) (body_records desc h ++ state_records desc h) in
     let b = records_text-append (body_records desc h) (state_records desc h) in
     let described = own ∙ ap g.P.Game.desc_of c.puzzle.ensures in
-    let head : c.put_head.new.text.items ≡ records_text (head_records g.P.Game.title h) = c.in_ok-put_head.ensures ∙ ap (λ t. t ++ records_text (head_records g.P.Game.title h)) c.new-text.ensures.items in
-    let body : c.put_body.new.text.items ≡ c.put_head.new.text.items ++ records_text (body_records desc h) = c.in_ok-put_body.ensures ∙ ap (λ d. c.put_head.new.text.items ++ records_text (body_records d h)) (c.deref.ensures.value ∙ described) in
-    let states : c.put_states.new.text.items ≡ c.put_body.new.text.items ++ records_text (state_records desc h) = c.in_ok-put_states.ensures.ok ∙ ap (λ d. c.put_body.new.text.items ++ records_text (state_records d h)) (c.deref-2.ensures.value ∙ described) in
+    let head : c.put_head.new.text.items ≡ records_text (head_records g.P.Game.title h) =
+    c.in_ok-put_head.ensures ∙ ap (λ t. t ++ records_text (head_records g.P.Game.title h)) c.new-text.ensures.items in
+    let body : c.put_body.new.text.items ≡ c.put_head.new.text.items ++ records_text (body_records desc h) =
+    c.in_ok-put_body.ensures
+    ∙ ap (λ d. c.put_head.new.text.items ++ records_text (body_records d h)) (c.deref.ensures.value ∙ described) in
+    let states : c.put_states.new.text.items ≡ c.put_body.new.text.items ++ records_text (state_records desc h) =
+    c.in_ok-put_states.ensures.ok
+    ∙ ap (λ d. c.put_body.new.text.items ++ records_text (state_records d h)) (c.deref-2.ensures.value ∙ described) in
     three_behind (records_text (head_records g.P.Game.title h)) (records_text (body_records desc h)) (records_text (state_records desc h)) c.put_head.new.text.items c.put_body.new.text.items c.put_states.new.text.items head body states
     ∙ sym (a ∙ ap (λ t. records_text (head_records g.P.Game.title h) ++ t) b)
