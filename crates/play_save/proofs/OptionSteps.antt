@@ -1,5 +1,6 @@
 -- Steps that may give nothing, or fail: where the whole is there, so was each step.
 use Rattle.std.proofs.Common.{◌≡◌, Bool, true, false, Option, Some, None, option_map, option_and_then, Result, Ok, Err, ok_or, cond, refl}
+use Rattle.std.specs.Result.{result_ok}
 
 pub map_taken : {A B : Type 0} (f : A → B) (o : Option A) (y : B)
     → option_map f o ≡ Some y → (x : A) × (o ≡ Some x) × (f x ≡ y)
@@ -14,6 +15,10 @@ and_then_taken f (Some x) y is = (x, refl, is)
 pub ok_or_taken : {A E : Type 0} (o : Option A) (e : E) (y : A) → ok_or o e ≡ Ok y → o ≡ Some y
 ok_or_taken None e y is = cc
 ok_or_taken (Some x) e y is = cc
+
+pub result_taken : {A E F : Type 0} (r : Result A E) (fault : F) (y : A) → ok_or (result_ok r) fault ≡ Ok y → r ≡ Ok y
+result_taken (Ok x) fault y is = cc
+result_taken (Err e) fault y is = cc
 
 pub error_of_none : {A E : Type 0} (o : Option A) (e fault : E) → Err e ≡ ok_or o fault → o ≡ None → e ≡ fault
 error_of_none None e fault is none = cc

@@ -22,14 +22,14 @@ use Rattle.play_save.specs.KeyedRecords.{KeyedRecord, values_of, states_in, Stan
 use Rattle.play_save.specs.SaveTexts.{SavedGame, collection, format_record, longest_save, AreSaved, SaveText}
 use Rattle.play_save.specs.FirstFaults.{Met, saved_params_at, count_at, first_of, met, fault_unless, state_fault, fault_by, is_complete, records_of, unless, needed, states_played, needed_params, needed_count, extras_in, session_of, head_or_fault, behind_head, met_in, load_at}
 use Rattle.play_save.specs.Taking.{added}
-use Rattle.play_save.proofs.OptionSteps.{map_taken, ok_or_taken, ok_else, ok_where}
+use Rattle.play_save.proofs.OptionSteps.{map_taken, ok_or_taken, result_taken, ok_else, ok_where}
 use Rattle.play_save.proofs.RecordLaws.{record_taken}
 use Rattle.play_save.proofs.RecordLists.{stands_on, first_some, is_some_taken}
 use Rattle.play_save.proofs.Meeting.{is_once, once_taken, met_added}
 use Rattle.play_save.proofs.RightLists.{AreRight, needed_taken, records_taken, none_again, StandsAlone, stands_at}
 use Rattle.play_save.proofs.Counting.{count_taken, fault_unless_taken, counts_met, counted, right_whole, sound_start}
 use Rattle.play_save.proofs.GameTexts.{IsGame}
-use Rattle.play_save.proofs.StatesPlayed.{ok_taken, IsDescribed, states_taken, have_length}
+use Rattle.play_save.proofs.StatesPlayed.{IsDescribed, states_taken, have_length}
 
 -- a key that stands, stands alone
 alone_at : {P : Type 0} (game : SavedGame P) (rs : List KeyedRecord) (k : Key) (value : List ℕ)
@@ -207,7 +207,7 @@ parts_taken {P} game m h is =
       position = place.0;
       position_is = needed_count_taken m.position place.0 place.1;
       puzzle = puzzle.0;
-      described = ok_taken (game.desc_at now.0.size desc.0) puzzle.0 (ok_or_taken (result_ok (game.desc_at now.0.size desc.0)) BadDesc puzzle.0 puzzle.1);
+      described = result_taken (game.desc_at now.0.size desc.0) BadDesc puzzle.0 puzzle.1;
       last = last.0;
       played_is = last.1;
       whole = cc last.2;

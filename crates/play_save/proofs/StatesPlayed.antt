@@ -18,7 +18,7 @@ use Rattle.play_save.specs.declared.key.StateKey.TheVariants.{AnyMove, SolveMove
 use Rattle.play_save.specs.KeyedRecords.{KeyedState}
 use Rattle.play_save.specs.SaveTexts.{SavedGame, is_solve, IsStateOf, HaveStates}
 use Rattle.play_save.specs.FirstFaults.{solution_alone, restart_of, state_move, move_played, state_played, states_played, state_fault}
-use Rattle.play_save.proofs.OptionSteps.{and_then_taken, ok_or_taken}
+use Rattle.play_save.proofs.OptionSteps.{and_then_taken, result_taken}
 use Rattle.play_save.proofs.GameTexts.{IsGame, same_puzzle, restart_taken, restart_again, other_puzzle}
 
 -- the text of a move, and the move of a text
@@ -80,6 +80,12 @@ pub played_keeps : {P : Type 0} (pz : Puzzle) (h next : History P) (m : Move)
     → played pz h m ≡ Ok next → next.puzzle ≡ h.puzzle
 played_keeps pz h next m is = ap (λ k. k.puzzle) (sym (accepted (refusal_in pz h m) (with_move h m) next is).1)
 
+-- a move that was played was there
+move_taken : {P : Type 0} (game : SavedGame P) (h next : History P) (i : ℕ) (o : Option Move)
+    → move_played game h i o ≡ Ok next → (m : Move) × (o ≡ Some m) × (played (game.puzzle h.puzzle) h m ≡ Ok next)
+move_taken game h next i None made = cc
+move_taken game h next i (Some m) made = (m, refl, result_taken (played (game.puzzle h.puzzle) h m) (BadState i) next made)
+
 -- all state records
 pub record ArePlayed {P : Type 0} (game : SavedGame P) (h : History P) (ss : List KeyedState) (last : History P) : Type 0 where
   pub moves : List Move
@@ -91,22 +97,16 @@ pub states_taken : {P : Type 0} (game : SavedGame P) (h last : History P) (i : �
 states_taken game h last i [] owes d is =
     let same : h ≡ last = cc in record { moves = []; have = tt; played_is = ap Ok same }
 states_taken {P} game h last i (s ∷ ss) owes d is =
-    let step = bind_taken (state_played game h i s) (λ next. states_played game next (i + 1) ss) last is in
-    let one = one_taken (state_move game h.puzzle s.key s.value) step.0 refl step.1 in
+    let step = bind_taken (state_played game h i s) _ last is in
+    let one = move_taken game h step.0 i (state_move game h.puzzle s.key s.value) step.1 in
     let keeps = played_keeps (game.puzzle h.puzzle) h step.0 one.0 one.2 in
     let rest = states_taken game step.0 last (i + 1) ss owes (subst (λ p. IsDescribed game p) (sym keeps) d) step.2 in
+    let later = subst (λ p. HaveStates game p rest.moves ss) keeps rest.have in
     record {
       moves = one.0 ∷ rest.moves;
-      have = (move_of_state game h.puzzle s.key s.value one.0 owes d one.1, subst (λ p. HaveStates game p rest.moves ss) keeps rest.have);
+      have = (move_of_state game h.puzzle s.key s.value one.0 owes d one.1, later);
       played_is = rw one.2 (subst (λ p. played_all (game.puzzle p) step.0 rest.moves ≡ Ok last) keeps rest.played_is);
     }
-  where
-    one_taken : (o : Option Move) (next : History P)
-        → state_move game h.puzzle s.key s.value ≡ o → move_played game h i o ≡ Ok next
-        → (m : Move) × (state_move game h.puzzle s.key s.value ≡ Some m) × (played (game.puzzle h.puzzle) h m ≡ Ok next)
-    one_taken None next has made = cc
-    one_taken (Some m) next has made =
-        (m, has, ok_taken (played (game.puzzle h.puzzle) h m) next (ok_or_taken (result_ok (played (game.puzzle h.puzzle) h m)) (BadState i) next made))
 
 played_ok : {P : Type 0} (game : SavedGame P) (h next : History P) (i : ℕ) (m : Move)
     → played (game.puzzle h.puzzle) h m ≡ Ok next → move_played game h i (Some m) ≡ Ok next
@@ -120,7 +120,7 @@ states_again game h last i [] (s ∷ ss) owes have is = absurd have
 states_again game h last i (m ∷ ms) [] owes have is = absurd have
 states_again {P} game h last i (m ∷ ms) (s ∷ ss) owes have is =
     let step = and_then_ok (played (game.puzzle h.puzzle) h m) is in
-    more step.0 step.1 step.2 (λ next kept all. states_again game next last (i + 1) ms ss owes kept all)
+    more step.0 step.1 step.2 (λ kept all. states_again game step.0 last (i + 1) ms ss owes kept all)
   where
     and_then_ok : (r : Result (History P) PlayFault)
         → result_and_then (λ next. played_all (game.puzzle h.puzzle) next ms) r ≡ Ok last
@@ -130,15 +130,15 @@ states_again {P} game h last i (m ∷ ms) (s ∷ ss) owes have is =
 
     more : (next : History P)
         → played (game.puzzle h.puzzle) h m ≡ Ok next → played_all (game.puzzle h.puzzle) next ms ≡ Ok last
-        → ((after : History P) → HaveStates game after.puzzle ms ss → played_all (game.puzzle after.puzzle) after ms ≡ Ok last → states_played game after (i + 1) ss ≡ Ok last)
+        → (HaveStates game next.puzzle ms ss → played_all (game.puzzle next.puzzle) next ms ≡ Ok last
+        → states_played game next (i + 1) ss ≡ Ok last)
         → states_played game h i (s ∷ ss) ≡ Ok last
     more next made all along =
         let keeps = played_keeps (game.puzzle h.puzzle) h next m made in
         let one : state_played game h i s ≡ Ok next =
         ap (move_played game h i) (state_of_move game h.puzzle s.key s.value m owes have.0)
         ∙ played_ok game h next i m made in
-        let rest =
-        along next (subst (λ p. HaveStates game p ms ss) (sym keeps) have.1) (subst (λ p. played_all (game.puzzle p) next ms ≡ Ok last) (sym keeps) all) in
+        let rest = along (rw keeps have.1) (subst (λ p. played_all (game.puzzle p) next ms ≡ Ok last) (sym keeps) all) in
         bind_again (state_played game h i s) (λ after. states_played game after (i + 1) ss) next one ∙ rest
 
 -- as many moves as state records
@@ -167,14 +167,9 @@ pub position_played : {P : Type 0} (game : SavedGame P) (h last : History P) (i 
 position_played game h last i [] is =
     let same : h ≡ last = cc in ap (λ k. k.position) (sym same) ∙ sym (add-zero h.position)
 position_played {P} game h last i (s ∷ ss) is =
-    let step = bind_taken (state_played game h i s) (λ next. states_played game next (i + 1) ss) last is in
-    let one = one_on (state_move game h.puzzle s.key s.value) step.0 step.1 in
+    let step = bind_taken (state_played game h i s) _ last is in
+    let one = move_taken game h step.0 i (state_move game h.puzzle s.key s.value) step.1 in
+    let with_it = accepted (refusal_in (game.puzzle h.puzzle) h one.0) (with_move h one.0) step.0 one.2 in
+    let on : step.0.position ≡ h.position + 1 = ap (λ k. k.position) (sym with_it.1) in
     let rest = position_played game step.0 last (i + 1) ss step.2 in
     omega arith
-  where
-    one_on : (o : Option Move) (next : History P) → move_played game h i o ≡ Ok next → next.position ≡ h.position + 1
-    one_on None next made = cc
-    one_on (Some m) next made =
-        let played_is =
-        ok_taken (played (game.puzzle h.puzzle) h m) next (ok_or_taken (result_ok (played (game.puzzle h.puzzle) h m)) (BadState i) next made) in
-        ap (λ k. k.position) (sym (accepted (refusal_in (game.puzzle h.puzzle) h m) (with_move h m) next played_is).1)
