@@ -73,12 +73,12 @@ sound_count game m value s none =
     let range = count_taken value good.0 good.1 in
     let empty = s.early (absent m.count fresh.0) in
     record {
-      count_read = λ is. let read = good.1 in cc;
+      count_read = λ is. cc good.1;
       position_read = s.position_read;
       early = λ is. cc;
-      few = λ n is. let read = good.1 in let same : good.0 ≡ n = cc in (omega (arith, same, empty, range.1), omega (arith, same, range.2));
+      few = λ n is. let same : good.0 ≡ n = cc good.1 in (omega (arith, same, empty, range.1), omega (arith, same, range.2));
       first = s.first;
-      inside = λ n p is at. let read = good.1 in let same : good.0 ≡ n = cc in let within = leb-true p good.0 (good.2 p at) in omega (arith, same, within);
+      inside = λ n p is at. let same : good.0 ≡ n = cc good.1 in omega (arith, same, leb-true p good.0 (good.2 p at));
     }
   where
     absent : (o : Option (Option ℕ)) → is_some o ≡ false → o ≡ None
@@ -93,11 +93,11 @@ sound_position game m value s none =
     let range = count_taken value good.0 good.1 in
     record {
       count_read = s.count_read;
-      position_read = λ is. let read = good.1 in cc;
+      position_read = λ is. cc good.1;
       early = s.early;
       few = s.few;
-      first = λ p is. let read = good.1 in let same : good.0 ≡ p = cc in omega (arith, same, range.1);
-      inside = λ n p is at. let read = good.1 in let same : good.0 ≡ p = cc in let within = leb-true good.0 n (good.2 n is) in omega (arith, same, within);
+      first = λ p is. let same : good.0 ≡ p = cc good.1 in omega (arith, same, range.1);
+      inside = λ n p is at. let same : good.0 ≡ p = cc good.1 in omega (arith, same, leb-true good.0 n (good.2 n is));
     }
 
 -- both counts were met before a state without a fault

@@ -29,7 +29,8 @@ Follow (r ∷ rs) nothing = ⊥
 Follow (r ∷ rs) broken = ⊥
 Follow (r ∷ rs) (first m more) = (r ≡ m) × Follow rs more
 
-pub record IsNeeded {P : Type 0} (game : SavedGame P) (before : List KeyedRecord) (listing : Listing) (all : List KeyedRecord) : Type 0 where
+pub record IsNeeded {P : Type 0} (game : SavedGame P) (before : List KeyedRecord) (listing : Listing) (all : List KeyedRecord)
+    : Type 0 where
   pub more : List KeyedRecord
   pub all_is : all ≡ before ++ more
   pub right : AreRight game before more
@@ -51,9 +52,10 @@ needed_taken game before broken all is =
     let done = ok_where (is_complete (met game before)) before Malformed all is in
     done_needed game before all broken done.0 done.1
 needed_taken game before (first r more) all is =
-    cond_both (is_complete (met game before)) _ _ (λ (x : Result (List KeyedRecord) LoadFault). x ≡ Ok all → IsNeeded game before (first r more) all)
+    cond_both (is_complete (met game before)) _ _
+    (λ (x : Result (List KeyedRecord) LoadFault). x ≡ Ok all → IsNeeded game before (first r more) all)
     (λ done e. done_needed game before all (first r more) done (cc))
-    (λ undone e. taken (needed_taken game (before ++ r ∷ []) more all) undone (fault_by game (met game before) r.key r.value) refl e)
+    (λ undone e. taken (needed_taken game (before ++ r ∷ []) more all) undone _ refl e)
     is
   where
     taken : (needed game (before ++ r ∷ []) more ≡ Ok all → IsNeeded game (before ++ r ∷ []) more all)
@@ -127,11 +129,11 @@ pub none_again : {P : Type 0} (game : SavedGame P) (before rs : List KeyedRecord
 none_again game before [] k single header some right = refl
 none_again game before (r ∷ rs) k single header some right =
     cond_both (rank r.key == rank k) _ _ (λ (values : List (List ℕ)). values ≡ [])
-    (λ same. absurd (omega (arith, ap length (stands_alone game before k r.value single (faultless (same_key r.key k header same))))))
+    (λ same. absurd (omega (arith, ap length (met_none (same_key r.key k header same)))))
     (λ other. none_again game (before ++ r ∷ []) rs k single header (stands_on k before r some) right.2)
   where
-    faultless : r.key ≡ k → fault_by game (met game before) k r.value ≡ None
-    faultless key = rw key at right.1
+    met_none : r.key ≡ k → values_of k before ≡ []
+    met_none key = stands_alone game before k r.value single (rw key at right.1)
 
 pub same_record : (r : KeyedRecord) (k : Key) (value : List ℕ) → r.key ≡ k → r.value ≡ value → r ≡ record {
   key =
@@ -144,7 +146,7 @@ same_record r k value key same_value =
     same
 
 -- where a value of such a key stands, it stands alone and has no fault
-pub record StandsAlone {P : Type 0} (game : SavedGame P) (k : Key) (value : List ℕ) (rs : List KeyedRecord) (before : List KeyedRecord) : Type 0 where
+pub record StandsAlone {P : Type 0} (game : SavedGame P) (k : Key) (value : List ℕ) (rs before : List KeyedRecord) : Type 0 where
   pub alone : values_of k rs ≡ value ∷ []
   pub front : List KeyedRecord
   pub later : List KeyedRecord
@@ -157,7 +159,8 @@ pub stands_at : {P : Type 0} (game : SavedGame P) (before rs : List KeyedRecord)
     → StandsAlone game k value rs before
 stands_at game before [] k value more single header right is = cc
 stands_at game before (r ∷ rs) k value more single header right is =
-    cond_both (rank r.key == rank k) _ _ (λ (values : List (List ℕ)). values ≡ value ∷ more → StandsAlone game k value (r ∷ rs) before)
+    cond_both (rank r.key == rank k) _ _
+    (λ (values : List (List ℕ)). values ≡ value ∷ more → StandsAlone game k value (r ∷ rs) before)
     (λ same e. stands_here same (cc))
     (λ other e. stands_later other (stands_at game (before ++ r ∷ []) rs k value more single header right.2 e)) is
   where
@@ -173,7 +176,7 @@ stands_at game before (r ∷ rs) k value more single header right is =
           front = [];
           later = rs;
           split = ap (λ x. x ∷ rs) here;
-          faultless = rw (append-nil before) (subst (λ (x : KeyedRecord). fault_by game (met game before) x.key x.value ≡ None) here right.1);
+          faultless = rw (append-nil before) (rw here at right.1);
           undone = rw (append-nil before) right.0;
         }
 

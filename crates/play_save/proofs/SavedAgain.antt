@@ -204,14 +204,16 @@ faultless_at game h before later StateCount value s counts fine =
     let read : count_at value ≡ Some (length h.moves + 1) = ap count_at at.same ∙ r.count_good in
     let place = read_before Position h.position before (one StateCount value ++ later) r.position_good s.position in
     once_unread count_at (values_of StateCount before) _ at.first
-    ∙ (ap (λ o. count_fault goes o (met game before).position) read ∙ goes_together goes (length h.moves + 1) h.position _ r.inside place)
+    ∙ (ap (λ o. count_fault goes o (met game before).position) read
+    ∙ goes_together goes (length h.moves + 1) h.position _ r.inside place)
 faultless_at game h before later Position value s counts fine =
     let r = ranges game _ h s in
     let at = at_place Position (decimal h.position) value before later s.position in
     let read : count_at value ≡ Some h.position = ap count_at at.same ∙ r.position_good in
     let place = read_before StateCount (length h.moves + 1) before (one Position value ++ later) r.count_good s.count in
     once_unread count_at (values_of Position before) _ at.first
-    ∙ (ap (λ o. count_fault nat_le o (met game before).count) read ∙ goes_together nat_le h.position (length h.moves + 1) _ r.inside place)
+    ∙ (ap (λ o. count_fault nat_le o (met game before).count) read
+    ∙ goes_together nat_le h.position (length h.moves + 1) _ r.inside place)
 faultless_at game h before later (State k) value s counts fine =
     let none = counts refl in
     let count = met_before StateCount (decimal (length h.moves + 1)) k value before later refl s.count none.0 in
@@ -291,7 +293,8 @@ right_along game h before (r ∷ later) s counts ends fine =
     let onward : AreSaved game h ((before ++ r ∷ []) ++ later) = rw (append_assoc before (r ∷ []) later) s in (
       undone_at game h before (r ∷ later) s ends,
       faultless_at game h before later r.key r.value s counts.0 fine,
-      right_along game h (before ++ r ∷ []) later onward counts.1 (ends_later r later ends) (fine_later r.key (states_in later) fine),
+      right_along game h (before ++ r ∷ []) later onward counts.1 (ends_later r later ends)
+          (fine_later r.key (states_in later) fine),
     )
   where
     fine_later : (c : Key) (ss : List KeyedState) → AreFaultless (onto_states c r.value ss) → AreFaultless ss
@@ -305,7 +308,8 @@ ends_at_all (r ∷ rs) ends = ends
 pub saved_right : {P : Type 0} (game : SavedGame P) (rs : List KeyedRecord) (h : History P)
     → AreSaved game h rs → AreRight game [] rs
 saved_right game rs h s =
-    right_along game h [] rs s s.counts_first (ends_at_all rs s.last) (all_faultless game h.puzzle h.moves (states_in rs) s.states)
+    right_along game h [] rs s s.counts_first (ends_at_all rs s.last)
+    (all_faultless game h.puzzle h.moves (states_in rs) s.states)
 
 -- and they are played as the session
 first_kept : (kept : Option (List ℕ)) (values : List (List ℕ)) → values ≡ once_if_kept kept → first_of values ≡ kept
@@ -357,7 +361,8 @@ load_again game text h owes t =
     let head : behind_head (record_at text) ≡ Ok t.behind_head =
     ap behind_head (record_again text format_record t.behind_head t.head) in
     let read : needed game [] (records_of t.behind_head) ≡ Ok t.records =
-    needed_again game [] t.records (records_of t.behind_head) (saved_right game t.records h t.saved) (records_again t.records t.behind_head t.begins) in
+    needed_again game [] t.records (records_of t.behind_head)
+    (saved_right game t.records h t.saved) (records_again t.records t.behind_head t.begins) in
     let all : met_in game (records_of t.behind_head) ≡ Ok (met game t.records) =
     ap (λ (s : Result (List KeyedRecord) LoadFault). s >>= λ rs. Ok (met game rs)) read in
     rw (small, head, all) (session_again game t.records h owes t.saved)

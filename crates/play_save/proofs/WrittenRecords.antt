@@ -110,7 +110,8 @@ unfolding record_text
 value_within r =
     let key = padded (key_name r.key) in
     let size = decimal (length r.value) in
-    omega (arith, length-append key (colon ∷ (size ++ (colon ∷ (r.value ++ (line_feed ∷ []))))), length-append size (colon ∷ (r.value ++ (line_feed ∷ []))), length-append r.value (line_feed ∷ []))
+    let behind = colon ∷ (r.value ++ (line_feed ∷ [])) in
+    omega (arith, length-append key (colon ∷ (size ++ behind)), length-append size behind, length-append r.value (line_feed ∷ []))
 
 own_record : (r : KeyedRecord) → is_known r.key ≡ true → keyed (entry_written r) ≡ r
 own_record r known = same_record (keyed (entry_written r)) r.key r.value (is_key r.key known).key_again refl

@@ -33,7 +33,8 @@ returns-in_default-read_desc g c =
     elim c.in_default-read_desc.branch [
       | in_default-read_desc-via-in-Ok-read_desc+else-same w ↦
           let other : w.in-Ok-read_desc.again ≢ p = differ w.same.result w.same.ensures.1 w.if-same.false in
-          sym (key ∙ other_restart game p w.in-Ok-read_desc.again value (owes g).texts described other (read ∙ w.in-Ok-read_desc.is))
+          let again = w.in-Ok-read_desc.again in
+          sym (key ∙ other_restart game p again value (owes g).texts described other (read ∙ w.in-Ok-read_desc.is))
       | in_default-read_desc-via-in_default-read_desc w ↦
           sym (key ∙ no_restart game p value w.in_default-read_desc.field-0 (read ∙ w.in_default-read_desc.is))
     ]

@@ -11,8 +11,8 @@ go_back-requires-clause-inside g c =
     let met_there : option_map Some c.args.found.now.position ≡ Some (Some c.in_ok-position.position) =
     ap (option_map Some) c.in_ok-position.ensures.ok_part in
     let inside = c.requires.inside c.in_ok-position.position met_there in
-    let last =
-    position_played game c.in_ok-session.session c.play_states.new.session 1 (map state_of c.deref.result.now) c.in_ok-play_states.ensures in
+    let states = map state_of c.deref.result.now in
+    let last = position_played game c.in_ok-session.session c.play_states.new.session 1 states c.in_ok-play_states.ensures in
     let items = c.deref.ensures.value in
     let first = ap (λ h. h.position) c.in_ok-session.ensures.ok in
     omega (arith, last, first, inside.1, ap (λ xs. length (map state_of xs)) items)

@@ -17,7 +17,8 @@ returns-clause-same g c =
     let law = written_saves_no_other game valid (owes g) in
     let of = subst valid c.puzzle.ensures c.size-size.ensures.valid in
     let text = c.deref.ensures.value ∙ c.in_ok-text.ensures.written in
-    round_same game valid c.args.session.now c.deref.result.now c.load.result law c.board-board.ensures.valid of text c.load.ensures.found
+    round_same game valid c.args.session.now c.deref.result.now c.load.result
+    law c.board-board.ensures.valid of text c.load.ensures.found
 
 pub returns-clause-board : goal.returns-clause-board
 returns-clause-board g c = round_board g.P.Rules.puzzle c.args.session.now c.load.result (returns-clause-same g c)
