@@ -23,8 +23,8 @@ use Rattle.play_save.specs.declared.fault.LoadFault.{LoadFault}
 use Rattle.play_save.specs.declared.fault.LoadFault.TheVariants.{OutOfMemory}
 use Rattle.play_save.specs.declared.key.Key.{Key}
 use Rattle.play_save.specs.declared.key.Key.TheVariants.{SaveFile, FormatVersion, GameName, NextParams, CurrentParams, Seed, Desc, PrivateDesc, AuxInfo, Ui, Time, StateCount, Position}
-use Rattle.play_save.specs.Records.{record_at}
-use Rattle.play_save.specs.KeyedRecords.{KeyedRecord, BeginsWithAll, values_of, states_in, once_if_kept, EndsWithState}
+use Rattle.play_save.specs.Records.{BeginsWith}
+use Rattle.play_save.specs.KeyedRecords.{KeyedRecord, values_of, states_in, once_if_kept, EndsWithState}
 use Rattle.play_save.specs.SaveTexts.{SavedGame, collection, format_record, longest_save, is_solve, IsStateOf, HaveStates, AreSaved, SaveText}
 use Rattle.play_save.specs.FirstFaults.{count_at}
 use Rattle.play_save.specs.Written.{with_value, state_value, record_text, records_text, save_of}
@@ -35,7 +35,7 @@ use Rattle.play_save.proofs.Counting.{count_again}
 use Rattle.play_save.proofs.GameTexts.{Owes}
 use Rattle.play_save.proofs.StatesPlayed.{text_again, have_length}
 use Rattle.play_save.proofs.SavedAgain.{has_state_or_count}
-use Rattle.play_save.proofs.WrittenRecords.{entry_written, written_begins, AreToTheEnd, all_written, begins_prefix, all_begin}
+use Rattle.play_save.proofs.WrittenRecords.{written_begins, AreToTheEnd, all_written, begins_prefix, all_begin}
 use Rattle.play_save.proofs.SessionRecords.{tail_records, values_tail, states_tail, counts_first_tail, ends_tail, known_tail}
 use Rattle.play_save.proofs.LegalMoves.{FitsText, AllFit, all_fit}
 
@@ -127,29 +127,35 @@ same_count m n m_first m_few n_first n_few text =
     let both : count_at (decimal m) ≡ count_at (decimal n) = ap count_at text in
     cc
 
+-- the records that are written behind the first, and their text
+abbrev tail_of : {P : Type 0} → SavedGame P → History P → List KeyedRecord
+tail_of game h = tail_records game.title (game.desc_of h.puzzle) h
+
+abbrev behind_first : {P : Type 0} → SavedGame P → History P → List ℕ
+behind_first game h = line_feed ∷ records_text (tail_of game h)
+
 -- the written text, record by record
 written_text : {P : Type 0} (game : SavedGame P) (h : History P)
-    → save_of game.title game.desc_of h ≡ record_text (with_value SaveFile collection) ++ records_text (tail_records game.title (game.desc_of h.puzzle) h)
+    → save_of game.title game.desc_of h ≡ record_text (with_value SaveFile collection) ++ records_text (tail_of game h)
 unfolding save_of
 written_text game h = refl
 
 record Read {P : Type 0} (game : SavedGame P) (h : History P) (text : List ℕ) : Type 0 where
-  head : record_at text ≡ Ok (Some (entry_written (with_value SaveFile collection), line_feed ∷ records_text (tail_records game.title (game.desc_of h.puzzle) h)))
-  all : AreToTheEnd (tail_records game.title (game.desc_of h.puzzle) h) (line_feed ∷ records_text (tail_records game.title (game.desc_of h.puzzle) h))
+  head : BeginsWith format_record (behind_first game h) text
+  all : AreToTheEnd (tail_of game h) (behind_first game h)
 
 read_written : {P : Type 0} (game : SavedGame P) (h : History P)
     → length (save_of game.title game.desc_of h) ≤ longest_save → Read game h (save_of game.title game.desc_of h)
 read_written {P} game h small =
-    let rs = tail_records game.title (game.desc_of h.puzzle) h in
-    let head = with_value SaveFile collection in
+    let rs = tail_of game h in
+    let first = with_value SaveFile collection in
     let text = written_text game h in
     let short : length (records_text rs) ≤ longest_save =
-    omega (arith, ap length text, length-append (record_text head) (records_text rs)) in
-    let made : Read game h (record_text head ++ records_text rs) = record {
-      head = record_again (record_text head ++ records_text rs) (entry_written head) (line_feed ∷ records_text rs) (written_begins head [] (records_text rs) tt refl (lit≤ tt));
+    omega (arith, ap length text, length-append (record_text first) (records_text rs)) in
+    record {
+      head = rw text (written_begins first [] (records_text rs) tt refl (lit≤ tt));
       all = all_written rs (line_feed ∷ []) (refl, tt) (known_tail game.title (game.desc_of h.puzzle) h) short;
-    } in
-    subst (λ t. Read game h t) (sym text) made
+    }
 
 -- what is written is a save
 pub written_is_saved : {P : Type 0} (game : SavedGame P) (of_game : P → Type 0)
@@ -157,35 +163,35 @@ pub written_is_saved : {P : Type 0} (game : SavedGame P) (of_game : P → Type 0
 written_is_saved {P} game of_game owes h storable grids small =
     let title = game.title in
     let desc = game.desc_of h.puzzle in
-    let rs = tail_records title desc h in
+    let p = game.puzzle h.puzzle in
     let read = read_written game h small in
     let valid = storable.session in
     let described = owes.own_text h.puzzle storable.puzzle_is in
-    let largest : (game.puzzle h.puzzle).size ≤ 9 =
-    (let top = storable.params_are.largest in omega (arith, valid.size)) in
-    let fits = all_fit (game.puzzle h.puzzle) (start_of (game.puzzle h.puzzle)) h.moves largest valid.legal.playable in
-    let head_begins = written_begins (with_value SaveFile collection) [] (records_text rs) tt refl (lit≤ tt) in
+    let largest : p.size ≤ 9 = (let top = storable.params_are.largest in omega (arith, valid.size)) in
+    let fits = all_fit p (start_of p) h.moves largest valid.legal.playable in
+    let states = states_again game h.puzzle desc h.moves described fits (recursion_from_All HasGrid h.moves grids) in
+    let stands = values_tail title desc h in
     record {
       small = small;
-      behind_head = line_feed ∷ records_text rs;
-      head = rw (written_text game h) head_begins;
-      records = rs;
-      begins = all_begin rs (line_feed ∷ records_text rs) read.all;
+      behind_head = behind_first game h;
+      head = read.head;
+      records = tail_of game h;
+      begins = all_begin (tail_of game h) (behind_first game h) read.all;
       saved = record {
-        no_second_head = values_tail title desc h SaveFile refl;
-        version = values_tail title desc h FormatVersion refl;
-        name = values_tail title desc h GameName refl;
-        next_params = (params_text h.next_params, values_tail title desc h NextParams refl, record { params = storable.next_params_are; text_is = refl });
-        params = (params_text h.params, values_tail title desc h CurrentParams refl, record { params = storable.params_are; text_is = refl });
-        desc = (desc, values_tail title desc h Desc refl, subst (λ w. game.Describes w h.puzzle desc) (sym valid.size) described);
-        no_private_desc = values_tail title desc h PrivateDesc refl;
-        seed = values_tail title desc h Seed refl;
-        auxinfo = values_tail title desc h AuxInfo refl;
-        ui = values_tail title desc h Ui refl;
-        time = values_tail title desc h Time refl;
-        count = values_tail title desc h StateCount refl;
-        position = values_tail title desc h Position refl;
-        states = rw (states_tail title desc h) (states_again game h.puzzle desc h.moves described fits (recursion_from_All HasGrid h.moves grids));
+        no_second_head = stands SaveFile refl;
+        version = stands FormatVersion refl;
+        name = stands GameName refl;
+        next_params = (params_text h.next_params, stands NextParams refl, record { params = storable.next_params_are; text_is = refl });
+        params = (params_text h.params, stands CurrentParams refl, record { params = storable.params_are; text_is = refl });
+        desc = (desc, stands Desc refl, subst (λ w. game.Describes w h.puzzle desc) (sym valid.size) described);
+        no_private_desc = stands PrivateDesc refl;
+        seed = stands Seed refl;
+        auxinfo = stands AuxInfo refl;
+        ui = stands Ui refl;
+        time = stands Time refl;
+        count = stands StateCount refl;
+        position = stands Position refl;
+        states = rw (states_tail title desc h) states;
         counts_first = counts_first_tail title desc h;
         last = ends_tail title desc h;
         valid = valid;
@@ -208,48 +214,45 @@ ends_later (x ∷ []) y ys ends = ends
 ends_later (x ∷ z ∷ xs) y ys ends = ends_later (z ∷ xs) y ys ends
 
 record IsSameSave {P : Type 0} (game : SavedGame P) (h other : History P) : Type 0 where
-  saved : AreSaved game other (tail_records game.title (game.desc_of h.puzzle) h)
+  saved : AreSaved game other (tail_of game h)
   count : length other.moves ≡ length h.moves
   position : other.position ≡ h.position
 
 same_save : {P : Type 0} (game : SavedGame P) (h other : History P) (rs later : List KeyedRecord)
-    → IsValid (game.puzzle h.puzzle) h → tail_records game.title (game.desc_of h.puzzle) h ≡ rs ++ later
-    → AreSaved game other rs → IsSameSave game h other
+    → IsValid (game.puzzle h.puzzle) h → tail_of game h ≡ rs ++ later → AreSaved game other rs → IsSameSave game h other
 same_save {P} game h other rs later valid split saved =
     let title = game.title in
     let desc = game.desc_of h.puzzle in
-    let all = tail_records title desc h in
+    let stands = values_tail title desc h in
     let few = valid.few in
     let first = valid.first in
     let last = valid.last in
     let other_few = saved.valid.few in
     let other_first = saved.valid.first in
     let other_last = saved.valid.last in
-    let count =
-    one_value StateCount (decimal (length h.moves + 1)) (decimal (length other.moves + 1)) rs later all split (values_tail title desc h StateCount refl) saved.count in
-    let place =
-    one_value Position (decimal h.position) (decimal other.position) rs later all split (values_tail title desc h Position refl) saved.position in
+    let count = one_value StateCount _ _ rs later (tail_of game h) split (stands StateCount refl) saved.count in
+    let place = one_value Position _ _ rs later (tail_of game h) split (stands Position refl) saved.position in
     let counts : length h.moves + 1 ≡ length other.moves + 1 =
     same_count (length h.moves + 1) (length other.moves + 1) (omega arith) few (omega arith) other_few count.0 in
     let places : h.position ≡ other.position =
     same_count h.position other.position first (omega arith) other_first (omega arith) place.0 in
     let written = length-map h.moves (state_value desc) in
-    let sum : length (states_in all) ≡ length (states_in rs) + length (states_in later) =
+    let sum : length (states_in (tail_of game h)) ≡ length (states_in rs) + length (states_in later) =
     ap length (ap states_in split ∙ states_in-append rs later) ∙ length-append (states_in rs) (states_in later) in
     let own = have_length game other.puzzle other.moves (states_in rs) saved.states in
     let whole = ap length (states_tail title desc h) in
     let none : length (states_in later) ≡ 0 = omega arith in
     let empty : later ≡ [] = no_more later split count.1 place.1 none in
-    let same : rs ≡ all = sym (append-nil rs) ∙ (ap (λ xs. rs ++ xs) (sym empty) ∙ sym split) in
+    let same : rs ≡ tail_of game h = sym (append-nil rs) ∙ (ap (λ xs. rs ++ xs) (sym empty) ∙ sym split) in
     record { saved = subst (λ xs. AreSaved game other xs) same saved; count = omega arith; position = sym places }
   where
     no_more : (xs : List KeyedRecord)
-        → tail_records game.title (game.desc_of h.puzzle) h ≡ rs ++ xs → values_of StateCount xs ≡ []
-        → values_of Position xs ≡ [] → length (states_in xs) ≡ 0 → xs ≡ []
+        → tail_of game h ≡ rs ++ xs → values_of StateCount xs ≡ [] → values_of Position xs ≡ []
+        → length (states_in xs) ≡ 0 → xs ≡ []
     no_more [] cut no_count no_place no_state = refl
     no_more (x ∷ xs) cut no_count no_place no_state =
-        let ends =
-        ends_later rs x xs (subst (λ zs. EndsWithState zs) cut (ends_tail game.title (game.desc_of h.puzzle) h)) in
+        let all_end = ends_tail game.title (game.desc_of h.puzzle) h in
+        let ends = ends_later rs x xs (subst (λ zs. EndsWithState zs) cut all_end) in
         let some = has_state_or_count (x ∷ xs) ends no_count no_place in
         absurd (omega arith)
 
@@ -270,53 +273,46 @@ same_extras a b seed auxinfo ui time =
     let same : one ≡ other = cc in
     same
 
-one_of : {A : Type 0} (a b : A) (values : List A) → values ≡ a ∷ [] → values ≡ b ∷ [] → a ≡ b
-one_of a b values one other = cc
+one_of : {A : Type 0} {a b : A} {values : List A} → values ≡ a ∷ [] → values ≡ b ∷ [] → a ≡ b
+one_of one other = cc
 
 pub written_saves_no_other : {P : Type 0} (game : SavedGame P) (of_game : P → Type 0)
     → Owes game of_game → WrittenSavesNoOther game of_game
 written_saves_no_other {P} game of_game owes h other valid of t =
-    let title = game.title in
+    let text = save_of game.title game.desc_of h in
     let desc = game.desc_of h.puzzle in
-    let all = tail_records title desc h in
+    let p = game.puzzle h.puzzle in
     let read = read_written game h t.small in
-    let head = record_again (save_of game.title game.desc_of h) format_record t.behind_head t.head in
-    let rest =
-    (some_pair_parts format_record format_record t.behind_head (line_feed ∷ records_text all) (cc (head, read.head))).1 in
-    let front =
-    begins_prefix t.records all (line_feed ∷ records_text all) (subst (λ r. BeginsWithAll t.records r) rest t.begins) read.all in
+    let head = record_again text format_record t.behind_head t.head in
+    let own_head = record_again text format_record (behind_first game h) read.head in
+    let rest = (some_pair_parts format_record format_record t.behind_head (behind_first game h) (cc)).1 in
+    let front = begins_prefix t.records (tail_of game h) (behind_first game h) (rw rest at t.begins) read.all in
     let same = same_save game h other t.records front.later valid front.split t.saved in
     let s = same.saved in
-    let next_text =
-    one_of s.next_params.0 (params_text h.next_params) (values_of NextParams all) s.next_params.1 (values_tail title desc h NextParams refl) in
-    let next = same_params other.next_params h.next_params (sym s.next_params.2.text_is ∙ next_text) in
-    let params_same =
-    one_of s.params.0 (params_text h.params) (values_of CurrentParams all) s.params.1 (values_tail title desc h CurrentParams refl) in
-    let params = same_params other.params h.params (sym s.params.2.text_is ∙ params_same) in
-    let desc_same = one_of s.desc.0 desc (values_of Desc all) s.desc.1 (values_tail title desc h Desc refl) in
-    let w = (game.puzzle h.puzzle).size in
-    let own = owes.own_text h.puzzle of in
-    let width : other.params.size ≡ w = ap (λ (p : Params). p.size) params ∙ valid.size in
-    let described : game.Describes w other.puzzle desc =
-    subst (λ n. game.Describes n other.puzzle desc) width (subst (λ d. game.Describes other.params.size other.puzzle d) desc_same s.desc.2) in
-    let puzzle = same_described w h.puzzle other.puzzle desc own described in
+    let stands = values_tail game.title desc h in
+    let next = same_params other.next_params h.next_params (sym s.next_params.2.text_is ∙ one_of s.next_params.1 (stands NextParams refl)) in
+    let params = same_params other.params h.params (sym s.params.2.text_is ∙ one_of s.params.1 (stands CurrentParams refl)) in
+    let width : other.params.size ≡ p.size = ap (λ (q : Params). q.size) params ∙ valid.size in
+    let own_desc = subst (λ d. game.Describes other.params.size other.puzzle d) (one_of s.desc.1 (stands Desc refl)) s.desc.2 in
+    let described = subst (λ n. game.Describes n other.puzzle desc) width own_desc in
+    let puzzle = same_described p.size h.puzzle other.puzzle desc (owes.own_text h.puzzle of) described in
     let extras = same_extras other.extras h.extras
-    (same_kept other.extras.seed h.extras.seed (sym s.seed ∙ values_tail title desc h Seed refl))
-    (same_kept other.extras.auxinfo h.extras.auxinfo (sym s.auxinfo ∙ values_tail title desc h AuxInfo refl))
-    (same_kept other.extras.ui h.extras.ui (sym s.ui ∙ values_tail title desc h Ui refl))
-    (same_kept other.extras.time h.extras.time (sym s.time ∙ values_tail title desc h Time refl)) in
-    let largest : w ≤ 9 = (let top = s.params.2.params.largest in omega (arith, width)) in
-    let fits = all_fit (game.puzzle h.puzzle) (start_of (game.puzzle h.puzzle)) h.moves largest valid.legal.playable in
-    let other_legal = subst (λ q. IsValid (game.puzzle q) other) puzzle s.valid in
-    let other_fits =
-    all_fit (game.puzzle h.puzzle) (start_of (game.puzzle h.puzzle)) other.moves largest other_legal.legal.playable in
-    let moves = same_moves game other.puzzle desc (game.puzzle h.puzzle) other.moves h.moves other_fits fits (subst (λ ss. HaveStates game other.puzzle other.moves ss) (states_tail title desc h) s.states) in (
+    (same_kept other.extras.seed h.extras.seed (sym s.seed ∙ stands Seed refl))
+    (same_kept other.extras.auxinfo h.extras.auxinfo (sym s.auxinfo ∙ stands AuxInfo refl))
+    (same_kept other.extras.ui h.extras.ui (sym s.ui ∙ stands Ui refl))
+    (same_kept other.extras.time h.extras.time (sym s.time ∙ stands Time refl)) in
+    let largest : p.size ≤ 9 = (let top = s.params.2.params.largest in omega (arith, width)) in
+    let fits = all_fit p (start_of p) h.moves largest valid.legal.playable in
+    let other_valid = subst (λ q. IsValid (game.puzzle q) other) puzzle s.valid in
+    let other_fits = all_fit p (start_of p) other.moves largest other_valid.legal.playable in
+    let states = rw (states_tail game.title desc h) at s.states in
+    let moves = same_moves game other.puzzle desc p other.moves h.moves other_fits fits states in (
       same_history other h puzzle params next extras moves same.position,
       record {
         session = valid;
         puzzle_is = of;
-        params_are = subst (λ p. IsParams game.letters p) params s.params.2.params;
-        next_params_are = subst (λ p. IsParams game.letters p) next s.next_params.2.params;
+        params_are = subst (λ q. IsParams game.letters q) params s.params.2.params;
+        next_params_are = subst (λ q. IsParams game.letters q) next s.next_params.2.params;
       },
     )
   where
