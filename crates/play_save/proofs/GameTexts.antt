@@ -24,7 +24,7 @@ pub record Owes {P : Type 0} (game : SavedGame P) (of_game : P → Type 0) : Typ
 
 -- a game owes it by three of its laws
 pub game_owes : {P : Type 0} (rules : RulesGhosts P) (game : GameGhosts P)
-    → ((w : ℕ) (t : List ℕ) (p : P) → 3 ≤ w → w ≤ 9 → game.desc_at w t ≡ Ok p → game.describes t p × rules.valid p × ((rules.puzzle p).size ≡ w))
+    → ((w : ℕ) (t : List ℕ) (p : P) → 3 ≤ w → w ≤ 9 → game.desc_at w t ≡ Ok p → (saves_of rules game).Describes w p t)
     → ((t : List ℕ) (p : P) → rules.valid p → game.describes t p → game.desc_at (rules.puzzle p).size t ≡ Ok p)
     → ((p : P) → rules.valid p → game.describes (game.desc_of p) p)
     → Owes (saves_of rules game) rules.valid

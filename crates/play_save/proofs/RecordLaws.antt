@@ -1,5 +1,6 @@
 -- The record that is read is the one with which the text begins, and that one is read.
-use Rattle.std.proofs.Common.{◌≡◌, ℕ, ◌<◌, ◌≤◌, true, false, ◌==◌, ◌&&◌, nat_le, List, [], ◌∷◌, ◌++◌, length, take, drop, Option, Some, None, option_map, Ok, Err, ok_or, cond, refl, sym, ap, ◌∙◌, subst, arith, length-append}
+use Rattle.std.proofs.Common.{◌≡◌, ℕ, ◌<◌, ◌≤◌, Bool, true, false, ◌==◌, ◌&&◌, nat_le, List, [], ◌∷◌, ◌++◌, length, take, drop, Option, Some, None, option_map, Ok, Err, ok_or, cond, refl, sym, ap, ◌∙◌, subst, arith, length-append}
+use Rattle.std.proofs.Math.Bool.{and-true, and-false}
 use Rattle.std.proofs.lemmas.Bool.{eqb-true, eq-eqb, leb-true, le-leb, cond_both}
 use Rattle.std.proofs.lemmas.Option.{cond_some}
 use Rattle.std.proofs.lemmas.List.{take-append-drop, length-take-le, take_at, drop_at}
@@ -14,18 +15,18 @@ use Rattle.play_save.proofs.OptionSteps.{map_taken, and_then_taken, ok_or_taken,
 
 -- a name and one more byte
 pub unpadded-snoc : (xs : List ℕ) (b : ℕ) → unpadded (xs ++ b ∷ []) ≡ cond (b == space) (unpadded xs) (xs ++ b ∷ [])
-unpadded-snoc [] b =
-    elim (b == space) as (λ t. cond (t && true) [] (b ∷ []) ≡ cond t [] (b ∷ [])) [ true ↦ refl | false ↦ refl ]
-unpadded-snoc (x ∷ xs) b =
-    rw (unpadded-snoc xs b)
-    (elim (b == space) as (λ t. cond ((x == space) && is_empty (cond t (unpadded xs) (xs ++ b ∷ []))) [] (x ∷ cond t (unpadded xs) (xs ++ b ∷ [])) ≡ cond t (unpadded (x ∷ xs)) (x ∷ (xs ++ b ∷ []))) [
-      | true ↦ refl
-      | false ↦ rw (some xs) (elim (x == space) as (λ t. cond (t && false) [] (x ∷ (xs ++ b ∷ [])) ≡ x ∷ (xs ++ b ∷ [])) [ true ↦ refl | false ↦ refl ])
-    ])
+unpadded-snoc [] b = ap (λ t. cond t [] (b ∷ [])) (and-true (b == space))
+unpadded-snoc (x ∷ xs) b = rw (unpadded-snoc xs b) (by_blank (b == space))
   where
     some : (ys : List ℕ) → is_empty (ys ++ b ∷ []) ≡ false
     some [] = refl
     some (y ∷ ys) = refl
+
+    by_blank : (t : Bool)
+        → cond ((x == space) && is_empty (cond t (unpadded xs) (xs ++ b ∷ []))) [] (x ∷ cond t (unpadded xs) (xs ++ b ∷ []))
+        ≡ cond t (unpadded (x ∷ xs)) (x ∷ (xs ++ b ∷ []))
+    by_blank true = refl
+    by_blank false = rw (some xs, and-false) refl
 
 -- the line breaks in front
 skip_split : (bs : List ℕ) → (breaks : List ℕ) × (bs ≡ breaks ++ skip_breaks bs) × AreBreaks breaks
@@ -92,8 +93,8 @@ value_taken n bs parts is =
 value_again : (value rest : List ℕ) → value_at (length value) (value ++ rest) ≡ Some (value, rest)
 value_again value rest =
     let within : length value ≤ length (value ++ rest) = omega (arith, length-append value rest) in
-    rw (le-leb (length value) (length (value ++ rest)) within, take_at value rest (length value) refl, drop_at value rest (length value) refl)
-    refl
+    rw (le-leb (length value) (length (value ++ rest)) within)
+    (rw (take_at value rest (length value) refl, drop_at value rest (length value) refl) refl)
 
 record IsSized (value rest : List ℕ) (text : List ℕ) : Type 0 where
   digits : List ℕ
@@ -155,16 +156,16 @@ unfolding record_behind
 keyed_again e rest key digits eight lacks name sized =
     let made : (record_of key (e.value, rest)) ≡ (e, rest) =
     ap (λ (n : List ℕ). let x : Entry × List ℕ = (record { key = n; value = e.value }, rest) in x) (sym name) in
-    rw (field_again key (digits ++ (colon ∷ (e.value ++ rest))) lacks, eq-eqb (length key) 8 eight, sized_again digits e.value rest sized) (ap Some made)
+    rw (field_again key (digits ++ (colon ∷ (e.value ++ rest))) lacks, eq-eqb (length key) 8 eight)
+    (rw (sized_again digits e.value rest sized) (ap Some made))
 
 -- the record of a whole text
 or_end_taken : (bs : List ℕ) (e : Entry) (rest : List ℕ)
     → record_or_end bs ≡ Ok (Some (e, rest)) → record_behind bs ≡ Some (e, rest)
 or_end_taken [] e rest is = cc
 or_end_taken (b ∷ bs) e rest is =
-    let made =
-    map_taken Some (record_behind (b ∷ bs)) (Some (e, rest)) (ok_or_taken (option_map Some (record_behind (b ∷ bs))) Malformed (Some (e, rest)) is) in
-    let same : made.0 ≡ (e, rest) = let is_it = made.2 in cc in
+    let made = map_taken Some (record_behind (b ∷ bs)) (Some (e, rest)) (ok_or_taken _ Malformed _ is) in
+    let same : made.0 ≡ (e, rest) = cc made.2 in
     made.1 ∙ ap Some same
 
 or_end_again : (bs : List ℕ) (e : Entry) (rest : List ℕ)
@@ -185,7 +186,7 @@ record_taken bs e rest is =
       are_breaks = front.2;
       eight = keyed.eight;
       no_colon = keyed.no_colon;
-      no_break = no_break_in keyed.key (colon ∷ (keyed.digits ++ (colon ∷ (e.value ++ rest)))) keyed.eight (ap begins_with_break (sym keyed.spelled) ∙ skip_no_break bs);
+      no_break = no_break_in keyed.key _ keyed.eight (ap begins_with_break (sym keyed.spelled) ∙ skip_no_break bs);
       name_is = keyed.name_is;
       length_is = keyed.length_is;
     }
@@ -213,9 +214,8 @@ record_again bs e rest h =
 or_end_none : (bs : List ℕ) → record_or_end bs ≡ Ok None → bs ≡ []
 or_end_none [] is = refl
 or_end_none (b ∷ bs) is =
-    let made =
-    map_taken Some (record_behind (b ∷ bs)) None (ok_or_taken (option_map Some (record_behind (b ∷ bs))) Malformed None is) in
-    let other = made.2 in cc
+    let made = map_taken Some (record_behind (b ∷ bs)) None (ok_or_taken _ Malformed _ is) in
+    cc made.2
 
 pub end_taken : (bs : List ℕ) → record_at bs ≡ Ok None → AreBreaks bs
 unfolding record_at
@@ -244,4 +244,7 @@ pub record_shorter : (bs : List ℕ) (e : Entry) (rest : List ℕ)
 record_shorter bs e rest is =
     let h = record_taken bs e rest is in
     let end = colon ∷ (h.digits ++ (colon ∷ (e.value ++ rest))) in
-    omega (arith, ap length h.spelled, length-append h.breaks (h.key ++ end), length-append h.key end, length-append h.digits (colon ∷ (e.value ++ rest)), length-append e.value rest)
+    let value = colon ∷ (e.value ++ rest) in
+    let front = length-append h.breaks (h.key ++ end) in
+    let behind = length-append h.digits value in
+    omega (arith, ap length h.spelled, front, length-append h.key end, behind, length-append e.value rest)

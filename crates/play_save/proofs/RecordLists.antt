@@ -1,5 +1,5 @@
 -- Lists of records: the values of a key, and the state records, along a list that is put together.
-use Rattle.std.proofs.Common.{◌≡◌, ℕ, ◌<◌, true, false, ◌==◌, List, [], ◌∷◌, ◌++◌, length, Option, Some, None, is_some, cond, refl, sym, ap, ◌∙◌, arith, length-append}
+use Rattle.std.proofs.Common.{◌≡◌, ℕ, ◌<◌, Bool, true, false, ◌==◌, List, [], ◌∷◌, ◌++◌, length, Option, Some, None, is_some, cond, refl, sym, ap, ◌∙◌, arith, length-append}
 use borrow.Author.Tests.{eqb-true, eq-eqb}
 use Rattle.play_save.specs.declared.key.Key.{Key}
 use Rattle.play_save.specs.declared.key.Key.TheVariants.{SaveFile, FormatVersion, GameName, NextParams, CurrentParams, Seed, Desc, PrivateDesc, AuxInfo, Ui, Time, StateCount, Position, State, Other}
@@ -36,11 +36,13 @@ own_rank k = eq-eqb (rank k) (rank k) refl
 -- lists that are put together
 pub values_of-append : (k : Key) (xs ys : List KeyedRecord) → values_of k (xs ++ ys) ≡ values_of k xs ++ values_of k ys
 values_of-append k [] ys = refl
-values_of-append k (x ∷ xs) ys =
-    elim (rank x.key == rank k) as (λ t. cond t (x.value ∷ values_of k (xs ++ ys)) (values_of k (xs ++ ys)) ≡ cond t (x.value ∷ values_of k xs) (values_of k xs) ++ values_of k ys) [
-      | true ↦ ap (λ vs. x.value ∷ vs) (values_of-append k xs ys)
-      | false ↦ values_of-append k xs ys
-    ]
+values_of-append k (x ∷ xs) ys = by_key (rank x.key == rank k) (values_of-append k xs ys)
+  where
+    by_key : (own : Bool) → values_of k (xs ++ ys) ≡ values_of k xs ++ values_of k ys
+        → cond own (x.value ∷ values_of k (xs ++ ys)) (values_of k (xs ++ ys))
+        ≡ cond own (x.value ∷ values_of k xs) (values_of k xs) ++ values_of k ys
+    by_key true same = ap (λ vs. x.value ∷ vs) same
+    by_key false same = same
 
 onto_states-append : (k : Key) (value : List ℕ) (xs ys : List KeyedState)
     → onto_states k value (xs ++ ys) ≡ onto_states k value xs ++ ys

@@ -112,7 +112,8 @@ goes_together goes n m other together (inr some) = rw (some, together) refl
 
 read_before : (k : Key) (n : ℕ) (before later : List KeyedRecord)
     → count_at (decimal n) ≡ Some n → values_of k (before ++ later) ≡ decimal n ∷ []
-    → (option_map count_at (first_of (values_of k before)) ≡ None) ⊎ (option_map count_at (first_of (values_of k before)) ≡ Some (Some n))
+    → (option_map count_at (first_of (values_of k before)) ≡ None)
+    ⊎ (option_map count_at (first_of (values_of k before)) ≡ Some (Some n))
 read_before k n before later good is = by_case (before_place k (decimal n) before later is)
   where
     by_case : (values_of k before ≡ []) ⊎ ((values_of k before ≡ decimal n ∷ []) × (values_of k later ≡ []))

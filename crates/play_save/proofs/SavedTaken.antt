@@ -120,7 +120,8 @@ state_behind_counts : {P : Type 0} (game : SavedGame P) (before : List KeyedReco
 state_behind_counts game before (State k) value state none =
     let m = met game before in
     let both = counts_met m.count m.position m (state_fault k value) refl refl none in
-    (some_values count_at (values_of StateCount before) both.0 both.2, some_values count_at (values_of Position before) both.1 both.3)
+    let count = some_values count_at (values_of StateCount before) both.0 both.2 in
+    (count, some_values count_at (values_of Position before) both.1 both.3)
 state_behind_counts game before k value state none = cc
 
 right_counts_first : {P : Type 0} (game : SavedGame P) (before rs : List KeyedRecord)
@@ -235,7 +236,8 @@ saved_taken {P} game rs h owes right is =
     let start = started parts.puzzle parts.params parts.next_params (extras_in m) in
     let played = states_taken game start parts.last 1 m.states owes own parts.played_is in
     let legal =
-    accepted_list_legal (game.puzzle parts.puzzle) parts.puzzle parts.params parts.next_params (extras_in m) played.moves parts.last played.played_is in
+    accepted_list_legal (game.puzzle parts.puzzle) parts.puzzle parts.params parts.next_params (extras_in m)
+    played.moves parts.last played.played_is in
     let long = have_length game parts.puzzle played.moves (states_in rs) played.have in
     let count : values_of StateCount rs ≡ decimal (length played.moves + 1) ∷ [] =
     count_stands game rs StateCount counts.n refl refl right counts.count_is
@@ -266,7 +268,8 @@ saved_taken {P} game rs h owes right is =
         last = omega (arith, here, counts.inside, counts.states, long);
       };
     } in
-    subst (λ (x : History P). AreSaved game x rs) (ap (λ (x : History P). at_position x parts.position) (sym legal.2) ∙ parts.whole) made
+    let whole = ap (λ (x : History P). at_position x parts.position) (sym legal.2) ∙ parts.whole in
+    subst (λ (x : History P). AreSaved game x rs) whole made
 
 -- the first record
 head_taken : (e : Entry) (after rest : List ℕ) → head_or_fault e after ≡ Ok rest → (e ≡ format_record) × (after ≡ rest)

@@ -323,7 +323,8 @@ written_saves_no_other {P} game of_game owes h other valid of t =
         cc
 
 -- the same of an answer
-pub round_same : {P : Type 0} (game : SavedGame P) (of_game : P → Type 0) (h : History P) (text : List ℕ) (answer : Result (History P) LoadFault)
+pub round_same : {P : Type 0} (game : SavedGame P) (of_game : P → Type 0) (h : History P) (text : List ℕ)
+    (answer : Result (History P) LoadFault)
     → WrittenSavesNoOther game of_game → IsValid (game.puzzle h.puzzle) h → of_game h.puzzle
     → text ≡ save_of game.title game.desc_of h → IfOk answer (λ s. SaveText game s text) → IfOk answer (λ s. s ≡ h)
 round_same game of_game h text (Ok s) law valid of written is =

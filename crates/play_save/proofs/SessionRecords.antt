@@ -135,7 +135,8 @@ ends_states r desc (m ∷ ms) last = ends_states (state_record desc m) desc ms r
 pub ends_tail : {P : Type 0} (title desc : List ℕ) (h : History P) → EndsWithState (tail_records title desc h)
 ends_tail title desc h =
     ends_behind (four title h) (body_records desc h ++ state_records desc h)
-    (ends_behind (body_records desc h) (state_records desc h) (ends_states (with_value Position (decimal h.position)) desc h.moves refl))
+    (ends_behind (body_records desc h) (state_records desc h)
+    (ends_states (with_value Position (decimal h.position)) desc h.moves refl))
 
 -- all keys have a name
 known_append : (xs ys : List KeyedRecord) → AreKnown xs → AreKnown ys → AreKnown (xs ++ ys)

@@ -9,5 +9,15 @@ returns g c =
     let title = c.as_bytes.ensures.value ∙ c.name.ensures in
     let next = c.as_slice.ensures.value ∙ (c.write.ensures.written ∙ ap params_text c.next_params.ensures) in
     let now = c.as_slice-2.ensures.value ∙ (c.write-2.ensures.written ∙ ap params_text c.params.ensures) in
-    simp (c.in_ok-put-5.ensures, c.in_ok-put-4.ensures, c.in_ok-put-3.ensures, c.in_ok-put-2.ensures, c.in_ok-put.ensures,
-    title, next, now, append_assoc, append-nil)
+    simp (
+      c.in_ok-put-5.ensures,
+      c.in_ok-put-4.ensures,
+      c.in_ok-put-3.ensures,
+      c.in_ok-put-2.ensures,
+      c.in_ok-put.ensures,
+      title,
+      next,
+      now,
+      append_assoc,
+      append-nil,
+    )
