@@ -1,28 +1,45 @@
 -- What a game owes of its descriptions, and that puzzles with the same written description are the same.
-use Rattle.std.proofs.Common.{◌≡◌, ◌≢◌, ℕ, ◌≤◌, true, false, List, Some, None, Result, Ok, bytes_eq, cond, refl, ap}
+use Rattle.std.proofs.Common.{◌≡◌, ◌≢◌, ℕ, ◌≤◌, true, List, Some, None, Ok, bytes_eq, refl, sym, ap}
+use Rattle.std.proofs.lemmas.Bool.{cond_both}
+use Rattle.std.proofs.lemmas.Option.{cond_some}
 use Rattle.std.proofs.lemmas.Slice.Eq.{bytes_eq-Decides}
-use Rattle.trail_solver.specs.Puzzles.{Puzzle}
-use Rattle.clue_rules.specs.declared.id_fault.IdFault.{IdFault}
+use Rattle.trail_solver.specs.declared.rules.Rules.{Ghosts as RulesGhosts}
+use Rattle.clue_rules.specs.declared.game.Game.{Ghosts as GameGhosts}
 use Rattle.clue_rules.proofs.GameIdLemmas.{ReadsGrammar, game_reads}
 use Rattle.play_midend.specs.declared.moves.Move.{Move}
 use Rattle.play_midend.specs.declared.moves.Move.TheVariants.{Restart}
-use Rattle.play_save.specs.SaveTexts.{SavedGame, saved_game}
+use Rattle.play_save.specs.SaveTexts.{SavedGame, saves_of}
 use Rattle.play_save.specs.FirstFaults.{restart_of}
 
+-- reading a description gives the puzzle that it describes, of the width; and what is described so has a written form
 pub record IsGame {P : Type 0} (game : SavedGame P) : Type 0 where
   pub reads : ReadsGrammar P game.desc_at game.Describes
   pub sized : (w : ℕ) (p : P) (text : List ℕ) → game.Describes w p text → (game.puzzle p).size ≡ w
   pub canonical : (w : ℕ) (p : P) (text : List ℕ) → game.Describes w p text → game.Describes w p (game.desc_of p)
 
-pub game_owes : {P : Type 0} (title letters : List ℕ) (puzzle : P → Puzzle) (of_game : P → Type 0) (describes : List ℕ → P → Type 0) (desc_at : ℕ → List ℕ → Result P IdFault) (desc_of : P → List ℕ) → ((w : ℕ) (text : List ℕ) (d : P) → 3 ≤ w → w ≤ 9 → desc_at w text ≡ Ok d → describes text d × of_game d × ((puzzle d).size ≡ w)) → ((text : List ℕ) (d : P) → of_game d → describes text d → desc_at (puzzle d).size text ≡ Ok d) → ((p : P) → of_game p → describes (desc_of p) p) → IsGame (saved_game title letters puzzle of_game describes desc_at desc_of)
-game_owes {P} title letters puzzle of_game describes desc_at desc_of taken again canonical = record {
-  reads = game_reads P puzzle of_game describes desc_at taken again;
-  sized = λ w p text is. is.2;
-  canonical = λ w p text is. (canonical p is.1, is.1, is.2);
+-- the same of a game whose puzzles these are
+pub record Owes {P : Type 0} (game : SavedGame P) (of_game : P → Type 0) : Type 0 where
+  pub texts : IsGame game
+  pub own_text : (p : P) → of_game p → game.Describes (game.puzzle p).size p (game.desc_of p)
+
+-- a game owes it by three of its laws
+pub game_owes : {P : Type 0} (rules : RulesGhosts P) (game : GameGhosts P)
+    → ((w : ℕ) (t : List ℕ) (p : P) → 3 ≤ w → w ≤ 9 → game.desc_at w t ≡ Ok p → (saves_of rules game).Describes w p t)
+    → ((t : List ℕ) (p : P) → rules.valid p → game.describes t p → game.desc_at (rules.puzzle p).size t ≡ Ok p)
+    → ((p : P) → rules.valid p → game.describes (game.desc_of p) p)
+    → Owes (saves_of rules game) rules.valid
+game_owes {P} rules game taken again canonical = record {
+  texts = record {
+    reads = game_reads P rules.puzzle rules.valid game.describes game.desc_at taken again;
+    sized = λ w p text is. is.2;
+    canonical = λ w p text is. (canonical p is.1, is.1, is.2);
+  };
+  own_text = λ p of. (canonical p of, of, refl);
 }
 
 -- the written description tells puzzles of a width apart
-pub same_puzzle : {P : Type 0} (game : SavedGame P) (w : ℕ) (p q : P) (p_text q_text : List ℕ) → IsGame game → game.Describes w p p_text → game.Describes w q q_text → game.desc_of q ≡ game.desc_of p → q ≡ p
+pub same_puzzle : {P : Type 0} (game : SavedGame P) (w : ℕ) (p q : P) (p_text q_text : List ℕ)
+    → IsGame game → game.Describes w p p_text → game.Describes w q q_text → game.desc_of q ≡ game.desc_of p → q ≡ p
 same_puzzle game w p q p_text q_text owes p_is q_is same =
     let read_p = owes.reads.again w (game.desc_of p) p (owes.canonical w p p_text p_is) in
     let read_q = owes.reads.again w (game.desc_of q) q (owes.canonical w q q_text q_is) in
@@ -30,20 +47,21 @@ same_puzzle game w p q p_text q_text owes p_is q_is same =
     cc
 
 -- a description that is read restarts the puzzle just where it is the same
-pub restart_taken : {P : Type 0} (game : SavedGame P) (p q : P) (m : Move) → restart_of game p q ≡ Some m → (m ≡ Restart) × (game.desc_of q ≡ game.desc_of p)
-restart_taken game p q m =
-    elim (bytes_eq (game.desc_of q) (game.desc_of p)) as (λ t. bytes_eq (game.desc_of q) (game.desc_of p) ≡ t → cond t (Some Restart) None ≡ Some m → (m ≡ Restart) × (game.desc_of q ≡ game.desc_of p)) [
-      | true ↦ λ same is. (cc, (bytes_eq-Decides (game.desc_of q) (game.desc_of p)).0 same)
-      | false ↦ λ same is. cc
-    ] refl
+pub restart_taken : {P : Type 0} (game : SavedGame P) (p q : P) (m : Move)
+    → restart_of game p q ≡ Some m → (m ≡ Restart) × (game.desc_of q ≡ game.desc_of p)
+restart_taken game p q m is =
+    let restarted = cond_some (bytes_eq (game.desc_of q) (game.desc_of p)) Restart m is in
+    (sym restarted.1, (bytes_eq-Decides (game.desc_of q) (game.desc_of p)).0 restarted.0)
 
 pub restart_again : {P : Type 0} (game : SavedGame P) (p : P) → restart_of game p p ≡ Some Restart
 restart_again game p = rw ((bytes_eq-Decides (game.desc_of p) (game.desc_of p)).1 refl) refl
 
 -- another puzzle is no restart
-pub other_puzzle : {P : Type 0} (game : SavedGame P) (w : ℕ) (p q : P) (p_text q_text : List ℕ) → IsGame game → game.Describes w p p_text → game.Describes w q q_text → q ≢ p → restart_of game p q ≡ None
+pub other_puzzle : {P : Type 0} (game : SavedGame P) (w : ℕ) (p q : P) (p_text q_text : List ℕ)
+    → IsGame game → game.Describes w p p_text → game.Describes w q q_text → q ≢ p → restart_of game p q ≡ None
 other_puzzle game w p q p_text q_text owes p_is q_is other =
-    elim (bytes_eq (game.desc_of q) (game.desc_of p)) as (λ t. bytes_eq (game.desc_of q) (game.desc_of p) ≡ t → cond t (Some Restart) None ≡ None) [
-      | true ↦ λ same. absurd (other (same_puzzle game w p q p_text q_text owes p_is q_is ((bytes_eq-Decides (game.desc_of q) (game.desc_of p)).0 same)))
-      | false ↦ λ same. refl
-    ] refl
+    cond_both (bytes_eq (game.desc_of q) (game.desc_of p)) (Some Restart) None (λ restart. restart ≡ None)
+    (λ same. absurd (other (same_puzzle game w p q p_text q_text owes p_is q_is (same_desc same)))) (λ differs. refl)
+  where
+    same_desc : bytes_eq (game.desc_of q) (game.desc_of p) ≡ true → game.desc_of q ≡ game.desc_of p
+    same_desc same = (bytes_eq-Decides (game.desc_of q) (game.desc_of p)).0 same

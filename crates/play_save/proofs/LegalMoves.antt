@@ -1,16 +1,17 @@
 -- What is known of the moves of a legal list: they fit what a text holds.
-use Rattle.std.proofs.Common.{◌≡◌, ℕ, zero, suc, ◌+◌, ◌*◌, ◌≤◌, ℤ, pos, negsuc, Bool, true, false, ◌==◌, ◌&&◌, not, nat_lt, List, [], ◌∷◌, Option, Some, None, IsOk, cond, refl, arith}
+use Rattle.std.proofs.Common.{◌≡◌, ℕ, zero, ◌≤◌, ℤ, pos, negsuc, true, false, ◌==◌, ◌&&◌, not, nat_lt, List, [], ◌∷◌, Option, Some, None, IsOk, cond, refl, arith}
 use Rattle.std.specs.Option.{option_or, option_map_or}
-use borrow.Author.Tests.{eqb-true, ltb-true, ltb-false}
+use Rattle.std.proofs.lemmas.Bool.{and_parts, not-false, eqb-true, ltb-true, ltb-false, cond_both}
 use Rattle.latin_board.specs.Boards.{BoardValue}
 use Rattle.latin_board.specs.Edges.{edge_place}
 use Rattle.trail_solver.specs.Puzzles.{Puzzle, solves_test}
 use Rattle.play_midend.specs.declared.moves.Move.{Move}
 use Rattle.play_midend.specs.declared.moves.Move.TheVariants.{Real, Pencil, MarkAll, Solve, Restart, Done}
 use Rattle.play_midend.specs.declared.fault.PlayFault.{PlayFault}
-use Rattle.play_midend.specs.declared.fault.PlayFault.TheVariants.{OffGrid, OffRange, GivenSquare, BadSolution}
+use Rattle.play_midend.specs.declared.fault.PlayFault.TheVariants.{OffGrid}
 use Rattle.play_midend.specs.MoveTexts.{AreBytes, IsCoordinate}
 use Rattle.play_midend.specs.Steps.{cell_of, entry_refusal, mark_refusal, refusal_of, moved, unless_refused, step, after_move, ArePlayable}
+use Rattle.play_save.proofs.OptionSteps.{where_taken, faultless_else, faultless_where}
 
 -- the numbers are within what a text holds, and a solution has the puzzle's size
 abbrev pub FitsText : Puzzle → Move → Type 0
@@ -25,55 +26,34 @@ abbrev pub AllFit : Puzzle → List Move → Type 0
 AllFit p [] = Unit {0}
 AllFit p (m ∷ ms) = FitsText p m × AllFit p ms
 
-and_parts : (a b : Bool) → (a && b) ≡ true → (a ≡ true) × (b ≡ true)
-and_parts true b is = (refl, is)
-and_parts false b is = cc
-
 entry_fits : (p : Puzzle) (x y n : ℕ) → p.size ≤ 9 → entry_refusal p x y n ≡ None → AreBytes x y n
-entry_fits p x y n small =
-    elim (nat_lt x p.size && nat_lt y p.size) as (λ t. (nat_lt x p.size && nat_lt y p.size) ≡ t → cond (not t) (Some OffGrid) (cond (nat_lt p.size n) (Some OffRange) (cond (p.given (cell_of p.size x y) == 0) None (Some GivenSquare))) ≡ None → AreBytes x y n) [
-      | true ↦ λ inside.
-          elim (nat_lt p.size n) as (λ t. nat_lt p.size n ≡ t → cond t (Some OffRange) (cond (p.given (cell_of p.size x y) == 0) None (Some GivenSquare)) ≡ None → AreBytes x y n) [
-            | true ↦ λ above none. cc
-            | false ↦ λ within none.
-                let both = and_parts (nat_lt x p.size) (nat_lt y p.size) inside in
-                record {
-                  x_is = omega (arith, ltb-true x p.size both.0);
-                  y_is = omega (arith, ltb-true y p.size both.1);
-                  n_is = omega (arith, ltb-false p.size n within);
-                }
-          ] refl
-      | false ↦ λ outside none. cc
-    ] refl
+entry_fits p x y n small none =
+    let inside = faultless_else (not (nat_lt x p.size && nat_lt y p.size)) _ _ none in
+    let both = and_parts (nat_lt x p.size) (nat_lt y p.size) (not-false _ inside.0) in
+    let within = faultless_else (nat_lt p.size n) _ _ inside.1 in
+    record {
+      x_is = omega (arith, ltb-true x p.size both.0);
+      y_is = omega (arith, ltb-true y p.size both.1);
+      n_is = omega (arith, ltb-false p.size n within.0);
+    }
 
 -- an edge place has coordinates that a text holds
 edge_fits : (w : ℕ) (x y : ℤ) (k : ℕ) → w ≤ 9 → edge_place w x y ≡ Some k → IsCoordinate x × IsCoordinate y
-edge_fits w (pos x) (negsuc zero) k small =
-    elim (nat_lt x w) as (λ t. nat_lt x w ≡ t → cond t (Some x) None ≡ Some k → (x ≤ 127) × (zero ≡ zero)) [
-      | true ↦ λ below is. (omega (arith, ltb-true x w below), refl)
-      | false ↦ λ below is. cc
-    ] refl
-edge_fits w (pos x) (pos y) k small =
-    elim (nat_lt x w && (y == w)) as (λ t. (nat_lt x w && (y == w)) ≡ t → cond t (Some (w + x)) (cond (nat_lt y w && (x == w)) (Some (3 * w + y)) None) ≡ Some k → (x ≤ 127) × (y ≤ 127)) [
-      | true ↦ λ both is.
-          let parts = and_parts (nat_lt x w) (y == w) both in
-          (omega (arith, ltb-true x w parts.0), omega (arith, eqb-true y w parts.1))
-      | false ↦ λ both.
-          elim (nat_lt y w && (x == w)) as (λ t. (nat_lt y w && (x == w)) ≡ t → cond t (Some (3 * w + y)) None ≡ Some k → (x ≤ 127) × (y ≤ 127)) [
-            | true ↦ λ others is.
-                let parts = and_parts (nat_lt y w) (x == w) others in
-                (omega (arith, eqb-true x w parts.1), omega (arith, ltb-true y w parts.0))
-            | false ↦ λ others is. cc
-          ] refl
-    ] refl
-edge_fits w (negsuc zero) (pos y) k small =
-    elim (nat_lt y w) as (λ t. nat_lt y w ≡ t → cond t (Some (2 * w + y)) None ≡ Some k → (zero ≡ zero) × (y ≤ 127)) [
-      | true ↦ λ below is. (refl, omega (arith, ltb-true y w below))
-      | false ↦ λ below is. cc
-    ] refl
-edge_fits w (pos x) (negsuc (suc n)) k small = λ is. cc
-edge_fits w (negsuc zero) (negsuc n) k small = λ is. cc
-edge_fits w (negsuc (suc n)) y k small = λ is. cc
+edge_fits w (pos x) (negsuc zero) k small is =
+    let below = where_taken (nat_lt x w) _ k is in (omega (arith, ltb-true x w below.0), refl)
+edge_fits w (pos x) (pos y) k small is =
+    cond_both (nat_lt x w && (y == w)) _ _ (λ (o : Option ℕ). o ≡ Some k → (x ≤ 127) × (y ≤ 127))
+    (λ below some. at_bottom (and_parts (nat_lt x w) (y == w) below))
+    (λ above some. at_right (and_parts (nat_lt y w) (x == w) (where_taken (nat_lt y w && (x == w)) _ k some).0)) is
+  where
+    at_bottom : (nat_lt x w ≡ true) × ((y == w) ≡ true) → (x ≤ 127) × (y ≤ 127)
+    at_bottom parts = (omega (arith, ltb-true x w parts.0), omega (arith, eqb-true y w parts.1))
+
+    at_right : (nat_lt y w ≡ true) × ((x == w) ≡ true) → (x ≤ 127) × (y ≤ 127)
+    at_right parts = (omega (arith, eqb-true x w parts.1), omega (arith, ltb-true y w parts.0))
+edge_fits w (negsuc zero) (pos y) k small is =
+    let below = where_taken (nat_lt y w) _ k is in (refl, omega (arith, ltb-true y w below.0))
+edge_fits w x y k small is = cc
 
 or_none : (a b : Option PlayFault) → option_or a b ≡ None → a ≡ None
 or_none None b is = refl
@@ -86,20 +66,13 @@ move_fits p b (Pencil x y n) small none =
 move_fits p b MarkAll small none = tt
 move_fits p b Restart small none = tt
 move_fits p b (Solve g) small none =
-    elim (solves_test p g) as (λ t. solves_test p g ≡ t → cond t None (Some BadSolution) ≡ None → (g.size ≡ p.size) × (solves_test p g ≡ true)) [
-      | true ↦ λ solves no_fault. (same_size solves, solves)
-      | false ↦ λ solves no_fault. cc
-    ] refl none
-  where
-    first_of_and : (x y : Bool) → (x && y) ≡ true → x ≡ true
-    first_of_and true y e = refl
-    first_of_and false y e = cc
-
-    same_size : solves_test p g ≡ true → g.size ≡ p.size
-    same_size solves = eqb-true g.size p.size (first_of_and _ _ (first_of_and _ _ (first_of_and _ _ solves)))
+    let solves = faultless_where (solves_test p g) _ none in
+    (eqb-true g.size p.size (and_parts _ _ (and_parts _ _ (and_parts _ _ solves).0).0).0, solves)
 move_fits p b (Done x y) small none = by_place (edge_place p.size x y) refl none
   where
-    by_place : (place : Option ℕ) → edge_place p.size x y ≡ place → cond (option_map_or p.clued place false) None (Some OffGrid) ≡ None → IsCoordinate x × IsCoordinate y
+    by_place : (place : Option ℕ)
+        → edge_place p.size x y ≡ place → cond (option_map_or p.clued place false) None (Some OffGrid) ≡ None
+        → IsCoordinate x × IsCoordinate y
     by_place None at no_fault = cc
     by_place (Some k) at no_fault = edge_fits p.size x y k small at
 

@@ -2,7 +2,7 @@
 pub mod OptionSteps
 pub mod RecordLaws
 pub mod RecordAnswers
-pub mod LineLists
+pub mod RecordLists
 pub mod Meeting
 pub mod RightLists
 pub mod ReadingOn
@@ -15,5 +15,5 @@ pub mod LoadAnswers
 pub mod WrittenLists
 pub mod WrittenRecords
 pub mod LegalMoves
-pub mod WrittenLines
+pub mod SessionRecords
 pub mod SavedWritten

@@ -11,11 +11,15 @@ use Rattle.play_save.proofs.GameTexts.{IsGame}
 use Rattle.play_save.proofs.SavedTaken.{load_taken}
 use Rattle.play_save.proofs.SavedAgain.{load_again}
 
-pub load_found : {P : Type 0} (game : SavedGame P) (text : List ℕ) (answer : Result (History P) LoadFault) → IsGame game → GivesUnless OutOfMemory (λ s. s) answer (load_at game text) → IfOk answer (λ s. SaveText game s text)
+pub load_found : {P : Type 0} (game : SavedGame P) (text : List ℕ) (answer : Result (History P) LoadFault)
+    → IsGame game → GivesUnless OutOfMemory (λ s. s) answer (load_at game text)
+    → IfOk answer (λ s. SaveText game s text)
 load_found game text (Ok s) owes gives = load_taken game text s owes gives
 load_found game text (Err e) owes gives = tt
 
-pub load_only : {P : Type 0} (game : SavedGame P) (text : List ℕ) (h : History P) (answer : Result (History P) LoadFault) → IsGame game → GivesUnless OutOfMemory (λ s. s) answer (load_at game text) → SaveText game h text → GivesUnless OutOfMemory (λ s. s) answer (Ok h)
+pub load_only : {P : Type 0} (game : SavedGame P) (text : List ℕ) (h : History P) (answer : Result (History P) LoadFault)
+    → IsGame game → GivesUnless OutOfMemory (λ s. s) answer (load_at game text) → SaveText game h text
+    → GivesUnless OutOfMemory (λ s. s) answer (Ok h)
 load_only game text h (Ok s) owes gives is = sym (load_again game text h owes is) ∙ gives
 load_only game text h (Err e) owes (inl memory) is = inl memory
 load_only game text h (Err e) owes (inr refused) is = let read = load_again game text h owes is in cc
@@ -32,6 +36,8 @@ faults_where_none {P} game owes text = (
   λ none. by_read (load_at game text) refl none,
 )
   where
-    by_read : (read : Result (History P) LoadFault) → load_at game text ≡ read → ((h : History P) → SaveText game h text → ⊥) → (fault : LoadFault) × (read ≡ Err fault)
+    by_read : (read : Result (History P) LoadFault)
+        → load_at game text ≡ read → ((h : History P) → SaveText game h text → ⊥)
+        → (fault : LoadFault) × (read ≡ Err fault)
     by_read (Ok h) is none = absurd (none h (load_taken game text h owes is))
     by_read (Err fault) is none = (fault, refl)

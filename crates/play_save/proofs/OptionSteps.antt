@@ -1,11 +1,14 @@
--- Steps on options: where the whole is there, so was each step.
-use Rattle.std.proofs.Common.{◌≡◌, Option, Some, None, option_map, option_and_then, Ok, Err, ok_or, refl}
+-- Steps that may give nothing, or fail: where the whole is there, so was each step.
+use Rattle.std.proofs.Common.{◌≡◌, Bool, true, false, Option, Some, None, option_map, option_and_then, Result, Ok, Err, ok_or, cond, refl}
+use Rattle.std.specs.Result.{result_ok}
 
-pub map_taken : {A B : Type 0} (f : A → B) (o : Option A) (y : B) → option_map f o ≡ Some y → (x : A) × (o ≡ Some x) × (f x ≡ y)
+pub map_taken : {A B : Type 0} (f : A → B) (o : Option A) (y : B)
+    → option_map f o ≡ Some y → (x : A) × (o ≡ Some x) × (f x ≡ y)
 map_taken f None y is = cc
 map_taken f (Some x) y is = (x, refl, cc)
 
-pub and_then_taken : {A B : Type 0} (f : A → Option B) (o : Option A) (y : B) → option_and_then f o ≡ Some y → (x : A) × (o ≡ Some x) × (f x ≡ Some y)
+pub and_then_taken : {A B : Type 0} (f : A → Option B) (o : Option A) (y : B)
+    → option_and_then f o ≡ Some y → (x : A) × (o ≡ Some x) × (f x ≡ Some y)
 and_then_taken f None y is = cc
 and_then_taken f (Some x) y is = (x, refl, is)
 
@@ -13,6 +16,41 @@ pub ok_or_taken : {A E : Type 0} (o : Option A) (e : E) (y : A) → ok_or o e �
 ok_or_taken None e y is = cc
 ok_or_taken (Some x) e y is = cc
 
+pub result_taken : {A E F : Type 0} (r : Result A E) (fault : F) (y : A) → ok_or (result_ok r) fault ≡ Ok y → r ≡ Ok y
+result_taken (Ok x) fault y is = cc
+result_taken (Err e) fault y is = cc
+
 pub error_of_none : {A E : Type 0} (o : Option A) (e fault : E) → Err e ≡ ok_or o fault → o ≡ None → e ≡ fault
 error_of_none None e fault is none = cc
 error_of_none (Some x) e fault is none = cc
+
+-- what is there only where a test holds, or only where it fails
+pub where_taken : {A : Type 0} (test : Bool) (o : Option A) (y : A)
+    → cond test o None ≡ Some y → (test ≡ true) × (o ≡ Some y)
+where_taken true o y is = (refl, is)
+where_taken false o y is = cc
+
+pub else_taken : {A : Type 0} (test : Bool) (o : Option A) (y : A)
+    → cond test None o ≡ Some y → (test ≡ false) × (o ≡ Some y)
+else_taken true o y is = cc
+else_taken false o y is = (refl, is)
+
+-- a fault where a test holds, or where it fails
+pub faultless_else : {A : Type 0} (test : Bool) (fault : A) (o : Option A)
+    → cond test (Some fault) o ≡ None → (test ≡ false) × (o ≡ None)
+faultless_else true fault o none = cc
+faultless_else false fault o none = (refl, none)
+
+pub faultless_where : {A : Type 0} (test : Bool) (fault : A) → cond test None (Some fault) ≡ None → test ≡ true
+faultless_where true fault none = refl
+faultless_where false fault none = cc
+
+pub ok_else : {A E : Type 0} (test : Bool) (fault : E) (r : Result A E) (y : A)
+    → cond test (Err fault) r ≡ Ok y → (test ≡ false) × (r ≡ Ok y)
+ok_else true fault r y is = cc
+ok_else false fault r y is = (refl, is)
+
+pub ok_where : {A E : Type 0} (test : Bool) (x : A) (fault : E) (y : A)
+    → cond test (Ok x) (Err fault) ≡ Ok y → (test ≡ true) × (x ≡ y)
+ok_where true x fault y is = (refl, cc)
+ok_where false x fault y is = cc

@@ -1,47 +1,47 @@
 -- The record that is read is the one with which the text begins, and that one is read.
-use Rattle.std.proofs.Common.{◌≡◌, ℕ, ◌<◌, ◌≤◌, true, false, ◌==◌, ◌&&◌, nat_le, List, [], ◌∷◌, ◌++◌, length, take, drop, Some, None, option_map, option_and_then, Ok, Err, ok_or, cond, refl, sym, ap, ◌∙◌, subst, arith, length-append}
-use Rattle.std.proofs.lemmas.List.{take-append-drop, length-take-le, take_at}
-use borrow.Author.Tests.{eqb-true, eq-eqb, leb-true, le-leb}
+use Rattle.std.proofs.Common.{◌≡◌, ℕ, ◌<◌, ◌≤◌, Bool, true, false, ◌==◌, ◌&&◌, nat_le, List, [], ◌∷◌, ◌++◌, length, take, drop, Option, Some, None, option_map, Ok, Err, ok_or, cond, refl, sym, ap, ◌∙◌, subst, arith, length-append}
+use Rattle.std.proofs.Math.Bool.{and-true, and-false}
+use Rattle.std.proofs.lemmas.Bool.{eqb-true, eq-eqb, leb-true, le-leb, cond_both}
+use Rattle.std.proofs.lemmas.Option.{cond_some}
+use Rattle.std.proofs.lemmas.List.{take-append-drop, length-take-le, take_at, drop_at}
+use Rattle.byte_text.specs.Bytes.{space, colon}
 use Rattle.byte_text.specs.Cuts.{Lacks, before, behind}
 use Rattle.byte_text.specs.Decimals.{digit_onto, number_from}
 use Rattle.byte_text.proofs.CutLaws.{cut_parts, before_at, behind_at, lacks_before}
 use Rattle.play_save.specs.declared.fault.LoadFault.{LoadFault}
 use Rattle.play_save.specs.declared.fault.LoadFault.TheVariants.{Malformed}
 use Rattle.play_save.specs.Records.{Entry, is_break, begins_with_break, AreBreaks, is_empty, unpadded, length_at, BeginsWith, skip_breaks, field_at, value_at, value_behind, record_of, record_behind, record_or_end, record_at}
-use Rattle.play_save.proofs.OptionSteps.{map_taken, and_then_taken, ok_or_taken}
+use Rattle.play_save.proofs.OptionSteps.{map_taken, and_then_taken, ok_or_taken, where_taken}
 
 -- a name and one more byte
-pub unpadded-snoc : (xs : List ℕ) (b : ℕ) → unpadded (xs ++ b ∷ []) ≡ cond (b == 32) (unpadded xs) (xs ++ b ∷ [])
-unpadded-snoc [] b = elim (b == 32) as (λ t. cond (t && true) [] (b ∷ []) ≡ cond t [] (b ∷ [])) [ true ↦ refl | false ↦ refl ]
-unpadded-snoc (x ∷ xs) b =
-    rw (unpadded-snoc xs b)
-    (elim (b == 32) as (λ t. cond ((x == 32) && is_empty (cond t (unpadded xs) (xs ++ b ∷ []))) [] (x ∷ cond t (unpadded xs) (xs ++ b ∷ [])) ≡ cond t (unpadded (x ∷ xs)) (x ∷ (xs ++ b ∷ []))) [
-      | true ↦ refl
-      | false ↦ rw (some xs) (elim (x == 32) as (λ t. cond (t && false) [] (x ∷ (xs ++ b ∷ [])) ≡ x ∷ (xs ++ b ∷ [])) [ true ↦ refl | false ↦ refl ])
-    ])
+pub unpadded-snoc : (xs : List ℕ) (b : ℕ) → unpadded (xs ++ b ∷ []) ≡ cond (b == space) (unpadded xs) (xs ++ b ∷ [])
+unpadded-snoc [] b = ap (λ t. cond t [] (b ∷ [])) (and-true (b == space))
+unpadded-snoc (x ∷ xs) b = rw (unpadded-snoc xs b) (by_blank (b == space))
   where
     some : (ys : List ℕ) → is_empty (ys ++ b ∷ []) ≡ false
     some [] = refl
     some (y ∷ ys) = refl
 
+    by_blank : (t : Bool)
+        → cond ((x == space) && is_empty (cond t (unpadded xs) (xs ++ b ∷ []))) [] (x ∷ cond t (unpadded xs) (xs ++ b ∷ []))
+        ≡ cond t (unpadded (x ∷ xs)) (x ∷ (xs ++ b ∷ []))
+    by_blank true = refl
+    by_blank false = rw (some xs, and-false) refl
+
 -- the line breaks in front
 skip_split : (bs : List ℕ) → (breaks : List ℕ) × (bs ≡ breaks ++ skip_breaks bs) × AreBreaks breaks
 skip_split [] = ([], refl, tt)
 skip_split (b ∷ bs) =
-    elim (is_break b) as (λ t. is_break b ≡ t → (breaks : List ℕ) × (b ∷ bs ≡ breaks ++ cond t (skip_breaks bs) (b ∷ bs)) × AreBreaks breaks) [
-      | true ↦ λ is. let more = skip_split bs in (b ∷ more.0, ap (λ xs. b ∷ xs) more.1, (is, more.2))
-      | false ↦ λ is. ([], refl, tt)
-    ] refl
+    cond_both (is_break b) _ _ (λ (rest : List ℕ). (breaks : List ℕ) × (b ∷ bs ≡ breaks ++ rest) × AreBreaks breaks)
+    (λ is. let more = skip_split bs in (b ∷ more.0, ap (λ xs. b ∷ xs) more.1, (is, more.2))) (λ is. ([], refl, tt))
 
 skip_no_break : (bs : List ℕ) → begins_with_break (skip_breaks bs) ≡ false
 skip_no_break [] = refl
 skip_no_break (b ∷ bs) =
-    elim (is_break b) as (λ t. is_break b ≡ t → begins_with_break (cond t (skip_breaks bs) (b ∷ bs)) ≡ false) [
-      | true ↦ λ is. skip_no_break bs
-      | false ↦ λ is. is
-    ] refl
+    cond_both (is_break b) _ _ (λ (rest : List ℕ). begins_with_break rest ≡ false) (λ is. skip_no_break bs) (λ is. is)
 
-pub skip_again : (breaks rest : List ℕ) → AreBreaks breaks → begins_with_break rest ≡ false → skip_breaks (breaks ++ rest) ≡ rest
+pub skip_again : (breaks rest : List ℕ)
+    → AreBreaks breaks → begins_with_break rest ≡ false → skip_breaks (breaks ++ rest) ≡ rest
 skip_again [] [] are other = refl
 skip_again [] (b ∷ rest) are other = rw other refl
 skip_again (b ∷ breaks) rest are other = rw are.0 (skip_again breaks rest are.1 other)
@@ -53,74 +53,70 @@ skip_all (b ∷ bs) are = rw are.0 (skip_all bs are.1)
 all_skipped : (bs : List ℕ) → skip_breaks bs ≡ [] → AreBreaks bs
 all_skipped [] none = tt
 all_skipped (b ∷ bs) none =
-    elim (is_break b) as (λ t. is_break b ≡ t → cond t (skip_breaks bs) (b ∷ bs) ≡ [] → AreBreaks (b ∷ bs)) [
-      | true ↦ λ is empty. (is, all_skipped bs empty)
-      | false ↦ λ is empty. cc
-    ] refl none
+    cond_both (is_break b) _ _ (λ (rest : List ℕ). rest ≡ [] → AreBreaks (b ∷ bs))
+    (λ is empty. (is, all_skipped bs empty)) (λ is empty. cc) none
 
 -- a length has no colon
-digits_lack_colon : (n : ℕ) (bs : List ℕ) (m : ℕ) → number_from 99999999 n bs ≡ Some m → Lacks 58 bs
+digits_lack_colon : (n : ℕ) (bs : List ℕ) (m : ℕ) → number_from 99999999 n bs ≡ Some m → Lacks colon bs
 digits_lack_colon n [] m is = tt
 digits_lack_colon n (b ∷ bs) m is =
-    let step = and_then_taken (λ k. number_from 99999999 k bs) (digit_onto 99999999 n b) m is in
-    (λ colon. let none : digit_onto 99999999 n b ≡ None = rw colon refl in let some = step.1 in cc, digits_lack_colon step.0 bs m step.2)
+    let step = and_then_taken (λ k. number_from 99999999 k bs) (digit_onto 99999999 n b) m is in (
+      λ colon. let none : digit_onto 99999999 n b ≡ None =
+          rw colon refl in let some = step.1 in cc,
+      digits_lack_colon step.0 bs m step.2,
+    )
 
-length_lacks_colon : (digits : List ℕ) (n : ℕ) → length_at digits ≡ Some n → Lacks 58 digits
-length_lacks_colon digits n =
-    elim (nat_le 1 (length digits) && nat_le (length digits) 8) as (λ t. cond t (number_from 99999999 0 digits) None ≡ Some n → Lacks 58 digits) [
-      | true ↦ λ is. digits_lack_colon 0 digits n is
-      | false ↦ λ is. cc
-    ]
+length_lacks_colon : (digits : List ℕ) (n : ℕ) → length_at digits ≡ Some n → Lacks colon digits
+length_lacks_colon digits n is =
+    digits_lack_colon 0 digits n (where_taken (nat_le 1 (length digits) && nat_le (length digits) 8) _ n is).1
 
 -- fields
-field_taken : (bs : List ℕ) (parts : List ℕ × List ℕ) → field_at bs ≡ Some parts → (bs ≡ parts.0 ++ (58 ∷ parts.1)) × Lacks 58 parts.0
+field_taken : (bs : List ℕ) (parts : List ℕ × List ℕ)
+    → field_at bs ≡ Some parts → (bs ≡ parts.0 ++ (colon ∷ parts.1)) × Lacks colon parts.0
 field_taken bs parts is =
-    let found = map_taken (λ (rest : List ℕ). (before 58 bs, rest)) (behind 58 bs) parts is in
-    let split : (bs ≡ before 58 bs ++ (58 ∷ found.0)) × Lacks 58 (before 58 bs) = (cut_parts 58 bs found.0 found.1, lacks_before 58 bs) in
-    subst (λ (p : List ℕ × List ℕ). (bs ≡ p.0 ++ (58 ∷ p.1)) × Lacks 58 p.0) found.2 split
+    let found = map_taken (λ (rest : List ℕ). (before colon bs, rest)) (behind colon bs) parts is in
+    let split : (bs ≡ before colon bs ++ (colon ∷ found.0)) × Lacks colon (before colon bs) =
+    (cut_parts colon bs found.0 found.1, lacks_before colon bs) in
+    subst (λ (p : List ℕ × List ℕ). (bs ≡ p.0 ++ (colon ∷ p.1)) × Lacks colon p.0) found.2 split
 
-field_again : (front rest : List ℕ) → Lacks 58 front → field_at (front ++ (58 ∷ rest)) ≡ Some (front, rest)
-field_again front rest lacks = rw (behind_at 58 front rest lacks, before_at 58 front rest lacks) refl
+field_again : (front rest : List ℕ) → Lacks colon front → field_at (front ++ (colon ∷ rest)) ≡ Some (front, rest)
+field_again front rest lacks = rw (behind_at colon front rest lacks, before_at colon front rest lacks) refl
 
 -- a value behind its length
-value_taken : (n : ℕ) (bs : List ℕ) (parts : List ℕ × List ℕ) → value_at n bs ≡ Some parts → (length parts.0 ≡ n) × (bs ≡ parts.0 ++ parts.1)
-value_taken n bs parts =
-    elim (nat_le n (length bs)) as (λ t. nat_le n (length bs) ≡ t → cond t (Some (take n bs, drop n bs)) None ≡ Some parts → (length parts.0 ≡ n) × (bs ≡ parts.0 ++ parts.1)) [
-      | true ↦ λ within is.
-          let made : (take n bs, drop n bs) ≡ parts = cc in
-          subst (λ (p : List ℕ × List ℕ). (length p.0 ≡ n) × (bs ≡ p.0 ++ p.1)) made (length-take-le n bs (leb-true n (length bs) within), sym (take-append-drop n bs))
-      | false ↦ λ within is. cc
-    ] refl
+value_taken : (n : ℕ) (bs : List ℕ) (parts : List ℕ × List ℕ)
+    → value_at n bs ≡ Some parts → (length parts.0 ≡ n) × (bs ≡ parts.0 ++ parts.1)
+value_taken n bs parts is =
+    let some = cond_some (nat_le n (length bs)) (take n bs, drop n bs) parts is in
+    subst (λ (p : List ℕ × List ℕ). (length p.0 ≡ n) × (bs ≡ p.0 ++ p.1)) some.1
+    (length-take-le n bs (leb-true n (length bs) some.0), sym (take-append-drop n bs))
 
 value_again : (value rest : List ℕ) → value_at (length value) (value ++ rest) ≡ Some (value, rest)
 value_again value rest =
     let within : length value ≤ length (value ++ rest) = omega (arith, length-append value rest) in
-    rw (le-leb (length value) (length (value ++ rest)) within, take_at value rest (length value) refl, drop_at value rest) refl
-  where
-    drop_at : (xs ys : List ℕ) → drop (length xs) (xs ++ ys) ≡ ys
-    drop_at [] ys = refl
-    drop_at (x ∷ xs) ys = drop_at xs ys
+    rw (le-leb (length value) (length (value ++ rest)) within)
+    (rw (take_at value rest (length value) refl, drop_at value rest (length value) refl) refl)
 
 record IsSized (value rest : List ℕ) (text : List ℕ) : Type 0 where
   digits : List ℕ
-  spelled : text ≡ digits ++ (58 ∷ (value ++ rest))
-  lacks : Lacks 58 digits
+  spelled : text ≡ digits ++ (colon ∷ (value ++ rest))
+  lacks : Lacks colon digits
   sized : length_at digits ≡ Some (length value)
 
 sized_taken : (bs : List ℕ) (parts : List ℕ × List ℕ) → value_behind bs ≡ Some parts → IsSized parts.0 parts.1 bs
 sized_taken bs parts is =
-    let field = and_then_taken (λ (f : List ℕ × List ℕ). option_and_then (λ n. value_at n f.1) (length_at f.0)) (field_at bs) parts is in
-    let size = and_then_taken (λ n. value_at n field.0.1) (length_at field.0.0) parts field.2 in
+    let field = and_then_taken _ (field_at bs) parts is in
+    let size = and_then_taken _ (length_at field.0.0) parts field.2 in
     let cut = field_taken bs field.0 field.1 in
     let value = value_taken size.0 field.0.1 parts size.2 in
     record {
       digits = field.0.0;
-      spelled = cut.0 ∙ ap (λ xs. field.0.0 ++ (58 ∷ xs)) value.1;
+      spelled = cut.0 ∙ ap (λ xs. field.0.0 ++ (colon ∷ xs)) value.1;
       lacks = cut.1;
       sized = size.1 ∙ ap Some (sym value.0);
     }
 
-sized_again : (digits value rest : List ℕ) → length_at digits ≡ Some (length value) → value_behind (digits ++ (58 ∷ (value ++ rest))) ≡ Some (value, rest)
+sized_again : (digits value rest : List ℕ)
+    → length_at digits ≡ Some (length value) → value_behind (digits ++ (colon ∷ (value ++ rest))) ≡ Some (value, rest)
 sized_again digits value rest sized =
     rw (field_again digits (value ++ rest) (length_lacks_colon digits (length value) sized), sized) (value_again value rest)
 
@@ -128,49 +124,52 @@ sized_again digits value rest sized =
 record IsKeyed (e : Entry) (rest : List ℕ) (text : List ℕ) : Type 0 where
   key : List ℕ
   digits : List ℕ
-  spelled : text ≡ key ++ (58 ∷ (digits ++ (58 ∷ (e.value ++ rest))))
+  spelled : text ≡ key ++ (colon ∷ (digits ++ (colon ∷ (e.value ++ rest))))
   eight : length key ≡ 8
-  no_colon : Lacks 58 key
+  no_colon : Lacks colon key
   name_is : e.key ≡ unpadded key
   length_is : length_at digits ≡ Some (length e.value)
 
 keyed_taken : (bs : List ℕ) (e : Entry) (rest : List ℕ) → record_behind bs ≡ Some (e, rest) → IsKeyed e rest bs
 unfolding record_behind
 keyed_taken bs e rest is =
-    let field = and_then_taken (λ (f : List ℕ × List ℕ). cond (length f.0 == 8) (option_map (record_of f.0) (value_behind f.1)) None) (field_at bs) (e, rest) is in
+    let field = and_then_taken _ (field_at bs) (e, rest) is in
     let cut = field_taken bs field.0 field.1 in
-    elim (length field.0.0 == 8) as (λ t. (length field.0.0 == 8) ≡ t → cond t (option_map (record_of field.0.0) (value_behind field.0.1)) None ≡ Some (e, rest) → IsKeyed e rest bs) [
-      | true ↦ λ eight made.
-          let value = map_taken (record_of field.0.0) (value_behind field.0.1) (e, rest) made in
-          let sized = sized_taken field.0.1 value.0 value.1 in
-          let keyed : IsKeyed (record_of field.0.0 value.0).0 (record_of field.0.0 value.0).1 bs = record {
-            key = field.0.0;
-            digits = sized.digits;
-            spelled = cut.0 ∙ ap (λ xs. field.0.0 ++ (58 ∷ xs)) sized.spelled;
-            eight = eqb-true (length field.0.0) 8 eight;
-            no_colon = cut.1;
-            name_is = refl;
-            length_is = sized.sized;
-          } in
-          subst (λ (p : Entry × List ℕ). IsKeyed p.0 p.1 bs) value.2 keyed
-      | false ↦ λ eight made. cc
-    ] refl field.2
+    let made = where_taken (length field.0.0 == 8) _ (e, rest) field.2 in
+    let value = map_taken (record_of field.0.0) (value_behind field.0.1) (e, rest) made.1 in
+    let sized = sized_taken field.0.1 value.0 value.1 in
+    let keyed : IsKeyed (record_of field.0.0 value.0).0 (record_of field.0.0 value.0).1 bs = record {
+      key = field.0.0;
+      digits = sized.digits;
+      spelled = cut.0 ∙ ap (λ xs. field.0.0 ++ (colon ∷ xs)) sized.spelled;
+      eight = eqb-true (length field.0.0) 8 made.0;
+      no_colon = cut.1;
+      name_is = refl;
+      length_is = sized.sized;
+    } in
+    subst (λ (p : Entry × List ℕ). IsKeyed p.0 p.1 bs) value.2 keyed
 
-keyed_again : (e : Entry) (rest key digits : List ℕ) → length key ≡ 8 → Lacks 58 key → e.key ≡ unpadded key → length_at digits ≡ Some (length e.value) → record_behind (key ++ (58 ∷ (digits ++ (58 ∷ (e.value ++ rest))))) ≡ Some (e, rest)
+keyed_again : (e : Entry) (rest key digits : List ℕ)
+    → length key ≡ 8 → Lacks colon key → e.key ≡ unpadded key → length_at digits ≡ Some (length e.value)
+    → record_behind (key ++ (colon ∷ (digits ++ (colon ∷ (e.value ++ rest))))) ≡ Some (e, rest)
 unfolding record_behind
 keyed_again e rest key digits eight lacks name sized =
-    let made : (record_of key (e.value, rest)) ≡ (e, rest) = ap (λ (n : List ℕ). let x : Entry × List ℕ = (record { key = n; value = e.value }, rest) in x) (sym name) in
-    rw (field_again key (digits ++ (58 ∷ (e.value ++ rest))) lacks, eq-eqb (length key) 8 eight, sized_again digits e.value rest sized) (ap Some made)
+    let made : (record_of key (e.value, rest)) ≡ (e, rest) =
+    ap (λ (n : List ℕ). let x : Entry × List ℕ = (record { key = n; value = e.value }, rest) in x) (sym name) in
+    rw (field_again key (digits ++ (colon ∷ (e.value ++ rest))) lacks, eq-eqb (length key) 8 eight)
+    (rw (sized_again digits e.value rest sized) (ap Some made))
 
 -- the record of a whole text
-or_end_taken : (bs : List ℕ) (e : Entry) (rest : List ℕ) → record_or_end bs ≡ Ok (Some (e, rest)) → record_behind bs ≡ Some (e, rest)
+or_end_taken : (bs : List ℕ) (e : Entry) (rest : List ℕ)
+    → record_or_end bs ≡ Ok (Some (e, rest)) → record_behind bs ≡ Some (e, rest)
 or_end_taken [] e rest is = cc
 or_end_taken (b ∷ bs) e rest is =
-    let made = map_taken Some (record_behind (b ∷ bs)) (Some (e, rest)) (ok_or_taken (option_map Some (record_behind (b ∷ bs))) Malformed (Some (e, rest)) is) in
-    let same : made.0 ≡ (e, rest) = let is_it = made.2 in cc in
+    let made = map_taken Some (record_behind (b ∷ bs)) (Some (e, rest)) (ok_or_taken _ Malformed _ is) in
+    let same : made.0 ≡ (e, rest) = cc made.2 in
     made.1 ∙ ap Some same
 
-or_end_again : (bs : List ℕ) (e : Entry) (rest : List ℕ) → 0 < length bs → record_behind bs ≡ Some (e, rest) → record_or_end bs ≡ Ok (Some (e, rest))
+or_end_again : (bs : List ℕ) (e : Entry) (rest : List ℕ)
+    → 0 < length bs → record_behind bs ≡ Some (e, rest) → record_or_end bs ≡ Ok (Some (e, rest))
 or_end_again [] e rest some is = absurd (omega arith)
 or_end_again (b ∷ bs) e rest some is = rw is refl
 
@@ -187,7 +186,7 @@ record_taken bs e rest is =
       are_breaks = front.2;
       eight = keyed.eight;
       no_colon = keyed.no_colon;
-      no_break = no_break_in keyed.key (58 ∷ (keyed.digits ++ (58 ∷ (e.value ++ rest)))) keyed.eight (ap begins_with_break (sym keyed.spelled) ∙ skip_no_break bs);
+      no_break = no_break_in keyed.key _ keyed.eight (ap begins_with_break (sym keyed.spelled) ∙ skip_no_break bs);
       name_is = keyed.name_is;
       length_is = keyed.length_is;
     }
@@ -199,10 +198,13 @@ record_taken bs e rest is =
 pub record_again : (bs : List ℕ) (e : Entry) (rest : List ℕ) → BeginsWith e rest bs → record_at bs ≡ Ok (Some (e, rest))
 unfolding record_at
 record_again bs e rest h =
-    let end = 58 ∷ (h.digits ++ (58 ∷ (e.value ++ rest))) in
-    let skipped : skip_breaks bs ≡ h.key ++ end = ap skip_breaks h.spelled ∙ skip_again h.breaks (h.key ++ end) h.are_breaks (no_break_on h.key end h.eight h.no_break) in
+    let end = colon ∷ (h.digits ++ (colon ∷ (e.value ++ rest))) in
+    let skipped : skip_breaks bs ≡ h.key ++ end =
+    ap skip_breaks h.spelled
+    ∙ skip_again h.breaks (h.key ++ end) h.are_breaks (no_break_on h.key end h.eight h.no_break) in
     let some : 0 < length (h.key ++ end) = omega (arith, length-append h.key end, h.eight) in
-    ap record_or_end skipped ∙ or_end_again (h.key ++ end) e rest some (keyed_again e rest h.key h.digits h.eight h.no_colon h.name_is h.length_is)
+    ap record_or_end skipped
+    ∙ or_end_again (h.key ++ end) e rest some (keyed_again e rest h.key h.digits h.eight h.no_colon h.name_is h.length_is)
   where
     no_break_on : (xs ys : List ℕ) → length xs ≡ 8 → begins_with_break xs ≡ false → begins_with_break (xs ++ ys) ≡ false
     no_break_on [] ys eight is_none = absurd (omega arith)
@@ -212,8 +214,8 @@ record_again bs e rest h =
 or_end_none : (bs : List ℕ) → record_or_end bs ≡ Ok None → bs ≡ []
 or_end_none [] is = refl
 or_end_none (b ∷ bs) is =
-    let made = map_taken Some (record_behind (b ∷ bs)) None (ok_or_taken (option_map Some (record_behind (b ∷ bs))) Malformed None is) in
-    let other = made.2 in cc
+    let made = map_taken Some (record_behind (b ∷ bs)) None (ok_or_taken _ Malformed _ is) in
+    cc made.2
 
 pub end_taken : (bs : List ℕ) → record_at bs ≡ Ok None → AreBreaks bs
 unfolding record_at
@@ -225,20 +227,24 @@ end_again bs are = ap record_or_end (skip_all bs are)
 
 -- the only fault
 or_end_fault : (bs : List ℕ) (fault : LoadFault) → record_or_end bs ≡ Err fault → fault ≡ Malformed
-or_end_fault [] fault = λ is. cc
-or_end_fault (b ∷ bs) fault =
-    elim (record_behind (b ∷ bs)) as (λ o. ok_or (option_map Some o) Malformed ≡ Err fault → fault ≡ Malformed) [
-      | Some parts ↦ λ is. cc
-      | None ↦ λ is. cc
-    ]
+or_end_fault [] fault is = cc
+or_end_fault (b ∷ bs) fault is = by_read (record_behind (b ∷ bs)) is
+  where
+    by_read : (o : Option (Entry × List ℕ)) → ok_or (option_map Some o) Malformed ≡ Err fault → fault ≡ Malformed
+    by_read (Some parts) none = cc
+    by_read None none = cc
 
 pub record_fault : (bs : List ℕ) (fault : LoadFault) → record_at bs ≡ Err fault → fault ≡ Malformed
 unfolding record_at
 record_fault bs fault is = or_end_fault (skip_breaks bs) fault is
 
 -- a record takes at least a byte
-pub record_shorter : (bs : List ℕ) (e : Entry) (rest : List ℕ) → record_at bs ≡ Ok (Some (e, rest)) → length rest < length bs
+pub record_shorter : (bs : List ℕ) (e : Entry) (rest : List ℕ)
+    → record_at bs ≡ Ok (Some (e, rest)) → length rest < length bs
 record_shorter bs e rest is =
     let h = record_taken bs e rest is in
-    let end = 58 ∷ (h.digits ++ (58 ∷ (e.value ++ rest))) in
-    omega (arith, ap length h.spelled, length-append h.breaks (h.key ++ end), length-append h.key end, length-append h.digits (58 ∷ (e.value ++ rest)), length-append e.value rest)
+    let end = colon ∷ (h.digits ++ (colon ∷ (e.value ++ rest))) in
+    let value = colon ∷ (e.value ++ rest) in
+    let front = length-append h.breaks (h.key ++ end) in
+    let behind = length-append h.digits value in
+    omega (arith, ap length h.spelled, front, length-append h.key end, behind, length-append e.value rest)

@@ -1,10 +1,9 @@
 -- What is read as a session is a save of it.
-use Rattle.std.proofs.Common.{◌≡◌, ℕ, ◌+◌, ◌<◌, Bool, true, false, ◌&&◌, nat_lt, List, [], ◌∷◌, ◌++◌, length, codes, bytes_eq, Option, Some, None, option_map, is_some, Result, Ok, Err, ok_or, cond, refl, sym, ap, ◌∙◌, subst, arith}
+use Rattle.std.proofs.Common.{◌≡◌, ℕ, ◌+◌, ◌<◌, true, false, ◌&&◌, nat_lt, List, [], ◌∷◌, ◌++◌, length, codes, bytes_eq, Option, Some, None, option_map, is_some, Result, Ok, Err, ok_or, refl, sym, ap, ◌∙◌, subst, arith}
 use Rattle.std.specs.Result.{result_ok}
 use Rattle.std.specs.Fmt.{decimal}
 use Rattle.std.proofs.lemmas.Slice.Eq.{bytes_eq-Decides}
-use borrow.Author.Tests.{ltb-false}
-use Rattle.byte_text.specs.Reading.{◌>>=◌}
+use Rattle.std.proofs.lemmas.Bool.{and_parts, ltb-false}
 use Rattle.byte_text.proofs.ReadingLaws.{bind_taken}
 use Rattle.clue_rules.specs.declared.id_fault.IdFault.{IdFault}
 use Rattle.clue_rules.specs.declared.params.Params.{Params}
@@ -17,60 +16,69 @@ use Rattle.play_midend.proofs.MoveListLaws.{accepted_list_legal}
 use Rattle.play_save.specs.declared.fault.LoadFault.{LoadFault}
 use Rattle.play_save.specs.declared.fault.LoadFault.TheVariants.{NotASave, Version, WrongGame, Repeated, Unsupported, BadDesc, Missing, TooLarge}
 use Rattle.play_save.specs.declared.key.Key.{Key}
-use Rattle.play_save.specs.declared.key.Key.TheVariants.{SaveFile, FormatVersion, GameName, NextParams, CurrentParams, Seed, Desc, PrivateDesc, AuxInfo, Ui, Time, StateCount, Position, State, Other}
+use Rattle.play_save.specs.declared.key.Key.TheVariants.{SaveFile, FormatVersion, GameName, NextParams, CurrentParams, Seed, Desc, PrivateDesc, AuxInfo, Ui, Time, StateCount, Position, State}
 use Rattle.play_save.specs.Records.{Entry, BeginsWith, record_at}
 use Rattle.play_save.specs.KeyedRecords.{KeyedRecord, values_of, states_in, StandsOnce, once_if_kept, is_state, CountsStandFirst, may_be_last, EndsWithState}
-use Rattle.play_save.specs.SaveTexts.{SavedGame, collection, longest_save, AreSaved, SaveText}
-use Rattle.play_save.specs.FirstFaults.{Met, saved_params_at, count_at, first_of, met, fault_unless, state_fault, fault_by, is_complete, records_of, unless, needed, states_played, needed_params, needed_count, extras_in, session_with, session_at, session_of, head_or_fault, behind_head, met_in, load_at}
+use Rattle.play_save.specs.SaveTexts.{SavedGame, collection, format_record, longest_save, AreSaved, SaveText}
+use Rattle.play_save.specs.FirstFaults.{Met, saved_params_at, count_at, first_of, met, fault_unless, state_fault, fault_by, is_complete, records_of, unless, needed, states_played, needed_params, needed_count, extras_in, session_of, head_or_fault, behind_head, met_in, load_at}
 use Rattle.play_save.specs.Taking.{added}
-use Rattle.play_save.proofs.OptionSteps.{map_taken, ok_or_taken}
+use Rattle.play_save.proofs.OptionSteps.{map_taken, ok_or_taken, result_taken, ok_else, ok_where}
 use Rattle.play_save.proofs.RecordLaws.{record_taken}
-use Rattle.play_save.proofs.LineLists.{values_of-append, first_some, is_some_taken}
+use Rattle.play_save.proofs.RecordLists.{stands_on, first_some, is_some_taken}
 use Rattle.play_save.proofs.Meeting.{is_once, once_taken, met_added}
 use Rattle.play_save.proofs.RightLists.{AreRight, needed_taken, records_taken, none_again, StandsAlone, stands_at}
 use Rattle.play_save.proofs.Counting.{count_taken, fault_unless_taken, counts_met, counted, right_whole, sound_start}
 use Rattle.play_save.proofs.GameTexts.{IsGame}
-use Rattle.play_save.proofs.StatesPlayed.{ok_taken, IsDescribed, states_taken, have_length}
+use Rattle.play_save.proofs.StatesPlayed.{IsDescribed, states_taken, have_length}
 
 -- a key that stands, stands alone
-alone_at : {P : Type 0} (game : SavedGame P) (ls : List KeyedRecord) (k : Key) (value : List ℕ) → is_once k ≡ true → is_state k ≡ false → AreRight game [] ls → first_of (values_of k ls) ≡ Some value → StandsAlone game k value ls []
-alone_at game ls k value single header right is =
-    let some = first_some (values_of k ls) value is in
-    stands_at game [] ls k value some.0 single header right some.1
+alone_at : {P : Type 0} (game : SavedGame P) (rs : List KeyedRecord) (k : Key) (value : List ℕ)
+    → is_once k ≡ true → is_state k ≡ false → AreRight game [] rs → first_of (values_of k rs) ≡ Some value
+    → StandsAlone game k value rs []
+alone_at game rs k value single header right is =
+    let some = first_some (values_of k rs) value is in
+    stands_at game [] rs k value some.0 single header right some.1
 
 -- kept bytes stand once or never
-kept_once : {P : Type 0} (game : SavedGame P) (ls : List KeyedRecord) (k : Key) → is_once k ≡ true → is_state k ≡ false → AreRight game [] ls → values_of k ls ≡ once_if_kept (first_of (values_of k ls))
-kept_once game ls k single header right = by_values (values_of k ls) refl
+kept_once : {P : Type 0} (game : SavedGame P) (rs : List KeyedRecord) (k : Key)
+    → is_once k ≡ true → is_state k ≡ false → AreRight game [] rs
+    → values_of k rs ≡ once_if_kept (first_of (values_of k rs))
+kept_once game rs k single header right = by_values (values_of k rs) refl
   where
-    by_values : (values : List (List ℕ)) → values_of k ls ≡ values → values ≡ once_if_kept (first_of values)
+    by_values : (values : List (List ℕ)) → values_of k rs ≡ values → values ≡ once_if_kept (first_of values)
     by_values [] is = refl
-    by_values (v ∷ vs) is = sym is ∙ (stands_at game [] ls k v vs single header right is).alone
+    by_values (v ∷ vs) is = sym is ∙ (stands_at game [] rs k v vs single header right is).alone
 
 -- a key whose record is always refused never stands
-never : {P : Type 0} (game : SavedGame P) (ls : List KeyedRecord) (k : Key) (fault : LoadFault) → is_once k ≡ true → is_state k ≡ false → ((m : Met) (value : List ℕ) → fault_by game m k value ≡ Some fault) → AreRight game [] ls → values_of k ls ≡ []
-never game ls k fault single header refused right = by_values (values_of k ls) refl
+never : {P : Type 0} (game : SavedGame P) (rs : List KeyedRecord) (k : Key) (fault : LoadFault)
+    → is_once k ≡ true → is_state k ≡ false → ((m : Met) (value : List ℕ) → fault_by game m k value ≡ Some fault)
+    → AreRight game [] rs → values_of k rs ≡ []
+never game rs k fault single header refused right = by_values (values_of k rs) refl
   where
-    by_values : (values : List (List ℕ)) → values_of k ls ≡ values → values ≡ []
+    by_values : (values : List (List ℕ)) → values_of k rs ≡ values → values ≡ []
     by_values [] is = refl
     by_values (v ∷ vs) is =
-        let at = stands_at game [] ls k v vs single header right is in
+        let at = stands_at game [] rs k v vs single header right is in
         let none = at.faultless in
         let some = refused (met game ([] ++ at.front)) v in
         cc
 
 -- the values that have to stand
-version_is : {P : Type 0} (game : SavedGame P) (ls : List KeyedRecord) → AreRight game [] ls → is_some (first_of (values_of FormatVersion ls)) ≡ true → values_of FormatVersion ls ≡ codes "1" ∷ []
-version_is game ls right some =
-    let first = is_some_taken (first_of (values_of FormatVersion ls)) some in
-    let at = alone_at game ls FormatVersion first.0 refl refl right first.1 in
+version_is : {P : Type 0} (game : SavedGame P) (rs : List KeyedRecord)
+    → AreRight game [] rs → is_some (first_of (values_of FormatVersion rs)) ≡ true
+    → values_of FormatVersion rs ≡ codes "1" ∷ []
+version_is game rs right some =
+    let first = is_some_taken (first_of (values_of FormatVersion rs)) some in
+    let at = alone_at game rs FormatVersion first.0 refl refl right first.1 in
     let good = once_taken _ (fault_unless (bytes_eq first.0 (codes "1")) Version) at.faultless in
     let same = (bytes_eq-Decides first.0 (codes "1")).0 (fault_unless_taken _ Version good.1) in
     at.alone ∙ ap (λ v. v ∷ []) same
 
-name_is : {P : Type 0} (game : SavedGame P) (ls : List KeyedRecord) → AreRight game [] ls → is_some (first_of (values_of GameName ls)) ≡ true → values_of GameName ls ≡ game.title ∷ []
-name_is game ls right some =
-    let first = is_some_taken (first_of (values_of GameName ls)) some in
-    let at = alone_at game ls GameName first.0 refl refl right first.1 in
+name_is : {P : Type 0} (game : SavedGame P) (rs : List KeyedRecord)
+    → AreRight game [] rs → is_some (first_of (values_of GameName rs)) ≡ true → values_of GameName rs ≡ game.title ∷ []
+name_is game rs right some =
+    let first = is_some_taken (first_of (values_of GameName rs)) some in
+    let at = alone_at game rs GameName first.0 refl refl right first.1 in
     let good = once_taken _ (fault_unless (bytes_eq first.0 game.title) WrongGame) at.faultless in
     let same = (bytes_eq-Decides first.0 game.title).0 (fault_unless_taken _ WrongGame good.1) in
     at.alone ∙ ap (λ v. v ∷ []) same
@@ -80,101 +88,79 @@ needed_params_taken None p is = cc
 needed_params_taken (Some (Ok q)) p is = cc
 needed_params_taken (Some (Err e)) p is = cc
 
-params_are : {P : Type 0} (game : SavedGame P) (ls : List KeyedRecord) (k : Key) (p : Params) → is_once k ≡ true → is_state k ≡ false → AreRight game [] ls → needed_params (option_map (saved_params_at game) (first_of (values_of k ls))) ≡ Ok p → StandsOnce k (IsParamText game.letters p) ls
-params_are game ls k p single header right is =
-    let read = map_taken (saved_params_at game) (first_of (values_of k ls)) (Ok p) (needed_params_taken _ p is) in
-    let at = alone_at game ls k read.0 single header right read.1 in
+params_are : {P : Type 0} (game : SavedGame P) (rs : List KeyedRecord) (k : Key) (p : Params)
+    → is_once k ≡ true → is_state k ≡ false → AreRight game [] rs
+    → needed_params (option_map (saved_params_at game) (first_of (values_of k rs))) ≡ Ok p
+    → StandsOnce k (IsParamText game.letters p) rs
+params_are game rs k p single header right is =
+    let read = map_taken (saved_params_at game) (first_of (values_of k rs)) (Ok p) (needed_params_taken _ p is) in
+    let at = alone_at game rs k read.0 single header right read.1 in
     (read.0, at.alone, params_taken game.letters (has_adjacent game.title) read.0 p read.2)
 
 -- the counts
-count_stands : {P : Type 0} (game : SavedGame P) (ls : List KeyedRecord) (k : Key) (n : ℕ) → is_once k ≡ true → is_state k ≡ false → AreRight game [] ls → option_map count_at (first_of (values_of k ls)) ≡ Some (Some n) → values_of k ls ≡ decimal n ∷ []
-count_stands game ls k n single header right is =
-    let read = map_taken count_at (first_of (values_of k ls)) (Some n) is in
-    let at = alone_at game ls k read.0 single header right read.1 in
+count_stands : {P : Type 0} (game : SavedGame P) (rs : List KeyedRecord) (k : Key) (n : ℕ)
+    → is_once k ≡ true → is_state k ≡ false → AreRight game [] rs
+    → option_map count_at (first_of (values_of k rs)) ≡ Some (Some n) → values_of k rs ≡ decimal n ∷ []
+count_stands game rs k n single header right is =
+    let read = map_taken count_at (first_of (values_of k rs)) (Some n) is in
+    let at = alone_at game rs k read.0 single header right read.1 in
     at.alone ∙ ap (λ v. v ∷ []) (count_taken read.0 n read.2).0
 
 -- no count follows a state record
 abbrev BothBefore : List KeyedRecord → Type 0
 BothBefore before = (0 < length (values_of StateCount before)) × (0 < length (values_of Position before))
 
-some_values : {A : Type 0} (f : List ℕ → A) (values : List (List ℕ)) (x : A) → option_map f (first_of values) ≡ Some x → 0 < length values
+some_values : {A : Type 0} (f : List ℕ → A) (values : List (List ℕ)) (x : A)
+    → option_map f (first_of values) ≡ Some x → 0 < length values
 some_values f [] x is = cc
 some_values f (v ∷ vs) x is = omega arith
 
-state_behind_counts : {P : Type 0} (game : SavedGame P) (before : List KeyedRecord) (k : Key) (value : List ℕ) → is_state k ≡ true → fault_by game (met game before) k value ≡ None → BothBefore before
+state_behind_counts : {P : Type 0} (game : SavedGame P) (before : List KeyedRecord) (k : Key) (value : List ℕ)
+    → is_state k ≡ true → fault_by game (met game before) k value ≡ None → BothBefore before
 state_behind_counts game before (State k) value state none =
     let m = met game before in
     let both = counts_met m.count m.position m (state_fault k value) refl refl none in
-    (some_values count_at (values_of StateCount before) both.0 both.2, some_values count_at (values_of Position before) both.1 both.3)
-state_behind_counts game before SaveFile value state none = cc
-state_behind_counts game before FormatVersion value state none = cc
-state_behind_counts game before GameName value state none = cc
-state_behind_counts game before NextParams value state none = cc
-state_behind_counts game before CurrentParams value state none = cc
-state_behind_counts game before Seed value state none = cc
-state_behind_counts game before Desc value state none = cc
-state_behind_counts game before PrivateDesc value state none = cc
-state_behind_counts game before AuxInfo value state none = cc
-state_behind_counts game before Ui value state none = cc
-state_behind_counts game before Time value state none = cc
-state_behind_counts game before StateCount value state none = cc
-state_behind_counts game before Position value state none = cc
-state_behind_counts game before Other value state none = cc
+    let count = some_values count_at (values_of StateCount before) both.0 both.2 in
+    (count, some_values count_at (values_of Position before) both.1 both.3)
+state_behind_counts game before k value state none = cc
 
-longer_values : (k : Key) (before : List KeyedRecord) (l : KeyedRecord) → 0 < length (values_of k before) → 0 < length (values_of k (before ++ l ∷ []))
-longer_values k before l some = rw (values_of-append k before (l ∷ [])) (longer (values_of k before) (values_of k (l ∷ [])) some)
-  where
-    longer : (xs ys : List (List ℕ)) → 0 < length xs → 0 < length (xs ++ ys)
-    longer [] ys more = absurd (omega arith)
-    longer (x ∷ xs) ys more = omega arith
-
-right_counts_first : {P : Type 0} (game : SavedGame P) (before ls : List KeyedRecord) → AreRight game before ls → CountsStandFirst ls
+right_counts_first : {P : Type 0} (game : SavedGame P) (before rs : List KeyedRecord)
+    → AreRight game before rs → CountsStandFirst rs
 right_counts_first game before [] right = tt
-right_counts_first game before (l ∷ ls) right = (
+right_counts_first game before (r ∷ rs) right = (
   λ state.
-      let both = state_behind_counts game before l.key l.value state right.1 in (
-        none_again game (before ++ l ∷ []) ls StateCount refl refl (longer_values StateCount before l both.0) right.2,
-        none_again game (before ++ l ∷ []) ls Position refl refl (longer_values Position before l both.1) right.2,
+      let both = state_behind_counts game before r.key r.value state right.1 in (
+        none_again game (before ++ r ∷ []) rs StateCount refl refl (stands_on StateCount before r both.0) right.2,
+        none_again game (before ++ r ∷ []) rs Position refl refl (stands_on Position before r both.1) right.2,
       ),
-  right_counts_first game (before ++ l ∷ []) ls right.2,
+  right_counts_first game (before ++ r ∷ []) rs right.2,
 )
 
 -- the last record is one that completes
-completes : {P : Type 0} (game : SavedGame P) (m : Met) (k : Key) (value : List ℕ) → is_complete m ≡ false → is_complete (added game m k value) ≡ true → may_be_last k ≡ true
-completes game m SaveFile value undone done = cc
-completes game m FormatVersion value undone done = cc
-completes game m GameName value undone done = cc
-completes game m NextParams value undone done = cc
-completes game m CurrentParams value undone done = cc
-completes game m Seed value undone done = cc
-completes game m Desc value undone done = cc
-completes game m PrivateDesc value undone done = cc
-completes game m AuxInfo value undone done = cc
-completes game m Ui value undone done = cc
-completes game m Time value undone done = cc
+completes : {P : Type 0} (game : SavedGame P) (m : Met) (k : Key) (value : List ℕ)
+    → is_complete m ≡ false → is_complete (added game m k value) ≡ true → may_be_last k ≡ true
 completes game m StateCount value undone done = refl
 completes game m Position value undone done = refl
 completes game m (State k) value undone done = refl
-completes game m Other value undone done = cc
+completes game m k value undone done = cc
 
-right_ends : {P : Type 0} (game : SavedGame P) (before : List KeyedRecord) (l : KeyedRecord) (ls : List KeyedRecord) → AreRight game before (l ∷ ls) → EndsWithState (l ∷ ls)
-right_ends game before l [] right =
-    let done : is_complete (added game (met game before) l.key l.value) ≡ true = ap is_complete (sym (met_added game before l.key l.value right.1)) ∙ right.2 in
-    completes game (met game before) l.key l.value right.0 done
-right_ends game before l (k ∷ ls) right = right_ends game (before ++ l ∷ []) k ls right.2
+right_ends : {P : Type 0} (game : SavedGame P) (before : List KeyedRecord) (r : KeyedRecord) (rs : List KeyedRecord)
+    → AreRight game before (r ∷ rs) → EndsWithState (r ∷ rs)
+right_ends game before r [] right =
+    let done : is_complete (added game (met game before) r.key r.value) ≡ true =
+    ap is_complete (sym (met_added game before r.key r.value right.1)) ∙ right.2 in
+    completes game (met game before) r.key r.value right.0 done
+right_ends game before r (k ∷ rs) right = right_ends game (before ++ r ∷ []) k rs right.2
 
-ends_with_state : {P : Type 0} (game : SavedGame P) (ls : List KeyedRecord) → AreRight game [] ls → EndsWithState ls
+ends_with_state : {P : Type 0} (game : SavedGame P) (rs : List KeyedRecord) → AreRight game [] rs → EndsWithState rs
 ends_with_state game [] right = cc
-ends_with_state game (l ∷ ls) right = right_ends game [] l ls right
+ends_with_state game (r ∷ rs) right = right_ends game [] r rs right
 
 -- the session of the records
-unless_taken : {A : Type 0} (fault : Option LoadFault) (r : Result A LoadFault) (a : A) → unless fault r ≡ Ok a → (fault ≡ None) × (r ≡ Ok a)
+unless_taken : {A : Type 0} (fault : Option LoadFault) (r : Result A LoadFault) (a : A)
+    → unless fault r ≡ Ok a → (fault ≡ None) × (r ≡ Ok a)
 unless_taken None r a is = (refl, is)
 unless_taken (Some fault) r a is = cc
-
-and_taken : (a b : Bool) → (a && b) ≡ true → (a ≡ true) × (b ≡ true)
-and_taken true b is = (refl, is)
-and_taken false b is = cc
 
 needed_count_taken : (o : Option (Option ℕ)) (n : ℕ) → needed_count o ≡ Ok n → o ≡ Some (Some n)
 needed_count_taken None n is = cc
@@ -203,13 +189,13 @@ parts_taken : {P : Type 0} (game : SavedGame P) (m : Met) (h : History P) → se
 unfolding session_of
 parts_taken {P} game m h is =
     let both = unless_taken (fault_unless (m.version && m.name) Missing) _ h is in
-    let names = and_taken m.version m.name (fault_unless_taken (m.version && m.name) Missing both.0) in
-    let next = bind_taken (needed_params m.next_params) (λ next_params. needed_params m.params >>= λ params. ok_or m.desc Missing >>= λ desc. needed_count m.position >>= λ position. session_at game m params next_params desc position) h both.1 in
-    let now = bind_taken (needed_params m.params) (λ params. ok_or m.desc Missing >>= λ desc. needed_count m.position >>= λ position. session_at game m params next.0 desc position) h next.2 in
-    let desc = bind_taken (ok_or m.desc Missing) (λ desc. needed_count m.position >>= λ position. session_at game m now.0 next.0 desc position) h now.2 in
-    let place = bind_taken (needed_count m.position) (λ position. session_at game m now.0 next.0 desc.0 position) h desc.2 in
-    let puzzle = bind_taken (ok_or (result_ok (game.desc_at now.0.size desc.0)) BadDesc) (λ puzzle. session_with game m now.0 next.0 place.0 puzzle) h place.2 in
-    let last = bind_taken (states_played game (started puzzle.0 now.0 next.0 (extras_in m)) 1 m.states) (λ last. let r : Result (History P) LoadFault = Ok (at_position last place.0) in r) h puzzle.2 in
+    let names = and_parts m.version m.name (fault_unless_taken (m.version && m.name) Missing both.0) in
+    let next = bind_taken (needed_params m.next_params) _ h both.1 in
+    let now = bind_taken (needed_params m.params) _ h next.2 in
+    let desc = bind_taken (ok_or m.desc Missing) _ h now.2 in
+    let place = bind_taken (needed_count m.position) _ h desc.2 in
+    let puzzle = bind_taken (ok_or (result_ok (game.desc_at now.0.size desc.0)) BadDesc) _ h place.2 in
+    let last = bind_taken (states_played game (started puzzle.0 now.0 next.0 (extras_in m)) 1 m.states) _ h puzzle.2 in
     record {
       version = names.0;
       name = names.1;
@@ -222,25 +208,24 @@ parts_taken {P} game m h is =
       position = place.0;
       position_is = needed_count_taken m.position place.0 place.1;
       puzzle = puzzle.0;
-      described = ok_taken (game.desc_at now.0.size desc.0) puzzle.0 (ok_or_taken (result_ok (game.desc_at now.0.size desc.0)) BadDesc puzzle.0 puzzle.1);
+      described = result_taken (game.desc_at now.0.size desc.0) BadDesc puzzle.0 puzzle.1;
       last = last.0;
       played_is = last.1;
-      whole = same_ok (at_position last.0 place.0) h last.2;
+      whole = cc last.2;
     }
-  where
-    same_ok : (a b : History P) → (let r : Result (History P) LoadFault = Ok a in r) ≡ Ok b → a ≡ b
-    same_ok a b e = cc
 
-pub saved_taken : {P : Type 0} (game : SavedGame P) (ls : List KeyedRecord) (h : History P) → IsGame game → AreRight game [] ls → session_of game (met game ls) ≡ Ok h → AreSaved game h ls
-saved_taken {P} game ls h owes right is =
-    let m = met game ls in
+pub saved_taken : {P : Type 0} (game : SavedGame P) (rs : List KeyedRecord) (h : History P)
+    → IsGame game → AreRight game [] rs → session_of game (met game rs) ≡ Ok h → AreSaved game h rs
+saved_taken {P} game rs h owes right is =
+    let m = met game rs in
     let parts = parts_taken game m h is in
-    let whole = right_whole game [] ls (sound_start game) right in
+    let whole = right_whole game [] rs (sound_start game) right in
     let counts = counted m whole in
-    let next = params_are game ls NextParams parts.next_params refl refl right parts.next_read in
-    let now = params_are game ls CurrentParams parts.params refl refl right parts.read in
-    let desc_at = alone_at game ls Desc parts.desc refl refl right parts.desc_is in
-    let described = owes.reads.taken parts.params.size parts.desc parts.puzzle now.2.params.smallest now.2.params.largest parts.described in
+    let next = params_are game rs NextParams parts.next_params refl refl right parts.next_read in
+    let now = params_are game rs CurrentParams parts.params refl refl right parts.read in
+    let desc_at = alone_at game rs Desc parts.desc refl refl right parts.desc_is in
+    let described =
+    owes.reads.taken parts.params.size parts.desc parts.puzzle now.2.params.smallest now.2.params.largest parts.described in
     let size = owes.sized parts.params.size parts.puzzle parts.desc described in
     let own : IsDescribed game parts.puzzle = record {
       text = parts.desc;
@@ -250,28 +235,31 @@ saved_taken {P} game ls h owes right is =
     } in
     let start = started parts.puzzle parts.params parts.next_params (extras_in m) in
     let played = states_taken game start parts.last 1 m.states owes own parts.played_is in
-    let legal = accepted_list_legal (game.puzzle parts.puzzle) parts.puzzle parts.params parts.next_params (extras_in m) played.moves parts.last played.played_is in
-    let long = have_length game parts.puzzle played.moves (states_in ls) played.have in
-    let count : values_of StateCount ls ≡ decimal (length played.moves + 1) ∷ [] =
-    count_stands game ls StateCount counts.n refl refl right counts.count_is ∙ ap (λ n. decimal n ∷ []) (omega (arith, counts.states, long)) in
+    let legal =
+    accepted_list_legal (game.puzzle parts.puzzle) parts.puzzle parts.params parts.next_params (extras_in m)
+    played.moves parts.last played.played_is in
+    let long = have_length game parts.puzzle played.moves (states_in rs) played.have in
+    let count : values_of StateCount rs ≡ decimal (length played.moves + 1) ∷ [] =
+    count_stands game rs StateCount counts.n refl refl right counts.count_is
+    ∙ ap (λ n. decimal n ∷ []) (omega (arith, counts.states, long)) in
     let here : counts.p ≡ parts.position = (let a = counts.position_is in let b = parts.position_is in cc) in
-    let made : AreSaved game (at_position (with_moves start played.moves) parts.position) ls = record {
-      no_second_head = never game ls SaveFile Repeated refl refl (λ n v. refl) right;
-      version = version_is game ls right parts.version;
-      name = name_is game ls right parts.name;
+    let made : AreSaved game (at_position (with_moves start played.moves) parts.position) rs = record {
+      no_second_head = never game rs SaveFile Repeated refl refl (λ n v. refl) right;
+      version = version_is game rs right parts.version;
+      name = name_is game rs right parts.name;
       next_params = next;
       params = now;
       desc = (parts.desc, desc_at.alone, described);
-      no_private_desc = never game ls PrivateDesc Unsupported refl refl (λ n v. refl) right;
-      seed = kept_once game ls Seed refl refl right;
-      auxinfo = kept_once game ls AuxInfo refl refl right;
-      ui = kept_once game ls Ui refl refl right;
-      time = kept_once game ls Time refl refl right;
+      no_private_desc = never game rs PrivateDesc Unsupported refl refl (λ n v. refl) right;
+      seed = kept_once game rs Seed refl refl right;
+      auxinfo = kept_once game rs AuxInfo refl refl right;
+      ui = kept_once game rs Ui refl refl right;
+      time = kept_once game rs Time refl refl right;
       count = count;
-      position = count_stands game ls Position parts.position refl refl right parts.position_is;
+      position = count_stands game rs Position parts.position refl refl right parts.position_is;
       states = played.have;
-      counts_first = right_counts_first game [] ls right;
-      last = ends_with_state game ls right;
+      counts_first = right_counts_first game [] rs right;
+      last = ends_with_state game rs right;
       valid = record {
         size = sym size;
         legal = legal.0;
@@ -280,48 +268,44 @@ saved_taken {P} game ls h owes right is =
         last = omega (arith, here, counts.inside, counts.states, long);
       };
     } in
-    subst (λ (x : History P). AreSaved game x ls) (ap (λ (x : History P). at_position x parts.position) (sym legal.2) ∙ parts.whole) made
+    let whole = ap (λ (x : History P). at_position x parts.position) (sym legal.2) ∙ parts.whole in
+    subst (λ (x : History P). AreSaved game x rs) whole made
 
 -- the first record
-head_taken : (e : Entry) (after rest : List ℕ) → head_or_fault e after ≡ Ok rest → (e ≡ record { key = codes "SAVEFILE"; value = collection }) × (after ≡ rest)
-head_taken e after rest =
-    elim (bytes_eq e.key (codes "SAVEFILE") && bytes_eq e.value collection) as (λ t. (bytes_eq e.key (codes "SAVEFILE") && bytes_eq e.value collection) ≡ t → cond t (Ok after) (Err NotASave) ≡ Ok rest → (e ≡ record { key = codes "SAVEFILE"; value = collection }) × (after ≡ rest)) [
-      | true ↦ λ same is.
-          let both = and_taken (bytes_eq e.key (codes "SAVEFILE")) (bytes_eq e.value collection) same in
-          let key = (bytes_eq-Decides e.key (codes "SAVEFILE")).0 both.0 in
-          let value = (bytes_eq-Decides e.value collection).0 both.1 in
-          (ap (λ (k : List ℕ). let x : Entry = record { key = k; value = e.value } in x) key ∙ ap (λ (v : List ℕ). let x : Entry = record { key = codes "SAVEFILE"; value = v } in x) value, cc)
-      | false ↦ λ same is. cc
-    ] refl
+head_taken : (e : Entry) (after rest : List ℕ) → head_or_fault e after ≡ Ok rest → (e ≡ format_record) × (after ≡ rest)
+head_taken e after rest is =
+    let named = ok_where (bytes_eq e.key (codes "SAVEFILE") && bytes_eq e.value collection) after NotASave rest is in
+    let both = and_parts (bytes_eq e.key (codes "SAVEFILE")) (bytes_eq e.value collection) named.0 in
+    let key = (bytes_eq-Decides e.key (codes "SAVEFILE")).0 both.0 in
+    let value = (bytes_eq-Decides e.value collection).0 both.1 in
+    let own : Entry = record e { key = e.key } in
+    let same : own ≡ format_record = cc in
+    (same, named.1)
 
-behind_head_taken : (text rest : List ℕ) (read : Result (Option (Entry × List ℕ)) LoadFault) → record_at text ≡ read → behind_head read ≡ Ok rest → BeginsWith (record { key = codes "SAVEFILE"; value = collection }) rest text
+behind_head_taken : (text rest : List ℕ) (read : Result (Option (Entry × List ℕ)) LoadFault)
+    → record_at text ≡ read → behind_head read ≡ Ok rest → BeginsWith format_record rest text
 behind_head_taken text rest (Ok (Some parts)) read is =
     let head = head_taken parts.0 parts.1 rest is in
-    subst (λ (p : Entry × List ℕ). BeginsWith p.0 p.1 text) (ap (λ (e : Entry). (e, parts.1)) head.0 ∙ ap (λ (r : List ℕ). let p : Entry × List ℕ = (record { key = codes "SAVEFILE"; value = collection }, r) in p) head.1) (record_taken text parts.0 parts.1 read)
-behind_head_taken text rest (Ok None) read is = cc
-behind_head_taken text rest (Err fault) read is = cc
+    rw (head.0, head.1) at (record_taken text parts.0 parts.1 read)
+behind_head_taken text rest other read is = cc
 
 -- the whole text
-pub load_taken : {P : Type 0} (game : SavedGame P) (text : List ℕ) (h : History P) → IsGame game → load_at game text ≡ Ok h → SaveText game h text
+pub load_taken : {P : Type 0} (game : SavedGame P) (text : List ℕ) (h : History P)
+    → IsGame game → load_at game text ≡ Ok h → SaveText game h text
 unfolding load_at
-load_taken {P} game text h owes =
-    elim (nat_lt longest_save (length text)) as (λ t. nat_lt longest_save (length text) ≡ t → cond t (Err TooLarge) (behind_head (record_at text) >>= λ rest. met_in game (records_of rest) >>= λ m. session_of game m) ≡ Ok h → SaveText game h text) [
-      | true ↦ λ large is. cc
-      | false ↦ λ large is.
-          let head = bind_taken (behind_head (record_at text)) (λ rest. met_in game (records_of rest) >>= λ m. session_of game m) h is in
-          let some = bind_taken (met_in game (records_of head.0)) (λ m. session_of game m) h head.2 in
-          let all = bind_taken (needed game [] (records_of head.0)) (λ ls. let r : Result Met LoadFault = Ok (met game ls) in r) some.0 some.1 in
-          let need = needed_taken game [] (records_of head.0) all.0 all.1 in
-          let same : met game need.more ≡ some.0 = ap (met game) (sym need.all_is) ∙ same_ok (met game all.0) some.0 all.2 in
-          record {
-            small = ltb-false longest_save (length text) large;
-            behind_head = head.0;
-            head = behind_head_taken text head.0 (record_at text) refl head.1;
-            records = need.more;
-            begins = records_taken need.more head.0 need.follow;
-            saved = saved_taken game need.more h owes need.right (ap (session_of game) same ∙ some.2);
-          }
-    ] refl
-  where
-    same_ok : (a b : Met) → (let r : Result Met LoadFault = Ok a in r) ≡ Ok b → a ≡ b
-    same_ok a b e = cc
+load_taken {P} game text h owes is =
+    let fits = ok_else (nat_lt longest_save (length text)) TooLarge _ h is in
+    let head = bind_taken (behind_head (record_at text)) _ h fits.1 in
+    let some = bind_taken (met_in game (records_of head.0)) _ h head.2 in
+    let all = bind_taken (needed game [] (records_of head.0)) _ some.0 some.1 in
+    let need = needed_taken game [] (records_of head.0) all.0 all.1 in
+    let met_is : met game all.0 ≡ some.0 = cc all.2 in
+    let same : met game need.more ≡ some.0 = ap (met game) (sym need.all_is) ∙ met_is in
+    record {
+      small = ltb-false longest_save (length text) fits.0;
+      behind_head = head.0;
+      head = behind_head_taken text head.0 (record_at text) refl head.1;
+      records = need.more;
+      begins = records_taken need.more head.0 need.follow;
+      saved = saved_taken game need.more h owes need.right (ap (session_of game) same ∙ some.2);
+    }

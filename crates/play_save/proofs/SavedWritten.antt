@@ -1,9 +1,11 @@
 -- What is written of a session is a save of it, and of no other.
-use Rattle.std.proofs.Common.{◌≡◌, ℕ, ◌+◌, ◌≤◌, true, List, [], ◌∷◌, ◌++◌, length, map, codes, Option, Some, None, Result, Ok, Err, IfOk, IfErr, inl, inr, refl, sym, ap, ◌∙◌, subst, arith, length-append, lit≤}
+use Rattle.std.proofs.Common.{◌≡◌, ℕ, ◌+◌, ◌≤◌, true, List, [], ◌∷◌, ◌++◌, length, map, Option, Some, None, Result, Ok, Err, IfOk, IfErr, inl, inr, refl, sym, ap, ◌∙◌, subst, arith, length-append, lit≤}
 use Rattle.std.specs.Fmt.{decimal}
+use Rattle.std.proofs.lemmas.Option.{some_pair_parts}
 use Rattle.std.proofs.lemmas.List.{append-nil, length-map}
 use Rattle.std.proofs.lemmas.List.Elements.{recursion_from_All}
 use Rattle.std.specs.List.{AllByRecursion}
+use Rattle.byte_text.specs.Bytes.{line_feed, digit}
 use Rattle.byte_text.specs.Reading.{GivesUnless}
 use Rattle.latin_board.specs.Squares.{GridValue}
 use Rattle.latin_board.proofs.LatinLines.{latin_full}
@@ -13,56 +15,56 @@ use Rattle.clue_rules.specs.declared.params.Params.{Params}
 use Rattle.clue_rules.specs.Parameters.{IsParams, letter_part, params_text}
 use Rattle.play_midend.specs.declared.extras.Extras.{Extras}
 use Rattle.play_midend.specs.declared.moves.Move.{Move}
-use Rattle.play_midend.specs.declared.moves.Move.TheVariants.{Real, Pencil, MarkAll, Solve, Restart, Done}
+use Rattle.play_midend.specs.declared.moves.Move.TheVariants.{Solve, Restart}
 use Rattle.play_midend.specs.MoveTexts.{move_text, IsMoveText}
 use Rattle.play_midend.specs.Steps.{start_of}
 use Rattle.play_midend.specs.Histories.{History, IsValid, most_states, shown}
 use Rattle.play_save.specs.declared.fault.LoadFault.{LoadFault}
 use Rattle.play_save.specs.declared.fault.LoadFault.TheVariants.{OutOfMemory}
 use Rattle.play_save.specs.declared.key.Key.{Key}
-use Rattle.play_save.specs.declared.key.Key.TheVariants.{SaveFile, NextParams, CurrentParams, Desc, StateCount, Position}
-use Rattle.play_save.specs.Records.{Entry, record_at}
-use Rattle.play_save.specs.KeyedRecords.{KeyedRecord, BeginsWithAll, values_of, states_in, once_if_kept, EndsWithState}
-use Rattle.play_save.specs.SaveTexts.{SavedGame, collection, longest_save, is_solve, IsStateOf, HaveStates, AreSaved, SaveText}
+use Rattle.play_save.specs.declared.key.Key.TheVariants.{SaveFile, FormatVersion, GameName, NextParams, CurrentParams, Seed, Desc, PrivateDesc, AuxInfo, Ui, Time, StateCount, Position}
+use Rattle.play_save.specs.Records.{BeginsWith}
+use Rattle.play_save.specs.KeyedRecords.{KeyedRecord, values_of, states_in, once_if_kept, EndsWithState}
+use Rattle.play_save.specs.SaveTexts.{SavedGame, collection, format_record, longest_save, is_solve, IsStateOf, HaveStates, AreSaved, SaveText}
 use Rattle.play_save.specs.FirstFaults.{count_at}
-use Rattle.play_save.specs.Written.{with_value, record_text, records_text, save_of}
+use Rattle.play_save.specs.Written.{with_value, state_value, record_text, records_text, save_of}
 use Rattle.play_save.specs.Laws.{HasGrid, WrittenIsSaved, WrittenSavesNoOther}
 use Rattle.play_save.proofs.RecordLaws.{record_again}
-use Rattle.play_save.proofs.LineLists.{values_of-append, states_in-append}
+use Rattle.play_save.proofs.RecordLists.{values_of-append, states_in-append}
 use Rattle.play_save.proofs.Counting.{count_again}
-use Rattle.play_save.proofs.GameTexts.{IsGame}
+use Rattle.play_save.proofs.GameTexts.{Owes}
 use Rattle.play_save.proofs.StatesPlayed.{text_again, have_length}
 use Rattle.play_save.proofs.SavedAgain.{has_state_or_count}
-use Rattle.play_save.proofs.WrittenRecords.{entry_written, written_begins, AreToTheEnd, all_written, begins_prefix, all_begin}
-use Rattle.play_save.proofs.WrittenLines.{tail_lines, state_value, values_SaveFile, values_FormatVersion, values_GameName, values_NextParams, values_CurrentParams, values_Desc, values_PrivateDesc, values_StateCount, values_Position, values_Seed, values_AuxInfo, values_Ui, values_Time, states_tail, counts_first_tail, ends_tail, known_tail}
+use Rattle.play_save.proofs.WrittenRecords.{written_begins, AreToTheEnd, all_written, begins_prefix, all_begin}
+use Rattle.play_save.proofs.SessionRecords.{tail_records, values_tail, states_tail, counts_first_tail, ends_tail, known_tail}
 use Rattle.play_save.proofs.LegalMoves.{FitsText, AllFit, all_fit}
 
 -- a state record that is written has its move
-state_again : {P : Type 0} (game : SavedGame P) (p : P) (desc : List ℕ) (m : Move) → game.Describes (game.puzzle p).size p desc → FitsText (game.puzzle p) m → HasGrid m → IsStateOf game p m (state_value desc m).key (state_value desc m).value
-state_again game p desc (Real x y n) described fits grid = record { writable = fits; spelled = refl }
-state_again game p desc (Pencil x y n) described fits grid = record { writable = fits; spelled = refl }
-state_again game p desc MarkAll described fits grid = record { writable = tt; spelled = refl }
+state_again : {P : Type 0} (game : SavedGame P) (p : P) (desc : List ℕ) (m : Move)
+    → game.Describes (game.puzzle p).size p desc → FitsText (game.puzzle p) m → HasGrid m
+    → IsStateOf game p m (state_value desc m).key (state_value desc m).value
 state_again game p desc (Solve g) described fits grid =
     let solves = (Decides-solves_test (game.puzzle p) g grid).0 fits.1 in
     (record { writable = record { grid = grid; full = latin_full g solves.latin }; spelled = refl }, refl)
 state_again game p desc Restart described fits grid = (refl, described)
-state_again game p desc (Done x y) described fits grid = record { writable = fits; spelled = refl }
+state_again game p desc m described fits grid = record { writable = fits; spelled = refl }
 
-states_again : {P : Type 0} (game : SavedGame P) (p : P) (desc : List ℕ) (ms : List Move) → game.Describes (game.puzzle p).size p desc → AllFit (game.puzzle p) ms → AllByRecursion HasGrid ms → HaveStates game p ms (map (state_value desc) ms)
+states_again : {P : Type 0} (game : SavedGame P) (p : P) (desc : List ℕ) (ms : List Move)
+    → game.Describes (game.puzzle p).size p desc → AllFit (game.puzzle p) ms → AllByRecursion HasGrid ms
+    → HaveStates game p ms (map (state_value desc) ms)
 states_again game p desc [] described fits grids = tt
 states_again game p desc (m ∷ ms) described fits grids =
     (state_again game p desc m described fits.0 grids.0, states_again game p desc ms described fits.1 grids.1)
 
 -- the move of a state record that is written is that move
-map_injective : (xs ys : List ℕ) → map (λ n. 48 + n) xs ≡ map (λ n. 48 + n) ys → xs ≡ ys
-map_injective [] [] e = refl
-map_injective [] (y ∷ ys) e = cc
-map_injective (x ∷ xs) [] e = cc
-map_injective (x ∷ xs) (y ∷ ys) e =
-    let head : 48 + x ≡ 48 + y = cc in
-    let rest : map (λ n. 48 + n) xs ≡ map (λ n. 48 + n) ys = cc in
+same_digits : (xs ys : List ℕ) → map digit xs ≡ map digit ys → xs ≡ ys
+same_digits [] [] e = refl
+same_digits (x ∷ xs) (y ∷ ys) e =
+    let head : digit x ≡ digit y = cc in
+    let rest = same_digits xs ys (cc) in
     let same : x ≡ y = omega arith in
-    ap (λ n. n ∷ xs) same ∙ ap (λ ns. y ∷ ns) (map_injective xs ys rest)
+    cc
+same_digits xs ys e = cc
 
 same_text : (t m : Move) → IsMoveText t (move_text m) → IsMoveText m (move_text m) → t ≡ m
 same_text t m one other =
@@ -70,28 +72,26 @@ same_text t m one other =
     let read_other = text_again (move_text m) m other in
     cc
 
-same_solve : (p : Puzzle) (t : Move) (g : GridValue) → FitsText p t → g.size ≡ p.size → IsMoveText t (move_text (Solve g)) → is_solve t ≡ true → t ≡ Solve g
+same_solve : (p : Puzzle) (t : Move) (g : GridValue)
+    → FitsText p t → g.size ≡ p.size → IsMoveText t (move_text (Solve g)) → is_solve t ≡ true → t ≡ Solve g
 same_solve p (Solve f) g fits size is solve =
     let text = is.spelled in
-    let digits : map (λ n. 48 + n) g.numbers ≡ map (λ n. 48 + n) f.numbers = cc in
-    let numbers = map_injective g.numbers f.numbers digits in
+    let numbers = same_digits g.numbers f.numbers (cc) in
     let sizes : f.size ≡ g.size = fits.0 ∙ sym size in
-    ap Solve (ap (λ (n : ℕ). let x : GridValue = record { size = n; numbers = f.numbers } in x) sizes ∙ ap (λ (ns : List ℕ). let x : GridValue = record { size = g.size; numbers = ns } in x) (sym numbers))
-same_solve p (Real x y n) g fits size is solve = cc
-same_solve p (Pencil x y n) g fits size is solve = cc
-same_solve p MarkAll g fits size is solve = cc
-same_solve p Restart g fits size is solve = cc
-same_solve p (Done x y) g fits size is solve = cc
+    let one : GridValue = record { size = f.size; numbers = f.numbers } in
+    let other : GridValue = record { size = g.size; numbers = g.numbers } in
+    let same : one ≡ other = cc in
+    ap Solve same
+same_solve p t g fits size is solve = cc
 
-same_move : {P : Type 0} (game : SavedGame P) (q : P) (desc : List ℕ) (p : Puzzle) (t m : Move) → FitsText p t → FitsText p m → IsStateOf game q t (state_value desc m).key (state_value desc m).value → t ≡ m
-same_move game q desc p t (Real x y n) t_fits fits is = same_text t (Real x y n) is (record { writable = fits; spelled = refl })
-same_move game q desc p t (Pencil x y n) t_fits fits is = same_text t (Pencil x y n) is (record { writable = fits; spelled = refl })
-same_move game q desc p t MarkAll t_fits fits is = same_text t MarkAll is (record { writable = tt; spelled = refl })
+same_move : {P : Type 0} (game : SavedGame P) (q : P) (desc : List ℕ) (p : Puzzle) (t m : Move)
+    → FitsText p t → FitsText p m → IsStateOf game q t (state_value desc m).key (state_value desc m).value → t ≡ m
 same_move game q desc p t (Solve g) t_fits fits is = same_solve p t g t_fits fits.0 is.0 is.1
 same_move game q desc p t Restart t_fits fits is = is.0
-same_move game q desc p t (Done x y) t_fits fits is = same_text t (Done x y) is (record { writable = fits; spelled = refl })
+same_move game q desc p t m t_fits fits is = same_text t m is (record { writable = fits; spelled = refl })
 
-same_moves : {P : Type 0} (game : SavedGame P) (q : P) (desc : List ℕ) (p : Puzzle) (ts ms : List Move) → AllFit p ts → AllFit p ms → HaveStates game q ts (map (state_value desc) ms) → ts ≡ ms
+same_moves : {P : Type 0} (game : SavedGame P) (q : P) (desc : List ℕ) (p : Puzzle) (ts ms : List Move)
+    → AllFit p ts → AllFit p ms → HaveStates game q ts (map (state_value desc) ms) → ts ≡ ms
 same_moves game q desc p [] [] t_fits fits have = refl
 same_moves game q desc p [] (m ∷ ms) t_fits fits have = absurd have
 same_moves game q desc p (t ∷ ts) [] t_fits fits have = absurd have
@@ -102,23 +102,23 @@ same_moves game q desc p (t ∷ ts) (m ∷ ms) t_fits fits have =
 -- parameters by their text
 same_params : (p q : Params) → params_text p ≡ params_text q → p ≡ q
 same_params p q text =
-    let first : 48 + p.size ≡ 48 + q.size = cc in
-    let rest : letter_part p.letter ≡ letter_part q.letter = cc in
+    let first : digit p.size ≡ digit q.size = cc in
     let size : p.size ≡ q.size = omega arith in
-    let letter = by_letter p.letter q.letter rest in
-    ap (λ (n : ℕ). let x : Params = record { size = n; letter = p.letter } in x) size ∙ ap (λ (l : Option ℕ). let x : Params = record { size = q.size; letter = l } in x) letter
+    let letter = by_letter p.letter q.letter (cc) in
+    let one : Params = record { size = p.size; letter = p.letter } in
+    let other : Params = record { size = q.size; letter = q.letter } in
+    let same : one ≡ other = cc in
+    same
   where
     by_letter : (a b : Option ℕ) → letter_part a ≡ letter_part b → a ≡ b
     by_letter None None e = refl
-    by_letter None (Some b) e = cc
-    by_letter (Some a) None e = cc
     by_letter (Some a) (Some b) e = cc
+    by_letter a b e = cc
 
 same_kept : (a b : Option (List ℕ)) → once_if_kept a ≡ once_if_kept b → a ≡ b
 same_kept None None e = refl
-same_kept None (Some b) e = cc
-same_kept (Some a) None e = cc
 same_kept (Some a) (Some b) e = cc
+same_kept a b e = cc
 
 same_count : (m n : ℕ) → 1 ≤ m → m ≤ most_states → 1 ≤ n → n ≤ most_states → decimal m ≡ decimal n → m ≡ n
 same_count m n m_first m_few n_first n_few text =
@@ -127,63 +127,71 @@ same_count m n m_first m_few n_first n_few text =
     let both : count_at (decimal m) ≡ count_at (decimal n) = ap count_at text in
     cc
 
+-- the records that are written behind the first, and their text
+abbrev tail_of : {P : Type 0} → SavedGame P → History P → List KeyedRecord
+tail_of game h = tail_records game.title (game.desc_of h.puzzle) h
+
+abbrev behind_first : {P : Type 0} → SavedGame P → History P → List ℕ
+behind_first game h = line_feed ∷ records_text (tail_of game h)
+
 -- the written text, record by record
-written_text : {P : Type 0} (game : SavedGame P) (h : History P) → save_of game.title game.desc_of h ≡ record_text (with_value SaveFile collection) ++ records_text (tail_lines game.title (game.desc_of h.puzzle) h)
+written_text : {P : Type 0} (game : SavedGame P) (h : History P)
+    → save_of game.title game.desc_of h ≡ record_text (with_value SaveFile collection) ++ records_text (tail_of game h)
 unfolding save_of
 written_text game h = refl
 
 record Read {P : Type 0} (game : SavedGame P) (h : History P) (text : List ℕ) : Type 0 where
-  head : record_at text ≡ Ok (Some (entry_written (with_value SaveFile collection), 10 ∷ records_text (tail_lines game.title (game.desc_of h.puzzle) h)))
-  all : AreToTheEnd (tail_lines game.title (game.desc_of h.puzzle) h) (10 ∷ records_text (tail_lines game.title (game.desc_of h.puzzle) h))
+  head : BeginsWith format_record (behind_first game h) text
+  all : AreToTheEnd (tail_of game h) (behind_first game h)
 
-read_written : {P : Type 0} (game : SavedGame P) (h : History P) → length (save_of game.title game.desc_of h) ≤ longest_save → Read game h (save_of game.title game.desc_of h)
+read_written : {P : Type 0} (game : SavedGame P) (h : History P)
+    → length (save_of game.title game.desc_of h) ≤ longest_save → Read game h (save_of game.title game.desc_of h)
 read_written {P} game h small =
-    let ls = tail_lines game.title (game.desc_of h.puzzle) h in
-    let head = with_value SaveFile collection in
+    let rs = tail_of game h in
+    let first = with_value SaveFile collection in
     let text = written_text game h in
-    let short : length (records_text ls) ≤ longest_save = omega (arith, ap length text, length-append (record_text head) (records_text ls)) in
-    let made : Read game h (record_text head ++ records_text ls) = record {
-      head = record_again (record_text head ++ records_text ls) (entry_written head) (10 ∷ records_text ls) (written_begins head [] (records_text ls) tt refl (lit≤ tt));
-      all = all_written ls (10 ∷ []) (refl, tt) (known_tail game.title (game.desc_of h.puzzle) h) short;
-    } in
-    subst (λ t. Read game h t) (sym text) made
-
-abbrev size_of : {P : Type 0} → SavedGame P → History P → ℕ
-size_of game h = (game.puzzle h.puzzle).size
+    let short : length (records_text rs) ≤ longest_save =
+    omega (arith, ap length text, length-append (record_text first) (records_text rs)) in
+    record {
+      head = rw text (written_begins first [] (records_text rs) tt refl (lit≤ tt));
+      all = all_written rs (line_feed ∷ []) (refl, tt) (known_tail game.title (game.desc_of h.puzzle) h) short;
+    }
 
 -- what is written is a save
-pub written_is_saved : {P : Type 0} (game : SavedGame P) (of_game : P → Type 0) → IsGame game → ((p : P) → of_game p → game.Describes (game.puzzle p).size p (game.desc_of p)) → WrittenIsSaved game of_game
-written_is_saved {P} game of_game owes canonical h storable grids small =
+pub written_is_saved : {P : Type 0} (game : SavedGame P) (of_game : P → Type 0)
+    → Owes game of_game → WrittenIsSaved game of_game
+written_is_saved {P} game of_game owes h storable grids small =
     let title = game.title in
     let desc = game.desc_of h.puzzle in
-    let ls = tail_lines title desc h in
+    let p = game.puzzle h.puzzle in
     let read = read_written game h small in
     let valid = storable.session in
-    let described = canonical h.puzzle storable.puzzle_is in
-    let largest : (game.puzzle h.puzzle).size ≤ 9 = (let top = storable.params_are.largest in omega (arith, valid.size)) in
-    let fits = all_fit (game.puzzle h.puzzle) (start_of (game.puzzle h.puzzle)) h.moves largest valid.legal.playable in
-    let head_begins = written_begins (with_value SaveFile collection) [] (records_text ls) tt refl (lit≤ tt) in
+    let described = owes.own_text h.puzzle storable.puzzle_is in
+    let largest : p.size ≤ 9 = (let top = storable.params_are.largest in omega (arith, valid.size)) in
+    let fits = all_fit p (start_of p) h.moves largest valid.legal.playable in
+    let states = states_again game h.puzzle desc h.moves described fits (recursion_from_All HasGrid h.moves grids) in
+    let stands = values_tail title desc h in
     record {
       small = small;
-      behind_head = 10 ∷ records_text ls;
-      head = rw (written_text game h) head_begins;
-      records = ls;
-      begins = all_begin ls (10 ∷ records_text ls) read.all;
+      behind_head = behind_first game h;
+      head = read.head;
+      records = tail_of game h;
+      begins = all_begin (tail_of game h) (behind_first game h) read.all;
       saved = record {
-        no_second_head = values_SaveFile title desc h;
-        version = values_FormatVersion title desc h;
-        name = values_GameName title desc h;
-        next_params = (params_text h.next_params, values_NextParams title desc h, record { params = storable.next_params_are; text_is = refl });
-        params = (params_text h.params, values_CurrentParams title desc h, record { params = storable.params_are; text_is = refl });
-        desc = (desc, values_Desc title desc h, subst (λ w. game.Describes w h.puzzle desc) (sym valid.size) described);
-        no_private_desc = values_PrivateDesc title desc h;
-        seed = values_Seed title desc h;
-        auxinfo = values_AuxInfo title desc h;
-        ui = values_Ui title desc h;
-        time = values_Time title desc h;
-        count = values_StateCount title desc h;
-        position = values_Position title desc h;
-        states = rw (states_tail title desc h) (states_again game h.puzzle desc h.moves described fits (recursion_from_All HasGrid h.moves grids));
+        no_second_head = stands SaveFile refl;
+        version = stands FormatVersion refl;
+        name = stands GameName refl;
+        next_params = (params_text h.next_params, stands NextParams refl, record { params = storable.next_params_are; text_is = refl });
+        params = (params_text h.params, stands CurrentParams refl, record { params = storable.params_are; text_is = refl });
+        desc = (desc, stands Desc refl, subst (λ w. game.Describes w h.puzzle desc) (sym valid.size) described);
+        no_private_desc = stands PrivateDesc refl;
+        seed = stands Seed refl;
+        auxinfo = stands AuxInfo refl;
+        ui = stands Ui refl;
+        time = stands Time refl;
+        count = stands StateCount refl;
+        position = stands Position refl;
+        states = rw (states_tail title desc h) states;
         counts_first = counts_first_tail title desc h;
         last = ends_tail title desc h;
         valid = valid;
@@ -191,132 +199,145 @@ written_is_saved {P} game of_game owes canonical h storable grids small =
     }
 
 -- the records of any save of it are those that were written
-one_value : (k : Key) (v w : List ℕ) (ls later all : List KeyedRecord) → all ≡ ls ++ later → values_of k all ≡ v ∷ [] → values_of k ls ≡ w ∷ [] → (v ≡ w) × (values_of k later ≡ [])
-one_value k v w ls later all split whole part =
-    let both : v ∷ [] ≡ w ∷ values_of k later = sym whole ∙ (ap (values_of k) split ∙ (values_of-append k ls later ∙ ap (λ vs. vs ++ values_of k later) part)) in
+one_value : (k : Key) (v w : List ℕ) (rs later all : List KeyedRecord)
+    → all ≡ rs ++ later → values_of k all ≡ v ∷ [] → values_of k rs ≡ w ∷ [] → (v ≡ w) × (values_of k later ≡ [])
+one_value k v w rs later all split whole part =
+    let both : v ∷ [] ≡ w ∷ values_of k later =
+    sym whole ∙ (ap (values_of k) split ∙ (values_of-append k rs later ∙ ap (λ vs. vs ++ values_of k later) part)) in
     let rest : values_of k later ≡ [] = cc in
     (cc, rest)
 
-ends_later : (xs : List KeyedRecord) (y : KeyedRecord) (ys : List KeyedRecord) → EndsWithState (xs ++ y ∷ ys) → EndsWithState (y ∷ ys)
+ends_later : (xs : List KeyedRecord) (y : KeyedRecord) (ys : List KeyedRecord)
+    → EndsWithState (xs ++ y ∷ ys) → EndsWithState (y ∷ ys)
 ends_later [] y ys ends = ends
 ends_later (x ∷ []) y ys ends = ends
 ends_later (x ∷ z ∷ xs) y ys ends = ends_later (z ∷ xs) y ys ends
 
 record IsSameSave {P : Type 0} (game : SavedGame P) (h other : History P) : Type 0 where
-  saved : AreSaved game other (tail_lines game.title (game.desc_of h.puzzle) h)
+  saved : AreSaved game other (tail_of game h)
   count : length other.moves ≡ length h.moves
   position : other.position ≡ h.position
 
-same_save : {P : Type 0} (game : SavedGame P) (h other : History P) (ls later : List KeyedRecord) → IsValid (game.puzzle h.puzzle) h → tail_lines game.title (game.desc_of h.puzzle) h ≡ ls ++ later → AreSaved game other ls → IsSameSave game h other
-same_save {P} game h other ls later valid split saved =
+same_save : {P : Type 0} (game : SavedGame P) (h other : History P) (rs later : List KeyedRecord)
+    → IsValid (game.puzzle h.puzzle) h → tail_of game h ≡ rs ++ later → AreSaved game other rs → IsSameSave game h other
+same_save {P} game h other rs later valid split saved =
     let title = game.title in
     let desc = game.desc_of h.puzzle in
-    let all = tail_lines title desc h in
+    let stands = values_tail title desc h in
     let few = valid.few in
     let first = valid.first in
     let last = valid.last in
     let other_few = saved.valid.few in
     let other_first = saved.valid.first in
     let other_last = saved.valid.last in
-    let count = one_value StateCount (decimal (length h.moves + 1)) (decimal (length other.moves + 1)) ls later all split (values_StateCount title desc h) saved.count in
-    let place = one_value Position (decimal h.position) (decimal other.position) ls later all split (values_Position title desc h) saved.position in
-    let counts : length h.moves + 1 ≡ length other.moves + 1 = same_count (length h.moves + 1) (length other.moves + 1) (omega arith) few (omega arith) other_few count.0 in
-    let places : h.position ≡ other.position = same_count h.position other.position first (omega arith) other_first (omega arith) place.0 in
+    let count = one_value StateCount _ _ rs later (tail_of game h) split (stands StateCount refl) saved.count in
+    let place = one_value Position _ _ rs later (tail_of game h) split (stands Position refl) saved.position in
+    let counts : length h.moves + 1 ≡ length other.moves + 1 =
+    same_count (length h.moves + 1) (length other.moves + 1) (omega arith) few (omega arith) other_few count.0 in
+    let places : h.position ≡ other.position =
+    same_count h.position other.position first (omega arith) other_first (omega arith) place.0 in
     let written = length-map h.moves (state_value desc) in
-    let sum : length (states_in all) ≡ length (states_in ls) + length (states_in later) = ap length (ap states_in split ∙ states_in-append ls later) ∙ length-append (states_in ls) (states_in later) in
-    let own = have_length game other.puzzle other.moves (states_in ls) saved.states in
+    let sum : length (states_in (tail_of game h)) ≡ length (states_in rs) + length (states_in later) =
+    ap length (ap states_in split ∙ states_in-append rs later) ∙ length-append (states_in rs) (states_in later) in
+    let own = have_length game other.puzzle other.moves (states_in rs) saved.states in
     let whole = ap length (states_tail title desc h) in
     let none : length (states_in later) ≡ 0 = omega arith in
     let empty : later ≡ [] = no_more later split count.1 place.1 none in
-    let same : ls ≡ all = sym (append-nil ls) ∙ (ap (λ xs. ls ++ xs) (sym empty) ∙ sym split) in
+    let same : rs ≡ tail_of game h = sym (append-nil rs) ∙ (ap (λ xs. rs ++ xs) (sym empty) ∙ sym split) in
     record { saved = subst (λ xs. AreSaved game other xs) same saved; count = omega arith; position = sym places }
   where
-    no_more : (xs : List KeyedRecord) → tail_lines game.title (game.desc_of h.puzzle) h ≡ ls ++ xs → values_of StateCount xs ≡ [] → values_of Position xs ≡ [] → length (states_in xs) ≡ 0 → xs ≡ []
+    no_more : (xs : List KeyedRecord)
+        → tail_of game h ≡ rs ++ xs → values_of StateCount xs ≡ [] → values_of Position xs ≡ []
+        → length (states_in xs) ≡ 0 → xs ≡ []
     no_more [] cut no_count no_place no_state = refl
     no_more (x ∷ xs) cut no_count no_place no_state =
-        let ends = ends_later ls x xs (subst (λ zs. EndsWithState zs) cut (ends_tail game.title (game.desc_of h.puzzle) h)) in
+        let all_end = ends_tail game.title (game.desc_of h.puzzle) h in
+        let ends = ends_later rs x xs (subst (λ zs. EndsWithState zs) cut all_end) in
         let some = has_state_or_count (x ∷ xs) ends no_count no_place in
         absurd (omega arith)
 
 -- and so it is the session
-same_history : {P : Type 0} (a b : History P) → a.puzzle ≡ b.puzzle → a.params ≡ b.params → a.next_params ≡ b.next_params → a.extras ≡ b.extras → a.moves ≡ b.moves → a.position ≡ b.position → a ≡ b
+same_history : {P : Type 0} (a b : History P)
+    → a.puzzle ≡ b.puzzle → a.params ≡ b.params → a.next_params ≡ b.next_params → a.extras ≡ b.extras
+    → a.moves ≡ b.moves → a.position ≡ b.position → a ≡ b
 same_history {P} a b puzzle params next extras moves position =
-    let one : History P = record { puzzle = a.puzzle; params = a.params; next_params = a.next_params; extras = a.extras; moves = a.moves; position = a.position } in
-    let two : History P = record { puzzle = b.puzzle; params = b.params; next_params = b.next_params; extras = b.extras; moves = b.moves; position = b.position } in
-    let same : one ≡ two = cc in same
+    let one : History P = record a { puzzle = a.puzzle } in
+    let other : History P = record b { puzzle = b.puzzle } in
+    let same : one ≡ other = cc in
+    same
 
 same_extras : (a b : Extras) → a.seed ≡ b.seed → a.auxinfo ≡ b.auxinfo → a.ui ≡ b.ui → a.time ≡ b.time → a ≡ b
 same_extras a b seed auxinfo ui time =
-    let one : Extras = record { seed = a.seed; auxinfo = a.auxinfo; ui = a.ui; time = a.time } in
-    let two : Extras = record { seed = b.seed; auxinfo = b.auxinfo; ui = b.ui; time = b.time } in
-    let same : one ≡ two = cc in same
+    let one : Extras = record a { seed = a.seed } in
+    let other : Extras = record b { seed = b.seed } in
+    let same : one ≡ other = cc in
+    same
 
-one_of : {A : Type 0} (a b : A) (values : List A) → values ≡ a ∷ [] → values ≡ b ∷ [] → a ≡ b
-one_of a b values one other = cc
+one_of : {A : Type 0} {a b : A} {values : List A} → values ≡ a ∷ [] → values ≡ b ∷ [] → a ≡ b
+one_of one other = cc
 
-pub written_saves_no_other : {P : Type 0} (game : SavedGame P) (of_game : P → Type 0) → IsGame game → ((p : P) → of_game p → game.Describes (game.puzzle p).size p (game.desc_of p)) → WrittenSavesNoOther game of_game
-written_saves_no_other {P} game of_game owes canonical h other valid of t =
-    let title = game.title in
+pub written_saves_no_other : {P : Type 0} (game : SavedGame P) (of_game : P → Type 0)
+    → Owes game of_game → WrittenSavesNoOther game of_game
+written_saves_no_other {P} game of_game owes h other valid of t =
+    let text = save_of game.title game.desc_of h in
     let desc = game.desc_of h.puzzle in
-    let all = tail_lines title desc h in
+    let p = game.puzzle h.puzzle in
     let read = read_written game h t.small in
-    let head = record_again (save_of game.title game.desc_of h) (record { key = codes "SAVEFILE"; value = collection }) t.behind_head t.head in
-    let rest : t.behind_head ≡ 10 ∷ records_text all = same_rest (record { key = codes "SAVEFILE"; value = collection }) (entry_written (with_value SaveFile collection)) t.behind_head (10 ∷ records_text all) (sym head ∙ read.head) in
-    let front = begins_prefix t.records all (10 ∷ records_text all) (subst (λ r. BeginsWithAll t.records r) rest t.begins) read.all in
+    let head = record_again text format_record t.behind_head t.head in
+    let own_head = record_again text format_record (behind_first game h) read.head in
+    let rest = (some_pair_parts format_record format_record t.behind_head (behind_first game h) (cc)).1 in
+    let front = begins_prefix t.records (tail_of game h) (behind_first game h) (rw rest at t.begins) read.all in
     let same = same_save game h other t.records front.later valid front.split t.saved in
     let s = same.saved in
-    let next_text = one_of s.next_params.0 (params_text h.next_params) (values_of NextParams all) s.next_params.1 (values_NextParams title desc h) in
-    let next = same_params other.next_params h.next_params (sym s.next_params.2.text_is ∙ next_text) in
-    let params_same = one_of s.params.0 (params_text h.params) (values_of CurrentParams all) s.params.1 (values_CurrentParams title desc h) in
-    let params = same_params other.params h.params (sym s.params.2.text_is ∙ params_same) in
-    let desc_same = one_of s.desc.0 desc (values_of Desc all) s.desc.1 (values_Desc title desc h) in
-    let w = (game.puzzle h.puzzle).size in
-    let own = canonical h.puzzle of in
-    let width : other.params.size ≡ w = ap (λ (p : Params). p.size) params ∙ valid.size in
-    let described : game.Describes w other.puzzle desc = subst (λ n. game.Describes n other.puzzle desc) width (subst (λ d. game.Describes other.params.size other.puzzle d) desc_same s.desc.2) in
-    let puzzle = same_described w h.puzzle other.puzzle desc own described in
+    let stands = values_tail game.title desc h in
+    let next = same_params other.next_params h.next_params (sym s.next_params.2.text_is ∙ one_of s.next_params.1 (stands NextParams refl)) in
+    let params = same_params other.params h.params (sym s.params.2.text_is ∙ one_of s.params.1 (stands CurrentParams refl)) in
+    let width : other.params.size ≡ p.size = ap (λ (q : Params). q.size) params ∙ valid.size in
+    let own_desc = subst (λ d. game.Describes other.params.size other.puzzle d) (one_of s.desc.1 (stands Desc refl)) s.desc.2 in
+    let described = subst (λ n. game.Describes n other.puzzle desc) width own_desc in
+    let puzzle = same_described p.size h.puzzle other.puzzle desc (owes.own_text h.puzzle of) described in
     let extras = same_extras other.extras h.extras
-    (same_kept other.extras.seed h.extras.seed (sym s.seed ∙ values_Seed title desc h))
-    (same_kept other.extras.auxinfo h.extras.auxinfo (sym s.auxinfo ∙ values_AuxInfo title desc h))
-    (same_kept other.extras.ui h.extras.ui (sym s.ui ∙ values_Ui title desc h))
-    (same_kept other.extras.time h.extras.time (sym s.time ∙ values_Time title desc h)) in
-    let largest : w ≤ 9 = (let top = s.params.2.params.largest in omega (arith, width)) in
-    let fits = all_fit (game.puzzle h.puzzle) (start_of (game.puzzle h.puzzle)) h.moves largest valid.legal.playable in
-    let other_legal = subst (λ q. IsValid (game.puzzle q) other) puzzle s.valid in
-    let other_fits = all_fit (game.puzzle h.puzzle) (start_of (game.puzzle h.puzzle)) other.moves largest other_legal.legal.playable in
-    let moves = same_moves game other.puzzle desc (game.puzzle h.puzzle) other.moves h.moves other_fits fits (subst (λ ss. HaveStates game other.puzzle other.moves ss) (states_tail title desc h) s.states) in (
+    (same_kept other.extras.seed h.extras.seed (sym s.seed ∙ stands Seed refl))
+    (same_kept other.extras.auxinfo h.extras.auxinfo (sym s.auxinfo ∙ stands AuxInfo refl))
+    (same_kept other.extras.ui h.extras.ui (sym s.ui ∙ stands Ui refl))
+    (same_kept other.extras.time h.extras.time (sym s.time ∙ stands Time refl)) in
+    let largest : p.size ≤ 9 = (let top = s.params.2.params.largest in omega (arith, width)) in
+    let fits = all_fit p (start_of p) h.moves largest valid.legal.playable in
+    let other_valid = subst (λ q. IsValid (game.puzzle q) other) puzzle s.valid in
+    let other_fits = all_fit p (start_of p) other.moves largest other_valid.legal.playable in
+    let states = rw (states_tail game.title desc h) at s.states in
+    let moves = same_moves game other.puzzle desc p other.moves h.moves other_fits fits states in (
       same_history other h puzzle params next extras moves same.position,
       record {
         session = valid;
         puzzle_is = of;
-        params_are = subst (λ p. IsParams game.letters p) params s.params.2.params;
-        next_params_are = subst (λ p. IsParams game.letters p) next s.next_params.2.params;
+        params_are = subst (λ q. IsParams game.letters q) params s.params.2.params;
+        next_params_are = subst (λ q. IsParams game.letters q) next s.next_params.2.params;
       },
     )
   where
-    same_rest : (a b : Entry) (r s : List ℕ) → (let x : Result (Option (Entry × List ℕ)) LoadFault = Ok (Some (a, r)) in x) ≡ Ok (Some (b, s)) → r ≡ s
-    same_rest a b r s e =
-        let one : Entry × List ℕ = (a, r) in
-        let two : Entry × List ℕ = (b, s) in
-        let pair : one ≡ two = cc in ap (λ p. p.1) pair
-
     same_described : (w : ℕ) (p q : P) (text : List ℕ) → game.Describes w p text → game.Describes w q text → q ≡ p
     same_described w p q text p_is q_is =
-        let read_p = owes.reads.again w text p p_is in
-        let read_q = owes.reads.again w text q q_is in
+        let read_p = owes.texts.reads.again w text p p_is in
+        let read_q = owes.texts.reads.again w text q q_is in
         cc
 
 -- the same of an answer
-pub round_same : {P : Type 0} (game : SavedGame P) (of_game : P → Type 0) (h : History P) (text : List ℕ) (answer : Result (History P) LoadFault) → WrittenSavesNoOther game of_game → IsValid (game.puzzle h.puzzle) h → of_game h.puzzle → text ≡ save_of game.title game.desc_of h → IfOk answer (λ s. SaveText game s text) → IfOk answer (λ s. s ≡ h)
+pub round_same : {P : Type 0} (game : SavedGame P) (of_game : P → Type 0) (h : History P) (text : List ℕ)
+    (answer : Result (History P) LoadFault)
+    → WrittenSavesNoOther game of_game → IsValid (game.puzzle h.puzzle) h → of_game h.puzzle
+    → text ≡ save_of game.title game.desc_of h → IfOk answer (λ s. SaveText game s text) → IfOk answer (λ s. s ≡ h)
 round_same game of_game h text (Ok s) law valid of written is =
     (law h s valid of (subst (λ t. SaveText game s t) written is)).0
 round_same game of_game h text (Err e) law valid of written is = tt
 
-pub round_board : {P : Type 0} (puzzle : P → Puzzle) (h : History P) (answer : Result (History P) LoadFault) → IfOk answer (λ s. s ≡ h) → IfOk answer (λ s. shown (puzzle s.puzzle) s ≡ shown (puzzle h.puzzle) h)
+pub round_board : {P : Type 0} (puzzle : P → Puzzle) (h : History P) (answer : Result (History P) LoadFault)
+    → IfOk answer (λ s. s ≡ h) → IfOk answer (λ s. shown (puzzle s.puzzle) s ≡ shown (puzzle h.puzzle) h)
 round_board puzzle h (Ok s) same = ap (λ k. shown (puzzle k.puzzle) k) same
 round_board puzzle h (Err e) same = tt
 
-pub round_refused : {P : Type 0} (game : SavedGame P) (h : History P) (answer : Result (History P) LoadFault) → GivesUnless OutOfMemory (λ s. s) answer (Ok h) → IfErr answer (λ fault. fault ≡ OutOfMemory)
+pub round_refused : {P : Type 0} (game : SavedGame P) (h : History P) (answer : Result (History P) LoadFault)
+    → GivesUnless OutOfMemory (λ s. s) answer (Ok h) → IfErr answer (λ fault. fault ≡ OutOfMemory)
 round_refused game h (Ok s) gives = tt
 round_refused game h (Err e) (inl memory) = memory
 round_refused game h (Err e) (inr refused) = cc

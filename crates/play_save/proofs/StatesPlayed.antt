@@ -1,6 +1,7 @@
 -- State records and their moves: what is played of the records is played of the moves.
-use Rattle.std.proofs.Common.{◌≡◌, ◌≢◌, ℕ, suc, add-zero, ◌+◌, ◌≤◌, true, false, List, [], ◌∷◌, length, Option, Some, None, Result, Ok, Err, cond, refl, sym, ap, ◌∙◌, subst, arith}
+use Rattle.std.proofs.Common.{◌≡◌, ◌≢◌, ℕ, suc, add-zero, ◌+◌, ◌≤◌, true, List, [], ◌∷◌, length, Option, Some, None, Result, Ok, Err, refl, sym, ap, ◌∙◌, subst, arith}
 use Rattle.std.specs.Result.{result_ok}
+use Rattle.std.proofs.lemmas.Option.{cond_some}
 use Rattle.byte_text.proofs.ReadingLaws.{bind_taken, bind_again}
 use Rattle.clue_rules.specs.declared.id_fault.IdFault.{IdFault}
 use Rattle.trail_solver.specs.Puzzles.{Puzzle}
@@ -16,8 +17,8 @@ use Rattle.play_save.specs.declared.key.StateKey.{StateKey}
 use Rattle.play_save.specs.declared.key.StateKey.TheVariants.{AnyMove, SolveMove, RestartMove}
 use Rattle.play_save.specs.KeyedRecords.{KeyedState}
 use Rattle.play_save.specs.SaveTexts.{SavedGame, is_solve, IsStateOf, HaveStates}
-use Rattle.play_save.specs.FirstFaults.{solution_alone, restart_of, state_move, state_played, states_played, state_fault}
-use Rattle.play_save.proofs.OptionSteps.{and_then_taken, ok_or_taken}
+use Rattle.play_save.specs.FirstFaults.{solution_alone, restart_of, state_move, move_played, state_played, states_played, state_fault}
+use Rattle.play_save.proofs.OptionSteps.{and_then_taken, result_taken}
 use Rattle.play_save.proofs.GameTexts.{IsGame, same_puzzle, restart_taken, restart_again, other_puzzle}
 
 -- the text of a move, and the move of a text
@@ -32,11 +33,8 @@ ok_taken (Ok b) a is = cc
 ok_taken (Err e) a is = cc
 
 solution_taken : (m n : Move) → solution_alone m ≡ Some n → (m ≡ n) × (is_solve n ≡ true)
-solution_taken m n =
-    elim (is_solve m) as (λ t. is_solve m ≡ t → cond t (Some m) None ≡ Some n → (m ≡ n) × (is_solve n ≡ true)) [
-      | true ↦ λ solve is. let same : m ≡ n = cc in (same, ap is_solve (sym same) ∙ solve)
-      | false ↦ λ solve is. cc
-    ] refl
+solution_taken m n is =
+    let alone = cond_some (is_solve m) m n is in (alone.1, ap is_solve (sym alone.1) ∙ alone.0)
 
 -- a puzzle of a width that a text describes
 pub record IsDescribed {P : Type 0} (game : SavedGame P) (p : P) : Type 0 where
@@ -46,7 +44,8 @@ pub record IsDescribed {P : Type 0} (game : SavedGame P) (p : P) : Type 0 where
   pub largest : (game.puzzle p).size ≤ 9
 
 -- one state record
-pub move_of_state : {P : Type 0} (game : SavedGame P) (p : P) (k : StateKey) (value : List ℕ) (m : Move) → IsGame game → IsDescribed game p → state_move game p k value ≡ Some m → IsStateOf game p m k value
+pub move_of_state : {P : Type 0} (game : SavedGame P) (p : P) (k : StateKey) (value : List ℕ) (m : Move)
+    → IsGame game → IsDescribed game p → state_move game p k value ≡ Some m → IsStateOf game p m k value
 move_of_state game p AnyMove value m owes d is = text_taken value m (ok_taken (move_at value) m is)
 move_of_state game p SolveMove value m owes d is =
     let step = and_then_taken solution_alone (result_ok (move_at value)) m is in
@@ -61,7 +60,8 @@ move_of_state game p RestartMove value m owes d is =
     let same = same_puzzle game w p step.0 d.text value owes d.described q_is restart.1 in
     (restart.0, subst (λ q. game.Describes w q value) same q_is)
 
-pub state_of_move : {P : Type 0} (game : SavedGame P) (p : P) (k : StateKey) (value : List ℕ) (m : Move) → IsGame game → IsStateOf game p m k value → state_move game p k value ≡ Some m
+pub state_of_move : {P : Type 0} (game : SavedGame P) (p : P) (k : StateKey) (value : List ℕ) (m : Move)
+    → IsGame game → IsStateOf game p m k value → state_move game p k value ≡ Some m
 state_of_move game p AnyMove value m owes is = rw (text_again value m is) refl
 state_of_move game p SolveMove value m owes is = rw (text_again value m is.0, is.1) refl
 state_of_move game p RestartMove value m owes is =
@@ -69,14 +69,22 @@ state_of_move game p RestartMove value m owes is =
     rw (owes.reads.again w value p is.1) (restart_again game p ∙ ap Some (sym is.0))
 
 -- a state record with a move is no hint
-pub state_faultless : {P : Type 0} (game : SavedGame P) (p : P) (k : StateKey) (value : List ℕ) (m : Move) → IsStateOf game p m k value → state_fault k value ≡ None
+pub state_faultless : {P : Type 0} (game : SavedGame P) (p : P) (k : StateKey) (value : List ℕ) (m : Move)
+    → IsStateOf game p m k value → state_fault k value ≡ None
 state_faultless game p AnyMove value m is = rw (text_again value m is) refl
 state_faultless game p SolveMove value m is = rw (text_again value m is.0) refl
 state_faultless game p RestartMove value m is = refl
 
 -- a move keeps the puzzle
-pub played_keeps : {P : Type 0} (pz : Puzzle) (h next : History P) (m : Move) → played pz h m ≡ Ok next → next.puzzle ≡ h.puzzle
+pub played_keeps : {P : Type 0} (pz : Puzzle) (h next : History P) (m : Move)
+    → played pz h m ≡ Ok next → next.puzzle ≡ h.puzzle
 played_keeps pz h next m is = ap (λ k. k.puzzle) (sym (accepted (refusal_in pz h m) (with_move h m) next is).1)
+
+-- a move that was played was there
+move_taken : {P : Type 0} (game : SavedGame P) (h next : History P) (i : ℕ) (o : Option Move)
+    → move_played game h i o ≡ Ok next → (m : Move) × (o ≡ Some m) × (played (game.puzzle h.puzzle) h m ≡ Ok next)
+move_taken game h next i None made = cc
+move_taken game h next i (Some m) made = (m, refl, result_taken (played (game.puzzle h.puzzle) h m) (BadState i) next made)
 
 -- all state records
 pub record ArePlayed {P : Type 0} (game : SavedGame P) (h : History P) (ss : List KeyedState) (last : History P) : Type 0 where
@@ -84,73 +92,84 @@ pub record ArePlayed {P : Type 0} (game : SavedGame P) (h : History P) (ss : Lis
   pub have : HaveStates game h.puzzle moves ss
   pub played_is : played_all (game.puzzle h.puzzle) h moves ≡ Ok last
 
-pub states_taken : {P : Type 0} (game : SavedGame P) (h last : History P) (i : ℕ) (ss : List KeyedState) → IsGame game → IsDescribed game h.puzzle → states_played game h i ss ≡ Ok last → ArePlayed game h ss last
-states_taken game h last i [] owes d is = let same : h ≡ last = cc in record { moves = []; have = tt; played_is = ap Ok same }
+pub states_taken : {P : Type 0} (game : SavedGame P) (h last : History P) (i : ℕ) (ss : List KeyedState)
+    → IsGame game → IsDescribed game h.puzzle → states_played game h i ss ≡ Ok last → ArePlayed game h ss last
+states_taken game h last i [] owes d is =
+    let same : h ≡ last = cc in record { moves = []; have = tt; played_is = ap Ok same }
 states_taken {P} game h last i (s ∷ ss) owes d is =
-    let step = bind_taken (state_played game h i (state_move game h.puzzle s.key s.value)) (λ next. states_played game next (i + 1) ss) last is in
-    let one = one_taken (state_move game h.puzzle s.key s.value) step.0 refl step.1 in
+    let step = bind_taken (state_played game h i s) _ last is in
+    let one = move_taken game h step.0 i (state_move game h.puzzle s.key s.value) step.1 in
     let keeps = played_keeps (game.puzzle h.puzzle) h step.0 one.0 one.2 in
     let rest = states_taken game step.0 last (i + 1) ss owes (subst (λ p. IsDescribed game p) (sym keeps) d) step.2 in
+    let later = subst (λ p. HaveStates game p rest.moves ss) keeps rest.have in
     record {
       moves = one.0 ∷ rest.moves;
-      have = (move_of_state game h.puzzle s.key s.value one.0 owes d one.1, subst (λ p. HaveStates game p rest.moves ss) keeps rest.have);
+      have = (move_of_state game h.puzzle s.key s.value one.0 owes d one.1, later);
       played_is = rw one.2 (subst (λ p. played_all (game.puzzle p) step.0 rest.moves ≡ Ok last) keeps rest.played_is);
     }
-  where
-    one_taken : (o : Option Move) (next : History P) → state_move game h.puzzle s.key s.value ≡ o → state_played game h i o ≡ Ok next → (m : Move) × (state_move game h.puzzle s.key s.value ≡ Some m) × (played (game.puzzle h.puzzle) h m ≡ Ok next)
-    one_taken None next has made = cc
-    one_taken (Some m) next has made =
-        (m, has, ok_taken (played (game.puzzle h.puzzle) h m) next (ok_or_taken (result_ok (played (game.puzzle h.puzzle) h m)) (BadState i) next made))
 
-played_ok : {P : Type 0} (game : SavedGame P) (h next : History P) (i : ℕ) (m : Move) → played (game.puzzle h.puzzle) h m ≡ Ok next → state_played game h i (Some m) ≡ Ok next
+played_ok : {P : Type 0} (game : SavedGame P) (h next : History P) (i : ℕ) (m : Move)
+    → played (game.puzzle h.puzzle) h m ≡ Ok next → move_played game h i (Some m) ≡ Ok next
 played_ok game h next i m is = rw is refl
 
-pub states_again : {P : Type 0} (game : SavedGame P) (h last : History P) (i : ℕ) (ms : List Move) (ss : List KeyedState) → IsGame game → HaveStates game h.puzzle ms ss → played_all (game.puzzle h.puzzle) h ms ≡ Ok last → states_played game h i ss ≡ Ok last
+pub states_again : {P : Type 0} (game : SavedGame P) (h last : History P) (i : ℕ) (ms : List Move) (ss : List KeyedState)
+    → IsGame game → HaveStates game h.puzzle ms ss → played_all (game.puzzle h.puzzle) h ms ≡ Ok last
+    → states_played game h i ss ≡ Ok last
 states_again game h last i [] [] owes have is = let same : h ≡ last = cc in ap Ok same
 states_again game h last i [] (s ∷ ss) owes have is = absurd have
 states_again game h last i (m ∷ ms) [] owes have is = absurd have
 states_again {P} game h last i (m ∷ ms) (s ∷ ss) owes have is =
     let step = and_then_ok (played (game.puzzle h.puzzle) h m) is in
-    more step.0 step.1 step.2 (λ next kept all. states_again game next last (i + 1) ms ss owes kept all)
+    more step.0 step.1 step.2 (λ kept all. states_again game step.0 last (i + 1) ms ss owes kept all)
   where
-    and_then_ok : (r : Result (History P) PlayFault) → result_and_then (λ next. played_all (game.puzzle h.puzzle) next ms) r ≡ Ok last → (next : History P) × (r ≡ Ok next) × (played_all (game.puzzle h.puzzle) next ms ≡ Ok last)
+    and_then_ok : (r : Result (History P) PlayFault)
+        → result_and_then (λ next. played_all (game.puzzle h.puzzle) next ms) r ≡ Ok last
+        → (next : History P) × (r ≡ Ok next) × (played_all (game.puzzle h.puzzle) next ms ≡ Ok last)
     and_then_ok (Ok next) made = (next, refl, made)
     and_then_ok (Err e) made = cc
 
-    more : (next : History P) → played (game.puzzle h.puzzle) h m ≡ Ok next → played_all (game.puzzle h.puzzle) next ms ≡ Ok last → ((after : History P) → HaveStates game after.puzzle ms ss → played_all (game.puzzle after.puzzle) after ms ≡ Ok last → states_played game after (i + 1) ss ≡ Ok last) → states_played game h i (s ∷ ss) ≡ Ok last
+    more : (next : History P)
+        → played (game.puzzle h.puzzle) h m ≡ Ok next → played_all (game.puzzle h.puzzle) next ms ≡ Ok last
+        → (HaveStates game next.puzzle ms ss → played_all (game.puzzle next.puzzle) next ms ≡ Ok last
+        → states_played game next (i + 1) ss ≡ Ok last)
+        → states_played game h i (s ∷ ss) ≡ Ok last
     more next made all along =
         let keeps = played_keeps (game.puzzle h.puzzle) h next m made in
-        let one : state_played game h i (state_move game h.puzzle s.key s.value) ≡ Ok next = ap (state_played game h i) (state_of_move game h.puzzle s.key s.value m owes have.0) ∙ played_ok game h next i m made in
-        let rest = along next (subst (λ p. HaveStates game p ms ss) (sym keeps) have.1) (subst (λ p. played_all (game.puzzle p) next ms ≡ Ok last) (sym keeps) all) in
-        bind_again (state_played game h i (state_move game h.puzzle s.key s.value)) (λ after. states_played game after (i + 1) ss) next one ∙ rest
+        let one : state_played game h i s ≡ Ok next =
+        ap (move_played game h i) (state_of_move game h.puzzle s.key s.value m owes have.0)
+        ∙ played_ok game h next i m made in
+        let rest = along (rw keeps have.1) (subst (λ p. played_all (game.puzzle p) next ms ≡ Ok last) (sym keeps) all) in
+        bind_again (state_played game h i s) (λ after. states_played game after (i + 1) ss) next one ∙ rest
 
 -- as many moves as state records
-pub have_length : {P : Type 0} (game : SavedGame P) (p : P) (ms : List Move) (ss : List KeyedState) → HaveStates game p ms ss → length ms ≡ length ss
+pub have_length : {P : Type 0} (game : SavedGame P) (p : P) (ms : List Move) (ss : List KeyedState)
+    → HaveStates game p ms ss → length ms ≡ length ss
 have_length game p [] [] have = refl
 have_length game p [] (s ∷ ss) have = absurd have
 have_length game p (m ∷ ms) [] have = absurd have
 have_length game p (m ∷ ms) (s ∷ ss) have = ap suc (have_length game p ms ss have.1)
 
 -- a description that isn't read, or is another puzzle's
-pub no_restart : {P : Type 0} (game : SavedGame P) (p : P) (value : List ℕ) (e : IdFault) → game.desc_at (game.puzzle p).size value ≡ Err e → state_move game p RestartMove value ≡ None
+pub no_restart : {P : Type 0} (game : SavedGame P) (p : P) (value : List ℕ) (e : IdFault)
+    → game.desc_at (game.puzzle p).size value ≡ Err e → state_move game p RestartMove value ≡ None
 no_restart game p value e is = rw is refl
 
-pub other_restart : {P : Type 0} (game : SavedGame P) (p q : P) (value : List ℕ) → IsGame game → IsDescribed game p → q ≢ p → game.desc_at (game.puzzle p).size value ≡ Ok q → state_move game p RestartMove value ≡ None
+pub other_restart : {P : Type 0} (game : SavedGame P) (p q : P) (value : List ℕ)
+    → IsGame game → IsDescribed game p → q ≢ p → game.desc_at (game.puzzle p).size value ≡ Ok q
+    → state_move game p RestartMove value ≡ None
 other_restart game p q value owes d other is =
     let w = (game.puzzle p).size in
     rw is (other_puzzle game w p q d.text value owes d.described (owes.reads.taken w value q d.smallest d.largest is) other)
 
 -- each state record leads on by one position
-pub position_played : {P : Type 0} (game : SavedGame P) (h last : History P) (i : ℕ) (ss : List KeyedState) → states_played game h i ss ≡ Ok last → last.position ≡ h.position + length ss
-position_played game h last i [] is = let same : h ≡ last = cc in ap (λ k. k.position) (sym same) ∙ sym (add-zero h.position)
+pub position_played : {P : Type 0} (game : SavedGame P) (h last : History P) (i : ℕ) (ss : List KeyedState)
+    → states_played game h i ss ≡ Ok last → last.position ≡ h.position + length ss
+position_played game h last i [] is =
+    let same : h ≡ last = cc in ap (λ k. k.position) (sym same) ∙ sym (add-zero h.position)
 position_played {P} game h last i (s ∷ ss) is =
-    let step = bind_taken (state_played game h i (state_move game h.puzzle s.key s.value)) (λ next. states_played game next (i + 1) ss) last is in
-    let one = one_on (state_move game h.puzzle s.key s.value) step.0 step.1 in
+    let step = bind_taken (state_played game h i s) _ last is in
+    let one = move_taken game h step.0 i (state_move game h.puzzle s.key s.value) step.1 in
+    let with_it = accepted (refusal_in (game.puzzle h.puzzle) h one.0) (with_move h one.0) step.0 one.2 in
+    let on : step.0.position ≡ h.position + 1 = ap (λ k. k.position) (sym with_it.1) in
     let rest = position_played game step.0 last (i + 1) ss step.2 in
     omega arith
-  where
-    one_on : (o : Option Move) (next : History P) → state_played game h i o ≡ Ok next → next.position ≡ h.position + 1
-    one_on None next made = cc
-    one_on (Some m) next made =
-        let played_is = ok_taken (played (game.puzzle h.puzzle) h m) next (ok_or_taken (result_ok (played (game.puzzle h.puzzle) h m)) (BadState i) next made) in
-        ap (λ k. k.position) (sym (accepted (refusal_in (game.puzzle h.puzzle) h m) (with_move h m) next played_is).1)

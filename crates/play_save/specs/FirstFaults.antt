@@ -54,19 +54,19 @@ first_of [] = None
 first_of (v ∷ vs) = Some v
 
 abbrev pub met : {P : Type 0} → SavedGame P → List KeyedRecord → Met
-met game ls = record {
-  version = is_some (first_of (values_of FormatVersion ls));
-  name = is_some (first_of (values_of GameName ls));
-  next_params = option_map (saved_params_at game) (first_of (values_of NextParams ls));
-  params = option_map (saved_params_at game) (first_of (values_of CurrentParams ls));
-  seed = first_of (values_of Seed ls);
-  desc = first_of (values_of Desc ls);
-  auxinfo = first_of (values_of AuxInfo ls);
-  ui = first_of (values_of Ui ls);
-  time = first_of (values_of Time ls);
-  count = option_map count_at (first_of (values_of StateCount ls));
-  position = option_map count_at (first_of (values_of Position ls));
-  states = states_in ls;
+met game rs = record {
+  version = is_some (first_of (values_of FormatVersion rs));
+  name = is_some (first_of (values_of GameName rs));
+  next_params = option_map (saved_params_at game) (first_of (values_of NextParams rs));
+  params = option_map (saved_params_at game) (first_of (values_of CurrentParams rs));
+  seed = first_of (values_of Seed rs);
+  desc = first_of (values_of Desc rs);
+  auxinfo = first_of (values_of AuxInfo rs);
+  ui = first_of (values_of Ui rs);
+  time = first_of (values_of Time rs);
+  count = option_map count_at (first_of (values_of StateCount rs));
+  position = option_map count_at (first_of (values_of Position rs));
+  states = states_in rs;
 }
 
 -- a fault, where the test fails
@@ -83,16 +83,11 @@ abbrev pub params_fault : Result Params IdFault → Option LoadFault
 params_fault (Ok p) = None
 params_fault (Err fault) = Some BadParams
 
--- the number of states, with the position where that was met; and the other way round
-abbrev pub count_fault : Option ℕ → Option (Option ℕ) → Option LoadFault
-count_fault None position = Some BadCount
-count_fault (Some n) (Some (Some position)) = fault_unless (nat_le position n) BadCount
-count_fault (Some n) _ = None
-
-abbrev pub position_fault : Option ℕ → Option (Option ℕ) → Option LoadFault
-position_fault None count = Some BadCount
-position_fault (Some position) (Some (Some n)) = fault_unless (nat_le position n) BadCount
-position_fault (Some position) _ = None
+-- a count that is none, or that doesn't go together with the other one, where that was met
+abbrev pub count_fault : (ℕ → ℕ → Bool) → Option ℕ → Option (Option ℕ) → Option LoadFault
+count_fault goes None other = Some BadCount
+count_fault goes (Some n) (Some (Some other)) = fault_unless (goes n other) BadCount
+count_fault goes (Some n) _ = None
 
 -- a hint or a spent sign
 abbrev pub text_fault : Result Move PlayFault → Option LoadFault
@@ -120,8 +115,9 @@ fault_by game m PrivateDesc value = Some Unsupported
 fault_by game m AuxInfo value = once (is_some m.auxinfo) None
 fault_by game m Ui value = once (is_some m.ui) None
 fault_by game m Time value = once (is_some m.time) None
-fault_by game m StateCount value = once (is_some m.count) (count_fault (count_at value) m.position)
-fault_by game m Position value = once (is_some m.position) (position_fault (count_at value) m.count)
+fault_by game m StateCount value =
+    once (is_some m.count) (count_fault (λ n position. nat_le position n) (count_at value) m.position)
+fault_by game m Position value = once (is_some m.position) (count_fault nat_le (count_at value) m.count)
 fault_by game m (State k) value = behind_counts m (state_fault k value)
 fault_by game m Other value = None
 
@@ -160,9 +156,9 @@ unless (Some fault) more = Err fault
 abbrev pub needed : {P : Type 0} → SavedGame P → List KeyedRecord → Listing → Result (List KeyedRecord) LoadFault
 needed game before nothing = if is_complete (met game before) then Ok before else Err Missing
 needed game before broken = if is_complete (met game before) then Ok before else Err Malformed
-needed game before (first l more) =
+needed game before (first r more) =
     if is_complete (met game before) then Ok before
-    else unless (fault_by game (met game before) l.key l.value) (needed game (before ++ l ∷ []) more)
+    else unless (fault_by game (met game before) r.key r.value) (needed game (before ++ r ∷ []) more)
 
 -- the move of a state record, where it is one of the puzzle: a restart has a description of it
 abbrev pub solution_alone : Move → Option Move
@@ -177,15 +173,19 @@ state_move game p SolveMove value = option_and_then solution_alone (result_ok (m
 state_move game p RestartMove value =
     option_and_then (restart_of game p) (result_ok (game.desc_at (game.puzzle p).size value))
 
--- the state records played in turn, from the record with the number i on
-abbrev pub state_played : {P : Type 0} → SavedGame P → History P → ℕ → Option Move → Result (History P) LoadFault
-state_played game h i None = Err (BadState i)
-state_played game h i (Some m) = ok_or (result_ok (played (game.puzzle h.puzzle) h m)) (BadState i)
+-- the state record with the number i, played
+abbrev pub move_played : {P : Type 0} → SavedGame P → History P → ℕ → Option Move → Result (History P) LoadFault
+move_played game h i None = Err (BadState i)
+move_played game h i (Some m) = ok_or (result_ok (played (game.puzzle h.puzzle) h m)) (BadState i)
 
+abbrev pub state_played : {P : Type 0} → SavedGame P → History P → ℕ → KeyedState → Result (History P) LoadFault
+state_played game h i s = move_played game h i (state_move game h.puzzle s.key s.value)
+
+-- the state records played in turn, from the record with the number i on
 abbrev pub states_played : {P : Type 0} → SavedGame P → History P → ℕ → List KeyedState → Result (History P) LoadFault
 states_played game h i [] = Ok h
 states_played game h i (s ∷ ss) =
-    state_played game h i (state_move game h.puzzle s.key s.value) >>= λ next. states_played game next (i + 1) ss
+    state_played game h i s >>= λ next. states_played game next (i + 1) ss
 
 -- what has to be there
 abbrev pub needed_params : Option (Result Params IdFault) → Result Params LoadFault
@@ -230,7 +230,7 @@ behind_head (Ok (Some parts)) = head_or_fault parts.0 parts.1
 behind_head _ = Err NotASave
 
 abbrev pub met_in : {P : Type 0} → SavedGame P → Listing → Result Met LoadFault
-met_in game listing = needed game [] listing >>= λ ls. Ok (met game ls)
+met_in game listing = needed game [] listing >>= λ rs. Ok (met game rs)
 
 -- a save text: its session, or its first fault
 unfoldable pub load_at : {P : Type 0} → SavedGame P → List ℕ → Result (History P) LoadFault

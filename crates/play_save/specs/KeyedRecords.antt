@@ -22,13 +22,13 @@ pub record KeyedState : Type 0 where
 -- The text is these records and then anything.
 abbrev pub BeginsWithAll : List KeyedRecord → List ℕ → Type 0
 BeginsWithAll [] text = Unit {0}
-BeginsWithAll (l ∷ ls) text =
-    (e : Entry) × (rest : List ℕ) × (keyed e ≡ l) × BeginsWith e rest text × BeginsWithAll ls rest
+BeginsWithAll (r ∷ rs) text =
+    (e : Entry) × (rest : List ℕ) × (keyed e ≡ r) × BeginsWith e rest text × BeginsWithAll rs rest
 
 -- the values that stand with a key, in turn
 abbrev pub values_of : Key → List KeyedRecord → List (List ℕ)
 values_of k [] = []
-values_of k (l ∷ ls) = if rank l.key == rank k then (l.value ∷ values_of k ls) else values_of k ls
+values_of k (r ∷ rs) = if rank r.key == rank k then (r.value ∷ values_of k rs) else values_of k rs
 
 -- the state records, in turn
 abbrev pub onto_states : Key → List ℕ → List KeyedState → List KeyedState
@@ -37,11 +37,11 @@ onto_states _ value states = states
 
 abbrev pub states_in : List KeyedRecord → List KeyedState
 states_in [] = []
-states_in (l ∷ ls) = onto_states l.key l.value (states_in ls)
+states_in (r ∷ rs) = onto_states r.key r.value (states_in rs)
 
 -- the key stands once, with a value of which this holds
 abbrev pub StandsOnce : Key → (List ℕ → Type 0) → List KeyedRecord → Type 0
-StandsOnce k P ls = (value : List ℕ) × (values_of k ls ≡ value ∷ []) × P value
+StandsOnce k P rs = (value : List ℕ) × (values_of k rs ≡ value ∷ []) × P value
 
 -- bytes that are kept stand once, and nothing stands where none are
 abbrev pub once_if_kept : Option (List ℕ) → List (List ℕ)
@@ -55,8 +55,8 @@ is_state _ = false
 -- behind a state record neither count follows
 abbrev pub CountsStandFirst : List KeyedRecord → Type 0
 CountsStandFirst [] = Unit {0}
-CountsStandFirst (l ∷ ls) =
-    (is_state l.key ≡ true → (values_of StateCount ls ≡ []) × (values_of Position ls ≡ [])) × CountsStandFirst ls
+CountsStandFirst (r ∷ rs) =
+    (is_state r.key ≡ true → (values_of StateCount rs ≡ []) × (values_of Position rs ≡ [])) × CountsStandFirst rs
 
 -- the last record is a state record or a count
 abbrev pub may_be_last : Key → Bool
@@ -67,5 +67,5 @@ may_be_last _ = false
 
 abbrev pub EndsWithState : List KeyedRecord → Type 0
 EndsWithState [] = ⊥
-EndsWithState (l ∷ []) = may_be_last l.key ≡ true
-EndsWithState (l ∷ m ∷ ls) = EndsWithState (m ∷ ls)
+EndsWithState (r ∷ []) = may_be_last r.key ≡ true
+EndsWithState (r ∷ m ∷ rs) = EndsWithState (m ∷ rs)

@@ -2,6 +2,8 @@
 use Rattle.std.specs.Prelude.{◌≡◌, ℕ, ◌+◌, ◌≤◌, Bool, true, false, List, [], ◌∷◌, length, codes, Result}
 use Rattle.std.specs.Fmt.{decimal}
 use Rattle.trail_solver.specs.Puzzles.{Puzzle}
+use Rattle.trail_solver.specs.declared.rules.Rules.{Ghosts as RulesGhosts}
+use Rattle.clue_rules.specs.declared.game.Game.{Ghosts as GameGhosts}
 use Rattle.clue_rules.specs.declared.id_fault.IdFault.{IdFault}
 use Rattle.clue_rules.specs.Parameters.{IsParamText}
 use Rattle.clue_rules.specs.GameIds.{describes_at}
@@ -12,7 +14,7 @@ use Rattle.play_midend.specs.Histories.{History, IsValid}
 use Rattle.play_save.specs.declared.key.StateKey.{StateKey}
 use Rattle.play_save.specs.declared.key.StateKey.TheVariants.{AnyMove, SolveMove, RestartMove}
 use Rattle.play_save.specs.declared.key.Key.TheVariants.{SaveFile, FormatVersion, GameName, NextParams, CurrentParams, Seed, Desc, PrivateDesc, AuxInfo, Ui, Time, StateCount, Position}
-use Rattle.play_save.specs.Records.{BeginsWith}
+use Rattle.play_save.specs.Records.{Entry, BeginsWith}
 use Rattle.play_save.specs.KeyedRecords.{KeyedRecord, KeyedState, BeginsWithAll, values_of, states_in, StandsOnce, once_if_kept, CountsStandFirst, EndsWithState}
 
 -- What saves ask of a game: its name and letters, what its puzzles are, which text describes which puzzle of which width, the
@@ -37,9 +39,18 @@ saved_game title letters puzzle of_game describes desc_at desc_of = record {
   desc_of = desc_of;
 }
 
+-- the same, of what a game's rules and texts are
+abbrev pub saves_of : {P : Type 0} → RulesGhosts P → GameGhosts P → SavedGame P
+saves_of rules game =
+    saved_game game.title game.letter_codes rules.puzzle rules.valid game.describes game.desc_at game.desc_of
+
 -- the value of the first record, which names the format
 abbrev pub collection : List ℕ
 collection = codes "Simon Tatham's Portable Puzzle Collection"
+
+-- that record
+abbrev pub format_record : Entry
+format_record = record { key = codes "SAVEFILE"; value = collection }
 
 -- the size that a save text may have
 abbrev pub longest_save : ℕ
@@ -63,30 +74,30 @@ HaveStates game p (m ∷ ms) [] = ⊥
 HaveStates game p (m ∷ ms) (s ∷ ss) = IsStateOf game p m s.key s.value × HaveStates game p ms ss
 
 -- the records behind the first, up to the last that is needed
-pub record AreSaved {P : Type 0} (game : SavedGame P) (h : History P) (ls : List KeyedRecord) : Type 0 where
-  pub no_second_head : values_of SaveFile ls ≡ []
-  pub version : values_of FormatVersion ls ≡ codes "1" ∷ []
-  pub name : values_of GameName ls ≡ game.title ∷ []
-  pub next_params : StandsOnce NextParams (IsParamText game.letters h.next_params) ls
-  pub params : StandsOnce CurrentParams (IsParamText game.letters h.params) ls
-  pub desc : StandsOnce Desc (game.Describes h.params.size h.puzzle) ls
-  pub no_private_desc : values_of PrivateDesc ls ≡ []
-  pub seed : values_of Seed ls ≡ once_if_kept h.extras.seed
-  pub auxinfo : values_of AuxInfo ls ≡ once_if_kept h.extras.auxinfo
-  pub ui : values_of Ui ls ≡ once_if_kept h.extras.ui
-  pub time : values_of Time ls ≡ once_if_kept h.extras.time
-  pub count : values_of StateCount ls ≡ decimal (length h.moves + 1) ∷ []
-  pub position : values_of Position ls ≡ decimal h.position ∷ []
-  pub states : HaveStates game h.puzzle h.moves (states_in ls)
-  pub counts_first : CountsStandFirst ls
-  pub last : EndsWithState ls
+pub record AreSaved {P : Type 0} (game : SavedGame P) (h : History P) (rs : List KeyedRecord) : Type 0 where
+  pub no_second_head : values_of SaveFile rs ≡ []
+  pub version : values_of FormatVersion rs ≡ codes "1" ∷ []
+  pub name : values_of GameName rs ≡ game.title ∷ []
+  pub next_params : StandsOnce NextParams (IsParamText game.letters h.next_params) rs
+  pub params : StandsOnce CurrentParams (IsParamText game.letters h.params) rs
+  pub desc : StandsOnce Desc (game.Describes h.params.size h.puzzle) rs
+  pub no_private_desc : values_of PrivateDesc rs ≡ []
+  pub seed : values_of Seed rs ≡ once_if_kept h.extras.seed
+  pub auxinfo : values_of AuxInfo rs ≡ once_if_kept h.extras.auxinfo
+  pub ui : values_of Ui rs ≡ once_if_kept h.extras.ui
+  pub time : values_of Time rs ≡ once_if_kept h.extras.time
+  pub count : values_of StateCount rs ≡ decimal (length h.moves + 1) ∷ []
+  pub position : values_of Position rs ≡ decimal h.position ∷ []
+  pub states : HaveStates game h.puzzle h.moves (states_in rs)
+  pub counts_first : CountsStandFirst rs
+  pub last : EndsWithState rs
   pub valid : IsValid (game.puzzle h.puzzle) h
 
 -- The text is a save of the session: the record that names the format, the records of the session, and then anything.
 pub record SaveText {P : Type 0} (game : SavedGame P) (h : History P) (text : List ℕ) : Type 0 where
   pub small : length text ≤ longest_save
   pub behind_head : List ℕ
-  pub head : BeginsWith (record { key = codes "SAVEFILE"; value = collection }) behind_head text
+  pub head : BeginsWith format_record behind_head text
   pub records : List KeyedRecord
   pub begins : BeginsWithAll records behind_head
   pub saved : AreSaved game h records

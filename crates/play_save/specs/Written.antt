@@ -10,52 +10,56 @@ use Rattle.play_save.specs.declared.key.StateKey.TheVariants.{AnyMove, SolveMove
 use Rattle.play_save.specs.declared.key.Key.{Key}
 use Rattle.play_save.specs.declared.key.Key.TheVariants.{SaveFile, FormatVersion, GameName, NextParams, CurrentParams, Seed, Desc, AuxInfo, Ui, Time, StateCount, Position, State}
 use Rattle.play_save.specs.Keys.{key_name, padded}
-use Rattle.play_save.specs.KeyedRecords.{KeyedRecord}
+use Rattle.play_save.specs.KeyedRecords.{KeyedRecord, KeyedState}
 use Rattle.play_save.specs.SaveTexts.{collection, is_solve}
 use Rattle.byte_text.specs.Bytes.{colon, line_feed}
 
 -- a record as it is written
 unfoldable pub record_text : KeyedRecord → List ℕ
-record_text l = padded (key_name l.key) ++ (colon ∷ (decimal (length l.value) ++ (colon ∷ (l.value ++ (line_feed ∷ [])))))
+record_text r = padded (key_name r.key) ++ (colon ∷ (decimal (length r.value) ++ (colon ∷ (r.value ++ (line_feed ∷ [])))))
 
 abbrev pub records_text : List KeyedRecord → List ℕ
 records_text [] = []
-records_text (l ∷ ls) = record_text l ++ records_text ls
+records_text (r ∷ rs) = record_text r ++ records_text rs
 
 abbrev pub with_value : Key → List ℕ → KeyedRecord
 with_value k value = record { key = k; value = value }
 
 -- bytes that are kept have a record
-abbrev pub kept_line : Key → Option (List ℕ) → List KeyedRecord
-kept_line k None = []
-kept_line k (Some value) = with_value k value ∷ []
+abbrev pub kept_record : Key → Option (List ℕ) → List KeyedRecord
+kept_record k None = []
+kept_record k (Some value) = with_value k value ∷ []
 
--- the state record of a move, with the description of the puzzle for a restart
-abbrev pub state_line : List ℕ → Move → KeyedRecord
-state_line desc m =
-    if is_restart m then with_value (State RestartMove) desc
-    else with_value (State (if is_solve m then SolveMove else AnyMove)) (move_text m)
+-- the state of a move, with the description of the puzzle for a restart
+abbrev pub state_value : List ℕ → Move → KeyedState
+state_value desc m =
+    if is_restart m then record { key = RestartMove; value = desc }
+    else record { key = if is_solve m then SolveMove else AnyMove; value = move_text m }
+
+-- its record
+abbrev pub state_record : List ℕ → Move → KeyedRecord
+state_record desc m = with_value (State (state_value desc m).key) (state_value desc m).value
 
 -- the records in their order, of a game with this name
-abbrev pub head_lines : {P : Type 0} → List ℕ → History P → List KeyedRecord
-head_lines title h =
+abbrev pub head_records : {P : Type 0} → List ℕ → History P → List KeyedRecord
+head_records title h =
     with_value SaveFile collection ∷ with_value FormatVersion (codes "1") ∷ with_value GameName title
     ∷ with_value NextParams (params_text h.next_params) ∷ with_value CurrentParams (params_text h.params) ∷ []
 
-abbrev pub body_lines : {P : Type 0} → List ℕ → History P → List KeyedRecord
-body_lines desc h =
-    kept_line Seed h.extras.seed ++ (with_value Desc desc ∷ (kept_line AuxInfo h.extras.auxinfo
-    ++ (kept_line Ui h.extras.ui ++ kept_line Time h.extras.time)))
+abbrev pub body_records : {P : Type 0} → List ℕ → History P → List KeyedRecord
+body_records desc h =
+    kept_record Seed h.extras.seed ++ (with_value Desc desc ∷ (kept_record AuxInfo h.extras.auxinfo
+    ++ (kept_record Ui h.extras.ui ++ kept_record Time h.extras.time)))
 
-abbrev pub state_lines : {P : Type 0} → List ℕ → History P → List KeyedRecord
-state_lines desc h =
+abbrev pub state_records : {P : Type 0} → List ℕ → History P → List KeyedRecord
+state_records desc h =
     with_value StateCount (decimal (length h.moves + 1)) ∷ with_value Position (decimal h.position)
-    ∷ map (state_line desc) h.moves
+    ∷ map (state_record desc) h.moves
 
-abbrev pub lines_of : {P : Type 0} → List ℕ → (P → List ℕ) → History P → List KeyedRecord
-lines_of title desc_of h =
-    head_lines title h ++ (body_lines (desc_of h.puzzle) h ++ state_lines (desc_of h.puzzle) h)
+abbrev pub session_records : {P : Type 0} → List ℕ → (P → List ℕ) → History P → List KeyedRecord
+session_records title desc_of h =
+    head_records title h ++ (body_records (desc_of h.puzzle) h ++ state_records (desc_of h.puzzle) h)
 
 -- the save text of a session
 unfoldable pub save_of : {P : Type 0} → List ℕ → (P → List ℕ) → History P → List ℕ
-save_of title desc_of h = records_text (lines_of title desc_of h)
+save_of title desc_of h = records_text (session_records title desc_of h)

@@ -1,8 +1,9 @@
 //! What the records of a save file say, found one by one.
 
-ghost use Rattle.std.specs.Prelude.{◌≡◌, ℕ, ◌+◌, ◌≤◌, true, false, Some, None, Ok, Err, OnOk, IfOk, IfErr, IsErr, length, bytes_eq, codes};
+ghost use Rattle.std.specs.Prelude.{◌≡◌, ℕ, ◌+◌, ◌≤◌, true, false, Some, None, Ok, Err, ok_or, OnOk, IfOk, IfErr, IsErr, length, bytes_eq, codes};
+ghost use Rattle.std.specs.Result.{result_ok};
 ghost use Rattle.play_save.specs.declared.key.Key.TheVariants.{FormatVersion, GameName, NextParams, CurrentParams, Seed, Desc, AuxInfo, Ui, Time, StateCount, Position, State};
-ghost use Rattle.play_save.specs.SaveTexts.{saved_game};
+ghost use Rattle.play_save.specs.SaveTexts.{saves_of};
 ghost use Rattle.play_save.specs.FirstFaults.{is_complete, count_at, once, text_fault, state_fault, saved_params_at, fault_unless};
 ghost use Rattle.play_save.specs.Taking.{met_of, nothing_met, Taken};
 
@@ -54,8 +55,7 @@ fn once(met: bool) -> Result<(), LoadFault>
 
 // A count of states: a decimal number from 1 to 100,000.
 fn count(value: &[u8]) -> Result<usize, LoadFault>
-    ensures ok { IfOk result (λ n. count_at value.now ≡ Some n) }
-    ensures err { IfErr result (λ fault. (count_at value.now ≡ None) × (fault ≡ LoadFault.BadCount)) }
+    ensures { result ≡ ok_or (count_at value.now) LoadFault.BadCount }
 {
     match number(value, MOST_STATES) {
         Some(0) | None => Err(LoadFault::BadCount),
@@ -64,8 +64,8 @@ fn count(value: &[u8]) -> Result<usize, LoadFault>
 }
 
 fn params<P: Game>(value: &[u8]) -> Result<Params, LoadFault>
-    ensures ok { IfOk result (λ p. saved_params_at (saved_game P.title P.letter_codes P.puzzle P.valid P.describes P.desc_at P.desc_of) value.now ≡ Ok p) }
-    ensures err { IfErr result (λ fault. (IsErr (saved_params_at (saved_game P.title P.letter_codes P.puzzle P.valid P.describes P.desc_at P.desc_of) value.now)) × (fault ≡ LoadFault.BadParams)) }
+    ensures { result ≡ ok_or (result_ok (saved_params_at (saves_of P.Rules P.Game.own) value.now))
+        LoadFault.BadParams }
 {
     Params::read::<P>(value).map_err(|_| LoadFault::BadParams)
 }
@@ -117,7 +117,7 @@ impl<'a> Found<'a> {
 
     /// Takes one more record, of the game `P`, or refuses it: `Repeated` before the fault of its value.
     pub(crate) fn take<P: Game>(&mut self, key: Key, value: &'a [u8]) -> Result<(), LoadFault>
-        ensures { Taken (saved_game P.title P.letter_codes P.puzzle P.valid P.describes P.desc_at P.desc_of)
+        ensures { Taken (saves_of P.Rules P.Game.own)
             (met_of self.old) key value.now result (met_of self.new) }
     {
         match key {
@@ -140,7 +140,7 @@ impl<'a> Found<'a> {
     }
 
     fn take_version<P: Game>(&mut self, value: &'a [u8]) -> Result<(), LoadFault>
-        ensures { Taken (saved_game P.title P.letter_codes P.puzzle P.valid P.describes P.desc_at P.desc_of)
+        ensures { Taken (saves_of P.Rules P.Game.own)
             (met_of self.old) FormatVersion value.now result (met_of self.new) }
     {
         once(self.version)?;
@@ -152,7 +152,7 @@ impl<'a> Found<'a> {
     }
 
     fn take_name<P: Game>(&mut self, value: &'a [u8]) -> Result<(), LoadFault>
-        ensures { Taken (saved_game P.title P.letter_codes P.puzzle P.valid P.describes P.desc_at P.desc_of)
+        ensures { Taken (saves_of P.Rules P.Game.own)
             (met_of self.old) GameName value.now result (met_of self.new) }
     {
         once(self.name)?;
@@ -164,7 +164,7 @@ impl<'a> Found<'a> {
     }
 
     fn take_next_params<P: Game>(&mut self, value: &'a [u8]) -> Result<(), LoadFault>
-        ensures { Taken (saved_game P.title P.letter_codes P.puzzle P.valid P.describes P.desc_at P.desc_of)
+        ensures { Taken (saves_of P.Rules P.Game.own)
             (met_of self.old) NextParams value.now result (met_of self.new) }
     {
         once(self.next_params.is_some())?;
@@ -173,7 +173,7 @@ impl<'a> Found<'a> {
     }
 
     fn take_params<P: Game>(&mut self, value: &'a [u8]) -> Result<(), LoadFault>
-        ensures { Taken (saved_game P.title P.letter_codes P.puzzle P.valid P.describes P.desc_at P.desc_of)
+        ensures { Taken (saves_of P.Rules P.Game.own)
             (met_of self.old) CurrentParams value.now result (met_of self.new) }
     {
         once(self.params.is_some())?;
@@ -182,7 +182,7 @@ impl<'a> Found<'a> {
     }
 
     fn take_seed<P: Game>(&mut self, value: &'a [u8]) -> Result<(), LoadFault>
-        ensures { Taken (saved_game P.title P.letter_codes P.puzzle P.valid P.describes P.desc_at P.desc_of)
+        ensures { Taken (saves_of P.Rules P.Game.own)
             (met_of self.old) Seed value.now result (met_of self.new) }
     {
         once(self.seed.is_some())?;
@@ -191,7 +191,7 @@ impl<'a> Found<'a> {
     }
 
     fn take_desc<P: Game>(&mut self, value: &'a [u8]) -> Result<(), LoadFault>
-        ensures { Taken (saved_game P.title P.letter_codes P.puzzle P.valid P.describes P.desc_at P.desc_of)
+        ensures { Taken (saves_of P.Rules P.Game.own)
             (met_of self.old) Desc value.now result (met_of self.new) }
     {
         once(self.desc.is_some())?;
@@ -200,7 +200,7 @@ impl<'a> Found<'a> {
     }
 
     fn take_auxinfo<P: Game>(&mut self, value: &'a [u8]) -> Result<(), LoadFault>
-        ensures { Taken (saved_game P.title P.letter_codes P.puzzle P.valid P.describes P.desc_at P.desc_of)
+        ensures { Taken (saves_of P.Rules P.Game.own)
             (met_of self.old) AuxInfo value.now result (met_of self.new) }
     {
         once(self.auxinfo.is_some())?;
@@ -209,7 +209,7 @@ impl<'a> Found<'a> {
     }
 
     fn take_ui<P: Game>(&mut self, value: &'a [u8]) -> Result<(), LoadFault>
-        ensures { Taken (saved_game P.title P.letter_codes P.puzzle P.valid P.describes P.desc_at P.desc_of)
+        ensures { Taken (saves_of P.Rules P.Game.own)
             (met_of self.old) Ui value.now result (met_of self.new) }
     {
         once(self.ui.is_some())?;
@@ -218,7 +218,7 @@ impl<'a> Found<'a> {
     }
 
     fn take_time<P: Game>(&mut self, value: &'a [u8]) -> Result<(), LoadFault>
-        ensures { Taken (saved_game P.title P.letter_codes P.puzzle P.valid P.describes P.desc_at P.desc_of)
+        ensures { Taken (saves_of P.Rules P.Game.own)
             (met_of self.old) Time value.now result (met_of self.new) }
     {
         once(self.time.is_some())?;
@@ -227,7 +227,7 @@ impl<'a> Found<'a> {
     }
 
     fn take_count<P: Game>(&mut self, value: &'a [u8]) -> Result<(), LoadFault>
-        ensures { Taken (saved_game P.title P.letter_codes P.puzzle P.valid P.describes P.desc_at P.desc_of)
+        ensures { Taken (saves_of P.Rules P.Game.own)
             (met_of self.old) StateCount value.now result (met_of self.new) }
     {
         once(self.count.is_some())?;
@@ -242,7 +242,7 @@ impl<'a> Found<'a> {
     }
 
     fn take_position<P: Game>(&mut self, value: &'a [u8]) -> Result<(), LoadFault>
-        ensures { Taken (saved_game P.title P.letter_codes P.puzzle P.valid P.describes P.desc_at P.desc_of)
+        ensures { Taken (saves_of P.Rules P.Game.own)
             (met_of self.old) Position value.now result (met_of self.new) }
     {
         once(self.position.is_some())?;
@@ -257,7 +257,7 @@ impl<'a> Found<'a> {
     }
 
     fn take_state<P: Game>(&mut self, key: StateKey, value: &'a [u8]) -> Result<(), LoadFault>
-        ensures { Taken (saved_game P.title P.letter_codes P.puzzle P.valid P.describes P.desc_at P.desc_of)
+        ensures { Taken (saves_of P.Rules P.Game.own)
             (met_of self.old) (State key) value.now result (met_of self.new) }
     {
         if self.count.is_none() || self.position.is_none() {

@@ -5,7 +5,7 @@ ghost use Rattle.std.specs.Result.{result_ok};
 ghost use Rattle.byte_text.specs.Reading.{Gives, GivesUnless};
 ghost use Rattle.play_midend.specs.Histories.{History, started, at_position};
 ghost use Rattle.play_save.specs.Records.{record_at};
-ghost use Rattle.play_save.specs.SaveTexts.{saved_game, is_solve, SaveText};
+ghost use Rattle.play_save.specs.SaveTexts.{saves_of, is_solve, SaveText};
 ghost use Rattle.play_save.specs.FirstFaults.{behind_head, records_of, extras_in, met_in, state_move, state_played, states_played, session_of, load_at};
 ghost use Rattle.play_save.specs.Taking.{IsPlayable, bytes_of, met_of, state_of};
 
@@ -43,7 +43,7 @@ fn behind_head(bytes: &[u8]) -> Result<&[u8], LoadFault>
 // Takes records in turn, up to the last that is needed. What follows is ignored.
 fn find<'a, P: Game>(alloc: Global, bytes: &'a [u8]) -> Result<Found<'a>, LoadFault>
     ensures given { GivesUnless LoadFault.OutOfMemory met_of result
-        (met_in (saved_game P.title P.letter_codes P.puzzle P.valid P.describes P.desc_at P.desc_of) (records_of bytes.now)) }
+        (met_in (saves_of P.Rules P.Game.own) (records_of bytes.now)) }
     ensures playable { IfOk result (λ found. IsPlayable (met_of found)) }
 {
     let mut found = Found::new(alloc);
@@ -85,7 +85,8 @@ pub(crate) fn is_solve(made: &Move) -> bool
 
 // The move of a state record, where it is one of the puzzle.
 fn move_of<P: Game>(puzzle: &P, state: &StateRecord) -> Option<Move>
-    ensures { result ≡ state_move (saved_game P.title P.letter_codes P.puzzle P.valid P.describes P.desc_at P.desc_of) puzzle.now state.now.key state.now.value.now }
+    ensures { result ≡ state_move (saves_of P.Rules P.Game.own) puzzle.now
+        state.now.key state.now.value.now }
 {
     match state.key {
         StateKey::AnyMove => read_move(state.value).ok(),
@@ -106,10 +107,8 @@ fn play_state<P: Game>(
     number: u32,
     state: &StateRecord,
 ) -> Result<(), LoadFault>
-    ensures ok { OnOk result (state_played (saved_game P.title P.letter_codes P.puzzle P.valid P.describes P.desc_at P.desc_of) session.old number
-        (state_move (saved_game P.title P.letter_codes P.puzzle P.valid P.describes P.desc_at P.desc_of) session.old.puzzle state.now.key state.now.value.now) ≡ Ok session.new) }
-    ensures err { IfErr result (λ fault. (fault ≡ LoadFault.OutOfMemory) ⊎ (state_played (saved_game P.title P.letter_codes P.puzzle P.valid P.describes P.desc_at P.desc_of) session.old number
-        (state_move (saved_game P.title P.letter_codes P.puzzle P.valid P.describes P.desc_at P.desc_of) session.old.puzzle state.now.key state.now.value.now) ≡ Err fault)) }
+    ensures { GivesUnless LoadFault.OutOfMemory (λ _. session.new) result
+        (state_played (saves_of P.Rules P.Game.own) session.old number (state_of state.now)) }
 {
     let made = move_of(session.puzzle(), state).ok_or(LoadFault::BadState(number))?;
     match session.play(made) {
@@ -122,9 +121,8 @@ fn play_state<P: Game>(
 // Plays the state records in turn, up to the first that is wrong.
 fn play_states<P: Game>(session: &mut Session<P>, states: &[StateRecord]) -> Result<(), LoadFault>
     requires { length states.now < 100000 }
-    ensures ok { OnOk result (states_played (saved_game P.title P.letter_codes P.puzzle P.valid P.describes P.desc_at P.desc_of) session.old 1 (map state_of states.now) ≡ Ok session.new) }
-    ensures err { IfErr result (λ fault. (fault ≡ LoadFault.OutOfMemory)
-        ⊎ (states_played (saved_game P.title P.letter_codes P.puzzle P.valid P.describes P.desc_at P.desc_of) session.old 1 (map state_of states.now) ≡ Err fault)) }
+    ensures { GivesUnless LoadFault.OutOfMemory (λ _. session.new) result
+        (states_played (saves_of P.Rules P.Game.own) session.old 1 (map state_of states.now)) }
 {
     for (index, state) in states.iter().enumerate() {
         play_state(session, index as u32 + 1, state)?;
@@ -170,7 +168,8 @@ fn start<P: Game>(
     found: &Found,
 ) -> Result<Session<P>, LoadFault>
     requires { params.size ≡ (P.puzzle puzzle).size }
-    ensures ok { IfOk result (λ s. s ≡ started puzzle params next_params (extras_in (met_of found.now))) }
+    ensures ok { IfOk result (λ s.
+        s ≡ started puzzle params next_params (extras_in (met_of found.now))) }
     ensures err { IfErr result (λ fault. fault ≡ LoadFault.OutOfMemory) }
 {
     let extras = extras(alloc, found)?;
@@ -185,7 +184,7 @@ fn start<P: Game>(
 fn session<P: Game>(alloc: Global, found: &Found) -> Result<Session<P>, LoadFault>
     requires { IsPlayable (met_of found.now) }
     ensures { GivesUnless LoadFault.OutOfMemory (λ s. s) result
-        (session_of (saved_game P.title P.letter_codes P.puzzle P.valid P.describes P.desc_at P.desc_of) (met_of found.now)) }
+        (session_of (saves_of P.Rules P.Game.own) (met_of found.now)) }
 {
     if !found.version || !found.name {
         return Err(LoadFault::Missing);
@@ -209,17 +208,19 @@ fn session<P: Game>(alloc: Global, found: &Found) -> Result<Session<P>, LoadFaul
 /// with the number of the first state record that is wrong. `OutOfMemory` may come in place of any answer, and nothing is handed
 /// out then.
 pub fn load<P: Game>(alloc: Global, bytes: &[u8]) -> Result<Session<P>, LoadFault>
-    ensures found { IfOk result (λ s. SaveText (saved_game P.title P.letter_codes P.puzzle P.valid P.describes P.desc_at P.desc_of) s bytes.now) }
-    ensures only { (h : History P) → SaveText (saved_game P.title P.letter_codes P.puzzle P.valid P.describes P.desc_at P.desc_of) h bytes.now
+    ensures found { IfOk result (λ s. SaveText (saves_of P.Rules P.Game.own) s bytes.now) }
+    ensures only { (h : History P) → SaveText (saves_of P.Rules P.Game.own) h bytes.now
         → GivesUnless LoadFault.OutOfMemory (λ s. s) result (Ok h) }
-    ensures exact { GivesUnless LoadFault.OutOfMemory (λ s. s) result (load_at (saved_game P.title P.letter_codes P.puzzle P.valid P.describes P.desc_at P.desc_of) bytes.now) }
+    ensures exact { GivesUnless LoadFault.OutOfMemory (λ s. s) result
+        (load_at (saves_of P.Rules P.Game.own) bytes.now) }
 {
     read(alloc, bytes)
 }
 
 #[tactic(auto, unfolding(crate::specs::FirstFaults::load_at))]
 fn read<P: Game>(alloc: Global, bytes: &[u8]) -> Result<Session<P>, LoadFault>
-    ensures { GivesUnless LoadFault.OutOfMemory (λ s. s) result (load_at (saved_game P.title P.letter_codes P.puzzle P.valid P.describes P.desc_at P.desc_of) bytes.now) }
+    ensures { GivesUnless LoadFault.OutOfMemory (λ s. s) result
+        (load_at (saves_of P.Rules P.Game.own) bytes.now) }
 {
     if bytes.len() > MOST_BYTES {
         return Err(LoadFault::TooLarge);

@@ -1,6 +1,6 @@
 //! The laws of save texts. They speak of definitions alone, so the function here does nothing.
 
-ghost use Rattle.play_save.specs.SaveTexts.{saved_game};
+ghost use Rattle.play_save.specs.SaveTexts.{saves_of};
 ghost use Rattle.play_save.specs.Laws.{SavesOneSession, FaultsWhereNone, WrittenIsSaved, WrittenSavesNoOther};
 
 use clue_rules::Game;
@@ -11,12 +11,8 @@ use clue_rules::Game;
 /// a storable session is a save of it, where it is no longer than 16,777,216 bytes; what is written of a valid session is a save
 /// of no other, and of none where the session isn't storable.
 pub fn laws<P: Game>()
-    ensures one_session { SavesOneSession
-        (saved_game P.title P.letter_codes P.puzzle P.valid P.describes P.desc_at P.desc_of) }
-    ensures fault_or_session { FaultsWhereNone
-        (saved_game P.title P.letter_codes P.puzzle P.valid P.describes P.desc_at P.desc_of) }
-    ensures written_is_saved { WrittenIsSaved
-        (saved_game P.title P.letter_codes P.puzzle P.valid P.describes P.desc_at P.desc_of) P.valid }
-    ensures written_saves_no_other { WrittenSavesNoOther
-        (saved_game P.title P.letter_codes P.puzzle P.valid P.describes P.desc_at P.desc_of) P.valid }
+    ensures one_session { SavesOneSession (saves_of P.Rules P.Game.own) }
+    ensures fault_or_session { FaultsWhereNone (saves_of P.Rules P.Game.own) }
+    ensures written_is_saved { WrittenIsSaved (saves_of P.Rules P.Game.own) P.valid }
+    ensures written_saves_no_other { WrittenSavesNoOther (saves_of P.Rules P.Game.own) P.valid }
 {}

@@ -2,6 +2,7 @@
 
 ghost use Rattle.std.specs.Prelude.{◌≡◌, ◌≤◌, All, length, IfOk, IfErr};
 ghost use Rattle.play_midend.specs.Histories.{IsStorable, shown};
+ghost use Rattle.play_save.specs.SaveTexts.{longest_save};
 ghost use Rattle.play_save.specs.Written.{save_of};
 ghost use Rattle.play_save.specs.Laws.{HasGrid};
 
@@ -22,9 +23,11 @@ pub fn saved_and_loaded<P: Game>(
     session: &Session<P>,
 ) -> Result<Session<P>, LoadFault>
     ensures same { IfOk result (λ s. s ≡ session.now) }
-    ensures board { IfOk result (λ s. shown (P.puzzle s.puzzle) s ≡ shown (P.puzzle session.now.puzzle) session.now) }
-    ensures loads { IsStorable P.puzzle P.valid P.letter_codes session.now → All HasGrid session.now.moves
-        → length (save_of P.title P.desc_of session.now) ≤ 16777216
+    ensures board { IfOk result (λ s.
+        shown (P.puzzle s.puzzle) s ≡ shown (P.puzzle session.now.puzzle) session.now) }
+    ensures loads { IsStorable P.puzzle P.valid P.letter_codes session.now
+        → All HasGrid session.now.moves
+        → length (save_of P.title P.desc_of session.now) ≤ longest_save
         → IfErr result (λ fault. fault ≡ LoadFault.OutOfMemory) }
 {
     let _board = session.board();

@@ -3,7 +3,7 @@
 ghost use Rattle.std.specs.Prelude.{◌≡◌, ℕ, ◌+◌, ◌++◌, [], ◌∷◌, length, map, Some, None, IfOk, IfErr, OnOk};
 ghost use Rattle.std.specs.Fmt.{decimal};
 ghost use Rattle.play_midend.specs.Steps.{is_restart};
-ghost use Rattle.play_save.specs.Written.{with_value, record_text, records_text, kept_line, head_lines, body_lines, state_line, state_lines, save_of};
+ghost use Rattle.play_save.specs.Written.{with_value, record_text, records_text, kept_record, head_records, body_records, state_record, state_records, save_of};
 
 use crate::fault::LoadFault;
 use crate::key::{Key, StateKey};
@@ -15,7 +15,8 @@ use std::alloc::{AllocError, Global};
 // Writes a record.
 #[tactic(auto, unfolding(crate::specs::Written::record_text))]
 fn put(text: &mut Vec<u8>, key: Key, value: &[u8]) -> Result<(), AllocError>
-    ensures { OnOk result (text.new.items ≡ text.old.items ++ record_text (with_value key value.now)) }
+    ensures { OnOk result (text.new.items
+        ≡ text.old.items ++ record_text (with_value key value.now)) }
 {
     let alloc = *text.allocator();
     let length = format!(in alloc; "{}", value.len())?;
@@ -30,7 +31,8 @@ fn put(text: &mut Vec<u8>, key: Key, value: &[u8]) -> Result<(), AllocError>
 
 // Writes a number.
 fn put_count(text: &mut Vec<u8>, key: Key, count: usize) -> Result<(), AllocError>
-    ensures { OnOk result (text.new.items ≡ text.old.items ++ record_text (with_value key (decimal count))) }
+    ensures { OnOk result (text.new.items
+        ≡ text.old.items ++ record_text (with_value key (decimal count))) }
 {
     let alloc = *text.allocator();
     let value = format!(in alloc; "{count}")?;
@@ -39,7 +41,8 @@ fn put_count(text: &mut Vec<u8>, key: Key, count: usize) -> Result<(), AllocErro
 
 // Writes bytes that are kept, where there are any.
 fn put_kept(text: &mut Vec<u8>, key: Key, kept: &Option<KeptBytes>) -> Result<(), AllocError>
-    ensures { OnOk result (text.new.items ≡ text.old.items ++ records_text (kept_line key kept.now)) }
+    ensures { OnOk result (text.new.items
+        ≡ text.old.items ++ records_text (kept_record key kept.now)) }
 {
     if let Some(bytes) = kept {
         put(text, key, bytes.as_slice())?;
@@ -48,7 +51,8 @@ fn put_kept(text: &mut Vec<u8>, key: Key, kept: &Option<KeptBytes>) -> Result<()
 }
 
 fn put_head<P: Game>(text: &mut Vec<u8>, session: &Session<P>) -> Result<(), AllocError>
-    ensures { OnOk result (text.new.items ≡ text.old.items ++ records_text (head_lines P.title session.now)) }
+    ensures { OnOk result (text.new.items
+        ≡ text.old.items ++ records_text (head_records P.title session.now)) }
 {
     put(text, Key::SaveFile, COLLECTION)?;
     put(text, Key::FormatVersion, b"1")?;
@@ -71,7 +75,8 @@ fn put_body<P: Game>(
     session: &Session<P>,
     desc: &[u8],
 ) -> Result<(), AllocError>
-    ensures { OnOk result (text.new.items ≡ text.old.items ++ records_text (body_lines desc.now session.now)) }
+    ensures { OnOk result (text.new.items
+        ≡ text.old.items ++ records_text (body_records desc.now session.now)) }
 {
     let extras = session.extras();
     put_kept(text, Key::Seed, &extras.seed)?;
@@ -90,7 +95,8 @@ fn is_restart(made: &Move) -> bool
 
 // Writes the state record of a move.
 fn put_state(text: &mut Vec<u8>, made: &Move, desc: &[u8]) -> Result<(), LoadFault>
-    ensures ok { OnOk result (text.new.items ≡ text.old.items ++ record_text (state_line desc.now made.now)) }
+    ensures ok { OnOk result (text.new.items
+        ≡ text.old.items ++ record_text (state_record desc.now made.now)) }
     ensures err { IfErr result (λ fault. fault ≡ LoadFault.OutOfMemory) }
 {
     if is_restart(made) {
@@ -115,7 +121,8 @@ fn put_states<P: Game>(
     session: &Session<P>,
     desc: &[u8],
 ) -> Result<(), LoadFault>
-    ensures ok { OnOk result (text.new.items ≡ text.old.items ++ records_text (state_lines desc.now session.now)) }
+    ensures ok { OnOk result (text.new.items
+        ≡ text.old.items ++ records_text (state_records desc.now session.now)) }
     ensures err { IfErr result (λ fault. fault ≡ LoadFault.OutOfMemory) }
 {
     put_count(text, Key::StateCount, session.states())?;

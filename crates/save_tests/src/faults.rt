@@ -1,13 +1,12 @@
 //! Each refusal, as an edit of the sample.
 
-use crate::sample::{SAMPLE, answer, sample_with, text_of};
+use crate::sample::{SAMPLE, answer, check, check_edits, edited, text_of};
 use clue_rules::{Towers, Unequal};
 use play_save::LoadFault;
 use std::test::Fail;
 
 #[test]
 fn each_edit_has_its_fault(rt: HostRuntime) -> Result<(), Fail> {
-    let alloc = rt.alloc();
     let rows: [(usize, &[&str], &str); 30] = [
         (
             0,
@@ -20,14 +19,7 @@ fn each_edit_has_its_fault(rt: HostRuntime) -> Result<(), Fail> {
             "NotASave",
         ),
         (0, &["SAVEFILE:41"], "NotASave"),
-        (
-            0,
-            &[
-                "COMMENT :1:x",
-                "SAVEFILE:41:Simon Tatham's Portable Puzzle Collection",
-            ],
-            "NotASave",
-        ),
+        (0, &["COMMENT :1:x", SAMPLE[0]], "NotASave"),
         (1, &["VERSION :1:2"], "Version"),
         (2, &["GAME    :6:towers"], "WrongGame"),
         (2, &["GAME    :6:Towers", "GAME    :6:Towers"], "Repeated"),
@@ -39,11 +31,7 @@ fn each_edit_has_its_fault(rt: HostRuntime) -> Result<(), Fail> {
         (8, &["MOVE    :6:F0,0,2"], "Unsupported"),
         (8, &["MOVE    :6:H0,0,2"], "Unsupported"),
         (9, &["SOLVE   :1:H"], "Unsupported"),
-        (
-            5,
-            &["DESC    :13:3//////3/////", "PRIVDESC:1:x"],
-            "Unsupported",
-        ),
+        (5, &[SAMPLE[5], "PRIVDESC:1:x"], "Unsupported"),
         (3, &["PARAMS  :3:3dt"], "BadParams"),
         (4, &["CPARAMS :2:10"], "BadParams"),
         (5, &["DESC    :1:3"], "BadDesc"),
@@ -59,40 +47,28 @@ fn each_edit_has_its_fault(rt: HostRuntime) -> Result<(), Fail> {
         (9, &["MOVE    :6:R3,0,2"], "BadState 2"),
         (9, &["SOLVE   :10:S132213321"], "BadState 2"),
     ];
-    for (place, lines, wanted) in rows {
-        let text = sample_with(alloc, place, lines)?;
-        let given = answer::<Towers>(alloc, text.as_bytes())?;
-        assert_eq!(rt; given.as_str(), wanted, "{text}");
-    }
-    Ok(())
+    check_edits(&rt, rt.alloc(), &rows)
 }
 
 #[test]
 fn a_line_that_is_left_out(rt: HostRuntime) -> Result<(), Fail> {
-    let alloc = rt.alloc();
-    let rows = [
-        (0, "NotASave"),
-        (1, "Missing"),
-        (2, "Missing"),
-        (3, "Missing"),
-        (4, "Missing"),
-        (5, "Missing"),
-        (6, "EarlyState"),
-        (7, "EarlyState"),
-        (8, "Missing"),
-        (9, "Missing"),
+    let rows: [(usize, &[&str], &str); 10] = [
+        (0, &[], "NotASave"),
+        (1, &[], "Missing"),
+        (2, &[], "Missing"),
+        (3, &[], "Missing"),
+        (4, &[], "Missing"),
+        (5, &[], "Missing"),
+        (6, &[], "EarlyState"),
+        (7, &[], "EarlyState"),
+        (8, &[], "Missing"),
+        (9, &[], "Missing"),
     ];
-    for (place, wanted) in rows {
-        let text = sample_with(alloc, place, [].as_slice())?;
-        let given = answer::<Towers>(alloc, text.as_bytes())?;
-        assert_eq!(rt; given.as_str(), wanted, "{text}");
-    }
-    Ok(())
+    check_edits(&rt, rt.alloc(), &rows)
 }
 
 #[test]
 fn states_are_judged_on_the_board_so_far(rt: HostRuntime) -> Result<(), Fail> {
-    let alloc = rt.alloc();
     let rows: [(usize, &[&str], &str); 12] = [
         (8, &["RESTART :13:3//////3/////"], "BadState 1"),
         (8, &["RESTART :1:H"], "BadState 1"),
@@ -107,97 +83,34 @@ fn states_are_judged_on_the_board_so_far(rt: HostRuntime) -> Result<(), Fail> {
         (9, &["MOVE    :0:"], "BadState 2"),
         (9, &["MOVE    :8:R1,0,256"], "BadState 2"),
     ];
-    for (place, lines, wanted) in rows {
-        let text = sample_with(alloc, place, lines)?;
-        let given = answer::<Towers>(alloc, text.as_bytes())?;
-        assert_eq!(rt; given.as_str(), wanted, "{text}");
-    }
-    Ok(())
+    check_edits(&rt, rt.alloc(), &rows)
 }
 
 #[test]
 fn the_first_fault_decides(rt: HostRuntime) -> Result<(), Fail> {
     let alloc = rt.alloc();
-    // Two edits of the sample at once.
-    let rows: [(&[&str], &str); 5] = [
+    // Two edits of the sample at once; an empty line is none.
+    let rows: [((usize, &str), (usize, &str), &str); 5] = [
         // A later hint comes before an earlier state that can't be played.
-        (
-            &[
-                SAMPLE[0],
-                SAMPLE[1],
-                SAMPLE[2],
-                SAMPLE[3],
-                SAMPLE[4],
-                SAMPLE[5],
-                SAMPLE[6],
-                SAMPLE[7],
-                "MOVE    :6:R9,0,1",
-                "MOVE    :1:H",
-            ],
-            "Unsupported",
-        ),
+        ((8, "MOVE    :6:R9,0,1"), (9, "MOVE    :1:H"), "Unsupported"),
         // So does a cut end.
-        (
-            &[
-                SAMPLE[0],
-                SAMPLE[1],
-                SAMPLE[2],
-                SAMPLE[3],
-                SAMPLE[4],
-                SAMPLE[5],
-                SAMPLE[6],
-                SAMPLE[7],
-                "MOVE    :6:R9,0,1",
-            ],
-            "Missing",
-        ),
+        ((8, "MOVE    :6:R9,0,1"), (9, ""), "Missing"),
         // What is missing comes before a description that can't be read, and that before a state.
-        (
-            &[
-                SAMPLE[0],
-                SAMPLE[2],
-                SAMPLE[3],
-                SAMPLE[4],
-                "DESC    :1:3",
-                SAMPLE[6],
-                SAMPLE[7],
-                SAMPLE[8],
-                SAMPLE[9],
-            ],
-            "Missing",
-        ),
-        (
-            &[
-                SAMPLE[0],
-                SAMPLE[1],
-                SAMPLE[2],
-                SAMPLE[3],
-                SAMPLE[4],
-                "DESC    :1:3",
-                SAMPLE[6],
-                SAMPLE[7],
-                "MOVE    :6:R9,0,1",
-                SAMPLE[9],
-            ],
-            "BadDesc",
-        ),
+        ((1, ""), (5, "DESC    :1:3"), "Missing"),
+        ((5, "DESC    :1:3"), (8, "MOVE    :6:R9,0,1"), "BadDesc"),
         // The parameters stand before the game.
         (
-            &[SAMPLE[0], SAMPLE[1], "PARAMS  :3:3dt", "GAME    :7:Unequal"],
+            (2, "PARAMS  :3:3dt"),
+            (3, "GAME    :7:Unequal"),
             "BadParams",
         ),
     ];
-    for (lines, wanted) in rows {
-        let text = text_of(alloc, lines, "\n")?;
-        let given = answer::<Towers>(alloc, text.as_bytes())?;
-        assert_eq!(rt; given.as_str(), wanted, "{text}");
+    for (one, other, wanted) in rows {
+        let text = edited(alloc, &[(one.0, &[one.1]), (other.0, &[other.1])])?;
+        check::<Towers>(&rt, alloc, text.as_str(), wanted)?;
     }
     let sample = text_of(alloc, &SAMPLE, "\n")?;
-    assert_eq!(rt;
-        answer::<Unequal>(alloc, sample.as_bytes())?.as_str(),
-        "WrongGame"
-    );
-    Ok(())
+    check::<Unequal>(&rt, alloc, sample.as_str(), "WrongGame")
 }
 
 #[test]

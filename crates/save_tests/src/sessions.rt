@@ -1,6 +1,6 @@
 //! Sessions that are saved and loaded, prefixes of a save, and bytes that are kept.
 
-use crate::sample::{SAMPLE, answer, text_of};
+use crate::sample::{SAMPLE, answer, check, text_of};
 use clue_rules::{Game, Params, Towers};
 use latin_board::Size;
 use play_midend::{Extras, Session, read_move};
@@ -91,19 +91,12 @@ fn a_foreign_file_with_kept_bytes(rt: HostRuntime) -> Result<(), Fail> {
     text.push_str("COMMENT :5:hello\r\n")?;
     text.push_str(text_of(alloc, &lines[6..], "\r\n")?.as_str())?;
     let written = text_of(alloc, &lines, "\n")?;
-    assert_eq!(rt;
-        answer::<Towers>(alloc, text.as_bytes())?.as_str(),
-        written.as_str()
-    );
+    check::<Towers>(&rt, alloc, text.as_str(), written.as_str())?;
     // Reading stops at the later count.
     let mut moved = text_of(alloc, &lines[..6], "\r\n")?;
     moved.push_str(text_of(alloc, &lines[7..], "\r\n")?.as_str())?;
     moved.push_str("DESC    :13:3//////3/////\r\n")?;
-    assert_eq!(rt;
-        answer::<Towers>(alloc, moved.as_bytes())?.as_str(),
-        "Missing"
-    );
-    Ok(())
+    check::<Towers>(&rt, alloc, moved.as_str(), "Missing")
 }
 
 #[test]

@@ -1,12 +1,12 @@
 use Rattle.std.proofs.Common.{length}
-use Rattle.play_save.specs.SaveTexts.{saved_game}
+use Rattle.play_save.specs.SaveTexts.{saves_of}
 use Rattle.play_save.specs.Taking.{met_of}
 use Rattle.play_save.proofs.ReadingOn.{Reads}
 use Rattle.play_save.proofs.loading.find.Given as goal
 
 abbrev pub invariant-loop-rest : goal.invariant-loop-rest
 invariant-loop-rest g l =
-    let game = saved_game g.P.Game.title g.P.Game.letter_codes g.P.Rules.puzzle g.P.Rules.valid g.P.Game.describes g.P.Game.desc_at g.P.Game.desc_of in
+    let game = saves_of g.P.Rules g.P.Game in
     Reads game l.bytes l.rest (met_of l.found)
 
 abbrev pub decreases-loop-rest : goal.decreases-loop-rest

@@ -1,10 +1,11 @@
 use Rattle.std.proofs.Common.{◌≡◌, ◌+◌, drop, map}
-use Rattle.play_save.specs.SaveTexts.{saved_game}
+use Rattle.play_save.specs.SaveTexts.{saves_of}
 use Rattle.play_save.specs.FirstFaults.{states_played}
 use Rattle.play_save.specs.Taking.{state_of}
 use Rattle.play_save.proofs.loading.play_states.Given as goal
 
 abbrev pub invariant-loop-index : goal.invariant-loop-index
 invariant-loop-index g l =
-    let game = saved_game g.P.Game.title g.P.Game.letter_codes g.P.Rules.puzzle g.P.Rules.valid g.P.Game.describes g.P.Game.desc_at g.P.Game.desc_of in
-    states_played game l.session (l.index + 1) (map state_of (drop l.index l.states)) ≡ states_played game l.fn.session 1 (map state_of l.states)
+    let game = saves_of g.P.Rules g.P.Game in
+    states_played game l.session (l.index + 1) (map state_of (drop l.index l.states))
+    ≡ states_played game l.fn.session 1 (map state_of l.states)

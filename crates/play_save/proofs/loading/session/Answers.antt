@@ -1,17 +1,18 @@
 -- The last state is behind the position.
 use Rattle.std.proofs.Common.{◌≡◌, length, map, Some, option_map, ap, arith}
-use Rattle.play_save.specs.SaveTexts.{saved_game}
+use Rattle.play_save.specs.SaveTexts.{saves_of}
 use Rattle.play_save.specs.Taking.{state_of}
 use Rattle.play_save.proofs.StatesPlayed.{position_played}
 use Rattle.play_save.proofs.loading.session.Goals as goal
 
 pub go_back-requires-clause-inside : goal.go_back-requires-clause-inside
 go_back-requires-clause-inside g c =
-    let P = g.P.Game in
-    let game = saved_game P.title P.letter_codes g.P.Rules.puzzle g.P.Rules.valid P.describes P.desc_at P.desc_of in
-    let met_there : option_map Some c.args.found.now.position ≡ Some (Some c.in_ok-position.position) = ap (option_map Some) c.in_ok-position.ensures.ok_part in
+    let game = saves_of g.P.Rules g.P.Game in
+    let met_there : option_map Some c.args.found.now.position ≡ Some (Some c.in_ok-position.position) =
+    ap (option_map Some) c.in_ok-position.ensures.ok_part in
     let inside = c.requires.inside c.in_ok-position.position met_there in
-    let last = position_played game c.in_ok-session.session c.play_states.new.session 1 (map state_of c.deref.result.now) c.in_ok-play_states.ensures.ok in
+    let states = map state_of c.deref.result.now in
+    let last = position_played game c.in_ok-session.session c.play_states.new.session 1 states c.in_ok-play_states.ensures in
     let items = c.deref.ensures.value in
     let first = ap (λ h. h.position) c.in_ok-session.ensures.ok in
     omega (arith, last, first, inside.1, ap (λ xs. length (map state_of xs)) items)

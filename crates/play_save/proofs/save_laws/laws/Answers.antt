@@ -1,40 +1,24 @@
-use Rattle.std.proofs.Common.{refl}
-use Rattle.play_save.specs.SaveTexts.{saved_game}
-use Rattle.play_save.proofs.GameTexts.{game_owes}
+-- The laws, of what a game owes.
+use Rattle.play_save.specs.SaveTexts.{saves_of}
+use Rattle.play_save.proofs.GameTexts.{Owes, game_owes}
 use Rattle.play_save.proofs.LoadAnswers.{saves_one_session, faults_where_none}
 use Rattle.play_save.proofs.SavedWritten.{written_is_saved, written_saves_no_other}
+use Rattle.play_save.proofs.save_laws.laws.Given.{Over}
 use Rattle.play_save.proofs.save_laws.laws.Goals as goal
 
+-- what the game owes
+owes : (g : Over) → Owes (saves_of g.P.Rules g.P.Game) g.P.Rules.valid
+owes g = let laws = g.met.P.Game in game_owes g.P.Rules g.P.Game laws.desc_taken laws.desc_again laws.desc_canonical
+
 pub returns-clause-one_session : goal.returns-clause-one_session
-returns-clause-one_session g c =
-    let P = g.P.Game in
-    let rules = g.P.Rules in
-    let owed = g.met.P.Game in
-    saves_one_session (saved_game P.title P.letter_codes rules.puzzle rules.valid P.describes P.desc_at P.desc_of)
-    (game_owes P.title P.letter_codes rules.puzzle rules.valid P.describes P.desc_at P.desc_of owed.desc_taken owed.desc_again owed.desc_canonical)
+returns-clause-one_session g c = saves_one_session (saves_of g.P.Rules g.P.Game) (owes g).texts
 
 pub returns-clause-fault_or_session : goal.returns-clause-fault_or_session
-returns-clause-fault_or_session g c =
-    let P = g.P.Game in
-    let rules = g.P.Rules in
-    let owed = g.met.P.Game in
-    faults_where_none (saved_game P.title P.letter_codes rules.puzzle rules.valid P.describes P.desc_at P.desc_of)
-    (game_owes P.title P.letter_codes rules.puzzle rules.valid P.describes P.desc_at P.desc_of owed.desc_taken owed.desc_again owed.desc_canonical)
+returns-clause-fault_or_session g c = faults_where_none (saves_of g.P.Rules g.P.Game) (owes g).texts
 
 pub returns-clause-written_is_saved : goal.returns-clause-written_is_saved
-returns-clause-written_is_saved g c =
-    let P = g.P.Game in
-    let rules = g.P.Rules in
-    let owed = g.met.P.Game in
-    written_is_saved (saved_game P.title P.letter_codes rules.puzzle rules.valid P.describes P.desc_at P.desc_of) rules.valid
-    (game_owes P.title P.letter_codes rules.puzzle rules.valid P.describes P.desc_at P.desc_of owed.desc_taken owed.desc_again owed.desc_canonical)
-    (λ p of. (owed.desc_canonical p of, of, refl))
+returns-clause-written_is_saved g c = written_is_saved (saves_of g.P.Rules g.P.Game) g.P.Rules.valid (owes g)
 
 pub returns-clause-written_saves_no_other : goal.returns-clause-written_saves_no_other
 returns-clause-written_saves_no_other g c =
-    let P = g.P.Game in
-    let rules = g.P.Rules in
-    let owed = g.met.P.Game in
-    written_saves_no_other (saved_game P.title P.letter_codes rules.puzzle rules.valid P.describes P.desc_at P.desc_of) rules.valid
-    (game_owes P.title P.letter_codes rules.puzzle rules.valid P.describes P.desc_at P.desc_of owed.desc_taken owed.desc_again owed.desc_canonical)
-    (λ p of. (owed.desc_canonical p of, of, refl))
+    written_saves_no_other (saves_of g.P.Rules g.P.Game) g.P.Rules.valid (owes g)

@@ -1,0 +1,163 @@
+-- The records that are written for a session: which value stands with which key, and where.
+use Rattle.std.proofs.Common.{◌≡◌, ℕ, ◌+◌, true, false, ◌==◌, List, [], ◌∷◌, ◌++◌, length, map, codes, Option, Some, None, cond, refl, ap, ◌∙◌}
+use Rattle.std.specs.Fmt.{decimal}
+use Rattle.std.proofs.lemmas.Bool.{cond_both}
+use Rattle.std.proofs.lemmas.List.{append-nil}
+use Rattle.clue_rules.specs.Parameters.{params_text}
+use Rattle.play_midend.specs.declared.moves.Move.{Move}
+use Rattle.play_midend.specs.Histories.{History}
+use Rattle.play_save.specs.declared.key.Key.{Key}
+use Rattle.play_save.specs.declared.key.Key.TheVariants.{FormatVersion, GameName, NextParams, CurrentParams, Seed, Desc, AuxInfo, Ui, Time, StateCount, Position, State}
+use Rattle.play_save.specs.Keys.{rank}
+use Rattle.play_save.specs.KeyedRecords.{KeyedRecord, KeyedState, values_of, onto_states, states_in, once_if_kept, is_state, CountsStandFirst, may_be_last, EndsWithState}
+use Rattle.play_save.specs.Written.{with_value, kept_record, state_value, state_record, body_records, state_records}
+use Rattle.play_save.proofs.RecordLists.{values_of-append, states_in-append, adds_no_state}
+use Rattle.play_save.proofs.WrittenRecords.{is_known, AreKnown}
+
+-- the records behind the first
+abbrev pub four : {P : Type 0} → List ℕ → History P → List KeyedRecord
+four title h =
+    with_value FormatVersion (codes "1") ∷ with_value GameName title ∷ with_value NextParams (params_text h.next_params)
+    ∷ with_value CurrentParams (params_text h.params) ∷ []
+
+abbrev pub tail_records : {P : Type 0} → List ℕ → List ℕ → History P → List KeyedRecord
+tail_records title desc h = four title h ++ (body_records desc h ++ state_records desc h)
+
+abbrev states_of : List ℕ → List Move → List KeyedRecord
+states_of desc ms = map (state_record desc) ms
+
+-- a key of no state is no state record's
+states_none : (k : Key) (desc : List ℕ) (ms : List Move) → is_state k ≡ false → values_of k (states_of desc ms) ≡ []
+states_none k desc [] header = refl
+states_none k desc (m ∷ ms) header = rw (other k header) (states_none k desc ms header)
+  where
+    other : (j : Key) → is_state j ≡ false → (12 == rank j) ≡ false
+    other (State j) no_state = cc
+    other j no_state = refl
+
+-- bytes that are kept stand with their own key
+kept_values : (k j : Key) (kept : Option (List ℕ))
+    → values_of k (kept_record j kept) ≡ cond (rank j == rank k) (once_if_kept kept) []
+kept_values k j None =
+    cond_both (rank j == rank k) [] [] (λ (values : List (List ℕ)). [] ≡ values) (λ is. refl) (λ is. refl)
+kept_values k j (Some v) = refl
+
+-- the values that are written with a key, state records apart
+abbrev pub values_written : {P : Type 0} → List ℕ → List ℕ → History P → Key → List (List ℕ)
+values_written title desc h FormatVersion = codes "1" ∷ []
+values_written title desc h GameName = title ∷ []
+values_written title desc h NextParams = params_text h.next_params ∷ []
+values_written title desc h CurrentParams = params_text h.params ∷ []
+values_written title desc h Seed = once_if_kept h.extras.seed
+values_written title desc h Desc = desc ∷ []
+values_written title desc h AuxInfo = once_if_kept h.extras.auxinfo
+values_written title desc h Ui = once_if_kept h.extras.ui
+values_written title desc h Time = once_if_kept h.extras.time
+values_written title desc h StateCount = decimal (length h.moves + 1) ∷ []
+values_written title desc h Position = decimal h.position ∷ []
+values_written title desc h k = []
+
+-- (the last clause is looked at for each key but those of states)
+pub values_tail : {P : Type 0} (title desc : List ℕ) (h : History P) (k : Key)
+    → is_state k ≡ false → values_of k (tail_records title desc h) ≡ values_written title desc h k
+values_tail title desc h (State k) no_state = cc
+values_tail title desc h k no_state =
+    let seed = kept_values k Seed h.extras.seed in
+    let auxinfo = kept_values k AuxInfo h.extras.auxinfo in
+    let ui = kept_values k Ui h.extras.ui in
+    let time = kept_values k Time h.extras.time in
+    let states = states_none k desc h.moves no_state in
+    simp (values_of-append, seed, auxinfo, ui, time, states, append-nil)
+
+-- the state records
+states_none_kept : (j : Key) (kept : Option (List ℕ)) → is_state j ≡ false → states_in (kept_record j kept) ≡ []
+states_none_kept j None header = refl
+states_none_kept j (Some v) header = adds_no_state j v [] header
+
+states_map : (desc : List ℕ) (ms : List Move) → states_in (states_of desc ms) ≡ map (state_value desc) ms
+states_map desc [] = refl
+states_map desc (m ∷ ms) = ap (λ ss. state_value desc m ∷ ss) (states_map desc ms)
+
+states_body : {P : Type 0} (desc : List ℕ) (h : History P) → states_in (body_records desc h) ≡ []
+states_body desc h =
+    let seed = states_none_kept Seed h.extras.seed refl in
+    let auxinfo = states_none_kept AuxInfo h.extras.auxinfo refl in
+    let ui = states_none_kept Ui h.extras.ui refl in
+    let time = states_none_kept Time h.extras.time refl in
+    simp (states_in-append, seed, auxinfo, ui, time)
+
+pub states_tail : {P : Type 0} (title desc : List ℕ) (h : History P)
+    → states_in (tail_records title desc h) ≡ map (state_value desc) h.moves
+states_tail title desc h =
+    let body = states_body desc h in
+    states_in-append (body_records desc h) (state_records desc h)
+    ∙ (ap (λ ss. ss ++ states_in (state_records desc h)) body ∙ states_map desc h.moves)
+
+-- the counts come before the states, and a state or a count is the last
+front_first : (xs ys : List KeyedRecord) → states_in xs ≡ [] → CountsStandFirst ys → CountsStandFirst (xs ++ ys)
+front_first [] ys none first = first
+front_first (x ∷ xs) ys none first =
+    let parts = none_first x.key x.value (states_in xs) none in
+    ((λ state. absurd (never x.key parts.0 state)), front_first xs ys parts.1 first)
+  where
+    never : (k : Key) → is_state k ≡ false → is_state k ≡ true → ⊥
+    never k header state = cc
+
+    none_first : (k : Key) (v : List ℕ) (ss : List KeyedState)
+        → onto_states k v ss ≡ [] → (is_state k ≡ false) × (ss ≡ [])
+    none_first (State k) v ss e = cc
+    none_first k v ss e = (refl, e)
+
+states_first : (desc : List ℕ) (ms : List Move) → CountsStandFirst (states_of desc ms)
+states_first desc [] = tt
+states_first desc (m ∷ ms) =
+    ((λ state. (states_none StateCount desc ms refl, states_none Position desc ms refl)), states_first desc ms)
+
+pub counts_first_tail : {P : Type 0} (title desc : List ℕ) (h : History P)
+    → CountsStandFirst (tail_records title desc h)
+counts_first_tail title desc h =
+    let states : CountsStandFirst (state_records desc h) =
+    ((λ state. cc), ((λ state. cc), states_first desc h.moves)) in
+    front_first (four title h) (body_records desc h ++ state_records desc h) refl
+    (front_first (body_records desc h) (state_records desc h) (states_body desc h) states)
+
+ends_behind : (xs ys : List KeyedRecord) → EndsWithState ys → EndsWithState (xs ++ ys)
+ends_behind [] ys ends = ends
+ends_behind (x ∷ []) [] ends = absurd ends
+ends_behind (x ∷ []) (y ∷ ys) ends = ends
+ends_behind (x ∷ z ∷ xs) ys ends = ends_behind (z ∷ xs) ys ends
+
+ends_states : (r : KeyedRecord) (desc : List ℕ) (ms : List Move)
+    → may_be_last r.key ≡ true → EndsWithState (r ∷ states_of desc ms)
+ends_states r desc [] last = last
+ends_states r desc (m ∷ ms) last = ends_states (state_record desc m) desc ms refl
+
+pub ends_tail : {P : Type 0} (title desc : List ℕ) (h : History P) → EndsWithState (tail_records title desc h)
+ends_tail title desc h =
+    ends_behind (four title h) (body_records desc h ++ state_records desc h)
+    (ends_behind (body_records desc h) (state_records desc h)
+    (ends_states (with_value Position (decimal h.position)) desc h.moves refl))
+
+-- all keys have a name
+known_append : (xs ys : List KeyedRecord) → AreKnown xs → AreKnown ys → AreKnown (xs ++ ys)
+known_append [] ys known more = more
+known_append (x ∷ xs) ys known more = (known.0, known_append xs ys known.1 more)
+
+known_kept : (k : Key) (kept : Option (List ℕ)) → is_known k ≡ true → AreKnown (kept_record k kept)
+known_kept k None known = tt
+known_kept k (Some v) known = (known, tt)
+
+known_states : (desc : List ℕ) (ms : List Move) → AreKnown (states_of desc ms)
+known_states desc [] = tt
+known_states desc (m ∷ ms) = (refl, known_states desc ms)
+
+pub known_tail : {P : Type 0} (title desc : List ℕ) (h : History P) → AreKnown (tail_records title desc h)
+known_tail title desc h =
+    known_append (four title h) (body_records desc h ++ state_records desc h) (refl, (refl, (refl, (refl, tt))))
+    (known_append (body_records desc h) (state_records desc h)
+    (known_append (kept_record Seed h.extras.seed) _ (known_kept Seed h.extras.seed refl) (
+      refl,
+      known_append (kept_record AuxInfo h.extras.auxinfo) _ (known_kept AuxInfo h.extras.auxinfo refl)
+          (known_append (kept_record Ui h.extras.ui) _ (known_kept Ui h.extras.ui refl) (known_kept Time h.extras.time refl)),
+    ))
+    (refl, (refl, known_states desc h.moves)))
