@@ -1,18 +1,14 @@
 -- Replies, out of the replies of their parts.
 use Rattle.std.proofs.Common.{◌≡◌, ◌≢◌, ℕ, List, Some, Option, Result, Ok, Err, IsOk, refl, ap, sym, subst, inl, inr}
-use Rattle.clue_rules.specs.declared.game_id.GameId.{GameId}
-use Rattle.clue_rules.specs.declared.game_id.GameId.TheVariants.{Described}
-use Rattle.clue_rules.specs.declared.params.Params.{Params}
 use Rattle.play_midend.specs.declared.moves.Move.{Move}
 use Rattle.play_midend.specs.declared.fault.PlayFault.{PlayFault}
 use Rattle.play_midend.specs.declared.fault.PlayFault.TheVariants.{BadMove, Unsupported, OffGrid, OffRange, GivenSquare, FilledSquare, BadSolution, HistoryFull, OutOfMemory, NothingToUndo, NothingToRedo, NothingToRestart, NoSolution, SeveralSolutions}
 use Rattle.play_midend.specs.MoveTexts.{IsMoveText, move_fault}
-use Rattle.play_midend.specs.Histories.{History, started, played, IsRefusal}
+use Rattle.play_midend.specs.Histories.{History, played, IsRefusal}
 use Rattle.puzzle_cli.specs.declared.refusal.Refusal.{Refusal}
 use Rattle.puzzle_cli.specs.declared.refusal.Refusal.TheVariants.{Play}
 use Rattle.puzzle_cli.specs.declared.command.Request.TheVariants.{Move as Make}
 use Rattle.puzzle_cli.specs.GameFacts.{GameFacts}
-use Rattle.puzzle_cli.specs.NewSessions.{no_extras, TextBegins, IsIdRead}
 use Rattle.puzzle_cli.specs.SessionReplies.{ok_line, RequestGives, RequestTakesMemory}
 use Rattle.puzzle_cli.specs.Replies.{Explains}
 use Rattle.puzzle_cli.specs.Commands.{IsRead}

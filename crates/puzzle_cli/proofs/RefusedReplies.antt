@@ -10,7 +10,6 @@ use Rattle.puzzle_cli.specs.declared.command.Request.TheVariants.{Move as Make, 
 use Rattle.puzzle_cli.specs.declared.command.Word.TheVariants.{Undo, Redo, Restart, Show, Marks, Status, Id, Done, Solve, Save}
 use Rattle.puzzle_cli.specs.declared.line_fault.LineFault.{LineFault}
 use Rattle.puzzle_cli.specs.declared.line_fault.LineFault.TheVariants.{NoGame}
-use Rattle.puzzle_cli.specs.declared.refusal.Refusal.{Refusal}
 use Rattle.puzzle_cli.specs.declared.start_fault.StartFault.{StartFault}
 use Rattle.puzzle_cli.specs.declared.refusal.Refusal.TheVariants.{Play as OfPlay, Line as OfLine, Start as OfStart}
 use Rattle.puzzle_cli.specs.GameFacts.{GameFacts}

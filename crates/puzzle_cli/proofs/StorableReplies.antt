@@ -13,7 +13,7 @@ use Rattle.puzzle_cli.specs.declared.start_fault.StartFault.{StartFault}
 use Rattle.play_midend.specs.declared.fault.PlayFault.{PlayFault}
 use Rattle.play_midend.specs.declared.moves.Move.{Move}
 use Rattle.play_midend.specs.declared.moves.Move.TheVariants.{Solve as Filling}
-use Rattle.play_midend.specs.Histories.{History, IsStorable, started, played, restarted, SolveGives, undone, redone}
+use Rattle.play_midend.specs.Histories.{History, IsStorable, played, restarted, SolveGives, undone, redone}
 use Rattle.play_midend.specs.Laws.{Call, Play, FromStart, ToSolution, CallGives}
 use Rattle.play_midend.specs.Laws.{Undo as ToUndo, Redo as ToRedo}
 use Rattle.play_midend.proofs.StorableLaws.{starts_storable, storable_called}
@@ -24,7 +24,6 @@ use Rattle.puzzle_cli.specs.declared.command.Request.TheVariants.{Move as Make, 
 use Rattle.puzzle_cli.specs.declared.command.Word.TheVariants.{Undo, Redo, Restart, Show, Marks, Status, Id, Done, Solve, Save}
 use Rattle.puzzle_cli.specs.declared.line_fault.LineFault.{LineFault}
 use Rattle.puzzle_cli.specs.declared.line_fault.LineFault.TheVariants.{NoGame}
-use Rattle.puzzle_cli.specs.declared.refusal.Refusal.{Refusal}
 use Rattle.puzzle_cli.specs.declared.refusal.Refusal.TheVariants.{Play as OfPlay, Line as OfLine, Start as OfStart}
 use Rattle.puzzle_cli.specs.GameFacts.{GameFacts}
 use Rattle.puzzle_cli.specs.NewSessions.{no_extras, new_game, generated_game, IsIdRead, IdBegins, TextBegins}

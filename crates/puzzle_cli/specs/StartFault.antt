@@ -1,5 +1,5 @@
 -- The numbers and the names of the refusals of a first session, and what the program makes of each.
-use Rattle.std.specs.Prelude.{ℕ, List, ◌∷◌, [], ◌++◌, codes}
+use Rattle.std.specs.Prelude.{ℕ, List, [], ◌++◌, codes}
 use Rattle.std.specs.Fmt.{decimal}
 use Rattle.clue_rules.specs.IdFaults.{id_fault_name}
 use Rattle.puzzle_gen.specs.GenFaults.{gen_fault_name}
