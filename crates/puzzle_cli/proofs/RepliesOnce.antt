@@ -35,7 +35,7 @@ use Rattle.puzzle_cli.specs.SessionReplies.{Outcome, IsMoveRead, TextPlays, Solv
 use Rattle.puzzle_cli.specs.SolutionTexts.{listed_lines, move_line}
 use Rattle.puzzle_cli.specs.Refusals.{refusal_name}
 use Rattle.puzzle_cli.specs.Replies.{Writes, ReadGives, CommandGives, AmpleReply, begun, refusal_line}
-use Rattle.puzzle_cli.specs.Runs.{Run}
+use Rattle.puzzle_cli.specs.Runs.{RepliesInTurn}
 use Rattle.puzzle_cli.proofs.CommandLaws.{read_once}
 use Rattle.puzzle_cli.proofs.ListedOnce.{first_once}
 
@@ -181,10 +181,10 @@ module _ {P : Type 0} (f : GameFacts P) (laws : ItemLaws f.rules) (ids : IdsAreR
       writes_once old r a b m n x (subst (λ (q : Result (Option (Command (List ℕ))) LineFault). Writes (ReadGives f old q) old b n) same y)
 
   pub output_once : (lines : List Line) (old m n : Option (History P)) (a b : List ℕ)
-      → Run (AmpleReply f) lines old a m → Run (AmpleReply f) lines old b n → (a ≡ b) × (m ≡ n)
+      → RepliesInTurn (AmpleReply f) lines old a m → RepliesInTurn (AmpleReply f) lines old b n → (a ≡ b) × (m ≡ n)
   output_once [] old m n a b (none, stays) (nothing, rests) = (none ∙ sym nothing, stays ∙ sym rests)
   output_once (line ∷ lines) old m n a b (x, mid, rest, said, whole, runs) (y, then, more, told, all, goes) =
       let once = reply_once old line x y mid then said told in
-      let goes_on : Run (AmpleReply f) lines mid more n = subst (λ (s : Option (History P)). Run (AmpleReply f) lines s more n) (sym once.1) goes in
+      let goes_on : RepliesInTurn (AmpleReply f) lines mid more n = subst (λ (s : Option (History P)). RepliesInTurn (AmpleReply f) lines s more n) (sym once.1) goes in
       let later = output_once lines mid m n rest more runs goes_on in
       (whole ∙ ap (λ l. l ++ rest) once.0 ∙ ap (λ l. y ++ l) later.0 ∙ sym all, later.1)

@@ -23,7 +23,7 @@ use Rattle.puzzle_cli.specs.GameFacts.{GameFacts}
 use Rattle.puzzle_cli.specs.SolutionTexts.{move_line, solve_sentence}
 use Rattle.puzzle_cli.specs.SessionReplies.{ok_line}
 use Rattle.puzzle_cli.specs.Replies.{refusal_line, AmpleReply, Reply}
-use Rattle.puzzle_cli.specs.Runs.{Run}
+use Rattle.puzzle_cli.specs.Runs.{RepliesInTurn}
 
 -- ---- lines
 
@@ -52,7 +52,7 @@ RefusedLinesLeave {P} f =
 abbrev pub OutputIsOne : {P : Type 0} → GameFacts P → Type 0
 OutputIsOne {P} f =
     (lines : List Line) (old one other : Option (History P)) (written spelled : List ℕ)
-    → Run (AmpleReply f) lines old written one → Run (AmpleReply f) lines old spelled other → (written ≡ spelled) × (one ≡ other)
+    → RepliesInTurn (AmpleReply f) lines old written one → RepliesInTurn (AmpleReply f) lines old spelled other → (written ≡ spelled) × (one ≡ other)
 
 -- a session that can be stored, or none
 abbrev pub IsNoneOrStorable : {P : Type 0} → GameFacts P → Option (History P) → Type 0
