@@ -14,7 +14,7 @@ use Rattle.puzzle_cli.specs.declared.command.Command.{Command}
 use Rattle.puzzle_cli.specs.declared.command.Command.TheVariants.{Ask}
 use Rattle.puzzle_cli.specs.declared.command.Request.{Request}
 use Rattle.puzzle_cli.specs.declared.command.Request.TheVariants.{Move as Make, Solutions, Plain}
-use Rattle.puzzle_cli.specs.declared.command.Word.TheVariants.{Undo, Redo, Restart, Show, Marks, Status, Id, Done, Solve, Save}
+use Rattle.puzzle_cli.specs.declared.command.Word.TheVariants.{Undo, Redo, Restart, Solve}
 use Rattle.puzzle_cli.specs.declared.line_fault.LineFault.{LineFault}
 use Rattle.puzzle_cli.specs.declared.refusal.Refusal.{Refusal}
 use Rattle.puzzle_cli.specs.declared.refusal.Refusal.TheVariants.{Play as OfPlay}
@@ -61,27 +61,19 @@ module _ {P : Type 0} (f : GameFacts P) (h : History P) where
   IsPlain _ = Unit {0}
 
   ok_told : (call : Call) → IsPlain call → (bytes : List ℕ) → bytes ≡ ok_line → IsMade call bytes
-  ok_told (Play m) p bytes e = e
-  ok_told FromStart p bytes e = e
   ok_told ToSolution p bytes e = absurd p
-  ok_told ToUndo p bytes e = e
-  ok_told ToRedo p bytes e = e
+  ok_told call p bytes e = e
 
   refusal_told : (call : Call) → IsPlain call → (fault : PlayFault) (bytes : List ℕ) → bytes ≡ refusal_line (play_fault_name fault) → IsRefused call fault bytes
-  refusal_told (Play m) p fault bytes e = e
-  refusal_told FromStart p fault bytes e = e
   refusal_told ToSolution p fault bytes e = absurd p
-  refusal_told ToUndo p fault bytes e = e
-  refusal_told ToRedo p fault bytes e = e
+  refusal_told call p fault bytes e = e
 
   -- an exact refusal is one, whether the call takes memory or not
   refused_so : (call : Call) (fault : PlayFault) → fault ≢ OutOfMemory
       → (let exact : Result (History P) PlayFault = Err fault in MatchBool (may_want_memory call) (IsRefusal exact fault) (exact ≡ Err fault))
-  refused_so (Play m) fault n = exact_refusal (History P) fault n
-  refused_so FromStart fault n = exact_refusal (History P) fault n
-  refused_so ToSolution fault n = exact_refusal (History P) fault n
   refused_so ToUndo fault n = refl
   refused_so ToRedo fault n = refl
+  refused_so call fault n = exact_refusal (History P) fault n
 
   refused_call : (call : Call) (fault : PlayFault) (bytes : List ℕ) (new : Option (History P)) → CallGives (f.rules.puzzle h.puzzle) h call (Err fault)
       → fault ≢ OutOfMemory → IsRefused call fault bytes → new ≡ Some h → IsAnswered call bytes new
@@ -104,14 +96,10 @@ module _ {P : Type 0} (f : GameFacts P) (h : History P) where
   -- want of memory in place of success
   lacking : (call : Call) (k : History P) (bytes : List ℕ) (new : Option (History P)) → may_want_memory call ≡ true → CallGives (f.rules.puzzle h.puzzle) h call (Ok k)
       → bytes ≡ refusal_line (codes "OutOfMemory") → new ≡ Some h → IsAnswered call bytes new
-  lacking (Play m) k bytes new wants gives name stays =
-      subst (λ (s : Option (History P)). IsAnswered (Play m) bytes s) (sym stays) (Err OutOfMemory, (refl, (Ok k, gives, refl)), name)
-  lacking FromStart k bytes new wants gives name stays =
-      subst (λ (s : Option (History P)). IsAnswered FromStart bytes s) (sym stays) (Err OutOfMemory, (refl, (Ok k, gives, refl)), name)
-  lacking ToSolution k bytes new wants gives name stays =
-      subst (λ (s : Option (History P)). IsAnswered ToSolution bytes s) (sym stays) (Err OutOfMemory, (refl, (Ok k, gives, refl)), name)
   lacking ToUndo k bytes new wants gives name stays = cc
   lacking ToRedo k bytes new wants gives name stays = cc
+  lacking call k bytes new wants gives name stays =
+      subst (λ (s : Option (History P)). IsAnswered call bytes s) (sym stays) (Err OutOfMemory, (refl, (Ok k, gives, refl)), name)
 
   -- a move
   move_called : (text : List ℕ) (m : Move) (exact : Result (History P) PlayFault) → IsMoveText m text → TextPlays (f.rules.puzzle h.puzzle) h text exact
@@ -195,12 +183,7 @@ module _ {P : Type 0} (f : GameFacts P) (h : History P) where
   answered (Plain Redo) call bytes new is says = subst (λ (c : Call). IsAnswered c bytes new) (sym is) (redo_answered bytes new says)
   answered (Plain Restart) call bytes new is says = subst (λ (c : Call). IsAnswered c bytes new) (sym is) (restart_answered bytes new says)
   answered (Plain Solve) call bytes new is says = subst (λ (c : Call). IsAnswered c bytes new) (sym is) (solve_answered bytes new says)
-  answered (Plain Show) call bytes new never says = absurd never
-  answered (Plain Save) call bytes new never says = absurd never
-  answered (Plain Marks) call bytes new never says = absurd never
-  answered (Plain Status) call bytes new never says = absurd never
-  answered (Plain Id) call bytes new never says = absurd never
-  answered (Plain Done) call bytes new never says = absurd never
+  answered (Plain word) call bytes new never says = absurd never
 
 pub replies_are_calls : {P : Type 0} (f : GameFacts P) → RepliesAreCalls f
 replies_are_calls f h line request call bytes new asks is reply =
@@ -227,12 +210,7 @@ module _ {P : Type 0} (f : GameFacts P) (h : History P) (bytes : List ℕ) (new 
   other_stays (Plain Redo) none e = absurd (none ToRedo refl)
   other_stays (Plain Restart) none e = absurd (none FromStart refl)
   other_stays (Plain Solve) none e = absurd (none ToSolution refl)
-  other_stays (Plain Show) none e = text_stays _ e
-  other_stays (Plain Save) none e = text_stays _ e
-  other_stays (Plain Marks) none e = text_stays _ e
-  other_stays (Plain Status) none e = text_stays _ e
-  other_stays (Plain Id) none e = text_stays _ e
-  other_stays (Plain Done) none e = text_stays _ e
+  other_stays (Plain word) none e = text_stays _ e
 
   other_said : (request : Request (List ℕ)) → IsNoCall request → ReadSays f (Some h) (Ok (Some (Ask request))) bytes new → new ≡ Some h
   other_said request none (inl (inl gives)) = other_stays request none gives

@@ -236,18 +236,12 @@ pub read_found : {X : Type 0} (view : X → List ℕ) (line : Line) (result : Re
 read_found view line result h = subst (λ (r : Result (Option (Command (List ℕ))) LineFault). IsRead line r) (sym h) (line_is_read line)
 
 unmapped : {X : Type 0} (view : X → List ℕ) (c : Command X) → IsCommandInRange (command_map view c) → IsCommandInRange c
-unmapped view (New id) h = tt
-unmapped view Quit h = tt
-unmapped view (Ask (Move text)) h = tt
-unmapped view (Ask (Plain word)) h = tt
 unmapped view (Ask (Solutions n)) h = h
+unmapped view c h = tt
 
 in_range : (c : Command (List ℕ)) (line : List ℕ) → IsCommandLine c line → IsCommandInRange c
-in_range (New id) line h = tt
-in_range Quit line h = tt
-in_range (Ask (Move text)) line h = tt
-in_range (Ask (Plain word)) line h = tt
 in_range (Ask (Solutions n)) line h = (h.0, h.1)
+in_range c line h = tt
 
 pub read_range : {X : Type 0} (view : X → List ℕ) (line : Line) (result : Result (Option (Command X)) LineFault)
     → read_map view result ≡ read_at line → IfOk result (λ read. IfSome read IsCommandInRange)

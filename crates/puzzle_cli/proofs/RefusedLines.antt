@@ -2,7 +2,7 @@
 use Rattle.std.proofs.Common.{◌≡◌, ◌≢◌, ℕ, List, Some, Option, Result, Ok, Err, IsOk, refl, ap, sym, subst, inl, inr}
 use Rattle.play_midend.specs.declared.moves.Move.{Move}
 use Rattle.play_midend.specs.declared.fault.PlayFault.{PlayFault}
-use Rattle.play_midend.specs.declared.fault.PlayFault.TheVariants.{BadMove, Unsupported, OffGrid, OffRange, GivenSquare, FilledSquare, BadSolution, HistoryFull, OutOfMemory, NothingToUndo, NothingToRedo, NothingToRestart, NoSolution, SeveralSolutions}
+use Rattle.play_midend.specs.declared.fault.PlayFault.TheVariants.{OutOfMemory}
 use Rattle.play_midend.specs.MoveTexts.{IsMoveText, move_fault}
 use Rattle.play_midend.specs.Histories.{History, played, IsRefusal}
 use Rattle.puzzle_cli.specs.declared.refusal.Refusal.{Refusal}
@@ -42,20 +42,8 @@ module _ {P : Type 0} (f : GameFacts P) (h : History P) (text : List ℕ) where
 
   by_fault : (m : Move) (fault : PlayFault) → IsMoveText m text → IsRefusal (played (f.rules.puzzle h.puzzle) h m) fault
       → Explains (RequestGives f h (Make text)) (RequestTakesMemory f h (Make text)) (Play fault)
-  by_fault m BadMove spelled why = refused_exactly m BadMove spelled why
-  by_fault m Unsupported spelled why = refused_exactly m Unsupported spelled why
-  by_fault m OffGrid spelled why = refused_exactly m OffGrid spelled why
-  by_fault m OffRange spelled why = refused_exactly m OffRange spelled why
-  by_fault m GivenSquare spelled why = refused_exactly m GivenSquare spelled why
-  by_fault m FilledSquare spelled why = refused_exactly m FilledSquare spelled why
-  by_fault m BadSolution spelled why = refused_exactly m BadSolution spelled why
-  by_fault m HistoryFull spelled why = refused_exactly m HistoryFull spelled why
   by_fault m OutOfMemory spelled why = lacks_memory m (played (f.rules.puzzle h.puzzle) h m) spelled refl why
-  by_fault m NothingToUndo spelled why = refused_exactly m NothingToUndo spelled why
-  by_fault m NothingToRedo spelled why = refused_exactly m NothingToRedo spelled why
-  by_fault m NothingToRestart spelled why = refused_exactly m NothingToRestart spelled why
-  by_fault m NoSolution spelled why = refused_exactly m NoSolution spelled why
-  by_fault m SeveralSolutions spelled why = refused_exactly m SeveralSolutions spelled why
+  by_fault m fault spelled why = refused_exactly m fault spelled why
 
   pub move_refused : (m : Move) (refusal : Refusal) (fault : PlayFault) → refusal ≡ Play fault → IsMoveText m text → IsRefusal (played (f.rules.puzzle h.puzzle) h m) fault
       → Explains (RequestGives f h (Make text)) (RequestTakesMemory f h (Make text)) refusal

@@ -7,7 +7,7 @@ use Rattle.puzzle_cli.specs.declared.command.Command.{Command}
 use Rattle.puzzle_cli.specs.declared.command.Command.TheVariants.{New, Quit, Ask}
 use Rattle.puzzle_cli.specs.declared.command.Request.{Request}
 use Rattle.puzzle_cli.specs.declared.command.Request.TheVariants.{Move as Make, Solutions, Plain}
-use Rattle.puzzle_cli.specs.declared.command.Word.TheVariants.{Undo, Redo, Restart, Show, Marks, Status, Id, Done, Solve, Save}
+use Rattle.puzzle_cli.specs.declared.command.Word.TheVariants.{Undo, Redo, Restart, Solve}
 use Rattle.puzzle_cli.specs.declared.line_fault.LineFault.{LineFault}
 use Rattle.puzzle_cli.specs.declared.line_fault.LineFault.TheVariants.{NoGame}
 use Rattle.puzzle_cli.specs.declared.start_fault.StartFault.{StartFault}
@@ -43,12 +43,7 @@ module _ {P : Type 0} (f : GameFacts P) (bytes name : List ℕ) (new : Option (H
   request_refused h (Plain Redo) e = call_refused h (redone h) e
   request_refused h (Plain Restart) e = call_refused h (restarted h) e
   request_refused h (Plain Solve) (exact, gives, says) = solve_refused h exact says
-  request_refused h (Plain Show) e = text_stays f h bytes new _ e
-  request_refused h (Plain Save) e = text_stays f h bytes new _ e
-  request_refused h (Plain Marks) e = text_stays f h bytes new _ e
-  request_refused h (Plain Status) e = text_stays f h bytes new _ e
-  request_refused h (Plain Id) e = text_stays f h bytes new _ e
-  request_refused h (Plain Done) e = text_stays f h bytes new _ e
+  request_refused h (Plain word) e = text_stays f h bytes new _ e
 
   begun_refused : (old : Option (History P)) (exact : Result (History P) StartFault) → begun exact ≡ Ok (bytes, new) → new ≡ old
   begun_refused old (Ok k) e = absurd (not_ok bytes name (sym (outcome_parts ok_line bytes (Some k) new e).0) named)

@@ -25,7 +25,7 @@ use Rattle.puzzle_cli.specs.declared.command.Command.TheVariants.{New, Quit, Ask
 use Rattle.puzzle_cli.specs.declared.command.Request.{Request}
 use Rattle.puzzle_cli.specs.declared.command.Request.TheVariants.{Move as Make, Solutions, Plain}
 use Rattle.puzzle_cli.specs.declared.command.Word.{Word}
-use Rattle.puzzle_cli.specs.declared.command.Word.TheVariants.{Undo, Redo, Restart, Show, Marks, Status, Id, Done, Solve, Save}
+use Rattle.puzzle_cli.specs.declared.command.Word.TheVariants.{Solve}
 use Rattle.puzzle_cli.specs.declared.line_fault.LineFault.{LineFault}
 use Rattle.puzzle_cli.specs.declared.refusal.Refusal.{Refusal}
 use Rattle.puzzle_cli.specs.Lines.{Line}
@@ -131,16 +131,8 @@ id_begins_once f laws (Err fault) one other is so = sym is ∙ so
 
 module _ {P : Type 0} (f : GameFacts P) (laws : ItemLaws f.rules) (ids : IdsAreReadOnce f) where
   word_once : (h : History P) (word : Word) (one other : Outcome P) → WordGives f h word one → WordGives f h word other → one ≡ other
-  word_once h Undo one other is so = sym is ∙ so
-  word_once h Redo one other is so = sym is ∙ so
-  word_once h Restart one other is so = sym is ∙ so
-  word_once h Show one other is so = sym is ∙ so
-  word_once h Save one other is so = sym is ∙ so
-  word_once h Marks one other is so = sym is ∙ so
-  word_once h Status one other is so = sym is ∙ so
-  word_once h Id one other is so = sym is ∙ so
-  word_once h Done one other is so = sym is ∙ so
   word_once h Solve one other is so = solve_once (f.rules.puzzle h.puzzle) h one other is so
+  word_once h word one other is so = sym is ∙ so
 
   request_once : (h : History P) (request : Request (List ℕ)) (one other : Outcome P) → RequestGives f h request one → RequestGives f h request other → one ≡ other
   request_once h (Make text) one other (e, plays, is) (d, does, so) =

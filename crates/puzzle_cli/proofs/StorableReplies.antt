@@ -21,7 +21,7 @@ use Rattle.puzzle_cli.specs.declared.command.Command.{Command}
 use Rattle.puzzle_cli.specs.declared.command.Command.TheVariants.{New, Quit, Ask}
 use Rattle.puzzle_cli.specs.declared.command.Request.{Request}
 use Rattle.puzzle_cli.specs.declared.command.Request.TheVariants.{Move as Make, Solutions, Plain}
-use Rattle.puzzle_cli.specs.declared.command.Word.TheVariants.{Undo, Redo, Restart, Show, Marks, Status, Id, Done, Solve, Save}
+use Rattle.puzzle_cli.specs.declared.command.Word.TheVariants.{Undo, Redo, Restart, Solve}
 use Rattle.puzzle_cli.specs.declared.line_fault.LineFault.{LineFault}
 use Rattle.puzzle_cli.specs.declared.line_fault.LineFault.TheVariants.{NoGame}
 use Rattle.puzzle_cli.specs.declared.refusal.Refusal.TheVariants.{Play as OfPlay, Line as OfLine, Start as OfStart}
@@ -75,12 +75,7 @@ module _ {P : Type 0} (f : GameFacts P) (laws : ItemLaws f.rules) (bytes : List 
   request_storable h (Plain Redo) s e = call_storable h ToRedo (redone h) s refl e
   request_storable h (Plain Restart) s e = call_storable h FromStart (restarted h) s refl e
   request_storable h (Plain Solve) s (exact, gives, says) = solve_storable h exact s gives says
-  request_storable h (Plain Show) s e = text_storable h _ s e
-  request_storable h (Plain Save) s e = text_storable h _ s e
-  request_storable h (Plain Marks) s e = text_storable h _ s e
-  request_storable h (Plain Status) s e = text_storable h _ s e
-  request_storable h (Plain Id) s e = text_storable h _ s e
-  request_storable h (Plain Done) s e = text_storable h _ s e
+  request_storable h (Plain word) s e = text_storable h _ s e
 
   new_storable : (params : Params) (puzzle : P) (k : History P) → IsParams f.letters params → f.rules.valid puzzle → params.size ≡ (f.rules.puzzle puzzle).size
       → new_game params puzzle ≡ k → IsStorable f.rules.puzzle f.rules.valid f.letters k
