@@ -55,16 +55,16 @@ module _ {P : Type 0} (f : GameFacts P) (h : History P) where
   IsAnswered call bytes new =
       IsSomeAnd new (λ k. (answer : Result (Unit {0}) PlayFault) × Answered (f.rules.puzzle h.puzzle) h call answer k × IsToldOf call answer bytes)
 
-  -- the calls but solving
-  abbrev IsPlain : Call → Type 0
-  IsPlain ToSolution = ⊥
-  IsPlain _ = Unit {0}
+  -- the calls that are answered by `ok`: all but solving
+  abbrev SaysOk : Call → Type 0
+  SaysOk ToSolution = ⊥
+  SaysOk _ = Unit {0}
 
-  ok_told : (call : Call) → IsPlain call → (bytes : List ℕ) → bytes ≡ ok_line → IsMade call bytes
+  ok_told : (call : Call) → SaysOk call → (bytes : List ℕ) → bytes ≡ ok_line → IsMade call bytes
   ok_told ToSolution p bytes e = absurd p
   ok_told call p bytes e = e
 
-  refusal_told : (call : Call) → IsPlain call → (fault : PlayFault) (bytes : List ℕ) → bytes ≡ refusal_line (play_fault_name fault) → IsRefused call fault bytes
+  refusal_told : (call : Call) → SaysOk call → (fault : PlayFault) (bytes : List ℕ) → bytes ≡ refusal_line (play_fault_name fault) → IsRefused call fault bytes
   refusal_told ToSolution p fault bytes e = absurd p
   refusal_told call p fault bytes e = e
 
@@ -80,18 +80,18 @@ module _ {P : Type 0} (f : GameFacts P) (h : History P) where
   refused_call call fault bytes new gives spares told stays =
       subst (λ (s : Option (History P)). IsAnswered call bytes s) (sym stays) (Err fault, (refl, (Err fault, gives, refused_so call fault spares)), told)
 
-  called : (call : Call) (exact : Result (History P) PlayFault) (bytes : List ℕ) (new : Option (History P)) → IsPlain call
+  called : (call : Call) (exact : Result (History P) PlayFault) (bytes : List ℕ) (new : Option (History P)) → SaysOk call
       → CallGives (f.rules.puzzle h.puzzle) h call exact → (exact ≢ Err OutOfMemory) → Writes (λ o. call_outcome exact ≡ o) (Some h) bytes new
       → IsAnswered call bytes new
-  called call (Ok k) bytes new plain gives spares (inl e) =
+  called call (Ok k) bytes new says_ok gives spares (inl e) =
       let parts = outcome_parts ok_line bytes (Some k) new e in
-      subst (λ (s : Option (History P)). IsAnswered call bytes s) parts.1 (Ok tt, gives, ok_told call plain bytes (sym parts.0))
-  called call (Ok k) bytes new plain gives spares (inr (refusal, e, name, stays)) = absurd (said_or_refused ok_line (Some k) refusal e)
-  called call (Err fault) bytes new plain gives spares (inl e) = absurd (said_or_refused bytes new (OfPlay fault) (sym e))
-  called call (Err fault) bytes new plain gives spares (inr (refusal, e, name, stays)) =
+      subst (λ (s : Option (History P)). IsAnswered call bytes s) parts.1 (Ok tt, gives, ok_told call says_ok bytes (sym parts.0))
+  called call (Ok k) bytes new says_ok gives spares (inr (refusal, e, name, stays)) = absurd (said_or_refused ok_line (Some k) refusal e)
+  called call (Err fault) bytes new says_ok gives spares (inl e) = absurd (said_or_refused bytes new (OfPlay fault) (sym e))
+  called call (Err fault) bytes new says_ok gives spares (inr (refusal, e, name, stays)) =
       let is : OfPlay fault ≡ refusal = refusal_parts P (OfPlay fault) refusal e in
       refused_call call fault bytes new gives (λ o. spares (ap Err o))
-      (refusal_told call plain fault bytes (name ∙ ap (λ (r : Refusal). refusal_line (refusal_name r)) (sym is))) stays
+      (refusal_told call says_ok fault bytes (name ∙ ap (λ (r : Refusal). refusal_line (refusal_name r)) (sym is))) stays
 
   -- want of memory in place of success
   lacking : (call : Call) (k : History P) (bytes : List ℕ) (new : Option (History P)) → may_want_memory call ≡ true → CallGives (f.rules.puzzle h.puzzle) h call (Ok k)

@@ -1,5 +1,6 @@
 -- The commands and their lines.
 use Rattle.std.specs.Prelude.{◌≡◌, ◌≢◌, ℕ, ◌≤◌, Bool, false, List, [], ◌∷◌, ◌++◌, codes, bytes_eq, ◌⊎◌, Option, Some, None, Result, Ok, Err}
+use denote.Ref.{Bor}
 use Rattle.std.specs.Fmt.{decimal}
 use Rattle.puzzle_cli.specs.declared.command.Command.{Command}
 use Rattle.puzzle_cli.specs.declared.command.Command.TheVariants.{New, Quit, Ask}
@@ -77,6 +78,16 @@ abbrev pub read_map : {X Y : Type 0} → (X → Y) → Result (Option (Command X
 read_map f (Ok None) = Ok None
 read_map f (Ok (Some command)) = Ok (Some (command_map f command))
 read_map f (Err fault) = Err fault
+
+-- the same, where the argument is a reference to a text, with that text
+abbrev pub request_copied : {X : Type 0} → Request (Bor X) → Request X
+request_copied request = request_map (λ text. text.now) request
+
+abbrev pub command_copied : {X : Type 0} → Command (Bor X) → Command X
+command_copied command = command_map (λ text. text.now) command
+
+abbrev pub read_copied : {X : Type 0} → Result (Option (Command (Bor X))) LineFault → Result (Option (Command X)) LineFault
+read_copied read = read_map (λ text. text.now) read
 
 -- the lists that were read are of so many solutions
 abbrev pub IsCommandInRange : {T : Type 0} → Command T → Type 0

@@ -78,7 +78,8 @@ fn read_piece<R: Source>(
     requires within { room ≤ length piece.old }
     ensures bound { IfOk result (λ n. n ≤ room) }
     ensures failed { R.has_failed source.new ≡ is_err result }
-    ensures ok { IfOk result (λ n. Consumes (R.to_come source.old) (R.to_come source.new) (take n piece.new)) }
+    ensures ok { IfOk result (λ n. Consumes (R.to_come source.old) (R.to_come source.new)
+        (take n piece.new)) }
     ensures end { IfOk result (λ n. n ≡ 0 → IsAtEnd (R.to_come source.new)) }
     ensures err { OnErr result (Keeps (R.to_come source.old) (R.to_come source.new)) }
 {
@@ -170,7 +171,8 @@ fn send<W: Sink>(sink: &mut W, bytes: &[u8]) -> Result<(), DeviceFault>
     requires { W.has_failed sink.old ≡ false }
     ensures failed { W.has_failed sink.new ≡ is_err result }
     ensures ok { OnOk result (Appends (W.taken sink.old) (W.taken sink.new) bytes.now) }
-    ensures err { OnErr result ((count : ℕ) × Appends (W.taken sink.old) (W.taken sink.new) (take count bytes.now)) }
+    ensures err { OnErr result ((count : ℕ) × Appends (W.taken sink.old) (W.taken sink.new)
+        (take count bytes.now)) }
 {
     let mut sent = 0;
     while sent < bytes.len() {
