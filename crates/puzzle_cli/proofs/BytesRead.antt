@@ -67,7 +67,8 @@ module _ {S : Type 0} (reply : ReplyRule S) (quit : Line → Bool) where
 
   -- the steps of all that was read, the last line with them
   all_read : (flow : Flow) (read : List ℕ) (now : Line) (old mid new : Progress S)
-      → Goes reply quit More (ended_from (Some []) read) old mid → now ≡ last_from (Some []) read → Goes reply quit flow (as_line now ∷ []) mid new
+      → Goes reply quit More (ended_from (Some []) read) old mid → now ≡ last_from (Some []) read
+      → Goes reply quit flow (as_line now ∷ []) mid new
       → Goes reply quit flow (all_lines read) old new
   all_read flow read now old mid new p here q =
       let last : Goes reply quit flow (as_line (last_from (Some []) read) ∷ []) mid new = subst (λ l. Goes reply quit flow (as_line l ∷ []) mid new) here q in
@@ -131,14 +132,16 @@ module _ {S : Type 0} {reply : ReplyRule S} {quit : Line → Bool} {old now : Po
       all_gone flow goes = all_read reply quit flow so_far.read part (progress_of old) (progress_of now) (progress_of new) so_far.answered so_far.rest goes
 
       -- it was answered or is quit
-      pub Finished-at-end : (flow : Flow) → (flow ≡ Unsent → ⊥) → Goes reply quit flow (as_line part ∷ []) (progress_of now) (progress_of new)
+      pub Finished-at-end : (flow : Flow) → (flow ≡ Unsent → ⊥)
+          → Goes reply quit flow (as_line part ∷ []) (progress_of now) (progress_of new)
           → Ends reply quit Finished old new
       Finished-at-end flow went goes =
           let done = served reply quit flow (all_lines so_far.read) (progress_of old) (progress_of new) went (all_gone flow goes) in
           (works, done.0, (so_far.read, were_all.0, inl (were_all.1, done.1)))
 
       -- its reply didn't go out
-      pub WriteFault-at-end : Goes reply quit Unsent (as_line part ∷ []) (progress_of now) (progress_of new) → Ends reply quit WriteFault old new
+      pub WriteFault-at-end : Goes reply quit Unsent (as_line part ∷ []) (progress_of now) (progress_of new)
+          → Ends reply quit WriteFault old new
       WriteFault-at-end goes =
           let done = all_gone Unsent goes in
           (works, done.0, (so_far.read, were_all.0, inl (were_all.1, done.1)))

@@ -10,16 +10,14 @@ use Rattle.play_midend.specs.MoveTexts.{IsMoveText}
 use Rattle.play_midend.specs.Histories.{at_position, History, IsRefusal, played, restarted, SolveGives, undone, redone}
 use Rattle.play_midend.specs.Laws.{Call, Play, FromStart, ToSolution, CallGives, Answered, may_want_memory}
 use Rattle.play_midend.specs.Laws.{Undo as ToUndo, Redo as ToRedo}
-use Rattle.puzzle_cli.specs.declared.command.Command.{Command}
 use Rattle.puzzle_cli.specs.declared.command.Command.TheVariants.{Ask}
 use Rattle.puzzle_cli.specs.declared.command.Request.{Request}
 use Rattle.puzzle_cli.specs.declared.command.Request.TheVariants.{Move as Make, Solutions, Plain}
 use Rattle.puzzle_cli.specs.declared.command.Word.TheVariants.{Undo, Redo, Restart, Solve}
-use Rattle.puzzle_cli.specs.declared.line_fault.LineFault.{LineFault}
 use Rattle.puzzle_cli.specs.declared.refusal.Refusal.{Refusal}
 use Rattle.puzzle_cli.specs.declared.refusal.Refusal.TheVariants.{Play as OfPlay}
 use Rattle.puzzle_cli.specs.Lines.{Line}
-use Rattle.puzzle_cli.specs.Commands.{IsRead}
+use Rattle.puzzle_cli.specs.Commands.{Reading, IsRead}
 use Rattle.puzzle_cli.specs.GameFacts.{GameFacts}
 use Rattle.puzzle_cli.specs.SolutionTexts.{move_line, solve_sentence, listed_lines}
 use Rattle.puzzle_cli.specs.SessionReplies.{text_outcome, TextPlays, sentence_outcome, ok_line, IsMoveRead, SolveSays, RequestGives, call_outcome}
@@ -35,18 +33,20 @@ use Rattle.puzzle_cli.proofs.SparedMemory.{played_spares, restarted_spares, solv
 -- ---- a reply by its reading
 
 -- what is said to what was read, or want of memory
-abbrev pub ReadSays : {P : Type 0} → GameFacts P → Option (History P) → Result (Option (Command (List ℕ))) LineFault → List ℕ → Option (History P) → Type 0
+abbrev pub ReadSays : {P : Type 0} → GameFacts P → Option (History P) → Reading (List ℕ) → List ℕ
+    → Option (History P) → Type 0
 ReadSays f old read bytes new =
     Writes (ReadGives f old read) old bytes new ⊎ (ReadTakesMemory f old read × (bytes ≡ refusal_line (codes "OutOfMemory")) × (new ≡ old))
 
-pub said_to : {P : Type 0} (f : GameFacts P) (old : Option (History P)) (line : Line) (read : Result (Option (Command (List ℕ))) LineFault) (bytes : List ℕ) (new : Option (History P))
+pub said_to : {P : Type 0} (f : GameFacts P) (old : Option (History P)) (line : Line)
+    (read : Reading (List ℕ)) (bytes : List ℕ) (new : Option (History P))
     → IsRead line read → Reply f old line bytes new → ReadSays f old read bytes new
 said_to {P} f old line read bytes new is (inl (r, scan, w)) =
     let same : r ≡ read = read_once line r scan ∙ sym (read_once line read is) in
-    inl (subst (λ (x : Result (Option (Command (List ℕ))) LineFault). Writes (ReadGives f old x) old bytes new) same w)
+    inl (subst (λ (x : Reading (List ℕ)). Writes (ReadGives f old x) old bytes new) same w)
 said_to {P} f old line read bytes new is (inr (r, scan, takes, name, stays)) =
     let same : r ≡ read = read_once line r scan ∙ sym (read_once line read is) in
-    inr (subst (λ (x : Result (Option (Command (List ℕ))) LineFault). ReadTakesMemory f old x) same takes, name, stays)
+    inr (subst (λ (x : Reading (List ℕ)). ReadTakesMemory f old x) same takes, name, stays)
 
 -- ---- a request that is a call
 
@@ -64,7 +64,8 @@ module _ {P : Type 0} (f : GameFacts P) (h : History P) where
   ok_told ToSolution p bytes e = absurd p
   ok_told call p bytes e = e
 
-  refusal_told : (call : Call) → SaysOk call → (fault : PlayFault) (bytes : List ℕ) → bytes ≡ refusal_line (play_fault_name fault) → IsRefused call fault bytes
+  refusal_told : (call : Call) → SaysOk call → (fault : PlayFault) (bytes : List ℕ)
+      → bytes ≡ refusal_line (play_fault_name fault) → IsRefused call fault bytes
   refusal_told ToSolution p fault bytes e = absurd p
   refusal_told call p fault bytes e = e
 
@@ -75,13 +76,15 @@ module _ {P : Type 0} (f : GameFacts P) (h : History P) where
   refused_so ToRedo fault n = refl
   refused_so call fault n = exact_refusal (History P) fault n
 
-  refused_call : (call : Call) (fault : PlayFault) (bytes : List ℕ) (new : Option (History P)) → CallGives (f.rules.puzzle h.puzzle) h call (Err fault)
+  refused_call : (call : Call) (fault : PlayFault) (bytes : List ℕ) (new : Option (History P))
+      → CallGives (f.rules.puzzle h.puzzle) h call (Err fault)
       → fault ≢ OutOfMemory → IsRefused call fault bytes → new ≡ Some h → IsAnswered call bytes new
   refused_call call fault bytes new gives spares told stays =
       subst (λ (s : Option (History P)). IsAnswered call bytes s) (sym stays) (Err fault, (refl, (Err fault, gives, refused_so call fault spares)), told)
 
   called : (call : Call) (exact : Result (History P) PlayFault) (bytes : List ℕ) (new : Option (History P)) → SaysOk call
-      → CallGives (f.rules.puzzle h.puzzle) h call exact → (exact ≢ Err OutOfMemory) → Writes (λ o. call_outcome exact ≡ o) (Some h) bytes new
+      → CallGives (f.rules.puzzle h.puzzle) h call exact → (exact ≢ Err OutOfMemory)
+      → Writes (λ o. call_outcome exact ≡ o) (Some h) bytes new
       → IsAnswered call bytes new
   called call (Ok k) bytes new says_ok gives spares (inl e) =
       let parts = outcome_parts ok_line bytes (Some k) new e in
@@ -94,7 +97,8 @@ module _ {P : Type 0} (f : GameFacts P) (h : History P) where
       (refusal_told call says_ok fault bytes (name ∙ ap (λ (r : Refusal). refusal_line (refusal_name r)) (sym is))) stays
 
   -- want of memory in place of success
-  lacking : (call : Call) (k : History P) (bytes : List ℕ) (new : Option (History P)) → may_want_memory call ≡ true → CallGives (f.rules.puzzle h.puzzle) h call (Ok k)
+  lacking : (call : Call) (k : History P) (bytes : List ℕ) (new : Option (History P)) → may_want_memory call ≡ true
+      → CallGives (f.rules.puzzle h.puzzle) h call (Ok k)
       → bytes ≡ refusal_line (codes "OutOfMemory") → new ≡ Some h → IsAnswered call bytes new
   lacking ToUndo k bytes new wants gives name stays = cc
   lacking ToRedo k bytes new wants gives name stays = cc
@@ -102,7 +106,8 @@ module _ {P : Type 0} (f : GameFacts P) (h : History P) where
       subst (λ (s : Option (History P)). IsAnswered call bytes s) (sym stays) (Err OutOfMemory, (refl, (Ok k, gives, refl)), name)
 
   -- a move
-  move_called : (text : List ℕ) (m : Move) (exact : Result (History P) PlayFault) → IsMoveText m text → TextPlays (f.rules.puzzle h.puzzle) h text exact
+  move_called : (text : List ℕ) (m : Move) (exact : Result (History P) PlayFault) → IsMoveText m text
+      → TextPlays (f.rules.puzzle h.puzzle) h text exact
       → exact ≡ played (f.rules.puzzle h.puzzle) h m
   move_called text m exact spelled (read, is, gives) =
       sym gives ∙ ap (λ (r : Result Move PlayFault). r >>= played (f.rules.puzzle h.puzzle) h) (move_read_once text read (Ok m) is spelled)
@@ -122,7 +127,8 @@ module _ {P : Type 0} (f : GameFacts P) (h : History P) where
   spared : (fault : PlayFault) → SolveGives (f.rules.puzzle h.puzzle) h (Err fault) → fault ≢ OutOfMemory
   spared fault gives is = solved_spares (f.rules.puzzle h.puzzle) h (subst (λ (e : PlayFault). SolveGives (f.rules.puzzle h.puzzle) h (Err e)) is gives)
 
-  unsolved : (fault : PlayFault) (sentence : Option (List ℕ)) → solve_sentence fault ≡ sentence → (bytes : List ℕ) (new : Option (History P))
+  unsolved : (fault : PlayFault) (sentence : Option (List ℕ)) → solve_sentence fault ≡ sentence
+      → (bytes : List ℕ) (new : Option (History P))
       → SolveGives (f.rules.puzzle h.puzzle) h (Err fault)
       → Writes (λ o. sentence_outcome h (solve_sentence fault) fault ≡ o) (Some h) bytes new → IsAnswered ToSolution bytes new
   unsolved fault (Some text) is bytes new gives (inl e) =
@@ -146,7 +152,8 @@ module _ {P : Type 0} (f : GameFacts P) (h : History P) where
   solved (Ok k) bytes new gives (inr (refusal, (g, with, e), name, stays)) = absurd (said_or_refused (move_line (Filling g)) (Some k) refusal e)
   solved (Err fault) bytes new gives out = unsolved fault (solve_sentence fault) refl bytes new gives out
 
-  solve_answered : (bytes : List ℕ) (new : Option (History P)) → ReadSays f (Some h) (Ok (Some (Ask (Plain Solve)))) bytes new → IsAnswered ToSolution bytes new
+  solve_answered : (bytes : List ℕ) (new : Option (History P)) → ReadSays f (Some h) (Ok (Some (Ask (Plain Solve)))) bytes new
+      → IsAnswered ToSolution bytes new
   solve_answered bytes new (inl (inl (exact, gives, says))) = solved exact bytes new gives (inl says)
   solve_answered bytes new (inl (inr (refusal, (exact, gives, says), name, stays))) = solved exact bytes new gives (inr (refusal, says, name, stays))
   solve_answered bytes new (inr ((k, gives), name, stays)) = lacking ToSolution k bytes new refl gives name stays
@@ -157,11 +164,13 @@ module _ {P : Type 0} (f : GameFacts P) (h : History P) where
   redone_spares : redone h ≢ Err OutOfMemory
   redone_spares = elim (h.position == length h.moves + 1) as (λ t. (if t then Err NothingToRedo else Ok (at_position h (h.position + 1))) ≢ Err OutOfMemory) [ true ↦ λ e. cc | false ↦ λ e. cc ]
 
-  undo_answered : (bytes : List ℕ) (new : Option (History P)) → ReadSays f (Some h) (Ok (Some (Ask (Plain Undo)))) bytes new → IsAnswered ToUndo bytes new
+  undo_answered : (bytes : List ℕ) (new : Option (History P)) → ReadSays f (Some h) (Ok (Some (Ask (Plain Undo)))) bytes new
+      → IsAnswered ToUndo bytes new
   undo_answered bytes new (inl out) = called ToUndo (undone h) bytes new tt refl undone_spares out
   undo_answered bytes new (inr lacks) = absurd lacks.0
 
-  redo_answered : (bytes : List ℕ) (new : Option (History P)) → ReadSays f (Some h) (Ok (Some (Ask (Plain Redo)))) bytes new → IsAnswered ToRedo bytes new
+  redo_answered : (bytes : List ℕ) (new : Option (History P)) → ReadSays f (Some h) (Ok (Some (Ask (Plain Redo)))) bytes new
+      → IsAnswered ToRedo bytes new
   redo_answered bytes new (inl out) = called ToRedo (redone h) bytes new tt refl redone_spares out
   redo_answered bytes new (inr lacks) = absurd lacks.0
 
@@ -170,7 +179,8 @@ module _ {P : Type 0} (f : GameFacts P) (h : History P) where
   restart_lacks (Ok k) is ok bytes new name stays = lacking FromStart k bytes new refl (sym is) name stays
   restart_lacks (Err fault) is ok bytes new name stays = cc
 
-  restart_answered : (bytes : List ℕ) (new : Option (History P)) → ReadSays f (Some h) (Ok (Some (Ask (Plain Restart)))) bytes new → IsAnswered FromStart bytes new
+  restart_answered : (bytes : List ℕ) (new : Option (History P))
+      → ReadSays f (Some h) (Ok (Some (Ask (Plain Restart)))) bytes new → IsAnswered FromStart bytes new
   restart_answered bytes new (inl out) = called FromStart (restarted h) bytes new tt refl (restarted_spares h) out
   restart_answered bytes new (inr (takes, name, stays)) = restart_lacks (restarted h) refl takes bytes new name stays
 
@@ -198,7 +208,8 @@ module _ {P : Type 0} (f : GameFacts P) (h : History P) (bytes : List ℕ) (new 
   pub text_stays : (text : List ℕ) → text_outcome h text ≡ Ok (bytes, new) → new ≡ Some h
   text_stays text e = sym (outcome_parts text bytes (Some h) new e).1
 
-  no_move_stays : (text : List ℕ) (exact : Result (History P) PlayFault) (read : Result Move PlayFault) → IsNoCall (Make text) → IsMoveRead text read
+  no_move_stays : (text : List ℕ) (exact : Result (History P) PlayFault) (read : Result Move PlayFault) → IsNoCall (Make text)
+      → IsMoveRead text read
       → (read >>= played (f.rules.puzzle h.puzzle) h) ≡ exact → call_outcome exact ≡ Ok (bytes, new) → new ≡ Some h
   no_move_stays text exact (Ok m) none is gives e = absurd (none (Play m) (m, is, refl))
   no_move_stays text exact (Err fault) none is gives e = absurd (said_or_refused bytes new (OfPlay fault) (sym (ap call_outcome gives ∙ e)))

@@ -8,7 +8,8 @@ use Rattle.puzzle_cli.specs.LineBuffer.{pushed, ended_from, last_from}
 
 -- ---- one list of bytes after another
 
-pub ended_from-append : (part : Line) (xs ys : List ℕ) → ended_from part (xs ++ ys) ≡ ended_from part xs ++ ended_from (last_from part xs) ys
+pub ended_from-append : (part : Line) (xs ys : List ℕ)
+    → ended_from part (xs ++ ys) ≡ ended_from part xs ++ ended_from (last_from part xs) ys
 ended_from-append part [] ys = refl
 ended_from-append part (b ∷ xs) ys =
     elim (b == 10) as (λ t. (if t then as_line part ∷ ended_from (Some []) (xs ++ ys) else ended_from (pushed part b) (xs ++ ys))
@@ -46,7 +47,8 @@ join-onto front b (p ∷ ps) = ap (λ l. l ∷ ps) (sym (append_assoc front (b �
 pushed-short : (front : List ℕ) (b : ℕ) → pushed (unless_long front) b ≡ unless_long (front ++ b ∷ [])
 pushed-short front b = rw (length_push front b) (grind (arith, nat_tests))
 
-lines_of-join : (front bytes : List ℕ) → lines_of (join front (segments bytes)) ≡ ended_from (unless_long front) bytes ++ as_line (last_from (unless_long front) bytes) ∷ []
+lines_of-join : (front bytes : List ℕ)
+    → lines_of (join front (segments bytes)) ≡ ended_from (unless_long front) bytes ++ as_line (last_from (unless_long front) bytes) ∷ []
 lines_of-join front [] = ap (λ l. as_line (unless_long l) ∷ []) (append-nil front)
 lines_of-join front (b ∷ bs) =
     elim (b == 10) as (λ t. lines_of (join front (if t then [] ∷ segments bs else onto b (segments bs)))

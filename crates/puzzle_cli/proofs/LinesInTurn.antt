@@ -44,14 +44,16 @@ module _ (quit : Line → Bool) where
 -- ---- one list of lines after another
 
 module _ {S : Type 0} (reply : ReplyRule S) where
-  pub RepliesInTurn-append : (xs ys : List Line) (old mid new : S) (v w : List ℕ) → RepliesInTurn reply xs old v mid → RepliesInTurn reply ys mid w new → RepliesInTurn reply (xs ++ ys) old (v ++ w) new
+  pub RepliesInTurn-append : (xs ys : List Line) (old mid new : S) (v w : List ℕ) → RepliesInTurn reply xs old v mid
+      → RepliesInTurn reply ys mid w new → RepliesInTurn reply (xs ++ ys) old (v ++ w) new
   RepliesInTurn-append [] ys old mid new v w p q =
       let from_old : RepliesInTurn reply ys old w new = subst (λ s. RepliesInTurn reply ys s w new) p.1 q in
       subst (λ l. RepliesInTurn reply ys old l new) (sym (ap (λ l. l ++ w) p.0)) from_old
   RepliesInTurn-append (x ∷ xs) ys old mid new v w p q =
       (p.0, p.1, p.2 ++ w, p.3, ap (λ l. l ++ w) p.4 ∙ append_assoc p.0 p.2 w, RepliesInTurn-append xs ys p.1 mid new p.2 w p.5 q)
 
-  pub Served-append : (xs ys : List Line) (old mid new : Progress S) → Served reply xs old mid → Served reply ys mid new → Served reply (xs ++ ys) old new
+  pub Served-append : (xs ys : List Line) (old mid new : Progress S) → Served reply xs old mid → Served reply ys mid new
+      → Served reply (xs ++ ys) old new
   Served-append xs ys old mid new p q = (
     p.0 ++ q.0,
     RepliesInTurn-append xs ys old.session mid.session new.session p.0 q.0 p.1 q.1,
@@ -107,7 +109,8 @@ module _ {S : Type 0} (reply : ReplyRule S) (quit : Line → Bool) where
   Quit-more xs ys old new q =
       (has_quit-more quit xs ys q.0, q.1, subst (λ l. Served reply l old new) (sym (before_quit-more quit xs ys q.0)) q.2)
 
-  pub Unsent-more : (xs ys : List Line) (old new : Progress S) → Goes reply quit Unsent xs old new → Goes reply quit Unsent (xs ++ ys) old new
+  pub Unsent-more : (xs ys : List Line) (old new : Progress S) → Goes reply quit Unsent xs old new
+      → Goes reply quit Unsent (xs ++ ys) old new
   Unsent-more xs ys old new q = (q.0, Breaks-more xs ys old new q.1)
 
   -- one line, whose reply went out
@@ -118,7 +121,8 @@ module _ {S : Type 0} (reply : ReplyRule S) (quit : Line → Bool) where
 
   -- one line, whose reply didn't go out
   pub Goes-unsent : (line : Line) (old new : Progress S) (bytes : List ℕ) (count : ℕ) → new.failed ≡ true
-      → reply old.session line bytes new.session → Appends old.taken new.taken (take count bytes) → Goes reply quit Unsent (line ∷ []) old new
+      → reply old.session line bytes new.session → Appends old.taken new.taken (take count bytes)
+      → Goes reply quit Unsent (line ∷ []) old new
   Goes-unsent line old new bytes count fails said went = (
     fails,
     record {

@@ -20,7 +20,8 @@ use Rattle.puzzle_cli.specs.Answers.{IsLineRefusal}
 
 module _ {P : Type 0} (f : GameFacts P) (h : History P) (text : List ℕ) where
   -- a text that is no move
-  pub no_move : (refusal : Refusal) (fault : PlayFault) → refusal ≡ Play fault → ((m : Move) → Err fault ≢ Ok m) → ((m : Move) → IsMoveText m text → Err fault ≡ Ok m)
+  pub no_move : (refusal : Refusal) (fault : PlayFault) → refusal ≡ Play fault → ((m : Move) → Err fault ≢ Ok m)
+      → ((m : Move) → IsMoveText m text → Err fault ≡ Ok m)
       → fault ≡ move_fault text → Explains (RequestGives f h (Make text)) (RequestTakesMemory f h (Make text)) refusal
   no_move refusal fault refused apart only is =
       inl (Err fault, (Err fault, ((λ m spelled. apart m (only m spelled)), is), refl), ap Err (sym refused))
@@ -35,7 +36,8 @@ module _ {P : Type 0} (f : GameFacts P) (h : History P) (text : List ℕ) where
       → Explains (RequestGives f h (Make text)) (RequestTakesMemory f h (Make text)) (Play fault)
   refused_exactly m fault spelled is = inl (Err fault, (Ok m, spelled, is), refl)
 
-  lacks_memory : (m : Move) (exact : Result (History P) PlayFault) → IsMoveText m text → played (f.rules.puzzle h.puzzle) h m ≡ exact → IsOk exact
+  lacks_memory : (m : Move) (exact : Result (History P) PlayFault) → IsMoveText m text
+      → played (f.rules.puzzle h.puzzle) h m ≡ exact → IsOk exact
       → Explains (RequestGives f h (Make text)) (RequestTakesMemory f h (Make text)) (Play OutOfMemory)
   lacks_memory m (Ok new) spelled is ok = inr ((new, (Ok m, spelled, is)), refl)
   lacks_memory m (Err fault) spelled is ok = cc
@@ -45,7 +47,8 @@ module _ {P : Type 0} (f : GameFacts P) (h : History P) (text : List ℕ) where
   by_fault m OutOfMemory spelled why = lacks_memory m (played (f.rules.puzzle h.puzzle) h m) spelled refl why
   by_fault m fault spelled why = refused_exactly m fault spelled why
 
-  pub move_refused : (m : Move) (refusal : Refusal) (fault : PlayFault) → refusal ≡ Play fault → IsMoveText m text → IsRefusal (played (f.rules.puzzle h.puzzle) h m) fault
+  pub move_refused : (m : Move) (refusal : Refusal) (fault : PlayFault) → refusal ≡ Play fault → IsMoveText m text
+      → IsRefusal (played (f.rules.puzzle h.puzzle) h m) fault
       → Explains (RequestGives f h (Make text)) (RequestTakesMemory f h (Make text)) refusal
   move_refused m refusal fault refused spelled why =
       subst (λ (r : Refusal). Explains (RequestGives f h (Make text)) (RequestTakesMemory f h (Make text)) r) (sym refused) (by_fault m fault spelled why)

@@ -3,12 +3,11 @@ use Rattle.std.proofs.Common.{◌≡◌, ℕ, List, [], Option, Some, None, Resu
 use Rattle.play_midend.specs.declared.fault.PlayFault.{PlayFault}
 use Rattle.play_midend.specs.declared.moves.Move.TheVariants.{Solve as Filling}
 use Rattle.play_midend.specs.Histories.{History, restarted, undone, redone}
-use Rattle.puzzle_cli.specs.declared.command.Command.{Command}
+use Rattle.puzzle_cli.specs.Commands.{Reading}
 use Rattle.puzzle_cli.specs.declared.command.Command.TheVariants.{New, Quit, Ask}
 use Rattle.puzzle_cli.specs.declared.command.Request.{Request}
 use Rattle.puzzle_cli.specs.declared.command.Request.TheVariants.{Move as Make, Solutions, Plain}
 use Rattle.puzzle_cli.specs.declared.command.Word.TheVariants.{Undo, Redo, Restart, Solve}
-use Rattle.puzzle_cli.specs.declared.line_fault.LineFault.{LineFault}
 use Rattle.puzzle_cli.specs.declared.line_fault.LineFault.TheVariants.{NoGame}
 use Rattle.puzzle_cli.specs.declared.start_fault.StartFault.{StartFault}
 use Rattle.puzzle_cli.specs.declared.refusal.Refusal.TheVariants.{Play as OfPlay, Line as OfLine, Start as OfStart}
@@ -28,7 +27,8 @@ module _ {P : Type 0} (f : GameFacts P) (bytes name : List ℕ) (new : Option (H
   call_refused h (Ok k) e = absurd (not_ok bytes name (sym (outcome_parts ok_line bytes (Some k) new e).0) named)
   call_refused h (Err fault) e = absurd (said_or_refused bytes new (OfPlay fault) (sym e))
 
-  sentence_stays : (h : History P) (fault : PlayFault) (sentence : Option (List ℕ)) → sentence_outcome h sentence fault ≡ Ok (bytes, new) → new ≡ Some h
+  sentence_stays : (h : History P) (fault : PlayFault) (sentence : Option (List ℕ))
+      → sentence_outcome h sentence fault ≡ Ok (bytes, new) → new ≡ Some h
   sentence_stays h fault (Some text) e = text_stays f h bytes new text e
   sentence_stays h fault None e = absurd (said_or_refused bytes new (OfPlay fault) (sym e))
 
@@ -49,7 +49,8 @@ module _ {P : Type 0} (f : GameFacts P) (bytes name : List ℕ) (new : Option (H
   begun_refused old (Ok k) e = absurd (not_ok bytes name (sym (outcome_parts ok_line bytes (Some k) new e).0) named)
   begun_refused old (Err fault) e = absurd (said_or_refused bytes new (OfStart fault) (sym e))
 
-  read_refused : (old : Option (History P)) (read : Result (Option (Command (List ℕ))) LineFault) → ReadGives f old read (Ok (bytes, new)) → new ≡ old
+  read_refused : (old : Option (History P)) (read : Reading (List ℕ))
+      → ReadGives f old read (Ok (bytes, new)) → new ≡ old
   read_refused old (Ok None) e = sym (outcome_parts [] bytes old new e).1
   read_refused old (Ok (Some Quit)) e = sym (outcome_parts [] bytes old new e).1
   read_refused old (Ok (Some (New id))) (exact, begins, e) = begun_refused old exact e

@@ -34,7 +34,8 @@ made_or_several : (bytes : List ℕ) → IsMade ToSolution bytes → bytes ≡ s
 made_or_several bytes (g, a) b = let e : 83 ≡ 77 = first_byte (move_line (Filling g)) several_solutions_line (sym a ∙ b) in omega (arith, e)
 
 -- a call that is told as made was made
-pub told_made : (call : Call) (answer : Result (Unit {0}) PlayFault) (bytes : List ℕ) → IsToldOf call answer bytes → IsMade call bytes → IsOk answer
+pub told_made : (call : Call) (answer : Result (Unit {0}) PlayFault) (bytes : List ℕ) → IsToldOf call answer bytes
+    → IsMade call bytes → IsOk answer
 told_made call (Ok u) bytes told made = refl
 told_made ToSolution (Err NoSolution) bytes told made = absurd (made_or_none bytes made told)
 told_made ToSolution (Err SeveralSolutions) bytes told made = absurd (made_or_several bytes made told)

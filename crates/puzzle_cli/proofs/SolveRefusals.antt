@@ -27,5 +27,6 @@ module _ {P : Type 0} (p : Puzzle) (h : History P) where
   explained OutOfMemory exact gives is n s = without_memory exact gives is
   explained fault exact gives is n s = said fault exact gives is refl
 
-  pub solve_explained : (fault : PlayFault) → IsSolveRefusal p h fault → fault ≢ NoSolution → fault ≢ SeveralSolutions → IsSolveExplained fault
+  pub solve_explained : (fault : PlayFault) → IsSolveRefusal p h fault → fault ≢ NoSolution → fault ≢ SeveralSolutions
+      → IsSolveExplained fault
   solve_explained fault refused n s = explained fault refused.0 refused.1 refused.2 n s

@@ -27,7 +27,8 @@ redo_asks : Asks redo_line (Plain Redo)
 redo_asks = (codes "redo", refl, inr (inl (refl, refl)))
 
 -- a call that is made and then undone
-taken_back : {P : Type 0} (f : GameFacts P) (h k : History P) (call : Call) → IsValid (f.rules.puzzle h.puzzle) h → may_want_memory call ≡ true
+taken_back : {P : Type 0} (f : GameFacts P) (h k : History P) (call : Call) → IsValid (f.rules.puzzle h.puzzle) h
+    → may_want_memory call ≡ true
     → CallGives (f.rules.puzzle h.puzzle) h call (Ok k) → IsOkAnd (undone k) (IsSameBack (f.rules.puzzle h.puzzle) h)
 taken_back f h k (Play m) valid wants gives = undo_takes_back f.rules.puzzle h k m valid (sym gives)
 taken_back f h k FromStart valid wants gives = undo_takes_restart_back f.rules.puzzle h k valid (sym gives)
@@ -68,7 +69,8 @@ redo_said q h k said None back told = absurd told
 redo_said {P} q h k said (Some z) back (Ok u, gives, told) = let same : z ≡ h = cc in (told, ap Some same)
 redo_said {P} q h k said (Some z) back (Err fault, (stays, (exact, gives, is)), told) = cc
 
-after_undo : {P : Type 0} (f : GameFacts P) (h : History P) (said : List ℕ) (new last : Option (History P)) → IsValid (f.rules.puzzle h.puzzle) h
+after_undo : {P : Type 0} (f : GameFacts P) (h : History P) (said : List ℕ) (new last : Option (History P))
+    → IsValid (f.rules.puzzle h.puzzle) h
     → IsSomeAnd new (λ k. (answer : Result (Unit {0}) PlayFault) × Answered (f.rules.puzzle h.puzzle) h ToUndo answer k × IsToldOf ToUndo answer ok_line)
     → Reply f new redo_line said last → (said ≡ ok_line) × (last ≡ Some h)
 after_undo f h said None last valid answer reply = absurd answer

@@ -46,7 +46,8 @@ progress_of point = record { session = point.session; taken = point.taken; faile
 abbrev pub RepliesInTurn : {S : Type 0} → ReplyRule S → List Line → S → List ℕ → S → Type 0
 RepliesInTurn reply [] old written new = (written ≡ []) × (new ≡ old)
 RepliesInTurn {S} reply (line ∷ lines) old written new =
-    (bytes : List ℕ) × (mid : S) × (rest : List ℕ) × reply old line bytes mid × (written ≡ bytes ++ rest) × RepliesInTurn reply lines mid rest new
+    (bytes : List ℕ) × (mid : S) × (rest : List ℕ) × reply old line bytes mid × (written ≡ bytes ++ rest)
+    × RepliesInTurn reply lines mid rest new
 
 abbrev pub has_quit : (Line → Bool) → List Line → Bool
 has_quit quit [] = false

@@ -44,7 +44,8 @@ laws_of met = record {
 }
 
 -- a solution of the full puzzle has the square's numbers, which are all given
-full_only : {P : Type 0} (f : Ghosts P) (g : GridValue) → ItemLaws f → IsGrid g → IsLatin g → (h : GridValue) → Solves (f.puzzle (f.full_of g)) h → h ≡ g
+full_only : {P : Type 0} (f : Ghosts P) (g : GridValue) → ItemLaws f → IsGrid g → IsLatin g → (h : GridValue)
+    → Solves (f.puzzle (f.full_of g)) h → h ≡ g
 full_only f g laws grid latin h s =
     let size : h.size ≡ g.size = s.same_size ∙ laws.full_size g grid latin in
     same_numbers h g s.is_grid grid size (λ cell inside.

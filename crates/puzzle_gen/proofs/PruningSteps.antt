@@ -46,7 +46,9 @@ rest_itself : (order : List ℕ) (keep : ℕ → Bool) (i : ℕ) → rest order 
 rest_itself order keep i = rw (le-ltb (place_in i order) (place_in i order) (omega arith)) refl
 
 -- only what was tried before counts
-rest_agrees : (n : ℕ) (order : List ℕ) (a b : ℕ → Bool) (i : ℕ) → IsOrder n order → i < n → ((j : ℕ) → j < n → place_in j order < place_in i order → a j ≡ b j) → (j : ℕ) → j < n → rest order a i j ≡ rest order b i j
+rest_agrees : (n : ℕ) (order : List ℕ) (a b : ℕ → Bool) (i : ℕ) → IsOrder n order → i < n
+    → ((j : ℕ) → j < n → place_in j order < place_in i order → a j ≡ b j) → (j : ℕ) → j < n
+    → rest order a i j ≡ rest order b i j
 rest_agrees n order a b i is_order small_i same j small_j =
     elim (cases_order (place_in j order) (place_in i order)) [
       | inl here ↦
@@ -60,7 +62,9 @@ rest_agrees n order a b i is_order small_i same j small_j =
     ]
 
 -- where all items from i on are kept, the rest is what is kept but for i
-rest_is_but : (n : ℕ) (order : List ℕ) (keep : ℕ → Bool) (i : ℕ) → IsOrder n order → i < n → ((j : ℕ) → j < n → place_in i order ≤ place_in j order → keep j ≡ true) → (j : ℕ) → j < n → (keep j && all_but i j) ≡ rest order keep i j
+rest_is_but : (n : ℕ) (order : List ℕ) (keep : ℕ → Bool) (i : ℕ) → IsOrder n order → i < n
+    → ((j : ℕ) → j < n → place_in i order ≤ place_in j order → keep j ≡ true) → (j : ℕ) → j < n
+    → (keep j && all_but i j) ≡ rest order keep i j
 rest_is_but n order keep i is_order small_i untried j small_j =
     elim (cases_order (place_in j order) (place_in i order)) [
       | inl here ↦
@@ -79,7 +83,8 @@ rest_is_but n order keep i is_order small_i untried j small_j =
     ]
 
 -- what is kept but for i is among the rest
-within_rest : (n : ℕ) (order : List ℕ) (keep : ℕ → Bool) (i : ℕ) → IsOrder n order → i < n → (j : ℕ) → j < n → (rest order keep i j && (keep j && all_but i j)) ≡ (keep j && all_but i j)
+within_rest : (n : ℕ) (order : List ℕ) (keep : ℕ → Bool) (i : ℕ) → IsOrder n order → i < n → (j : ℕ) → j < n
+    → (rest order keep i j && (keep j && all_but i j)) ≡ (keep j && all_but i j)
 within_rest n order keep i is_order small_i j small_j =
     elim (cases_order (place_in j order) (place_in i order)) [
       | inl here ↦
@@ -124,14 +129,18 @@ pruned_none f g order cuts =
     }
 
 -- the puzzle without the next item is the rest
-next_is_rest : {P : Type 0} (f : Ghosts P) (g : GridValue) (order : List ℕ) (k i : ℕ) (p : P) → AreCuts f g → IsOrder (f.items_of g.size) order → i < f.items_of g.size → place_in i order ≡ k → IsPrunedTo f g order k p → f.cut p (all_but i) ≡ rest_puzzle f g order p i
+next_is_rest : {P : Type 0} (f : Ghosts P) (g : GridValue) (order : List ℕ) (k i : ℕ) (p : P) → AreCuts f g
+    → IsOrder (f.items_of g.size) order → i < f.items_of g.size → place_in i order ≡ k → IsPrunedTo f g order k p
+    → f.cut p (all_but i) ≡ rest_puzzle f g order p i
 next_is_rest {P} f g order k i p cuts is_order small here so_far =
     ap (λ (q : P). f.cut q (all_but i)) so_far.is_cut ∙ cuts.again (f.has p) (all_but i)
     ∙ cuts.agrees (λ j. f.has p j && all_but i j) (rest order (f.has p) i)
     (rest_is_but (f.items_of g.size) order (f.has p) i is_order small (λ j small_j after. so_far.untried j small_j (omega arith)))
 
 -- an item without which there are two solutions stays
-pub pruned_stays : {P : Type 0} (f : Ghosts P) (g : GridValue) (order : List ℕ) (k i : ℕ) (p : P) → AreCuts f g → IsOrder (f.items_of g.size) order → i < f.items_of g.size → place_in i order ≡ k → IsPrunedTo f g order k p → HasTwo (f.puzzle (f.cut p (all_but i))) → IsPrunedTo f g order (k + 1) p
+pub pruned_stays : {P : Type 0} (f : Ghosts P) (g : GridValue) (order : List ℕ) (k i : ℕ) (p : P) → AreCuts f g
+    → IsOrder (f.items_of g.size) order → i < f.items_of g.size → place_in i order ≡ k → IsPrunedTo f g order k p
+    → HasTwo (f.puzzle (f.cut p (all_but i))) → IsPrunedTo f g order (k + 1) p
 pruned_stays {P} f g order k i p cuts is_order small here so_far two = record {
   is_cut = so_far.is_cut;
   tried = λ j small_j before. elim (cases_eq (place_in j order) k) [
@@ -150,7 +159,9 @@ pruned_stays {P} f g order k i p cuts is_order small here so_far two = record {
 }
 
 -- any other goes
-pub pruned_goes : {P : Type 0} (f : Ghosts P) (g : GridValue) (order : List ℕ) (k i : ℕ) (p q : P) → AreCuts f g → IsOrder (f.items_of g.size) order → i < f.items_of g.size → place_in i order ≡ k → IsPrunedTo f g order k p → (HasTwo (f.puzzle (f.cut p (all_but i))) → ⊥) → q ≡ f.cut p (all_but i) → IsPrunedTo f g order (k + 1) q
+pub pruned_goes : {P : Type 0} (f : Ghosts P) (g : GridValue) (order : List ℕ) (k i : ℕ) (p q : P) → AreCuts f g
+    → IsOrder (f.items_of g.size) order → i < f.items_of g.size → place_in i order ≡ k → IsPrunedTo f g order k p
+    → (HasTwo (f.puzzle (f.cut p (all_but i))) → ⊥) → q ≡ f.cut p (all_but i) → IsPrunedTo f g order (k + 1) q
 pruned_goes {P} f g order k i p q cuts is_order small here so_far single gone =
     let n = f.items_of g.size in
     let cut : q ≡ f.cut (f.full_of g) (λ j. f.has p j && all_but i j) =
@@ -197,7 +208,8 @@ pruned_goes {P} f g order k i p q cuts is_order small here so_far single gone =
     }
 
 -- all were tried
-pub pruned_all : {P : Type 0} (f : Ghosts P) (g : GridValue) (order : List ℕ) (k : ℕ) (p : P) → IsGrid g → IsLatin g → IsOrder (f.items_of g.size) order → f.items_of g.size ≤ k → IsPrunedTo f g order k p → IsPruned f g order p
+pub pruned_all : {P : Type 0} (f : Ghosts P) (g : GridValue) (order : List ℕ) (k : ℕ) (p : P) → IsGrid g → IsLatin g
+    → IsOrder (f.items_of g.size) order → f.items_of g.size ≤ k → IsPrunedTo f g order k p → IsPruned f g order p
 pruned_all f g order k p grid latin is_order whole so_far = record {
   is_grid = grid;
   is_latin = latin;
@@ -214,7 +226,8 @@ same_bool true false A first second = sym (second.1 (first.0 refl))
 same_bool false true A first second = first.1 (second.0 refl)
 same_bool false false A first second = refl
 
-same_kept : {P : Type 0} (f : Ghosts P) (g : GridValue) (order : List ℕ) (p q : P) → AreCuts f g → IsPruned f g order p → IsPruned f g order q → (k i : ℕ) → i < f.items_of g.size → place_in i order < k → f.has p i ≡ f.has q i
+same_kept : {P : Type 0} (f : Ghosts P) (g : GridValue) (order : List ℕ) (p q : P) → AreCuts f g → IsPruned f g order p
+    → IsPruned f g order q → (k i : ℕ) → i < f.items_of g.size → place_in i order < k → f.has p i ≡ f.has q i
 same_kept f g order p q cuts first second zero i small before = absurd (omega arith)
 same_kept {P} f g order p q cuts first second (suc k) i small before =
     let same : rest_puzzle f g order p i ≡ rest_puzzle f g order q i =
@@ -225,7 +238,8 @@ same_kept {P} f g order p q cuts first second (suc k) i small before =
     same_bool (f.has p i) (f.has q i) (HasTwo (f.puzzle (rest_puzzle f g order p i))) (first.each i small)
     (subst Rest (sym same) (second.each i small))
 
-pub pruned_one : {P : Type 0} (f : Ghosts P) (g : GridValue) (order : List ℕ) (p q : P) → AreCuts f g → IsPruned f g order p → IsPruned f g order q → p ≡ q
+pub pruned_one : {P : Type 0} (f : Ghosts P) (g : GridValue) (order : List ℕ) (p q : P) → AreCuts f g → IsPruned f g order p
+    → IsPruned f g order q → p ≡ q
 pruned_one f g order p q cuts first second =
     first.is_cut
     ∙ cuts.agrees (f.has p) (f.has q)
@@ -234,7 +248,8 @@ pruned_one f g order p q cuts first second =
 
 -- ---- without any item that is kept there are two solutions
 
-pub pruned_needed : {P : Type 0} (f : Ghosts P) (g : GridValue) (order : List ℕ) (p : P) → AreCuts f g → IsPruned f g order p → (i : ℕ) → i < f.items_of g.size → IsTrue (f.has p i) → HasTwo (f.puzzle (f.cut p (all_but i)))
+pub pruned_needed : {P : Type 0} (f : Ghosts P) (g : GridValue) (order : List ℕ) (p : P) → AreCuts f g → IsPruned f g order p
+    → (i : ℕ) → i < f.items_of g.size → IsTrue (f.has p i) → HasTwo (f.puzzle (f.cut p (all_but i)))
 pruned_needed {P} f g order p cuts pruned i small there =
     let two = (pruned.each i small).0 there in
     let fewer : f.cut (f.full_of g) (λ j. rest order (f.has p) i j && (f.has p j && all_but i j)) ≡ f.cut p (all_but i) =
