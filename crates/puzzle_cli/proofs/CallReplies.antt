@@ -1,6 +1,5 @@
 -- Each reply is a step of the session's own calls, or leaves the session.
 use Rattle.std.proofs.Common.{◌≡◌, ◌≢◌, ◌⊎◌, ℕ, ◌==◌, if◌then◌else◌, true, false, List, codes, Option, Some, None, unwrap_or, Result, Ok, Err, IsOk, ◌-◌, ◌+◌, length, refl, sym, ap, ◌∙◌, subst, inl, inr}
-use Rattle.std.specs.Option.{IsSomeAnd}
 use Rattle.play_midend.specs.declared.fault.PlayFault.{PlayFault}
 use Rattle.play_midend.specs.declared.fault.PlayFault.TheVariants.{OutOfMemory, NothingToUndo, NothingToRedo}
 use Rattle.play_midend.specs.declared.moves.Move.{Move}
@@ -8,7 +7,7 @@ use Rattle.play_midend.specs.declared.moves.Move.TheVariants.{Solve as Filling}
 use Rattle.play_midend.specs.Faults.{play_fault_name}
 use Rattle.play_midend.specs.MoveTexts.{IsMoveText}
 use Rattle.play_midend.specs.Histories.{at_position, History, IsRefusal, played, restarted, SolveGives, undone, redone}
-use Rattle.play_midend.specs.Laws.{Call, Play, FromStart, ToSolution, CallGives, Answered, may_want_memory}
+use Rattle.play_midend.specs.Laws.{Call, Play, FromStart, ToSolution, CallGives, may_want_memory}
 use Rattle.play_midend.specs.Laws.{Undo as ToUndo, Redo as ToRedo}
 use Rattle.puzzle_cli.specs.declared.command.Command.TheVariants.{Ask}
 use Rattle.puzzle_cli.specs.declared.command.Request.{Request}
@@ -23,7 +22,7 @@ use Rattle.puzzle_cli.specs.SolutionTexts.{move_line, solve_sentence, listed_lin
 use Rattle.puzzle_cli.specs.SessionReplies.{text_outcome, TextPlays, sentence_outcome, ok_line, IsMoveRead, SolveSays, RequestGives, call_outcome}
 use Rattle.puzzle_cli.specs.Refusals.{refusal_name}
 use Rattle.puzzle_cli.specs.Replies.{refusal_line, Writes, ReadGives, ReadTakesMemory, Reply}
-use Rattle.puzzle_cli.specs.RunLaws.{IsCallOf, IsMade, IsRefused, IsToldOf, RepliesAreCalls, OtherRequestsLeave}
+use Rattle.puzzle_cli.specs.RunLaws.{AnswersCall, IsCallOf, IsMade, IsRefused, RepliesAreCalls, OtherRequestsLeave}
 use Rattle.puzzle_cli.proofs.CommandLaws.{read_once}
 use Rattle.puzzle_cli.proofs.RepliesOnce.{move_read_once, outcome_parts, said_or_refused, refusal_parts}
 use Rattle.byte_text.specs.Reading.{◌>>=◌}
@@ -51,10 +50,6 @@ said_to {P} f old line read bytes new is (inr (r, scan, takes, name, stays)) =
 -- ---- a request that is a call
 
 module _ {P : Type 0} (f : GameFacts P) (h : History P) where
-  abbrev IsAnswered : Call → List ℕ → Option (History P) → Type 0
-  IsAnswered call bytes new =
-      IsSomeAnd new (λ k. (answer : Result (Unit {0}) PlayFault) × Answered (f.rules.puzzle h.puzzle) h call answer k × IsToldOf call answer bytes)
-
   -- the calls that are answered by `ok`: all but solving
   abbrev SaysOk : Call → Type 0
   SaysOk ToSolution = ⊥
@@ -78,17 +73,17 @@ module _ {P : Type 0} (f : GameFacts P) (h : History P) where
 
   refused_call : (call : Call) (fault : PlayFault) (bytes : List ℕ) (new : Option (History P))
       → CallGives (f.rules.puzzle h.puzzle) h call (Err fault)
-      → fault ≢ OutOfMemory → IsRefused call fault bytes → new ≡ Some h → IsAnswered call bytes new
+      → fault ≢ OutOfMemory → IsRefused call fault bytes → new ≡ Some h → AnswersCall f h call bytes new
   refused_call call fault bytes new gives spares told stays =
-      subst (λ (s : Option (History P)). IsAnswered call bytes s) (sym stays) (Err fault, (refl, (Err fault, gives, refused_so call fault spares)), told)
+      subst (λ (s : Option (History P)). AnswersCall f h call bytes s) (sym stays) (Err fault, (refl, (Err fault, gives, refused_so call fault spares)), told)
 
   called : (call : Call) (exact : Result (History P) PlayFault) (bytes : List ℕ) (new : Option (History P)) → SaysOk call
       → CallGives (f.rules.puzzle h.puzzle) h call exact → (exact ≢ Err OutOfMemory)
       → Writes (λ o. call_outcome exact ≡ o) (Some h) bytes new
-      → IsAnswered call bytes new
+      → AnswersCall f h call bytes new
   called call (Ok k) bytes new says_ok gives spares (inl e) =
       let parts = outcome_parts ok_line bytes (Some k) new e in
-      subst (λ (s : Option (History P)). IsAnswered call bytes s) parts.1 (Ok tt, gives, ok_told call says_ok bytes (sym parts.0))
+      subst (λ (s : Option (History P)). AnswersCall f h call bytes s) parts.1 (Ok tt, gives, ok_told call says_ok bytes (sym parts.0))
   called call (Ok k) bytes new says_ok gives spares (inr (refusal, e, name, stays)) = absurd (said_or_refused ok_line (Some k) refusal e)
   called call (Err fault) bytes new says_ok gives spares (inl e) = absurd (said_or_refused bytes new (OfPlay fault) (sym e))
   called call (Err fault) bytes new says_ok gives spares (inr (refusal, e, name, stays)) =
@@ -99,11 +94,11 @@ module _ {P : Type 0} (f : GameFacts P) (h : History P) where
   -- want of memory in place of success
   lacking : (call : Call) (k : History P) (bytes : List ℕ) (new : Option (History P)) → may_want_memory call ≡ true
       → CallGives (f.rules.puzzle h.puzzle) h call (Ok k)
-      → bytes ≡ refusal_line (codes "OutOfMemory") → new ≡ Some h → IsAnswered call bytes new
+      → bytes ≡ refusal_line (codes "OutOfMemory") → new ≡ Some h → AnswersCall f h call bytes new
   lacking ToUndo k bytes new wants gives name stays = cc
   lacking ToRedo k bytes new wants gives name stays = cc
   lacking call k bytes new wants gives name stays =
-      subst (λ (s : Option (History P)). IsAnswered call bytes s) (sym stays) (Err OutOfMemory, (refl, (Ok k, gives, refl)), name)
+      subst (λ (s : Option (History P)). AnswersCall f h call bytes s) (sym stays) (Err OutOfMemory, (refl, (Ok k, gives, refl)), name)
 
   -- a move
   move_called : (text : List ℕ) (m : Move) (exact : Result (History P) PlayFault) → IsMoveText m text
@@ -113,7 +108,7 @@ module _ {P : Type 0} (f : GameFacts P) (h : History P) where
       sym gives ∙ ap (λ (r : Result Move PlayFault). r >>= played (f.rules.puzzle h.puzzle) h) (move_read_once text read (Ok m) is spelled)
 
   play_answered : (text : List ℕ) (m : Move) (bytes : List ℕ) (new : Option (History P)) → IsMoveText m text
-      → ReadSays f (Some h) (Ok (Some (Ask (Make text)))) bytes new → IsAnswered (Play m) bytes new
+      → ReadSays f (Some h) (Ok (Some (Ask (Make text)))) bytes new → AnswersCall f h (Play m) bytes new
   play_answered text m bytes new spelled (inl (inl (exact, plays, out))) =
       let is = move_called text m exact spelled plays in
       called (Play m) exact bytes new tt is (λ e. played_spares (f.rules.puzzle h.puzzle) h m (sym is ∙ e)) (inl out)
@@ -130,7 +125,7 @@ module _ {P : Type 0} (f : GameFacts P) (h : History P) where
   unsolved : (fault : PlayFault) (sentence : Option (List ℕ)) → solve_sentence fault ≡ sentence
       → (bytes : List ℕ) (new : Option (History P))
       → SolveGives (f.rules.puzzle h.puzzle) h (Err fault)
-      → Writes (λ o. sentence_outcome h (solve_sentence fault) fault ≡ o) (Some h) bytes new → IsAnswered ToSolution bytes new
+      → Writes (λ o. sentence_outcome h (solve_sentence fault) fault ≡ o) (Some h) bytes new → AnswersCall f h ToSolution bytes new
   unsolved fault (Some text) is bytes new gives (inl e) =
       let parts = outcome_parts text bytes (Some h) new (ap (λ (s : Option (List ℕ)). sentence_outcome h s fault) (sym is) ∙ e) in
       refused_call ToSolution fault bytes new gives (spared fault gives)
@@ -145,15 +140,15 @@ module _ {P : Type 0} (f : GameFacts P) (h : History P) where
       (name ∙ ap (λ (r : Refusal). refusal_line (refusal_name r)) (sym called) ∙ ap (λ (s : Option (List ℕ)). unwrap_or s (refusal_line (play_fault_name fault))) (sym is)) stays
 
   solved : (exact : Result (History P) PlayFault) (bytes : List ℕ) (new : Option (History P)) → SolveGives (f.rules.puzzle h.puzzle) h exact
-      → Writes (SolveSays h exact) (Some h) bytes new → IsAnswered ToSolution bytes new
+      → Writes (SolveSays h exact) (Some h) bytes new → AnswersCall f h ToSolution bytes new
   solved (Ok k) bytes new gives (inl (g, with, e)) =
       let parts = outcome_parts (move_line (Filling g)) bytes (Some k) new e in
-      subst (λ (s : Option (History P)). IsAnswered ToSolution bytes s) parts.1 (Ok tt, gives, (g, sym parts.0))
+      subst (λ (s : Option (History P)). AnswersCall f h ToSolution bytes s) parts.1 (Ok tt, gives, (g, sym parts.0))
   solved (Ok k) bytes new gives (inr (refusal, (g, with, e), name, stays)) = absurd (said_or_refused (move_line (Filling g)) (Some k) refusal e)
   solved (Err fault) bytes new gives out = unsolved fault (solve_sentence fault) refl bytes new gives out
 
   solve_answered : (bytes : List ℕ) (new : Option (History P)) → ReadSays f (Some h) (Ok (Some (Ask (Plain Solve)))) bytes new
-      → IsAnswered ToSolution bytes new
+      → AnswersCall f h ToSolution bytes new
   solve_answered bytes new (inl (inl (exact, gives, says))) = solved exact bytes new gives (inl says)
   solve_answered bytes new (inl (inr (refusal, (exact, gives, says), name, stays))) = solved exact bytes new gives (inr (refusal, says, name, stays))
   solve_answered bytes new (inr ((k, gives), name, stays)) = lacking ToSolution k bytes new refl gives name stays
@@ -165,34 +160,34 @@ module _ {P : Type 0} (f : GameFacts P) (h : History P) where
   redone_spares = elim (h.position == length h.moves + 1) as (λ t. (if t then Err NothingToRedo else Ok (at_position h (h.position + 1))) ≢ Err OutOfMemory) [ true ↦ λ e. cc | false ↦ λ e. cc ]
 
   undo_answered : (bytes : List ℕ) (new : Option (History P)) → ReadSays f (Some h) (Ok (Some (Ask (Plain Undo)))) bytes new
-      → IsAnswered ToUndo bytes new
+      → AnswersCall f h ToUndo bytes new
   undo_answered bytes new (inl out) = called ToUndo (undone h) bytes new tt refl undone_spares out
   undo_answered bytes new (inr lacks) = absurd lacks.0
 
   redo_answered : (bytes : List ℕ) (new : Option (History P)) → ReadSays f (Some h) (Ok (Some (Ask (Plain Redo)))) bytes new
-      → IsAnswered ToRedo bytes new
+      → AnswersCall f h ToRedo bytes new
   redo_answered bytes new (inl out) = called ToRedo (redone h) bytes new tt refl redone_spares out
   redo_answered bytes new (inr lacks) = absurd lacks.0
 
   restart_lacks : (exact : Result (History P) PlayFault) → restarted h ≡ exact → IsOk exact → (bytes : List ℕ) (new : Option (History P))
-      → bytes ≡ refusal_line (codes "OutOfMemory") → new ≡ Some h → IsAnswered FromStart bytes new
+      → bytes ≡ refusal_line (codes "OutOfMemory") → new ≡ Some h → AnswersCall f h FromStart bytes new
   restart_lacks (Ok k) is ok bytes new name stays = lacking FromStart k bytes new refl (sym is) name stays
   restart_lacks (Err fault) is ok bytes new name stays = cc
 
   restart_answered : (bytes : List ℕ) (new : Option (History P))
-      → ReadSays f (Some h) (Ok (Some (Ask (Plain Restart)))) bytes new → IsAnswered FromStart bytes new
+      → ReadSays f (Some h) (Ok (Some (Ask (Plain Restart)))) bytes new → AnswersCall f h FromStart bytes new
   restart_answered bytes new (inl out) = called FromStart (restarted h) bytes new tt refl (restarted_spares h) out
   restart_answered bytes new (inr (takes, name, stays)) = restart_lacks (restarted h) refl takes bytes new name stays
 
   answered : (request : Request (List ℕ)) (call : Call) (bytes : List ℕ) (new : Option (History P)) → IsCallOf request call
-      → ReadSays f (Some h) (Ok (Some (Ask request))) bytes new → IsAnswered call bytes new
+      → ReadSays f (Some h) (Ok (Some (Ask request))) bytes new → AnswersCall f h call bytes new
   answered (Make text) call bytes new (m, spelled, is) says =
-      subst (λ (c : Call). IsAnswered c bytes new) (sym is) (play_answered text m bytes new spelled says)
+      subst (λ (c : Call). AnswersCall f h c bytes new) (sym is) (play_answered text m bytes new spelled says)
   answered (Solutions n) call bytes new never says = absurd never
-  answered (Plain Undo) call bytes new is says = subst (λ (c : Call). IsAnswered c bytes new) (sym is) (undo_answered bytes new says)
-  answered (Plain Redo) call bytes new is says = subst (λ (c : Call). IsAnswered c bytes new) (sym is) (redo_answered bytes new says)
-  answered (Plain Restart) call bytes new is says = subst (λ (c : Call). IsAnswered c bytes new) (sym is) (restart_answered bytes new says)
-  answered (Plain Solve) call bytes new is says = subst (λ (c : Call). IsAnswered c bytes new) (sym is) (solve_answered bytes new says)
+  answered (Plain Undo) call bytes new is says = subst (λ (c : Call). AnswersCall f h c bytes new) (sym is) (undo_answered bytes new says)
+  answered (Plain Redo) call bytes new is says = subst (λ (c : Call). AnswersCall f h c bytes new) (sym is) (redo_answered bytes new says)
+  answered (Plain Restart) call bytes new is says = subst (λ (c : Call). AnswersCall f h c bytes new) (sym is) (restart_answered bytes new says)
+  answered (Plain Solve) call bytes new is says = subst (λ (c : Call). AnswersCall f h c bytes new) (sym is) (solve_answered bytes new says)
   answered (Plain word) call bytes new never says = absurd never
 
 pub replies_are_calls : {P : Type 0} (f : GameFacts P) → RepliesAreCalls f

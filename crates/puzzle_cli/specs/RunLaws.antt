@@ -92,12 +92,18 @@ abbrev pub IsToldOf : Call → Result (Unit {0}) PlayFault → List ℕ → Type
 IsToldOf call (Ok u) bytes = IsMade call bytes
 IsToldOf call (Err fault) bytes = IsRefused call fault bytes
 
+-- a session that answered the call is left, and the bytes tell the answer
+abbrev pub AnswersCall : {P : Type 0} → GameFacts P → History P → Call → List ℕ → Option (History P) → Type 0
+AnswersCall f h call bytes new =
+    IsSomeAnd new (λ k. (answer : Result (Unit {0}) PlayFault)
+    × Answered (f.rules.puzzle h.puzzle) h call answer k × IsToldOf call answer bytes)
+
 -- a line that asks for a call: the session answers the call, and the reply tells the answer
 abbrev pub RepliesAreCalls : {P : Type 0} → GameFacts P → Type 0
 RepliesAreCalls {P} f =
     (h : History P) (line : Line) (request : Request (List ℕ)) (call : Call) (bytes : List ℕ) (new : Option (History P))
     → Asks line request → IsCallOf request call → Reply f (Some h) line bytes new
-    → IsSomeAnd new (λ k. (answer : Result (Unit {0}) PlayFault) × Answered (f.rules.puzzle h.puzzle) h call answer k × IsToldOf call answer bytes)
+    → AnswersCall f h call bytes new
 
 -- a line that asks for no call leaves the session
 abbrev pub OtherRequestsLeave : {P : Type 0} → GameFacts P → Type 0
