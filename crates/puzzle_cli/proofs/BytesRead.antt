@@ -1,103 +1,190 @@
 -- Steps over bytes that were read, one list of bytes after another, and the ends of a run that they come to.
-use Rattle.std.proofs.Common.{◌≡◌, ℕ, Bool, true, false, Option, Some, List, [], ◌∷◌, ◌++◌, length, sym, ap, ◌∙◌, subst, append-nil, ◌⊎◌, inl, inr, refl, take}
-use Rattle.std.proofs.KnownBytes.{Consumes-trans}
-use Rattle.std.specs.Io.KnownBytes.{Consumes}
-use Rattle.puzzle_cli.specs.Lines.{Line, as_line, all_lines, ended_lines}
+use Rattle.std.proofs.Common.{◌≡◌, ℕ, ◌+◌, ◌<◌, ◌≤◌, Bool, true, false, Option, Some, List, [], ◌∷◌, ◌++◌, length, sym, ap, ◌∙◌, subst, append-nil, ◌⊎◌, inl, inr, refl, get_or, take, drop, take-append-drop, arith, length-append, length-take-le}
+use Rattle.std.proofs.lemmas.List.{take_more}
+use Rattle.std.proofs.KnownBytes.{Consumes-kept, Consumes-trans}
+use Rattle.std.specs.Io.KnownBytes.{Consumes, IsAtEnd, Keeps}
+use Rattle.puzzle_cli.specs.Lines.{Line, ReplyRule, as_line, all_lines, ended_lines}
 use Rattle.puzzle_cli.specs.LineBuffer.{ended_from, last_from}
 use Rattle.puzzle_cli.specs.Runs.{longest_input, Point, Progress, progress_of, before_quit, Served, WereRead, AreAll, Ends}
 use Rattle.puzzle_cli.specs.Steps.{Goes}
-use Rattle.puzzle_cli.specs.declared.line_loop.Status.{Status}
-use Rattle.puzzle_cli.specs.declared.line_loop.Status.TheVariants.{More, Quit, Fault}
+use Rattle.puzzle_cli.specs.declared.line_loop.Flow.{Flow}
+use Rattle.puzzle_cli.specs.declared.line_loop.Flow.TheVariants.{More, Quit, Unsent}
 use Rattle.puzzle_cli.specs.declared.run_end.End.TheVariants.{Finished, ReadFault, WriteFault}
 use Rattle.puzzle_cli.proofs.LinesCut.{ended_from-append, last_from-append, all_lines-by-parts, ended_lines-by-parts}
-use Rattle.puzzle_cli.proofs.RunsInTurn.{before_quit-all, Goes-after, Quit-more, Fault-more}
+use Rattle.puzzle_cli.proofs.LinesInTurn.{before_quit-all, Goes-after, Quit-more, Unsent-more}
 
-pub last_from-bytes : (part now : Line) (xs ys : List ℕ) → now ≡ last_from part xs → last_from now ys ≡ last_from part (xs ++ ys)
+last_from-bytes : (part now : Line) (xs ys : List ℕ) → now ≡ last_from part xs → last_from now ys ≡ last_from part (xs ++ ys)
 last_from-bytes part now xs ys here = ap (λ l. last_from l ys) here ∙ sym (last_from-append part xs ys)
 
+pub last_from-byte : (part now : Line) (piece : List ℕ) (i : ℕ) → i < length piece → now ≡ last_from part (take i piece)
+    → last_from now (get_or piece i 0 ∷ []) ≡ last_from part (take (i + 1) piece)
+last_from-byte part now piece i inside here =
+    last_from-bytes part now (take i piece) (get_or piece i 0 ∷ []) here ∙ ap (last_from part) (sym (take_more piece i 0 inside))
+
 -- a read that gave nothing
-pub Consumes-none : (a b c : Option (List ℕ)) (xs ys : List ℕ) (n : ℕ) → n ≡ 0 → Consumes a b xs → Consumes b c (take n ys) → Consumes a c xs
+Consumes-none : (a b c : Option (List ℕ)) (xs ys : List ℕ) (n : ℕ) → n ≡ 0 → Consumes a b xs → Consumes b c (take n ys) → Consumes a c xs
 Consumes-none a b c xs ys n none p q =
     let rest : Consumes b c [] = subst (λ k. Consumes b c (take k ys)) none q in
     subst (Consumes a c) (append-nil xs) (Consumes-trans a b c xs [] p rest)
 
-module _ {S : Type 0} (reply : S → Line → List ℕ → S → Type 0) (quit : Line → Bool) where
+module _ {S : Type 0} (reply : ReplyRule S) (quit : Line → Bool) where
   -- ---- more bytes
 
   -- more bytes behind those whose lines were answered
-  pub Goes-bytes : (status : Status) (part now : Line) (xs ys : List ℕ) (old mid new : Progress S)
-      → Goes reply quit More (ended_from part xs) old mid → now ≡ last_from part xs → Goes reply quit status (ended_from now ys) mid new
-      → Goes reply quit status (ended_from part (xs ++ ys)) old new
-  Goes-bytes status part now xs ys old mid new p here q =
-      let next : Goes reply quit status (ended_from (last_from part xs) ys) mid new = subst (λ l. Goes reply quit status (ended_from l ys) mid new) here q in
-      subst (λ l. Goes reply quit status l old new) (sym (ended_from-append part xs ys))
-      (Goes-after reply quit status (ended_from part xs) (ended_from (last_from part xs) ys) old mid new p next)
+  pub Goes-bytes : (flow : Flow) (part now : Line) (xs ys : List ℕ) (old mid new : Progress S)
+      → Goes reply quit More (ended_from part xs) old mid → now ≡ last_from part xs → Goes reply quit flow (ended_from now ys) mid new
+      → Goes reply quit flow (ended_from part (xs ++ ys)) old new
+  Goes-bytes flow part now xs ys old mid new p here q =
+      let next : Goes reply quit flow (ended_from (last_from part xs) ys) mid new = subst (λ l. Goes reply quit flow (ended_from l ys) mid new) here q in
+      subst (λ l. Goes reply quit flow l old new) (sym (ended_from-append part xs ys))
+      (Goes-after reply quit flow (ended_from part xs) (ended_from (last_from part xs) ys) old mid new p next)
+
+  -- one more byte of a piece
+  pub Goes-byte : (flow : Flow) (part now : Line) (piece : List ℕ) (i : ℕ) (old mid new : Progress S) → i < length piece
+      → Goes reply quit More (ended_from part (take i piece)) old mid → now ≡ last_from part (take i piece)
+      → Goes reply quit flow (ended_from now (get_or piece i 0 ∷ [])) mid new
+      → Goes reply quit flow (ended_from part (take (i + 1) piece)) old new
+  Goes-byte flow part now piece i old mid new inside p here q =
+      subst (λ l. Goes reply quit flow (ended_from part l) old new) (sym (take_more piece i 0 inside))
+      (Goes-bytes flow part now (take i piece) (get_or piece i 0 ∷ []) old mid new p here q)
 
   -- a step that stopped didn't see the bytes behind
-  pub Goes-stopped : (status : Status) (part : Line) (xs ys : List ℕ) (old new : Progress S) → (status ≡ More → ⊥)
-      → Goes reply quit status (ended_from part xs) old new → Goes reply quit status (ended_from part (xs ++ ys)) old new
-  Goes-stopped More part xs ys old new stops q = absurd (stops refl)
-  Goes-stopped Quit part xs ys old new stops q =
-      subst (λ l. Goes reply quit Quit l old new) (sym (ended_from-append part xs ys)) (Quit-more reply quit (ended_from part xs) (ended_from (last_from part xs) ys) old new q)
-  Goes-stopped Fault part xs ys old new stops q =
-      subst (λ l. Goes reply quit Fault l old new) (sym (ended_from-append part xs ys)) (Fault-more reply quit (ended_from part xs) (ended_from (last_from part xs) ys) old new q)
+  more_behind : (flow : Flow) (xs ys : List Line) (old new : Progress S) → (flow ≡ More → ⊥)
+      → Goes reply quit flow xs old new → Goes reply quit flow (xs ++ ys) old new
+  more_behind More xs ys old new stops q = absurd (stops refl)
+  more_behind Quit xs ys old new stops q = Quit-more reply quit xs ys old new q
+  more_behind Unsent xs ys old new stops q = Unsent-more reply quit xs ys old new q
+
+  pub Goes-stopped : (flow : Flow) (part : Line) (piece : List ℕ) (n : ℕ) (old new : Progress S) → (flow ≡ More → ⊥)
+      → Goes reply quit flow (ended_from part (take n piece)) old new → Goes reply quit flow (ended_from part piece) old new
+  Goes-stopped flow part piece n old new stops q =
+      let behind = more_behind flow (ended_from part (take n piece)) (ended_from (last_from part (take n piece)) (drop n piece)) old new stops q in
+      let whole : ended_from part (take n piece) ++ ended_from (last_from part (take n piece)) (drop n piece) ≡ ended_from part piece =
+      sym (ended_from-append part (take n piece) (drop n piece)) ∙ ap (ended_from part) (take-append-drop n piece) in
+      subst (λ l. Goes reply quit flow l old new) whole behind
 
   -- ---- the ends of a run
 
   -- the steps of all that was read, the last line with them
-  all_read : (status : Status) (read : List ℕ) (now : Line) (old mid new : Progress S)
-      → Goes reply quit More (ended_from (Some []) read) old mid → now ≡ last_from (Some []) read → Goes reply quit status (as_line now ∷ []) mid new
-      → Goes reply quit status (all_lines read) old new
-  all_read status read now old mid new p here q =
-      let last : Goes reply quit status (as_line (last_from (Some []) read) ∷ []) mid new = subst (λ l. Goes reply quit status (as_line l ∷ []) mid new) here q in
-      subst (λ l. Goes reply quit status l old new) (sym (all_lines-by-parts read))
-      (Goes-after reply quit status (ended_from (Some []) read) (as_line (last_from (Some []) read) ∷ []) old mid new p last)
+  all_read : (flow : Flow) (read : List ℕ) (now : Line) (old mid new : Progress S)
+      → Goes reply quit More (ended_from (Some []) read) old mid → now ≡ last_from (Some []) read
+      → Goes reply quit flow (as_line now ∷ []) mid new
+      → Goes reply quit flow (all_lines read) old new
+  all_read flow read now old mid new p here q =
+      let last : Goes reply quit flow (as_line (last_from (Some []) read) ∷ []) mid new = subst (λ l. Goes reply quit flow (as_line l ∷ []) mid new) here q in
+      subst (λ l. Goes reply quit flow l old new) (sym (all_lines-by-parts read))
+      (Goes-after reply quit flow (ended_from (Some []) read) (as_line (last_from (Some []) read) ∷ []) old mid new p last)
 
-  ended_read : (status : Status) (read : List ℕ) (old new : Progress S)
-      → Goes reply quit status (ended_from (Some []) read) old new → Goes reply quit status (ended_lines read) old new
-  ended_read status read old new p = subst (λ l. Goes reply quit status l old new) (sym (ended_lines-by-parts read)) p
+  ended_read : (flow : Flow) (read : List ℕ) (old new : Progress S)
+      → Goes reply quit flow (ended_from (Some []) read) old new → Goes reply quit flow (ended_lines read) old new
+  ended_read flow read old new p = subst (λ l. Goes reply quit flow l old new) (sym (ended_lines-by-parts read)) p
 
   -- a step that went out served the lines before quit
-  served : (status : Status) (lines : List Line) (old new : Progress S) → (status ≡ Fault → ⊥) → Goes reply quit status lines old new
+  served : (flow : Flow) (lines : List Line) (old new : Progress S) → (flow ≡ Unsent → ⊥) → Goes reply quit flow lines old new
       → (new.failed ≡ false) × Served reply (before_quit quit lines) old new
   served More lines old new went p = (p.1, subst (λ l. Served reply l old new) (sym (before_quit-all quit lines p.0)) p.2)
   served Quit lines old new went p = (p.1, p.2)
-  served Fault lines old new went p = absurd (went refl)
+  served Unsent lines old new went p = absurd (went refl)
 
-  module _ (old new : Point S) (read : List ℕ) where
-    -- the input is at its end, and the last line was answered or is quit
-    pub Finished-at-end : (status : Status) (now : Line) (mid : Progress S) → WereRead old new read → AreAll new read
-        → new.read_failed ≡ false → (status ≡ Fault → ⊥)
-        → Goes reply quit More (ended_from (Some []) read) (progress_of old) mid → now ≡ last_from (Some []) read
-        → Goes reply quit status (as_line now ∷ []) mid (progress_of new) → Ends reply quit Finished old new
-    Finished-at-end status now mid were all works went p here q =
-        let done = served status (all_lines read) (progress_of old) (progress_of new) went (all_read status read now (progress_of old) mid (progress_of new) p here q) in
-        (works, done.0, (read, were, inl (all, done.1)))
+  -- ---- what was read so far
 
-    -- a line that LF ended is quit
-    pub Finished-at-quit : WereRead old new read → new.read_failed ≡ false
-        → Goes reply quit Quit (ended_from (Some []) read) (progress_of old) (progress_of new) → Ends reply quit Finished old new
-    Finished-at-quit were works p =
-        let done = ended_read Quit read (progress_of old) (progress_of new) p in
-        (works, done.1, (read, were, inr (done.0, done.2)))
+  -- So many bytes were read since a point: the lines that ended in them were answered, and this part of a line stands behind those.
+  pub record HasRead (old now : Point S) (count : ℕ) (part : Line) : Type 0 where
+    pub read : List ℕ
+    pub consumed : Consumes old.to_come now.to_come read
+    pub counted : length read ≡ count
+    pub answered : Goes reply quit More (ended_from (Some []) read) (progress_of old) (progress_of now)
+    pub rest : part ≡ last_from (Some []) read
 
-    pub ReadFault-ends : WereRead old new read → (new.read_failed ≡ true) ⊎ (length read ≡ longest_input)
-        → Goes reply quit More (ended_from (Some []) read) (progress_of old) (progress_of new) → Ends reply quit ReadFault old new
-    ReadFault-ends were cause p =
-        let done = ended_read More read (progress_of old) (progress_of new) p in
-        (done.1, (read, were, cause, done.0, done.2))
+module _ {S : Type 0} {reply : ReplyRule S} {quit : Line → Bool} {old now : Point S} {count : ℕ} {part : Line}
+    (so_far : HasRead reply quit old now count part) where
+  -- a read failed, or all that a run reads was read
+  pub ReadFault-ends : count ≤ longest_input → (now.read_failed ≡ true) ⊎ (count ≡ longest_input) → Ends reply quit ReadFault old now
+  ReadFault-ends most cause =
+      let done = ended_read reply quit More so_far.read (progress_of old) (progress_of now) so_far.answered in
+      let why : (now.read_failed ≡ true) ⊎ (length so_far.read ≡ longest_input) =
+      elim cause [ inl fails ↦ inl fails | inr full ↦ inr (so_far.counted ∙ full) ] in
+      (done.1, (so_far.read, (so_far.consumed, omega (arith, so_far.counted)), why, done.0, done.2))
 
-    -- the reply to the last line didn't go out
-    pub WriteFault-at-end : (now : Line) (mid : Progress S) → WereRead old new read → AreAll new read → new.read_failed ≡ false
-        → Goes reply quit More (ended_from (Some []) read) (progress_of old) mid → now ≡ last_from (Some []) read
-        → Goes reply quit Fault (as_line now ∷ []) mid (progress_of new) → Ends reply quit WriteFault old new
-    WriteFault-at-end now mid were all works p here q =
-        let done = all_read Fault read now (progress_of old) mid (progress_of new) p here q in
-        (works, done.0, (read, were, inl (all, done.1)))
+  module _ (new : Point S) where
+    -- no more was read
+    pub stays_read : Keeps now.to_come new.to_come → progress_of now ≡ progress_of new → HasRead reply quit old new count part
+    stays_read keeps same = record {
+      read = so_far.read;
+      consumed = Consumes-kept old.to_come now.to_come new.to_come so_far.read so_far.consumed keeps;
+      counted = so_far.counted;
+      answered = subst (λ (p : Progress S). Goes reply quit More (ended_from (Some []) so_far.read) (progress_of old) p) same so_far.answered;
+      rest = so_far.rest;
+    }
 
-    -- the reply to a line that LF ended didn't go out
-    pub WriteFault-before-end : WereRead old new read → new.read_failed ≡ false
-        → Goes reply quit Fault (ended_from (Some []) read) (progress_of old) (progress_of new) → Ends reply quit WriteFault old new
-    WriteFault-before-end were works p =
-        let done = ended_read Fault read (progress_of old) (progress_of new) p in
-        (works, done.0, (read, were, inr done.1))
+    -- ---- the input is at its end, and its last line comes
+
+    module _ (few : count < longest_input) (n : ℕ) (piece : List ℕ) (none : n ≡ 0)
+        (consumed : Consumes now.to_come new.to_come (take n piece)) (at_end : IsAtEnd new.to_come) (works : new.read_failed ≡ false) where
+      were_all : WereRead old new so_far.read × AreAll new so_far.read
+      were_all = (
+        (Consumes-none old.to_come now.to_come new.to_come so_far.read piece n none so_far.consumed consumed, omega (arith, so_far.counted)),
+        (at_end, omega (arith, so_far.counted)),
+      )
+
+      all_gone : (flow : Flow) → Goes reply quit flow (as_line part ∷ []) (progress_of now) (progress_of new)
+          → Goes reply quit flow (all_lines so_far.read) (progress_of old) (progress_of new)
+      all_gone flow goes = all_read reply quit flow so_far.read part (progress_of old) (progress_of now) (progress_of new) so_far.answered so_far.rest goes
+
+      -- it was answered or is quit
+      pub Finished-at-end : (flow : Flow) → (flow ≡ Unsent → ⊥)
+          → Goes reply quit flow (as_line part ∷ []) (progress_of now) (progress_of new)
+          → Ends reply quit Finished old new
+      Finished-at-end flow went goes =
+          let done = served reply quit flow (all_lines so_far.read) (progress_of old) (progress_of new) went (all_gone flow goes) in
+          (works, done.0, (so_far.read, were_all.0, inl (were_all.1, done.1)))
+
+      -- its reply didn't go out
+      pub WriteFault-at-end : Goes reply quit Unsent (as_line part ∷ []) (progress_of now) (progress_of new)
+          → Ends reply quit WriteFault old new
+      WriteFault-at-end goes =
+          let done = all_gone Unsent goes in
+          (works, done.0, (so_far.read, were_all.0, inl (were_all.1, done.1)))
+
+    -- ---- a piece was read
+
+    module _ (n : ℕ) (piece : List ℕ) (fits : n ≤ length piece) (consumed : Consumes now.to_come new.to_come (take n piece)) where
+      abbrev more : List ℕ
+      more = so_far.read ++ take n piece
+
+      more_consumed : Consumes old.to_come new.to_come more
+      more_consumed = Consumes-trans old.to_come now.to_come new.to_come so_far.read (take n piece) so_far.consumed consumed
+
+      length-more : length more ≡ count + n
+      length-more = omega (arith, length-append so_far.read (take n piece), length-take-le n piece fits, so_far.counted)
+
+      more_answered : (flow : Flow) → Goes reply quit flow (ended_from part (take n piece)) (progress_of now) (progress_of new)
+          → Goes reply quit flow (ended_from (Some []) more) (progress_of old) (progress_of new)
+      more_answered flow goes =
+          Goes-bytes reply quit flow (Some []) part so_far.read (take n piece) (progress_of old) (progress_of now) (progress_of new)
+          so_far.answered so_far.rest goes
+
+      pub reads_on : (line : Line) → Goes reply quit More (ended_from part (take n piece)) (progress_of now) (progress_of new)
+          → line ≡ last_from part (take n piece) → HasRead reply quit old new (count + n) line
+      reads_on line goes cut = record {
+        read = more;
+        consumed = more_consumed;
+        counted = length-more;
+        answered = more_answered More goes;
+        rest = cut ∙ last_from-bytes (Some []) part so_far.read (take n piece) so_far.rest;
+      }
+
+      module _ (within : count + n ≤ longest_input) (works : new.read_failed ≡ false) where
+        -- a line that ends in it is quit
+        pub Finished-at-quit : Goes reply quit Quit (ended_from part (take n piece)) (progress_of now) (progress_of new)
+            → Ends reply quit Finished old new
+        Finished-at-quit goes =
+            let done = ended_read reply quit Quit more (progress_of old) (progress_of new) (more_answered Quit goes) in
+            (works, done.1, (more, (more_consumed, omega (arith, length-more)), inr (done.0, done.2)))
+
+        -- the reply to a line that ends in it didn't go out
+        pub WriteFault-in-piece : Goes reply quit Unsent (ended_from part (take n piece)) (progress_of now) (progress_of new)
+            → Ends reply quit WriteFault old new
+        WriteFault-in-piece goes =
+            let done = ended_read reply quit Unsent more (progress_of old) (progress_of new) (more_answered Unsent goes) in
+            (works, done.0, (more, (more_consumed, omega (arith, length-more)), inr done.1))

@@ -1,5 +1,5 @@
 -- A line is a command exactly where it is that command's line, so it is read in one way.
-use Rattle.std.proofs.Common.{◌≡◌, ◌≢◌, ℕ, ◌≤◌, ◌==◌, Bool, inl, inr, if◌then◌else◌, true, false, cond, List, [], ◌∷◌, ◌++◌, length, take, drop, codes, bytes_eq, Option, Some, None, option_map, option_and_then, Result, Ok, Err, ok_or, IfOk, IfSome, refl, ap, sym, ◌∙◌, subst, arith, take-append-drop}
+use Rattle.std.proofs.Common.{◌≡◌, ◌≢◌, ℕ, ◌≤◌, ◌==◌, Bool, inl, inr, if◌then◌else◌, true, false, cond, List, [], ◌∷◌, ◌++◌, length, take, drop, codes, bytes_eq, Option, Some, None, option_map, option_and_then, Ok, Err, ok_or, IfOk, IfSome, refl, ap, sym, ◌∙◌, subst, arith, take-append-drop}
 use Rattle.std.specs.Option.{option_or}
 use Rattle.std.specs.Fmt.{decimal}
 use Rattle.std.proofs.lemmas.Bool.Decides.{nat_tests}
@@ -12,7 +12,7 @@ use Rattle.puzzle_cli.specs.declared.command.Request.TheVariants.{Move, Solution
 use Rattle.puzzle_cli.specs.declared.line_fault.LineFault.{LineFault}
 use Rattle.puzzle_cli.specs.declared.line_fault.LineFault.TheVariants.{LongLine, BadCommand, NoGame}
 use Rattle.puzzle_cli.specs.Lines.{Line}
-use Rattle.puzzle_cli.specs.Commands.{words, IsEntry, is_quit, IsCommandLine, IsRead, IsCommandInRange, command_map, read_map}
+use Rattle.puzzle_cli.specs.Commands.{Reading, words, IsEntry, is_quit, IsCommandLine, IsRead, IsCommandInRange, command_map, read_map}
 use Rattle.puzzle_cli.specs.CommandReading.{rest_behind, entry_at, nonzero, limit_at, word_at, other_command_at, command_at, read_at}
 
 -- the line is that of a command, and a list is of so many
@@ -50,7 +50,8 @@ lacked (row ∷ rows) line a l (inl h) =
 lacked (row ∷ rows) line a l (inr h) =
     elim (bytes_eq line row.0) as (λ t. cond t false (lacks rows line) ≡ true → ⊥) [ true ↦ λ e. cc | false ↦ λ e. lacked rows line a e h ] l
 
-entry_again : {A : Type 0} (rows : List (List ℕ × A)) (line : List ℕ) (a : A) → differ rows ≡ true → IsEntry rows line a → entry_at rows line ≡ Some a
+entry_again : {A : Type 0} (rows : List (List ℕ × A)) (line : List ℕ) (a : A) → differ rows ≡ true → IsEntry rows line a
+    → entry_at rows line ≡ Some a
 entry_again [] line a d h = absurd h
 entry_again (row ∷ rows) line a d (inl h) =
     let same : bytes_eq line row.0 ≡ true = (bytes_eq-Decides line row.0).1 h.0 in
@@ -200,7 +201,7 @@ command_full c (b ∷ bs) h = not_empty (b ∷ bs) (λ e. cc)
 -- ---- lines
 
 -- each line is read in one way
-pub read_once : (line : Line) (read : Result (Option (Command (List ℕ))) LineFault) → IsRead line read → read ≡ read_at line
+pub read_once : (line : Line) (read : Reading (List ℕ)) → IsRead line read → read ≡ read_at line
 read_once line (Ok None) h = rw h refl
 read_once line (Ok (Some c)) h =
     let again : command_at h.0 ≡ Some c = command_again c h.0 h.2 in
@@ -231,25 +232,19 @@ line_is_read (Some (b ∷ bs)) =
 
 -- ---- what was read, seen by a view
 
-pub read_found : {X : Type 0} (view : X → List ℕ) (line : Line) (result : Result (Option (Command X)) LineFault)
+pub read_found : {X : Type 0} (view : X → List ℕ) (line : Line) (result : Reading X)
     → read_map view result ≡ read_at line → IsRead line (read_map view result)
-read_found view line result h = subst (λ (r : Result (Option (Command (List ℕ))) LineFault). IsRead line r) (sym h) (line_is_read line)
+read_found view line result h = subst (λ (r : Reading (List ℕ)). IsRead line r) (sym h) (line_is_read line)
 
 unmapped : {X : Type 0} (view : X → List ℕ) (c : Command X) → IsCommandInRange (command_map view c) → IsCommandInRange c
-unmapped view (New id) h = tt
-unmapped view Quit h = tt
-unmapped view (Ask (Move text)) h = tt
-unmapped view (Ask (Plain word)) h = tt
 unmapped view (Ask (Solutions n)) h = h
+unmapped view c h = tt
 
 in_range : (c : Command (List ℕ)) (line : List ℕ) → IsCommandLine c line → IsCommandInRange c
-in_range (New id) line h = tt
-in_range Quit line h = tt
-in_range (Ask (Move text)) line h = tt
-in_range (Ask (Plain word)) line h = tt
 in_range (Ask (Solutions n)) line h = (h.0, h.1)
+in_range c line h = tt
 
-pub read_range : {X : Type 0} (view : X → List ℕ) (line : Line) (result : Result (Option (Command X)) LineFault)
+pub read_range : {X : Type 0} (view : X → List ℕ) (line : Line) (result : Reading X)
     → read_map view result ≡ read_at line → IfOk result (λ read. IfSome read IsCommandInRange)
 read_range view line (Ok None) h = tt
 read_range view line (Ok (Some c)) h =

@@ -5,7 +5,7 @@ pub mod DecimalDigits
 pub mod CommandLaws
 pub mod LinesCut
 pub mod BytesRead
-pub mod RunsInTurn
+pub mod LinesInTurn
 pub mod BytesSent
 pub mod SolveRefusals
 pub mod Starting

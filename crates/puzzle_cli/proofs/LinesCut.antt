@@ -3,12 +3,13 @@ use Rattle.std.proofs.Common.{◌≡◌, ℕ, ◌-◌, ◌==◌, true, false, if
 use Rattle.std.proofs.Math.Seq.{take-append_seam}
 use Rattle.std.proofs.lemmas.List.{length_push}
 use Rattle.std.proofs.lemmas.Bool.Decides.{nat_tests}
-use Rattle.puzzle_cli.specs.Lines.{Line, onto, pieces, kept, as_line, all_lines, ended_lines}
+use Rattle.puzzle_cli.specs.Lines.{Line, onto, segments, unless_long, as_line, all_lines, ended_lines}
 use Rattle.puzzle_cli.specs.LineBuffer.{pushed, ended_from, last_from}
 
 -- ---- one list of bytes after another
 
-pub ended_from-append : (part : Line) (xs ys : List ℕ) → ended_from part (xs ++ ys) ≡ ended_from part xs ++ ended_from (last_from part xs) ys
+pub ended_from-append : (part : Line) (xs ys : List ℕ)
+    → ended_from part (xs ++ ys) ≡ ended_from part xs ++ ended_from (last_from part xs) ys
 ended_from-append part [] ys = refl
 ended_from-append part (b ∷ xs) ys =
     elim (b == 10) as (λ t. (if t then as_line part ∷ ended_from (Some []) (xs ++ ys) else ended_from (pushed part b) (xs ++ ys))
@@ -25,43 +26,44 @@ last_from-append part (b ∷ xs) ys =
 
 -- ---- the plain meaning
 
--- the pieces, with a front before the first
+-- the segments, with a front before the first
 abbrev join : List ℕ → List (List ℕ) → List (List ℕ)
 join front [] = front ∷ []
-join front (piece ∷ rest) = (front ++ piece) ∷ rest
+join front (segment ∷ rest) = (front ++ segment) ∷ rest
 
-abbrev lines_of : List (List ℕ) → List (Line)
-lines_of ps = map (λ piece. as_line (kept piece)) ps
+abbrev lines_of : List (List ℕ) → List Line
+lines_of ps = map (λ segment. as_line (unless_long segment)) ps
 
-join-pieces : (bytes : List ℕ) → join [] (pieces bytes) ≡ pieces bytes
-join-pieces [] = refl
-join-pieces (b ∷ bs) =
-    elim (b == 10) as (λ t. join [] (if t then [] ∷ pieces bs else onto b (pieces bs)) ≡ (if t then [] ∷ pieces bs else onto b (pieces bs)))
-    [ true ↦ refl | false ↦ elim (pieces bs) as (λ ps. join [] (onto b ps) ≡ onto b ps) [ [] ↦ refl | p ∷ ps ↦ refl ] ]
+join-segments : (bytes : List ℕ) → join [] (segments bytes) ≡ segments bytes
+join-segments [] = refl
+join-segments (b ∷ bs) =
+    elim (b == 10) as (λ t. join [] (if t then [] ∷ segments bs else onto b (segments bs)) ≡ (if t then [] ∷ segments bs else onto b (segments bs)))
+    [ true ↦ refl | false ↦ elim (segments bs) as (λ ps. join [] (onto b ps) ≡ onto b ps) [ [] ↦ refl | p ∷ ps ↦ refl ] ]
 
 join-onto : (front : List ℕ) (b : ℕ) (ps : List (List ℕ)) → join front (onto b ps) ≡ join (front ++ b ∷ []) ps
 join-onto front b [] = refl
 join-onto front b (p ∷ ps) = ap (λ l. l ∷ ps) (sym (append_assoc front (b ∷ []) p))
 
-pushed-kept : (front : List ℕ) (b : ℕ) → pushed (kept front) b ≡ kept (front ++ b ∷ [])
-pushed-kept front b = rw (length_push front b) (grind (arith, nat_tests))
+pushed-short : (front : List ℕ) (b : ℕ) → pushed (unless_long front) b ≡ unless_long (front ++ b ∷ [])
+pushed-short front b = rw (length_push front b) (grind (arith, nat_tests))
 
-lines_of-join : (front bytes : List ℕ) → lines_of (join front (pieces bytes)) ≡ ended_from (kept front) bytes ++ as_line (last_from (kept front) bytes) ∷ []
-lines_of-join front [] = ap (λ l. as_line (kept l) ∷ []) (append-nil front)
+lines_of-join : (front bytes : List ℕ)
+    → lines_of (join front (segments bytes)) ≡ ended_from (unless_long front) bytes ++ as_line (last_from (unless_long front) bytes) ∷ []
+lines_of-join front [] = ap (λ l. as_line (unless_long l) ∷ []) (append-nil front)
 lines_of-join front (b ∷ bs) =
-    elim (b == 10) as (λ t. lines_of (join front (if t then [] ∷ pieces bs else onto b (pieces bs)))
-    ≡ (if t then as_line (kept front) ∷ ended_from (Some []) bs else ended_from (pushed (kept front) b) bs)
-    ++ as_line (if t then last_from (Some []) bs else last_from (pushed (kept front) b) bs) ∷ []) [
-      | true ↦ ap (λ l. as_line (kept l) ∷ lines_of (pieces bs)) (append-nil front)
-          ∙ ap (λ l. as_line (kept front) ∷ l) (ap lines_of (sym (join-pieces bs)) ∙ lines_of-join [] bs)
-      | false ↦ ap lines_of (join-onto front b (pieces bs)) ∙ lines_of-join (front ++ b ∷ []) bs
-          ∙ ap (λ part. ended_from part bs ++ as_line (last_from part bs) ∷ []) (sym (pushed-kept front b))
+    elim (b == 10) as (λ t. lines_of (join front (if t then [] ∷ segments bs else onto b (segments bs)))
+    ≡ (if t then as_line (unless_long front) ∷ ended_from (Some []) bs else ended_from (pushed (unless_long front) b) bs)
+    ++ as_line (if t then last_from (Some []) bs else last_from (pushed (unless_long front) b) bs) ∷ []) [
+      | true ↦ ap (λ l. as_line (unless_long l) ∷ lines_of (segments bs)) (append-nil front)
+          ∙ ap (λ l. as_line (unless_long front) ∷ l) (ap lines_of (sym (join-segments bs)) ∙ lines_of-join [] bs)
+      | false ↦ ap lines_of (join-onto front b (segments bs)) ∙ lines_of-join (front ++ b ∷ []) bs
+          ∙ ap (λ part. ended_from part bs ++ as_line (last_from part bs) ∷ []) (sym (pushed-short front b))
     ]
 
 pub all_lines-by-parts : (bytes : List ℕ) → all_lines bytes ≡ ended_from (Some []) bytes ++ as_line (last_from (Some []) bytes) ∷ []
-all_lines-by-parts bytes = ap lines_of (sym (join-pieces bytes)) ∙ lines_of-join [] bytes
+all_lines-by-parts bytes = ap lines_of (sym (join-segments bytes)) ∙ lines_of-join [] bytes
 
-front-push : (lines : List (Line)) (line : Line) → take (length (lines ++ line ∷ []) - 1) (lines ++ line ∷ []) ≡ lines
+front-push : (lines : List Line) (line : Line) → take (length (lines ++ line ∷ []) - 1) (lines ++ line ∷ []) ≡ lines
 front-push lines line =
     let n : length (lines ++ line ∷ []) - 1 ≡ length lines = omega (arith, length_push lines line) in
     ap (λ k. take k (lines ++ line ∷ [])) n ∙ take-append_seam lines (line ∷ [])

@@ -66,7 +66,8 @@ least A limit x xs g f a =
       | inr full ↦ inr (All-head (λ y. IsBelow y g) x xs full.1)
     ]
 
-same_first : (A : GridValue → Type 0) (limit : ℕ) (x y : GridValue) (xs ys : List GridValue) → AreFirst A limit (x ∷ xs) → AreFirst A limit (y ∷ ys) → x ≡ y
+same_first : (A : GridValue → Type 0) (limit : ℕ) (x y : GridValue) (xs ys : List GridValue) → AreFirst A limit (x ∷ xs)
+    → AreFirst A limit (y ∷ ys) → x ≡ y
 same_first A limit x y xs ys f g =
     elim (least A limit x xs y f (All-head A y ys g.solutions)) [
       | inl is ↦ is
@@ -76,7 +77,8 @@ same_first A limit x y xs ys f g =
       ]
     ]
 
-none_or_full : (A : GridValue → Type 0) (limit : ℕ) (y : GridValue) (ys : List GridValue) → AreFirst A limit [] → AreFirst A limit (y ∷ ys) → ⊥
+none_or_full : (A : GridValue → Type 0) (limit : ℕ) (y : GridValue) (ys : List GridValue) → AreFirst A limit []
+    → AreFirst A limit (y ∷ ys) → ⊥
 none_or_full A limit y ys f g =
     elim (f.others y (All-head A y ys g.solutions)) [
       | inl listed ↦ let inside = listed.1 in omega arith

@@ -1,18 +1,14 @@
 -- Replies, out of the replies of their parts.
 use Rattle.std.proofs.Common.{◌≡◌, ◌≢◌, ℕ, List, Some, Option, Result, Ok, Err, IsOk, refl, ap, sym, subst, inl, inr}
-use Rattle.clue_rules.specs.declared.game_id.GameId.{GameId}
-use Rattle.clue_rules.specs.declared.game_id.GameId.TheVariants.{Described}
-use Rattle.clue_rules.specs.declared.params.Params.{Params}
 use Rattle.play_midend.specs.declared.moves.Move.{Move}
 use Rattle.play_midend.specs.declared.fault.PlayFault.{PlayFault}
-use Rattle.play_midend.specs.declared.fault.PlayFault.TheVariants.{BadMove, Unsupported, OffGrid, OffRange, GivenSquare, FilledSquare, BadSolution, HistoryFull, OutOfMemory, NothingToUndo, NothingToRedo, NothingToRestart, NoSolution, SeveralSolutions}
+use Rattle.play_midend.specs.declared.fault.PlayFault.TheVariants.{OutOfMemory}
 use Rattle.play_midend.specs.MoveTexts.{IsMoveText, move_fault}
-use Rattle.play_midend.specs.Histories.{History, started, played, IsRefusal}
+use Rattle.play_midend.specs.Histories.{History, played, IsRefusal}
 use Rattle.puzzle_cli.specs.declared.refusal.Refusal.{Refusal}
 use Rattle.puzzle_cli.specs.declared.refusal.Refusal.TheVariants.{Play}
 use Rattle.puzzle_cli.specs.declared.command.Request.TheVariants.{Move as Make}
 use Rattle.puzzle_cli.specs.GameFacts.{GameFacts}
-use Rattle.puzzle_cli.specs.NewSessions.{no_extras, TextBegins, IsIdRead}
 use Rattle.puzzle_cli.specs.SessionReplies.{ok_line, RequestGives, RequestTakesMemory}
 use Rattle.puzzle_cli.specs.Replies.{Explains}
 use Rattle.puzzle_cli.specs.Commands.{IsRead}
@@ -24,7 +20,8 @@ use Rattle.puzzle_cli.specs.Answers.{IsLineRefusal}
 
 module _ {P : Type 0} (f : GameFacts P) (h : History P) (text : List ℕ) where
   -- a text that is no move
-  pub no_move : (refusal : Refusal) (fault : PlayFault) → refusal ≡ Play fault → ((m : Move) → Err fault ≢ Ok m) → ((m : Move) → IsMoveText m text → Err fault ≡ Ok m)
+  pub no_move : (refusal : Refusal) (fault : PlayFault) → refusal ≡ Play fault → ((m : Move) → Err fault ≢ Ok m)
+      → ((m : Move) → IsMoveText m text → Err fault ≡ Ok m)
       → fault ≡ move_fault text → Explains (RequestGives f h (Make text)) (RequestTakesMemory f h (Make text)) refusal
   no_move refusal fault refused apart only is =
       inl (Err fault, (Err fault, ((λ m spelled. apart m (only m spelled)), is), refl), ap Err (sym refused))
@@ -39,29 +36,19 @@ module _ {P : Type 0} (f : GameFacts P) (h : History P) (text : List ℕ) where
       → Explains (RequestGives f h (Make text)) (RequestTakesMemory f h (Make text)) (Play fault)
   refused_exactly m fault spelled is = inl (Err fault, (Ok m, spelled, is), refl)
 
-  lacks_memory : (m : Move) (exact : Result (History P) PlayFault) → IsMoveText m text → played (f.rules.puzzle h.puzzle) h m ≡ exact → IsOk exact
+  lacks_memory : (m : Move) (exact : Result (History P) PlayFault) → IsMoveText m text
+      → played (f.rules.puzzle h.puzzle) h m ≡ exact → IsOk exact
       → Explains (RequestGives f h (Make text)) (RequestTakesMemory f h (Make text)) (Play OutOfMemory)
   lacks_memory m (Ok new) spelled is ok = inr ((new, (Ok m, spelled, is)), refl)
   lacks_memory m (Err fault) spelled is ok = cc
 
   by_fault : (m : Move) (fault : PlayFault) → IsMoveText m text → IsRefusal (played (f.rules.puzzle h.puzzle) h m) fault
       → Explains (RequestGives f h (Make text)) (RequestTakesMemory f h (Make text)) (Play fault)
-  by_fault m BadMove spelled why = refused_exactly m BadMove spelled why
-  by_fault m Unsupported spelled why = refused_exactly m Unsupported spelled why
-  by_fault m OffGrid spelled why = refused_exactly m OffGrid spelled why
-  by_fault m OffRange spelled why = refused_exactly m OffRange spelled why
-  by_fault m GivenSquare spelled why = refused_exactly m GivenSquare spelled why
-  by_fault m FilledSquare spelled why = refused_exactly m FilledSquare spelled why
-  by_fault m BadSolution spelled why = refused_exactly m BadSolution spelled why
-  by_fault m HistoryFull spelled why = refused_exactly m HistoryFull spelled why
   by_fault m OutOfMemory spelled why = lacks_memory m (played (f.rules.puzzle h.puzzle) h m) spelled refl why
-  by_fault m NothingToUndo spelled why = refused_exactly m NothingToUndo spelled why
-  by_fault m NothingToRedo spelled why = refused_exactly m NothingToRedo spelled why
-  by_fault m NothingToRestart spelled why = refused_exactly m NothingToRestart spelled why
-  by_fault m NoSolution spelled why = refused_exactly m NoSolution spelled why
-  by_fault m SeveralSolutions spelled why = refused_exactly m SeveralSolutions spelled why
+  by_fault m fault spelled why = refused_exactly m fault spelled why
 
-  pub move_refused : (m : Move) (refusal : Refusal) (fault : PlayFault) → refusal ≡ Play fault → IsMoveText m text → IsRefusal (played (f.rules.puzzle h.puzzle) h m) fault
+  pub move_refused : (m : Move) (refusal : Refusal) (fault : PlayFault) → refusal ≡ Play fault → IsMoveText m text
+      → IsRefusal (played (f.rules.puzzle h.puzzle) h m) fault
       → Explains (RequestGives f h (Make text)) (RequestTakesMemory f h (Make text)) refusal
   move_refused m refusal fault refused spelled why =
       subst (λ (r : Refusal). Explains (RequestGives f h (Make text)) (RequestTakesMemory f h (Make text)) r) (sym refused) (by_fault m fault spelled why)

@@ -3,14 +3,12 @@ use Rattle.std.proofs.Common.{◌≡◌, ℕ, List, [], Option, Some, None, Resu
 use Rattle.play_midend.specs.declared.fault.PlayFault.{PlayFault}
 use Rattle.play_midend.specs.declared.moves.Move.TheVariants.{Solve as Filling}
 use Rattle.play_midend.specs.Histories.{History, restarted, undone, redone}
-use Rattle.puzzle_cli.specs.declared.command.Command.{Command}
+use Rattle.puzzle_cli.specs.Commands.{Reading}
 use Rattle.puzzle_cli.specs.declared.command.Command.TheVariants.{New, Quit, Ask}
 use Rattle.puzzle_cli.specs.declared.command.Request.{Request}
 use Rattle.puzzle_cli.specs.declared.command.Request.TheVariants.{Move as Make, Solutions, Plain}
-use Rattle.puzzle_cli.specs.declared.command.Word.TheVariants.{Undo, Redo, Restart, Show, Marks, Status, Id, Done, Solve, Save}
-use Rattle.puzzle_cli.specs.declared.line_fault.LineFault.{LineFault}
+use Rattle.puzzle_cli.specs.declared.command.Word.TheVariants.{Undo, Redo, Restart, Solve}
 use Rattle.puzzle_cli.specs.declared.line_fault.LineFault.TheVariants.{NoGame}
-use Rattle.puzzle_cli.specs.declared.refusal.Refusal.{Refusal}
 use Rattle.puzzle_cli.specs.declared.start_fault.StartFault.{StartFault}
 use Rattle.puzzle_cli.specs.declared.refusal.Refusal.TheVariants.{Play as OfPlay, Line as OfLine, Start as OfStart}
 use Rattle.puzzle_cli.specs.GameFacts.{GameFacts}
@@ -29,7 +27,8 @@ module _ {P : Type 0} (f : GameFacts P) (bytes name : List ℕ) (new : Option (H
   call_refused h (Ok k) e = absurd (not_ok bytes name (sym (outcome_parts ok_line bytes (Some k) new e).0) named)
   call_refused h (Err fault) e = absurd (said_or_refused bytes new (OfPlay fault) (sym e))
 
-  sentence_stays : (h : History P) (fault : PlayFault) (sentence : Option (List ℕ)) → sentence_outcome h sentence fault ≡ Ok (bytes, new) → new ≡ Some h
+  sentence_stays : (h : History P) (fault : PlayFault) (sentence : Option (List ℕ))
+      → sentence_outcome h sentence fault ≡ Ok (bytes, new) → new ≡ Some h
   sentence_stays h fault (Some text) e = text_stays f h bytes new text e
   sentence_stays h fault None e = absurd (said_or_refused bytes new (OfPlay fault) (sym e))
 
@@ -44,18 +43,14 @@ module _ {P : Type 0} (f : GameFacts P) (bytes name : List ℕ) (new : Option (H
   request_refused h (Plain Redo) e = call_refused h (redone h) e
   request_refused h (Plain Restart) e = call_refused h (restarted h) e
   request_refused h (Plain Solve) (exact, gives, says) = solve_refused h exact says
-  request_refused h (Plain Show) e = text_stays f h bytes new _ e
-  request_refused h (Plain Save) e = text_stays f h bytes new _ e
-  request_refused h (Plain Marks) e = text_stays f h bytes new _ e
-  request_refused h (Plain Status) e = text_stays f h bytes new _ e
-  request_refused h (Plain Id) e = text_stays f h bytes new _ e
-  request_refused h (Plain Done) e = text_stays f h bytes new _ e
+  request_refused h (Plain word) e = text_stays f h bytes new _ e
 
   begun_refused : (old : Option (History P)) (exact : Result (History P) StartFault) → begun exact ≡ Ok (bytes, new) → new ≡ old
   begun_refused old (Ok k) e = absurd (not_ok bytes name (sym (outcome_parts ok_line bytes (Some k) new e).0) named)
   begun_refused old (Err fault) e = absurd (said_or_refused bytes new (OfStart fault) (sym e))
 
-  read_refused : (old : Option (History P)) (read : Result (Option (Command (List ℕ))) LineFault) → ReadGives f old read (Ok (bytes, new)) → new ≡ old
+  read_refused : (old : Option (History P)) (read : Reading (List ℕ))
+      → ReadGives f old read (Ok (bytes, new)) → new ≡ old
   read_refused old (Ok None) e = sym (outcome_parts [] bytes old new e).1
   read_refused old (Ok (Some Quit)) e = sym (outcome_parts [] bytes old new e).1
   read_refused old (Ok (Some (New id))) (exact, begins, e) = begun_refused old exact e

@@ -8,6 +8,7 @@ use Rattle.clue_rules.specs.declared.game_id.GameId.TheVariants.{Described, Seed
 use Rattle.puzzle_gen.specs.declared.gen_fault.GenFault.{GenFault}
 use Rattle.puzzle_gen.proofs.ItemLaws.{ItemLaws}
 use Rattle.puzzle_gen.proofs.GeneratedOnce.{generates_once}
+use Rattle.puzzle_cli.specs.Commands.{Reading}
 use Rattle.puzzle_cli.specs.declared.start_fault.StartFault.{StartFault}
 use Rattle.clue_rules.specs.Parameters.{has_adjacent}
 use Rattle.clue_rules.specs.GameIds.{IsIdText}
@@ -25,8 +26,7 @@ use Rattle.puzzle_cli.specs.declared.command.Command.TheVariants.{New, Quit, Ask
 use Rattle.puzzle_cli.specs.declared.command.Request.{Request}
 use Rattle.puzzle_cli.specs.declared.command.Request.TheVariants.{Move as Make, Solutions, Plain}
 use Rattle.puzzle_cli.specs.declared.command.Word.{Word}
-use Rattle.puzzle_cli.specs.declared.command.Word.TheVariants.{Undo, Redo, Restart, Show, Marks, Status, Id, Done, Solve, Save}
-use Rattle.puzzle_cli.specs.declared.line_fault.LineFault.{LineFault}
+use Rattle.puzzle_cli.specs.declared.command.Word.TheVariants.{Solve}
 use Rattle.puzzle_cli.specs.declared.refusal.Refusal.{Refusal}
 use Rattle.puzzle_cli.specs.Lines.{Line}
 use Rattle.puzzle_cli.specs.GameFacts.{GameFacts}
@@ -35,7 +35,7 @@ use Rattle.puzzle_cli.specs.SessionReplies.{Outcome, IsMoveRead, TextPlays, Solv
 use Rattle.puzzle_cli.specs.SolutionTexts.{listed_lines, move_line}
 use Rattle.puzzle_cli.specs.Refusals.{refusal_name}
 use Rattle.puzzle_cli.specs.Replies.{Writes, ReadGives, CommandGives, AmpleReply, begun, refusal_line}
-use Rattle.puzzle_cli.specs.Runs.{Run}
+use Rattle.puzzle_cli.specs.Runs.{RepliesInTurn}
 use Rattle.puzzle_cli.proofs.CommandLaws.{read_once}
 use Rattle.puzzle_cli.proofs.ListedOnce.{first_once}
 
@@ -93,7 +93,8 @@ module _ {P : Type 0} (p : Puzzle) (h : History P) where
 
 -- ---- the parts of an outcome
 
-pub outcome_parts : {P : Type 0} (a b : List ℕ) (m n : Option (History P)) → (let one : Outcome P = Ok (a, m) in let other : Outcome P = Ok (b, n) in one ≡ other)
+pub outcome_parts : {P : Type 0} (a b : List ℕ) (m n : Option (History P))
+    → (let one : Outcome P = Ok (a, m) in let other : Outcome P = Ok (b, n) in one ≡ other)
     → (a ≡ b) × (m ≡ n)
 outcome_parts {P} a b m n e =
     let pair : (a, m) ≡ (b, n) = cc in
@@ -122,7 +123,8 @@ ids_once f again text (Err a) (Ok b) h k = sym h ∙ again text b k
 ids_once f again text (Err a) (Err b) h k = sym h ∙ k
 
 -- an ID that was read begins one session, or is refused in one way
-id_begins_once : {P : Type 0} (f : GameFacts P) → ItemLaws f.rules → (read : Result (GameId P) IdFault) (one other : Result (History P) StartFault)
+id_begins_once : {P : Type 0} (f : GameFacts P) → ItemLaws f.rules
+    → (read : Result (GameId P) IdFault) (one other : Result (History P) StartFault)
     → IdBegins f read one → IdBegins f read other → one ≡ other
 id_begins_once f laws (Ok (Described params puzzle)) one other is so = sym is ∙ so
 id_begins_once {P} f laws (Ok (Seeded params seed)) one other (made, gives, is) (built, tells, so) =
@@ -131,18 +133,11 @@ id_begins_once f laws (Err fault) one other is so = sym is ∙ so
 
 module _ {P : Type 0} (f : GameFacts P) (laws : ItemLaws f.rules) (ids : IdsAreReadOnce f) where
   word_once : (h : History P) (word : Word) (one other : Outcome P) → WordGives f h word one → WordGives f h word other → one ≡ other
-  word_once h Undo one other is so = sym is ∙ so
-  word_once h Redo one other is so = sym is ∙ so
-  word_once h Restart one other is so = sym is ∙ so
-  word_once h Show one other is so = sym is ∙ so
-  word_once h Save one other is so = sym is ∙ so
-  word_once h Marks one other is so = sym is ∙ so
-  word_once h Status one other is so = sym is ∙ so
-  word_once h Id one other is so = sym is ∙ so
-  word_once h Done one other is so = sym is ∙ so
   word_once h Solve one other is so = solve_once (f.rules.puzzle h.puzzle) h one other is so
+  word_once h word one other is so = sym is ∙ so
 
-  request_once : (h : History P) (request : Request (List ℕ)) (one other : Outcome P) → RequestGives f h request one → RequestGives f h request other → one ≡ other
+  request_once : (h : History P) (request : Request (List ℕ)) (one other : Outcome P) → RequestGives f h request one
+      → RequestGives f h request other → one ≡ other
   request_once h (Make text) one other (e, plays, is) (d, does, so) =
       sym is ∙ ap call_outcome (plays_once (f.rules.puzzle h.puzzle) h text e d plays does) ∙ so
   request_once h (Solutions n) one other (xs, first, is) (ys, least, so) =
@@ -154,19 +149,20 @@ module _ {P : Type 0} (f : GameFacts P) (laws : ItemLaws f.rules) (ids : IdsAreR
       id_begins_once f laws r one other is
       (subst (λ (read : Result (GameId P) IdFault). IdBegins f read other) (ids text s r b a) so)
 
-  command_once : (old : Option (History P)) (c : Command (List ℕ)) (one other : Outcome P) → CommandGives f old c one → CommandGives f old c other → one ≡ other
+  command_once : (old : Option (History P)) (c : Command (List ℕ)) (one other : Outcome P) → CommandGives f old c one
+      → CommandGives f old c other → one ≡ other
   command_once old (New id) one other (e, begins, is) (d, starts, so) = sym is ∙ ap begun (begins_once id e d begins starts) ∙ so
   command_once old Quit one other is so = sym is ∙ so
   command_once None (Ask request) one other is so = sym is ∙ so
   command_once (Some h) (Ask request) one other is so = request_once h request one other is so
 
-  gives_once : (old : Option (History P)) (read : Result (Option (Command (List ℕ))) LineFault) (one other : Outcome P)
+  gives_once : (old : Option (History P)) (read : Reading (List ℕ)) (one other : Outcome P)
       → ReadGives f old read one → ReadGives f old read other → one ≡ other
   gives_once old (Ok None) one other is so = sym is ∙ so
   gives_once old (Ok (Some c)) one other is so = command_once old c one other is so
   gives_once old (Err fault) one other is so = sym is ∙ so
 
-  writes_once : (old : Option (History P)) (read : Result (Option (Command (List ℕ))) LineFault) (a b : List ℕ) (m n : Option (History P))
+  writes_once : (old : Option (History P)) (read : Reading (List ℕ)) (a b : List ℕ) (m n : Option (History P))
       → Writes (ReadGives f old read) old a m → Writes (ReadGives f old read) old b n → (a ≡ b) × (m ≡ n)
   writes_once old read a b m n (inl x) (inl y) = outcome_parts a b m n (gives_once old read (Ok (a, m)) (Ok (b, n)) x y)
   writes_once old read a b m n (inl x) (inr (refusal, y, z, w)) = absurd (said_or_refused a m refusal (gives_once old read (Ok (a, m)) (Err refusal) x y))
@@ -178,13 +174,13 @@ module _ {P : Type 0} (f : GameFacts P) (laws : ItemLaws f.rules) (ids : IdsAreR
       → AmpleReply f old line a m → AmpleReply f old line b n → (a ≡ b) × (m ≡ n)
   reply_once old line a b m n (r, read, x) (s, scan, y) =
       let same : s ≡ r = read_once line s scan ∙ sym (read_once line r read) in
-      writes_once old r a b m n x (subst (λ (q : Result (Option (Command (List ℕ))) LineFault). Writes (ReadGives f old q) old b n) same y)
+      writes_once old r a b m n x (subst (λ (q : Reading (List ℕ)). Writes (ReadGives f old q) old b n) same y)
 
   pub output_once : (lines : List Line) (old m n : Option (History P)) (a b : List ℕ)
-      → Run (AmpleReply f) lines old a m → Run (AmpleReply f) lines old b n → (a ≡ b) × (m ≡ n)
+      → RepliesInTurn (AmpleReply f) lines old a m → RepliesInTurn (AmpleReply f) lines old b n → (a ≡ b) × (m ≡ n)
   output_once [] old m n a b (none, stays) (nothing, rests) = (none ∙ sym nothing, stays ∙ sym rests)
   output_once (line ∷ lines) old m n a b (x, mid, rest, said, whole, runs) (y, then, more, told, all, goes) =
       let once = reply_once old line x y mid then said told in
-      let goes_on : Run (AmpleReply f) lines mid more n = subst (λ (s : Option (History P)). Run (AmpleReply f) lines s more n) (sym once.1) goes in
+      let goes_on : RepliesInTurn (AmpleReply f) lines mid more n = subst (λ (s : Option (History P)). RepliesInTurn (AmpleReply f) lines s more n) (sym once.1) goes in
       let later = output_once lines mid m n rest more runs goes_on in
       (whole ∙ ap (λ l. l ++ rest) once.0 ∙ ap (λ l. y ++ l) later.0 ∙ sym all, later.1)

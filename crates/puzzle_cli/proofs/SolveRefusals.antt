@@ -2,7 +2,7 @@
 use Rattle.std.proofs.Common.{◌≡◌, ◌≢◌, Result, Ok, Err, IsOk, refl, subst, inl, inr}
 use Rattle.trail_solver.specs.Puzzles.{Puzzle}
 use Rattle.play_midend.specs.declared.fault.PlayFault.{PlayFault}
-use Rattle.play_midend.specs.declared.fault.PlayFault.TheVariants.{BadMove, Unsupported, OffGrid, OffRange, GivenSquare, FilledSquare, BadSolution, HistoryFull, OutOfMemory, NothingToUndo, NothingToRedo, NothingToRestart, NoSolution, SeveralSolutions}
+use Rattle.play_midend.specs.declared.fault.PlayFault.TheVariants.{OutOfMemory, NoSolution, SeveralSolutions}
 use Rattle.play_midend.specs.Histories.{History, SolveGives, IsRefusal, IsSolveRefusal}
 use Rattle.puzzle_cli.specs.declared.refusal.Refusal.TheVariants.{Play}
 use Rattle.puzzle_cli.specs.SessionReplies.{SolveSays, SolveReplies}
@@ -22,20 +22,11 @@ module _ {P : Type 0} (p : Puzzle) (h : History P) where
 
   explained : (fault : PlayFault) (exact : Result (History P) PlayFault) → SolveGives p h exact
       → IsRefusal exact fault → fault ≢ NoSolution → fault ≢ SeveralSolutions → IsSolveExplained fault
-  explained BadMove exact gives is n s = said BadMove exact gives is refl
-  explained Unsupported exact gives is n s = said Unsupported exact gives is refl
-  explained OffGrid exact gives is n s = said OffGrid exact gives is refl
-  explained OffRange exact gives is n s = said OffRange exact gives is refl
-  explained GivenSquare exact gives is n s = said GivenSquare exact gives is refl
-  explained FilledSquare exact gives is n s = said FilledSquare exact gives is refl
-  explained BadSolution exact gives is n s = said BadSolution exact gives is refl
-  explained HistoryFull exact gives is n s = said HistoryFull exact gives is refl
-  explained OutOfMemory exact gives is n s = without_memory exact gives is
-  explained NothingToUndo exact gives is n s = said NothingToUndo exact gives is refl
-  explained NothingToRedo exact gives is n s = said NothingToRedo exact gives is refl
-  explained NothingToRestart exact gives is n s = said NothingToRestart exact gives is refl
   explained NoSolution exact gives is n s = absurd (n refl)
   explained SeveralSolutions exact gives is n s = absurd (s refl)
+  explained OutOfMemory exact gives is n s = without_memory exact gives is
+  explained fault exact gives is n s = said fault exact gives is refl
 
-  pub solve_explained : (fault : PlayFault) → IsSolveRefusal p h fault → fault ≢ NoSolution → fault ≢ SeveralSolutions → IsSolveExplained fault
+  pub solve_explained : (fault : PlayFault) → IsSolveRefusal p h fault → fault ≢ NoSolution → fault ≢ SeveralSolutions
+      → IsSolveExplained fault
   solve_explained fault refused n s = explained fault refused.0 refused.1 refused.2 n s

@@ -1,5 +1,5 @@
 -- Want of memory in place of the session of an ID, and what a line with an ID is refused for.
-use Rattle.std.proofs.Common.{◌≡◌, ℕ, List, Option, Result, Ok, Err, IfErr, inl, inr, refl, ap, subst, sym, codes}
+use Rattle.std.proofs.Common.{◌≡◌, ℕ, List, Option, Result, Ok, Err, IfErr, inl, inr, refl, ap, subst, sym}
 use Rattle.clue_rules.specs.declared.params.Params.{Params}
 use Rattle.clue_rules.specs.declared.game_id.GameId.{GameId}
 use Rattle.clue_rules.specs.declared.game_id.GameId.TheVariants.{Described, Seeded}

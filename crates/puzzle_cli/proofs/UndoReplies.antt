@@ -6,7 +6,7 @@ use Rattle.trail_solver.specs.Puzzles.{Puzzle}
 use Rattle.play_midend.specs.declared.fault.PlayFault.{PlayFault}
 use Rattle.play_midend.specs.Faults.{play_fault_name}
 use Rattle.play_midend.specs.Histories.{History, IsValid, undone, redone}
-use Rattle.play_midend.specs.Laws.{Call, Play, FromStart, ToSolution, CallGives, Answered, IsSameBack, may_want_memory}
+use Rattle.play_midend.specs.Laws.{Call, Play, FromStart, ToSolution, CallGives, IsSameBack, may_want_memory}
 use Rattle.play_midend.specs.Laws.{Undo as ToUndo, Redo as ToRedo}
 use Rattle.play_midend.proofs.SessionLaws.{undo_takes_back, undo_takes_restart_back, undo_takes_solve_back, redo_takes_undo_back}
 use Rattle.puzzle_cli.specs.declared.command.Request.TheVariants.{Plain}
@@ -14,7 +14,7 @@ use Rattle.puzzle_cli.specs.declared.command.Word.TheVariants.{Undo, Redo}
 use Rattle.puzzle_cli.specs.GameFacts.{GameFacts}
 use Rattle.puzzle_cli.specs.SessionReplies.{ok_line}
 use Rattle.puzzle_cli.specs.Replies.{Reply}
-use Rattle.puzzle_cli.specs.RunLaws.{Asks, IsMade, IsToldOf, undo_line, redo_line, UndoLineTakesBack, RedoLineTakesUndoBack}
+use Rattle.puzzle_cli.specs.RunLaws.{AnswersCall, Asks, IsMade, undo_line, redo_line, UndoLineTakesBack, RedoLineTakesUndoBack}
 use Rattle.puzzle_cli.proofs.ReplyTexts.{not_ok, told_made}
 use Rattle.puzzle_cli.proofs.CallReplies.{replies_are_calls}
 
@@ -27,7 +27,8 @@ redo_asks : Asks redo_line (Plain Redo)
 redo_asks = (codes "redo", refl, inr (inl (refl, refl)))
 
 -- a call that is made and then undone
-taken_back : {P : Type 0} (f : GameFacts P) (h k : History P) (call : Call) → IsValid (f.rules.puzzle h.puzzle) h → may_want_memory call ≡ true
+taken_back : {P : Type 0} (f : GameFacts P) (h k : History P) (call : Call) → IsValid (f.rules.puzzle h.puzzle) h
+    → may_want_memory call ≡ true
     → CallGives (f.rules.puzzle h.puzzle) h call (Ok k) → IsOkAnd (undone k) (IsSameBack (f.rules.puzzle h.puzzle) h)
 taken_back f h k (Play m) valid wants gives = undo_takes_back f.rules.puzzle h k m valid (sym gives)
 taken_back f h k FromStart valid wants gives = undo_takes_restart_back f.rules.puzzle h k valid (sym gives)
@@ -36,22 +37,20 @@ taken_back f h k ToUndo valid wants gives = cc
 taken_back f h k ToRedo valid wants gives = cc
 
 -- what is said of an undo that succeeds
-undo_said : {P : Type 0} (p q : Puzzle) (h k : History P) (said : List ℕ) (last : Option (History P)) → IsOkAnd (undone k) (IsSameBack p h)
-    → IsSomeAnd last (λ z. (answer : Result (Unit {0}) PlayFault) × Answered q k ToUndo answer z × IsToldOf ToUndo answer said)
-    → (said ≡ ok_line) × IsSomeAnd last (IsSameBack p h)
-undo_said p q h k said None back told = absurd told
-undo_said {P} p q h k said (Some z) back (Ok u, gives, told) =
+undo_said : {P : Type 0} (f : GameFacts P) (p : Puzzle) (h k : History P) (said : List ℕ) (last : Option (History P))
+    → IsOkAnd (undone k) (IsSameBack p h) → AnswersCall f k ToUndo said last → (said ≡ ok_line) × IsSomeAnd last (IsSameBack p h)
+undo_said f p h k said None back told = absurd told
+undo_said {P} f p h k said (Some z) back (Ok u, gives, told) =
     (told, subst (λ (r : Result (History P) PlayFault). IsOkAnd r (IsSameBack p h)) (sym gives) back)
-undo_said {P} p q h k said (Some z) back (Err fault, (stays, (exact, gives, is)), told) =
+undo_said {P} f p h k said (Some z) back (Err fault, (stays, (exact, gives, is)), told) =
     absurd (subst (λ (r : Result (History P) PlayFault). IsOkAnd r (IsSameBack p h)) (sym gives ∙ is) back)
 
 after_made : {P : Type 0} (f : GameFacts P) (h : History P) (call : Call) (bytes said : List ℕ) (new last : Option (History P))
-    → IsValid (f.rules.puzzle h.puzzle) h → may_want_memory call ≡ true → IsMade call bytes
-    → IsSomeAnd new (λ k. (answer : Result (Unit {0}) PlayFault) × Answered (f.rules.puzzle h.puzzle) h call answer k × IsToldOf call answer bytes)
+    → IsValid (f.rules.puzzle h.puzzle) h → may_want_memory call ≡ true → IsMade call bytes → AnswersCall f h call bytes new
     → Reply f new undo_line said last → (said ≡ ok_line) × IsSomeAnd last (IsSameBack (f.rules.puzzle h.puzzle) h)
 after_made f h call bytes said None last valid wants made answer reply = absurd answer
 after_made f h call bytes said (Some k) last valid wants made (Ok u, gives, told) reply =
-    undo_said (f.rules.puzzle h.puzzle) (f.rules.puzzle k.puzzle) h k said last (taken_back f h k call valid wants gives)
+    undo_said f (f.rules.puzzle h.puzzle) h k said last (taken_back f h k call valid wants gives)
     (replies_are_calls f k undo_line (Plain Undo) ToUndo said last undo_asks refl reply)
 after_made f h call bytes said (Some k) last valid wants made (Err fault, gives, told) reply =
     let no_ok : IsOk {T = Unit {0}} {E = PlayFault} (Err fault) = told_made call (Err fault) bytes told made in cc
@@ -61,19 +60,18 @@ undo_line_takes_back f h line request call bytes said new last valid asks is wan
     after_made f h call bytes said new last valid wants made (replies_are_calls f h line request call bytes new asks is reply) again
 
 -- what is said of a redo that succeeds
-redo_said : {P : Type 0} (q : Puzzle) (h k : History P) (said : List ℕ) (last : Option (History P)) → redone k ≡ Ok h
-    → IsSomeAnd last (λ z. (answer : Result (Unit {0}) PlayFault) × Answered q k ToRedo answer z × IsToldOf ToRedo answer said)
-    → (said ≡ ok_line) × (last ≡ Some h)
-redo_said q h k said None back told = absurd told
-redo_said {P} q h k said (Some z) back (Ok u, gives, told) = let same : z ≡ h = cc in (told, ap Some same)
-redo_said {P} q h k said (Some z) back (Err fault, (stays, (exact, gives, is)), told) = cc
+redo_said : {P : Type 0} (f : GameFacts P) (h k : History P) (said : List ℕ) (last : Option (History P)) → redone k ≡ Ok h
+    → AnswersCall f k ToRedo said last → (said ≡ ok_line) × (last ≡ Some h)
+redo_said f h k said None back told = absurd told
+redo_said f h k said (Some z) back (Ok u, gives, told) = let same : z ≡ h = cc in (told, ap Some same)
+redo_said f h k said (Some z) back (Err fault, (stays, (exact, gives, is)), told) = cc
 
-after_undo : {P : Type 0} (f : GameFacts P) (h : History P) (said : List ℕ) (new last : Option (History P)) → IsValid (f.rules.puzzle h.puzzle) h
-    → IsSomeAnd new (λ k. (answer : Result (Unit {0}) PlayFault) × Answered (f.rules.puzzle h.puzzle) h ToUndo answer k × IsToldOf ToUndo answer ok_line)
-    → Reply f new redo_line said last → (said ≡ ok_line) × (last ≡ Some h)
+after_undo : {P : Type 0} (f : GameFacts P) (h : History P) (said : List ℕ) (new last : Option (History P))
+    → IsValid (f.rules.puzzle h.puzzle) h → AnswersCall f h ToUndo ok_line new → Reply f new redo_line said last
+    → (said ≡ ok_line) × (last ≡ Some h)
 after_undo f h said None last valid answer reply = absurd answer
 after_undo f h said (Some k) last valid (Ok u, gives, told) reply =
-    redo_said (f.rules.puzzle k.puzzle) h k said last (redo_takes_undo_back f.rules.puzzle h k valid (sym gives))
+    redo_said f h k said last (redo_takes_undo_back f.rules.puzzle h k valid (sym gives))
     (replies_are_calls f k redo_line (Plain Redo) ToRedo said last redo_asks refl reply)
 after_undo f h said (Some k) last valid (Err fault, gives, told) reply = absurd (not_ok ok_line (play_fault_name fault) refl told)
 

@@ -1,5 +1,5 @@
 -- What a command line says: the words of the games, and at most one way to begin.
-use Rattle.std.specs.Prelude.{◌≡◌, ℕ, ◌&&◌, Bool, false, List, codes, Option, is_some}
+use Rattle.std.specs.Prelude.{◌≡◌, ℕ, ◌&&◌, false, List, codes, Option, is_some}
 use Rattle.puzzle_cli.specs.declared.command_line.GameName.{GameName}
 use Rattle.puzzle_cli.specs.declared.command_line.GameName.TheVariants.{Towers, Unequal}
 

@@ -1,15 +1,14 @@
 -- Reading a line: the command that it is, as a function on lists.
-use Rattle.std.specs.Prelude.{ℕ, ◌==◌, if◌then◌else◌, List, [], ◌∷◌, length, take, drop, codes, bytes_eq, Option, Some, None, option_map, option_and_then, Result, Ok, Err, ok_or}
+use Rattle.std.specs.Prelude.{ℕ, ◌==◌, if◌then◌else◌, List, [], ◌∷◌, length, take, drop, codes, bytes_eq, Option, Some, None, option_map, option_and_then, Ok, Err, ok_or}
 use Rattle.std.specs.Option.{option_or}
 use Rattle.byte_text.specs.Decimals.{decimal_value}
 use Rattle.puzzle_cli.specs.declared.command.Command.{Command}
 use Rattle.puzzle_cli.specs.declared.command.Command.TheVariants.{New, Quit, Ask}
 use Rattle.puzzle_cli.specs.declared.command.Request.TheVariants.{Move, Solutions, Plain}
 use Rattle.puzzle_cli.specs.declared.command.Word.{Word}
-use Rattle.puzzle_cli.specs.declared.line_fault.LineFault.{LineFault}
 use Rattle.puzzle_cli.specs.declared.line_fault.LineFault.TheVariants.{LongLine, BadCommand}
 use Rattle.puzzle_cli.specs.Lines.{Line}
-use Rattle.puzzle_cli.specs.Commands.{words}
+use Rattle.puzzle_cli.specs.Commands.{Reading, words}
 
 -- what stands behind a front
 abbrev pub rest_behind : List ℕ → List ℕ → Option (List ℕ)
@@ -43,6 +42,6 @@ unfoldable pub command_at : List ℕ → Option (Command (List ℕ))
 command_at line = option_or (option_map (λ word. Ask (Plain word)) (word_at line)) (other_command_at line)
 
 -- what a line is read as
-abbrev pub read_at : Line → Result (Option (Command (List ℕ))) LineFault
+abbrev pub read_at : Line → Reading (List ℕ)
 read_at None = Err LongLine
 read_at (Some text) = if length text == 0 then Ok None else ok_or (option_map Some (command_at text)) BadCommand

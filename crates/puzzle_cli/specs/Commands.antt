@@ -1,5 +1,6 @@
 -- The commands and their lines.
 use Rattle.std.specs.Prelude.{◌≡◌, ◌≢◌, ℕ, ◌≤◌, Bool, false, List, [], ◌∷◌, ◌++◌, codes, bytes_eq, ◌⊎◌, Option, Some, None, Result, Ok, Err}
+use denote.Ref.{Bor}
 use Rattle.std.specs.Fmt.{decimal}
 use Rattle.puzzle_cli.specs.declared.command.Command.{Command}
 use Rattle.puzzle_cli.specs.declared.command.Command.TheVariants.{New, Quit, Ask}
@@ -48,8 +49,12 @@ abbrev pub is_quit : Line → Bool
 is_quit None = false
 is_quit (Some line) = bytes_eq line (codes "quit")
 
+-- what a line is read as: nothing, a command whose argument is of type X, or why there is none
+abbrev pub Reading : Type 0 → Type 0
+Reading X = Result (Option (Command X)) LineFault
+
 -- a line as it is read: nothing where it is empty, else its command, or why there is none
-abbrev pub IsRead : Line → Result (Option (Command (List ℕ))) LineFault → Type 0
+abbrev pub IsRead : Line → Reading (List ℕ) → Type 0
 IsRead line (Ok None) = line ≡ Some []
 IsRead line (Ok (Some command)) = (text : List ℕ) × (line ≡ Some text) × IsCommandLine command text
 IsRead line (Err LongLine) = line ≡ None
@@ -73,10 +78,20 @@ command_map f (New id) = New (f id)
 command_map f Quit = Quit
 command_map f (Ask request) = Ask (request_map f request)
 
-abbrev pub read_map : {X Y : Type 0} → (X → Y) → Result (Option (Command X)) LineFault → Result (Option (Command Y)) LineFault
+abbrev pub read_map : {X Y : Type 0} → (X → Y) → Reading X → Reading Y
 read_map f (Ok None) = Ok None
 read_map f (Ok (Some command)) = Ok (Some (command_map f command))
 read_map f (Err fault) = Err fault
+
+-- the same, where the argument is a reference to a text, with that text
+abbrev pub request_copied : {X : Type 0} → Request (Bor X) → Request X
+request_copied request = request_map (λ text. text.now) request
+
+abbrev pub command_copied : {X : Type 0} → Command (Bor X) → Command X
+command_copied command = command_map (λ text. text.now) command
+
+abbrev pub read_copied : {X : Type 0} → Reading (Bor X) → Reading X
+read_copied read = read_map (λ text. text.now) read
 
 -- the lists that were read are of so many solutions
 abbrev pub IsCommandInRange : {T : Type 0} → Command T → Type 0

@@ -2,7 +2,9 @@
 use Rattle.std.specs.Prelude.{ℕ, List, Result}
 use Rattle.latin_board.specs.Boards.{BoardValue}
 use Rattle.clue_rules.specs.declared.id_fault.IdFault.{IdFault}
+use Rattle.clue_rules.specs.declared.game.Game.{Ghosts as OfGame}
 use Rattle.trail_solver.specs.declared.rules.Rules.{Ghosts}
+use Rattle.puzzle_cli.specs.declared.draw.Draw.{Ghosts as OfDraw}
 
 -- a game's name and letters; what generic code knows of its puzzles and their items; the grammar, the reading and the written form of their
 -- descriptions; the pictures of their boards
@@ -14,3 +16,15 @@ pub record GameFacts (P : Type 0) : Type 1 where
   pub desc_at : ℕ → List ℕ → Result P IdFault
   pub desc_of : P → List ℕ
   pub drawing : P → BoardValue → List ℕ
+
+-- the facts of a game, by what its traits say
+abbrev pub facts_of : {P : Type 0} → Ghosts P → OfGame P → OfDraw P → GameFacts P
+facts_of rules game draw = record {
+  title = game.title;
+  letters = game.letter_codes;
+  rules = rules;
+  describes = game.describes;
+  desc_at = game.desc_at;
+  desc_of = game.desc_of;
+  drawing = draw.drawing;
+}

@@ -9,7 +9,7 @@ pushed None b = None
 pushed (Some bytes) b = if nat_lt (length bytes) 1024 then Some (bytes ++ b ∷ []) else None
 
 -- the lines that LF ends, behind the part
-abbrev pub ended_from : Line → List ℕ → List (Line)
+abbrev pub ended_from : Line → List ℕ → List Line
 ended_from part [] = []
 ended_from part (b ∷ bs) = if b == line_feed then as_line part ∷ ended_from (Some []) bs else ended_from (pushed part b) bs
 

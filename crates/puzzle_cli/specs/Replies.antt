@@ -3,13 +3,12 @@ use Rattle.std.specs.Prelude.{◌≡◌, ◌⊎◌, ℕ, List, [], ◌∷◌, �
 use Rattle.play_midend.specs.Histories.{History}
 use Rattle.puzzle_cli.specs.declared.command.Command.{Command}
 use Rattle.puzzle_cli.specs.declared.command.Command.TheVariants.{New, Quit, Ask}
-use Rattle.puzzle_cli.specs.declared.line_fault.LineFault.{LineFault}
 use Rattle.puzzle_cli.specs.declared.line_fault.LineFault.TheVariants.{NoGame}
 use Rattle.puzzle_cli.specs.declared.refusal.Refusal.{Refusal}
 use Rattle.puzzle_cli.specs.declared.refusal.Refusal.TheVariants.{Line as OfLine, Start}
 use Rattle.puzzle_cli.specs.declared.start_fault.StartFault.{StartFault}
 use Rattle.puzzle_cli.specs.Lines.{Line}
-use Rattle.puzzle_cli.specs.Commands.{IsRead}
+use Rattle.puzzle_cli.specs.Commands.{Reading, IsRead}
 use Rattle.puzzle_cli.specs.Refusals.{refusal_name}
 use Rattle.puzzle_cli.specs.GameFacts.{GameFacts}
 use Rattle.puzzle_cli.specs.NewSessions.{TextBegins}
@@ -32,7 +31,7 @@ CommandGives f None (Ask request) outcome = Err (OfLine NoGame) ≡ outcome
 CommandGives f (Some h) (Ask request) outcome = RequestGives f h request outcome
 
 -- the same of a line that was read: an empty one has no reply
-abbrev pub ReadGives : {P : Type 0} → GameFacts P → Option (History P) → Result (Option (Command (List ℕ))) LineFault → Outcome P → Type 0
+abbrev pub ReadGives : {P : Type 0} → GameFacts P → Option (History P) → Reading (List ℕ) → Outcome P → Type 0
 ReadGives f old (Ok None) outcome = Ok ([], old) ≡ outcome
 ReadGives f old (Ok (Some command)) outcome = CommandGives f old command outcome
 ReadGives f old (Err fault) outcome = Err (OfLine fault) ≡ outcome
@@ -44,7 +43,7 @@ CommandTakesMemory f old Quit = ⊥
 CommandTakesMemory f None (Ask request) = ⊥
 CommandTakesMemory f (Some h) (Ask request) = RequestTakesMemory f h request
 
-abbrev pub ReadTakesMemory : {P : Type 0} → GameFacts P → Option (History P) → Result (Option (Command (List ℕ))) LineFault → Type 0
+abbrev pub ReadTakesMemory : {P : Type 0} → GameFacts P → Option (History P) → Reading (List ℕ) → Type 0
 ReadTakesMemory f old (Ok None) = ⊥
 ReadTakesMemory f old (Ok (Some command)) = CommandTakesMemory f old command
 ReadTakesMemory f old (Err fault) = ⊥
@@ -62,12 +61,12 @@ Writes gives old bytes new =
 -- the reply to a line and the session that it leaves, with ample memory
 abbrev pub AmpleReply : {P : Type 0} → GameFacts P → Option (History P) → Line → List ℕ → Option (History P) → Type 0
 AmpleReply f old line bytes new =
-    (read : Result (Option (Command (List ℕ))) LineFault) × IsRead line read × Writes (ReadGives f old read) old bytes new
+    (read : Reading (List ℕ)) × IsRead line read × Writes (ReadGives f old read) old bytes new
 
 -- the line takes memory and nothing else refuses it, and it is refused for want of that
 abbrev pub LacksMemory : {P : Type 0} → GameFacts P → Option (History P) → Line → List ℕ → Option (History P) → Type 0
 LacksMemory f old line bytes new =
-    (read : Result (Option (Command (List ℕ))) LineFault) × IsRead line read × ReadTakesMemory f old read
+    (read : Reading (List ℕ)) × IsRead line read × ReadTakesMemory f old read
     × (bytes ≡ refusal_line (codes "OutOfMemory")) × (new ≡ old)
 
 -- The reply to a line and the session that it leaves. The one choice is want of memory.

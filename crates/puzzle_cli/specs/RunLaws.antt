@@ -10,28 +10,26 @@ use Rattle.play_midend.specs.MoveTexts.{IsMoveText}
 use Rattle.play_midend.specs.Histories.{History, IsValid, IsStorable}
 use Rattle.play_midend.specs.Laws.{Call, Play, FromStart, ToSolution, IsSameBack, Answered, may_want_memory}
 use Rattle.play_midend.specs.Laws.{Undo as ToUndo, Redo as ToRedo}
-use Rattle.puzzle_cli.specs.declared.command.Command.{Command}
 use Rattle.puzzle_cli.specs.declared.command.Command.TheVariants.{Ask}
 use Rattle.puzzle_cli.specs.declared.command.Request.{Request}
 use Rattle.puzzle_cli.specs.declared.command.Request.TheVariants.{Move as Make, Solutions, Plain}
 use Rattle.puzzle_cli.specs.declared.command.Word.{Word}
 use Rattle.puzzle_cli.specs.declared.command.Word.TheVariants.{Undo, Redo, Restart, Solve}
-use Rattle.puzzle_cli.specs.declared.line_fault.LineFault.{LineFault}
 use Rattle.puzzle_cli.specs.Lines.{Line}
-use Rattle.puzzle_cli.specs.Commands.{IsRead}
+use Rattle.puzzle_cli.specs.Commands.{Reading, IsRead}
 use Rattle.puzzle_cli.specs.GameFacts.{GameFacts}
 use Rattle.puzzle_cli.specs.SolutionTexts.{move_line, solve_sentence}
 use Rattle.puzzle_cli.specs.SessionReplies.{ok_line}
 use Rattle.puzzle_cli.specs.Replies.{refusal_line, AmpleReply, Reply}
-use Rattle.puzzle_cli.specs.Runs.{Run}
+use Rattle.puzzle_cli.specs.Runs.{RepliesInTurn}
 
 -- ---- lines
 
 -- each line is read in just one way
 abbrev pub LinesAreReadOnce : Type 0
 LinesAreReadOnce =
-    (line : Line) → (read : Result (Option (Command (List ℕ))) LineFault) × IsRead line read
-    × ((other : Result (Option (Command (List ℕ))) LineFault) → IsRead line other → other ≡ read)
+    (line : Line) → (read : Reading (List ℕ)) × IsRead line read
+    × ((other : Reading (List ℕ)) → IsRead line other → other ≡ read)
 
 -- the line asks this of a session
 abbrev pub Asks : Line → Request (List ℕ) → Type 0
@@ -52,7 +50,8 @@ RefusedLinesLeave {P} f =
 abbrev pub OutputIsOne : {P : Type 0} → GameFacts P → Type 0
 OutputIsOne {P} f =
     (lines : List Line) (old one other : Option (History P)) (written spelled : List ℕ)
-    → Run (AmpleReply f) lines old written one → Run (AmpleReply f) lines old spelled other → (written ≡ spelled) × (one ≡ other)
+    → RepliesInTurn (AmpleReply f) lines old written one → RepliesInTurn (AmpleReply f) lines old spelled other
+    → (written ≡ spelled) × (one ≡ other)
 
 -- a session that can be stored, or none
 abbrev pub IsNoneOrStorable : {P : Type 0} → GameFacts P → Option (History P) → Type 0
@@ -93,12 +92,18 @@ abbrev pub IsToldOf : Call → Result (Unit {0}) PlayFault → List ℕ → Type
 IsToldOf call (Ok u) bytes = IsMade call bytes
 IsToldOf call (Err fault) bytes = IsRefused call fault bytes
 
+-- a session that answered the call is left, and the bytes tell the answer
+abbrev pub AnswersCall : {P : Type 0} → GameFacts P → History P → Call → List ℕ → Option (History P) → Type 0
+AnswersCall f h call bytes new =
+    IsSomeAnd new (λ k. (answer : Result (Unit {0}) PlayFault)
+    × Answered (f.rules.puzzle h.puzzle) h call answer k × IsToldOf call answer bytes)
+
 -- a line that asks for a call: the session answers the call, and the reply tells the answer
 abbrev pub RepliesAreCalls : {P : Type 0} → GameFacts P → Type 0
 RepliesAreCalls {P} f =
     (h : History P) (line : Line) (request : Request (List ℕ)) (call : Call) (bytes : List ℕ) (new : Option (History P))
     → Asks line request → IsCallOf request call → Reply f (Some h) line bytes new
-    → IsSomeAnd new (λ k. (answer : Result (Unit {0}) PlayFault) × Answered (f.rules.puzzle h.puzzle) h call answer k × IsToldOf call answer bytes)
+    → AnswersCall f h call bytes new
 
 -- a line that asks for no call leaves the session
 abbrev pub OtherRequestsLeave : {P : Type 0} → GameFacts P → Type 0

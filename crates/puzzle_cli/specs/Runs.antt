@@ -1,7 +1,9 @@
 -- What a run writes and how it ends, over what may be said to a line (`reply`) and which lines end a run (`quit`).
 use Rattle.std.specs.Prelude.{◌≡◌, ℕ, ◌<◌, ◌≤◌, Bool, true, false, if◌then◌else◌, Option, List, [], ◌∷◌, ◌++◌, length, take, ◌⊎◌}
 use Rattle.std.specs.Io.KnownBytes.{Appends, Consumes, IsAtEnd}
-use Rattle.puzzle_cli.specs.Lines.{Line, all_lines, ended_lines}
+use Rattle.puzzle_io.specs.declared.device.Source.{Ghosts as OfSource}
+use Rattle.puzzle_io.specs.declared.device.Sink.{Ghosts as OfSink}
+use Rattle.puzzle_cli.specs.Lines.{Line, ReplyRule, all_lines, ended_lines}
 use Rattle.puzzle_cli.specs.declared.run_end.End.{End}
 use Rattle.puzzle_cli.specs.declared.run_end.End.TheVariants.{Finished, ReadFault, WriteFault}
 
@@ -18,20 +20,34 @@ pub record Point (S : Type 0) : Type 0 where
   pub taken : Option (List ℕ)
   pub write_failed : Bool
 
+-- the point at which a session, a source and a sink stand
+abbrev pub point_at : {S R W : Type 0} → OfSource R → OfSink W → S → R → W → Point S
+point_at of_source of_sink session source sink = record {
+  session = session;
+  to_come = of_source.to_come source;
+  read_failed = of_source.has_failed source;
+  taken = of_sink.taken sink;
+  write_failed = of_sink.has_failed sink;
+}
+
 -- the same without the source: how far the answers have come
 pub record Progress (S : Type 0) : Type 0 where
   pub session : S
   pub taken : Option (List ℕ)
   pub failed : Bool
 
+abbrev pub progress_at : {S W : Type 0} → OfSink W → S → W → Progress S
+progress_at of_sink session sink = record { session = session; taken = of_sink.taken sink; failed = of_sink.has_failed sink }
+
 abbrev pub progress_of : {S : Type 0} → Point S → Progress S
 progress_of point = record { session = point.session; taken = point.taken; failed = point.write_failed }
 
 -- the replies to the lines in turn, one after another, and what they leave
-abbrev pub Run : {S : Type 0} → (S → Line → List ℕ → S → Type 0) → List Line → S → List ℕ → S → Type 0
-Run reply [] old written new = (written ≡ []) × (new ≡ old)
-Run {S} reply (line ∷ lines) old written new =
-    (bytes : List ℕ) × (mid : S) × (rest : List ℕ) × reply old line bytes mid × (written ≡ bytes ++ rest) × Run reply lines mid rest new
+abbrev pub RepliesInTurn : {S : Type 0} → ReplyRule S → List Line → S → List ℕ → S → Type 0
+RepliesInTurn reply [] old written new = (written ≡ []) × (new ≡ old)
+RepliesInTurn {S} reply (line ∷ lines) old written new =
+    (bytes : List ℕ) × (mid : S) × (rest : List ℕ) × reply old line bytes mid × (written ≡ bytes ++ rest)
+    × RepliesInTurn reply lines mid rest new
 
 abbrev pub has_quit : (Line → Bool) → List Line → Bool
 has_quit quit [] = false
@@ -42,12 +58,12 @@ before_quit quit [] = []
 before_quit quit (line ∷ lines) = if quit line then [] else line ∷ before_quit quit lines
 
 -- the lines were answered in turn, and the sink, where it tells its bytes, took the replies
-abbrev pub Served : {S : Type 0} → (S → Line → List ℕ → S → Type 0) → List Line → Progress S → Progress S → Type 0
+abbrev pub Served : {S : Type 0} → ReplyRule S → List Line → Progress S → Progress S → Type 0
 Served reply lines old new =
-    (written : List ℕ) × Run reply lines old.session written new.session × Appends old.taken new.taken written
+    (written : List ℕ) × RepliesInTurn reply lines old.session written new.session × Appends old.taken new.taken written
 
 -- the replies to earlier lines went out in full, and of the reply to the next one a front; none of the earlier is quit
-pub record Breaks {S : Type 0} (reply : S → Line → List ℕ → S → Type 0) (quit : Line → Bool) (lines : List Line) (old new : Progress S) : Type 0 where
+pub record Breaks {S : Type 0} (reply : ReplyRule S) (quit : Line → Bool) (lines : List Line) (old new : Progress S) : Type 0 where
   pub earlier : List Line
   pub line : Line
   pub later : List Line
@@ -73,7 +89,7 @@ AreAll new read = IsAtEnd new.to_come × (length read < longest_input)
 -- Finished: no byte is to come, and all lines were answered up to quit; or a line that LF ended is quit.
 -- ReadFault: a read failed or all that a run reads was read, no line that LF ended is quit, and all those were answered.
 -- WriteFault: a write or flush of the reply to a line that was read failed.
-abbrev pub Ends : {S : Type 0} → (S → Line → List ℕ → S → Type 0) → (Line → Bool) → End → Point S → Point S → Type 0
+abbrev pub Ends : {S : Type 0} → ReplyRule S → (Line → Bool) → End → Point S → Point S → Type 0
 Ends reply quit Finished old new =
     (new.read_failed ≡ false) × (new.write_failed ≡ false) × ((read : List ℕ) × WereRead old new read
     × ((AreAll new read × Served reply (before_quit quit (all_lines read)) (progress_of old) (progress_of new))

@@ -8,7 +8,7 @@ use Rattle.trail_solver.specs.Puzzles.{Puzzle, Solves}
 use Rattle.trail_solver.specs.Listings.{AreFirst}
 use Rattle.play_midend.specs.declared.fault.PlayFault.{PlayFault}
 use Rattle.play_midend.specs.declared.moves.Move.{Move}
-use Rattle.play_midend.specs.declared.moves.Move.TheVariants.{Solve as ToSolution}
+use Rattle.play_midend.specs.declared.moves.Move.TheVariants.{Solve as Filling}
 use Rattle.play_midend.specs.MoveTexts.{IsMoveText, move_fault}
 use Rattle.play_midend.specs.Histories.{History, shown, played, restarted, with_move, SolveGives, undone, redone}
 use Rattle.puzzle_cli.specs.declared.command.Request.{Request}
@@ -64,7 +64,7 @@ sentence_outcome h None fault = Err (Play fault)
 -- what `solve` says of the step that it is: the text of the move that was made, or why there is none
 abbrev pub SolveSays : {P : Type 0} → History P → Result (History P) PlayFault → Outcome P → Type 0
 SolveSays h (Ok new) outcome =
-    (g : GridValue) × (with_move h (ToSolution g) ≡ new) × (text_outcome new (move_line (ToSolution g)) ≡ outcome)
+    (g : GridValue) × (with_move h (Filling g) ≡ new) × (text_outcome new (move_line (Filling g)) ≡ outcome)
 SolveSays h (Err fault) outcome = sentence_outcome h (solve_sentence fault) fault ≡ outcome
 
 abbrev pub SolveReplies : {P : Type 0} → Puzzle → History P → Outcome P → Type 0

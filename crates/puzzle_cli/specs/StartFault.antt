@@ -1,5 +1,5 @@
 -- The numbers and the names of the refusals of a first session, and what the program makes of each.
-use Rattle.std.specs.Prelude.{ℕ, List, ◌∷◌, [], ◌++◌, codes}
+use Rattle.std.specs.Prelude.{ℕ, List, [], ◌++◌, codes}
 use Rattle.std.specs.Fmt.{decimal}
 use Rattle.clue_rules.specs.IdFaults.{id_fault_name}
 use Rattle.puzzle_gen.specs.GenFaults.{gen_fault_name}
@@ -28,14 +28,14 @@ start_fault_status (Gen fault) = 3
 start_fault_status (Load fault) = 3
 start_fault_status OutOfMemory = 1
 
--- which state record of a save is meant, where one is
-abbrev pub load_fault_place : LoadFault → List ℕ
-load_fault_place (BadState index) = codes " " ++ decimal index
-load_fault_place _ = []
+-- the index of the state record that is meant, where one is
+abbrev pub load_fault_index : LoadFault → List ℕ
+load_fault_index (BadState index) = codes " " ++ decimal index
+load_fault_index _ = []
 
 -- the line on standard error, without its LF
 abbrev pub start_fault_line : StartFault → List ℕ
 start_fault_line (Id fault) = codes "refused: " ++ id_fault_name fault
 start_fault_line (Gen fault) = codes "refused: " ++ gen_fault_name fault
-start_fault_line (Load fault) = codes "refused: " ++ load_fault_name fault ++ load_fault_place fault
+start_fault_line (Load fault) = codes "refused: " ++ load_fault_name fault ++ load_fault_index fault
 start_fault_line OutOfMemory = codes "out of memory"

@@ -1,9 +1,9 @@
 -- The symbols of printed texts, and the lines that they make.
-use Rattle.std.specs.Prelude.{ℕ, ◌+◌, ◌==◌, if◌then◌else◌, List, [], ◌∷◌, ◌++◌, map}
+use Rattle.std.specs.Prelude.{ℕ, ◌==◌, if◌then◌else◌, List, [], ◌∷◌, ◌++◌, map}
 use Rattle.std.specs.List.{join_with_byte}
 use Rattle.latin_board.specs.Squares.{number_at}
 use Rattle.latin_board.specs.Boards.{BoardValue, grid_of}
-use Rattle.byte_text.specs.Bytes.{line_feed, space, comma, dash, dot, slash, colon, digit}
+use Rattle.byte_text.specs.Bytes.{line_feed, space, dot, digit}
 
 -- a square's number, or a dot where the square is empty
 abbrev pub square_symbol : ℕ → ℕ

@@ -3,7 +3,7 @@ ghost use Rattle.std.specs.Prelude.{◌≡◌, Some, Ok, IfOk, IfErr, OnErr};
 ghost use Rattle.std.specs.Option.{option_copied};
 ghost use Rattle.play_save.specs.Written.{save_of};
 ghost use Rattle.puzzle_cli.specs.Text.{text_bytes};
-ghost use Rattle.puzzle_cli.specs.Commands.{is_quit, request_map, IsInRange};
+ghost use Rattle.puzzle_cli.specs.Commands.{is_quit, request_copied, IsInRange};
 ghost use Rattle.puzzle_cli.specs.SessionReplies.{id_line, WordGives, WordTakesMemory, RequestGives, RequestTakesMemory};
 ghost use Rattle.puzzle_cli.specs.Replies.{Reply, Explains};
 ghost use Rattle.puzzle_cli.specs.Answers.{Says, IsLineRefusal};
@@ -50,7 +50,8 @@ fn obey<P: Draw>(
     ensures ok { IfOk result (λ answer. IsAnswer (Says ⟦<P as Facts>⟧.facts) is_quit
         session.old (option_copied line.entry) answer session.new) }
     ensures err { OnErr result (session.new ≡ session.old) }
-    ensures why { IfErr result (IsLineRefusal ⟦<P as Facts>⟧.facts session.old (option_copied line.entry)) }
+    ensures why { IfErr result
+        (IsLineRefusal ⟦<P as Facts>⟧.facts session.old (option_copied line.entry)) }
 {
     match read_command(line)? {
         None => Ok(Answer::Silence),
@@ -74,11 +75,11 @@ fn ask<P: Draw>(
 ) -> Result<Text, Refusal>
     requires { IsInRange request }
     ensures ok { IfOk result (λ text. RequestGives ⟦<P as Facts>⟧.facts session.old
-        (request_map (λ text. text.now) request.entry) (Ok (text_bytes text, Some session.new))) }
+        (request_copied request.entry) (Ok (text_bytes text, Some session.new))) }
     ensures err { OnErr result (session.new ≡ session.old) }
     ensures why { IfErr result (Explains
-        (RequestGives ⟦<P as Facts>⟧.facts session.old (request_map (λ text. text.now) request.entry))
-        (RequestTakesMemory ⟦<P as Facts>⟧.facts session.old (request_map (λ text. text.now) request.entry))) }
+        (RequestGives ⟦<P as Facts>⟧.facts session.old (request_copied request.entry))
+        (RequestTakesMemory ⟦<P as Facts>⟧.facts session.old (request_copied request.entry))) }
 {
     match request {
         Request::Move(text) => play_text(session, text),
@@ -120,8 +121,8 @@ fn say<P: Draw>(alloc: Global, session: &mut Session<P>, word: Word) -> Result<T
 
 // Makes the move that a text spells.
 fn play_text<P: Draw>(session: &mut Session<P>, text: &[u8]) -> Result<Text, Refusal>
-    ensures ok { IfOk result (λ said. RequestGives ⟦<P as Facts>⟧.facts session.old (Request.Move text.now)
-        (Ok (text_bytes said, Some session.new))) }
+    ensures ok { IfOk result (λ said. RequestGives ⟦<P as Facts>⟧.facts session.old
+        (Request.Move text.now) (Ok (text_bytes said, Some session.new))) }
     ensures err { OnErr result (session.new ≡ session.old) }
     ensures why { IfErr result (Explains
         (RequestGives ⟦<P as Facts>⟧.facts session.old (Request.Move text.now))

@@ -1,7 +1,7 @@
 //! Commands: a line says what to begin, what to ask of a session, or to end the run.
 ghost use Rattle.std.specs.Prelude.{◌≡◌, IfOk, IfSome, option_map};
 ghost use Rattle.std.specs.Option.{option_copied};
-ghost use Rattle.puzzle_cli.specs.Commands.{command_map, read_map, IsRead, IsCommandInRange};
+ghost use Rattle.puzzle_cli.specs.Commands.{command_copied, read_copied, IsRead, IsCommandInRange};
 ghost use Rattle.puzzle_cli.specs.CommandReading.{command_at, read_at, limit_at, word_at};
 
 use crate::line_fault::LineFault;
@@ -87,14 +87,14 @@ fn read_word(line: &[u8]) -> Option<Word>
 ///
 /// `LongLine` where there is no line, since it was too long to be kept; `BadCommand` where it is no command.
 pub(crate) fn read_command(line: Option<&[u8]>) -> Result<Option<Command<&[u8]>>, LineFault>
-    ensures read { IsRead (option_copied line.entry) (read_map (λ text. text.now) result) }
+    ensures read { IsRead (option_copied line.entry) (read_copied result) }
     ensures range { IfOk result (λ read. IfSome read IsCommandInRange) }
 {
     parse_line(line)
 }
 
 fn parse_line(line: Option<&[u8]>) -> Result<Option<Command<&[u8]>>, LineFault>
-    ensures { read_map (λ text. text.now) result ≡ read_at (option_copied line.entry) }
+    ensures { read_copied result ≡ read_at (option_copied line.entry) }
 {
     let Some(line) = line else {
         return Err(LineFault::LongLine);
@@ -110,7 +110,7 @@ fn parse_line(line: Option<&[u8]>) -> Result<Option<Command<&[u8]>>, LineFault>
 
 #[tactic(auto, unfolding(crate::specs::CommandReading::command_at))]
 fn parse_command(line: &[u8]) -> Option<Command<&[u8]>>
-    ensures { option_map (command_map (λ text. text.now)) result ≡ command_at line.now }
+    ensures { option_map command_copied result ≡ command_at line.now }
 {
     if let Some(word) = read_word(line) {
         return Some(Command::Ask(Request::Plain(word)));

@@ -1,6 +1,7 @@
 //! The command line: which game, what it begins with, and where it is saved.
 
 ghost use Rattle.std.specs.Prelude.{◌≡◌, codes, option_map, Some, IfOk};
+ghost use Rattle.std.specs.Option.{option_copied};
 ghost use Rattle.std.specs.String.{string_bytes};
 ghost use Rattle.clap.specs.Words.{first_value, found_of};
 ghost use Rattle.puzzle_cli.specs.CommandLine.{game_word, NotBoth};
@@ -62,15 +63,15 @@ pub fn read_words(alloc: Global, words: &[&str]) -> Result<Args, CommandFault>
 }
 
 fn parse<'a>(alloc: Global, words: &'a [&'a str]) -> Result<ArgMatches<'a>, clap::Error> {
-    let command = command(alloc)?;
+    let command_line = command_line(alloc)?;
     if words.is_empty() {
-        command.try_get_matches_from(NO_WORDS.as_slice())
+        command_line.try_get_matches_from(NO_WORDS.as_slice())
     } else {
-        command.try_get_matches_from(words)
+        command_line.try_get_matches_from(words)
     }
 }
 
-fn command<'a>(alloc: Global) -> Result<Command<'a>, AllocError> {
+fn command_line<'a>(alloc: Global) -> Result<Command<'a>, AllocError> {
     let game = Arg::new(alloc, GAME)
         .value_name("GAME")
         .required(true)
@@ -103,15 +104,17 @@ fn command<'a>(alloc: Global) -> Result<Command<'a>, AllocError> {
 
 // What the words said, once they are parsed.
 fn args_of(alloc: Global, matches: &ArgMatches<'_>) -> Result<Args, CommandFault>
-    ensures game { IfOk result (λ args. first_value (found_of matches.now) (codes "game") ≡ Some (game_word args.game)) }
-    ensures id { IfOk result (λ args. option_map string_bytes args.id ≡ first_value (found_of matches.now) (codes "id")) }
+    ensures game { IfOk result (λ args. Some (game_word args.game)
+        ≡ first_value (found_of matches.now) (codes "game")) }
+    ensures id { IfOk result (λ args. option_map string_bytes args.id
+        ≡ first_value (found_of matches.now) (codes "id")) }
     ensures load { IfOk result (λ args. option_map string_bytes args.load
         ≡ first_value (found_of matches.now) (codes "load")) }
     ensures save { IfOk result (λ args. option_map string_bytes args.save
         ≡ first_value (found_of matches.now) (codes "save")) }
     ensures one_start { IfOk result (λ args. NotBoth args.id args.load) }
 {
-    // Neither refusal below can be met: the words were parsed by the command above.
+    // Neither refusal below can be met: the words were parsed as the command line above says.
     let game = match matches.get_str(GAME) {
         Some("towers") => GameName::Towers,
         Some("unequal") => GameName::Unequal,
@@ -131,7 +134,7 @@ fn args_of(alloc: Global, matches: &ArgMatches<'_>) -> Result<Args, CommandFault
 }
 
 fn owned(alloc: Global, text: Option<&str>) -> Result<Option<String>, AllocError>
-    ensures { IfOk result (λ copy. option_map string_bytes copy ≡ option_map (λ t. t.now) text.entry) }
+    ensures { IfOk result (λ copy. option_map string_bytes copy ≡ option_copied text.entry) }
 {
     match text {
         Some(text) => Ok(Some(String::from_str(alloc, text)?)),

@@ -11,13 +11,7 @@ pub(crate) trait Facts {
 }
 
 impl<P: Draw> Facts for P {
-    ghost facts = { record {
-      title = P.title;
-      letters = P.letter_codes;
-      rules = ⟦<P as Rules>⟧;
-      describes = P.describes;
-      desc_at = P.desc_at;
-      desc_of = P.desc_of;
-      drawing = P.drawing;
-    } };
+    ghost use Rattle.puzzle_cli.specs.GameFacts.{facts_of};
+
+    ghost facts = { facts_of ⟦<P as Rules>⟧ P.Game.own P.Draw.own };
 }

@@ -5,7 +5,7 @@ ghost use Rattle.std.specs.Option.{option_copied};
 ghost use Rattle.std.specs.Io.KnownBytes.{Appends, Consumes, IsAtEnd, Keeps};
 ghost use Rattle.puzzle_cli.specs.Lines.{as_line};
 ghost use Rattle.puzzle_cli.specs.LineBuffer.{ended_from, last_from};
-ghost use Rattle.puzzle_cli.specs.Runs.{Ends};
+ghost use Rattle.puzzle_cli.specs.Runs.{point_at, progress_at, Ends};
 ghost use Rattle.puzzle_cli.specs.Steps.{Goes};
 
 use crate::line_buffer::LineBuffer;
@@ -20,15 +20,15 @@ const INPUT_BYTES: usize = 1_000_000_000;
 /// The most bytes that are read at once.
 const PIECE_BYTES: usize = 4_096;
 
-/// How a step of the run left it.
+/// How the run goes on after a step.
 #[derive(Clone, Copy)]
-enum Status {
+enum Flow {
     /// The run goes on.
     More,
     /// A line was `quit`.
     Quit,
     /// A reply didn't go out.
-    Fault,
+    Unsent,
 }
 
 /// Answers the lines of the source, up to the first that quits, and writes each reply to the sink and flushes it.
@@ -41,40 +41,28 @@ pub(crate) fn run_machine<M: Machine, R: Source, W: Sink>(
     requires source { R.has_failed source.old ≡ false }
     requires sink { W.has_failed sink.old ≡ false }
     ensures { Ends M.reply M.is_quit result
-        (record {
-          session = machine.old;
-          to_come = R.to_come source.old;
-          read_failed = R.has_failed source.old;
-          taken = W.taken sink.old;
-          write_failed = W.has_failed sink.old;
-        })
-        (record {
-          session = machine.new;
-          to_come = R.to_come source.new;
-          read_failed = R.has_failed source.new;
-          taken = W.taken sink.new;
-          write_failed = W.has_failed sink.new;
-        }) }
+        (point_at R.Source W.Sink machine.old source.old sink.old)
+        (point_at R.Source W.Sink machine.new source.new sink.new) }
 {
     let mut line = LineBuffer::new();
     let mut piece = [0; PIECE_BYTES];
     let mut count = 0;
     while count < INPUT_BYTES {
         let room = PIECE_BYTES.min(INPUT_BYTES - count);
-        let Ok(taken) = read_piece(source, &mut piece, room) else {
+        let Ok(len) = read_piece(source, &mut piece, room) else {
             return End::ReadFault;
         };
-        if taken == 0 {
+        if len == 0 {
             return match end_line(alloc, &mut line, machine, sink) {
-                Status::Fault => End::WriteFault,
+                Flow::Unsent => End::WriteFault,
                 _ => End::Finished,
             };
         }
-        count += taken;
-        match take_piece(alloc, &piece[..taken], &mut line, machine, sink) {
-            Status::More => {}
-            Status::Quit => return End::Finished,
-            Status::Fault => return End::WriteFault,
+        count += len;
+        match take_piece(alloc, &piece[..len], &mut line, machine, sink) {
+            Flow::More => {}
+            Flow::Quit => return End::Finished,
+            Flow::Unsent => return End::WriteFault,
         }
     }
     End::ReadFault
@@ -90,7 +78,8 @@ fn read_piece<R: Source>(
     requires within { room ≤ length piece.old }
     ensures bound { IfOk result (λ n. n ≤ room) }
     ensures failed { R.has_failed source.new ≡ is_err result }
-    ensures ok { IfOk result (λ n. Consumes (R.to_come source.old) (R.to_come source.new) (take n piece.new)) }
+    ensures ok { IfOk result (λ n. Consumes (R.to_come source.old) (R.to_come source.new)
+        (take n piece.new)) }
     ensures end { IfOk result (λ n. n ≡ 0 → IsAtEnd (R.to_come source.new)) }
     ensures err { OnErr result (Keeps (R.to_come source.old) (R.to_come source.new)) }
 {
@@ -104,20 +93,19 @@ fn take_piece<M: Machine, W: Sink>(
     line: &mut LineBuffer,
     machine: &mut M,
     sink: &mut W,
-) -> Status
+) -> Flow
     requires { W.has_failed sink.old ≡ false }
     ensures goes { Goes M.reply M.is_quit result (ended_from line.old piece.now)
-        (record { session = machine.old; taken = W.taken sink.old; failed = W.has_failed sink.old })
-        (record { session = machine.new; taken = W.taken sink.new; failed = W.has_failed sink.new }) }
-    ensures line { result ≡ Status.More → line.new ≡ last_from line.old piece.now }
+        (progress_at W.Sink machine.old sink.old) (progress_at W.Sink machine.new sink.new) }
+    ensures line { result ≡ Flow.More → line.new ≡ last_from line.old piece.now }
 {
     for byte in piece {
         match take_byte(alloc, *byte, line, machine, sink) {
-            Status::More => {}
+            Flow::More => {}
             stopped => return stopped,
         }
     }
-    Status::More
+    Flow::More
 }
 
 /// Answers the line where the byte is LF, which ends it, and keeps any other byte.
@@ -127,18 +115,17 @@ fn take_byte<M: Machine, W: Sink>(
     line: &mut LineBuffer,
     machine: &mut M,
     sink: &mut W,
-) -> Status
+) -> Flow
     requires { W.has_failed sink.old ≡ false }
     ensures goes { Goes M.reply M.is_quit result (ended_from line.old (byte ∷ []))
-        (record { session = machine.old; taken = W.taken sink.old; failed = W.has_failed sink.old })
-        (record { session = machine.new; taken = W.taken sink.new; failed = W.has_failed sink.new }) }
+        (progress_at W.Sink machine.old sink.old) (progress_at W.Sink machine.new sink.new) }
     ensures line { line.new ≡ last_from line.old (byte ∷ []) }
 {
     if byte == b'\n' {
         return end_line(alloc, line, machine, sink);
     }
     line.push(byte);
-    Status::More
+    Flow::More
 }
 
 /// Answers the line, and begins the next one.
@@ -147,16 +134,15 @@ fn end_line<M: Machine, W: Sink>(
     line: &mut LineBuffer,
     machine: &mut M,
     sink: &mut W,
-) -> Status
+) -> Flow
     requires { W.has_failed sink.old ≡ false }
     ensures goes { Goes M.reply M.is_quit result (as_line line.old ∷ [])
-        (record { session = machine.old; taken = W.taken sink.old; failed = W.has_failed sink.old })
-        (record { session = machine.new; taken = W.taken sink.new; failed = W.has_failed sink.new }) }
+        (progress_at W.Sink machine.old sink.old) (progress_at W.Sink machine.new sink.new) }
     ensures line { line.new ≡ Some [] }
 {
-    let status = answer_line(alloc, line.line(), machine, sink);
+    let flow = answer_line(alloc, line.line(), machine, sink);
     line.clear();
-    status
+    flow
 }
 
 /// Has the line answered, and sends its reply where it has one.
@@ -165,18 +151,17 @@ fn answer_line<M: Machine, W: Sink>(
     line: Option<&[u8]>,
     machine: &mut M,
     sink: &mut W,
-) -> Status
+) -> Flow
     requires { W.has_failed sink.old ≡ false }
     ensures { Goes M.reply M.is_quit result (option_copied line.entry ∷ [])
-        (record { session = machine.old; taken = W.taken sink.old; failed = W.has_failed sink.old })
-        (record { session = machine.new; taken = W.taken sink.new; failed = W.has_failed sink.new }) }
+        (progress_at W.Sink machine.old sink.old) (progress_at W.Sink machine.new sink.new) }
 {
     match machine.answer(alloc, line) {
-        Answer::Quit => return Status::Quit,
-        Answer::Silence => return Status::More,
+        Answer::Quit => return Flow::Quit,
+        Answer::Silence => return Flow::More,
         Answer::Reply(text) => match send(sink, text.as_bytes()) {
-            Ok(()) => return Status::More,
-            Err(_) => return Status::Fault,
+            Ok(()) => return Flow::More,
+            Err(_) => return Flow::Unsent,
         },
     }
 }
@@ -186,7 +171,8 @@ fn send<W: Sink>(sink: &mut W, bytes: &[u8]) -> Result<(), DeviceFault>
     requires { W.has_failed sink.old ≡ false }
     ensures failed { W.has_failed sink.new ≡ is_err result }
     ensures ok { OnOk result (Appends (W.taken sink.old) (W.taken sink.new) bytes.now) }
-    ensures err { OnErr result ((count : ℕ) × Appends (W.taken sink.old) (W.taken sink.new) (take count bytes.now)) }
+    ensures err { OnErr result ((count : ℕ) × Appends (W.taken sink.old) (W.taken sink.new)
+        (take count bytes.now)) }
 {
     let mut sent = 0;
     while sent < bytes.len() {

@@ -2,7 +2,7 @@
 ghost use Rattle.std.specs.Prelude.{◌≡◌, false};
 ghost use Rattle.puzzle_cli.specs.Commands.{is_quit};
 ghost use Rattle.puzzle_cli.specs.Replies.{Reply};
-ghost use Rattle.puzzle_cli.specs.Runs.{Ends};
+ghost use Rattle.puzzle_cli.specs.Runs.{point_at, Ends};
 
 use crate::draw::Draw;
 use crate::facts::Facts;
@@ -32,20 +32,8 @@ pub fn run<P: Draw, R: Source, W: Sink>(
     requires source { R.has_failed source.old ≡ false }
     requires sink { W.has_failed sink.old ≡ false }
     ensures { Ends (Reply ⟦<P as Facts>⟧.facts) is_quit result.1
-        (record {
-          session = session;
-          to_come = R.to_come source.old;
-          read_failed = R.has_failed source.old;
-          taken = W.taken sink.old;
-          write_failed = W.has_failed sink.old;
-        })
-        (record {
-          session = result.0;
-          to_come = R.to_come source.new;
-          read_failed = R.has_failed source.new;
-          taken = W.taken sink.new;
-          write_failed = W.has_failed sink.new;
-        }) }
+        (point_at R.Source W.Sink session source.old sink.old)
+        (point_at R.Source W.Sink result.0 source.new sink.new) }
 {
     let mut session = session;
     let end = run_machine(alloc, &mut session, source, sink);

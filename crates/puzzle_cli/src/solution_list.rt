@@ -24,7 +24,8 @@ pub(crate) fn solution_list<P: Game>(
     requires least { 1 ≤ limit }
     requires most { limit ≤ 100 }
     ensures { IfOk result (λ text. (listed : List GridValue)
-        × AreFirst (Solves (P.puzzle session.now.puzzle)) limit listed × (text.items ≡ listed_lines listed)) }
+        × AreFirst (Solves (P.puzzle session.now.puzzle)) limit listed
+        × (text.items ≡ listed_lines listed)) }
 {
     let listed = solutions(alloc, session.puzzle(), limit)?;
     Ok(list_text(alloc, &listed)?)

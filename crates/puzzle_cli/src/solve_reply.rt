@@ -43,8 +43,10 @@ pub(crate) fn solve_reply<P: Game>(session: &mut Session<P>) -> Result<Text, Ref
 
 // The line of the move to the last state, which fills in a solution.
 fn solution_line<P: Game>(session: &Session<P>) -> SolveLine
-    requires { (before : List Move) × (g : GridValue) × (session.now.moves ≡ before ++ Move.Solve g ∷ []) }
-    ensures { (g : GridValue) × (slice_get session.now.moves (length session.now.moves - 1) ≡ Some (Move.Solve g))
+    requires { (before : List Move) × (g : GridValue)
+        × (session.now.moves ≡ before ++ Move.Solve g ∷ []) }
+    ensures { (g : GridValue)
+        × (slice_get session.now.moves (length session.now.moves - 1) ≡ Some (Move.Solve g))
         × (result.items ≡ move_line (Move.Solve g)) }
 {
     match session.move_at(session.states() - 1) {

@@ -15,8 +15,8 @@ impl Draw for Unequal {
 
     fn draw(&self, alloc: Global, board: &Board) -> Result<Vec<u8>, OutOfMemory> {
         let width = usize::from(self.size().get());
-        let line = 2 * width - 1;
-        let mut picture = Vec::with_capacity(alloc, line * (line + 1))?;
+        let symbols = 2 * width - 1;
+        let mut picture = Vec::with_capacity(alloc, symbols * (symbols + 1))?;
         push_squares(&mut picture, self, board, 0)?;
         for y in 1..width {
             push_signs(&mut picture, self, y * width)?;
@@ -35,7 +35,8 @@ fn push_squares(
 ) -> Result<(), AllocError>
     requires inside { first + puzzle.now.size ≤ puzzle.now.size * puzzle.now.size }
     requires size { board.now.size ≡ puzzle.now.size }
-    ensures { OnOk result (picture.new.items ≡ picture.old.items ++ squares_line puzzle.now board.now first) }
+    ensures { OnOk result (picture.new.items
+        ≡ picture.old.items ++ squares_line puzzle.now board.now first) }
 {
     let width = usize::from(puzzle.size().get());
     picture.push(square_at(board, first))?;

@@ -24,7 +24,8 @@ turned_back w d y step place =
 -- ---- a line has each number once
 
 -- a line that turns an order by d places, and reads the symbols there
-line_once : (w d : ℕ) (turns symbols : List ℕ) (f : ℕ → ℕ) → 0 < w → d < w → IsOrder w turns → IsOrder w symbols → ((k : ℕ) → k < w → f k ≡ get_or symbols ((d + get_or turns k 0) % w) 0 + 1) → HasEachOnce w (map f (range_with_len 0 w))
+line_once : (w d : ℕ) (turns symbols : List ℕ) (f : ℕ → ℕ) → 0 < w → d < w → IsOrder w turns → IsOrder w symbols
+    → ((k : ℕ) → k < w → f k ≡ get_or symbols ((d + get_or turns k 0) % w) 0 + 1) → HasEachOnce w (map f (range_with_len 0 w))
 line_once w d turns symbols f some step in_turn in_symbols made = λ v low high.
     let symbol : v - 1 < w = omega arith in
     let place = place_in (v - 1) symbols in
@@ -49,14 +50,17 @@ line_once w d turns symbols f some step in_turn in_symbols made = λ v low high.
 
 -- ---- the square
 
-number_in : (w row column : ℕ) (rows columns symbols : List ℕ) → row < w → column < w → number_at (combined w rows columns symbols) (row * w + column) ≡ get_or symbols ((get_or rows row 0 + get_or columns column 0) % w) 0 + 1
+number_in : (w row column : ℕ) (rows columns symbols : List ℕ) → row < w → column < w
+    → number_at (combined w rows columns symbols) (row * w + column)
+    ≡ get_or symbols ((get_or rows row 0 + get_or columns column 0) % w) 0 + 1
 number_in w row column rows columns symbols low left =
     get_or-map-range_with_len (seeded_number w rows columns symbols) 0 (w * w) (row * w + column) (row * w + column) 0
     (mul-add-lt row w column w low left) (omega arith)
     ∙ ap (λ (r : ℕ). get_or symbols ((get_or rows r 0 + get_or columns ((row * w + column) % w) 0) % w) 0 + 1) (div-mul-add row w column left)
     ∙ ap (λ (c : ℕ). get_or symbols ((get_or rows row 0 + get_or columns c 0) % w) 0 + 1) (mod-mul-add row w column left)
 
-pub latin_combined : (w : ℕ) (rows columns symbols : List ℕ) → 0 < w → IsOrder w rows → IsOrder w columns → IsOrder w symbols → IsLatin (combined w rows columns symbols)
+pub latin_combined : (w : ℕ) (rows columns symbols : List ℕ) → 0 < w → IsOrder w rows → IsOrder w columns → IsOrder w symbols
+    → IsLatin (combined w rows columns symbols)
 latin_combined w rows columns symbols some in_rows in_columns in_symbols = record {
   rows = λ row below.
       line_once w (get_or rows row 0) columns symbols (λ column. number_at (combined w rows columns symbols) (row * w + column))
@@ -71,7 +75,8 @@ latin_combined w rows columns symbols some in_rows in_columns in_symbols = recor
 }
 
 -- a grid with these numbers is the square
-pub combined_all : (w : ℕ) (rows columns symbols : List ℕ) (g : GridValue) → g.size ≡ w → IsGrid g → ((j : ℕ) → j < w * w → number_at g j ≡ seeded_number w rows columns symbols j) → g ≡ combined w rows columns symbols
+pub combined_all : (w : ℕ) (rows columns symbols : List ℕ) (g : GridValue) → g.size ≡ w → IsGrid g
+    → ((j : ℕ) → j < w * w → number_at g j ≡ seeded_number w rows columns symbols j) → g ≡ combined w rows columns symbols
 combined_all w rows columns symbols g size grid numbers =
     let count : length g.numbers ≡ w * w = grid.count ∙ ap (λ (n : ℕ). n * n) size in
     let filled = fill_by_all (seeded_number w rows columns symbols) g.numbers (w * w) 0 count numbers in

@@ -17,7 +17,8 @@ use Rattle.puzzle_gen.specs.ForcedSquares.{HasFound, IsForced, StandsAtPeer}
 filled_apart : (g : GridValue) (a b : ℕ) → number_at g a ≡ 0 → 1 ≤ number_at g b → a ≢ b
 filled_apart g a b blank filled = λ same. let e : number_at g a ≡ number_at g b = ap (number_at g) same in omega arith
 
-pub seen_in_row : (g : GridValue) (cell k : ℕ) → cell < g.size * g.size → k < g.size → number_at g cell ≡ 0 → 1 ≤ number_at g (cell / g.size * g.size + k) → StandsAtPeer g cell (number_at g (cell / g.size * g.size + k))
+pub seen_in_row : (g : GridValue) (cell k : ℕ) → cell < g.size * g.size → k < g.size → number_at g cell ≡ 0
+    → 1 ≤ number_at g (cell / g.size * g.size + k) → StandsAtPeer g cell (number_at g (cell / g.size * g.size + k))
 seen_in_row g cell k inside left blank filled =
     let some = some_width g.size cell inside in
     let row = div_below cell g.size g.size some inside in
@@ -32,7 +33,8 @@ seen_in_row g cell k inside left blank filled =
       stands = refl;
     }
 
-pub seen_in_column : (g : GridValue) (cell k : ℕ) → cell < g.size * g.size → k < g.size → number_at g cell ≡ 0 → 1 ≤ number_at g (k * g.size + cell % g.size) → StandsAtPeer g cell (number_at g (k * g.size + cell % g.size))
+pub seen_in_column : (g : GridValue) (cell k : ℕ) → cell < g.size * g.size → k < g.size → number_at g cell ≡ 0
+    → 1 ≤ number_at g (k * g.size + cell % g.size) → StandsAtPeer g cell (number_at g (k * g.size + cell % g.size))
 seen_in_column g cell k inside low blank filled =
     let some = some_width g.size cell inside in
     let column = mod_below cell g.size some in
@@ -48,7 +50,9 @@ seen_in_column g cell k inside low blank filled =
     }
 
 -- one number more that is seen
-pub seen_more : (g : GridValue) (cell n : ℕ) (xs : List Bool) → ((v : ℕ) → 1 ≤ v → get_or xs v false ≡ true → StandsAtPeer g cell v) → (1 ≤ n → StandsAtPeer g cell n) → (v : ℕ) → 1 ≤ v → get_or (set xs n true) v false ≡ true → StandsAtPeer g cell v
+pub seen_more : (g : GridValue) (cell n : ℕ) (xs : List Bool)
+    → ((v : ℕ) → 1 ≤ v → get_or xs v false ≡ true → StandsAtPeer g cell v) → (1 ≤ n → StandsAtPeer g cell n) → (v : ℕ) → 1 ≤ v
+    → get_or (set xs n true) v false ≡ true → StandsAtPeer g cell v
 seen_more g cell n xs before here v low seen =
     elim (cases_eq v n) [
       | inl same ↦ subst (StandsAtPeer g cell) (sym same) (here (omega arith))
@@ -58,7 +62,8 @@ seen_more g cell n xs before here v low seen =
 -- ---- what is found
 
 -- the number of a square is the one that the others leave
-forced_value : (found h : GridValue) (cell value : ℕ) → cell < found.size * found.size → IsForced found cell value → IsGrid h → IsLatin h → h.size ≡ found.size → HasFound found h → number_at h cell ≡ value
+forced_value : (found h : GridValue) (cell value : ℕ) → cell < found.size * found.size → IsForced found cell value → IsGrid h
+    → IsLatin h → h.size ≡ found.size → HasFound found h → number_at h cell ≡ value
 forced_value found h cell value inside forced grid latin same has =
     let there : cell < h.size * h.size = subst (λ (n : ℕ). cell < n * n) (sym same) inside in
     let low : 1 ≤ number_at h cell = (latin_full h latin).each cell there in
@@ -73,7 +78,10 @@ forced_value found h cell value inside forced grid latin same has =
           absurd (peers_differ h grid latin cell at.peer peers (sym (found_there ∙ at.stands)))
     ]
 
-pub found_more : (found new h : GridValue) (cell value : ℕ) → cell < found.size * found.size → number_at found cell ≡ 0 → IsForced found cell value → new.size ≡ found.size → length found.numbers ≡ found.size * found.size → new.numbers ≡ set found.numbers cell value → IsGrid h → IsLatin h → h.size ≡ found.size → HasFound found h → HasFound new h
+pub found_more : (found new h : GridValue) (cell value : ℕ) → cell < found.size * found.size → number_at found cell ≡ 0
+    → IsForced found cell value → new.size ≡ found.size → length found.numbers ≡ found.size * found.size
+    → new.numbers ≡ set found.numbers cell value → IsGrid h → IsLatin h → h.size ≡ found.size → HasFound found h
+    → HasFound new h
 found_more found new h cell value inside blank forced size count written grid latin same has = record {
   each = λ c within some. elim (cases_eq c cell) [
     | inl here ↦
@@ -91,7 +99,8 @@ found_more found new h cell value inside blank forced size count written grid la
 }
 
 -- where all is found there is no second solution
-pub full_is_only : (p : Puzzle) (found : GridValue) → IsFull found → found.size ≡ p.size → ((h : GridValue) → Solves p h → HasFound found h) → HasTwo p → ⊥
+pub full_is_only : (p : Puzzle) (found : GridValue) → IsFull found → found.size ≡ p.size
+    → ((h : GridValue) → Solves p h → HasFound found h) → HasTwo p → ⊥
 full_is_only p found full size has two =
     let same_size = two.solves_first.same_size ∙ sym two.solves_second.same_size in
     let a = has two.first two.solves_first in
@@ -110,7 +119,8 @@ none_seen (suc n) zero = refl
 none_seen (suc n) (suc v) = none_seen n v
 
 -- the givens are numbers of each solution
-pub givens_found : (p : Puzzle) (found : GridValue) (k : ℕ) → found.size ≡ p.size → k ≡ p.size * p.size → ((j : ℕ) → j < k → number_at found j ≡ p.given j) → (h : GridValue) → Solves p h → HasFound found h
+pub givens_found : (p : Puzzle) (found : GridValue) (k : ℕ) → found.size ≡ p.size → k ≡ p.size * p.size
+    → ((j : ℕ) → j < k → number_at found j ≡ p.given j) → (h : GridValue) → Solves p h → HasFound found h
 givens_found p found k size whole given h s = record {
   each = λ cell within some.
       let inside : cell < p.size * p.size = subst (λ (n : ℕ). cell < n * n) size within in
@@ -119,7 +129,9 @@ givens_found p found k size whole given h s = record {
 }
 
 -- one square more is written
-pub written_more : (old new : GridValue) (f : ℕ → ℕ) (k value : ℕ) → new.numbers ≡ set old.numbers k value → k < length old.numbers → value ≡ f k → ((j : ℕ) → j < k → number_at old j ≡ f j) → (j : ℕ) → j < k + 1 → number_at new j ≡ f j
+pub written_more : (old new : GridValue) (f : ℕ → ℕ) (k value : ℕ) → new.numbers ≡ set old.numbers k value
+    → k < length old.numbers → value ≡ f k → ((j : ℕ) → j < k → number_at old j ≡ f j) → (j : ℕ) → j < k + 1
+    → number_at new j ≡ f j
 written_more old new f k value written inside is before j less =
     elim (cases_eq j k) [
       | inl here ↦
@@ -131,12 +143,14 @@ written_more old new f k value written inside is before j less =
     ]
 
 -- what a read of the row or the column sees
-pub row_read : (g : GridValue) (cell k w n : ℕ) → w ≡ g.size → cell < g.size * g.size → k < w → number_at g cell ≡ 0 → n ≡ number_at g (cell / w * w + k) → 1 ≤ n → StandsAtPeer g cell n
+pub row_read : (g : GridValue) (cell k w n : ℕ) → w ≡ g.size → cell < g.size * g.size → k < w → number_at g cell ≡ 0
+    → n ≡ number_at g (cell / w * w + k) → 1 ≤ n → StandsAtPeer g cell n
 row_read g cell k w n width inside left blank read some =
     let at : n ≡ number_at g (cell / g.size * g.size + k) = read ∙ ap (λ (m : ℕ). number_at g (cell / m * m + k)) width in
     subst (StandsAtPeer g cell) (sym at) (seen_in_row g cell k inside (omega arith) blank (omega arith))
 
-pub column_read : (g : GridValue) (cell k w n : ℕ) → w ≡ g.size → cell < g.size * g.size → k < w → number_at g cell ≡ 0 → n ≡ number_at g (k * w + cell % w) → 1 ≤ n → StandsAtPeer g cell n
+pub column_read : (g : GridValue) (cell k w n : ℕ) → w ≡ g.size → cell < g.size * g.size → k < w → number_at g cell ≡ 0
+    → n ≡ number_at g (k * w + cell % w) → 1 ≤ n → StandsAtPeer g cell n
 column_read g cell k w n width inside left blank read some =
     let at : n ≡ number_at g (k * g.size + cell % g.size) = read ∙ ap (λ (m : ℕ). number_at g (k * m + cell % m)) width in
     subst (StandsAtPeer g cell) (sym at) (seen_in_column g cell k inside (omega arith) blank (omega arith))
@@ -148,7 +162,8 @@ pub record FoundOf (p : Puzzle) (found : GridValue) : Type 0 where
   pub size : found.size ≡ p.size
   pub each : (h : GridValue) → Solves p h → HasFound found h
 
-pub find_keeps : (p : Puzzle) (old new : GridValue) → FoundOf p old → new.size ≡ old.size → ((h : GridValue) → IsGrid h → IsLatin h → h.size ≡ old.size → HasFound old h → HasFound new h) → FoundOf p new
+pub find_keeps : (p : Puzzle) (old new : GridValue) → FoundOf p old → new.size ≡ old.size
+    → ((h : GridValue) → IsGrid h → IsLatin h → h.size ≡ old.size → HasFound old h → HasFound new h) → FoundOf p new
 find_keeps p old new before size keeps = record {
   size = size ∙ before.size;
   each = λ h s. keeps h s.is_grid s.latin (s.same_size ∙ sym before.size) (before.each h s);

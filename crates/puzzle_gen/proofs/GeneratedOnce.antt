@@ -14,13 +14,16 @@ no_letter : (letter : Option ℕ) → letter ≡ None → IsSome letter → ⊥
 no_letter letter none some = let h : false ≡ true = subst IsSome none some in cc
 
 -- just one cut meets the equation
-pub pruned_once : {P : Type 0} (f : Ghosts P) (params : Params) (seed : ℕ) (p q : P) → ItemLaws f → IsPruned f (square_of params.size seed) (trial_order (f.items_of params.size) params.size seed) p → IsPruned f (square_of params.size seed) (trial_order (f.items_of params.size) params.size seed) q → p ≡ q
+pub pruned_once : {P : Type 0} (f : Ghosts P) (params : Params) (seed : ℕ) (p q : P) → ItemLaws f
+    → IsPruned f (square_of params.size seed) (trial_order (f.items_of params.size) params.size seed) p
+    → IsPruned f (square_of params.size seed) (trial_order (f.items_of params.size) params.size seed) q → p ≡ q
 pruned_once f params seed p q laws first second =
     pruned_one f (square_of params.size seed) (trial_order (f.items_of params.size) params.size seed) p q
     (cuts_of_full f (square_of params.size seed) laws first.is_grid first.is_latin) first second
 
 -- two results of the same parameters and seed are the same
-pub generates_once : {P : Type 0} (f : Ghosts P) (params : Params) (seed : ℕ) (r s : Result P GenFault) → ItemLaws f → Generates f params seed r → Generates f params seed s → r ≡ s
+pub generates_once : {P : Type 0} (f : Ghosts P) (params : Params) (seed : ℕ) (r s : Result P GenFault) → ItemLaws f
+    → Generates f params seed r → Generates f params seed s → r ≡ s
 generates_once f params seed (Ok p) (Ok q) laws first second = ap Ok (pruned_once f params seed p q laws first.2 second.2)
 generates_once f params seed (Ok p) (Err SizeTooLarge) laws first second = absurd (omega (arith, first.0, second))
 generates_once f params seed (Ok p) (Err Graded) laws first second = absurd (no_letter params.letter first.1 second.1)
@@ -32,7 +35,8 @@ generates_once f params seed (Err Graded) (Err SizeTooLarge) laws first second =
 generates_once f params seed (Err Graded) (Err Graded) laws first second = refl
 
 -- what is generated is a puzzle of the game, of the size of the parameters
-pub generated_valid : {P : Type 0} (f : Ghosts P) (params : Params) (seed : ℕ) (p : P) → ItemLaws f → Generates f params seed (Ok p) → f.valid p × ((f.puzzle p).size ≡ params.size)
+pub generated_valid : {P : Type 0} (f : Ghosts P) (params : Params) (seed : ℕ) (p : P) → ItemLaws f
+    → Generates f params seed (Ok p) → f.valid p × ((f.puzzle p).size ≡ params.size)
 generated_valid {P} f params seed p laws (small, none, pruned) =
     let g = square_of params.size seed in
     let full = laws.full_valid g pruned.is_grid pruned.is_latin in

@@ -5,6 +5,7 @@ use Rattle.latin_board.proofs.LatinLines.{latin_full}
 use Rattle.latin_board.proofs.Numbers.{same_numbers}
 use Rattle.trail_solver.specs.Puzzles.{Solves}
 use Rattle.trail_solver.specs.declared.rules.Rules.{Ghosts}
+use Rattle.trail_solver.specs.contracts.rules.Rules.TheBound.{Met}
 use Rattle.puzzle_gen.specs.Removal.{AreCuts}
 
 pub record ItemLaws {P : Type 0} (f : Ghosts P) : Type 0 where
@@ -24,8 +25,27 @@ pub record ItemLaws {P : Type 0} (f : Ghosts P) : Type 0 where
   pub full_has : (g : GridValue) (i : ℕ) → IsGrid g → IsLatin g → i < f.items_of g.size → f.has (f.full_of g) i ≡ true
   pub full_solved : (g : GridValue) → IsGrid g → IsLatin g → Solves (f.puzzle (f.full_of g)) g
 
+-- the laws of a type that has `Rules`: the other names in braces are the kit's, the world that code runs in and the tables of methods
+pub laws_of : {M : Type 1} {U logic memory running routines type f methods clone cloning : _}
+    → Met {M = M} {𝓤 = U} logic memory running routines type f methods clone cloning → ItemLaws f
+laws_of met = record {
+  cut_valid = met.cut_valid;
+  cut_size = met.cut_size;
+  cut_has = met.cut_has;
+  cut_all = met.cut_all;
+  cut_cut = met.cut_cut;
+  cut_agrees = met.cut_agrees;
+  cut_solved = met.cut_solved;
+  full_valid = met.full_valid;
+  full_size = met.full_size;
+  full_given = met.full_given;
+  full_has = met.full_has;
+  full_solved = met.full_solved;
+}
+
 -- a solution of the full puzzle has the square's numbers, which are all given
-full_only : {P : Type 0} (f : Ghosts P) (g : GridValue) → ItemLaws f → IsGrid g → IsLatin g → (h : GridValue) → Solves (f.puzzle (f.full_of g)) h → h ≡ g
+full_only : {P : Type 0} (f : Ghosts P) (g : GridValue) → ItemLaws f → IsGrid g → IsLatin g → (h : GridValue)
+    → Solves (f.puzzle (f.full_of g)) h → h ≡ g
 full_only f g laws grid latin h s =
     let size : h.size ≡ g.size = s.same_size ∙ laws.full_size g grid latin in
     same_numbers h g s.is_grid grid size (λ cell inside.

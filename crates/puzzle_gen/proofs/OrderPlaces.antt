@@ -10,7 +10,8 @@ use Rattle.latin_board.proofs.Counts.{times_in_more_yes, times_in_more_no, twice
 use Rattle.puzzle_gen.specs.Orders.{place_in, IsOrder}
 
 -- a number that stands in a list stands at its place there, and not before
-pub place_found : (x : ℕ) (xs : List ℕ) (k : ℕ) → k < length xs → get_or xs k 0 ≡ x → (place_in x xs ≤ k) × (get_or xs (place_in x xs) 0 ≡ x)
+pub place_found : (x : ℕ) (xs : List ℕ) (k : ℕ) → k < length xs → get_or xs k 0 ≡ x
+    → (place_in x xs ≤ k) × (get_or xs (place_in x xs) 0 ≡ x)
 place_found x [] k within here = absurd (omega arith)
 place_found x (y ∷ ys) zero within here = rw (eq-eqb x y (sym here)) (omega arith, here)
 place_found x (y ∷ ys) (suc k) within here =

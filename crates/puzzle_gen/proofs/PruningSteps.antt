@@ -1,23 +1,19 @@
 -- How the pruned puzzle comes about, item by item, and that there is just one.
-use Rattle.std.proofs.Common.{◌≡◌, ◌≢◌, ◌↔◌, ℕ, zero, suc, ◌+◌, ◌<◌, ◌≤◌, Bool, true, false, not, ◌&&◌, eqb, List, get_or, IsTrue, inl, inr, refl, sym, ◌∙◌, ap, subst, arith, eq-eqb}
+use Rattle.std.proofs.Common.{◌≡◌, ◌≢◌, ◌↔◌, ℕ, zero, suc, ◌+◌, ◌<◌, ◌≤◌, Bool, true, false, not, ◌&&◌, List, get_or, IsTrue, inl, inr, refl, sym, ◌∙◌, ap, subst, arith, eq-eqb}
 use Rattle.std.proofs.lemmas.Bool.{cases_eq, cases_order, ne_eqb, lt-ltb, le-ltb}
 use Rattle.latin_board.specs.Squares.{GridValue, IsGrid, IsLatin}
 use Rattle.latin_board.specs.Sameness.{same_grid, same_grid_decides}
 use Rattle.trail_solver.specs.Puzzles.{Puzzle, Solves}
 use Rattle.trail_solver.specs.declared.rules.Rules.{Ghosts}
 use Rattle.puzzle_gen.specs.Orders.{place_in, IsOrder}
-use Rattle.puzzle_gen.specs.Pruning.{HasTwo, IsOnlySolution, IsPruned, rest, rest_puzzle}
+use Rattle.puzzle_gen.specs.Pruning.{all_but, HasTwo, IsOnlySolution, IsPruned, rest, rest_puzzle}
 use Rattle.puzzle_gen.specs.Removal.{AreCuts, IsPrunedTo}
 
--- all items but one
-abbrev pub but : ℕ → ℕ → Bool
-but i j = not (eqb j i)
+all_but_itself : (i : ℕ) → all_but i i ≡ false
+all_but_itself i = ap not (eq-eqb i i refl)
 
-but_itself : (i : ℕ) → but i i ≡ false
-but_itself i = ap not (eq-eqb i i refl)
-
-but_other : (i j : ℕ) → j ≢ i → but i j ≡ true
-but_other i j other = ap not (ne_eqb j i other)
+all_but_other : (i j : ℕ) → j ≢ i → all_but i j ≡ true
+all_but_other i j other = ap not (ne_eqb j i other)
 
 and_true : (b : Bool) → (b && true) ≡ b
 and_true true = refl
@@ -50,7 +46,9 @@ rest_itself : (order : List ℕ) (keep : ℕ → Bool) (i : ℕ) → rest order 
 rest_itself order keep i = rw (le-ltb (place_in i order) (place_in i order) (omega arith)) refl
 
 -- only what was tried before counts
-rest_agrees : (n : ℕ) (order : List ℕ) (a b : ℕ → Bool) (i : ℕ) → IsOrder n order → i < n → ((j : ℕ) → j < n → place_in j order < place_in i order → a j ≡ b j) → (j : ℕ) → j < n → rest order a i j ≡ rest order b i j
+rest_agrees : (n : ℕ) (order : List ℕ) (a b : ℕ → Bool) (i : ℕ) → IsOrder n order → i < n
+    → ((j : ℕ) → j < n → place_in j order < place_in i order → a j ≡ b j) → (j : ℕ) → j < n
+    → rest order a i j ≡ rest order b i j
 rest_agrees n order a b i is_order small_i same j small_j =
     elim (cases_order (place_in j order) (place_in i order)) [
       | inl here ↦
@@ -64,38 +62,41 @@ rest_agrees n order a b i is_order small_i same j small_j =
     ]
 
 -- where all items from i on are kept, the rest is what is kept but for i
-rest_is_but : (n : ℕ) (order : List ℕ) (keep : ℕ → Bool) (i : ℕ) → IsOrder n order → i < n → ((j : ℕ) → j < n → place_in i order ≤ place_in j order → keep j ≡ true) → (j : ℕ) → j < n → (keep j && but i j) ≡ rest order keep i j
+rest_is_but : (n : ℕ) (order : List ℕ) (keep : ℕ → Bool) (i : ℕ) → IsOrder n order → i < n
+    → ((j : ℕ) → j < n → place_in i order ≤ place_in j order → keep j ≡ true) → (j : ℕ) → j < n
+    → (keep j && all_but i j) ≡ rest order keep i j
 rest_is_but n order keep i is_order small_i untried j small_j =
     elim (cases_order (place_in j order) (place_in i order)) [
       | inl here ↦
           let itself = place_apart n order is_order j i small_j small_i here in
-          let Same : ℕ → Type 0 = λ k. (keep k && but i k) ≡ rest order keep i k in
+          let Same : ℕ → Type 0 = λ k. (keep k && all_but i k) ≡ rest order keep i k in
           subst Same (sym itself)
-          (ap (λ (b : Bool). keep i && b) (but_itself i) ∙ and_false (keep i) ∙ sym (rest_itself order keep i))
+          (ap (λ (b : Bool). keep i && b) (all_but_itself i) ∙ and_false (keep i) ∙ sym (rest_itself order keep i))
       | inr other ↦ elim other [
         | inl before ↦
-            ap (λ (b : Bool). keep j && b) (but_other i j (λ same. let p = ap (λ (k : ℕ). place_in k order) same in omega arith))
+            ap (λ (b : Bool). keep j && b) (all_but_other i j (λ same. let p = ap (λ (k : ℕ). place_in k order) same in omega arith))
             ∙ and_true (keep j) ∙ sym (rest_before order keep i j before)
         | inr after ↦
-            ap (λ (b : Bool). keep j && b) (but_other i j (λ same. let p = ap (λ (k : ℕ). place_in k order) same in omega arith))
+            ap (λ (b : Bool). keep j && b) (all_but_other i j (λ same. let p = ap (λ (k : ℕ). place_in k order) same in omega arith))
             ∙ and_true (keep j) ∙ untried j small_j (omega arith) ∙ sym (rest_after order keep i j after)
       ]
     ]
 
 -- what is kept but for i is among the rest
-within_rest : (n : ℕ) (order : List ℕ) (keep : ℕ → Bool) (i : ℕ) → IsOrder n order → i < n → (j : ℕ) → j < n → (rest order keep i j && (keep j && but i j)) ≡ (keep j && but i j)
+within_rest : (n : ℕ) (order : List ℕ) (keep : ℕ → Bool) (i : ℕ) → IsOrder n order → i < n → (j : ℕ) → j < n
+    → (rest order keep i j && (keep j && all_but i j)) ≡ (keep j && all_but i j)
 within_rest n order keep i is_order small_i j small_j =
     elim (cases_order (place_in j order) (place_in i order)) [
       | inl here ↦
           let itself = place_apart n order is_order j i small_j small_i here in
-          let Same : ℕ → Type 0 = λ k. (rest order keep i k && (keep k && but i k)) ≡ (keep k && but i k) in
-          let none : (keep i && but i i) ≡ false = ap (λ (b : Bool). keep i && b) (but_itself i) ∙ and_false (keep i) in
+          let Same : ℕ → Type 0 = λ k. (rest order keep i k && (keep k && all_but i k)) ≡ (keep k && all_but i k) in
+          let none : (keep i && all_but i i) ≡ false = ap (λ (b : Bool). keep i && b) (all_but_itself i) ∙ and_false (keep i) in
           subst Same (sym itself)
           (ap (λ (b : Bool). rest order keep i i && b) none ∙ and_false (rest order keep i i) ∙ sym none)
       | inr other ↦ elim other [
         | inl before ↦
-            ap (λ (b : Bool). b && (keep j && but i j)) (rest_before order keep i j before) ∙ and_again (keep j) (but i j)
-        | inr after ↦ ap (λ (b : Bool). b && (keep j && but i j)) (rest_after order keep i j after)
+            ap (λ (b : Bool). b && (keep j && all_but i j)) (rest_before order keep i j before) ∙ and_again (keep j) (all_but i j)
+        | inr after ↦ ap (λ (b : Bool). b && (keep j && all_but i j)) (rest_after order keep i j after)
       ]
     ]
 
@@ -128,14 +129,18 @@ pruned_none f g order cuts =
     }
 
 -- the puzzle without the next item is the rest
-next_is_rest : {P : Type 0} (f : Ghosts P) (g : GridValue) (order : List ℕ) (k i : ℕ) (p : P) → AreCuts f g → IsOrder (f.items_of g.size) order → i < f.items_of g.size → place_in i order ≡ k → IsPrunedTo f g order k p → f.cut p (but i) ≡ rest_puzzle f g order p i
+next_is_rest : {P : Type 0} (f : Ghosts P) (g : GridValue) (order : List ℕ) (k i : ℕ) (p : P) → AreCuts f g
+    → IsOrder (f.items_of g.size) order → i < f.items_of g.size → place_in i order ≡ k → IsPrunedTo f g order k p
+    → f.cut p (all_but i) ≡ rest_puzzle f g order p i
 next_is_rest {P} f g order k i p cuts is_order small here so_far =
-    ap (λ (q : P). f.cut q (but i)) so_far.is_cut ∙ cuts.again (f.has p) (but i)
-    ∙ cuts.agrees (λ j. f.has p j && but i j) (rest order (f.has p) i)
+    ap (λ (q : P). f.cut q (all_but i)) so_far.is_cut ∙ cuts.again (f.has p) (all_but i)
+    ∙ cuts.agrees (λ j. f.has p j && all_but i j) (rest order (f.has p) i)
     (rest_is_but (f.items_of g.size) order (f.has p) i is_order small (λ j small_j after. so_far.untried j small_j (omega arith)))
 
 -- an item without which there are two solutions stays
-pub pruned_stays : {P : Type 0} (f : Ghosts P) (g : GridValue) (order : List ℕ) (k i : ℕ) (p : P) → AreCuts f g → IsOrder (f.items_of g.size) order → i < f.items_of g.size → place_in i order ≡ k → IsPrunedTo f g order k p → HasTwo (f.puzzle (f.cut p (but i))) → IsPrunedTo f g order (k + 1) p
+pub pruned_stays : {P : Type 0} (f : Ghosts P) (g : GridValue) (order : List ℕ) (k i : ℕ) (p : P) → AreCuts f g
+    → IsOrder (f.items_of g.size) order → i < f.items_of g.size → place_in i order ≡ k → IsPrunedTo f g order k p
+    → HasTwo (f.puzzle (f.cut p (all_but i))) → IsPrunedTo f g order (k + 1) p
 pruned_stays {P} f g order k i p cuts is_order small here so_far two = record {
   is_cut = so_far.is_cut;
   tried = λ j small_j before. elim (cases_eq (place_in j order) k) [
@@ -154,16 +159,18 @@ pruned_stays {P} f g order k i p cuts is_order small here so_far two = record {
 }
 
 -- any other goes
-pub pruned_goes : {P : Type 0} (f : Ghosts P) (g : GridValue) (order : List ℕ) (k i : ℕ) (p q : P) → AreCuts f g → IsOrder (f.items_of g.size) order → i < f.items_of g.size → place_in i order ≡ k → IsPrunedTo f g order k p → (HasTwo (f.puzzle (f.cut p (but i))) → ⊥) → q ≡ f.cut p (but i) → IsPrunedTo f g order (k + 1) q
+pub pruned_goes : {P : Type 0} (f : Ghosts P) (g : GridValue) (order : List ℕ) (k i : ℕ) (p q : P) → AreCuts f g
+    → IsOrder (f.items_of g.size) order → i < f.items_of g.size → place_in i order ≡ k → IsPrunedTo f g order k p
+    → (HasTwo (f.puzzle (f.cut p (all_but i))) → ⊥) → q ≡ f.cut p (all_but i) → IsPrunedTo f g order (k + 1) q
 pruned_goes {P} f g order k i p q cuts is_order small here so_far single gone =
     let n = f.items_of g.size in
-    let cut : q ≡ f.cut (f.full_of g) (λ j. f.has p j && but i j) =
-    gone ∙ ap (λ (r : P). f.cut r (but i)) so_far.is_cut ∙ cuts.again (f.has p) (but i) in
-    let kept : (j : ℕ) → j < n → f.has q j ≡ (f.has p j && but i j) = λ j small_j.
-    ap (λ (r : P). f.has r j) cut ∙ cuts.has_cut (λ l. f.has p l && but i l) j small_j in
+    let cut : q ≡ f.cut (f.full_of g) (λ j. f.has p j && all_but i j) =
+    gone ∙ ap (λ (r : P). f.cut r (all_but i)) so_far.is_cut ∙ cuts.again (f.has p) (all_but i) in
+    let kept : (j : ℕ) → j < n → f.has q j ≡ (f.has p j && all_but i j) = λ j small_j.
+    ap (λ (r : P). f.has r j) cut ∙ cuts.has_cut (λ l. f.has p l && all_but i l) j small_j in
     let kept_other : (j : ℕ) → j < n → j ≢ i → f.has q j ≡ f.has p j = λ j small_j other.
-    kept j small_j ∙ ap (λ (b : Bool). f.has p j && b) (but_other i j other) ∙ and_true (f.has p j) in
-    let lost : f.has q i ≡ false = kept i small ∙ ap (λ (b : Bool). f.has p i && b) (but_itself i) ∙ and_false (f.has p i) in
+    kept j small_j ∙ ap (λ (b : Bool). f.has p j && b) (all_but_other i j other) ∙ and_true (f.has p j) in
+    let lost : f.has q i ≡ false = kept i small ∙ ap (λ (b : Bool). f.has p i && b) (all_but_itself i) ∙ and_false (f.has p i) in
     let earlier_kept : (j l : ℕ) → place_in j order ≤ k → l < n → place_in l order < place_in j order → f.has q l ≡ f.has p l =
     λ j l last small_l before. kept_other l small_l
     (λ same. let e : place_in l order ≡ place_in i order = ap (λ (m : ℕ). place_in m order) same in omega arith) in
@@ -173,14 +180,14 @@ pruned_goes {P} f g order k i p q cuts is_order small here so_far single gone =
     let Two : P → Type 0 = λ r. HasTwo (f.puzzle r) in
     let Sol : P → Type 0 = λ r. Solves (f.puzzle r) g in
     let still : Solves (f.puzzle q) g = subst Sol (sym cut)
-    (cuts.loses_none (f.has p) (but i) g (subst Sol so_far.is_cut so_far.only.solution)) in
+    (cuts.loses_none (f.has p) (all_but i) g (subst Sol so_far.is_cut so_far.only.solution)) in
     record {
-      is_cut = cut ∙ cuts.agrees (λ j. f.has p j && but i j) (f.has q) (λ j small_j. sym (kept j small_j));
+      is_cut = cut ∙ cuts.agrees (λ j. f.has p j && all_but i j) (f.has q) (λ j small_j. sym (kept j small_j));
       tried = λ j small_j before. elim (cases_eq (place_in j order) k) [
         | inl last ↦
             let itself : j ≡ i = place_apart n order is_order j i small_j small (last ∙ sym here) in
             let Tried : ℕ → Type 0 = λ l. IsTrue (f.has q l) ↔ HasTwo (f.puzzle (rest_puzzle f g order q l)) in
-            let back : rest_puzzle f g order q i ≡ f.cut p (but i) =
+            let back : rest_puzzle f g order q i ≡ f.cut p (all_but i) =
             same_rest i small (omega arith) ∙ sym (next_is_rest f g order k i p cuts is_order small here so_far) in
             subst Tried (sym itself) (
               λ there. absurd (let e : true ≡ false = sym there ∙ lost in cc),
@@ -201,7 +208,8 @@ pruned_goes {P} f g order k i p q cuts is_order small here so_far single gone =
     }
 
 -- all were tried
-pub pruned_all : {P : Type 0} (f : Ghosts P) (g : GridValue) (order : List ℕ) (k : ℕ) (p : P) → IsGrid g → IsLatin g → IsOrder (f.items_of g.size) order → f.items_of g.size ≤ k → IsPrunedTo f g order k p → IsPruned f g order p
+pub pruned_all : {P : Type 0} (f : Ghosts P) (g : GridValue) (order : List ℕ) (k : ℕ) (p : P) → IsGrid g → IsLatin g
+    → IsOrder (f.items_of g.size) order → f.items_of g.size ≤ k → IsPrunedTo f g order k p → IsPruned f g order p
 pruned_all f g order k p grid latin is_order whole so_far = record {
   is_grid = grid;
   is_latin = latin;
@@ -218,7 +226,8 @@ same_bool true false A first second = sym (second.1 (first.0 refl))
 same_bool false true A first second = first.1 (second.0 refl)
 same_bool false false A first second = refl
 
-same_kept : {P : Type 0} (f : Ghosts P) (g : GridValue) (order : List ℕ) (p q : P) → AreCuts f g → IsPruned f g order p → IsPruned f g order q → (k i : ℕ) → i < f.items_of g.size → place_in i order < k → f.has p i ≡ f.has q i
+same_kept : {P : Type 0} (f : Ghosts P) (g : GridValue) (order : List ℕ) (p q : P) → AreCuts f g → IsPruned f g order p
+    → IsPruned f g order q → (k i : ℕ) → i < f.items_of g.size → place_in i order < k → f.has p i ≡ f.has q i
 same_kept f g order p q cuts first second zero i small before = absurd (omega arith)
 same_kept {P} f g order p q cuts first second (suc k) i small before =
     let same : rest_puzzle f g order p i ≡ rest_puzzle f g order q i =
@@ -229,7 +238,8 @@ same_kept {P} f g order p q cuts first second (suc k) i small before =
     same_bool (f.has p i) (f.has q i) (HasTwo (f.puzzle (rest_puzzle f g order p i))) (first.each i small)
     (subst Rest (sym same) (second.each i small))
 
-pub pruned_one : {P : Type 0} (f : Ghosts P) (g : GridValue) (order : List ℕ) (p q : P) → AreCuts f g → IsPruned f g order p → IsPruned f g order q → p ≡ q
+pub pruned_one : {P : Type 0} (f : Ghosts P) (g : GridValue) (order : List ℕ) (p q : P) → AreCuts f g → IsPruned f g order p
+    → IsPruned f g order q → p ≡ q
 pruned_one f g order p q cuts first second =
     first.is_cut
     ∙ cuts.agrees (f.has p) (f.has q)
@@ -238,16 +248,17 @@ pruned_one f g order p q cuts first second =
 
 -- ---- without any item that is kept there are two solutions
 
-pub pruned_needed : {P : Type 0} (f : Ghosts P) (g : GridValue) (order : List ℕ) (p : P) → AreCuts f g → IsPruned f g order p → (i : ℕ) → i < f.items_of g.size → IsTrue (f.has p i) → HasTwo (f.puzzle (f.cut p (but i)))
+pub pruned_needed : {P : Type 0} (f : Ghosts P) (g : GridValue) (order : List ℕ) (p : P) → AreCuts f g → IsPruned f g order p
+    → (i : ℕ) → i < f.items_of g.size → IsTrue (f.has p i) → HasTwo (f.puzzle (f.cut p (all_but i)))
 pruned_needed {P} f g order p cuts pruned i small there =
     let two = (pruned.each i small).0 there in
-    let fewer : f.cut (f.full_of g) (λ j. rest order (f.has p) i j && (f.has p j && but i j)) ≡ f.cut p (but i) =
-    cuts.agrees (λ j. rest order (f.has p) i j && (f.has p j && but i j)) (λ j. f.has p j && but i j)
+    let fewer : f.cut (f.full_of g) (λ j. rest order (f.has p) i j && (f.has p j && all_but i j)) ≡ f.cut p (all_but i) =
+    cuts.agrees (λ j. rest order (f.has p) i j && (f.has p j && all_but i j)) (λ j. f.has p j && all_but i j)
     (within_rest (f.items_of g.size) order (f.has p) i pruned.is_order small)
-    ∙ sym (cuts.again (f.has p) (but i)) ∙ ap (λ (q : P). f.cut q (but i)) (sym pruned.is_cut) in
-    let solved : (h : GridValue) → Solves (f.puzzle (rest_puzzle f g order p i)) h → Solves (f.puzzle (f.cut p (but i))) h = λ h s.
+    ∙ sym (cuts.again (f.has p) (all_but i)) ∙ ap (λ (q : P). f.cut q (all_but i)) (sym pruned.is_cut) in
+    let solved : (h : GridValue) → Solves (f.puzzle (rest_puzzle f g order p i)) h → Solves (f.puzzle (f.cut p (all_but i))) h = λ h s.
     subst (λ (q : P). Solves (f.puzzle q) h) fewer
-    (cuts.loses_none (rest order (f.has p) i) (λ j. f.has p j && but i j) h s) in
+    (cuts.loses_none (rest order (f.has p) i) (λ j. f.has p j && all_but i j) h s) in
     record {
       first = two.first;
       second = two.second;

@@ -1,10 +1,10 @@
 -- How the pruned puzzle comes about: what stands after each item, and what lemmas know of the cuts of one full puzzle.
-use Rattle.std.specs.Prelude.{◌≡◌, ◌↔◌, ℕ, ◌<◌, ◌≤◌, Bool, true, not, ◌&&◌, ◌==◌, List, IsTrue}
+use Rattle.std.specs.Prelude.{◌≡◌, ◌↔◌, ℕ, ◌<◌, ◌≤◌, Bool, true, ◌&&◌, List, IsTrue}
 use Rattle.latin_board.specs.Squares.{GridValue}
 use Rattle.trail_solver.specs.Puzzles.{Solves}
 use Rattle.trail_solver.specs.declared.rules.Rules.{Ghosts}
 use Rattle.puzzle_gen.specs.Orders.{place_in}
-use Rattle.puzzle_gen.specs.Pruning.{HasTwo, IsOnlySolution, IsPruned, rest_puzzle}
+use Rattle.puzzle_gen.specs.Pruning.{HasTwo, IsOnlySolution, IsPruned, all_but, rest_puzzle}
 
 -- what stands when the first k items of the order were tried
 pub record IsPrunedTo {P : Type 0} (f : Ghosts P) (g : GridValue) (order : List ℕ) (k : ℕ) (p : P) : Type 0 where
@@ -31,4 +31,4 @@ pub record IsOnePruned {P : Type 0} (f : Ghosts P) (g : GridValue) (order : List
   pub valid : f.valid p
   pub size : (f.puzzle p).size ≡ g.size
   pub only_solution : IsOnlySolution (f.puzzle p) g
-  pub all_needed : (i : ℕ) → i < f.items_of g.size → IsTrue (f.has p i) → HasTwo (f.puzzle (f.cut p (λ j. not (j == i))))
+  pub all_needed : (i : ℕ) → i < f.items_of g.size → IsTrue (f.has p i) → HasTwo (f.puzzle (f.cut p (all_but i)))

@@ -50,7 +50,8 @@ fn first_items(count: usize) -> ArrayVec<u8, ITEMS>
 pub(crate) fn draw_order<R: Rng>(rng: &mut R, items: &mut [u8])
     requires { items.old ≡ range_with_len 0 (length items.old) }
     ensures order { IsOrder (length items.old) items.new }
-    ensures drawn { (items.new, R.stream rng.new) ≡ drawn_order (length items.old) (R.stream rng.old) }
+    ensures drawn { (items.new, R.stream rng.new)
+        ≡ drawn_order (length items.old) (R.stream rng.old) }
 {
     items.shuffle(rng);
 }

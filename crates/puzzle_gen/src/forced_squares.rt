@@ -97,7 +97,8 @@ fn is_forced_square(known: &Grid, found: &Grid, cell: usize) -> bool
 fn seen_from(found: &Grid, cell: usize) -> [bool; 10]
     requires inside { cell < found.now.size * found.now.size }
     requires blank { number_at found.now cell ≡ 0 }
-    ensures { (v : ℕ) → 1 ≤ v → slice_index_or result v false ≡ true → StandsAtPeer found.now cell v }
+    ensures { (v : ℕ) → 1 ≤ v → slice_index_or result v false ≡ true
+        → StandsAtPeer found.now cell v }
 {
     let width = found.size().get() as usize;
     let mut seen = [false; 10];

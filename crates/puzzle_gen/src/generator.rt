@@ -1,9 +1,9 @@
 //! The puzzle of a game, of parameters and a seed.
 
-ghost use Rattle.std.specs.Prelude.{◌≡◌, ℕ, ◌<◌, ◌≤◌, ◌==◌, not, Result, IfOk, IsTrue};
+ghost use Rattle.std.specs.Prelude.{◌≡◌, ℕ, ◌<◌, ◌≤◌, Result, IfOk, IsTrue};
 ghost use Rattle.latin_board.specs.Squares.{IsLatin};
 ghost use Rattle.puzzle_gen.specs.SeededSquares.{drawn_order, square_of, trial_order};
-ghost use Rattle.puzzle_gen.specs.Pruning.{HasTwo, IsOnlySolution};
+ghost use Rattle.puzzle_gen.specs.Pruning.{HasTwo, IsOnlySolution, all_but};
 ghost use Rattle.puzzle_gen.specs.Removal.{IsOnePruned};
 ghost use Rattle.puzzle_gen.specs.declared.gen_fault.GenFault.{GenFault};
 ghost use Rattle.puzzle_gen.specs.Generating.{Generates};
@@ -28,16 +28,18 @@ pub fn generate<P: Game>(params: &Params, seed: u64) -> Result<P, GenFault>
         → Generates ⟦<P as Rules>⟧ params.now seed other → other ≡ result }
     ensures valid { IfOk result (λ p. P.valid p) }
     ensures size { IfOk result (λ p. (P.puzzle p).size ≡ params.now.size) }
-    ensures only_solution { IfOk result (λ p. IsOnlySolution (P.puzzle p) (square_of params.now.size seed)) }
+    ensures only_solution { IfOk result (λ p.
+        IsOnlySolution (P.puzzle p) (square_of params.now.size seed)) }
 
     // Without any one of its items it has several solutions.
-    ensures all_needed { IfOk result (λ p. (i : ℕ) → i < P.items_of params.now.size → IsTrue (P.has p i)
-        → HasTwo (P.puzzle (P.cut p (λ j. not (j == i))))) }
+    ensures all_needed { IfOk result (λ p. (i : ℕ) → i < P.items_of params.now.size
+        → IsTrue (P.has p i) → HasTwo (P.puzzle (P.cut p (all_but i)))) }
 
     // Its description in the written form describes a puzzle, and that puzzle has exactly one solution.
     ensures described { IfOk result (λ p. P.describes (P.desc_of p) p) }
-    ensures described_has_one { IfOk result (λ p. (q : P) → P.valid q → (P.puzzle q).size ≡ params.now.size
-        → P.describes (P.desc_of p) q → IsOnlySolution (P.puzzle q) (square_of params.now.size seed)) }
+    ensures described_has_one { IfOk result (λ p. (q : P) → P.valid q
+        → (P.puzzle q).size ≡ params.now.size → P.describes (P.desc_of p) q
+        → IsOnlySolution (P.puzzle q) (square_of params.now.size seed)) }
 {
     if params.size.get() > 6 {
         return Err(GenFault::SizeTooLarge);
@@ -51,7 +53,8 @@ pub fn generate<P: Game>(params: &Params, seed: u64) -> Result<P, GenFault>
 // The pruned puzzle of a seed.
 fn seeded<P: Rules>(size: Size, seed: u64) -> P
     requires { size ≤ 6 }
-    ensures { IsOnePruned ⟦<P as Rules>⟧ (square_of size seed) (trial_order (P.items_of size) size seed) result }
+    ensures { IsOnePruned ⟦<P as Rules>⟧ (square_of size seed)
+        (trial_order (P.items_of size) size seed) result }
 {
     let mut rng = rng_of(seed);
     let grid = draw_square(size, &mut rng);
@@ -62,7 +65,8 @@ fn seeded<P: Rules>(size: Size, seed: u64) -> P
 fn pruned_next<P: Rules, R: Rng>(grid: &Grid, rng: &mut R) -> P
     requires small { grid.now.size ≤ 6 }
     requires latin { IsLatin grid.now }
-    ensures { IsOnePruned ⟦<P as Rules>⟧ grid.now (drawn_order (P.items_of grid.now.size) (R.stream rng.old)).0 result }
+    ensures { IsOnePruned ⟦<P as Rules>⟧ grid.now
+        (drawn_order (P.items_of grid.now.size) (R.stream rng.old)).0 result }
 {
     let count = P::item_count(grid.size());
     let order = draw_items(rng, count);

@@ -1,11 +1,11 @@
 //! The removal of items: each is tried once, and goes where the rest still has just one solution.
 
-ghost use Rattle.std.specs.Prelude.{◌≡◌, ℕ, ◌+◌, ◌<◌, ◌==◌, not, ◌⊎◌, List, length, slice_index};
+ghost use Rattle.std.specs.Prelude.{◌≡◌, ℕ, ◌+◌, ◌<◌, ◌⊎◌, List, length, slice_index};
 ghost use Rattle.std.specs.Bool.{OnTrue, OnFalse};
 ghost use Rattle.latin_board.specs.Squares.{IsLatin};
 ghost use Rattle.trail_solver.specs.Puzzles.{Solves};
 ghost use Rattle.puzzle_gen.specs.Orders.{IsOrder};
-ghost use Rattle.puzzle_gen.specs.Pruning.{HasTwo};
+ghost use Rattle.puzzle_gen.specs.Pruning.{HasTwo, all_but};
 ghost use Rattle.puzzle_gen.specs.Removal.{AreCuts, IsOnePruned, IsPrunedTo};
 
 use crate::forced_squares::is_forced;
@@ -27,7 +27,8 @@ fn all_tried<P: Rules>(grid: &Grid, order: &[u8]) -> P
     requires latin { IsLatin grid.now }
     requires order { IsOrder (P.items_of grid.now.size) order.now }
     ensures cuts { AreCuts ⟦<P as Rules>⟧ grid.now }
-    ensures pruned { IsPrunedTo ⟦<P as Rules>⟧ grid.now order.now (P.items_of grid.now.size) result }
+    ensures pruned { IsPrunedTo ⟦<P as Rules>⟧ grid.now order.now (P.items_of grid.now.size)
+        result }
     ensures valid { P.valid result }
     ensures size { (P.puzzle result).size ≡ grid.now.size }
 {
@@ -77,8 +78,9 @@ fn item_at(order: &[u8], k: usize) -> usize
 fn tried<P: Rules>(puzzle: P, grid: &Grid, item: usize) -> P
     requires inside { item < P.items_of (P.puzzle puzzle).size }
     requires solved { Solves (P.puzzle puzzle) grid.now }
-    ensures { ((result ≡ puzzle) × HasTwo (P.puzzle (P.cut puzzle (λ j. not (j == item)))))
-        ⊎ ((result ≡ P.cut puzzle (λ j. not (j == item))) × (HasTwo (P.puzzle (P.cut puzzle (λ j. not (j == item)))) → ⊥)) }
+    ensures { ((result ≡ puzzle) × HasTwo (P.puzzle (P.cut puzzle (all_but item))))
+        ⊎ ((result ≡ P.cut puzzle (all_but item))
+        × (HasTwo (P.puzzle (P.cut puzzle (all_but item))) → ⊥)) }
 {
     let _size = puzzle.size();
     let mut fewer = puzzle;

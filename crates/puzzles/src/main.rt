@@ -29,14 +29,14 @@ const NO_TEXT: &str =
     "error: a word of the command line is no UTF-8 text\n\nFor more information, try '--help'.\n";
 
 fn main(rt: HostRuntime) -> ExitCode {
-    ExitCode::from(match start(&rt) {
+    ExitCode::from(match play_named(&rt) {
         Ok(()) => 0,
         Err(fault) => report(&rt, fault),
     })
 }
 
-// Reads the command line and plays its game.
-fn start(rt: &(impl Env + Files + Input + Print + Eprint + AllocGlobal)) -> Result<(), Fault> {
+// Reads the command line and plays the game that it names.
+fn play_named(rt: &(impl Env + Files + Input + Print + Eprint + AllocGlobal)) -> Result<(), Fault> {
     let args = args(rt).map_err(Fault::Words)?;
     match args.game {
         GameName::Towers => play::<Towers>(rt, &args),

@@ -52,20 +52,29 @@ impl Counter {
     }
 }
 
-// Runs the counter over memory, and gives its number, the end and what was written.
-fn run_over_memory(
+// Runs the counter over memory, and compares the end, the counter's number and what was written. A device gives or takes at
+// most so many bytes at once, and fails at one call, or at none where that is 0.
+fn check(
     rt: &impl Abort,
     alloc: Global,
     input: &[u8],
     reads: (usize, u64),
     writes: (usize, u64),
-) -> Result<(u64, End, Vec<u8>), Fail> {
+    want: (End, u64, &[u8]),
+) -> Result<(), Fail> {
     assert!(rt; reads.0 >= 1 && writes.0 >= 1);
     let mut machine = Counter { number: 0 };
     let mut source = MemorySource::new(Vec::from_slice(alloc, input)?, reads.0, reads.1);
     let mut sink = MemorySink::new(Vec::from_slice(alloc, &[0; 64])?, writes.0, writes.1);
     let end = run_machine(alloc, &mut machine, &mut source, &mut sink);
-    Ok((machine.number, end, Vec::from_slice(alloc, sink.taken())?))
+    assert_eq!(rt; end, want.0, "reads {reads:?}, writes {writes:?}");
+    assert_eq!(rt;
+        machine.number,
+        want.1,
+        "reads {reads:?}, writes {writes:?}"
+    );
+    assert_eq!(rt; sink.taken(), want.2, "reads {reads:?}, writes {writes:?}");
+    Ok(())
 }
 
 #[test]
@@ -89,17 +98,9 @@ fn answers_lines_up_to_quit(rt: HostRuntime) -> Result<(), Fail> {
         (b"quit \nup\n", 1, b"refused: BadCommand\nok\n"),
     ];
     for (input, number, output) in table {
+        let want = (End::Finished, number, output);
         for piece in [1usize, 2, 7, 512] {
-            let (last, end, written) = run_over_memory(
-                &rt,
-                rt.alloc(),
-                input,
-                (piece, 0),
-                (piece, 0),
-            )?;
-            assert_eq!(rt; end, End::Finished, "pieces of {piece}");
-            assert_eq!(rt; last, number, "pieces of {piece}");
-            assert_eq!(rt; written.as_slice(), output, "pieces of {piece}");
+            check(&rt, rt.alloc(), input, (piece, 0), (piece, 0), want)?;
         }
     }
     Ok(())
@@ -108,35 +109,24 @@ fn answers_lines_up_to_quit(rt: HostRuntime) -> Result<(), Fail> {
 // The length of a line is measured before a CR is dropped, and a line that is too long is answered once.
 #[test]
 fn refuses_long_lines_once(rt: HostRuntime) -> Result<(), Fail> {
-    let table: [(usize, &[u8], &[u8]); 7] = [
-        (1_024, b"\nup\n", b"refused: BadCommand\nok\n"),
-        (1_025, b"\nup\n", b"refused: LongLine\nok\n"),
-        (1_023, b"\r\nup\n", b"refused: BadCommand\nok\n"),
-        (1_024, b"\r\nup\n", b"refused: LongLine\nok\n"),
-        (5_000, b"\nup", b"refused: LongLine\nok\n"),
-        (1_024, b"", b"refused: BadCommand\n"),
-        (1_025, b"", b"refused: LongLine\n"),
+    let table: [(usize, &[u8], u64, &[u8]); 7] = [
+        (1_024, b"\nup\n", 1, b"refused: BadCommand\nok\n"),
+        (1_025, b"\nup\n", 1, b"refused: LongLine\nok\n"),
+        (1_023, b"\r\nup\n", 1, b"refused: BadCommand\nok\n"),
+        (1_024, b"\r\nup\n", 1, b"refused: LongLine\nok\n"),
+        (5_000, b"\nup", 1, b"refused: LongLine\nok\n"),
+        (1_024, b"", 0, b"refused: BadCommand\n"),
+        (1_025, b"", 0, b"refused: LongLine\n"),
     ];
-    for (length, rest, output) in table {
+    for (length, rest, number, output) in table {
+        let mut input = Vec::new(rt.alloc());
+        for _ in 0..length {
+            input.push(b'x')?;
+        }
+        input.extend_from_slice(rest)?;
+        let want = (End::Finished, number, output);
         for piece in [1usize, 2, 7, 512] {
-            let mut input = Vec::new(rt.alloc());
-            for _ in 0..length {
-                input.push(b'x')?;
-            }
-            input.extend_from_slice(rest)?;
-            let (_, end, written) = run_over_memory(
-                &rt,
-                rt.alloc(),
-                &input,
-                (piece, 0),
-                (piece, 0),
-            )?;
-            assert_eq!(rt; end, End::Finished, "{length} bytes in pieces of {piece}");
-            assert_eq!(rt;
-                written.as_slice(),
-                output,
-                "{length} bytes in pieces of {piece}"
-            );
+            check(&rt, rt.alloc(), &input, (piece, 0), (piece, 0), want)?;
         }
     }
     Ok(())
@@ -146,74 +136,59 @@ fn refuses_long_lines_once(rt: HostRuntime) -> Result<(), Fail> {
 #[test]
 fn each_read_fails_in_turn(rt: HostRuntime) -> Result<(), Fail> {
     // the bytes that were read before the read with that number: 0, 2, 4, ..
-    let table: [(u64, u64, &[u8]); 7] = [
-        (1, 0, b""),
-        (2, 0, b""),
-        (3, 1, b"ok\n"),
-        (4, 1, b"ok\n"),
-        (5, 1, b"ok\n1\n"),
-        (6, 1, b"ok\n1\n"),
-        (7, 2, b"ok\n1\nok\n"),
+    let table: [(u64, End, u64, &[u8]); 7] = [
+        (1, End::ReadFault, 0, b""),
+        (2, End::ReadFault, 0, b""),
+        (3, End::ReadFault, 1, b"ok\n"),
+        (4, End::ReadFault, 1, b"ok\n"),
+        (5, End::ReadFault, 1, b"ok\n1\n"),
+        (6, End::ReadFault, 1, b"ok\n1\n"),
+        (7, End::Finished, 2, b"ok\n1\nok\n"),
     ];
-    for (fails_at, number, output) in table {
-        let (last, end, written) = run_over_memory(
+    for (fails_at, end, number, output) in table {
+        let want = (end, number, output);
+        check(
             &rt,
             rt.alloc(),
             b"up\nshow\nup",
             (2, fails_at),
             (512, 0),
+            want,
         )?;
-        let want = if fails_at < 7 {
-            End::ReadFault
-        } else {
-            End::Finished
-        };
-        assert_eq!(rt; end, want, "failing at {fails_at}");
-        assert_eq!(rt; last, number, "failing at {fails_at}");
-        assert_eq!(rt; written.as_slice(), output, "failing at {fails_at}");
     }
     let mut long = Vec::from_slice(rt.alloc(), &[b'x'; 1_025])?;
-    let (_, end, written) = run_over_memory(&rt, rt.alloc(), &long, (512, 4), (512, 0))?;
-    assert_eq!(rt; end, End::ReadFault);
-    assert_eq!(rt; written.as_slice(), b"".as_slice());
+    let unanswered = (End::ReadFault, 0, b"".as_slice());
+    check(&rt, rt.alloc(), &long, (512, 4), (512, 0), unanswered)?;
     long.push(b'\n')?;
-    let (_, end, written) = run_over_memory(&rt, rt.alloc(), &long, (512, 4), (512, 0))?;
-    assert_eq!(rt; end, End::ReadFault);
-    assert_eq!(rt; written.as_slice(), b"refused: LongLine\n".as_slice());
-    Ok(())
+    let answered = (End::ReadFault, 0, b"refused: LongLine\n".as_slice());
+    check(&rt, rt.alloc(), &long, (512, 4), (512, 0), answered)
 }
 
 // Two writes and a flush for each `ok`, a write and a flush for the number.
 #[test]
 fn each_write_and_flush_fails_in_turn(rt: HostRuntime) -> Result<(), Fail> {
-    let table: [(u64, u64, &[u8]); 9] = [
-        (1, 1, b""),
-        (2, 1, b"ok"),
-        (3, 1, b"ok\n"),
-        (4, 2, b"ok\n"),
-        (5, 2, b"ok\nok"),
-        (6, 2, b"ok\nok\n"),
-        (7, 2, b"ok\nok\n"),
-        (8, 2, b"ok\nok\n2\n"),
-        (9, 2, b"ok\nok\n2\n"),
+    let table: [(u64, End, u64, &[u8]); 9] = [
+        (1, End::WriteFault, 1, b""),
+        (2, End::WriteFault, 1, b"ok"),
+        (3, End::WriteFault, 1, b"ok\n"),
+        (4, End::WriteFault, 2, b"ok\n"),
+        (5, End::WriteFault, 2, b"ok\nok"),
+        (6, End::WriteFault, 2, b"ok\nok\n"),
+        (7, End::WriteFault, 2, b"ok\nok\n"),
+        (8, End::WriteFault, 2, b"ok\nok\n2\n"),
+        (9, End::Finished, 2, b"ok\nok\n2\n"),
     ];
-    for (fails_at, number, output) in table {
+    for (fails_at, end, number, output) in table {
         for piece in [1usize, 512] {
-            let (last, end, written) = run_over_memory(
+            let want = (end, number, output);
+            check(
                 &rt,
                 rt.alloc(),
                 b"up\nup\nshow",
                 (piece, 0),
                 (2, fails_at),
+                want,
             )?;
-            let want = if fails_at < 9 {
-                End::WriteFault
-            } else {
-                End::Finished
-            };
-            assert_eq!(rt; end, want, "failing at {fails_at}");
-            assert_eq!(rt; last, number, "failing at {fails_at}");
-            assert_eq!(rt; written.as_slice(), output, "failing at {fails_at}");
         }
     }
     Ok(())

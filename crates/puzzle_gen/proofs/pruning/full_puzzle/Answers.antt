@@ -1,31 +1,11 @@
 use Rattle.std.proofs.Common.{◌≡◌, sym, subst}
 use Rattle.puzzle_gen.specs.Removal.{IsPrunedTo}
-use Rattle.puzzle_gen.proofs.ItemLaws.{ItemLaws, cuts_of_full}
+use Rattle.puzzle_gen.proofs.ItemLaws.{laws_of, cuts_of_full}
 use Rattle.puzzle_gen.proofs.PruningSteps.{pruned_none}
-use Rattle.puzzle_gen.proofs.pruning.full_puzzle.Given.{Over}
 use Rattle.puzzle_gen.proofs.pruning.full_puzzle.Goals as goal
 
--- the laws of `Rules` on items
-laws : (g : Over) → ItemLaws g.P.Rules
-laws g =
-    let met = g.met.P.Rules in
-    record {
-      cut_valid = met.cut_valid;
-      cut_size = met.cut_size;
-      cut_has = met.cut_has;
-      cut_all = met.cut_all;
-      cut_cut = met.cut_cut;
-      cut_agrees = met.cut_agrees;
-      cut_solved = met.cut_solved;
-      full_valid = met.full_valid;
-      full_size = met.full_size;
-      full_given = met.full_given;
-      full_has = met.full_has;
-      full_solved = met.full_solved;
-    }
-
 pub returns-clause-cuts : goal.returns-clause-cuts
-returns-clause-cuts g c = cuts_of_full g.P.Rules c.args.grid.now (laws g) c.size-size.ensures.valid c.requires
+returns-clause-cuts g c = cuts_of_full g.P.Rules c.args.grid.now (laws_of g.met.P.Rules) c.size-size.ensures.valid c.requires
 
 pub returns-clause-pruned : goal.returns-clause-pruned
 returns-clause-pruned g c = λ order.

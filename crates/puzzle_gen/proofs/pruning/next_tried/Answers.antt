@@ -1,7 +1,8 @@
 use Rattle.std.proofs.Common.{◌≡◌, ℕ, ◌+◌, ◌<◌, inl, inr, sym, ◌∙◌, ap, subst, arith}
 use Rattle.puzzle_gen.specs.Orders.{place_in}
 use Rattle.puzzle_gen.specs.Removal.{IsPrunedTo}
-use Rattle.puzzle_gen.proofs.PruningSteps.{but, pruned_stays, pruned_goes}
+use Rattle.puzzle_gen.specs.Pruning.{all_but}
+use Rattle.puzzle_gen.proofs.PruningSteps.{pruned_stays, pruned_goes}
 use Rattle.puzzle_gen.proofs.pruning.next_tried.Goals as goal
 
 pub returns-clause-pruned : goal.returns-clause-pruned
@@ -26,7 +27,7 @@ returns-clause-pruned g c =
 pub returns-clause-valid : goal.returns-clause-valid
 returns-clause-valid g c = elim c.tried.ensures [
   | inl stays ↦ subst g.P.Rules.valid (sym stays.0) c.size-size.ensures.valid
-  | inr goes ↦ subst g.P.Rules.valid (sym goes.0) (g.met.P.Rules.cut_valid c.args.puzzle (but c.item_at.result) c.size-size.ensures.valid)
+  | inr goes ↦ subst g.P.Rules.valid (sym goes.0) (g.met.P.Rules.cut_valid c.args.puzzle (all_but c.item_at.result) c.size-size.ensures.valid)
 ]
 
 pub returns-clause-size : goal.returns-clause-size
@@ -36,5 +37,5 @@ returns-clause-size g c =
       | inl stays ↦ subst Size (sym stays.0) c.requires.size
       | inr goes ↦
           subst Size (sym goes.0)
-          (g.met.P.Rules.cut_size c.args.puzzle (but c.item_at.result) c.size-size.ensures.valid ∙ c.requires.size)
+          (g.met.P.Rules.cut_size c.args.puzzle (all_but c.item_at.result) c.size-size.ensures.valid ∙ c.requires.size)
     ]

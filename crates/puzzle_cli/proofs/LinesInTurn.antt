@@ -1,12 +1,12 @@
--- How runs over lines follow one another.
+-- Lines that are answered, one list of lines after another.
 use Rattle.std.proofs.Common.{◌≡◌, ℕ, Bool, true, false, if◌then◌else◌, List, [], ◌∷◌, ◌++◌, refl, sym, ap, ◌∙◌, subst, append_assoc, append-nil, take}
 use Rattle.std.proofs.KnownBytes.{Appends-nil, Appends-trans}
 use Rattle.std.specs.Io.KnownBytes.{Appends}
-use Rattle.puzzle_cli.specs.Lines.{Line}
-use Rattle.puzzle_cli.specs.Runs.{Progress, Run, has_quit, before_quit, Served, Breaks}
+use Rattle.puzzle_cli.specs.Lines.{Line, ReplyRule}
+use Rattle.puzzle_cli.specs.Runs.{Progress, RepliesInTurn, has_quit, before_quit, Served, Breaks}
 use Rattle.puzzle_cli.specs.Steps.{Goes}
-use Rattle.puzzle_cli.specs.declared.line_loop.Status.{Status}
-use Rattle.puzzle_cli.specs.declared.line_loop.Status.TheVariants.{More, Quit, Fault}
+use Rattle.puzzle_cli.specs.declared.line_loop.Flow.{Flow}
+use Rattle.puzzle_cli.specs.declared.line_loop.Flow.TheVariants.{More, Quit, Unsent}
 
 -- ---- the lines before quit
 
@@ -41,24 +41,26 @@ module _ (quit : Line → Bool) where
       elim (quit x) as (λ t. (if t then true else has_quit quit xs) ≡ true → (if t then [] else x ∷ before_quit quit (xs ++ ys)) ≡ (if t then [] else x ∷ before_quit quit xs))
       [ true ↦ λ e. refl | false ↦ λ e. ap (λ l. x ∷ l) (before_quit-more xs ys e) ] h
 
--- ---- one run after another
+-- ---- one list of lines after another
 
-module _ {S : Type 0} (reply : S → Line → List ℕ → S → Type 0) where
-  pub Run-append : (xs ys : List Line) (old mid new : S) (v w : List ℕ) → Run reply xs old v mid → Run reply ys mid w new → Run reply (xs ++ ys) old (v ++ w) new
-  Run-append [] ys old mid new v w p q =
-      let from_old : Run reply ys old w new = subst (λ s. Run reply ys s w new) p.1 q in
-      subst (λ l. Run reply ys old l new) (sym (ap (λ l. l ++ w) p.0)) from_old
-  Run-append (x ∷ xs) ys old mid new v w p q =
-      (p.0, p.1, p.2 ++ w, p.3, ap (λ l. l ++ w) p.4 ∙ append_assoc p.0 p.2 w, Run-append xs ys p.1 mid new p.2 w p.5 q)
+module _ {S : Type 0} (reply : ReplyRule S) where
+  pub RepliesInTurn-append : (xs ys : List Line) (old mid new : S) (v w : List ℕ) → RepliesInTurn reply xs old v mid
+      → RepliesInTurn reply ys mid w new → RepliesInTurn reply (xs ++ ys) old (v ++ w) new
+  RepliesInTurn-append [] ys old mid new v w p q =
+      let from_old : RepliesInTurn reply ys old w new = subst (λ s. RepliesInTurn reply ys s w new) p.1 q in
+      subst (λ l. RepliesInTurn reply ys old l new) (sym (ap (λ l. l ++ w) p.0)) from_old
+  RepliesInTurn-append (x ∷ xs) ys old mid new v w p q =
+      (p.0, p.1, p.2 ++ w, p.3, ap (λ l. l ++ w) p.4 ∙ append_assoc p.0 p.2 w, RepliesInTurn-append xs ys p.1 mid new p.2 w p.5 q)
 
-  pub Served-append : (xs ys : List Line) (old mid new : Progress S) → Served reply xs old mid → Served reply ys mid new → Served reply (xs ++ ys) old new
+  pub Served-append : (xs ys : List Line) (old mid new : Progress S) → Served reply xs old mid → Served reply ys mid new
+      → Served reply (xs ++ ys) old new
   Served-append xs ys old mid new p q = (
     p.0 ++ q.0,
-    Run-append xs ys old.session mid.session new.session p.0 q.0 p.1 q.1,
+    RepliesInTurn-append xs ys old.session mid.session new.session p.0 q.0 p.1 q.1,
     Appends-trans old.taken mid.taken new.taken p.0 q.0 p.2 q.2,
   )
 
-module _ {S : Type 0} (reply : S → Line → List ℕ → S → Type 0) (quit : Line → Bool) where
+module _ {S : Type 0} (reply : ReplyRule S) (quit : Line → Bool) where
   -- lines that were answered, and then a reply that didn't go out
   Breaks-after : (xs ys : List Line) (old mid new : Progress S) → has_quit quit xs ≡ false → Served reply xs old mid
       → Breaks reply quit ys mid new → Breaks reply quit (xs ++ ys) old new
@@ -94,21 +96,22 @@ module _ {S : Type 0} (reply : S → Line → List ℕ → S → Type 0) (quit :
 
   -- ---- steps
 
-  pub Goes-after : (status : Status) (xs ys : List Line) (old mid new : Progress S)
-      → Goes reply quit More xs old mid → Goes reply quit status ys mid new → Goes reply quit status (xs ++ ys) old new
+  pub Goes-after : (flow : Flow) (xs ys : List Line) (old mid new : Progress S)
+      → Goes reply quit More xs old mid → Goes reply quit flow ys mid new → Goes reply quit flow (xs ++ ys) old new
   Goes-after More xs ys old mid new p q =
       (has_quit-append quit xs ys p.0 ∙ q.0, q.1, Served-append reply xs ys old mid new p.2 q.2)
   Goes-after Quit xs ys old mid new p q =
       let both : Served reply (xs ++ before_quit quit ys) old new = Served-append reply xs (before_quit quit ys) old mid new p.2 q.2 in
       (has_quit-append quit xs ys p.0 ∙ q.0, q.1, subst (λ l. Served reply l old new) (sym (before_quit-append quit xs ys p.0)) both)
-  Goes-after Fault xs ys old mid new p q = (q.0, Breaks-after xs ys old mid new p.0 p.2 q.1)
+  Goes-after Unsent xs ys old mid new p q = (q.0, Breaks-after xs ys old mid new p.0 p.2 q.1)
 
   pub Quit-more : (xs ys : List Line) (old new : Progress S) → Goes reply quit Quit xs old new → Goes reply quit Quit (xs ++ ys) old new
   Quit-more xs ys old new q =
       (has_quit-more quit xs ys q.0, q.1, subst (λ l. Served reply l old new) (sym (before_quit-more quit xs ys q.0)) q.2)
 
-  pub Fault-more : (xs ys : List Line) (old new : Progress S) → Goes reply quit Fault xs old new → Goes reply quit Fault (xs ++ ys) old new
-  Fault-more xs ys old new q = (q.0, Breaks-more xs ys old new q.1)
+  pub Unsent-more : (xs ys : List Line) (old new : Progress S) → Goes reply quit Unsent xs old new
+      → Goes reply quit Unsent (xs ++ ys) old new
+  Unsent-more xs ys old new q = (q.0, Breaks-more xs ys old new q.1)
 
   -- one line, whose reply went out
   pub Goes-answered : (line : Line) (old new : Progress S) (bytes : List ℕ) → quit line ≡ false → new.failed ≡ false
@@ -118,7 +121,8 @@ module _ {S : Type 0} (reply : S → Line → List ℕ → S → Type 0) (quit :
 
   -- one line, whose reply didn't go out
   pub Goes-unsent : (line : Line) (old new : Progress S) (bytes : List ℕ) (count : ℕ) → new.failed ≡ true
-      → reply old.session line bytes new.session → Appends old.taken new.taken (take count bytes) → Goes reply quit Fault (line ∷ []) old new
+      → reply old.session line bytes new.session → Appends old.taken new.taken (take count bytes)
+      → Goes reply quit Unsent (line ∷ []) old new
   Goes-unsent line old new bytes count fails said went = (
     fails,
     record {
