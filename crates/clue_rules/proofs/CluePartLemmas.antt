@@ -1,5 +1,5 @@
 -- What is known while the clue part of a Towers description is read field by field.
-use Rattle.std.proofs.Common.{◌≡◌, ℕ, ◌+◌, ◌*◌, ◌≤◌, Bool, true, false, ◌==◌, List, [], ◌∷◌, length, map, cond, refl, sym, ap, ◌∙◌, arith, ◌++◌, suc, count_by, take, set, Option, Some, None, append_assoc, append-nil}
+use Rattle.std.proofs.Common.{◌≡◌, ℕ, ◌+◌, ◌*◌, ◌≤◌, true, ◌==◌, List, [], ◌∷◌, length, map, refl, sym, ap, ◌∙◌, arith, ◌++◌, suc, count_by, take, set, Option, Some, None, append_assoc, append-nil}
 use Rattle.std.specs.List.{flat_map, list_all}
 use Rattle.std.proofs.lemmas.List.Splits.{length-slice_split}
 use Rattle.byte_text.specs.Cuts.{before, behind}
@@ -40,10 +40,6 @@ fills_step w part now front rest place clues fills step good small =
           ∙ (sym (append_assoc (take place clues) (clue_in front ∷ []) (map clue_in (fields_left rest)))
           ∙ ap (λ xs. xs ++ map clue_in (fields_left rest)) (sym one.1)));
     }
-
-pub clue_read : (test : Bool) (value got : ℕ) → Some got ≡ cond test (Some value) None → (test ≡ true) × (got ≡ value)
-clue_read true value got is = (refl, cc)
-clue_read false value got is = cc
 
 -- clues behind the first, each behind its separator
 abbrev pub slashed : List ℕ → List ℕ

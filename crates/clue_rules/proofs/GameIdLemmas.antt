@@ -14,11 +14,10 @@ use Rattle.std.proofs.Common.{◌≡◌, IfOk, ◌≢◌, ℕ, ◌+◌, ◌^◌,
 use Rattle.std.specs.List.{AllByRecursion, Contains, list_any}
 use Rattle.std.specs.Fmt.{decimal}
 use Rattle.std.proofs.lemmas.List.Elements.{All-contains}
-use borrow.Author.Tests.{eqb-true, eqb-false, apart_eqb}
+use Rattle.std.proofs.lemmas.Bool.{or_cases, eqb-true, eqb-false, ne_eqb}
 use denote.Bor.{Bor}
 use Rattle.byte_text.proofs.DecimalLaws.{number_taken, number_again}
 use Rattle.byte_text.proofs.ReadingLaws.{bind_taken, bind_again}
-use Rattle.clue_rules.specs.Laws.JoinedTests.{one_from_or}
 use Rattle.clue_rules.proofs.ParameterLemmas.{params_taken, params_again}
 use Rattle.byte_text.specs.Cuts.{behind}
 use Rattle.clue_rules.specs.IdFaults.{SparesMemory}
@@ -54,7 +53,7 @@ split_again (b ∷ bs) separator rest none is =
 -- parameters have no separator in their text
 digit_no_separator : (w : ℕ) → w ≤ 9 → is_separator (48 + w) ≡ false
 digit_no_separator w small =
-    rw (apart_eqb (48 + w) 58 (omega arith), apart_eqb (48 + w) 35 (omega arith), apart_eqb (48 + w) 33 (omega arith)) refl
+    rw (ne_eqb (48 + w) 58 (omega arith), ne_eqb (48 + w) 35 (omega arith), ne_eqb (48 + w) 33 (omega arith)) refl
 
 letter_no_separator : (letters : List ℕ) (letter : Option ℕ) → LacksSeparators letters → IfSome letter (λ l. Contains letters l) → NoSeparators (letter_part letter)
 letter_no_separator letters None lacks member = tt
@@ -94,10 +93,10 @@ behind_taken p (b ∷ bs) parts =
 -- the separator before a description
 colon : (b : ℕ) → is_separator b ≡ true → b ≢ 35 → b ≢ 33 → b ≡ 58
 colon b is not_hash not_bang =
-    elim (one_from_or (b == 58) ((b == 35) || (b == 33)) is) [
+    elim (or_cases (b == 58) ((b == 35) || (b == 33)) is) [
       | inl same ↦ eqb-true b 58 same
       | inr other ↦
-          elim (one_from_or (b == 35) (b == 33) other) [
+          elim (or_cases (b == 35) (b == 33) other) [
             | inl hash ↦ absurd (not_hash (eqb-true b 35 hash))
             | inr bang ↦ absurd (not_bang (eqb-true b 33 bang))
           ]

@@ -3,12 +3,11 @@ use Rattle.std.proofs.Common.{◌≡◌, ℕ, ◌+◌, ◌-◌, ◌*◌, ◌<◌
 use Rattle.std.specs.List.{flat_map}
 use Rattle.std.proofs.lemmas.List.Elements.{All-nil, All-cons, All-replicate, All-head}
 use Rattle.std.proofs.lemmas.List.{length-take-le}
-use borrow.Author.Tests.{le-ltb, lt-ltb}
+use Rattle.std.proofs.lemmas.Bool.{and_parts, le-ltb, lt-ltb}
 use Rattle.clue_rules.specs.declared.id_fault.IdFault.TheVariants.{TooFew, TooMany}
 use Rattle.clue_rules.specs.IdFaults.{exactly}
 use Rattle.clue_rules.specs.Inner.Filled.{IsFilledTo}
 use Rattle.clue_rules.specs.TowersText.{is_square_byte, is_square_part, squares_of}
-use Rattle.clue_rules.specs.Laws.JoinedTests.{both_from_and}
 use Rattle.clue_rules.specs.Laws.Counted.{counted_again}
 use Rattle.clue_rules.proofs.FilledLemmas.{filled_begin}
 use Rattle.clue_rules.specs.Laws.SquarePart.{byte_taken, squares_of_underscore, squares_of_letter, squares_of_digit}
@@ -38,12 +37,12 @@ givens_begin w part readable = record { filled = filled_begin (w * w); readable 
 
 pub givens_byte : (w b : ℕ) (part bs : List ℕ) (cell : ℕ) (numbers : List ℕ) → w ≤ 9 → FillsGivens w part (b ∷ bs) cell numbers → All (λ n. n ≤ w) (squares_of b)
 givens_byte w b part bs cell numbers small fills =
-    byte_within w b bs small (both_from_and (is_square_byte w b bs) (is_square_part w bs) fills.readable).0
+    byte_within w b bs small (and_parts (is_square_byte w b bs) (is_square_part w bs) fills.readable).0
 
 pub givens_step : (w b : ℕ) (part bs : List ℕ) (cell next : ℕ) (numbers more : List ℕ) → FillsGivens w part (b ∷ bs) cell numbers → IsFilledTo (w * w) next more → take next more ≡ take cell numbers ++ squares_of b → FillsGivens w part bs next more
 givens_step w b part bs cell next numbers more fills filled taken = record {
   filled = filled;
-  readable = (both_from_and (is_square_byte w b bs) (is_square_part w bs) fills.readable).1;
+  readable = (and_parts (is_square_byte w b bs) (is_square_part w bs) fills.readable).1;
   squares = fills.squares ∙ (sym (append_assoc (take cell numbers) (squares_of b) (flat_map squares_of bs)) ∙ ap (λ xs. xs ++ flat_map squares_of bs) (sym taken));
 }
 

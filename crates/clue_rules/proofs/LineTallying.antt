@@ -1,6 +1,6 @@
 -- The tally of a line's sets, set by set, and what it says of the numbers that they can hold.
-use Rattle.std.proofs.Common.{◌≡◌, ◌≢◌, ℕ, ◌+◌, ◌^◌, ◌<◌, ◌≤◌, ◌↔◌, ◌⊎◌, Bool, true, false, not, ◌&&◌, ◌||◌, leb, List, length, get_or, set, inl, inr, refl, sym, ap, ◌∙◌, subst, arith, bit_and, bit_or}
-use Rattle.std.proofs.lemmas.Bool.{cases_Bool, cases_lt, cases_eq, cases_order, both_ways, false_from_ne_true, and_parts, and_from, le-leb, leb-true, or_left, or_right}
+use Rattle.std.proofs.Common.{◌≡◌, ◌≢◌, ℕ, ◌+◌, ◌^◌, ◌<◌, ◌≤◌, ◌↔◌, ◌⊎◌, true, false, not, ◌&&◌, leb, List, length, get_or, set, inl, inr, sym, ap, ◌∙◌, subst, arith, bit_and, bit_or}
+use Rattle.std.proofs.lemmas.Bool.{cases_Bool, cases_lt, cases_eq, cases_order, both_ways, false_from_ne_true, and_parts, and_from, le-leb, leb-true, or_left, or_right, not-true, or_cases}
 use Rattle.std.proofs.Math.ListN.{length-set}
 use Rattle.std.proofs.lemmas.List.{get_or-set_same, get_or-set_other}
 use Rattle.std.proofs.lemmas.Nat.{and_le_r}
@@ -184,10 +184,6 @@ displaced_goes sets w t k v other h inside apart low high one stays =
 
 -- ---- the values that are kept
 
-not-true : (b : Bool) → not b ≡ true → b ≡ false
-not-true true e = sym e
-not-true false e = refl
-
 -- the values of the set that have their one place in it
 pub record IsForced (t : Tally) (set forced : ℕ) : Type 0 where
   pub is : (u : ℕ) → has_mark forced u ≡ (has_mark (bit_and set t.once) u && not (has_mark t.twice u))
@@ -307,13 +303,9 @@ clash_twice t set single s small shared =
 
 or_either : (m n v : ℕ) → (has_mark (bit_or m n) v ≡ true) ↔ ((has_mark m v ≡ true) ⊎ (has_mark n v ≡ true))
 or_either m n v = (
-  λ e. one_or (has_mark m v) (has_mark n v) (sym (mark-or m n v) ∙ e),
+  λ e. or_cases (has_mark m v) (has_mark n v) (sym (mark-or m n v) ∙ e),
   λ h. mark-or m n v ∙ elim h [ inl first ↦ or_left (has_mark m v) (has_mark n v) first | inr second ↦ or_right (has_mark m v) (has_mark n v) second ],
 )
-  where
-    one_or : (p q : Bool) → (p || q) ≡ true → (p ≡ true) ⊎ (q ≡ true)
-    one_or true q e = inl refl
-    one_or false q e = inr e
 
 pub counted_more : (t u : Tally) (set single : ℕ) → IsSinglesOf set single → set ≢ 0 → set < 2 ^ 16 → bit_and t.singles single ≡ 0 → u.once ≡ bit_or t.once set → u.twice ≡ bit_or t.twice (bit_and t.once set) → u.singles ≡ bit_or t.singles single → IsCounted t set u
 counted_more t u set single s some small apart once twice singles =

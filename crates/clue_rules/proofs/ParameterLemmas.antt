@@ -2,13 +2,12 @@
 use Rattle.std.proofs.Common.{◌≡◌, ℕ, ◌+◌, ◌-◌, Bool, true, false, ◌==◌, ◌&&◌, not, nat_le, List, [], ◌∷◌, Option, Some, None, IfSome, Result, Ok, Err, IfOk, cond, refl, sym, ap, ◌∙◌, subst, arith}
 use Rattle.std.specs.List.{Contains, list_any, slice_index_or}
 use Rattle.std.proofs.lemmas.List.Folds.{Any-from_list_any, list_any_at}
-use borrow.Author.Tests.{eqb-true, eq-eqb, leb-true, le-leb}
+use Rattle.std.proofs.lemmas.Bool.{and_parts, and_from, eqb-true, eq-eqb, leb-true, le-leb, and_right}
 use Rattle.byte_text.specs.Decimals.{begins_digit}
 use Rattle.clue_rules.specs.declared.id_fault.IdFault.{IdFault}
 use Rattle.clue_rules.specs.declared.id_fault.IdFault.TheVariants.{BadSize, BadLetter, AdjacentMode, BadParams}
 use Rattle.clue_rules.specs.declared.params.Params.{Params}
 use Rattle.clue_rules.specs.Parameters.{letter_part, IsParamText, if_no_more, letter_at, behind_size, is_size, params_at}
-use Rattle.clue_rules.specs.Laws.JoinedTests.{both_from_and, and_from_both}
 
 contains_from_any : (letters : List ℕ) (letter : ℕ) → list_any (λ l. l == letter) letters ≡ true → Contains letters letter
 contains_from_any letters letter found =
@@ -60,8 +59,8 @@ params_taken letters has_adjacent [] p = λ read. cc
 params_taken letters has_adjacent (b ∷ bs) p =
     elim (is_size b bs) as (λ t. is_size b bs ≡ t → cond t (behind_size letters has_adjacent (b - 48) bs) (Err BadSize) ≡ Ok p → IsParamText letters p (b ∷ bs)) [
       | true ↦ λ is read.
-          let first = both_from_and (nat_le 51 b) (nat_le b 57 && not (begins_digit bs)) is in
-          let second = both_from_and (nat_le b 57) (not (begins_digit bs)) first.1 in
+          let first = and_parts (nat_le 51 b) (nat_le b 57 && not (begins_digit bs)) is in
+          let second = and_parts (nat_le b 57) (not (begins_digit bs)) first.1 in
           let low = leb-true 51 b first.0 in
           let high = leb-true b 57 second.0 in
           let taken = size_taken letters has_adjacent (b - 48) bs p read in
@@ -79,14 +78,10 @@ params_found letters has_adjacent text (Ok p) is = params_taken letters has_adja
 params_found letters has_adjacent text (Err e) is = tt
 
 -- no adjacent mode is asked for
-and_false_second : (p : Bool) → (p && false) ≡ false
-and_false_second true = refl
-and_false_second false = refl
-
 letters_again : (letters : List ℕ) (has_adjacent : Bool) (w : ℕ) (letter : Option ℕ) → IfSome letter (λ l. Contains letters l) → behind_size letters has_adjacent w (letter_part letter) ≡ Ok (record { size = w; letter = letter })
 letters_again letters has_adjacent w None member = refl
 letters_again letters has_adjacent w (Some letter) member =
-    rw (and_false_second has_adjacent, any_from_contains letters letter member) refl
+    rw (and_right has_adjacent false refl, any_from_contains letters letter member) refl
 
 letter_part_begins : (letter : Option ℕ) → begins_digit (letter_part letter) ≡ false
 letter_part_begins None = refl
@@ -99,7 +94,7 @@ params_again letters has_adjacent text p h =
     let low = params.smallest in
     let high = params.largest in
     let ends : not (begins_digit (letter_part p.letter)) ≡ true = ap not (letter_part_begins p.letter) in
-    let bounds = and_from_both (nat_le (48 + p.size) 57) (not (begins_digit (letter_part p.letter))) (le-leb (48 + p.size) 57 (omega arith)) ends in
-    let is : is_size (48 + p.size) (letter_part p.letter) ≡ true = and_from_both (nat_le 51 (48 + p.size)) _ (le-leb 51 (48 + p.size) (omega arith)) bounds in
+    let bounds = and_from (nat_le (48 + p.size) 57) (not (begins_digit (letter_part p.letter))) (le-leb (48 + p.size) 57 (omega arith)) ends in
+    let is : is_size (48 + p.size) (letter_part p.letter) ≡ true = and_from (nat_le 51 (48 + p.size)) _ (le-leb 51 (48 + p.size) (omega arith)) bounds in
     let size : 48 + p.size - 48 ≡ p.size = omega arith in
     ap (params_at letters has_adjacent) h.text_is ∙ rw (is, size) (letters_again letters has_adjacent p.size p.letter params.letter)

@@ -4,7 +4,6 @@ pub mod Contradiction
 pub mod Counted
 pub mod GameIds
 pub mod GoodPieces
-pub mod JoinedTests
 pub mod KeptItems
 pub mod Letters
 pub mod Pieces

@@ -3,23 +3,22 @@ use Rattle.std.proofs.Common.{◌≡◌, ◌≢◌, ℕ, ◌+◌, ◌-◌, ◌*�
 use Rattle.std.specs.List.{AllByRecursion, list_all, join_with_byte}
 use Rattle.std.proofs.lemmas.List.{length-map}
 use Rattle.std.proofs.lemmas.List.Splits.{join_with_byte-slice_split}
-use borrow.Author.Tests.{eqb-true, eqb-false, apart_eqb, leb-true, le-leb}
+use Rattle.std.proofs.lemmas.Bool.{and_parts, and_from, eqb-true, eqb-false, ne_eqb, leb-true, le-leb}
 use Rattle.byte_text.specs.Cuts.{Lacks}
 use Rattle.byte_text.proofs.CutLaws.{lacks_join, pieces_join}
 use Rattle.byte_text.proofs.ReadingLaws.{bind_taken, bind_again}
 use Rattle.clue_rules.specs.declared.id_fault.IdFault.TheVariants.{BadClue}
 use Rattle.clue_rules.specs.IdFaults.{exactly}
 use Rattle.clue_rules.specs.TowersText.{clue_field, clue_part, fields, is_clue_field, clue_in, clues_in, clues_at}
-use Rattle.clue_rules.specs.Laws.JoinedTests.{both_from_and, and_from_both}
 use Rattle.clue_rules.specs.Laws.Counted.{counted_taken, counted_again}
 
 clue_field_some : (clue : ℕ) → clue ≢ 0 → clue_field clue ≡ (48 + clue) ∷ []
-clue_field_some clue some = rw (apart_eqb clue 0 some) refl
+clue_field_some clue some = rw (ne_eqb clue 0 some) refl
 
 field_taken : (w : ℕ) (f : List ℕ) → is_clue_field w f ≡ true → (clue_field (clue_in f) ≡ f) × (clue_in f ≤ w)
 field_taken w [] is = (refl, omega arith)
 field_taken w (b ∷ []) is =
-    let tests = both_from_and (nat_le 49 b) (nat_le b (48 + w)) is in
+    let tests = and_parts (nat_le 49 b) (nat_le b (48 + w)) is in
     let low = leb-true 49 b tests.0 in
     let high = leb-true b (48 + w) tests.1 in
     let some : b - 48 ≢ 0 = omega arith in
@@ -33,13 +32,13 @@ field_again w clue within =
       | true ↦ λ none. let e = eqb-true clue 0 none in (refl, omega arith)
       | false ↦ λ some.
           let apart = eqb-false clue 0 some in
-          (and_from_both (nat_le 49 (48 + clue)) (nat_le (48 + clue) (48 + w)) (le-leb 49 (48 + clue) (omega arith)) (le-leb (48 + clue) (48 + w) (omega arith)), omega arith)
+          (and_from (nat_le 49 (48 + clue)) (nat_le (48 + clue) (48 + w)) (le-leb 49 (48 + clue) (omega arith)) (le-leb (48 + clue) (48 + w) (omega arith)), omega arith)
     ] refl
 
 fields_taken : (w : ℕ) (fs : List (List ℕ)) → list_all (is_clue_field w) fs ≡ true → (map clue_field (map clue_in fs) ≡ fs) × AllByRecursion (λ clue. clue ≤ w) (map clue_in fs)
 fields_taken w [] all = (refl, tt)
 fields_taken w (f ∷ fs) all =
-    let tests = both_from_and (is_clue_field w f) (list_all (is_clue_field w) fs) all in
+    let tests = and_parts (is_clue_field w f) (list_all (is_clue_field w) fs) all in
     let one = field_taken w f tests.0 in
     let more = fields_taken w fs tests.1 in
     let whole : clue_field (clue_in f) ∷ map clue_field (map clue_in fs) ≡ f ∷ fs = let e = one.0 in let es = more.0 in cc in
@@ -51,7 +50,7 @@ fields_again w (clue ∷ clues) within =
     let one = field_again w clue within.0 in
     let more = fields_again w clues within.1 in
     let whole : clue_in (clue_field clue) ∷ map clue_in (map clue_field clues) ≡ clue ∷ clues = let e = one.1 in let es = more.1 in cc in
-    (and_from_both _ _ one.0 more.0, whole)
+    (and_from _ _ one.0 more.0, whole)
 
 -- no field has a byte that is not a digit
 field_lacks : (c clue : ℕ) → c < 49 → Lacks c (clue_field clue)

@@ -1,6 +1,6 @@
 -- A list of so many members.
 use Rattle.std.proofs.Common.{◌≡◌, ℕ, true, false, nat_lt, List, length, Ok, Err, cond, refl, arith}
-use borrow.Author.Tests.{ltb-false, le-ltb}
+use Rattle.std.proofs.lemmas.Bool.{ltb-false, le-ltb}
 use Rattle.clue_rules.specs.declared.id_fault.IdFault.TheVariants.{TooFew, TooMany}
 use Rattle.clue_rules.specs.IdFaults.{exactly}
 

@@ -2,7 +2,7 @@
 use Rattle.std.proofs.Common.{◌≡◌, ℕ, ◌*◌, ◌<◌, ◌≤◌, ◌⊎◌, Bool, true, false, cond, ltb, not, List, [], ◌∷◌, ◌++◌, length, map, Some, is_some, unwrap_or, Result, Ok, Err, refl, sym, ap, ◌∙◌, inl, inr, arith}
 use Rattle.std.specs.List.{list_all, range_with_len, join_with_byte, Contains, AllByRecursion}
 use Rattle.std.specs.Option.{IsSome}
-use Rattle.std.proofs.lemmas.Bool.{le-ltb, ltb-false}
+use Rattle.std.proofs.lemmas.Bool.{le-ltb, ltb-false, and_parts}
 use Rattle.std.proofs.lemmas.List.{length-map}
 use Rattle.std.proofs.lemmas.List.Elements.{All-from_recursion}
 use Rattle.std.proofs.lemmas.List.FromFn.{length-map-range_with_len}
@@ -17,7 +17,6 @@ use Rattle.clue_rules.specs.Unequal.{UnequalValue, IsUnequal, sign_count}
 use Rattle.clue_rules.specs.UnequalText.{Piece, letter_of, neighbour, piece_text, without_empty_last, pieces_of, number_in, has_number, direction_of, has_letters, is_inside, points_inside, contradicts, puzzle_in, puzzle_at}
 use Rattle.clue_rules.specs.Laws.Pieces.{comma_pieces, pieces-join, join-push, dropped_last, drop-push, pieces-push}
 use Rattle.clue_rules.specs.Laws.Letters.{direction_of-letter, contains_here, contains_there, contains_cases, number_in-piece, letters_piece, lacks_comma, read_piece, read_piece_written, number_small}
-use Rattle.clue_rules.specs.Laws.JoinedTests.{both_from_and}
 
 -- reading that succeeds
 
@@ -66,8 +65,8 @@ read_ok w (Err e) v h = absurd (let f : Err e ≡ Ok v = h in cc)
 pub read_pieces : (w : ℕ) (bytes : List (List ℕ)) → list_all (has_number w) bytes ≡ true → list_all has_letters bytes ≡ true → map piece_text (map (read_piece w) bytes) ≡ bytes
 read_pieces w [] numbers letters = refl
 read_pieces w (p ∷ ps) numbers letters =
-    let number = both_from_and (has_number w p) (list_all (has_number w) ps) numbers in
-    let letter = both_from_and (has_letters p) (list_all has_letters ps) letters in
+    let number = and_parts (has_number w p) (list_all (has_number w) ps) numbers in
+    let letter = and_parts (has_letters p) (list_all has_letters ps) letters in
     rw (read_piece_written w p number.0 letter.0, read_pieces w ps number.1 letter.1) refl
 
 pub map-number : (w : ℕ) (bytes : List (List ℕ)) → map (λ p. p.number) (map (read_piece w) bytes) ≡ map (λ p. unwrap_or (number_in w p) 0) bytes
@@ -93,7 +92,7 @@ read_valid w bytes small large count = record {
 pub letters_inside : (w cell : ℕ) (ds : List Direction) (d : Direction) → list_all (is_inside w cell) (map letter_of ds) ≡ true → Contains ds d → IsSome (neighbour w cell d)
 letters_inside w cell [] d e h = absurd (omega (arith, h.1))
 letters_inside w cell (x ∷ ds) d e h =
-    let parts = both_from_and (is_inside w cell (letter_of x)) (list_all (is_inside w cell) (map letter_of ds)) e in
+    let parts = and_parts (is_inside w cell (letter_of x)) (list_all (is_inside w cell) (map letter_of ds)) e in
     elim (contains_cases d x ds h) [
       | inl here ↦
           let known : direction_of (letter_of d) ≡ Some d = direction_of-letter d in

@@ -1,7 +1,7 @@
 -- Letters and numbers as the bytes of a piece: what is read of a piece that was written, and what is written of one that was read.
 use Rattle.std.proofs.Common.{◌≡◌, ◌≢◌, ℕ, zero, suc, ◌+◌, ◌-◌, ◌<◌, ◌≤◌, ◌⊎◌, Bool, true, false, cond, eqb, leb, not, ◌&&◌, ◌||◌, List, [], ◌∷◌, length, get_or, drop, map, Option, Some, None, is_some, unwrap_or, refl, sym, ap, ◌∙◌, inl, inr, arith}
 use Rattle.std.specs.List.{list_all, list_any, filter, filter_map, Contains}
-use Rattle.std.proofs.lemmas.Bool.{eq-eqb, eqb-true, false≢true}
+use Rattle.std.proofs.lemmas.Bool.{eq-eqb, eqb-true, false≢true, and_parts}
 use Rattle.std.proofs.lemmas.Bool.Decides.{nat_tests}
 use Rattle.byte_text.specs.Cuts.{Lacks}
 use Rattle.byte_text.specs.Decimals.{begins_digit}
@@ -9,7 +9,6 @@ use Rattle.clue_rules.specs.declared.unequal.direction.Direction.{Direction}
 use Rattle.clue_rules.specs.declared.unequal.direction.Direction.TheVariants.{Up, Right, Down, Left}
 use Rattle.clue_rules.specs.UnequalText.{Piece, letter_of, piece_text, directions_at, number_in, has_number, direction_of, has_letters, piece_at, says}
 use Rattle.clue_rules.specs.Laws.RangeTests.{some_if}
-use Rattle.clue_rules.specs.Laws.JoinedTests.{both_from_and}
 
 -- directions and letters
 
@@ -165,7 +164,7 @@ read_piece w bytes = record {
 
 letters_written : (bs : List ℕ) → list_all (λ b. is_some (direction_of b)) bs ≡ true → map letter_of (filter_map direction_of bs) ≡ bs
 letters_written [] e = refl
-letters_written (b ∷ bs) e = go (λ h. letters_written bs h) (direction_of b) refl (both_from_and (is_some (direction_of b)) (list_all (λ x. is_some (direction_of x)) bs) e)
+letters_written (b ∷ bs) e = go (λ h. letters_written bs h) (direction_of b) refl (and_parts (is_some (direction_of b)) (list_all (λ x. is_some (direction_of x)) bs) e)
   where
     go : (list_all (λ x. is_some (direction_of x)) bs ≡ true → map letter_of (filter_map direction_of bs) ≡ bs) → (o : Option Direction) → direction_of b ≡ o → (is_some (direction_of b) ≡ true) × (list_all (λ x. is_some (direction_of x)) bs ≡ true) → map letter_of (filter_map direction_of (b ∷ bs)) ≡ b ∷ bs
     go rest None none parts = absurd (false≢true (sym (ap is_some none) ∙ parts.0))
@@ -177,8 +176,8 @@ number_written w b bs e = go (leb 48 b && leb b (48 + w) && not (begins_digit bs
     go : (t : Bool) → (leb 48 b && leb b (48 + w) && not (begins_digit bs)) ≡ t → is_some (cond t (Some (b - 48)) None) ≡ true → 48 + unwrap_or (cond t (Some (b - 48)) None) 0 ≡ b
     go false h e = absurd (false≢true e)
     go true h e =
-        let front = both_from_and (leb 48 b && leb b (48 + w)) (not (begins_digit bs)) h in
-        let low = both_from_and (leb 48 b) (leb b (48 + w)) front.0 in
+        let front = and_parts (leb 48 b && leb b (48 + w)) (not (begins_digit bs)) h in
+        let low = and_parts (leb 48 b) (leb b (48 + w)) front.0 in
         let more : 48 ≤ b = grind (arith, nat_tests, low.0) in
         omega arith
 
@@ -193,7 +192,7 @@ number_small w (b ∷ bs) = go (leb 48 b && leb b (48 + w) && not (begins_digit 
     go : (t : Bool) → (leb 48 b && leb b (48 + w) && not (begins_digit bs)) ≡ t → unwrap_or (cond t (Some (b - 48)) None) 0 ≤ w
     go false h = omega arith
     go true h =
-        let front = both_from_and (leb 48 b && leb b (48 + w)) (not (begins_digit bs)) h in
-        let high = both_from_and (leb 48 b) (leb b (48 + w)) front.0 in
+        let front = and_parts (leb 48 b && leb b (48 + w)) (not (begins_digit bs)) h in
+        let high = and_parts (leb 48 b) (leb b (48 + w)) front.0 in
         let less : b ≤ 48 + w = grind (arith, nat_tests, high.1) in
         omega arith

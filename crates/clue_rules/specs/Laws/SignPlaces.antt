@@ -3,6 +3,7 @@ use Rattle.std.proofs.Common.{◌≡◌, ℕ, ◌+◌, ◌-◌, ◌*◌, ◌/◌
 use Rattle.std.proofs.Math.Nat.{div-lt_iff_lt-mul, mod-lt, mul_comm}
 use Rattle.std.proofs.lemmas.Nat.{div-mul-add, mod-mul-add, mul-add-lt}
 use Rattle.std.proofs.lemmas.Bool.{lt-ltb, le-ltb, ltb-true, ltb-false, eq-eqb, ne_eqb, eqb-false, cases_lt}
+use Rattle.std.proofs.lemmas.Option.{cond_some}
 use Rattle.clue_rules.specs.declared.unequal.direction.Direction.{Direction}
 use Rattle.clue_rules.specs.declared.unequal.direction.Direction.TheVariants.{Up, Right, Down, Left}
 use Rattle.clue_rules.specs.Unequal.{pairs_across, sign_count, IsAcross, IsDown, IsBetween, first_side, second_side, sign_between}
@@ -147,10 +148,6 @@ some_else : (t : Bool) (x y : ℕ) → cond t None (Some x) ≡ Some y → (t �
 some_else true x y e = absurd (cc)
 some_else false x y e = (refl, cc)
 
-some_then : (t : Bool) (x y : ℕ) → cond t (Some x) None ≡ Some y → (t ≡ true) × (x ≡ y)
-some_then true x y e = (refl, cc)
-some_then false x y e = absurd (cc)
-
 -- a square and its neighbour in a direction: the direction and the sign between them
 pub record IsTowards (w a b : ℕ) (d : Direction) : Type 0 where
   pub sign : ℕ
@@ -196,7 +193,7 @@ towards w a b Right small inside e =
     let room : a % w + 1 < w = omega (arith, eqb-false (a % w + 1) w there.0) in
     (towards_across w a b small inside room there.1).0
 towards w a b Down small inside e =
-    let there = some_then (ltb (a + w) (w * w)) (a + w) b e in
+    let there = cond_some (ltb (a + w) (w * w)) (a + w) b e in
     let fits : a + w < w * w = ltb-true (a + w) (w * w) there.0 in
     (towards_down w a b small (omega (arith, there.1)) there.1).0
 towards w a b Left small inside e =

@@ -1,12 +1,11 @@
 -- The square part of a Towers description: what is read has the grammar, and what has the grammar is read.
 use Rattle.std.proofs.Common.{◌≡◌, ℕ, zero, suc, ◌+◌, ◌-◌, ◌*◌, ◌<◌, ◌≤◌, true, false, ◌==◌, ◌&&◌, ◌||◌, not, nat_le, List, [], ◌∷◌, ◌++◌, length, replicate, Ok, Err, ◌⊎◌, inl, inr, cond, refl, sym, ap, ◌∙◌, subst, arith}
 use Rattle.std.specs.List.{AllByRecursion, flat_map}
-use borrow.Author.Tests.{eqb-true, eq-eqb, leb-true, le-leb, lt-leb, not-true}
+use Rattle.std.proofs.lemmas.Bool.{and_parts, and_from, or_cases, or_right, eqb-true, eq-eqb, leb-true, le-leb, lt-leb, not-true}
 use Rattle.byte_text.specs.Decimals.{is_digit, begins_digit}
 use Rattle.clue_rules.specs.declared.id_fault.IdFault.TheVariants.{BadSquares}
 use Rattle.clue_rules.specs.IdFaults.{exactly}
 use Rattle.clue_rules.specs.TowersText.{IsSquareText, is_blank_letter, is_square_byte, is_square_part, squares_of, givens_at}
-use Rattle.clue_rules.specs.Laws.JoinedTests.{both_from_and, and_from_both, one_from_or, or_from_second}
 use Rattle.clue_rules.specs.Laws.Counted.{counted_taken, counted_again}
 
 -- what a byte of a square part may be
@@ -14,7 +13,7 @@ abbrev pub SquareByte : ℕ → ℕ → List ℕ → Type 0
 SquareByte w b bs = (b ≡ 95) ⊎ ((97 ≤ b) × (b ≤ 122)) ⊎ ((49 ≤ b) × (b ≤ 48 + w) × (begins_digit bs ≡ false))
 
 letter_true : (b : ℕ) → 97 ≤ b → b ≤ 122 → is_blank_letter b ≡ true
-letter_true b low high = and_from_both (nat_le 97 b) (nat_le b 122) (le-leb 97 b low) (le-leb b 122 high)
+letter_true b low high = and_from (nat_le 97 b) (nat_le b 122) (le-leb 97 b low) (le-leb b 122 high)
 
 letter_false : (b : ℕ) → b < 97 → is_blank_letter b ≡ false
 letter_false b low = rw (lt-leb 97 b low) refl
@@ -22,16 +21,16 @@ letter_false b low = rw (lt-leb 97 b low) refl
 pub byte_taken : (w b : ℕ) (bs : List ℕ) → is_square_byte w b bs ≡ true → SquareByte w b bs
 byte_taken w b bs is =
     let digit = nat_le 49 b && (nat_le b (48 + w) && not (begins_digit bs)) in
-    elim (one_from_or (b == 95) (is_blank_letter b || digit) is) [
+    elim (or_cases (b == 95) (is_blank_letter b || digit) is) [
       | inl same ↦ inl (eqb-true b 95 same)
       | inr other ↦
-          elim (one_from_or (is_blank_letter b) digit other) [
+          elim (or_cases (is_blank_letter b) digit other) [
             | inl letter ↦
-                let bounds = both_from_and (nat_le 97 b) (nat_le b 122) letter in
+                let bounds = and_parts (nat_le 97 b) (nat_le b 122) letter in
                 inr (inl (leb-true 97 b bounds.0, leb-true b 122 bounds.1))
             | inr is_given ↦
-                let first = both_from_and (nat_le 49 b) (nat_le b (48 + w) && not (begins_digit bs)) is_given in
-                let second = both_from_and (nat_le b (48 + w)) (not (begins_digit bs)) first.1 in
+                let first = and_parts (nat_le 49 b) (nat_le b (48 + w) && not (begins_digit bs)) is_given in
+                let second = and_parts (nat_le b (48 + w)) (not (begins_digit bs)) first.1 in
                 inr (inr (leb-true 49 b first.0, leb-true b (48 + w) second.0, not-true (begins_digit bs) second.1))
           ]
     ]
@@ -44,13 +43,13 @@ squares_of_letter b low high = rw (letter_true b low high) refl
 
 pub squares_of_digit : (b : ℕ) → 48 ≤ b → b ≤ 57 → squares_of b ≡ (b - 48) ∷ []
 squares_of_digit b low high =
-    let digit : is_digit b ≡ true = and_from_both (nat_le 48 b) (nat_le b 57) (le-leb 48 b low) (le-leb b 57 high) in
+    let digit : is_digit b ≡ true = and_from (nat_le 48 b) (nat_le b 57) (le-leb 48 b low) (le-leb b 57 high) in
     rw (letter_false b (omega arith), digit) refl
 
 pub squares_taken : (w : ℕ) (bs : List ℕ) → w ≤ 9 → is_square_part w bs ≡ true → IsSquareText w bs (flat_map squares_of bs)
 squares_taken w [] small is = refl
 squares_taken w (b ∷ bs) small is =
-    let tests = both_from_and (is_square_byte w b bs) (is_square_part w bs) is in
+    let tests = and_parts (is_square_byte w b bs) (is_square_part w bs) is in
     let more = squares_taken w bs small tests.1 in
     let rest = flat_map squares_of bs in
     elim (byte_taken w b bs tests.0) [
@@ -72,12 +71,12 @@ byte_again w b bs byte =
       | inl same ↦ rw (eq-eqb b 95 same) refl
       | inr other ↦
           elim other [
-            | inl letter ↦ or_from_second (b == 95) (is_blank_letter b || digit) (rw (letter_true b letter.0 letter.1) refl)
+            | inl letter ↦ or_right (b == 95) (is_blank_letter b || digit) (rw (letter_true b letter.0 letter.1) refl)
             | inr given ↦
                 let ends : not (begins_digit bs) ≡ true = rw given.2 refl in
-                let bounds = and_from_both (nat_le b (48 + w)) (not (begins_digit bs)) (le-leb b (48 + w) given.1) ends in
-                let is_given = and_from_both (nat_le 49 b) (nat_le b (48 + w) && not (begins_digit bs)) (le-leb 49 b given.0) bounds in
-                or_from_second (b == 95) (is_blank_letter b || digit) (or_from_second (is_blank_letter b) digit is_given)
+                let bounds = and_from (nat_le b (48 + w)) (not (begins_digit bs)) (le-leb b (48 + w) given.1) ends in
+                let is_given = and_from (nat_le 49 b) (nat_le b (48 + w) && not (begins_digit bs)) (le-leb 49 b given.0) bounds in
+                or_right (b == 95) (is_blank_letter b || digit) (or_right (is_blank_letter b) digit is_given)
           ]
     ]
 
@@ -87,21 +86,21 @@ squares_again w (b ∷ bs) squares small text =
     elim text [
       | inl underscore ↦
           let more = squares_again w bs squares small underscore.1 in
-          (and_from_both _ _ (byte_again w b bs (inl underscore.0)) more.0, rw (squares_of_underscore b underscore.0) more.1)
+          (and_from _ _ (byte_again w b bs (inl underscore.0)) more.0, rw (squares_of_underscore b underscore.0) more.1)
       | inr other ↦
           elim other [
             | inl letter ↦
                 let rest = letter.2.0 in
                 let more = squares_again w bs rest small letter.2.2 in
                 let here = squares_of_letter b letter.0 letter.1 in (
-                  and_from_both _ _ (byte_again w b bs (inr (inl (letter.0, letter.1)))) more.0,
+                  and_from _ _ (byte_again w b bs (inr (inl (letter.0, letter.1)))) more.0,
                   ap (λ xs. xs ++ flat_map squares_of bs) here ∙ (ap (λ xs. replicate (b - 96) 0 ++ xs) more.1 ∙ sym letter.2.1),
                 )
             | inr given ↦
                 let rest = given.3.0 in
                 let more = squares_again w bs rest small given.3.2 in
                 let here = squares_of_digit b (omega arith) (omega arith) in (
-                  and_from_both _ _ (byte_again w b bs (inr (inr (given.0, given.1, given.2)))) more.0,
+                  and_from _ _ (byte_again w b bs (inr (inr (given.0, given.1, given.2)))) more.0,
                   ap (λ xs. xs ++ flat_map squares_of bs) here ∙ (ap (λ xs. (b - 48) ∷ xs) more.1 ∙ sym given.3.1),
                 )
           ]

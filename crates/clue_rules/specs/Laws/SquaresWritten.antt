@@ -2,8 +2,7 @@
 use Rattle.std.proofs.Common.{◌≡◌, ◌≢◌, ℕ, zero, suc, ◌+◌, ◌-◌, ◌*◌, ◌/◌, ◌%◌, ◌<◌, ◌≤◌, Bool, true, false, ◌==◌, ◌&&◌, List, [], ◌∷◌, ◌++◌, replicate, inl, inr, cond, refl, sym, ap, ◌∙◌, subst, arith, append_assoc, append-nil, nat_le}
 use Rattle.std.specs.List.{AllByRecursion}
 use Rattle.std.proofs.lemmas.List.{replicate-append-replicate, replicate_more}
-use Rattle.clue_rules.specs.Laws.JoinedTests.{and_false}
-use borrow.Author.Tests.{eqb-true, eqb-false, apart_eqb, lt-leb}
+use Rattle.std.proofs.lemmas.Bool.{and_right, eqb-true, eqb-false, ne_eqb, lt-leb}
 use Rattle.byte_text.specs.Decimals.{is_digit, begins_digit}
 use Rattle.clue_rules.specs.TowersText.{IsSquareText, blank_letters, given_written, squares_written}
 
@@ -25,7 +24,7 @@ zs_text w (suc k) bs squares text =
     subst (IsSquareText w (122 ∷ (replicate k 122 ++ bs))) runs more
 
 blank_letters_some : (n : ℕ) → n ≢ 0 → blank_letters n ≡ replicate ((n - 1) / 26) 122 ++ ((97 + (n - 1) % 26) ∷ [])
-blank_letters_some n some = rw (apart_eqb n 0 some) refl
+blank_letters_some n some = rw (ne_eqb n 0 some) refl
 
 -- `z` so many times, and one more letter
 run_text : (w k r : ℕ) (bs squares : List ℕ) → r < 26 → IsSquareText w bs squares → IsSquareText w ((replicate k 122 ++ ((97 + r) ∷ [])) ++ bs) (replicate (k * 26 + (r + 1)) 0 ++ squares)
@@ -54,7 +53,7 @@ blanks_text w n bs squares text =
 
 -- No digit follows a given.
 digit_not : (b : ℕ) → 57 < b → is_digit b ≡ false
-digit_not b above = rw (lt-leb b 57 above) (and_false (nat_le 48 b))
+digit_not b above = rw (lt-leb b 57 above) (and_right (nat_le 48 b) false refl)
 
 letters_begin_at : (k r : ℕ) (bs : List ℕ) → begins_digit ((replicate k 122 ++ ((97 + r) ∷ [])) ++ bs) ≡ false
 letters_begin_at zero r bs = digit_not (97 + r) (omega arith)

@@ -3,7 +3,7 @@ use Rattle.std.proofs.Common.{◌≡◌, ℕ, ◌*◌, ◌≤◌, true, false, �
 use Rattle.std.specs.List.{AllByRecursion, list_any}
 use Rattle.std.proofs.lemmas.List.{length-replicate}
 use Rattle.std.proofs.lemmas.List.Elements.{All-from_recursion, recursion_from_All}
-use borrow.Author.Tests.{eqb-true}
+use Rattle.std.proofs.lemmas.Bool.{eqb-true}
 use Rattle.byte_text.specs.Cuts.{before, behind}
 use Rattle.byte_text.specs.Reading.{◌>>=◌}
 use Rattle.byte_text.proofs.CutLaws.{cut_parts, cut_whole, before_at, behind_at, before_all, behind_none_in}
