@@ -22,6 +22,7 @@ use Rattle.clue_rules.proofs.ParameterLemmas.{params_taken, params_again}
 use Rattle.byte_text.specs.Cuts.{behind}
 use Rattle.clue_rules.specs.IdFaults.{SparesMemory}
 use Rattle.clue_rules.specs.Laws.SparedMemory.{spares-then, spares-if}
+use Rattle.clue_rules.specs.Laws.Refusals.{refused_then}
 
 -- Reading gives the puzzles that the grammar of descriptions has, at each size.
 pub record ReadsGrammar (D : Type 0) (desc_at : ℕ → List ℕ → Result D IdFault) (IsDesc : ℕ → D → List ℕ → Type 0) : Type 0 where
@@ -76,19 +77,16 @@ seed_taken p bs (Some seed) parts number read =
     let taken = number_taken 18446744073709551615 seed bs (omega arith) number in
     subst (Behind p (33 ∷ bs)) is (refl, omega (arith, taken.1), ap (λ xs. 33 ∷ xs) taken.0)
 
-behind_taken : (p : Params) (bs : List ℕ) (parts : GameId (List ℕ)) → behind_params p bs ≡ Ok parts → Behind p bs parts
-behind_taken p [] parts = λ read. cc
-behind_taken p (b ∷ bs) parts =
-    elim (b == 35) as (λ t. (b == 35) ≡ t → cond t (Err ForeignSeed) (cond (b == 33) (seeded p (decimal_value 18446744073709551615 bs)) (Ok (Described p bs))) ≡ Ok parts → Behind p (b ∷ bs) parts) [
-      | true ↦ λ foreign read. cc
-      | false ↦ λ own.
-          elim (b == 33) as (λ t. (b == 33) ≡ t → cond t (seeded p (decimal_value 18446744073709551615 bs)) (Ok (Described p bs)) ≡ Ok parts → Behind p (b ∷ bs) parts) [
-            | true ↦ λ seed read. rw (eqb-true b 33 seed) (seed_taken p bs (decimal_value 18446744073709551615 bs) parts refl read)
-            | false ↦ λ described read.
-                let is : Described p bs ≡ parts = cc in
-                subst (Behind p (b ∷ bs)) is (refl, (b, refl, eqb-false b 35 own, eqb-false b 33 described))
-          ] refl
-    ] refl
+behind_params_taken : (p : Params) (bs : List ℕ) (parts : GameId (List ℕ)) → behind_params p bs ≡ Ok parts → Behind p bs parts
+behind_params_taken p [] parts = λ read. cc
+behind_params_taken p (b ∷ bs) parts = λ read.
+    let own = refused_then (b == 35) ForeignSeed _ parts read in
+    elim (b == 33) as (λ t. (b == 33) ≡ t → cond t (seeded p (decimal_value 18446744073709551615 bs)) (Ok (Described p bs)) ≡ Ok parts → Behind p (b ∷ bs) parts) [
+      | true ↦ λ seed read. rw (eqb-true b 33 seed) (seed_taken p bs (decimal_value 18446744073709551615 bs) parts refl read)
+      | false ↦ λ described read.
+          let is : Described p bs ≡ parts = cc in
+          subst (Behind p (b ∷ bs)) is (refl, (b, refl, eqb-false b 35 own.0, eqb-false b 33 described))
+    ] refl own.1
 
 -- the separator before a description
 colon : (b : ℕ) → is_separator b ≡ true → b ≢ 35 → b ≢ 33 → b ≡ 58
@@ -118,11 +116,12 @@ pub id_parts_taken : (letters : List ℕ) (has_adjacent : Bool) (text : List ℕ
 unfolding id_parts_at
 id_parts_taken letters has_adjacent text parts read =
     let steps = bind_taken (params_at letters has_adjacent (params_part text)) (λ p. behind_params p (from_separator text)) parts read in
-    parts_text letters text steps.0 parts (params_taken letters has_adjacent (params_part text) steps.0 steps.1) (behind_taken steps.0 (from_separator text) parts steps.2)
+    parts_text letters text steps.0 parts (params_taken letters has_adjacent (params_part text) steps.0 steps.1) (behind_params_taken steps.0 (from_separator text) parts steps.2)
 
-parts_again : (letters : List ℕ) (has_adjacent : Bool) (p : Params) (separator : ℕ) (rest : List ℕ) → LacksSeparators letters → IsParams letters p → is_separator separator ≡ true → id_parts_at letters has_adjacent (params_text p ++ separator ∷ rest) ≡ behind_params p (separator ∷ rest)
+-- what stands behind the parameters is read behind them
+split_params : (letters : List ℕ) (has_adjacent : Bool) (p : Params) (separator : ℕ) (rest : List ℕ) → LacksSeparators letters → IsParams letters p → is_separator separator ≡ true → id_parts_at letters has_adjacent (params_text p ++ separator ∷ rest) ≡ behind_params p (separator ∷ rest)
 unfolding id_parts_at
-parts_again letters has_adjacent p separator rest lacks params is =
+split_params letters has_adjacent p separator rest lacks params is =
     let text = params_text p ++ separator ∷ rest in
     let split = split_again (params_text p) separator rest (params_no_separator letters p lacks params) is in
     let read : params_at letters has_adjacent (params_part text) ≡ Ok p =
@@ -133,10 +132,10 @@ parts_again letters has_adjacent p separator rest lacks params is =
 pub id_parts_again : (letters : List ℕ) (has_adjacent : Bool) (text : List ℕ) (parts : GameId (List ℕ)) → LacksSeparators letters → IsIdText letters IsAnyText parts text → id_parts_at letters has_adjacent text ≡ Ok parts
 id_parts_again letters has_adjacent text (Described p desc) lacks h =
     let text_is : text ≡ params_text p ++ 58 ∷ desc = h.1.1 ∙ ap (λ xs. params_text p ++ 58 ∷ xs) (sym h.1.2) in
-    ap (id_parts_at letters has_adjacent) text_is ∙ parts_again letters has_adjacent p 58 desc lacks h.0 refl
+    ap (id_parts_at letters has_adjacent) text_is ∙ split_params letters has_adjacent p 58 desc lacks h.0 refl
 id_parts_again letters has_adjacent text (Seeded p seed) lacks h =
     let read : decimal_value 18446744073709551615 (decimal seed) ≡ Some seed = number_again 18446744073709551615 seed (omega (arith, h.1)) (omega arith) in
-    ap (id_parts_at letters has_adjacent) h.2 ∙ (parts_again letters has_adjacent p 33 (decimal seed) lacks h.0 refl ∙ ap (seeded p) read)
+    ap (id_parts_at letters has_adjacent) h.2 ∙ (split_params letters has_adjacent p 33 (decimal seed) lacks h.0 refl ∙ ap (seeded p) read)
 
 -- the ID with its description read
 with_taken : (D : Type 0) (letters : List ℕ) (desc_at : ℕ → List ℕ → Result D IdFault) (IsDesc : ℕ → D → List ℕ → Type 0) (text : List ℕ) (parts : GameId (List ℕ)) (id : GameId D) → ReadsGrammar D desc_at IsDesc → IsIdText letters IsAnyText parts text → with_description desc_at parts ≡ Ok id → IsIdText letters IsDesc id text

@@ -3,14 +3,14 @@ use Rattle.std.proofs.Common.{◌≡◌, ℕ, ◌+◌, ◌-◌, ◌*◌, ◌<◌
 use Rattle.std.specs.List.{flat_map}
 use Rattle.std.proofs.lemmas.List.Elements.{All-nil, All-cons, All-replicate, All-head}
 use Rattle.std.proofs.lemmas.List.{length-take-le}
-use Rattle.std.proofs.lemmas.Bool.{and_parts, le-ltb, lt-ltb}
+use Rattle.std.proofs.lemmas.Bool.{and_parts}
 use Rattle.clue_rules.specs.declared.id_fault.IdFault.TheVariants.{TooFew, TooMany}
 use Rattle.clue_rules.specs.IdFaults.{exactly}
 use Rattle.clue_rules.specs.Inner.Filled.{IsFilledTo}
 use Rattle.clue_rules.specs.TowersText.{is_square_byte, is_square_part, squares_of}
-use Rattle.clue_rules.specs.Laws.Counted.{counted_again}
 use Rattle.clue_rules.proofs.FilledLemmas.{filled_begin}
 use Rattle.clue_rules.specs.Laws.SquarePart.{byte_taken, squares_of_underscore, squares_of_letter, squares_of_digit}
+use Rattle.clue_rules.specs.Laws.Exactly.{exactly_again, exactly_few, exactly_many}
 
 -- the squares of a byte that may stand there are in range
 pub byte_within : (w b : ℕ) (bs : List ℕ) → w ≤ 9 → is_square_byte w b bs ≡ true → All (λ n. n ≤ w) (squares_of b)
@@ -54,14 +54,14 @@ givens_many w b part bs cell numbers fills full =
     let lengths : length (flat_map squares_of part) ≡ cell + length (squares_of b ++ flat_map squares_of bs) =
     ap length fills.squares ∙ (length-append (take cell numbers) (squares_of b ++ flat_map squares_of bs) ∙ ap (λ n. n + length (squares_of b ++ flat_map squares_of bs)) (front_length w cell numbers fills.filled)) in
     let more : w * w < length (flat_map squares_of part) = omega (arith, lengths, length-append (squares_of b) (flat_map squares_of bs)) in
-    rw (le-ltb (length (flat_map squares_of part)) (w * w) (omega arith), lt-ltb (w * w) (length (flat_map squares_of part)) more) refl
+    exactly_many (w * w) (flat_map squares_of part) more
 
 pub givens_few : (w : ℕ) (part : List ℕ) (cell : ℕ) (numbers : List ℕ) → FillsGivens w part [] cell numbers → cell < w * w → exactly (w * w) (flat_map squares_of part) ≡ Err TooFew
 givens_few w part cell numbers fills few =
     let lengths : length (flat_map squares_of part) ≡ cell = ap length (fills.squares ∙ append-nil (take cell numbers)) ∙ front_length w cell numbers fills.filled in
-    rw (lt-ltb (length (flat_map squares_of part)) (w * w) (omega (arith, lengths))) refl
+    exactly_few (w * w) (flat_map squares_of part) (omega (arith, lengths))
 
 pub givens_end : (w : ℕ) (part : List ℕ) (cell : ℕ) (numbers : List ℕ) → FillsGivens w part [] cell numbers → w * w ≤ cell → exactly (w * w) (flat_map squares_of part) ≡ Ok numbers
 givens_end w part cell numbers fills all =
     let whole : flat_map squares_of part ≡ numbers = fills.squares ∙ (append-nil (take cell numbers) ∙ take_all cell numbers (omega (arith, fills.filled.count))) in
-    rw whole (counted_again (w * w) numbers fills.filled.count)
+    rw whole (exactly_again (w * w) numbers fills.filled.count)

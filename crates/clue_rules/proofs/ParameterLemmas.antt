@@ -1,5 +1,5 @@
 -- Parameters: what is read is written so, and what is written so is read.
-use Rattle.std.proofs.Common.{◌≡◌, ℕ, ◌+◌, ◌-◌, Bool, true, false, ◌==◌, ◌&&◌, not, nat_le, List, [], ◌∷◌, Option, Some, None, IfSome, Result, Ok, Err, IfOk, cond, refl, sym, ap, ◌∙◌, subst, arith}
+use Rattle.std.proofs.Common.{◌≡◌, ℕ, ◌+◌, ◌-◌, Bool, true, false, ◌==◌, ◌&&◌, not, nat_le, List, [], ◌∷◌, Option, Some, None, IfSome, Result, Ok, Err, IfOk, refl, sym, ap, ◌∙◌, subst, arith}
 use Rattle.std.specs.List.{Contains, list_any, slice_index_or}
 use Rattle.std.proofs.lemmas.List.Folds.{Any-from_list_any, list_any_at}
 use Rattle.std.proofs.lemmas.Bool.{and_parts, and_from, eqb-true, eq-eqb, leb-true, le-leb, and_right}
@@ -8,6 +8,7 @@ use Rattle.clue_rules.specs.declared.id_fault.IdFault.{IdFault}
 use Rattle.clue_rules.specs.declared.id_fault.IdFault.TheVariants.{BadSize, BadLetter, AdjacentMode, BadParams}
 use Rattle.clue_rules.specs.declared.params.Params.{Params}
 use Rattle.clue_rules.specs.Parameters.{letter_part, IsParamText, if_no_more, letter_at, behind_size, is_size, params_at}
+use Rattle.clue_rules.specs.Laws.Refusals.{refused_then, refused_else}
 
 contains_from_any : (letters : List ℕ) (letter : ℕ) → list_any (λ l. l == letter) letters ≡ true → Contains letters letter
 contains_from_any letters letter found =
@@ -25,11 +26,10 @@ Reads letters w bs p = (p.size ≡ w) × IfSome p.letter (λ letter. Contains le
 
 letter_taken : (letters : List ℕ) (w : ℕ) (bs : List ℕ) (p : Params) → letter_at letters w bs ≡ Ok p → Reads letters w (100 ∷ bs) p
 letter_taken letters w [] p = λ read. cc
-letter_taken letters w (letter ∷ bs) p =
-    elim (list_any (λ l. l == letter) letters) as (λ t. list_any (λ l. l == letter) letters ≡ t → cond t (if_no_more (record { size = w; letter = Some letter }) bs) (Err BadLetter) ≡ Ok p → Reads letters w (100 ∷ letter ∷ bs) p) [
-      | true ↦ λ found. end bs (contains_from_any letters letter found)
-      | false ↦ λ missing read. cc
-    ] refl
+letter_taken letters w (letter ∷ bs) p = λ read.
+    let made : Params = record { size = w; letter = Some letter } in
+    let found = refused_else (list_any (λ l. l == letter) letters) (if_no_more made bs) BadLetter p read in
+    end bs (contains_from_any letters letter found.0) found.1
   where
     end : (rest : List ℕ) → Contains letters letter → if_no_more (record { size = w; letter = Some letter }) rest ≡ Ok p → Reads letters w (100 ∷ letter ∷ rest) p
     end [] member read =
@@ -43,35 +43,27 @@ size_taken letters has_adjacent w [] p = λ read.
     let made : Params = record { size = w; letter = None } in
     let is : made ≡ p = cc in
     subst (Reads letters w []) is (refl, tt, refl)
-size_taken letters has_adjacent w (b ∷ bs) p =
-    elim (has_adjacent && (b == 97)) as (λ t. cond t (Err AdjacentMode) (cond (b == 100) (letter_at letters w bs) (Err BadParams)) ≡ Ok p → Reads letters w (b ∷ bs) p) [
-      | true ↦ λ read. cc
-      | false ↦
-          elim (b == 100) as (λ t. (b == 100) ≡ t → cond t (letter_at letters w bs) (Err BadParams) ≡ Ok p → Reads letters w (b ∷ bs) p) [
-            | true ↦ λ same read. rw (eqb-true b 100 same) (letter_taken letters w bs p read)
-            | false ↦ λ other read. cc
-          ] refl
-    ]
+size_taken letters has_adjacent w (b ∷ bs) p = λ read.
+    let plain = refused_then (has_adjacent && (b == 97)) AdjacentMode _ p read in
+    let same = refused_else (b == 100) (letter_at letters w bs) BadParams p plain.1 in
+    rw (eqb-true b 100 same.0) (letter_taken letters w bs p same.1)
 
 pub params_taken : (letters : List ℕ) (has_adjacent : Bool) (text : List ℕ) (p : Params) → params_at letters has_adjacent text ≡ Ok p → IsParamText letters p text
 unfolding params_at
 params_taken letters has_adjacent [] p = λ read. cc
-params_taken letters has_adjacent (b ∷ bs) p =
-    elim (is_size b bs) as (λ t. is_size b bs ≡ t → cond t (behind_size letters has_adjacent (b - 48) bs) (Err BadSize) ≡ Ok p → IsParamText letters p (b ∷ bs)) [
-      | true ↦ λ is read.
-          let first = and_parts (nat_le 51 b) (nat_le b 57 && not (begins_digit bs)) is in
-          let second = and_parts (nat_le b 57) (not (begins_digit bs)) first.1 in
-          let low = leb-true 51 b first.0 in
-          let high = leb-true b 57 second.0 in
-          let taken = size_taken letters has_adjacent (b - 48) bs p read in
-          let size = taken.0 in
-          let digit : b ≡ 48 + p.size = omega arith in
-          record {
-            params = record { smallest = omega arith; largest = omega arith; letter = taken.1 };
-            text_is = (let rest = taken.2 in cc);
-          }
-      | false ↦ λ is read. cc
-    ] refl
+params_taken letters has_adjacent (b ∷ bs) p = λ read.
+    let is = refused_else (is_size b bs) (behind_size letters has_adjacent (b - 48) bs) BadSize p read in
+    let first = and_parts (nat_le 51 b) (nat_le b 57 && not (begins_digit bs)) is.0 in
+    let second = and_parts (nat_le b 57) (not (begins_digit bs)) first.1 in
+    let low = leb-true 51 b first.0 in
+    let high = leb-true b 57 second.0 in
+    let taken = size_taken letters has_adjacent (b - 48) bs p is.1 in
+    let size = taken.0 in
+    let digit : b ≡ 48 + p.size = omega arith in
+    record {
+      params = record { smallest = omega arith; largest = omega arith; letter = taken.1 };
+      text_is = (let rest = taken.2 in cc);
+    }
 
 pub params_found : (letters : List ℕ) (has_adjacent : Bool) (text : List ℕ) (answer : Result Params IdFault) → answer ≡ params_at letters has_adjacent text → IfOk answer (λ p. IsParamText letters p text)
 params_found letters has_adjacent text (Ok p) is = params_taken letters has_adjacent text p (sym is)

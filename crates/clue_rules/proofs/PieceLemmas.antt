@@ -1,14 +1,14 @@
 -- What commas separate, piece by piece.
 use Rattle.std.proofs.Common.{◌≡◌, ◌≢◌, ℕ, ◌+◌, ◌<◌, List, [], ◌∷◌, ◌++◌, length, Option, Some, Err, refl, sym, ap, ◌∙◌, inl, inr, arith, append_assoc, length-append}
 use Rattle.std.specs.List.{join_with_byte}
-use Rattle.std.proofs.lemmas.Bool.{lt-ltb, le-ltb}
 use Rattle.std.proofs.lemmas.List.Splits.{join_with_byte-slice_split}
 use Rattle.byte_text.specs.Cuts.{before, behind}
-use Rattle.clue_rules.specs.declared.id_fault.IdFault.TheVariants.{TooFew, TooMany}
+use Rattle.clue_rules.specs.declared.id_fault.IdFault.TheVariants.{TooMany}
 use Rattle.clue_rules.specs.UnequalText.{pieces_of}
 use Rattle.clue_rules.specs.Inner.UnequalPieces.{IsWithoutLastComma}
 use Rattle.clue_rules.specs.IdFaults.{exactly}
 use Rattle.clue_rules.specs.Laws.Pieces.{comma_pieces, pieces_left, split_once, join-push, dropped_last, drop-push, pieces-push}
+use Rattle.clue_rules.specs.Laws.Exactly.{exactly_few, exactly_many}
 
 -- to drop a comma at the end is to drop the empty last piece, where more than one piece is wanted
 pub pieces_without_comma : (text rest : List ℕ) (wanted : ℕ) → 1 < wanted → IsWithoutLastComma text rest → exactly wanted (comma_pieces rest) ≡ exactly wanted (pieces_of text)
@@ -17,11 +17,8 @@ pieces_without_comma text rest wanted some h = elim h [
   | inr none ↦ rw (← none.0) (same text (λ front. none.1 front))
 ]
   where
-    few : (ps : List (List ℕ)) → length ps < wanted → exactly wanted ps ≡ Err TooFew
-    few ps h = rw (lt-ltb (length ps) wanted h) refl
-
     empty_last : (text : List ℕ) (ps : List (List ℕ)) → ((front : List ℕ) → text ≢ front ++ 44 ∷ []) → comma_pieces text ≡ ps ++ [] ∷ [] → exactly wanted (ps ++ [] ∷ []) ≡ exactly wanted ps
-    empty_last text [] lacks e = few ([] ∷ []) some ∙ sym (few [] (omega arith))
+    empty_last text [] lacks e = exactly_few wanted ([] ∷ []) some ∙ sym (exactly_few wanted [] (omega arith))
     empty_last text (p ∷ ps) lacks e =
         let joined : text ≡ join_with_byte 44 (p ∷ ps) ++ 44 ∷ [] = sym (join_with_byte-slice_split 44 text) ∙ ap (join_with_byte 44) e ∙ join-push 44 p ps in
         absurd (lacks (join_with_byte 44 (p ∷ ps)) joined)
@@ -46,4 +43,4 @@ pub pieces_over : (ps all : List (List ℕ)) (o : Option (List ℕ)) (bytes : Li
 pieces_over ps all o bytes wanted h e full =
     let some : 0 < length (pieces_left o) = rw e (omega (arith, ap length (split_once bytes))) in
     let more : wanted < length all = omega (arith, ap length h, length-append ps (pieces_left o)) in
-    rw (le-ltb (length all) wanted (omega arith), lt-ltb wanted (length all) more) refl
+    exactly_many wanted all more

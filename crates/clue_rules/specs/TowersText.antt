@@ -30,12 +30,11 @@ IsSquareText w (b ∷ bs) squares =
     ⊎ ((letter_a ≤ b) × (b ≤ letter_z) × ((more : List ℕ) × (squares ≡ replicate (blanks_of b) 0 ++ more) × IsSquareText w bs more))
     ⊎ ((digit_zero + 1 ≤ b) × (b ≤ digit_zero + w) × (begins_digit bs ≡ false) × ((more : List ℕ) × (squares ≡ (b - digit_zero) ∷ more) × IsSquareText w bs more))
 
--- The text describes the puzzle, whose size is w: the clues, and behind a `,` the squares, if any is given.
-pub record IsTowersText (w : ℕ) (p : TowersValue) (text : List ℕ) : Type 0 where
+-- The text describes the puzzle: the clues, and behind a `,` the squares, if any is given.
+pub record IsTowersText (p : TowersValue) (text : List ℕ) : Type 0 where
   pub puzzle : IsTowers p
-  pub size_is : p.size ≡ w
-  pub parts : ((text ≡ clue_part p.clues) × (p.givens ≡ replicate (w * w) 0))
-      ⊎ ((part : List ℕ) × (text ≡ clue_part p.clues ++ comma ∷ part) × IsSquareText w part p.givens)
+  pub parts : ((text ≡ clue_part p.clues) × (p.givens ≡ replicate (p.size * p.size) 0))
+      ⊎ ((part : List ℕ) × (text ≡ clue_part p.clues ++ comma ∷ part) × IsSquareText p.size part p.givens)
 
 -- n blank squares: `z` for each 26 while more than 26 are left, and a letter for the rest
 abbrev pub blank_letters : ℕ → List ℕ

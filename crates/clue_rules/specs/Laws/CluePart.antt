@@ -1,5 +1,5 @@
 -- The clue part of a Towers description: what is read is written so, and what is written so is read.
-use Rattle.std.proofs.Common.{◌≡◌, ◌≢◌, ℕ, ◌+◌, ◌-◌, ◌*◌, ◌<◌, ◌≤◌, true, false, ◌==◌, nat_le, List, [], ◌∷◌, length, map, Ok, Err, cond, refl, sym, ap, ◌∙◌, subst, arith}
+use Rattle.std.proofs.Common.{◌≡◌, ◌≢◌, ℕ, ◌+◌, ◌-◌, ◌*◌, ◌<◌, ◌≤◌, true, false, ◌==◌, nat_le, List, [], ◌∷◌, length, map, Ok, cond, refl, sym, ap, ◌∙◌, subst, arith}
 use Rattle.std.specs.List.{AllByRecursion, list_all, join_with_byte}
 use Rattle.std.proofs.lemmas.List.{length-map}
 use Rattle.std.proofs.lemmas.List.Splits.{join_with_byte-slice_split}
@@ -10,7 +10,8 @@ use Rattle.byte_text.proofs.ReadingLaws.{bind_taken, bind_again}
 use Rattle.clue_rules.specs.declared.id_fault.IdFault.TheVariants.{BadClue}
 use Rattle.clue_rules.specs.IdFaults.{exactly}
 use Rattle.clue_rules.specs.TowersText.{clue_field, clue_part, fields, is_clue_field, clue_in, clues_in, clues_at}
-use Rattle.clue_rules.specs.Laws.Counted.{counted_taken, counted_again}
+use Rattle.clue_rules.specs.Laws.Exactly.{exactly_taken, exactly_again}
+use Rattle.clue_rules.specs.Laws.Refusals.{refused_else}
 
 clue_field_some : (clue : ℕ) → clue ≢ 0 → clue_field clue ≡ (48 + clue) ∷ []
 clue_field_some clue some = rw (ne_eqb clue 0 some) refl
@@ -68,17 +69,16 @@ pub clue_part_lacks_comma : (clues : List ℕ) → Lacks 44 (clue_part clues)
 clue_part_lacks_comma clues = lacks_join 44 47 (map clue_field clues) (omega arith) (fields_lack 44 clues (omega arith))
 
 clues_in_taken : (w : ℕ) (fs : List (List ℕ)) (clues : List ℕ) → clues_in w fs ≡ Ok clues → (list_all (is_clue_field w) fs ≡ true) × (map clue_in fs ≡ clues)
-clues_in_taken w fs clues =
-    elim (list_all (is_clue_field w) fs) as (λ t. cond t (Ok (map clue_in fs)) (Err BadClue) ≡ Ok clues → (t ≡ true) × (map clue_in fs ≡ clues)) [
-      | true ↦ λ is. (refl, cc)
-      | false ↦ λ is. cc
-    ]
+clues_in_taken w fs clues read =
+    let readable = refused_else (list_all (is_clue_field w) fs) (Ok (map clue_in fs)) BadClue clues read in
+    let same : Ok (map clue_in fs) ≡ Ok clues = readable.1 in
+    (readable.0, cc)
 
 pub clues_taken : (w : ℕ) (part clues : List ℕ) → clues_at w part ≡ Ok clues → (part ≡ clue_part clues) × (length clues ≡ 4 * w) × AllByRecursion (λ clue. clue ≤ w) clues
 unfolding clues_at
 clues_taken w part clues read =
     let steps = bind_taken (exactly (4 * w) (fields part)) (clues_in w) clues read in
-    let count = counted_taken (4 * w) (fields part) steps.0 steps.1 in
+    let count = exactly_taken (4 * w) (fields part) steps.0 steps.1 in
     let ones = clues_in_taken w steps.0 clues steps.2 in
     let each = fields_taken w steps.0 ones.0 in
     let written : map clue_field clues ≡ fields part = ap (map clue_field) (sym ones.1) ∙ (each.0 ∙ sym count.0) in
@@ -93,6 +93,6 @@ clues_again w clues some count within =
     let lengths : length fs ≡ length clues = length-map clues clue_field in
     let pieces : fields (clue_part clues) ≡ fs = pieces_join 47 fs (omega arith) (fields_lack 47 clues (omega arith)) in
     let right = fields_again w clues within in
-    let counts : exactly (4 * w) (fields (clue_part clues)) ≡ Ok fs = ap (exactly (4 * w)) pieces ∙ counted_again (4 * w) fs (lengths ∙ count) in
+    let counts : exactly (4 * w) (fields (clue_part clues)) ≡ Ok fs = ap (exactly (4 * w)) pieces ∙ exactly_again (4 * w) fs (lengths ∙ count) in
     let ones : clues_in w fs ≡ Ok clues = rw right.0 (ap Ok right.1) in
     bind_again (exactly (4 * w) (fields (clue_part clues))) (clues_in w) fs counts ∙ ones

@@ -1,32 +1,22 @@
 -- The pieces of a description: from the text and back, and when there is no fault in them.
-use Rattle.std.proofs.Common.{◌≡◌, ℕ, ◌*◌, ◌<◌, ◌≤◌, ◌⊎◌, Bool, true, false, cond, ltb, not, List, [], ◌∷◌, ◌++◌, length, map, Some, is_some, unwrap_or, Result, Ok, Err, refl, sym, ap, ◌∙◌, inl, inr, arith}
+use Rattle.std.proofs.Common.{◌≡◌, ℕ, ◌*◌, ◌<◌, ◌≤◌, ◌⊎◌, true, false, not, List, [], ◌∷◌, ◌++◌, length, map, Some, is_some, unwrap_or, Ok, refl, sym, ap, ◌∙◌, inl, inr, arith}
 use Rattle.std.specs.List.{list_all, range_with_len, join_with_byte, Contains, AllByRecursion}
 use Rattle.std.specs.Option.{IsSome}
-use Rattle.std.proofs.lemmas.Bool.{le-ltb, ltb-false, and_parts}
+use Rattle.std.proofs.lemmas.Bool.{and_parts, not-false}
 use Rattle.std.proofs.lemmas.List.{length-map}
 use Rattle.std.proofs.lemmas.List.Elements.{All-from_recursion}
 use Rattle.std.proofs.lemmas.List.FromFn.{length-map-range_with_len}
 use Rattle.std.proofs.lemmas.List.Splits.{join_with_byte-slice_split}
 use Rattle.byte_text.specs.Cuts.{Lacks}
-use Rattle.byte_text.specs.Reading.{◌>>=◌}
-use Rattle.clue_rules.specs.declared.id_fault.IdFault.{IdFault}
-use Rattle.clue_rules.specs.declared.id_fault.IdFault.TheVariants.{BadClue, BadSquares, TooFew, TooMany, OffGrid, Contradiction}
+use Rattle.clue_rules.specs.declared.id_fault.IdFault.TheVariants.{BadClue, BadSquares, OffGrid, Contradiction}
 use Rattle.clue_rules.specs.declared.unequal.direction.Direction.{Direction}
-use Rattle.clue_rules.specs.IdFaults.{exactly}
 use Rattle.clue_rules.specs.Unequal.{UnequalValue, IsUnequal, sign_count}
 use Rattle.clue_rules.specs.UnequalText.{Piece, letter_of, neighbour, piece_text, without_empty_last, pieces_of, number_in, has_number, direction_of, has_letters, is_inside, points_inside, contradicts, puzzle_in, puzzle_at}
 use Rattle.clue_rules.specs.Laws.Pieces.{comma_pieces, pieces-join, join-push, dropped_last, drop-push, pieces-push}
 use Rattle.clue_rules.specs.Laws.Letters.{direction_of-letter, contains_here, contains_there, contains_cases, number_in-piece, letters_piece, lacks_comma, read_piece, read_piece_written, number_small}
+use Rattle.clue_rules.specs.Laws.Refusals.{refused_then}
 
 -- reading that succeeds
-
-pub err_else : (t : Bool) (e : IdFault) (r : Result UnequalValue IdFault) (v : UnequalValue) → cond (not t) (Err e) r ≡ Ok v → (t ≡ true) × (r ≡ Ok v)
-err_else true e r v h = (refl, h)
-err_else false e r v h = absurd (cc)
-
-pub err_then : (t : Bool) (e : IdFault) (r : Result UnequalValue IdFault) (v : UnequalValue) → cond t (Err e) r ≡ Ok v → (t ≡ false) × (r ≡ Ok v)
-err_then true e r v h = absurd (cc)
-err_then false e r v h = (refl, h)
 
 -- pieces in which there is no fault
 pub record AreGood (w : ℕ) (pieces : List (List ℕ)) : Type 0 where
@@ -37,29 +27,15 @@ pub record AreGood (w : ℕ) (pieces : List (List ℕ)) : Type 0 where
 
 pub good_taken : (w : ℕ) (pieces : List (List ℕ)) (v : UnequalValue) → puzzle_at w pieces ≡ Ok v → AreGood w pieces × (puzzle_in w pieces ≡ v)
 good_taken w pieces v h =
-    let numbers = err_else (list_all (has_number w) pieces) BadSquares _ v h in
-    let letters = err_else (list_all has_letters pieces) BadClue _ v numbers.1 in
-    let inside = err_else (list_all (points_inside w pieces) (range_with_len 0 (w * w))) OffGrid _ v letters.1 in
-    let agree = err_then (contradicts w pieces) Contradiction (Ok (puzzle_in w pieces)) v inside.1 in
-    (record { numbers = numbers.0; letters = letters.0; inside = inside.0; agree = agree.0 }, (let e : Ok (puzzle_in w pieces) ≡ Ok v = agree.1 in cc))
+    let numbers = refused_then (not (list_all (has_number w) pieces)) BadSquares _ v h in
+    let letters = refused_then (not (list_all has_letters pieces)) BadClue _ v numbers.1 in
+    let inside = refused_then (not (list_all (points_inside w pieces) (range_with_len 0 (w * w)))) OffGrid _ v letters.1 in
+    let agree = refused_then (contradicts w pieces) Contradiction (Ok (puzzle_in w pieces)) v inside.1 in
+    let same : Ok (puzzle_in w pieces) ≡ Ok v = agree.1 in
+    (record { numbers = not-false _ numbers.0; letters = not-false _ letters.0; inside = not-false _ inside.0; agree = agree.0 }, cc)
 
 pub good_again : (w : ℕ) (pieces : List (List ℕ)) → AreGood w pieces → puzzle_at w pieces ≡ Ok (puzzle_in w pieces)
 good_again w pieces h = rw (h.numbers, h.letters, h.inside, h.agree) refl
-
-pub counted_ok : (n : ℕ) (ps qs : List (List ℕ)) → exactly n ps ≡ Ok qs → (length ps ≡ n) × (ps ≡ qs)
-counted_ok n ps qs h = go (ltb (length ps) n) (ltb n (length ps)) refl refl h
-  where
-    go : (few many : Bool) → ltb (length ps) n ≡ few → ltb n (length ps) ≡ many → cond few (Err TooFew) (cond many (Err TooMany) (Ok ps)) ≡ Ok qs → (length ps ≡ n) × (ps ≡ qs)
-    go true many f m h = absurd (cc)
-    go false true f m h = absurd (cc)
-    go false false f m h = (omega (arith, ltb-false (length ps) n f, ltb-false n (length ps) m), cc)
-
-pub counted_again : (n : ℕ) (ps : List (List ℕ)) → length ps ≡ n → exactly n ps ≡ Ok ps
-counted_again n ps e = rw (le-ltb (length ps) n (omega arith), le-ltb n (length ps) (omega arith)) refl
-
-pub read_ok : (w : ℕ) (r : Result (List (List ℕ)) IdFault) (v : UnequalValue) → (r >>= puzzle_at w) ≡ Ok v → (ps : List (List ℕ)) × (r ≡ Ok ps) × (puzzle_at w ps ≡ Ok v)
-read_ok w (Ok ps) v h = (ps, refl, h)
-read_ok w (Err e) v h = absurd (let f : Err e ≡ Ok v = h in cc)
 
 -- the pieces that were read, written again
 pub read_pieces : (w : ℕ) (bytes : List (List ℕ)) → list_all (has_number w) bytes ≡ true → list_all has_letters bytes ≡ true → map piece_text (map (read_piece w) bytes) ≡ bytes

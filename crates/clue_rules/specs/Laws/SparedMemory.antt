@@ -17,18 +17,18 @@ pub spares-if : {A : Type 0} (b : Bool) (x y : Result A IdFault) → SparesMemor
 spares-if true x y h k = h
 spares-if false x y h k = k
 
-counted_spares : {X : Type 0} (n : ℕ) (xs : List X) → SparesMemory (exactly n xs)
-counted_spares n xs = spares-if (ltb (length xs) n) (Err TooFew) _ (λ e. cc) (spares-if (ltb n (length xs)) (Err TooMany) (Ok xs) (λ e. cc) tt)
+exactly_spares : {X : Type 0} (n : ℕ) (xs : List X) → SparesMemory (exactly n xs)
+exactly_spares n xs = spares-if (ltb (length xs) n) (Err TooFew) _ (λ e. cc) (spares-if (ltb n (length xs)) (Err TooMany) (Ok xs) (λ e. cc) tt)
 
 clues_spare : (w : ℕ) (part : List ℕ) → SparesMemory (clues_at w part)
 unfolding clues_at
 clues_spare w part =
-    spares-then (exactly (4 * w) (fields part)) (clues_in w) (counted_spares (4 * w) (fields part))
+    spares-then (exactly (4 * w) (fields part)) (clues_in w) (exactly_spares (4 * w) (fields part))
     (λ fs. spares-if (list_all (is_clue_field w) fs) _ (Err BadClue) tt (λ e. cc))
 
 givens_spare : (w : ℕ) (part : List ℕ) → SparesMemory (givens_at w part)
 unfolding givens_at
-givens_spare w part = spares-if (is_square_part w part) _ (Err BadSquares) (counted_spares (w * w) (flat_map squares_of part)) (λ e. cc)
+givens_spare w part = spares-if (is_square_part w part) _ (Err BadSquares) (exactly_spares (w * w) (flat_map squares_of part)) (λ e. cc)
 
 behind_spares : (w : ℕ) (part : Option (List ℕ)) → SparesMemory (givens_behind w part)
 behind_spares w None = tt
@@ -43,7 +43,7 @@ towers_spares w text =
 pub unequal_spares : (w : ℕ) (text : List ℕ) → SparesMemory (unequal_at w text)
 unfolding unequal_at
 unequal_spares w text =
-    spares-then (exactly (w * w) (pieces_of text)) (puzzle_at w) (counted_spares (w * w) (pieces_of text))
+    spares-then (exactly (w * w) (pieces_of text)) (puzzle_at w) (exactly_spares (w * w) (pieces_of text))
     (λ pieces. spares-if (not (list_all (has_number w) pieces)) (Err BadSquares) _ (λ e. cc)
     (spares-if (not (list_all has_letters pieces)) (Err BadClue) _ (λ e. cc)
     (spares-if (not (list_all (points_inside w pieces) (range_with_len 0 (w * w)))) (Err OffGrid) _ (λ e. cc)

@@ -1,12 +1,13 @@
 -- The square part of a Towers description: what is read has the grammar, and what has the grammar is read.
-use Rattle.std.proofs.Common.{◌≡◌, ℕ, zero, suc, ◌+◌, ◌-◌, ◌*◌, ◌<◌, ◌≤◌, true, false, ◌==◌, ◌&&◌, ◌||◌, not, nat_le, List, [], ◌∷◌, ◌++◌, length, replicate, Ok, Err, ◌⊎◌, inl, inr, cond, refl, sym, ap, ◌∙◌, subst, arith}
+use Rattle.std.proofs.Common.{◌≡◌, ℕ, zero, suc, ◌+◌, ◌-◌, ◌*◌, ◌<◌, ◌≤◌, true, false, ◌==◌, ◌&&◌, ◌||◌, not, nat_le, List, [], ◌∷◌, ◌++◌, length, replicate, Ok, ◌⊎◌, inl, inr, refl, sym, ap, ◌∙◌, subst, arith}
 use Rattle.std.specs.List.{AllByRecursion, flat_map}
 use Rattle.std.proofs.lemmas.Bool.{and_parts, and_from, or_cases, or_right, eqb-true, eq-eqb, leb-true, le-leb, lt-leb, not-true}
 use Rattle.byte_text.specs.Decimals.{is_digit, begins_digit}
 use Rattle.clue_rules.specs.declared.id_fault.IdFault.TheVariants.{BadSquares}
 use Rattle.clue_rules.specs.IdFaults.{exactly}
 use Rattle.clue_rules.specs.TowersText.{IsSquareText, is_blank_letter, is_square_byte, is_square_part, squares_of, givens_at}
-use Rattle.clue_rules.specs.Laws.Counted.{counted_taken, counted_again}
+use Rattle.clue_rules.specs.Laws.Exactly.{exactly_taken, exactly_again}
+use Rattle.clue_rules.specs.Laws.Refusals.{refused_else}
 
 -- what a byte of a square part may be
 abbrev pub SquareByte : ℕ → ℕ → List ℕ → Type 0
@@ -127,16 +128,13 @@ squares_within w (b ∷ bs) squares text =
 
 pub givens_taken : (w : ℕ) (part givens : List ℕ) → w ≤ 9 → givens_at w part ≡ Ok givens → (length givens ≡ w * w) × IsSquareText w part givens
 unfolding givens_at
-givens_taken w part givens small =
-    elim (is_square_part w part) as (λ t. is_square_part w part ≡ t → cond t (exactly (w * w) (flat_map squares_of part)) (Err BadSquares) ≡ Ok givens → (length givens ≡ w * w) × IsSquareText w part givens) [
-      | true ↦ λ is read.
-          let count = counted_taken (w * w) (flat_map squares_of part) givens read in
-          (ap length (sym count.0) ∙ count.1, subst (IsSquareText w part) count.0 (squares_taken w part small is))
-      | false ↦ λ is read. cc
-    ] refl
+givens_taken w part givens small read =
+    let readable = refused_else (is_square_part w part) (exactly (w * w) (flat_map squares_of part)) BadSquares givens read in
+    let count = exactly_taken (w * w) (flat_map squares_of part) givens readable.1 in
+    (ap length (sym count.0) ∙ count.1, subst (IsSquareText w part) count.0 (squares_taken w part small readable.0))
 
 pub givens_again : (w : ℕ) (part givens : List ℕ) → w ≤ 9 → length givens ≡ w * w → IsSquareText w part givens → givens_at w part ≡ Ok givens
 unfolding givens_at
 givens_again w part givens small count text =
     let read = squares_again w part givens small text in
-    rw (read.0, read.1) (counted_again (w * w) givens count)
+    rw (read.0, read.1) (exactly_again (w * w) givens count)

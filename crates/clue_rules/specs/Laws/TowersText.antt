@@ -29,40 +29,39 @@ SquaresBehind w text front givens =
 zeros_up_to : (w n : ℕ) → AllUpTo w (replicate n 0)
 zeros_up_to w n = subst (AllUpTo w) (append-nil (replicate n 0)) (zeros_within w n [] tt)
 
-behind_taken : (w : ℕ) (text givens : List ℕ) (rest : Option (List ℕ)) → w ≤ 9 → behind 44 text ≡ rest → givens_behind w rest ≡ Ok givens → (length givens ≡ w * w) × AllUpTo w givens × SquaresBehind w text (before 44 text) givens
-behind_taken w text givens None small cut read =
+givens_behind_taken : (w : ℕ) (text givens : List ℕ) (rest : Option (List ℕ)) → w ≤ 9 → behind 44 text ≡ rest → givens_behind w rest ≡ Ok givens → (length givens ≡ w * w) × AllUpTo w givens × SquaresBehind w text (before 44 text) givens
+givens_behind_taken w text givens None small cut read =
     let e : replicate (w * w) 0 ≡ givens = cc in
     let count : length givens ≡ w * w = ap length (sym e) ∙ length-replicate (w * w) 0 in
     (count, subst (AllUpTo w) e (zeros_up_to w (w * w)), inl (sym (cut_whole 44 text cut), sym e))
-behind_taken w text givens (Some part) small cut read =
+givens_behind_taken w text givens (Some part) small cut read =
     let taken = givens_taken w part givens small read in
     (taken.0, squares_within w part givens taken.1, inr (part, cut_parts 44 text part cut, taken.1))
 
-pub towers_taken : (w : ℕ) (text : List ℕ) (p : TowersValue) → 3 ≤ w → w ≤ 9 → towers_at w text ≡ Ok p → IsTowersText w p text
+pub towers_taken : (w : ℕ) (text : List ℕ) (p : TowersValue) → 3 ≤ w → w ≤ 9 → towers_at w text ≡ Ok p
+    → IsTowersText p text × IsTowers p × (p.size ≡ w)
 unfolding towers_at
-towers_taken w text p large small read =
+towers_taken w text p small large read =
     let first = bind_taken (clues_at w (before 44 text)) (λ clues. givens_behind w (behind 44 text) >>= made w clues) p read in
     let second = bind_taken (givens_behind w (behind 44 text)) (made w first.0) p first.2 in
     let clues = clues_taken w (before 44 text) first.0 first.1 in
-    let squares = behind_taken w text second.0 (behind 44 text) small refl second.1 in
+    let squares = givens_behind_taken w text second.0 (behind 44 text) large refl second.1 in
     let value : TowersValue = record { size = w; clues = first.0; givens = second.0 } in
     let is : value ≡ p = cc in
+    let puzzle : IsTowers value = record {
+      smallest = small;
+      largest = large;
+      clue_count = clues.1;
+      clues_within = All-from_recursion (λ n. n ≤ w) first.0 clues.2;
+      given_count = squares.0;
+      givens_within = All-from_recursion (λ n. n ≤ w) second.0 squares.1;
+    } in
     let parts = subst (λ front. SquaresBehind w text front second.0) clues.0 squares.2 in
-    subst (λ v. IsTowersText w v text) is (record {
-      puzzle = record {
-        smallest = large;
-        largest = small;
-        clue_count = clues.1;
-        clues_within = All-from_recursion (λ n. n ≤ w) first.0 clues.2;
-        given_count = squares.0;
-        givens_within = All-from_recursion (λ n. n ≤ w) second.0 squares.1;
-      };
-      size_is = refl;
-      parts = parts;
-    })
+    subst (λ v. IsTowersText v text × IsTowers v × (v.size ≡ w)) is (record { puzzle = puzzle; parts = parts }, puzzle, refl)
 
-parts_again : (w : ℕ) (text : List ℕ) (clues givens : List ℕ) → w ≤ 9 → length givens ≡ w * w → SquaresBehind w text (clue_part clues) givens → (before 44 text ≡ clue_part clues) × (givens_behind w (behind 44 text) ≡ Ok givens)
-parts_again w text clues givens small count parts =
+-- where the description is cut, its clues and its givens are read
+cut_again : (w : ℕ) (text : List ℕ) (clues givens : List ℕ) → w ≤ 9 → length givens ≡ w * w → SquaresBehind w text (clue_part clues) givens → (before 44 text ≡ clue_part clues) × (givens_behind w (behind 44 text) ≡ Ok givens)
+cut_again w text clues givens small count parts =
     let lacks = clue_part_lacks_comma clues in
     elim parts [
       | inl alone ↦
@@ -74,21 +73,15 @@ parts_again w text clues givens small count parts =
           (ap (before 44) both.1 ∙ before_at 44 (clue_part clues) part lacks, rw some (givens_again w part givens small count both.2))
     ]
 
--- the size is that of the puzzle here
-again_at_size : (text : List ℕ) (p : TowersValue) → IsTowers p → SquaresBehind p.size text (clue_part p.clues) p.givens → towers_at p.size text ≡ Ok p
+pub towers_again : (text : List ℕ) (p : TowersValue) → IsTowersText p text → towers_at p.size text ≡ Ok p
 unfolding towers_at
-again_at_size text p puzzle parts =
-    let read = parts_again p.size text p.clues p.givens puzzle.largest puzzle.given_count parts in
-    let within = recursion_from_All (λ n. n ≤ p.size) p.clues puzzle.clues_within in
+towers_again text p h =
+    let read = cut_again p.size text p.clues p.givens h.puzzle.largest h.puzzle.given_count h.parts in
+    let within = recursion_from_All (λ n. n ≤ p.size) p.clues h.puzzle.clues_within in
     let clues : clues_at p.size (before 44 text) ≡ Ok p.clues =
-    ap (clues_at p.size) read.0 ∙ clues_again p.size p.clues (omega (arith, puzzle.smallest)) puzzle.clue_count within in
+    ap (clues_at p.size) read.0 ∙ clues_again p.size p.clues (omega (arith, h.puzzle.smallest)) h.puzzle.clue_count within in
     bind_again (clues_at p.size (before 44 text)) (λ clues. givens_behind p.size (behind 44 text) >>= made p.size clues) p.clues clues
     ∙ bind_again (givens_behind p.size (behind 44 text)) (made p.size p.clues) p.givens read.1
-
-pub towers_again : (w : ℕ) (text : List ℕ) (p : TowersValue) → IsTowersText w p text → towers_at w text ≡ Ok p
-towers_again w text p h =
-    let parts = subst (λ v. SquaresBehind v text (clue_part p.clues) p.givens) (sym h.size_is) h.parts in
-    subst (λ v. towers_at v text ≡ Ok p) h.size_is (again_at_size text p h.puzzle parts)
 
 -- where no square is given, all are blank
 none_given : (givens : List ℕ) → list_any (λ n. not (n == 0)) givens ≡ false → givens ≡ replicate (length givens) 0
@@ -107,9 +100,8 @@ written_parts w front givens count within =
     ] refl
 
 -- the description that is written describes the puzzle
-pub towers_text_is : (p : TowersValue) → IsTowers p → IsTowersText p.size p (towers_text p)
-towers_text_is p puzzle = record {
+pub towers_canonical : (p : TowersValue) → IsTowers p → IsTowersText p (towers_text p)
+towers_canonical p puzzle = record {
   puzzle = puzzle;
-  size_is = refl;
   parts = written_parts p.size (clue_part p.clues) p.givens puzzle.given_count (recursion_from_All (λ n. n ≤ p.size) p.givens puzzle.givens_within);
 }

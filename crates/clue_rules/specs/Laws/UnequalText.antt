@@ -9,13 +9,15 @@ use Rattle.clue_rules.specs.declared.unequal.sign.Sign.{Sign}
 use Rattle.clue_rules.specs.declared.unequal.sign.Sign.TheVariants.{Absent, FirstGreater, SecondGreater}
 use Rattle.clue_rules.specs.IdFaults.{exactly}
 use Rattle.clue_rules.specs.Unequal.{UnequalValue, IsUnequal, IsGreater, sign_count, sign_at, first_side, second_side}
-use Rattle.clue_rules.specs.UnequalText.{Piece, Says, IsUnequalText, piece_text, directions_at, pieces_of, number_in, points_inside, first_says, second_says, said_sign, contradicts, puzzle_in, unequal_at}
+use Rattle.clue_rules.specs.UnequalText.{Piece, Says, IsUnequalText, piece_text, directions_at, pieces_of, number_in, points_inside, first_says, second_says, said_sign, contradicts, puzzle_in, unequal_at, puzzle_at}
 use Rattle.clue_rules.specs.Laws.RangeTests.{all_in_range, range_all, none_in_range, range_none}
 use Rattle.clue_rules.specs.Laws.Contradiction.{contradicts_signs}
 use Rattle.clue_rules.specs.Laws.Signs.{never_both}
 use Rattle.clue_rules.specs.Laws.Letters.{letters_at, directions_inside, read_piece}
 use Rattle.clue_rules.specs.Laws.SaidSigns.{first_from_says, says_from_first, second_from_says, says_from_second, greater_first, greater_second, first_greater, second_greater, SaysSigns, greater_says, said_greater}
-use Rattle.clue_rules.specs.Laws.GoodPieces.{AreGood, good_taken, good_again, counted_ok, counted_again, read_ok, read_pieces, map-number, read_valid, letters_inside, inside_letters, some_pieces, pieces_some, square_some, good_numbers, good_letters, numbers_again}
+use Rattle.clue_rules.specs.Laws.GoodPieces.{AreGood, good_taken, good_again, read_pieces, map-number, read_valid, letters_inside, inside_letters, some_pieces, pieces_some, square_some, good_numbers, good_letters, numbers_again}
+use Rattle.clue_rules.specs.Laws.Exactly.{exactly_taken, exactly_again}
+use Rattle.byte_text.proofs.ReadingLaws.{bind_taken}
 
 said_first : (s t : Bool) → said_sign s t ≡ FirstGreater → s ≡ true
 said_first true t e = refl
@@ -75,15 +77,15 @@ taken_pieces w text bytes small large count split good =
     (subst Good (sym same) good)
     (map-number w bytes ∙ ap (map (λ p. unwrap_or (number_in w p) 0)) (sym same)))
 
-pub unequal_taken : (w : ℕ) (text : List ℕ) (v : UnequalValue) → 3 ≤ w → w ≤ 9 → unequal_at w text ≡ Ok v → IsUnequalText v text × (v.size ≡ w)
+pub unequal_taken : (w : ℕ) (text : List ℕ) (v : UnequalValue) → 3 ≤ w → w ≤ 9 → unequal_at w text ≡ Ok v
+    → IsUnequalText v text × IsUnequal v × (v.size ≡ w)
 unfolding unequal_at
 unequal_taken w text v small large h =
-    let read = read_ok w (exactly (w * w) (pieces_of text)) v h in
-    let count = counted_ok (w * w) (pieces_of text) read.0 read.1 in
+    let read = bind_taken (exactly (w * w) (pieces_of text)) (puzzle_at w) v h in
+    let count = exactly_taken (w * w) (pieces_of text) read.0 read.1 in
     let good = good_taken w read.0 v read.2 in
-    let described = taken_pieces w text read.0 small large (sym (ap length count.1) ∙ count.0) count.1 good.0 in
-    let P : UnequalValue → Type 0 = λ u. IsUnequalText u text × (u.size ≡ w) in
-    subst P good.1 (described, refl)
+    let described = taken_pieces w text read.0 small large (sym (ap length count.0) ∙ count.1) count.0 good.0 in
+    subst (λ u. IsUnequalText u text × IsUnequal u × (u.size ≡ w)) good.1 (described, described.puzzle, refl)
 
 not_both : (s t : Bool) → (s ≡ true → t ≡ true → ⊥) → (s && t) ≡ false
 not_both true true h = absurd (h refl refl)
@@ -151,8 +153,5 @@ unequal_again text v h =
     let some : 0 < length h.pieces = omega (arith, square_some v.size h.puzzle.givens.smallest) in
     let split : pieces_of text ≡ map piece_text h.pieces = pieces_some text h.pieces some h.written in
     let good = again_pieces v text h in
-    rw (split, counted_again (v.size * v.size) (map piece_text h.pieces) (length-map h.pieces piece_text ∙ count))
+    rw (split, exactly_again (v.size * v.size) (map piece_text h.pieces) (length-map h.pieces piece_text ∙ count))
     (good_again v.size (map piece_text h.pieces) good.0 ∙ ap (λ u. Ok u) good.1)
-
-pub desc_taken : (w : ℕ) (text : List ℕ) (v : UnequalValue) → 3 ≤ w → w ≤ 9 → unequal_at w text ≡ Ok v → IsUnequalText v text × IsUnequal v × (v.size ≡ w)
-desc_taken w text v small large h = let read = unequal_taken w text v small large h in (read.0, read.0.puzzle, read.1)
