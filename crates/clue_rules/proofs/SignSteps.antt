@@ -1,5 +1,5 @@
 -- What a sign rules out in the squares on both its sides, and along a line.
-use Rattle.std.proofs.Common.{◌≡◌, ℕ, ◌+◌, ◌-◌, ◌*◌, ◌<◌, ◌≤◌, ◌↔◌, Bool, true, false, not, eqb, inl, inr, refl, sym, ap, ◌∙◌, subst, arith}
+use Rattle.std.proofs.Common.{◌≡◌, ℕ, ◌+◌, ◌-◌, ◌*◌, ◌<◌, ◌≤◌, ◌↔◌, Bool, true, false, not, eqb, inl, inr, refl, sym, ap, ◌∙◌, subst, arith, ◌⊎◌}
 use Rattle.std.specs.Bool.{OnTrue, OnFalse}
 use Rattle.std.proofs.lemmas.Bool.{both_ways, false_from_ne_true, cases_eq, eq-eqb, ne_eqb, lt-ltb, le-ltb}
 use Rattle.latin_board.specs.Marks.{has_mark}
@@ -10,9 +10,9 @@ use Rattle.trail_solver.specs.Candidates.{CandidatesValue, IsEarlier, IsWithin, 
 use Rattle.trail_solver.specs.Puzzles.{Solves}
 use Rattle.trail_solver.proofs.Earlier.{was_left}
 use Rattle.clue_rules.specs.Inner.Narrowing.{IsSquare, IsStruckByLines, KeepsOf, Narrows, StruckBelow}
-use Rattle.clue_rules.specs.Unequal.{UnequalValue, IsBetween, IsGreater, sign_count, sign_at, first_side}
+use Rattle.clue_rules.specs.Unequal.{UnequalValue, IsBetween, IsGreater, sign_count, sign_at, first_side, second_side}
 use Rattle.clue_rules.specs.Unequal.{puzzle_of}
-use Rattle.clue_rules.specs.Laws.SignPlaces.{between_at, between_sides}
+use Rattle.clue_rules.specs.Laws.SignPlaces.{between_at}
 use Rattle.clue_rules.proofs.SignLemmas.{signs_held}
 use Rattle.clue_rules.specs.Struck.{IsUnequalStruck}
 use Rattle.clue_rules.specs.Inner.UnequalLines.{AreEnds, IsLowerStruck, IsUpperStruck, IsEndStruckBy, IsStruckAt, IsStruckAlong, line_sign}
@@ -20,6 +20,7 @@ use Rattle.clue_rules.specs.declared.unequal.sign.Sign.TheVariants.{Absent, Firs
 use Rattle.clue_rules.proofs.KeptCandidates.{within_kept}
 use Rattle.clue_rules.proofs.LineSteps.{grid_pair}
 use Rattle.clue_rules.proofs.Narrowings.{narrows_by, narrows_for, narrows_nothing}
+use Rattle.clue_rules.specs.Laws.SignSides.{Side, First, Second, other_side, square_at, greater_at, greater_by, greater_from_sign, IsGreaterBy}
 
 -- ---- a step at one square
 
@@ -97,30 +98,40 @@ upper_narrows old new upper lower set kept left small inside below_in is above k
 
 -- ---- one sign of a puzzle
 
+-- the ends of a sign stand on its sides, the greater one where the sign says so
+record EndsAt (v : UnequalValue) (sign upper lower : ℕ) : Type 0 where
+  side : Side
+  says : sign_at v sign ≡ greater_at side
+  upper_is : upper ≡ square_at v.size sign side
+  lower_is : lower ≡ square_at v.size sign (other_side side)
+
+ends_at : (v : UnequalValue) (sign upper lower : ℕ) → AreEnds v sign upper lower → EndsAt v sign upper lower
+ends_at v sign upper lower ends = elim ends.is [
+  | inl first ↦ record { side = First; says = first.0; upper_is = first.1; lower_is = first.2 }
+  | inr second ↦ record { side = Second; says = second.0; upper_is = second.1; lower_is = second.2 }
+]
+
 ends_greater : (v : UnequalValue) (sign upper lower : ℕ) → 3 ≤ v.size → sign < sign_count v.size → AreEnds v sign upper lower → IsGreater v upper lower
 ends_greater v sign upper lower small inside ends =
-    let between = between_at v.size sign small inside in
-    let P : ℕ → ℕ → Type 0 = λ a b. IsBetween v.size sign a b in
-    record {
-      sign = sign;
-      says = elim ends.is [
-        | inl first ↦ inl (subst (λ a. P a lower) (sym first.1) (subst (P (first_side v.size sign)) (sym first.2) between), first.0)
-        | inr second ↦ inr (subst (λ a. P a upper) (sym second.2) (subst (P (first_side v.size sign)) (sym second.1) between), second.0)
-      ];
-    }
+    let at = ends_at v sign upper lower ends in
+    carried at.upper_is at.lower_is (greater_from_sign v sign at.side small inside at.says)
+  where
+    carried : {a b c d : ℕ} → a ≡ c → b ≡ d → IsGreater v c d → IsGreater v a b
+    carried e f h = rw (e, f) h
 
 -- a sign has its ends but once
 same_ends : (v : UnequalValue) (sign a b upper lower : ℕ) → AreEnds v sign a b → AreEnds v sign upper lower → (a ≡ upper) × (b ≡ lower)
-same_ends v sign a b upper lower one two = elim one.is [
-  | inl first ↦ elim two.is [
-    | inl same ↦ (first.1 ∙ sym same.1, first.2 ∙ sym same.2)
-    | inr other ↦ (cc, cc)
-  ]
-  | inr second ↦ elim two.is [
-    | inl other ↦ (cc, cc)
-    | inr same ↦ (second.1 ∙ sym same.1, second.2 ∙ sym same.2)
-  ]
-]
+same_ends v sign a b upper lower one two =
+    let first = ends_at v sign a b one in
+    let second = ends_at v sign upper lower two in
+    let side = one_greater first.side second.side (sym first.says ∙ second.says) in
+    (rw (first.upper_is, second.upper_is, side) refl, rw (first.lower_is, second.lower_is, side) refl)
+  where
+    one_greater : (s t : Side) → greater_at s ≡ greater_at t → s ≡ t
+    one_greater First First e = refl
+    one_greater Second Second e = refl
+    one_greater First Second e = cc
+    one_greater Second First e = cc
 
 pub sign_narrows : (v : UnequalValue) (sign upper lower : ℕ) (old new : CandidatesValue) (left : Bool) → 3 ≤ v.size → sign < sign_count v.size → AreEnds v sign upper lower → Narrows (HasGreater upper lower) (IsEndStruckBy upper lower) old new left → Narrows (λ g. Solves (puzzle_of v) g) (IsStruckAt v sign) old new left
 sign_narrows v sign upper lower old new left small inside ends h =
@@ -163,27 +174,25 @@ between_line w sign a b between = elim between [
 ]
 
 -- the sign that says that a holds the greater number has them as its ends
-greater_ends : (v : UnequalValue) (a b : ℕ) → 3 ≤ v.size → (greater : IsGreater v a b) → AreEnds v greater.sign a b
-greater_ends v a b small greater = elim greater.says [
-  | inl one ↦
-      let sides = between_sides v.size greater.sign a b small one.0 in
-      record { upper_in = omega (arith, sides.order, sides.inside); lower_in = sides.inside; is = inl (one.1, sides.first, sides.second) }
-  | inr two ↦
-      let sides = between_sides v.size greater.sign b a small two.0 in
-      record { upper_in = sides.inside; lower_in = omega (arith, sides.order, sides.inside); is = inr (two.1, sides.second, sides.first) }
-]
+greater_ends : (v : UnequalValue) (a b : ℕ) → (by : IsGreaterBy v a b) → AreEnds v by.sign a b
+greater_ends v a b by = record {
+  upper_in = by.at.here_inside;
+  lower_in = by.at.there_inside;
+  is = at by.side by.says by.at.here by.at.there;
+}
+  where
+    at : (side : Side) → sign_at v by.sign ≡ greater_at side → a ≡ square_at v.size by.sign side → b ≡ square_at v.size by.sign (other_side side)
+        → ((sign_at v by.sign ≡ FirstGreater) × (a ≡ first_side v.size by.sign) × (b ≡ second_side v.size by.sign))
+        ⊎ ((sign_at v by.sign ≡ SecondGreater) × (a ≡ second_side v.size by.sign) × (b ≡ first_side v.size by.sign))
+    at First says upper lower = inl (says, upper, lower)
+    at Second says upper lower = inr (says, upper, lower)
 
-greater_line : (v : UnequalValue) (a b : ℕ) → (greater : IsGreater v a b) → (line : ℕ) × (k : ℕ) × (line < 2 * v.size) × (k < v.size - 1) × (line_sign v.size line k ≡ greater.sign)
-greater_line v a b greater = elim greater.says [
-  | inl one ↦ between_line v.size greater.sign a b one.0
-  | inr two ↦ between_line v.size greater.sign b a two.0
-]
-
-struck_along : (v : UnequalValue) (c : CandidatesValue) (a b cell value : ℕ) → 3 ≤ v.size → c.size ≡ v.size → (greater : IsGreater v a b) → IsEndStruckBy a b c cell value → StruckBelow (IsStruckAlong v) (2 * c.size) c cell value
+struck_along : (v : UnequalValue) (c : CandidatesValue) (a b cell value : ℕ) → 3 ≤ v.size → c.size ≡ v.size → IsGreater v a b → IsEndStruckBy a b c cell value → StruckBelow (IsStruckAlong v) (2 * c.size) c cell value
 struck_along v c a b cell value small size greater struck =
-    let at = greater_line v a b greater in
+    let by = greater_by v a b small greater in
+    let at = between_line v.size by.sign _ _ (between_at v.size by.sign small by.at.sign_inside) in
     let P : ℕ → Type 0 = λ i. IsStruckAt v i c cell value in
-    (at.0, omega (arith, at.2), (at.1, at.3, subst P (sym at.4) (record { upper = a; lower = b; ends = greater_ends v a b small greater; struck = struck })))
+    (at.0, omega (arith, at.2), (at.1, at.3, subst P (sym at.4) (record { upper = a; lower = b; ends = greater_ends v a b by; struck = struck })))
 
 pub unequal_by_lines : (v : UnequalValue) (c : CandidatesValue) (cell value : ℕ) → 3 ≤ v.size → c.size ≡ v.size → IsUnequalStruck v c cell value → IsStruckByLines (IsStruckAlong v) c cell value
 unequal_by_lines v c cell value small size struck = elim struck [

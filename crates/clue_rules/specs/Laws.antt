@@ -11,6 +11,7 @@ pub mod RangeTests
 pub mod Refusals
 pub mod SaidSigns
 pub mod SignPlaces
+pub mod SignSides
 pub mod Signs
 pub mod SparedMemory
 pub mod SquarePart

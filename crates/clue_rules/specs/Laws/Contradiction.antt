@@ -10,8 +10,8 @@ use Rattle.clue_rules.specs.Unequal.{sign_count, first_side, second_side}
 use Rattle.clue_rules.specs.UnequalText.{neighbour, directions, says, forth, back, first_says, second_says, says_greater, contradicts}
 use Rattle.clue_rules.specs.Inner.UnequalPieces.{signs_contradict}
 use Rattle.clue_rules.specs.Laws.RangeTests.{range_some, some_in_range}
-use Rattle.clue_rules.specs.Laws.SignPlaces.{AreSides, sides_at, towards}
-use Rattle.clue_rules.specs.Laws.SaidSigns.{direction_forth, direction_back}
+use Rattle.clue_rules.specs.Laws.SignSides.{Side, First, Second, other_side, standing, towards, way_is, turned}
+use Rattle.clue_rules.specs.Laws.SaidSigns.{side_says}
 
 -- the directions that are written behind one
 abbrev directions_behind : Direction → List Direction
@@ -60,33 +60,32 @@ said w pieces a b d letter points =
     (and_from (says pieces a d) (option_map_or (λ c. eqb c b) (neighbour w a d) false) letter (rw points (eq-eqb b b refl)))
 
 -- the letters on both sides of a sign
-sign_of_sides : (w : ℕ) (pieces : List (List ℕ)) (i a b : ℕ) (d e : Direction) → AreSides w i a b → says pieces a d ≡ true → d ≡ forth w i → says pieces b e ≡ true → e ≡ back w i → signs_contradict w pieces ≡ true
-sign_of_sides w pieces i a b d e sides there way here way_back =
-    let first : first_says w pieces i ≡ true = rw (sides.first, way) at there in
-    let second : second_says w pieces i ≡ true = rw (sides.second, way_back) at here in
-    range_some _ 0 (sign_count w) i (omega arith) (omega (arith, sides.sign)) (and_from (first_says w pieces i) (second_says w pieces i) first second)
+both_say : (w : ℕ) (pieces : List (List ℕ)) (i : ℕ) (side : Side) → i < sign_count w → side_says w pieces i side ≡ true → side_says w pieces i (other_side side) ≡ true → signs_contradict w pieces ≡ true
+both_say w pieces i First inside first second =
+    range_some _ 0 (sign_count w) i (omega arith) (omega arith) (and_from (first_says w pieces i) (second_says w pieces i) first second)
+both_say w pieces i Second inside second first =
+    range_some _ 0 (sign_count w) i (omega arith) (omega arith) (and_from (first_says w pieces i) (second_says w pieces i) first second)
 
 signs_from_squares : (w : ℕ) (pieces : List (List ℕ)) (a b : ℕ) → 3 ≤ w → a < w * w → says_greater w pieces a b ≡ true → says_greater w pieces b a ≡ true → signs_contradict w pieces ≡ true
 signs_from_squares w pieces a b small inside e f =
     let one = said_by w pieces a b e in
-    let other = said_by w pieces b a f in
+    let two = said_by w pieces b a f in
     let there = towards w a b one.0 small inside one.2 in
-    elim there.sides [
-      | inl (sides, way) ↦
-          sign_of_sides w pieces there.sign a b one.0 other.0 sides one.1 way other.1 (direction_back w there.sign a b other.0 small sides other.2)
-      | inr (sides, way) ↦
-          sign_of_sides w pieces there.sign b a other.0 one.0 sides other.1 (direction_forth w there.sign b a other.0 small sides other.2) one.1 way
-    ]
+    let back = way_is w there.sign (other_side there.side) b a two.0 small (turned w there.sign there.side a b small there.at) two.2 in
+    both_say w pieces there.sign there.side there.at.sign_inside
+    (rw (← there.at.here, ← there.way) one.1)
+    (rw (← there.at.there, ← back) two.1)
 
 squares_from_signs : (w : ℕ) (pieces : List (List ℕ)) (i : ℕ) → 3 ≤ w → i < sign_count w → first_says w pieces i ≡ true → second_says w pieces i ≡ true → contradicts w pieces ≡ true
 unfolding contradicts
 squares_from_signs w pieces i small inside first second =
-    let sides = sides_at w i small inside in
-    range_some _ 0 (w * w) (first_side w i) (omega arith) (omega (arith, sides.order, sides.inside))
-    (range_some _ 0 (w * w) (second_side w i) (omega arith) (omega (arith, sides.inside))
+    let one = standing w i First small inside in
+    let two = standing w i Second small inside in
+    range_some _ 0 (w * w) (first_side w i) (omega arith) (omega (arith, one.here_inside))
+    (range_some _ 0 (w * w) (second_side w i) (omega arith) (omega (arith, two.here_inside))
     (and_from (says_greater w pieces (first_side w i) (second_side w i)) (says_greater w pieces (second_side w i) (first_side w i))
-    (said w pieces (first_side w i) (second_side w i) (forth w i) first sides.points)
-    (said w pieces (second_side w i) (first_side w i) (back w i) second sides.points_back)))
+    (said w pieces (first_side w i) (second_side w i) (forth w i) first one.points)
+    (said w pieces (second_side w i) (first_side w i) (back w i) second two.points)))
 
 pub contradicts_signs : (w : ℕ) (pieces : List (List ℕ)) → 3 ≤ w → contradicts w pieces ≡ signs_contradict w pieces
 unfolding contradicts

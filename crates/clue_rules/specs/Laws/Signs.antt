@@ -8,27 +8,8 @@ use Rattle.std.proofs.lemmas.Option.{none-some}
 use Rattle.clue_rules.specs.declared.unequal.sign.Sign.{Sign}
 use Rattle.clue_rules.specs.declared.unequal.sign.Sign.TheVariants.{Absent, FirstGreater, SecondGreater}
 use Rattle.clue_rules.specs.Unequal.{UnequalValue, pairs_across, IsBetween, IsGreater, sign_at, sign_between, sign_of_pair, says_first, says_second, is_greater}
-use Rattle.clue_rules.specs.Laws.SignPlaces.{AreSides, between_sides, one_sign_between, across_from, down_from}
+use Rattle.clue_rules.specs.Laws.SignPlaces.{between_sides, across_from, down_from}
 use Rattle.clue_rules.specs.Laws.RangeTests.{some_if}
-
--- no two squares are each the greater one
-pub never_both : (v : UnequalValue) (a b : ℕ) → 3 ≤ v.size → IsGreater v a b → IsGreater v b a → ⊥
-never_both v a b small one other = elim one.says [
-  | inl (up, e) ↦ elim other.says [
-    | inl (back, f) ↦ omega (arith, (sides_of up).order, (sides_of back).order)
-    | inr (back, f) ↦ clash (sides_of up) (sides_of back) e f
-  ]
-  | inr (down, e) ↦ elim other.says [
-    | inl (back, f) ↦ clash (sides_of back) (sides_of down) f e
-    | inr (back, f) ↦ omega (arith, (sides_of down).order, (sides_of back).order)
-  ]
-]
-  where
-    sides_of : {i x y : ℕ} → IsBetween v.size i x y → AreSides v.size i x y
-    sides_of {i} {x} {y} h = between_sides v.size i x y small h
-
-    clash : {i j x y : ℕ} → AreSides v.size i x y → AreSides v.size j x y → sign_at v i ≡ FirstGreater → sign_at v j ≡ SecondGreater → ⊥
-    clash {i} {j} {x} {y} s t e f = let same : i ≡ j = one_sign_between v.size i j x y s t in cc
 
 -- a square that doesn't begin a row has the one before it on its left
 next_column : (w a : ℕ) → 3 ≤ w → 0 < (a + 1) % w → a % w + 1 < w

@@ -1,5 +1,5 @@
 -- The written form of an Unequal puzzle describes it.
-use Rattle.std.proofs.Common.{◌≡◌, ℕ, zero, suc, ◌+◌, ◌*◌, ◌<◌, ◌≤◌, Bool, true, false, List, [], ◌∷◌, ◌++◌, length, get_or, map, Option, Some, None, is_some, refl, sym, ap, ◌∙◌, inl, inr, arith, append-nil, append_assoc}
+use Rattle.std.proofs.Common.{◌≡◌, ℕ, zero, suc, ◌+◌, ◌*◌, ◌<◌, ◌≤◌, Bool, true, false, List, [], ◌∷◌, ◌++◌, length, get_or, map, Option, Some, None, is_some, refl, sym, ap, ◌∙◌, inr, arith, append-nil, append_assoc}
 use Rattle.std.specs.List.{flat_map, range_with_len, join_with_byte, Contains}
 use Rattle.std.specs.Option.{option_map_or}
 use Rattle.std.proofs.lemmas.Bool.{false≢true}
@@ -7,12 +7,11 @@ use Rattle.std.proofs.lemmas.List.FromFn.{length-map-range_with_len, get_or-map-
 use Rattle.clue_rules.specs.declared.unequal.direction.Direction.{Direction}
 use Rattle.clue_rules.specs.declared.unequal.direction.Direction.TheVariants.{Up, Right, Down, Left}
 use Rattle.clue_rules.specs.Unequal.{UnequalValue, IsUnequal, IsGreater, is_greater}
-use Rattle.clue_rules.specs.UnequalText.{directions, Piece, Says, IsUnequalText, neighbour, piece_text, directions_at, is_greater_towards, piece_of, unequal_text, forth, back}
-use Rattle.clue_rules.specs.Laws.SignPlaces.{between_sides}
+use Rattle.clue_rules.specs.UnequalText.{directions, Piece, Says, IsUnequalText, neighbour, piece_text, directions_at, is_greater_towards, piece_of, unequal_text}
 use Rattle.clue_rules.specs.Laws.Signs.{greater_found, greater_tested}
 use Rattle.clue_rules.specs.Laws.Letters.{contains_filter, filter_contains, directions_inside}
-use Rattle.clue_rules.specs.Laws.SaidSigns.{towards_inside}
 use Rattle.clue_rules.specs.Laws.GoodPieces.{square_some}
+use Rattle.clue_rules.specs.Laws.SignSides.{way_from, towards, greater_by}
 
 -- the written form describes
 
@@ -66,27 +65,18 @@ written_letter v a d h =
     (inside, filter_contains (is_greater_towards v a) d directions (rw (written_directions v a inside) at h))
 
 written_says : (v : UnequalValue) (a b : ℕ) → 3 ≤ v.size → IsGreater v a b → Says v.size (pieces_written v) a b
-written_says v a b small h = elim h.says [
-  | inl (between, e) ↦
-      let sides = between_sides v.size h.sign a b small between in
-      record {
-        direction = forth v.size h.sign;
-        letter = letter_written v a b (forth v.size h.sign) small (omega (arith, sides.order, sides.inside)) sides.points h;
-        points = sides.points;
-      }
-  | inr (between, e) ↦
-      let sides = between_sides v.size h.sign b a small between in
-      record {
-        direction = back v.size h.sign;
-        letter = letter_written v a b (back v.size h.sign) small sides.inside sides.points_back h;
-        points = sides.points_back;
-      }
-]
+written_says v a b small h =
+    let by = greater_by v a b small h in
+    record {
+      direction = way_from v.size by.sign by.side;
+      letter = letter_written v a b (way_from v.size by.sign by.side) small by.at.here_inside by.at.points h;
+      points = by.at.points;
+    }
 
 says_written : (v : UnequalValue) (a b : ℕ) → 3 ≤ v.size → Says v.size (pieces_written v) a b → IsGreater v a b
 says_written v a b small h =
     let there = written_letter v a h.direction h.letter in
-    greater_found v a b small there.0 (towards_inside v.size a b h.direction small there.0 h.points) (rw h.points at there.1)
+    greater_found v a b small there.0 (towards v.size a b h.direction small there.0 h.points).at.there_inside (rw h.points at there.1)
 
 pub unequal_canonical : (v : UnequalValue) → IsUnequal v → IsUnequalText v (unequal_text v)
 unequal_canonical v valid =

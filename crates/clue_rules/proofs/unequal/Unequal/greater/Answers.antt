@@ -1,5 +1,5 @@
 use Rattle.clue_rules.proofs.SignLemmas.{greater_decides}
-use Rattle.clue_rules.specs.Laws.Signs.{never_both}
+use Rattle.clue_rules.specs.Laws.SignSides.{never_both}
 use Rattle.clue_rules.proofs.unequal.Unequal.greater.Goals as goal
 
 pub returns-clause-pair : goal.returns-clause-pair
