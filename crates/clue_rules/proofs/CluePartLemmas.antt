@@ -23,7 +23,7 @@ fields_step part front (Some more) is cut = pieces_more 47 part more (sym cut) �
 
 -- What is known while the clues are filled: the places so far, and the fields that are left.
 pub record FillsClues (w : ℕ) (part : List ℕ) (rest : Option (List ℕ)) (place : ℕ) (clues : List ℕ) : Type 0 where
-  pub filled : IsFilledTo 36 place clues
+  pub filled : IsFilledTo 0 36 place clues
   pub count : place + length (fields_left rest) ≡ 4 * w
   pub tests : list_all (is_clue_field w) (fields_left rest) ≡ list_all (is_clue_field w) (fields part)
   pub values : map clue_in (fields part) ≡ take place clues ++ map clue_in (fields_left rest)
@@ -31,7 +31,7 @@ pub record FillsClues (w : ℕ) (part : List ℕ) (rest : Option (List ℕ)) (pl
 pub fills_step : (w : ℕ) (part now front : List ℕ) (rest : Option (List ℕ)) (place : ℕ) (clues : List ℕ) → FillsClues w part (Some now) place clues → fields now ≡ front ∷ fields_left rest → is_clue_field w front ≡ true → w ≤ 9 → FillsClues w part rest (place + 1) (set clues place (clue_in front))
 fills_step w part now front rest place clues fills step good small =
     let lengths : length (fields now) ≡ suc (length (fields_left rest)) = ap length step in
-    let one = filled_one 36 place (clue_in front) clues fills.filled (omega (arith, fills.count)) in
+    let one = filled_one 0 36 place (clue_in front) clues fills.filled (omega (arith, fills.count)) in
     record {
       filled = one.0;
       count = omega (arith, fills.count);

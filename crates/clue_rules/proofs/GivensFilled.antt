@@ -28,25 +28,25 @@ pub digit_within : (w b : ℕ) → 48 ≤ b → b ≤ 57 → All (λ n. n ≤ w)
 digit_within w b low high within = All-head (λ n. n ≤ w) (b - 48) [] (subst (All (λ n. n ≤ w)) (squares_of_digit b low high) within)
 
 pub record FillsGivens (w : ℕ) (part rest : List ℕ) (cell : ℕ) (numbers : List ℕ) : Type 0 where
-  pub filled : IsFilledTo (w * w) cell numbers
+  pub filled : IsFilledTo 0 (w * w) cell numbers
   pub readable : is_square_part w rest ≡ true
   pub squares : flat_map squares_of part ≡ take cell numbers ++ flat_map squares_of rest
 
 pub givens_begin : (w : ℕ) (part : List ℕ) → is_square_part w part ≡ true → FillsGivens w part part 0 (replicate (w * w) 0)
-givens_begin w part readable = record { filled = filled_begin (w * w); readable = readable; squares = refl }
+givens_begin w part readable = record { filled = filled_begin 0 (w * w); readable = readable; squares = refl }
 
 pub givens_byte : (w b : ℕ) (part bs : List ℕ) (cell : ℕ) (numbers : List ℕ) → w ≤ 9 → FillsGivens w part (b ∷ bs) cell numbers → All (λ n. n ≤ w) (squares_of b)
 givens_byte w b part bs cell numbers small fills =
     byte_within w b bs small (and_parts (is_square_byte w b bs) (is_square_part w bs) fills.readable).0
 
-pub givens_step : (w b : ℕ) (part bs : List ℕ) (cell next : ℕ) (numbers more : List ℕ) → FillsGivens w part (b ∷ bs) cell numbers → IsFilledTo (w * w) next more → take next more ≡ take cell numbers ++ squares_of b → FillsGivens w part bs next more
+pub givens_step : (w b : ℕ) (part bs : List ℕ) (cell next : ℕ) (numbers more : List ℕ) → FillsGivens w part (b ∷ bs) cell numbers → IsFilledTo 0 (w * w) next more → take next more ≡ take cell numbers ++ squares_of b → FillsGivens w part bs next more
 givens_step w b part bs cell next numbers more fills filled taken = record {
   filled = filled;
   readable = (and_parts (is_square_byte w b bs) (is_square_part w bs) fills.readable).1;
   squares = fills.squares ∙ (sym (append_assoc (take cell numbers) (squares_of b) (flat_map squares_of bs)) ∙ ap (λ xs. xs ++ flat_map squares_of bs) (sym taken));
 }
 
-front_length : (w cell : ℕ) (numbers : List ℕ) → IsFilledTo (w * w) cell numbers → length (take cell numbers) ≡ cell
+front_length : (w cell : ℕ) (numbers : List ℕ) → IsFilledTo 0 (w * w) cell numbers → length (take cell numbers) ≡ cell
 front_length w cell numbers filled = length-take-le cell numbers (omega (arith, filled.count, filled.within))
 
 pub givens_many : (w b : ℕ) (part bs : List ℕ) (cell : ℕ) (numbers : List ℕ) → FillsGivens w part (b ∷ bs) cell numbers → w * w < cell + length (squares_of b) → exactly (w * w) (flat_map squares_of part) ≡ Err TooMany

@@ -5,18 +5,18 @@ use Rattle.clue_rules.specs.Inner.UnequalPieces.{signs_contradict}
 use Rattle.clue_rules.proofs.RangeLemmas.{none_more}
 use Rattle.clue_rules.specs.Laws.RangeTests.{range_some}
 use Rattle.clue_rules.specs.Laws.Contradiction.{contradicts_signs}
-use Rattle.clue_rules.proofs.UnequalTable.{filled_none, filled_more}
 use Rattle.clue_rules.proofs.UnequalSaid.{said_some, said_none}
+use Rattle.clue_rules.proofs.FilledLemmas.{filled_none, filled_more}
 use Rattle.clue_rules.proofs.unequal.description.signs_in.Goals as goal
 
 pub loop-sign-init : goal.loop-sign-init
-loop-sign-init c = record { filled = filled_none _ _; agree = refl }
+loop-sign-init c = record { filled = filled_none _ _ _; agree = refl }
 
 pub loop-sign-preserved : goal.loop-sign-preserved
 loop-sign-preserved c =
     let said = said_some c.args.size (texts_of c.args.pieces.now) c.loop-sign.sign c.in_ok-signs.field-0 (sym c.in_ok-signs.ensures) in
     record {
-      filled = filled_more _ _ _ _ _ (omega (arith, c.sign_count-sign-end.ensures.value)) (omega (arith, c.sign_count-sign-end.ensures.value, c.sign_count-sign-end.ensures.bound)) said.1 c.loop-sign.invariant.filled;
+      filled = filled_more _ _ _ _ _ _ (omega (arith, c.sign_count-sign-end.ensures.value, c.sign_count-sign-end.ensures.bound)) said.1 c.loop-sign.invariant.filled;
       agree = none_more _ c.loop-sign.sign c.loop-sign.invariant.agree said.0;
     }
 
