@@ -10,6 +10,7 @@ use Rattle.tower_lines.proofs.MarkLemmas.{mark-and, mark-or, mark-zero, same_fro
 use Rattle.clue_rules.specs.Inner.LineTallies.{IsSingle, IsPossible, IsTally, IsWholeTally, IsCounted, IsClash, IsHidden, MayStay, IsKeptOf}
 use Rattle.clue_rules.specs.declared.lines.latin.Tally.{Tally}
 use Rattle.clue_rules.proofs.SingleSets.{some_value}
+use Rattle.clue_rules.specs.Inner.TowersLines.{HoldValuesTo}
 
 -- ---- one set more
 
@@ -122,7 +123,7 @@ lacking_refutes sets w t h lacks number p =
 -- ---- what may stay
 
 -- numbers that the line can hold may stay
-pub possible_stays : (sets : List ℕ) (w : ℕ) (t : Tally) (number : ℕ → ℕ) (k : ℕ) → IsWholeTally sets w t → IsPossible sets w number → ((i v : ℕ) → i < w → has_mark (get_or sets i 0) v ≡ true → (1 ≤ v) × (v ≤ w)) → k < w → MayStay t (get_or sets k 0) (number k)
+pub possible_stays : (sets : List ℕ) (w : ℕ) (t : Tally) (number : ℕ → ℕ) (k : ℕ) → IsWholeTally sets w t → IsPossible sets w number → HoldValuesTo w sets → k < w → MayStay t (get_or sets k 0) (number k)
 possible_stays sets w t number k h p values inside =
     elim (cases_Bool (has_mark t.singles (number k))) [
       | inl alone ↦

@@ -7,9 +7,9 @@ use Rattle.std.proofs.lemmas.List.{get_or-set_same, get_or-set_other, get_or-tak
 use Rattle.std.proofs.lemmas.Nat.Bits.{bit_at-trailing_zeros}
 use Rattle.latin_board.specs.Marks.{has_mark}
 use Rattle.tower_lines.specs.TowersSeen.{seen}
-use Rattle.tower_lines.specs.LineFillings.{IsSupported}
 use Rattle.tower_lines.proofs.MarkLemmas.{mark-and, mark-or, mark-zero, mark-from_bit}
 use Rattle.clue_rules.specs.Inner.LineTallies.{IsSingle}
+use Rattle.clue_rules.specs.Inner.TowersLines.{HoldValuesTo, AreSupported}
 
 -- the lowest value of a set
 pub lowest_in : (set : ℕ) → set ≢ 0 → set < 65536 → has_mark set (trailing_zeros w16 set) ≡ true
@@ -69,7 +69,7 @@ settled_more sets line n used v h inside single fresh =
     }
 
 -- the line is then the only filling, and has each value of the sets
-pub settled_supported : (sets line : List ℕ) (w used clue : ℕ) → IsSettled sets w used line → w ≤ 9 → length sets ≡ 9 → ((k v : ℕ) → k < w → has_mark (get_or sets k 0) v ≡ true → (1 ≤ v) × (v ≤ w)) → seen (take w line) ≡ clue → (k v : ℕ) → k < w → has_mark (get_or sets k 0) v ≡ true → IsSupported (take w sets) clue k v
+pub settled_supported : (sets line : List ℕ) (w used clue : ℕ) → IsSettled sets w used line → w ≤ 9 → length sets ≡ 9 → HoldValuesTo w sets → seen (take w line) ≡ clue → AreSupported w clue sets sets
 settled_supported sets line w used clue h small count range shown k v inside has =
     let sets_long : length (take w sets) ≡ w = length-take-le w sets (omega arith) in
     let line_long : length (take w line) ≡ w = length-take-le w line (omega (arith, h.count)) in

@@ -15,7 +15,7 @@ use Rattle.clue_rules.specs.Unequal.{puzzle_of}
 use Rattle.clue_rules.specs.Laws.SignPlaces.{between_at}
 use Rattle.clue_rules.proofs.SignLemmas.{signs_held}
 use Rattle.clue_rules.specs.Struck.{IsUnequalStruck}
-use Rattle.clue_rules.specs.Inner.UnequalLines.{AreEnds, IsLowerStruck, IsUpperStruck, IsEndStruckBy, IsStruckAt, IsStruckAlong, line_sign}
+use Rattle.clue_rules.specs.Inner.UnequalLines.{AreEnds, IsLowerStruck, IsUpperStruck, IsEndStruckBy, IsStruckAt, IsStruckAlong, line_sign, HoldsGreater}
 use Rattle.clue_rules.specs.declared.unequal.sign.Sign.TheVariants.{Absent, FirstGreater, SecondGreater}
 use Rattle.clue_rules.proofs.KeptCandidates.{within_kept}
 use Rattle.clue_rules.proofs.LineSteps.{grid_pair}
@@ -61,14 +61,10 @@ square_narrows old new cell kept left solved struck k is = record {
 abbrev pub IsSetOf : CandidatesValue → ℕ → ℕ → Type 0
 IsSetOf c cell set = (v : ℕ) → (has_mark set v ≡ true) ↔ (IsPair c.size cell v × (may_be c cell v ≡ true))
 
--- the grids in which the one square holds the greater number
-abbrev pub HasGreater : ℕ → ℕ → GridValue → Type 0
-HasGreater upper lower g = IsSquare g × (number_at g lower < number_at g upper)
-
 in_set : (c : CandidatesValue) (cell set : ℕ) (g : GridValue) → IsSetOf c cell set → IsSquare g → g.size ≡ c.size → IsWithin c g → cell < c.size * c.size → has_mark set (number_at g cell) ≡ true
 in_set c cell set g is s size w inside = (is (number_at g cell)).1 (grid_pair g c.size cell s size inside, w.each cell inside)
 
-pub lower_narrows : (old new : CandidatesValue) (upper lower set kept : ℕ) (left : Bool) → upper < old.size * old.size → IsSetOf old upper set → ((v : ℕ) → (has_mark kept v ≡ true) ↔ ((u : ℕ) × (v < u) × (has_mark set u ≡ true))) → KeepsOf old new lower kept → left ≡ not (eqb kept 0) → Narrows (HasGreater upper lower) (IsLowerStruck upper lower) old new left
+pub lower_narrows : (old new : CandidatesValue) (upper lower set kept : ℕ) (left : Bool) → upper < old.size * old.size → IsSetOf old upper set → ((v : ℕ) → (has_mark kept v ≡ true) ↔ ((u : ℕ) × (v < u) × (has_mark set u ≡ true))) → KeepsOf old new lower kept → left ≡ not (eqb kept 0) → Narrows (HoldsGreater upper lower) (IsLowerStruck upper lower) old new left
 lower_narrows old new upper lower set kept left inside is below k answer =
     square_narrows old new lower kept left
     (λ g s size w. (below (number_at g lower)).1 (number_at g upper, s.1, in_set old upper set g is s.0 size w inside))
@@ -81,7 +77,7 @@ lower_narrows old new upper lower set kept left inside is below k answer =
     ))
     k answer
 
-pub upper_narrows : (old new : CandidatesValue) (upper lower set kept : ℕ) (left : Bool) → old.size ≤ 9 → upper < old.size * old.size → lower < old.size * old.size → IsSetOf old lower set → ((v : ℕ) → v < 16 → (has_mark kept v ≡ true) ↔ ((u : ℕ) × (u < v) × (has_mark set u ≡ true))) → KeepsOf old new upper kept → left ≡ not (eqb kept 0) → Narrows (HasGreater upper lower) (IsUpperStruck upper lower) old new left
+pub upper_narrows : (old new : CandidatesValue) (upper lower set kept : ℕ) (left : Bool) → old.size ≤ 9 → upper < old.size * old.size → lower < old.size * old.size → IsSetOf old lower set → ((v : ℕ) → v < 16 → (has_mark kept v ≡ true) ↔ ((u : ℕ) × (u < v) × (has_mark set u ≡ true))) → KeepsOf old new upper kept → left ≡ not (eqb kept 0) → Narrows (HoldsGreater upper lower) (IsUpperStruck upper lower) old new left
 upper_narrows old new upper lower set kept left small inside below_in is above k answer =
     square_narrows old new upper kept left
     (λ g s size w.
@@ -133,7 +129,7 @@ same_ends v sign a b upper lower one two =
     one_greater First Second e = cc
     one_greater Second First e = cc
 
-pub sign_narrows : (v : UnequalValue) (sign upper lower : ℕ) (old new : CandidatesValue) (left : Bool) → 3 ≤ v.size → sign < sign_count v.size → AreEnds v sign upper lower → Narrows (HasGreater upper lower) (IsEndStruckBy upper lower) old new left → Narrows (λ g. Solves (puzzle_of v) g) (IsStruckAt v sign) old new left
+pub sign_narrows : (v : UnequalValue) (sign upper lower : ℕ) (old new : CandidatesValue) (left : Bool) → 3 ≤ v.size → sign < sign_count v.size → AreEnds v sign upper lower → Narrows (HoldsGreater upper lower) (IsEndStruckBy upper lower) old new left → Narrows (Solves (puzzle_of v)) (IsStruckAt v sign) old new left
 sign_narrows v sign upper lower old new left small inside ends h =
     narrows_for (λ g s. (
       record { is_grid = s.is_grid; latin = s.latin },
@@ -144,13 +140,13 @@ sign_narrows v sign upper lower old new left small inside ends h =
     let P : ℕ → ℕ → Type 0 = λ a b. IsEndStruckBy a b first cell value in
     subst (λ a. P a lower) same.0 (subst (P s.upper) same.1 s.struck)) h)
 
-pub no_sign_narrows : (v : UnequalValue) (sign : ℕ) (c : CandidatesValue) → sign_at v sign ≡ Absent → Narrows (λ g. Solves (puzzle_of v) g) (IsStruckAt v sign) c c true
+pub no_sign_narrows : (v : UnequalValue) (sign : ℕ) (c : CandidatesValue) → sign_at v sign ≡ Absent → Narrows (Solves (puzzle_of v)) (IsStruckAt v sign) c c true
 no_sign_narrows v sign c none =
     narrows_by (λ first e cell value pair s. elim s.ends.is [
       | inl one ↦ let clash : FirstGreater ≡ Absent = sym one.0 ∙ none in cc
       | inr two ↦ let clash : SecondGreater ≡ Absent = sym two.0 ∙ none in cc
     ])
-    (narrows_nothing (λ g. Solves (puzzle_of v) g) c)
+    (narrows_nothing (Solves (puzzle_of v)) c)
 
 -- ---- all that a puzzle strikes
 

@@ -1,5 +1,5 @@
 -- What a clue rules out along its line: the line's fillings by sets, and a solution among them.
-use Rattle.std.proofs.Common.{◌≡◌, ◌≢◌, ℕ, ◌+◌, ◌-◌, ◌*◌, ◌<◌, ◌≤◌, ◌↔◌, ◌⊎◌, Bool, true, false, List, length, get_or, take, inl, inr, refl, sym, ap, ◌∙◌, subst, arith}
+use Rattle.std.proofs.Common.{◌≡◌, ◌≢◌, ℕ, ◌+◌, ◌*◌, ◌<◌, ◌≤◌, ◌⊎◌, Bool, true, false, List, length, get_or, take, inl, inr, refl, sym, ap, ◌∙◌, subst, arith}
 use Rattle.std.proofs.lemmas.Bool.{false_from_ne_true, cases_lt, lt-ltb, le-ltb}
 use Rattle.std.proofs.lemmas.List.{get_or-take, length-take-le}
 use Rattle.std.proofs.lemmas.List.FromFn.{get_or-map-range_with_len}
@@ -7,50 +7,34 @@ use Rattle.latin_board.specs.Marks.{has_mark}
 use Rattle.latin_board.specs.Squares.{GridValue, number_at}
 use Rattle.latin_board.proofs.LatinLines.{line_differs, line_cell_inside}
 use Rattle.tower_lines.specs.TowersSeen.{seen}
-use Rattle.tower_lines.specs.LineFillings.{IsFilling, IsSupported}
+use Rattle.tower_lines.specs.LineFillings.{IsFilling}
 use Rattle.trail_solver.specs.Pairs.{IsPair}
 use Rattle.trail_solver.specs.Candidates.{CandidatesValue, IsEarlier, IsWithin, may_be}
 use Rattle.trail_solver.specs.Puzzles.{Solves}
-use Rattle.trail_solver.proofs.Earlier.{earlier_refl, was_left}
+use Rattle.trail_solver.proofs.Earlier.{was_left}
 use Rattle.clue_rules.specs.Inner.Narrowing.{AreSetsOf, IsSquare, IsStruckByLines, KeepsAlong, Narrows}
 use Rattle.clue_rules.specs.Laws.TowersItems.{length-view_of, clues_decide}
 use Rattle.clue_rules.specs.Towers.{towers_puzzle}
 use Rattle.clue_rules.specs.Towers.{TowersValue}
 use Rattle.clue_rules.specs.Struck.{IsViewFilling, IsViewStruck, IsTowersStruck}
-use Rattle.clue_rules.specs.Inner.TowersLines.{IsEndStruck, IsClueStruck}
+use Rattle.clue_rules.specs.Inner.TowersLines.{IsEndStruck, IsClueStruck, ShowsClue, AreSupported, KeepSupported}
 use Rattle.clue_rules.specs.Views.{view_of, view_cell, view_line, view_index, front_place}
 use Rattle.clue_rules.specs.Towers.{clue_of}
 use Rattle.clue_rules.proofs.LineSteps.{along_narrows, grid_pair}
 use Rattle.clue_rules.proofs.Narrowings.{narrows_by, narrows_for, narrows_nothing, narrows_then}
 use Rattle.clue_rules.proofs.ViewLines.{view_of-numbers}
+use Rattle.clue_rules.specs.Laws.Edges.{edge_cases}
+use Rattle.clue_rules.proofs.KeptCandidates.{along_whole}
 
 -- ---- the squares from a place
 
 pub view_line_low : (w place : ℕ) → place < 4 * w → view_line w place < 2 * w
 view_line_low w place inside =
-    elim (cases_lt place w) [
-      | inl top ↦ rw (lt-ltb place w top) (omega arith)
-      | inr below ↦ elim (cases_lt place (2 * w)) [
-        | inl bottom ↦ rw (le-ltb place w below, lt-ltb place (2 * w) bottom) bottom
-        | inr beside ↦ elim (cases_lt place (3 * w)) [
-          | inl left ↦ rw (le-ltb place w below, le-ltb place (2 * w) beside, lt-ltb place (3 * w) left) (omega arith)
-          | inr right ↦ rw (le-ltb place w below, le-ltb place (2 * w) beside, le-ltb place (3 * w) right) (omega arith)
-        ]
-      ]
-    ]
+    edge_cases (λ line. line < 2 * w) w place _ _ _ _ (λ upper. omega arith) (λ from lower. lower) (λ from left. omega arith) (λ right. omega arith)
 
 view_index_low : (w place k : ℕ) → k < w → view_index w place k < w
 view_index_low w place k low =
-    elim (cases_lt place w) [
-      | inl top ↦ rw (lt-ltb place w top) low
-      | inr below ↦ elim (cases_lt place (2 * w)) [
-        | inl bottom ↦ rw (le-ltb place w below, lt-ltb place (2 * w) bottom) (omega arith)
-        | inr beside ↦ elim (cases_lt place (3 * w)) [
-          | inl left ↦ rw (le-ltb place w below, le-ltb place (2 * w) beside, lt-ltb place (3 * w) left) low
-          | inr right ↦ rw (le-ltb place w below, le-ltb place (2 * w) beside, le-ltb place (3 * w) right) (omega arith)
-        ]
-      ]
-    ]
+    edge_cases (λ i. i < w) w place _ _ _ _ (λ upper. low) (λ from lower. omega arith) (λ from left. low) (λ right. omega arith)
 
 view_index_apart : (w place i j : ℕ) → i < w → j < w → i ≢ j → view_index w place i ≢ view_index w place j
 view_index_apart w place i j first second apart =
@@ -81,10 +65,6 @@ view_differs g place i j s inside first second apart =
     line_differs g s.is_grid s.latin (view_line g.size place) (view_index g.size place i) (view_index g.size place j)
     (view_line_low g.size place inside) (view_index_low g.size place i first) (view_index_low g.size place j second)
     (view_index_apart g.size place i j first second apart)
-
--- what `supported` says of the sets of a line
-abbrev pub AreKeptSupported : ℕ → ℕ → List ℕ → List ℕ → Type 0
-AreKeptSupported w clue sets kept = (k v : ℕ) → (has_mark (get_or kept k 0) v ≡ true) ↔ IsSupported (take w sets) clue k v
 
 view_filling : (c : CandidatesValue) (place clue : ℕ) (sets : List ℕ) (g : GridValue) → place < 4 * c.size → AreSetsOf c place sets → c.size ≤ 9 → IsSquare g → g.size ≡ c.size → IsWithin c g → seen (view_of g place) ≡ clue → IsFilling (take c.size sets) clue (view_of g place)
 view_filling c place clue sets g inside is small s size within shown =
@@ -121,10 +101,10 @@ view_filling c place clue sets g inside is small s size within shown =
       shown = shown;
     }
 
-view_solved : (c : CandidatesValue) (place clue : ℕ) (sets kept : List ℕ) (g : GridValue) → place < 4 * c.size → AreSetsOf c place sets → c.size ≤ 9 → AreKeptSupported c.size clue sets kept → IsSquare g → seen (view_of g place) ≡ clue → g.size ≡ c.size → IsWithin c g → (k : ℕ) → k < c.size → has_mark (get_or kept k 0) (number_at g (view_cell c.size place k)) ≡ true
+view_solved : (c : CandidatesValue) (place clue : ℕ) (sets kept : List ℕ) (g : GridValue) → place < 4 * c.size → AreSetsOf c place sets → c.size ≤ 9 → KeepSupported c.size clue sets kept → IsSquare g → seen (view_of g place) ≡ clue → g.size ≡ c.size → IsWithin c g → (k : ℕ) → k < c.size → has_mark (get_or kept k 0) (number_at g (view_cell c.size place k)) ≡ true
 view_solved c place clue sets kept g inside is small supported s shown size within k low =
     let long : length (take c.size sets) ≡ c.size = length-take-le c.size sets (omega (arith, is.count)) in
-    (supported k (number_at g (view_cell c.size place k))).1 (record {
+    supported k (number_at g (view_cell c.size place k)) (record {
       line = view_of g place;
       filling = view_filling c place clue sets g inside is small s size within shown;
       inside = omega arith;
@@ -151,27 +131,39 @@ filling_earlier first c place clue sets line e is small f =
       shown = f.shown;
     }
 
-view_struck : (c : CandidatesValue) (place clue : ℕ) (sets kept : List ℕ) → AreSetsOf c place sets → c.size ≤ 9 → AreKeptSupported c.size clue sets kept → (first : CandidatesValue) → IsEarlier first c → (cell v : ℕ) → IsViewStruck place clue first cell v → (k : ℕ) × (k < c.size) × (view_cell c.size place k ≡ cell) × (has_mark (get_or kept k 0) v ≡ false)
+view_struck : (c : CandidatesValue) (place clue : ℕ) (sets kept : List ℕ) → AreSetsOf c place sets → c.size ≤ 9 → AreSupported c.size clue sets kept → (first : CandidatesValue) → IsEarlier first c → (cell v : ℕ) → IsViewStruck place clue first cell v → (k : ℕ) × (k < c.size) × (view_cell c.size place k ≡ cell) × (has_mark (get_or kept k 0) v ≡ false)
 view_struck c place clue sets kept is small supported first e cell v s = (
   s.index,
   omega (arith, s.inside, e.size),
   ap (λ (w : ℕ). view_cell w place s.index) e.size ∙ s.here,
   false_from_ne_true (has_mark (get_or kept s.index 0) v) (λ has.
-      let found = (supported s.index v).0 has in
+      let found = supported s.index v (omega (arith, s.inside, e.size)) has in
       s.unfilled.none found.line (filling_earlier first c place clue sets found.line e is small found.filling) found.here),
 )
 
-pub view_narrows : (old new : CandidatesValue) (place clue : ℕ) (sets kept : List ℕ) (left : Bool) → place < 4 * old.size → AreSetsOf old place sets → old.size ≤ 9 → AreKeptSupported old.size clue sets kept → KeepsAlong place kept old new left → Narrows (λ g. IsSquare g × (seen (view_of g place) ≡ clue)) (IsViewStruck place clue) old new left
-view_narrows old new place clue sets kept left inside is small supported h =
-    along_narrows (λ g s size w k low. view_solved old place clue sets kept g inside is small supported s.0 s.1 size w k low)
+pub view_narrows : (old new : CandidatesValue) (place clue : ℕ) (sets kept : List ℕ) (left : Bool) → place < 4 * old.size → AreSetsOf old place sets → old.size ≤ 9
+    → AreSupported old.size clue sets kept → KeepSupported old.size clue sets kept → KeepsAlong place kept old new left → Narrows (ShowsClue place clue) (IsViewStruck place clue) old new left
+view_narrows old new place clue sets kept left inside is small supported keeps h =
+    along_narrows (λ g s size w k low. view_solved old place clue sets kept g inside is small keeps s.0 s.1 size w k low)
     (λ first e cell v s. view_struck old place clue sets kept is small supported first e cell v s) h
+
+-- where each candidate is in some filling, nothing goes
+pub view_kept : (c : CandidatesValue) (place clue : ℕ) (sets : List ℕ) → place < 4 * c.size → AreSetsOf c place sets → c.size ≤ 9
+    → AreSupported c.size clue sets sets → Narrows (ShowsClue place clue) (IsViewStruck place clue) c c true
+view_kept c place clue sets inside is small supported =
+    along_narrows (λ g s size w k low.
+    let cell = view_cell c.size place k in
+    let cell_in = view_inside c.size place k inside low in
+    (is.each k (number_at g cell) low).1 (grid_pair g c.size cell s.0 size cell_in, w.each cell cell_in))
+    (λ first e cell v s. view_struck c place clue sets sets is small supported first e cell v s)
+    (along_whole place sets sets c is (λ k low. refl))
 
 -- ---- a clue of a puzzle, and the clues at both ends of a line
 
-pub no_clue_narrows : (v : TowersValue) (place : ℕ) (c : CandidatesValue) → clue_of v place ≡ 0 → Narrows (λ g. Solves (towers_puzzle v) g) (IsClueStruck v place) c c true
-no_clue_narrows v place c none = narrows_by (λ first e cell value pair s. absurd (omega (arith, s.0))) (narrows_nothing (λ g. Solves (towers_puzzle v) g) c)
+pub no_clue_narrows : (v : TowersValue) (place : ℕ) (c : CandidatesValue) → clue_of v place ≡ 0 → Narrows (Solves (towers_puzzle v)) (IsClueStruck v place) c c true
+no_clue_narrows v place c none = narrows_by (λ first e cell value pair s. absurd (omega (arith, s.0))) (narrows_nothing (Solves (towers_puzzle v)) c)
 
-pub clue_narrows : (v : TowersValue) (place clue : ℕ) (old new : CandidatesValue) (left : Bool) → old.size ≡ v.size → place < 4 * old.size → clue ≡ clue_of v place → clue ≢ 0 → Narrows (λ g. IsSquare g × (seen (view_of g place) ≡ clue)) (IsViewStruck place clue) old new left → Narrows (λ g. Solves (towers_puzzle v) g) (IsClueStruck v place) old new left
+pub clue_narrows : (v : TowersValue) (place clue : ℕ) (old new : CandidatesValue) (left : Bool) → old.size ≡ v.size → place < 4 * old.size → clue ≡ clue_of v place → clue ≢ 0 → Narrows (ShowsClue place clue) (IsViewStruck place clue) old new left → Narrows (Solves (towers_puzzle v)) (IsClueStruck v place) old new left
 clue_narrows v place clue old new left size inside is some h =
     narrows_for (λ g s. (
       record { is_grid = s.is_grid; latin = s.latin },
@@ -182,27 +174,14 @@ clue_narrows v place clue old new left size inside is some h =
     subst P (sym is) s.1) h)
 
 ends : (w place line : ℕ) → place < 4 * w → view_line w place ≡ line → (place ≡ front_place w line) ⊎ (place ≡ front_place w line + w)
-ends w place line inside is =
-    elim (cases_lt place w) [
-      | inl top ↦
-          let at : w + place ≡ line = rw (lt-ltb place w top) at is in
-          inl (rw (le-ltb line w (omega arith)) (omega arith))
-      | inr below ↦ elim (cases_lt place (2 * w)) [
-        | inl bottom ↦
-            let at : place ≡ line = rw (le-ltb place w below, lt-ltb place (2 * w) bottom) at is in
-            inr (rw (le-ltb line w (omega arith)) (omega arith))
-        | inr beside ↦ elim (cases_lt place (3 * w)) [
-          | inl left ↦
-              let at : place - 2 * w ≡ line = rw (le-ltb place w below, le-ltb place (2 * w) beside, lt-ltb place (3 * w) left) at is in
-              inl (rw (lt-ltb line w (omega arith)) (omega arith))
-          | inr right ↦
-              let at : place - 3 * w ≡ line = rw (le-ltb place w below, le-ltb place (2 * w) beside, le-ltb place (3 * w) right) at is in
-              inr (rw (lt-ltb line w (omega arith)) (omega arith))
-        ]
-      ]
-    ]
+ends w place line inside =
+    edge_cases (λ at. at ≡ line → (place ≡ front_place w line) ⊎ (place ≡ front_place w line + w)) w place _ _ _ _
+    (λ upper is. inl (rw (le-ltb line w (omega arith)) (omega arith)))
+    (λ from lower is. inr (rw (le-ltb line w (omega arith)) (omega arith)))
+    (λ from left is. inl (rw (lt-ltb line w (omega arith)) (omega arith)))
+    (λ right is. inr (rw (lt-ltb line w (omega arith)) (omega arith)))
 
-pub ends_narrow : (v : TowersValue) (line front back : ℕ) (old between new : CandidatesValue) (left : Bool) → front ≡ front_place old.size line → back ≡ front + old.size → Narrows (λ g. Solves (towers_puzzle v) g) (IsClueStruck v front) old between true → Narrows (λ g. Solves (towers_puzzle v) g) (IsClueStruck v back) between new left → Narrows (λ g. Solves (towers_puzzle v) g) (IsEndStruck v line) old new left
+pub ends_narrow : (v : TowersValue) (line front back : ℕ) (old between new : CandidatesValue) (left : Bool) → front ≡ front_place old.size line → back ≡ front + old.size → Narrows (Solves (towers_puzzle v)) (IsClueStruck v front) old between true → Narrows (Solves (towers_puzzle v)) (IsClueStruck v back) between new left → Narrows (Solves (towers_puzzle v)) (IsEndStruck v line) old new left
 ends_narrow v line front back old between new left first second one two =
     narrows_by (λ c e cell value pair s.
     let P : ℕ → Type 0 = λ n. IsClueStruck v n c cell value in
@@ -229,25 +208,3 @@ towers_by_lines v c cell value struck = elim struck [
     },
   )
 ]
-
--- ---- a line of which each candidate is in a filling
-
-pub view_kept : (c : CandidatesValue) (place clue : ℕ) (sets : List ℕ) → place < 4 * c.size → AreSetsOf c place sets → c.size ≤ 9 → ((k v : ℕ) → k < c.size → has_mark (get_or sets k 0) v ≡ true → IsSupported (take c.size sets) clue k v) → Narrows (λ g. IsSquare g × (seen (view_of g place) ≡ clue)) (IsViewStruck place clue) c c true
-view_kept c place clue sets inside is small supported = record {
-  less = earlier_refl c;
-  keeps = λ g s size w. w;
-  refutes = tt;
-  struck = record {
-    each = λ first e cell v pair s.
-        let k = s.index in
-        let low : k < c.size = omega (arith, s.inside, e.size) in
-        let here : view_cell c.size place k ≡ cell = ap (λ (w : ℕ). view_cell w place k) e.size ∙ s.here in
-        let gone : may_be c (view_cell c.size place k) v ≡ false =
-        false_from_ne_true (may_be c (view_cell c.size place k) v) (λ left.
-        let at : IsPair c.size (view_cell c.size place k) v = record { inside = view_inside c.size place k inside low; low = pair.low; high = omega (arith, pair.high, e.size) } in
-        let found = supported k v low ((is.each k v low).1 (at, left)) in
-        s.unfilled.none found.line (filling_earlier first c place clue sets found.line e is small found.filling) found.here) in
-        let P : ℕ → Type 0 = λ i. may_be c i v ≡ false in
-        subst P here gone;
-  };
-}

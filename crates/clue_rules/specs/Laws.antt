@@ -1,6 +1,7 @@
 -- Lemmas for the laws of the traits that the games keep: items and cuts, and texts that are read and written.
 pub mod CluePart
 pub mod Contradiction
+pub mod Edges
 pub mod Exactly
 pub mod GameIds
 pub mod GoodPieces

@@ -32,6 +32,10 @@ ShowsClue place clue g = IsSquare g × (seen (view_of g place) ≡ clue)
 abbrev pub HoldValuesTo : ℕ → List ℕ → Type 0
 HoldValuesTo w sets = (k v : ℕ) → k < w → has_mark (slice_index sets k) v ≡ true → (1 ≤ v) × (v ≤ w)
 
--- each value of the first w sets stands there in some filling
-abbrev pub AreSupported : ℕ → ℕ → List ℕ → Type 0
-AreSupported w clue sets = (k v : ℕ) → k < w → has_mark (slice_index sets k) v ≡ true → IsSupported (take w sets) clue k v
+-- each value that is kept of the first w sets stands in its square in some filling
+abbrev pub AreSupported : ℕ → ℕ → List ℕ → List ℕ → Type 0
+AreSupported w clue sets kept = (k v : ℕ) → k < w → has_mark (slice_index kept k) v ≡ true → IsSupported (take w sets) clue k v
+
+-- each value that some filling has is kept
+abbrev pub KeepSupported : ℕ → ℕ → List ℕ → List ℕ → Type 0
+KeepSupported w clue sets kept = (k v : ℕ) → IsSupported (take w sets) clue k v → has_mark (slice_index kept k) v ≡ true

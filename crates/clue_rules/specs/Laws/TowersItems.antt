@@ -2,7 +2,7 @@
 use Rattle.std.proofs.Common.{◌≡◌, ℕ, zero, ◌+◌, ◌-◌, ◌*◌, ◌<◌, ◌≤◌, Bool, true, eqb, ◌&&◌, ◌||◌, [], length, get_or, refl, sym, ◌∙◌, inl, inr, arith, nat_lt}
 use Rattle.std.specs.Bool.{Decides}
 use Rattle.std.specs.List.{range_with_len}
-use Rattle.std.proofs.lemmas.Bool.{lt-ltb, le-ltb, cases_lt}
+use Rattle.std.proofs.lemmas.Bool.{lt-ltb, cases_lt}
 use Rattle.std.proofs.lemmas.Bool.Decides.{Decides-like, Decides-or, Decides-eqb}
 use Rattle.std.proofs.lemmas.List.{length-reverse}
 use Rattle.std.proofs.lemmas.List.Elements.{All-map}
@@ -15,6 +15,7 @@ use Rattle.trail_solver.specs.Puzzles.{Solves}
 use Rattle.clue_rules.specs.Towers.{TowersValue, IsTowers, clue_of, HoldsClues, meets_clue, meets_clues, towers_puzzle, towers_items, has_towers, cut_towers, full_towers}
 use Rattle.clue_rules.specs.Views.{view_of}
 use Rattle.clue_rules.specs.Laws.KeptItems.{length-kept, kept-all, kept-kept, All-kept, still_asked, has_item-kept, items_agree, has_item-full, not_positive, small_widths}
+use Rattle.clue_rules.specs.Laws.Edges.{edge_cases}
 
 -- ---- the test of the clues
 
@@ -92,17 +93,11 @@ length-row g row = length-map-range_with_len (λ c. number_at g (row * g.size + 
 
 pub length-view_of : (g : GridValue) (place : ℕ) → length (view_of g place) ≡ g.size
 length-view_of g place =
-    elim (cases_lt place g.size) [
-      | inl top ↦ rw (lt-ltb place g.size top) (length-column g place)
-      | inr below ↦ elim (cases_lt place (2 * g.size)) [
-        | inl bottom ↦ rw (le-ltb place g.size below, lt-ltb place (2 * g.size) bottom) (length-reverse (column_of g (place - g.size)) ∙ length-column g (place - g.size))
-        | inr beside ↦ elim (cases_lt place (3 * g.size)) [
-          | inl left ↦ rw (le-ltb place g.size below, le-ltb place (2 * g.size) beside, lt-ltb place (3 * g.size) left) (length-row g (place - 2 * g.size))
-          | inr right ↦ rw (le-ltb place g.size below, le-ltb place (2 * g.size) beside, le-ltb place (3 * g.size) right)
-              (length-reverse (row_of g (place - 3 * g.size)) ∙ length-row g (place - 3 * g.size))
-        ]
-      ]
-    ]
+    edge_cases (λ line. length line ≡ g.size) g.size place _ _ _ _
+    (λ upper. length-column g place)
+    (λ from lower. length-reverse (column_of g (place - g.size)) ∙ length-column g (place - g.size))
+    (λ from left. length-row g (place - 2 * g.size))
+    (λ right. length-reverse (row_of g (place - 3 * g.size)) ∙ length-row g (place - 3 * g.size))
 
 pub seen_within : (g : GridValue) (place : ℕ) → seen (view_of g place) ≤ g.size
 seen_within g place = omega (arith, seen_most [] (view_of g place), length-view_of g place)

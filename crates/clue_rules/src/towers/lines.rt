@@ -117,7 +117,7 @@ fn narrow_view(candidates: &mut Candidates, place: u8, clue: u8, changed: &mut C
 fn shows_alone(sets: &[u16; LINE], width: usize, clue: u8) -> bool
     requires width { width ≤ 9 }
     requires values { HoldValuesTo width sets.now }
-    ensures { OnTrue result (AreSupported width clue sets.now) }
+    ensures { OnTrue result (AreSupported width clue sets.now sets.now) }
 {
     let mut line = [0; LINE];
     let mut used = 0;
