@@ -1,9 +1,10 @@
 -- Filling a table from the front.
-use Rattle.std.proofs.Common.{◌≡◌, ℕ, ◌+◌, ◌-◌, ◌<◌, ◌≤◌, List, [], ◌∷◌, ◌++◌, take, drop, set, replicate, map, refl, sym, ap, ◌∙◌, arith, length-set}
+use Rattle.std.proofs.Common.{◌≡◌, ℕ, ◌+◌, ◌-◌, ◌<◌, ◌≤◌, List, [], ◌∷◌, ◌++◌, take, drop, set, replicate, map, refl, sym, ap, ◌∙◌, arith, length-set, length, slice_index_or, inl, inr}
 use Rattle.std.specs.List.{range_with_len}
 use Rattle.std.proofs.Math.Seq.{take-add}
-use Rattle.std.proofs.lemmas.List.{drop-drop, drop-replicate, take-replicate, length-replicate, take_more_set, drop-set-lt}
+use Rattle.std.proofs.lemmas.List.{drop-drop, drop-replicate, take-replicate, length-replicate, take_more_set, drop-set-lt, get_or-set_same, get_or-set_other}
 use Rattle.std.proofs.lemmas.List.FromFn.{map-range_with_len_more}
+use Rattle.std.proofs.lemmas.Bool.{cases_eq}
 use Rattle.clue_rules.specs.Inner.Filled.{IsFilledTo}
 
 pub filled_begin : {X : Type 0} (empty : X) (n : ℕ) → IsFilledTo empty n 0 (replicate n empty)
@@ -43,3 +44,11 @@ pub filled_more : {X : Type 0} (empty : X) (n : ℕ) (f : ℕ → X) (i : ℕ) (
 filled_more empty n f i xs v inside is h =
     let one = filled_one empty n i v xs h.filled inside in
     record { filled = one.0; front = rw (one.1, h.front, is, map-range_with_len_more f 0 i i (omega arith)) refl }
+
+-- what is so of each entry below n, and of the one that is set there, is so of each below n + 1
+pub entries_more : {X : Type 0} (P : ℕ → X → Type 0) (xs : List X) (n : ℕ) (v d : X) → n < length xs
+    → ((k : ℕ) → k < n → P k (slice_index_or xs k d)) → P n v → (k : ℕ) → k < n + 1 → P k (slice_index_or (set xs n v) k d)
+entries_more P xs n v d inside before here k low = elim (cases_eq k n) [
+  | inl same ↦ rw (same, get_or-set_same xs n v d inside) here
+  | inr other ↦ rw (get_or-set_other xs n k v d other) (before k (omega arith))
+]

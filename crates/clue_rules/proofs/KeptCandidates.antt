@@ -1,8 +1,7 @@
 -- The values of a set are kept in a square, and those of a row of sets along a line.
-use Rattle.std.proofs.Common.{◌≡◌, ◌≢◌, ℕ, ◌+◌, ◌*◌, ◌^◌, ◌<◌, ◌≤◌, ◌↔◌, ◌⊎◌, true, false, List, length, get_or, set, inl, inr, refl, sym, ap, ◌∙◌, subst, ⊎_elim, arith, bit_and}
+use Rattle.std.proofs.Common.{◌≡◌, ◌≢◌, ℕ, ◌+◌, ◌*◌, ◌^◌, ◌<◌, ◌≤◌, ◌⊎◌, true, false, List, length, get_or, set, inl, inr, refl, sym, ap, ◌∙◌, subst, ⊎_elim, arith, bit_and}
 use Rattle.std.proofs.Math.ListN.{length-set}
 use Rattle.std.proofs.lemmas.Bool.{cases_eq, both_ways, false_from_ne_true, and_parts}
-use Rattle.std.proofs.lemmas.List.{get_or-set_same, get_or-set_other}
 use Rattle.latin_board.specs.Marks.{has_mark}
 use Rattle.latin_board.specs.Squares.{GridValue, number_at}
 use Rattle.tower_lines.proofs.MarkLemmas.{mark-and, mark-zero, mark-pow_same}
@@ -10,8 +9,9 @@ use Rattle.trail_solver.specs.Pairs.{IsPair}
 use Rattle.trail_solver.specs.Candidates.{CandidatesValue, IsEarlier, IsWithin, may_be}
 use Rattle.trail_solver.proofs.Earlier.{earlier_refl, earlier_trans, stays_gone}
 use Rattle.trail_solver.proofs.OneKept.{Removes, removed_earlier, gone_removed, rest_removed}
-use Rattle.clue_rules.specs.Inner.Narrowing.{KeepsOf, KeepsAlong, AreSetsOf, Agrees}
+use Rattle.clue_rules.specs.Inner.Narrowing.{KeepsOf, KeepsAlong, Agrees, IsSetOf, AreSetsTo, AreSetsOf, KeepsEach}
 use Rattle.clue_rules.specs.Views.{view_cell}
+use Rattle.clue_rules.proofs.FilledLemmas.{entries_more}
 
 -- ---- one square, value by value
 
@@ -63,7 +63,7 @@ below_all first now cell kept n h all = record {
 }
 
 -- a square whose candidates are all in the set
-pub kept_whole : (c : CandidatesValue) (cell kept set : ℕ) → ((v : ℕ) → (has_mark set v ≡ true) ↔ (IsPair c.size cell v × (may_be c cell v ≡ true))) → bit_and set kept ≡ set → KeepsOf c c cell kept
+pub kept_whole : (c : CandidatesValue) (cell kept set : ℕ) → IsSetOf c cell set → bit_and set kept ≡ set → KeepsOf c c cell kept
 kept_whole c cell kept set is whole = record {
   less = earlier_refl c;
   gone = λ v pair lacks. false_from_ne_true (may_be c cell v) (λ left.
@@ -130,7 +130,7 @@ along_whole place sets kept c is same = record {
   empty = tt;
   gone = λ k v inside pair lacks. false_from_ne_true (may_be c (view_cell c.size place k) v) (λ left.
       let P : ℕ → Type 0 = λ m. has_mark m v ≡ true in
-      both_ways (has_mark (get_or kept k 0) v) lacks (subst P (same k inside) ((is.each k v inside).1 (pair, left))));
+      both_ways (has_mark (get_or kept k 0) v) lacks (subst P (same k inside) ((is.each k inside v).1 (pair, left))));
 }
 
 pub up_to_empty : (place : ℕ) (kept : List ℕ) (n : ℕ) (first now : CandidatesValue) → KeepsUpTo place kept (n + 1) first now → n < first.size → get_or kept n 0 ≡ 0 → KeepsAlong place kept first now false
@@ -143,51 +143,36 @@ up_to_empty place kept n first now h inside none = record {
 
 -- ---- the sets of a line
 
--- the first n sets are those of the candidates
-pub record AreSetsUpTo (c : CandidatesValue) (place n : ℕ) (sets : List ℕ) : Type 0 where
-  pub count : length sets ≡ 9
-  pub each : (k v : ℕ) → k < n → (has_mark (get_or sets k 0) v ≡ true) ↔ (IsPair c.size (view_cell c.size place k) v × (may_be c (view_cell c.size place k) v ≡ true))
+pub sets_none : (c : CandidatesValue) (place : ℕ) (sets : List ℕ) → length sets ≡ 9 → AreSetsTo c place 0 sets
+sets_none c place sets count = record { count = count; each = λ k low. absurd (omega arith) }
 
-pub sets_none : (c : CandidatesValue) (place : ℕ) (sets : List ℕ) → length sets ≡ 9 → AreSetsUpTo c place 0 sets
-sets_none c place sets count = record { count = count; each = λ k v low. absurd (omega arith) }
-
-pub sets_more : (c : CandidatesValue) (place n cell found : ℕ) (sets : List ℕ) → AreSetsUpTo c place n sets → n < 9 → cell ≡ view_cell c.size place n → ((v : ℕ) → (has_mark found v ≡ true) ↔ (IsPair c.size cell v × (may_be c cell v ≡ true))) → AreSetsUpTo c place (n + 1) (set sets n found)
+pub sets_more : (c : CandidatesValue) (place n cell found : ℕ) (sets : List ℕ) → AreSetsTo c place n sets → n < 9 → cell ≡ view_cell c.size place n → IsSetOf c cell found → AreSetsTo c place (n + 1) (set sets n found)
 sets_more c place n cell found sets h inside at is = record {
   count = length-set sets n found ∙ h.count;
-  each = λ k v low. elim (cases_eq k n) [
-    | inl same ↦
-        let here : get_or (set sets n found) n 0 ≡ found = get_or-set_same sets n found 0 (omega (arith, h.count)) in
-        let Is : ℕ → Type 0 = λ i. (has_mark (get_or (set sets n found) i 0) v ≡ true) ↔ (IsPair c.size (view_cell c.size place i) v × (may_be c (view_cell c.size place i) v ≡ true)) in
-        let Here : ℕ → Type 0 = λ m. (has_mark m v ≡ true) ↔ (IsPair c.size (view_cell c.size place n) v × (may_be c (view_cell c.size place n) v ≡ true)) in
-        let There : ℕ → Type 0 = λ i. (has_mark found v ≡ true) ↔ (IsPair c.size i v × (may_be c i v ≡ true)) in
-        subst Is (sym same) (subst Here (sym here) (subst There at (is v)))
-    | inr other ↦
-        let there : get_or (set sets n found) k 0 ≡ get_or sets k 0 = get_or-set_other sets n k found 0 other in
-        let There : ℕ → Type 0 = λ m. (has_mark m v ≡ true) ↔ (IsPair c.size (view_cell c.size place k) v × (may_be c (view_cell c.size place k) v ≡ true)) in
-        subst There (sym there) (h.each k v (omega arith))
-  ];
+  each = entries_more (λ k m. IsSetOf c (view_cell c.size place k) m) sets n found 0 (omega (arith, h.count)) h.each
+      (let P : ℕ → Type 0 = λ i. IsSetOf c i found in subst P at is);
 }
 
-pub sets_all : (c : CandidatesValue) (place n : ℕ) (sets : List ℕ) → AreSetsUpTo c place n sets → n ≡ c.size → AreSetsOf c place sets
-sets_all c place n sets h all = record { count = h.count; each = λ k v inside. h.each k v (omega arith) }
+pub sets_all : (c : CandidatesValue) (place n : ℕ) (sets : List ℕ) → AreSetsTo c place n sets → n ≡ c.size → AreSetsOf c place sets
+sets_all c place n sets h all = record { count = h.count; each = λ k inside. h.each k (omega arith) }
 
 -- ---- givens
 
--- the givens of the first n squares are kept
-pub record KeepsGivens (givens : GridValue) (n : ℕ) (first now : CandidatesValue) : Type 0 where
+-- a step that keeps the grids with these givens
+pub record KeepsGivens (givens : GridValue) (first now : CandidatesValue) : Type 0 where
   pub less : IsEarlier first now
-  pub keeps : (g : GridValue) → Agrees givens g → IsWithin first g → IsWithin now g
+  pub keeps : KeepsEach (Agrees givens) first now
 
-pub givens_none : (givens : GridValue) (c : CandidatesValue) → KeepsGivens givens 0 c c
+pub givens_none : (givens : GridValue) (c : CandidatesValue) → KeepsGivens givens c c
 givens_none givens c = record { less = earlier_refl c; keeps = λ g agrees w. w }
 
-pub givens_more : (givens : GridValue) (n given : ℕ) (first now new : CandidatesValue) → KeepsGivens givens n first now → n < givens.size * givens.size → given ≡ number_at givens n → IsEarlier now new → ((g : GridValue) → (0 < given → number_at g n ≡ given) → IsWithin now g → IsWithin new g) → KeepsGivens givens (n + 1) first new
+pub givens_more : (givens : GridValue) (n given : ℕ) (first now new : CandidatesValue) → KeepsGivens givens first now → n < givens.size * givens.size → given ≡ number_at givens n → IsEarlier now new → KeepsEach (λ g. 0 < given → number_at g n ≡ given) now new → KeepsGivens givens first new
 givens_more givens n given first now new h inside is less keeps = record {
   less = earlier_trans first now new h.less less;
   keeps = λ g agrees w. keeps g (λ some. agrees.each n inside (omega arith) ∙ sym is) (h.keeps g agrees w);
 }
 
-pub given_kept : (old new : CandidatesValue) (cell given kept : ℕ) → kept ≡ 2 ^ given → 0 < given → KeepsOf old new cell kept → (g : GridValue) → (0 < given → number_at g cell ≡ given) → IsWithin old g → IsWithin new g
+pub given_kept : (old new : CandidatesValue) (cell given kept : ℕ) → kept ≡ 2 ^ given → 0 < given → KeepsOf old new cell kept → KeepsEach (λ g. 0 < given → number_at g cell ≡ given) old new
 given_kept old new cell given kept is some k g agrees w =
     let P : ℕ → ℕ → Type 0 = λ m v. has_mark m v ≡ true in
     let here : has_mark kept (number_at g cell) ≡ true = subst (λ m. P m (number_at g cell)) (sym is) (subst (P (2 ^ given)) (sym (agrees some)) (mark-pow_same given)) in

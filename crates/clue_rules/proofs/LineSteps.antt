@@ -1,5 +1,5 @@
 -- What one row or column rules out: its squares' candidates as sets, and a Latin square among them.
-use Rattle.std.proofs.Common.{◌≡◌, ℕ, ◌*◌, ◌<◌, ◌≤◌, Bool, true, false, List, get_or, inl, inr, sym, ap, ◌∙◌, subst, arith}
+use Rattle.std.proofs.Common.{◌≡◌, ℕ, ◌*◌, ◌<◌, Bool, true, false, List, get_or, inl, inr, sym, ap, ◌∙◌, subst, arith}
 use Rattle.std.proofs.lemmas.Bool.{both_ways, false_from_ne_true}
 use Rattle.latin_board.specs.Marks.{has_mark}
 use Rattle.latin_board.specs.Squares.{GridValue, number_at}
@@ -9,8 +9,8 @@ use Rattle.latin_board.proofs.Numbers.{number_within}
 use Rattle.trail_solver.specs.Pairs.{IsPair}
 use Rattle.trail_solver.specs.Candidates.{CandidatesValue, IsEarlier, IsOnly, IsWithin, may_be}
 use Rattle.trail_solver.proofs.Earlier.{earlier_refl, only_later, was_left}
-use Rattle.clue_rules.specs.Inner.Narrowing.{AreSetsOf, IsSquare, KeepsAlong, Narrows, StruckBelow}
-use Rattle.clue_rules.specs.Inner.LineTallies.{IsSingle, IsPossible, IsWholeTally, IsKeptOf, IsLineStruck}
+use Rattle.clue_rules.specs.Inner.Narrowing.{AreSetsOf, IsSquare, KeepsAlong, Narrows, StruckBelow, IsSetOf}
+use Rattle.clue_rules.specs.Inner.LineTallies.{IsSingle, IsPossible, IsWholeTally, IsKeptOf, IsLineStruck, HoldValuesTo}
 use Rattle.clue_rules.specs.Struck.{IsOnePlace, IsPeerStruck, IsPlaceStruck, IsLatinStruck}
 use Rattle.clue_rules.specs.Views.{view_cell}
 use Rattle.clue_rules.specs.declared.lines.latin.Tally.{Tally}
@@ -52,6 +52,10 @@ grid_pair g w cell s size inside =
       high = omega (arith, number_within g s.is_grid cell here);
     }
 
+-- a grid within the candidates has a number of the cell's set
+pub in_set : (c : CandidatesValue) (cell set : ℕ) (g : GridValue) → IsSetOf c cell set → IsSquare g → g.size ≡ c.size → IsWithin c g → cell < c.size * c.size → has_mark set (number_at g cell) ≡ true
+in_set c cell set g is s size w inside = (is (number_at g cell)).1 (grid_pair g c.size cell s size inside, w.each cell inside)
+
 along_inside : (w line place k : ℕ) → IsAlong w line place → k < w → view_cell w place k < w * w
 along_inside w line place k a inside = rw (a.cells k) (line_cell_inside w line k a.line_is inside)
 
@@ -62,8 +66,7 @@ square_possible c line place sets g a is s size within =
     λ k. ap (number_at g) (a.cells k ∙ ap (λ (w : ℕ). line_cell w line k) (sym size)) in
     record {
       within = λ k inside.
-          let there = along_inside c.size line place k a inside in
-          (is.each k (number_at g (view_cell c.size place k)) inside).1 (grid_pair g c.size (view_cell c.size place k) s size there, within.each (view_cell c.size place k) there);
+          in_set c (view_cell c.size place k) (get_or sets k 0) g (is.each k inside) s size within (along_inside c.size line place k a inside);
       apart = λ i j first second apart same.
           line_differs g s.is_grid s.latin line i j (omega (arith, a.line_is)) (omega arith) (omega arith) apart
           (sym (cell_is i) ∙ same ∙ cell_is j);
@@ -74,8 +77,8 @@ square_possible c line place sets g a is s size within =
 
 -- ---- what the tally of a line's sets says
 
-sets_values : (c : CandidatesValue) (place : ℕ) (sets : List ℕ) → AreSetsOf c place sets → (i v : ℕ) → i < c.size → has_mark (get_or sets i 0) v ≡ true → (1 ≤ v) × (v ≤ c.size)
-sets_values c place sets is i v inside has = let p = ((is.each i v inside).0 has).0 in (p.low, p.high)
+sets_values : (c : CandidatesValue) (place : ℕ) (sets : List ℕ) → AreSetsOf c place sets → HoldValuesTo c.size sets
+sets_values c place sets is k v inside has = let p = ((is.each k inside v).0 has).0 in (p.low, p.high)
 
 pub line_solved : (c : CandidatesValue) (line place : ℕ) (sets kept : List ℕ) (t : Tally) → IsAlong c.size line place → AreSetsOf c place sets → IsWholeTally sets c.size t → ((k : ℕ) → k < c.size → IsKeptOf t (get_or sets k 0) (get_or kept k 0)) → (g : GridValue) → IsSquare g → g.size ≡ c.size → IsWithin c g → (k : ℕ) → k < c.size → has_mark (get_or kept k 0) (number_at g (view_cell c.size place k)) ≡ true
 line_solved c line place sets kept t a is whole keeps g s size within k inside =
@@ -90,17 +93,17 @@ taken_single first c line place by v sets t e a is whole inside only =
     let Only : ℕ → Type 0 = λ i. IsOnly first i v in
     let was : IsOnly first cell v = subst Only same only in
     let some = whole.tally.some by inside in
-    let left = (is.each by some.0 inside).0 some.1 in
+    let left = (is.each by inside some.0).0 some.1 in
     let now = only_later first c cell v some.0 e was left.0.low left.0.high left.1 in
     record {
-      has = (is.each by v inside).1 (record { inside = left.0.inside; low = now.low; high = now.high }, now.left);
-      alone = λ u has. let p = (is.each by u inside).0 has in now.alone u p.0.low p.0.high p.1;
+      has = (is.each by inside v).1 (record { inside = left.0.inside; low = now.low; high = now.high }, now.left);
+      alone = λ u has. let p = (is.each by inside u).0 has in now.alone u p.0.low p.0.high p.1;
     }
 
 -- a value that had one place has no other still
 one_place : (first c : CandidatesValue) (line place k v : ℕ) (sets : List ℕ) → IsEarlier first c → IsAlong c.size line place → AreSetsOf c place sets → IsOnePlace first line v k → (j : ℕ) → j < c.size → has_mark (get_or sets j 0) v ≡ true → j ≡ k
 one_place first c line place k v sets e a is one j inside has =
-    let left = ((is.each j v inside).0 has).1 in
+    let left = ((is.each j inside v).0 has).1 in
     let same : view_cell c.size place j ≡ line_cell first.size line j = a.cells j ∙ ap (λ (w : ℕ). line_cell w line j) e.size in
     let P : ℕ → Type 0 = λ i. may_be c i v ≡ true in
     one.alone j (omega (arith, e.size)) (was_left first c (line_cell first.size line j) v e (subst P same left))

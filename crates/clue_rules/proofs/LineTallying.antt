@@ -2,15 +2,15 @@
 use Rattle.std.proofs.Common.{◌≡◌, ◌≢◌, ℕ, ◌+◌, ◌^◌, ◌<◌, ◌≤◌, ◌↔◌, ◌⊎◌, true, false, not, ◌&&◌, leb, List, length, get_or, set, inl, inr, sym, ap, ◌∙◌, subst, arith, bit_and, bit_or}
 use Rattle.std.proofs.lemmas.Bool.{cases_Bool, cases_lt, cases_eq, cases_order, both_ways, false_from_ne_true, and_parts, and_from, le-leb, leb-true, or_left, or_right, not-true, or_cases}
 use Rattle.std.proofs.Math.ListN.{length-set}
-use Rattle.std.proofs.lemmas.List.{get_or-set_same, get_or-set_other}
 use Rattle.std.proofs.lemmas.Nat.{and_le_r}
 use Rattle.latin_board.specs.Marks.{has_mark, full_marks}
 use Rattle.latin_board.proofs.MarkSets.{has_mark-full_marks}
 use Rattle.tower_lines.proofs.MarkLemmas.{mark-and, mark-or, mark-zero, same_from_marks}
-use Rattle.clue_rules.specs.Inner.LineTallies.{IsSingle, IsPossible, IsTally, IsWholeTally, IsCounted, IsClash, IsHidden, MayStay, IsKeptOf}
+use Rattle.clue_rules.specs.Inner.LineTallies.{IsSingle, IsPossible, IsTally, IsWholeTally, IsCounted, IsClash, IsHidden, MayStay, IsKeptOf, HoldValuesTo}
 use Rattle.clue_rules.specs.declared.lines.latin.Tally.{Tally}
 use Rattle.clue_rules.proofs.SingleSets.{some_value}
-use Rattle.clue_rules.specs.Inner.TowersLines.{HoldValuesTo}
+use Rattle.clue_rules.proofs.FilledLemmas.{entries_more}
+use Rattle.clue_rules.proofs.RangeLemmas.{below_one_more}
 
 -- ---- one set more
 
@@ -31,18 +31,7 @@ tally_more sets n t u h more =
     let At : ℕ → ℕ → Type 0 = λ k v. has_mark (get_or sets k 0) v ≡ true in
     let Alone : ℕ → ℕ → Type 0 = λ k v. IsSingle (get_or sets k 0) v in
     record {
-      once = λ v. (
-        λ e. elim ((more.once v).0 e) [
-          | inl old ↦ let p = (h.once v).0 old in (p.0, omega (arith, p.1), p.2)
-          | inr new ↦ (n, omega arith, new)
-        ],
-        λ p. elim (cases_lt p.0 n) [
-          | inl low ↦ (more.once v).1 (inl ((h.once v).1 (p.0, low, p.2)))
-          | inr high ↦
-              let last : p.0 ≡ n = omega (arith, p.1) in
-              (more.once v).1 (inr (subst (λ k. At k v) last p.2))
-        ],
-      );
+      once = λ v. below_one_more (λ k. At k v) n (h.once v) (more.once v);
       twice = λ v. (
         λ e. elim ((more.twice v).0 e) [
           | inl old ↦ let p = (h.twice v).0 old in (p.0, p.1, p.2, omega (arith, p.3), p.4, p.5)
@@ -56,18 +45,7 @@ tally_more sets n t u h more =
               (more.twice v).1 (inr ((h.once v).1 (p.0, before, p.4), subst (λ k. At k v) last p.5))
         ],
       );
-      singles = λ v. (
-        λ e. elim ((more.singles v).0 e) [
-          | inl old ↦ let p = (h.singles v).0 old in (p.0, omega (arith, p.1), p.2)
-          | inr new ↦ (n, omega arith, new)
-        ],
-        λ p. elim (cases_lt p.0 n) [
-          | inl low ↦ (more.singles v).1 (inl ((h.singles v).1 (p.0, low, p.2)))
-          | inr high ↦
-              let last : p.0 ≡ n = omega (arith, p.1) in
-              (more.singles v).1 (inr (subst (λ k. Alone k v) last p.2))
-        ],
-      );
+      singles = λ v. below_one_more (λ k. Alone k v) n (h.singles v) (more.singles v);
       some = λ k low. elim (cases_lt k n) [
         | inl below ↦ h.some k below
         | inr high ↦
@@ -339,15 +317,5 @@ counted_more t u set single s some small apart once twice singles =
 pub kept_more : (t : Tally) (sets kept : List ℕ) (n found : ℕ) → n < 9 → (length kept ≡ 9) × ((j : ℕ) → j < n → IsKeptOf t (get_or sets j 0) (get_or kept j 0)) → IsKeptOf t (get_or sets n 0) found → (length (set kept n found) ≡ 9) × ((j : ℕ) → j < n + 1 → IsKeptOf t (get_or sets j 0) (get_or (set kept n found) j 0))
 kept_more t sets kept n found inside h is = (
   length-set kept n found ∙ h.0,
-  λ j low. elim (cases_eq j n) [
-    | inl same ↦
-        let here : get_or (set kept n found) n 0 ≡ found = get_or-set_same kept n found 0 (omega (arith, h.0)) in
-        let P : ℕ → Type 0 = λ i. IsKeptOf t (get_or sets i 0) (get_or (set kept n found) i 0) in
-        let Q : ℕ → Type 0 = λ m. IsKeptOf t (get_or sets n 0) m in
-        subst P (sym same) (subst Q (sym here) is)
-    | inr other ↦
-        let there : get_or (set kept n found) j 0 ≡ get_or kept j 0 = get_or-set_other kept n j found 0 other in
-        let Q : ℕ → Type 0 = λ m. IsKeptOf t (get_or sets j 0) m in
-        subst Q (sym there) (h.1 j (omega arith))
-  ],
+  entries_more (λ j m. IsKeptOf t (get_or sets j 0) m) kept n found 0 (omega (arith, h.0)) h.1 is,
 )

@@ -2,13 +2,13 @@
 use Rattle.std.proofs.Common.{◌≡◌, ◌≢◌, ℕ, ◌+◌, ◌-◌, ◌*◌, ◌<◌, ◌≤◌, ◌⊎◌, length, Bool, true, false, inl, inr, sym, ◌∙◌, subst, arith}
 use Rattle.std.specs.Bool.{OnTrue, OnFalse}
 use Rattle.std.proofs.Math.Nat.{mul-le-mul_left}
-use Rattle.std.proofs.lemmas.Bool.{cases_lt}
 use Rattle.latin_board.specs.Squares.{GridValue}
 use Rattle.trail_solver.specs.Pairs.{IsPair}
 use Rattle.trail_solver.specs.Candidates.{CandidatesValue, IsEarlier, may_be}
 use Rattle.trail_solver.proofs.Earlier.{earlier_refl, earlier_trans, prefix_length, stays_gone}
 use Rattle.clue_rules.specs.Inner.Narrowing.{LacksStruck, Narrows, NoneStruck, StruckBelow, IsStruckByLines}
 use Rattle.clue_rules.specs.Struck.{IsLatinStruck}
+use Rattle.clue_rules.proofs.RangeLemmas.{below_cases}
 
 pub on_true : (b : Bool) {P Q : Type 0} → (P → Q) → OnTrue b P → OnTrue b Q
 on_true true f h = f h
@@ -75,14 +75,7 @@ pub below_none : (S : GridValue → Type 0) (T : ℕ → CandidatesValue → ℕ
 below_none S T c = narrows_by (λ first e cell v pair s. absurd (omega (arith, s.1))) (narrows_nothing S c)
 
 pub below_more : {S : GridValue → Type 0} {T : ℕ → CandidatesValue → ℕ → ℕ → Type 0} {n : ℕ} {a b c : CandidatesValue} → Narrows S (StruckBelow T n) a b true → Narrows S (T n) b c true → Narrows S (StruckBelow T (n + 1)) a c true
-below_more {T = T} {n = n} one two =
-    narrows_then (λ first cell v s. elim (cases_lt s.0 n) [
-      | inl low ↦ inl (s.0, low, s.2)
-      | inr high ↦
-          let last : s.0 ≡ n = omega (arith, s.1) in
-          let P : ℕ → Type 0 = λ k. T k first cell v in
-          inr (subst P last s.2)
-    ]) one two
+below_more {T = T} {n = n} one two = narrows_then (λ first cell v s. below_cases (λ k. T k first cell v) n s) one two
 
 -- steps of which nothing is known to be struck
 pub nothing_more : {S : GridValue → Type 0} {U : CandidatesValue → ℕ → ℕ → Type 0} {a b c : CandidatesValue} {r : Bool} → Narrows S NoneStruck a b true → Narrows S U b c r → Narrows S NoneStruck a c r

@@ -8,8 +8,9 @@ use Rattle.std.proofs.lemmas.Nat.Bits.{bit_at-trailing_zeros}
 use Rattle.latin_board.specs.Marks.{has_mark}
 use Rattle.tower_lines.specs.TowersSeen.{seen}
 use Rattle.tower_lines.proofs.MarkLemmas.{mark-and, mark-or, mark-zero, mark-from_bit}
-use Rattle.clue_rules.specs.Inner.LineTallies.{IsSingle}
-use Rattle.clue_rules.specs.Inner.TowersLines.{HoldValuesTo, AreSupported}
+use Rattle.clue_rules.specs.Inner.LineTallies.{IsSingle, HoldValuesTo}
+use Rattle.clue_rules.specs.Inner.TowersLines.{AreSupported}
+use Rattle.clue_rules.proofs.FilledLemmas.{entries_more}
 
 -- the lowest value of a set
 pub lowest_in : (set : ℕ) → set ≢ 0 → set < 65536 → has_mark set (trailing_zeros w16 set) ≡ true
@@ -41,24 +42,10 @@ settled_more sets line n used v h inside single fresh =
     both_ways (has_mark 0 v) (mark-zero v) (subst Q fresh (mark-and used (get_or sets n 0) v ∙ and_from _ _ (subst P same (h.in_used k low)) single.has)) in
     record {
       count = length-set line n v ∙ h.count;
-      single = λ k low. elim (cases_eq k n) [
-        | inl same ↦
-            let P : ℕ → Type 0 = λ i. IsSingle (get_or sets i 0) (get_or (set line n v) i 0) in
-            let Q : ℕ → Type 0 = λ u. IsSingle (get_or sets n 0) u in
-            subst P (sym same) (subst Q (sym here) single)
-        | inr other ↦
-            let Q : ℕ → Type 0 = λ u. IsSingle (get_or sets k 0) u in
-            subst Q (sym (there k other)) (h.single k (omega arith))
-      ];
-      in_used = λ k low. elim (cases_eq k n) [
-        | inl same ↦
-            let P : ℕ → Type 0 = λ i. has_mark (bit_or used (get_or sets n 0)) (get_or (set line n v) i 0) ≡ true in
-            let Q : ℕ → Type 0 = λ u. has_mark (bit_or used (get_or sets n 0)) u ≡ true in
-            subst P (sym same) (subst Q (sym here) (mark-or used (get_or sets n 0) v ∙ or_right (has_mark used v) _ single.has))
-        | inr other ↦
-            let Q : ℕ → Type 0 = λ u. has_mark (bit_or used (get_or sets n 0)) u ≡ true in
-            subst Q (sym (there k other)) (mark-or used (get_or sets n 0) (get_or line k 0) ∙ or_left _ (has_mark (get_or sets n 0) (get_or line k 0)) (h.in_used k (omega arith)))
-      ];
+      single = entries_more (λ k u. IsSingle (get_or sets k 0) u) line n v 0 (omega (arith, h.count)) h.single single;
+      in_used = entries_more (λ k u. has_mark (bit_or used (get_or sets n 0)) u ≡ true) line n v 0 (omega (arith, h.count))
+          (λ k low. mark-or used (get_or sets n 0) (get_or line k 0) ∙ or_left _ (has_mark (get_or sets n 0) (get_or line k 0)) (h.in_used k low))
+          (mark-or used (get_or sets n 0) v ∙ or_right (has_mark used v) _ single.has);
       apart = λ i j before low same. elim (cases_eq j n) [
         | inl last ↦
             let i_there = there i (λ e. omega arith) in

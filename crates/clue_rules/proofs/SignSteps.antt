@@ -9,7 +9,7 @@ use Rattle.trail_solver.specs.Pairs.{IsPair}
 use Rattle.trail_solver.specs.Candidates.{CandidatesValue, IsEarlier, IsWithin, may_be}
 use Rattle.trail_solver.specs.Puzzles.{Solves}
 use Rattle.trail_solver.proofs.Earlier.{was_left}
-use Rattle.clue_rules.specs.Inner.Narrowing.{IsSquare, IsStruckByLines, KeepsOf, Narrows, StruckBelow}
+use Rattle.clue_rules.specs.Inner.Narrowing.{IsStruckByLines, KeepsOf, Narrows, StruckBelow, IsSetOf}
 use Rattle.clue_rules.specs.Unequal.{UnequalValue, IsBetween, IsGreater, sign_count, sign_at, first_side, second_side}
 use Rattle.clue_rules.specs.Unequal.{puzzle_of}
 use Rattle.clue_rules.specs.Laws.SignPlaces.{between_at}
@@ -18,7 +18,7 @@ use Rattle.clue_rules.specs.Struck.{IsUnequalStruck}
 use Rattle.clue_rules.specs.Inner.UnequalLines.{AreEnds, IsLowerStruck, IsUpperStruck, IsEndStruckBy, IsStruckAt, IsStruckAlong, line_sign, HoldsGreater}
 use Rattle.clue_rules.specs.declared.unequal.sign.Sign.TheVariants.{Absent, FirstGreater, SecondGreater}
 use Rattle.clue_rules.proofs.KeptCandidates.{within_kept}
-use Rattle.clue_rules.proofs.LineSteps.{grid_pair}
+use Rattle.clue_rules.proofs.LineSteps.{grid_pair, in_set}
 use Rattle.clue_rules.proofs.Narrowings.{narrows_by, narrows_for, narrows_nothing}
 use Rattle.clue_rules.specs.Laws.SignSides.{Side, First, Second, other_side, square_at, greater_at, greater_by, greater_from_sign, IsGreaterBy}
 
@@ -56,13 +56,6 @@ square_narrows old new cell kept left solved struck k is = record {
 }
 
 -- ---- both squares of a sign
-
--- the set is that of the cell's candidates
-abbrev pub IsSetOf : CandidatesValue → ℕ → ℕ → Type 0
-IsSetOf c cell set = (v : ℕ) → (has_mark set v ≡ true) ↔ (IsPair c.size cell v × (may_be c cell v ≡ true))
-
-in_set : (c : CandidatesValue) (cell set : ℕ) (g : GridValue) → IsSetOf c cell set → IsSquare g → g.size ≡ c.size → IsWithin c g → cell < c.size * c.size → has_mark set (number_at g cell) ≡ true
-in_set c cell set g is s size w inside = (is (number_at g cell)).1 (grid_pair g c.size cell s size inside, w.each cell inside)
 
 pub lower_narrows : (old new : CandidatesValue) (upper lower set kept : ℕ) (left : Bool) → upper < old.size * old.size → IsSetOf old upper set → ((v : ℕ) → (has_mark kept v ≡ true) ↔ ((u : ℕ) × (v < u) × (has_mark set u ≡ true))) → KeepsOf old new lower kept → left ≡ not (eqb kept 0) → Narrows (HoldsGreater upper lower) (IsLowerStruck upper lower) old new left
 lower_narrows old new upper lower set kept left inside is below k answer =

@@ -20,7 +20,7 @@ use Rattle.clue_rules.specs.Struck.{IsViewFilling, IsViewStruck, IsTowersStruck}
 use Rattle.clue_rules.specs.Inner.TowersLines.{IsEndStruck, IsClueStruck, ShowsClue, AreSupported, KeepSupported}
 use Rattle.clue_rules.specs.Views.{view_of, view_cell, view_line, view_index, front_place}
 use Rattle.clue_rules.specs.Towers.{clue_of}
-use Rattle.clue_rules.proofs.LineSteps.{along_narrows, grid_pair}
+use Rattle.clue_rules.proofs.LineSteps.{along_narrows, grid_pair, in_set}
 use Rattle.clue_rules.proofs.Narrowings.{narrows_by, narrows_for, narrows_nothing, narrows_then}
 use Rattle.clue_rules.proofs.ViewLines.{view_of-numbers}
 use Rattle.clue_rules.specs.Laws.Edges.{edge_cases}
@@ -88,7 +88,7 @@ view_filling c place clue sets g inside is small s size within shown =
             let in_g : j < g.size = omega arith in
             let in_c : j < c.size = omega arith in
             let here : get_or (view_of g place) j 0 ≡ number_at g (view_cell c.size place j) = at j in_g ∙ cell_is j in
-            let has = (is.each j (number_at g (view_cell c.size place j)) in_c).1 (pair j in_c, within.each (view_cell c.size place j) (view_inside c.size place j inside in_c)) in
+            let has = in_set c (view_cell c.size place j) (get_or sets j 0) g (is.each j in_c) s size within (view_inside c.size place j inside in_c) in
             let P : ℕ → Type 0 = λ m. has_mark m (get_or (view_of g place) j 0) ≡ true in
             let Q : ℕ → Type 0 = λ v. has_mark (get_or sets j 0) v ≡ true in
             subst P (sym (get_or-take c.size sets j 0 in_c)) (subst Q (sym here) has);
@@ -120,7 +120,7 @@ filling_earlier first c place clue sets line e is small f =
     let left : (k : ℕ) → k < c.size → IsPair c.size (view_cell c.size place k) (get_or line k 0) × (may_be c (view_cell c.size place k) (get_or line k 0) ≡ true) =
     λ k low.
     let P : ℕ → Type 0 = λ m. has_mark m (get_or line k 0) ≡ true in
-    (is.each k (get_or line k 0) low).0 (subst P (get_or-take c.size sets k 0 low) (f.start.candidates k (omega arith))) in
+    (is.each k low (get_or line k 0)).0 (subst P (get_or-take c.size sets k 0 low) (f.start.candidates k (omega arith))) in
     let Left : ℕ → Type 0 = λ w. (k : ℕ) → k < w → IsPair w (view_cell w place k) (get_or line k 0) × (may_be c (view_cell w place k) (get_or line k 0) ≡ true) in
     let there : Left first.size = subst Left e.size left in
     record {
@@ -152,9 +152,7 @@ pub view_kept : (c : CandidatesValue) (place clue : ℕ) (sets : List ℕ) → p
     → AreSupported c.size clue sets sets → Narrows (ShowsClue place clue) (IsViewStruck place clue) c c true
 view_kept c place clue sets inside is small supported =
     along_narrows (λ g s size w k low.
-    let cell = view_cell c.size place k in
-    let cell_in = view_inside c.size place k inside low in
-    (is.each k (number_at g cell) low).1 (grid_pair g c.size cell s.0 size cell_in, w.each cell cell_in))
+    in_set c (view_cell c.size place k) (get_or sets k 0) g (is.each k low) s.0 size w (view_inside c.size place k inside low))
     (λ first e cell v s. view_struck c place clue sets sets is small supported first e cell v s)
     (along_whole place sets sets c is (λ k low. refl))
 

@@ -6,6 +6,10 @@ use Rattle.trail_solver.specs.Candidates.{CandidatesValue, IsOnly}
 use Rattle.clue_rules.specs.Struck.{IsOnePlace}
 use Rattle.clue_rules.specs.declared.lines.latin.Tally.{Tally}
 
+-- the values of the first w sets are from 1 to w
+abbrev pub HoldValuesTo : ℕ → List ℕ → Type 0
+HoldValuesTo w sets = (k v : ℕ) → k < w → has_mark (slice_index sets k) v ≡ true → (1 ≤ v) × (v ≤ w)
+
 -- the value is the set's only one
 pub record IsSingle (set value : ℕ) : Type 0 where
   pub has : has_mark set value ≡ true

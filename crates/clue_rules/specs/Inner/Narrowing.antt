@@ -42,10 +42,18 @@ pub record KeepsOf (old new : CandidatesValue) (cell kept : ℕ) : Type 0 where
   pub gone : (v : ℕ) → IsPair old.size cell v → has_mark kept v ≡ false → may_be new cell v ≡ false
   pub rest : (c v : ℕ) → (c ≢ cell) ⊎ (has_mark kept v ≡ true) → may_be new c v ≡ may_be old c v
 
--- the sets are those of the candidates of the squares from a place
-pub record AreSetsOf (c : CandidatesValue) (place : ℕ) (sets : List ℕ) : Type 0 where
+-- the set is that of the cell's candidates
+abbrev pub IsSetOf : CandidatesValue → ℕ → ℕ → Type 0
+IsSetOf c cell set = (v : ℕ) → (has_mark set v ≡ true) ↔ (IsPair c.size cell v × (may_be c cell v ≡ true))
+
+-- the first n sets are those of the squares from a place
+pub record AreSetsTo (c : CandidatesValue) (place n : ℕ) (sets : List ℕ) : Type 0 where
   pub count : length sets ≡ 9
-  pub each : (k v : ℕ) → k < c.size → (has_mark (slice_index sets k) v ≡ true) ↔ (IsPair c.size (view_cell c.size place k) v × (may_be c (view_cell c.size place k) v ≡ true))
+  pub each : (k : ℕ) → k < n → IsSetOf c (view_cell c.size place k) (slice_index sets k)
+
+-- the sets are those of all squares from a place
+abbrev pub AreSetsOf : CandidatesValue → ℕ → List ℕ → Type 0
+AreSetsOf c place sets = AreSetsTo c place c.size sets
 
 -- new is old with only the values of these sets kept in the squares from a place; by the answer, one of the sets is empty
 pub record KeepsAlong (place : ℕ) (kept : List ℕ) (old new : CandidatesValue) (left : Bool) : Type 0 where

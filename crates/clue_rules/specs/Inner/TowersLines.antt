@@ -4,7 +4,7 @@ use Rattle.trail_solver.specs.Candidates.{CandidatesValue}
 use Rattle.clue_rules.specs.Struck.{IsViewStruck}
 use Rattle.clue_rules.specs.Towers.{TowersValue, clue_of}
 use Rattle.clue_rules.specs.Views.{view_line}
-use Rattle.std.specs.Prelude.{◌≤◌, true, List, take, slice_index}
+use Rattle.std.specs.Prelude.{true, List, take, slice_index}
 use Rattle.latin_board.specs.Marks.{has_mark}
 use Rattle.latin_board.specs.Squares.{GridValue}
 use Rattle.tower_lines.specs.TowersSeen.{seen}
@@ -27,10 +27,6 @@ IsClueStruck v place c cell value = (0 < clue_of v place) × IsViewStruck place 
 -- a Latin square that shows as many towers from a place as the clue says
 abbrev pub ShowsClue : ℕ → ℕ → GridValue → Type 0
 ShowsClue place clue g = IsSquare g × (seen (view_of g place) ≡ clue)
-
--- the values of the first w sets are from 1 to w
-abbrev pub HoldValuesTo : ℕ → List ℕ → Type 0
-HoldValuesTo w sets = (k v : ℕ) → k < w → has_mark (slice_index sets k) v ≡ true → (1 ≤ v) × (v ≤ w)
 
 -- each value that is kept of the first w sets stands in its square in some filling
 abbrev pub AreSupported : ℕ → ℕ → List ℕ → List ℕ → Type 0

@@ -11,7 +11,8 @@ ghost use Rattle.trail_solver.specs.Puzzles.{Solves};
 ghost use Rattle.clue_rules.specs.Inner.Narrowing.{IsSquare, Narrows};
 ghost use Rattle.clue_rules.specs.Towers.{towers_puzzle};
 ghost use Rattle.clue_rules.specs.Struck.{IsViewStruck};
-ghost use Rattle.clue_rules.specs.Inner.TowersLines.{IsEndStruck, IsClueStruck, ShowsClue, HoldValuesTo, AreSupported};
+ghost use Rattle.clue_rules.specs.Inner.TowersLines.{IsEndStruck, IsClueStruck, ShowsClue, AreSupported};
+ghost use Rattle.clue_rules.specs.Inner.LineTallies.{HoldValuesTo};
 ghost use Rattle.clue_rules.specs.Views.{view_of};
 ghost use Rattle.clue_rules.specs.Towers.{clue_of};
 
@@ -27,7 +28,7 @@ use trail_solver::Candidates;
 impl LineRules for Towers {
     ghost use Rattle.trail_solver.specs.Puzzles.{Solves};
     ghost use Rattle.clue_rules.specs.Towers.{towers_puzzle};
-    ghost use Rattle.clue_rules.specs.Inner.TowersLines.{IsEndStruck, IsClueStruck, ShowsClue, HoldValuesTo, AreSupported};
+    ghost use Rattle.clue_rules.specs.Inner.TowersLines.{IsEndStruck, IsClueStruck, ShowsClue, AreSupported};
 
     ghost width = { λ v. v.size };
 
