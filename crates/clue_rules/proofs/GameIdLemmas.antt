@@ -10,7 +10,7 @@ use Rattle.clue_rules.specs.declared.params.Params.{Params}
 use Rattle.trail_solver.specs.Puzzles.{Puzzle}
 use Rattle.clue_rules.specs.Parameters.{params_at, IsParams, letter_part, params_text, IsParamText, if_no_more, letter_at, behind_size, is_size}
 use Rattle.clue_rules.specs.GameIds.{is_separator, params_part, from_separator, seeded, behind_params, id_parts_at, with_description, id_at, id_map, LacksSeparators, describes_at, IsIdText, IsAnyText}
-use Rattle.std.proofs.Common.{◌≡◌, IfOk, ◌≢◌, ℕ, ◌+◌, ◌^◌, ◌<◌, ◌≤◌, Bool, true, false, ◌==◌, ◌||◌, List, [], ◌∷◌, ◌++◌, Option, Some, None, IfSome, Result, Ok, Err, cond, refl, sym, ap, ◌∙◌, subst, arith, inl, inr, ◌-◌, ◌&&◌}
+use Rattle.std.proofs.Common.{◌≡◌, IfOk, ◌≢◌, ℕ, ◌+◌, ◌^◌, ◌<◌, ◌≤◌, Bool, true, false, ◌==◌, ◌||◌, List, [], ◌∷◌, ◌++◌, Option, Some, None, IfSome, Result, Ok, Err, refl, sym, ap, ◌∙◌, subst, arith, inl, inr, ◌-◌, ◌&&◌, if◌then◌else◌}
 use Rattle.std.specs.List.{AllByRecursion, Contains, list_any}
 use Rattle.std.specs.Fmt.{decimal}
 use Rattle.std.proofs.lemmas.List.Elements.{All-contains}
@@ -33,7 +33,7 @@ pub record ReadsGrammar (D : Type 0) (desc_at : ℕ → List ℕ → Result D Id
 split_taken : (bs : List ℕ) (separator : ℕ) (rest : List ℕ) → from_separator bs ≡ separator ∷ rest → (bs ≡ params_part bs ++ separator ∷ rest) × (is_separator separator ≡ true)
 split_taken [] separator rest = λ found. cc
 split_taken (b ∷ bs) separator rest =
-    elim (is_separator b) as (λ t. is_separator b ≡ t → cond t (b ∷ bs) (from_separator bs) ≡ separator ∷ rest → (b ∷ bs ≡ cond t [] (b ∷ params_part bs) ++ separator ∷ rest) × (is_separator separator ≡ true)) [
+    elim (is_separator b) as (λ t. is_separator b ≡ t → (if t then (b ∷ bs) else from_separator bs) ≡ separator ∷ rest → (b ∷ bs ≡ (if t then [] else (b ∷ params_part bs)) ++ separator ∷ rest) × (is_separator separator ≡ true)) [
       | true ↦ λ is found.
           let same : b ≡ separator = cc in
           (found, subst (λ c. is_separator c ≡ true) same is)
@@ -81,7 +81,7 @@ behind_params_taken : (p : Params) (bs : List ℕ) (parts : GameId (List ℕ)) �
 behind_params_taken p [] parts = λ read. cc
 behind_params_taken p (b ∷ bs) parts = λ read.
     let own = refused_then (b == 35) ForeignSeed _ parts read in
-    elim (b == 33) as (λ t. (b == 33) ≡ t → cond t (seeded p (decimal_value 18446744073709551615 bs)) (Ok (Described p bs)) ≡ Ok parts → Behind p (b ∷ bs) parts) [
+    elim (b == 33) as (λ t. (b == 33) ≡ t → (if t then seeded p (decimal_value 18446744073709551615 bs) else Ok (Described p bs)) ≡ Ok parts → Behind p (b ∷ bs) parts) [
       | true ↦ λ seed read. rw (eqb-true b 33 seed) (seed_taken p bs (decimal_value 18446744073709551615 bs) parts refl read)
       | false ↦ λ described read.
           let is : Described p bs ≡ parts = cc in

@@ -1,5 +1,5 @@
 -- The values of a set are kept in a square, and those of a row of sets along a line.
-use Rattle.std.proofs.Common.{◌≡◌, ◌≢◌, ℕ, ◌+◌, ◌*◌, ◌^◌, ◌<◌, ◌≤◌, ◌⊎◌, true, false, List, length, get_or, set, inl, inr, refl, sym, ap, ◌∙◌, subst, ⊎_elim, arith, bit_and}
+use Rattle.std.proofs.Common.{◌≡◌, ◌≢◌, ℕ, ◌+◌, ◌*◌, ◌^◌, ◌<◌, ◌≤◌, ◌⊎◌, true, false, List, length, set, inl, inr, refl, sym, ap, ◌∙◌, subst, ⊎_elim, arith, bit_and, slice_index}
 use Rattle.std.proofs.Math.ListN.{length-set}
 use Rattle.std.proofs.lemmas.Bool.{cases_eq, both_ways, false_from_ne_true, and_parts}
 use Rattle.latin_board.specs.Marks.{has_mark}
@@ -78,8 +78,8 @@ kept_whole c cell kept set is whole = record {
 -- now is first with only the values of the sets kept in the first n squares from a place
 pub record KeepsUpTo (place : ℕ) (kept : List ℕ) (n : ℕ) (first now : CandidatesValue) : Type 0 where
   pub less : IsEarlier first now
-  pub keeps : (g : GridValue) → g.size ≡ first.size → ((k : ℕ) → k < first.size → has_mark (get_or kept k 0) (number_at g (view_cell first.size place k)) ≡ true) → IsWithin first g → IsWithin now g
-  pub gone : (k v : ℕ) → k < n → IsPair first.size (view_cell first.size place k) v → has_mark (get_or kept k 0) v ≡ false → may_be now (view_cell first.size place k) v ≡ false
+  pub keeps : (g : GridValue) → g.size ≡ first.size → ((k : ℕ) → k < first.size → has_mark (slice_index kept k) (number_at g (view_cell first.size place k)) ≡ true) → IsWithin first g → IsWithin now g
+  pub gone : (k v : ℕ) → k < n → IsPair first.size (view_cell first.size place k) v → has_mark (slice_index kept k) v ≡ false → may_be now (view_cell first.size place k) v ≡ false
 
 pub up_to_none : (place : ℕ) (kept : List ℕ) (c : CandidatesValue) → KeepsUpTo place kept 0 c c
 up_to_none place kept c = record {
@@ -97,17 +97,17 @@ within_kept old new cell kept g k w has = record {
       k.rest c (number_at g c) (⊎_elim (λ same. inr (subst P (sym same) has)) (λ n. inl n) (cases_eq c cell)) ∙ w.each c inside';
 }
 
-pub up_to_more : (place : ℕ) (kept : List ℕ) (n cell : ℕ) (first now new : CandidatesValue) → KeepsUpTo place kept n first now → n < first.size → cell ≡ view_cell first.size place n → KeepsOf now new cell (get_or kept n 0) → KeepsUpTo place kept (n + 1) first new
+pub up_to_more : (place : ℕ) (kept : List ℕ) (n cell : ℕ) (first now new : CandidatesValue) → KeepsUpTo place kept n first now → n < first.size → cell ≡ view_cell first.size place n → KeepsOf now new cell (slice_index kept n) → KeepsUpTo place kept (n + 1) first new
 up_to_more place kept n cell first now new h inside is k =
-    let P : ℕ → Type 0 = λ c. KeepsOf now new c (get_or kept n 0) in
-    let here : KeepsOf now new (view_cell first.size place n) (get_or kept n 0) = subst P is k in
+    let P : ℕ → Type 0 = λ c. KeepsOf now new c (slice_index kept n) in
+    let here : KeepsOf now new (view_cell first.size place n) (slice_index kept n) = subst P is k in
     record {
       less = earlier_trans first now new h.less here.less;
       keeps = λ g size has w.
-          within_kept now new (view_cell first.size place n) (get_or kept n 0) g here (h.keeps g size has w) (has n inside);
+          within_kept now new (view_cell first.size place n) (slice_index kept n) g here (h.keeps g size has w) (has n inside);
       gone = λ j v low pair lacks. elim (cases_eq j n) [
         | inl same ↦
-            let Gone : ℕ → Type 0 = λ i. IsPair first.size (view_cell first.size place i) v → has_mark (get_or kept i 0) v ≡ false → may_be new (view_cell first.size place i) v ≡ false in
+            let Gone : ℕ → Type 0 = λ i. IsPair first.size (view_cell first.size place i) v → has_mark (slice_index kept i) v ≡ false → may_be new (view_cell first.size place i) v ≡ false in
             let last : Gone n = λ p l. here.gone v (record { inside = subst (λ (w : ℕ). view_cell first.size place n < w * w) (sym h.less.size) p.inside; low = p.low; high = omega (arith, p.high, h.less.size) }) l in
             subst Gone (sym same) last pair lacks
         | inr other ↦ stays_gone now new (view_cell first.size place j) v here.less (h.gone j v (omega arith) pair lacks)
@@ -123,17 +123,17 @@ up_to_all place kept n first now h all = record {
 }
 
 -- where the sets are those of the candidates, nothing goes
-pub along_whole : (place : ℕ) (sets kept : List ℕ) (c : CandidatesValue) → AreSetsOf c place sets → ((k : ℕ) → k < c.size → get_or sets k 0 ≡ get_or kept k 0) → KeepsAlong place kept c c true
+pub along_whole : (place : ℕ) (sets kept : List ℕ) (c : CandidatesValue) → AreSetsOf c place sets → ((k : ℕ) → k < c.size → slice_index sets k ≡ slice_index kept k) → KeepsAlong place kept c c true
 along_whole place sets kept c is same = record {
   less = earlier_refl c;
   keeps = λ g size has w. w;
   empty = tt;
   gone = λ k v inside pair lacks. false_from_ne_true (may_be c (view_cell c.size place k) v) (λ left.
       let P : ℕ → Type 0 = λ m. has_mark m v ≡ true in
-      both_ways (has_mark (get_or kept k 0) v) lacks (subst P (same k inside) ((is.each k inside v).1 (pair, left))));
+      both_ways (has_mark (slice_index kept k) v) lacks (subst P (same k inside) ((is.each k inside v).1 (pair, left))));
 }
 
-pub up_to_empty : (place : ℕ) (kept : List ℕ) (n : ℕ) (first now : CandidatesValue) → KeepsUpTo place kept (n + 1) first now → n < first.size → get_or kept n 0 ≡ 0 → KeepsAlong place kept first now false
+pub up_to_empty : (place : ℕ) (kept : List ℕ) (n : ℕ) (first now : CandidatesValue) → KeepsUpTo place kept (n + 1) first now → n < first.size → slice_index kept n ≡ 0 → KeepsAlong place kept first now false
 up_to_empty place kept n first now h inside none = record {
   less = h.less;
   keeps = h.keeps;

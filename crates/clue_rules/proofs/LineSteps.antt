@@ -1,5 +1,5 @@
 -- What one row or column rules out: its squares' candidates as sets, and a Latin square among them.
-use Rattle.std.proofs.Common.{◌≡◌, ℕ, ◌*◌, ◌<◌, Bool, true, false, List, get_or, inl, inr, sym, ap, ◌∙◌, subst, arith}
+use Rattle.std.proofs.Common.{◌≡◌, ℕ, ◌*◌, ◌<◌, Bool, true, false, List, inl, inr, sym, ap, ◌∙◌, subst, arith, slice_index}
 use Rattle.std.proofs.lemmas.Bool.{both_ways, false_from_ne_true}
 use Rattle.latin_board.specs.Marks.{has_mark}
 use Rattle.latin_board.specs.Squares.{GridValue, number_at}
@@ -20,13 +20,13 @@ use Rattle.clue_rules.proofs.LineTallying.{possible_stays, taken_goes, displaced
 -- ---- from the sets that are kept along a line to a step of narrowing
 
 pub along_narrows : {S : GridValue → Type 0} {T : CandidatesValue → ℕ → ℕ → Type 0} {place : ℕ} {kept : List ℕ} {old new : CandidatesValue} {r : Bool}
-    → ((g : GridValue) → S g → g.size ≡ old.size → IsWithin old g → (k : ℕ) → k < old.size → has_mark (get_or kept k 0) (number_at g (view_cell old.size place k)) ≡ true)
-    → ((first : CandidatesValue) → IsEarlier first old → (cell v : ℕ) → T first cell v → (k : ℕ) × (k < old.size) × (view_cell old.size place k ≡ cell) × (has_mark (get_or kept k 0) v ≡ false))
+    → ((g : GridValue) → S g → g.size ≡ old.size → IsWithin old g → (k : ℕ) → k < old.size → has_mark (slice_index kept k) (number_at g (view_cell old.size place k)) ≡ true)
+    → ((first : CandidatesValue) → IsEarlier first old → (cell v : ℕ) → T first cell v → (k : ℕ) × (k < old.size) × (view_cell old.size place k ≡ cell) × (has_mark (slice_index kept k) v ≡ false))
     → KeepsAlong place kept old new r → Narrows S T old new r
 along_narrows {kept = kept} {old = old} {new = new} {r = r} solved struck h = record {
   less = h.less;
   keeps = λ g s size w. h.keeps g size (λ k inside. solved g s size w k inside) w;
-  refutes = on_false r (λ empty g s size w. both_ways (has_mark (get_or kept empty.0 0) _) (empty.2 _) (solved g s size w empty.0 empty.1)) h.empty;
+  refutes = on_false r (λ empty g s size w. both_ways (has_mark (slice_index kept empty.0) _) (empty.2 _) (solved g s size w empty.0 empty.1)) h.empty;
   struck = on_true r (λ gone. record {
     each = λ first e cell v pair s.
         let at = struck first e cell v s in
@@ -66,7 +66,7 @@ square_possible c line place sets g a is s size within =
     λ k. ap (number_at g) (a.cells k ∙ ap (λ (w : ℕ). line_cell w line k) (sym size)) in
     record {
       within = λ k inside.
-          in_set c (view_cell c.size place k) (get_or sets k 0) g (is.each k inside) s size within (along_inside c.size line place k a inside);
+          in_set c (view_cell c.size place k) (slice_index sets k) g (is.each k inside) s size within (along_inside c.size line place k a inside);
       apart = λ i j first second apart same.
           line_differs g s.is_grid s.latin line i j (omega (arith, a.line_is)) (omega arith) (omega arith) apart
           (sym (cell_is i) ∙ same ∙ cell_is j);
@@ -80,13 +80,13 @@ square_possible c line place sets g a is s size within =
 sets_values : (c : CandidatesValue) (place : ℕ) (sets : List ℕ) → AreSetsOf c place sets → HoldValuesTo c.size sets
 sets_values c place sets is k v inside has = let p = ((is.each k inside v).0 has).0 in (p.low, p.high)
 
-pub line_solved : (c : CandidatesValue) (line place : ℕ) (sets kept : List ℕ) (t : Tally) → IsAlong c.size line place → AreSetsOf c place sets → IsWholeTally sets c.size t → ((k : ℕ) → k < c.size → IsKeptOf t (get_or sets k 0) (get_or kept k 0)) → (g : GridValue) → IsSquare g → g.size ≡ c.size → IsWithin c g → (k : ℕ) → k < c.size → has_mark (get_or kept k 0) (number_at g (view_cell c.size place k)) ≡ true
+pub line_solved : (c : CandidatesValue) (line place : ℕ) (sets kept : List ℕ) (t : Tally) → IsAlong c.size line place → AreSetsOf c place sets → IsWholeTally sets c.size t → ((k : ℕ) → k < c.size → IsKeptOf t (slice_index sets k) (slice_index kept k)) → (g : GridValue) → IsSquare g → g.size ≡ c.size → IsWithin c g → (k : ℕ) → k < c.size → has_mark (slice_index kept k) (number_at g (view_cell c.size place k)) ≡ true
 line_solved c line place sets kept t a is whole keeps g s size within k inside =
     let p = square_possible c line place sets g a is s size within in
     (keeps k inside).all _ (p.within k inside) (possible_stays sets c.size t (λ k. number_at g (view_cell c.size place k)) k whole p (sets_values c place sets is) inside)
 
 -- a square that had one candidate has that one still
-taken_single : (first c : CandidatesValue) (line place by v : ℕ) (sets : List ℕ) (t : Tally) → IsEarlier first c → IsAlong c.size line place → AreSetsOf c place sets → IsWholeTally sets c.size t → by < c.size → IsOnly first (line_cell first.size line by) v → IsSingle (get_or sets by 0) v
+taken_single : (first c : CandidatesValue) (line place by v : ℕ) (sets : List ℕ) (t : Tally) → IsEarlier first c → IsAlong c.size line place → AreSetsOf c place sets → IsWholeTally sets c.size t → by < c.size → IsOnly first (line_cell first.size line by) v → IsSingle (slice_index sets by) v
 taken_single first c line place by v sets t e a is whole inside only =
     let cell = view_cell c.size place by in
     let same : line_cell first.size line by ≡ cell = ap (λ (w : ℕ). line_cell w line by) (sym e.size) ∙ sym (a.cells by) in
@@ -101,14 +101,14 @@ taken_single first c line place by v sets t e a is whole inside only =
     }
 
 -- a value that had one place has no other still
-one_place : (first c : CandidatesValue) (line place k v : ℕ) (sets : List ℕ) → IsEarlier first c → IsAlong c.size line place → AreSetsOf c place sets → IsOnePlace first line v k → (j : ℕ) → j < c.size → has_mark (get_or sets j 0) v ≡ true → j ≡ k
+one_place : (first c : CandidatesValue) (line place k v : ℕ) (sets : List ℕ) → IsEarlier first c → IsAlong c.size line place → AreSetsOf c place sets → IsOnePlace first line v k → (j : ℕ) → j < c.size → has_mark (slice_index sets j) v ≡ true → j ≡ k
 one_place first c line place k v sets e a is one j inside has =
     let left = ((is.each j inside v).0 has).1 in
     let same : view_cell c.size place j ≡ line_cell first.size line j = a.cells j ∙ ap (λ (w : ℕ). line_cell w line j) e.size in
     let P : ℕ → Type 0 = λ i. may_be c i v ≡ true in
     one.alone j (omega (arith, e.size)) (was_left first c (line_cell first.size line j) v e (subst P same left))
 
-pub line_struck : (c : CandidatesValue) (line place : ℕ) (sets kept : List ℕ) (t : Tally) → IsAlong c.size line place → AreSetsOf c place sets → IsWholeTally sets c.size t → ((k : ℕ) → k < c.size → IsKeptOf t (get_or sets k 0) (get_or kept k 0)) → (first : CandidatesValue) → IsEarlier first c → (cell v : ℕ) → IsLineStruck line first cell v → (k : ℕ) × (k < c.size) × (view_cell c.size place k ≡ cell) × (has_mark (get_or kept k 0) v ≡ false)
+pub line_struck : (c : CandidatesValue) (line place : ℕ) (sets kept : List ℕ) (t : Tally) → IsAlong c.size line place → AreSetsOf c place sets → IsWholeTally sets c.size t → ((k : ℕ) → k < c.size → IsKeptOf t (slice_index sets k) (slice_index kept k)) → (first : CandidatesValue) → IsEarlier first c → (cell v : ℕ) → IsLineStruck line first cell v → (k : ℕ) × (k < c.size) × (view_cell c.size place k ≡ cell) × (has_mark (slice_index kept k) v ≡ false)
 line_struck c line place sets kept t a is whole keeps first e cell v struck =
     let k = struck.place in
     let inside : k < c.size = omega (arith, struck.inside, e.size) in
@@ -116,7 +116,7 @@ line_struck c line place sets kept t a is whole keeps first e cell v struck =
       k,
       inside,
       here,
-      false_from_ne_true (has_mark (get_or kept k 0) v) (λ has.
+      false_from_ne_true (has_mark (slice_index kept k) v) (λ has.
           let stays = ((keeps k inside).only v has).1 in
           elim struck.why [
             | inl taken ↦
@@ -176,7 +176,7 @@ line_refuted c line place sets a is none = record {
   struck = tt;
 }
 
-pub line_narrows : (old new : CandidatesValue) (line place : ℕ) (sets kept : List ℕ) (t : Tally) (left : Bool) → IsAlong old.size line place → AreSetsOf old place sets → IsWholeTally sets old.size t → ((k : ℕ) → k < old.size → IsKeptOf t (get_or sets k 0) (get_or kept k 0)) → KeepsAlong place kept old new left → Narrows IsSquare (IsLineStruck line) old new left
+pub line_narrows : (old new : CandidatesValue) (line place : ℕ) (sets kept : List ℕ) (t : Tally) (left : Bool) → IsAlong old.size line place → AreSetsOf old place sets → IsWholeTally sets old.size t → ((k : ℕ) → k < old.size → IsKeptOf t (slice_index sets k) (slice_index kept k)) → KeepsAlong place kept old new left → Narrows IsSquare (IsLineStruck line) old new left
 line_narrows old new line place sets kept t left a is whole keeps h =
     along_narrows (λ g s size w k inside. line_solved old line place sets kept t a is whole keeps g s size w k inside)
     (λ first e cell v s. line_struck old line place sets kept t a is whole keeps first e cell v s) h

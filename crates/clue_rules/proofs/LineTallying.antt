@@ -1,5 +1,5 @@
 -- The tally of a line's sets, set by set, and what it says of the numbers that they can hold.
-use Rattle.std.proofs.Common.{◌≡◌, ◌≢◌, ℕ, ◌+◌, ◌^◌, ◌<◌, ◌≤◌, ◌↔◌, ◌⊎◌, true, false, not, ◌&&◌, leb, List, length, get_or, set, inl, inr, sym, ap, ◌∙◌, subst, arith, bit_and, bit_or}
+use Rattle.std.proofs.Common.{◌≡◌, ◌≢◌, ℕ, ◌+◌, ◌^◌, ◌<◌, ◌≤◌, ◌↔◌, ◌⊎◌, true, false, not, ◌&&◌, nat_le, List, length, set, inl, inr, sym, ap, ◌∙◌, subst, arith, bit_and, bit_or, slice_index}
 use Rattle.std.proofs.lemmas.Bool.{cases_Bool, cases_lt, cases_eq, cases_order, both_ways, false_from_ne_true, and_parts, and_from, le-leb, leb-true, or_left, or_right, not-true, or_cases}
 use Rattle.std.proofs.Math.ListN.{length-set}
 use Rattle.std.proofs.lemmas.Nat.{and_le_r}
@@ -26,10 +26,10 @@ tally_none sets t once twice singles =
       apart = λ i j v before low one two. absurd (omega arith);
     }
 
-pub tally_more : (sets : List ℕ) (n : ℕ) (t u : Tally) → IsTally sets n t → IsCounted t (get_or sets n 0) u → IsTally sets (n + 1) u
+pub tally_more : (sets : List ℕ) (n : ℕ) (t u : Tally) → IsTally sets n t → IsCounted t (slice_index sets n) u → IsTally sets (n + 1) u
 tally_more sets n t u h more =
-    let At : ℕ → ℕ → Type 0 = λ k v. has_mark (get_or sets k 0) v ≡ true in
-    let Alone : ℕ → ℕ → Type 0 = λ k v. IsSingle (get_or sets k 0) v in
+    let At : ℕ → ℕ → Type 0 = λ k v. has_mark (slice_index sets k) v ≡ true in
+    let Alone : ℕ → ℕ → Type 0 = λ k v. IsSingle (slice_index sets k) v in
     record {
       once = λ v. below_one_more (λ k. At k v) n (h.once v) (more.once v);
       twice = λ v. (
@@ -64,10 +64,10 @@ tally_more sets n t u h more =
 
 -- ---- what is refuted
 
-pub clash_refutes : (sets : List ℕ) (n w : ℕ) (t : Tally) → IsTally sets n t → n < w → IsClash t (get_or sets n 0) → (number : ℕ → ℕ) → IsPossible sets w number → ⊥
+pub clash_refutes : (sets : List ℕ) (n w : ℕ) (t : Tally) → IsTally sets n t → n < w → IsClash t (slice_index sets n) → (number : ℕ → ℕ) → IsPossible sets w number → ⊥
 clash_refutes sets n w t h inside clash number p =
     elim clash [
-      | inl empty ↦ both_ways (has_mark (get_or sets n 0) (number n)) (empty (number n)) (p.within n inside)
+      | inl empty ↦ both_ways (has_mark (slice_index sets n) (number n)) (empty (number n)) (p.within n inside)
       | inr twice ↦
           let v = twice.0 in
           let first = (h.singles v).0 twice.2 in
@@ -81,7 +81,7 @@ pub whole_tally : (sets : List ℕ) (w : ℕ) (t : Tally) → IsTally sets w t �
 whole_tally sets w t h all = record {
   tally = h;
   placed = λ v low high.
-      let full : has_mark (full_marks w) v ≡ true = has_mark-full_marks w v ∙ and_from (leb 1 v) (leb v w) (le-leb 1 v low) (le-leb v w high) in
+      let full : has_mark (full_marks w) v ≡ true = has_mark-full_marks w v ∙ and_from (nat_le 1 v) (nat_le v w) (le-leb 1 v low) (le-leb v w high) in
       let P : ℕ → Type 0 = λ m. has_mark m v ≡ true in
       (and_parts _ _ (sym (mark-and t.once (full_marks w) v) ∙ subst P (sym all) full)).0;
 }
@@ -90,9 +90,9 @@ pub lacking_refutes : (sets : List ℕ) (w : ℕ) (t : Tally) → IsTally sets w
 lacking_refutes sets w t h lacks number p =
     lacks (same_from_marks _ _ (λ v. elim (cases_Bool (has_mark (full_marks w) v)) [
       | inl full ↦
-          let both = and_parts (leb 1 v) (leb v w) (sym (has_mark-full_marks w v) ∙ full) in
+          let both = and_parts (nat_le 1 v) (nat_le v w) (sym (has_mark-full_marks w v) ∙ full) in
           let at = p.all v (leb-true 1 v both.0) (leb-true v w both.1) in
-          let P : ℕ → Type 0 = λ u. has_mark (get_or sets at.0 0) u ≡ true in
+          let P : ℕ → Type 0 = λ u. has_mark (slice_index sets at.0) u ≡ true in
           let once = (h.once v).1 (at.0, at.1, subst P at.2 (p.within at.0 at.1)) in
           mark-and t.once (full_marks w) v ∙ and_from _ _ once full ∙ sym full
       | inr none ↦ mark-and t.once (full_marks w) v ∙ false_from_ne_true _ (λ e. both_ways (has_mark (full_marks w) v) none (and_parts _ _ e).1) ∙ sym none
@@ -101,13 +101,13 @@ lacking_refutes sets w t h lacks number p =
 -- ---- what may stay
 
 -- numbers that the line can hold may stay
-pub possible_stays : (sets : List ℕ) (w : ℕ) (t : Tally) (number : ℕ → ℕ) (k : ℕ) → IsWholeTally sets w t → IsPossible sets w number → HoldValuesTo w sets → k < w → MayStay t (get_or sets k 0) (number k)
+pub possible_stays : (sets : List ℕ) (w : ℕ) (t : Tally) (number : ℕ → ℕ) (k : ℕ) → IsWholeTally sets w t → IsPossible sets w number → HoldValuesTo w sets → k < w → MayStay t (slice_index sets k) (number k)
 possible_stays sets w t number k h p values inside =
     elim (cases_Bool (has_mark t.singles (number k))) [
       | inl alone ↦
           let by = (h.tally.singles (number k)).0 alone in
           elim (cases_eq by.0 k) [
-            | inl same ↦ let P : ℕ → Type 0 = λ i. IsSingle (get_or sets i 0) (number k) in inl (subst P same by.2)
+            | inl same ↦ let P : ℕ → Type 0 = λ i. IsSingle (slice_index sets i) (number k) in inl (subst P same by.2)
             | inr other ↦
                 let there : number by.0 ≡ number k = by.2.alone (number by.0) (p.within by.0 by.1) in
                 absurd (p.apart by.0 k by.1 inside other there)
@@ -116,8 +116,8 @@ possible_stays sets w t number k h p values inside =
         λ u has hidden.
             let range = values k u inside has in
             let at = p.all u range.0 range.1 in
-            let P : ℕ → Type 0 = λ v. has_mark (get_or sets at.0 0) v ≡ true in
-            let there : has_mark (get_or sets at.0 0) u ≡ true = subst P at.2 (p.within at.0 at.1) in
+            let P : ℕ → Type 0 = λ v. has_mark (slice_index sets at.0) v ≡ true in
+            let there : has_mark (slice_index sets at.0) u ≡ true = subst P at.2 (p.within at.0 at.1) in
             elim (cases_order at.0 k) [
               | inl same ↦ sym at.2 ∙ ap number same
               | inr order ↦ elim order [
@@ -130,7 +130,7 @@ possible_stays sets w t number k h p values inside =
     ]
 
 -- a value that is alone in another set may not stay
-pub taken_goes : (sets : List ℕ) (w : ℕ) (t : Tally) (k by v : ℕ) → IsWholeTally sets w t → k < w → by < w → by ≢ k → IsSingle (get_or sets by 0) v → MayStay t (get_or sets k 0) v → ⊥
+pub taken_goes : (sets : List ℕ) (w : ℕ) (t : Tally) (k by v : ℕ) → IsWholeTally sets w t → k < w → by < w → by ≢ k → IsSingle (slice_index sets by) v → MayStay t (slice_index sets k) v → ⊥
 taken_goes sets w t k by v h inside there apart single stays =
     elim stays [
       | inl own ↦ elim (cases_order by k) [
@@ -144,12 +144,12 @@ taken_goes sets w t k by v h inside there apart single stays =
     ]
 
 -- nor may a value where another has its one place
-pub displaced_goes : (sets : List ℕ) (w : ℕ) (t : Tally) (k v other : ℕ) → IsWholeTally sets w t → k < w → v ≢ other → 1 ≤ other → other ≤ w → ((j : ℕ) → j < w → has_mark (get_or sets j 0) other ≡ true → j ≡ k) → MayStay t (get_or sets k 0) v → ⊥
+pub displaced_goes : (sets : List ℕ) (w : ℕ) (t : Tally) (k v other : ℕ) → IsWholeTally sets w t → k < w → v ≢ other → 1 ≤ other → other ≤ w → ((j : ℕ) → j < w → has_mark (slice_index sets j) other ≡ true → j ≡ k) → MayStay t (slice_index sets k) v → ⊥
 displaced_goes sets w t k v other h inside apart low high one stays =
     let once = h.placed other low high in
     let at = (h.tally.once other).0 once in
-    let P : ℕ → Type 0 = λ j. has_mark (get_or sets j 0) other ≡ true in
-    let here : has_mark (get_or sets k 0) other ≡ true = subst P (one at.0 at.1 at.2) at.2 in
+    let P : ℕ → Type 0 = λ j. has_mark (slice_index sets j) other ≡ true in
+    let here : has_mark (slice_index sets k) other ≡ true = subst P (one at.0 at.1 at.2) at.2 in
     let lone : has_mark t.twice other ≡ false = false_from_ne_true (has_mark t.twice other) (λ e.
     let two = (h.tally.twice other).0 e in
     let first : two.0 < w = omega (arith, two.2, two.3) in
@@ -314,8 +314,8 @@ counted_more t u set single s some small apart once twice singles =
     }
 
 -- one set more is kept
-pub kept_more : (t : Tally) (sets kept : List ℕ) (n found : ℕ) → n < 9 → (length kept ≡ 9) × ((j : ℕ) → j < n → IsKeptOf t (get_or sets j 0) (get_or kept j 0)) → IsKeptOf t (get_or sets n 0) found → (length (set kept n found) ≡ 9) × ((j : ℕ) → j < n + 1 → IsKeptOf t (get_or sets j 0) (get_or (set kept n found) j 0))
+pub kept_more : (t : Tally) (sets kept : List ℕ) (n found : ℕ) → n < 9 → (length kept ≡ 9) × ((j : ℕ) → j < n → IsKeptOf t (slice_index sets j) (slice_index kept j)) → IsKeptOf t (slice_index sets n) found → (length (set kept n found) ≡ 9) × ((j : ℕ) → j < n + 1 → IsKeptOf t (slice_index sets j) (slice_index (set kept n found) j))
 kept_more t sets kept n found inside h is = (
   length-set kept n found ∙ h.0,
-  entries_more (λ j m. IsKeptOf t (get_or sets j 0) m) kept n found 0 (omega (arith, h.0)) h.1 is,
+  entries_more (λ j m. IsKeptOf t (slice_index sets j) m) kept n found 0 (omega (arith, h.0)) h.1 is,
 )

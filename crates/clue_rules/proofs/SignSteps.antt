@@ -1,5 +1,5 @@
 -- What a sign rules out in the squares on both its sides, and along a line.
-use Rattle.std.proofs.Common.{◌≡◌, ℕ, ◌+◌, ◌-◌, ◌*◌, ◌<◌, ◌≤◌, ◌↔◌, Bool, true, false, not, eqb, inl, inr, refl, sym, ap, ◌∙◌, subst, arith, ◌⊎◌}
+use Rattle.std.proofs.Common.{◌≡◌, ℕ, ◌+◌, ◌-◌, ◌*◌, ◌<◌, ◌≤◌, ◌↔◌, Bool, true, false, not, inl, inr, refl, sym, ap, ◌∙◌, subst, arith, ◌⊎◌, ◌==◌}
 use Rattle.std.specs.Bool.{OnTrue, OnFalse}
 use Rattle.std.proofs.lemmas.Bool.{both_ways, false_from_ne_true, cases_eq, eq-eqb, ne_eqb, lt-ltb, le-ltb}
 use Rattle.latin_board.specs.Marks.{has_mark}
@@ -24,7 +24,7 @@ use Rattle.clue_rules.specs.Laws.SignSides.{Side, First, Second, other_side, squ
 
 -- ---- a step at one square
 
-by_answer : (n : ℕ) (left : Bool) → left ≡ not (eqb n 0) → {P : Type 0} → (n ≡ 0 → P) → OnFalse left P
+by_answer : (n : ℕ) (left : Bool) → left ≡ not (n == 0) → {P : Type 0} → (n ≡ 0 → P) → OnFalse left P
 by_answer n left is {P} f =
     let Q : Bool → Type 0 = λ b. OnFalse b P in
     elim (cases_eq n 0) [
@@ -39,7 +39,7 @@ on_either false p = tt
 square_narrows : {S : GridValue → Type 0} {T : CandidatesValue → ℕ → ℕ → Type 0} (old new : CandidatesValue) (cell kept : ℕ) (left : Bool)
     → ((g : GridValue) → S g → g.size ≡ old.size → IsWithin old g → has_mark kept (number_at g cell) ≡ true)
     → ((first : CandidatesValue) → IsEarlier first old → (at v : ℕ) → IsPair first.size at v → T first at v → (at ≡ cell) × (has_mark kept v ≡ false))
-    → KeepsOf old new cell kept → left ≡ not (eqb kept 0) → Narrows S T old new left
+    → KeepsOf old new cell kept → left ≡ not (kept == 0) → Narrows S T old new left
 square_narrows old new cell kept left solved struck k is = record {
   less = k.less;
   keeps = λ g s size w. within_kept old new cell kept g k w (solved g s size w);
@@ -57,7 +57,7 @@ square_narrows old new cell kept left solved struck k is = record {
 
 -- ---- both squares of a sign
 
-pub lower_narrows : (old new : CandidatesValue) (upper lower set kept : ℕ) (left : Bool) → upper < old.size * old.size → IsSetOf old upper set → ((v : ℕ) → (has_mark kept v ≡ true) ↔ ((u : ℕ) × (v < u) × (has_mark set u ≡ true))) → KeepsOf old new lower kept → left ≡ not (eqb kept 0) → Narrows (HoldsGreater upper lower) (IsLowerStruck upper lower) old new left
+pub lower_narrows : (old new : CandidatesValue) (upper lower set kept : ℕ) (left : Bool) → upper < old.size * old.size → IsSetOf old upper set → ((v : ℕ) → (has_mark kept v ≡ true) ↔ ((u : ℕ) × (v < u) × (has_mark set u ≡ true))) → KeepsOf old new lower kept → left ≡ not (kept == 0) → Narrows (HoldsGreater upper lower) (IsLowerStruck upper lower) old new left
 lower_narrows old new upper lower set kept left inside is below k answer =
     square_narrows old new lower kept left
     (λ g s size w. (below (number_at g lower)).1 (number_at g upper, s.1, in_set old upper set g is s.0 size w inside))
@@ -70,7 +70,7 @@ lower_narrows old new upper lower set kept left inside is below k answer =
     ))
     k answer
 
-pub upper_narrows : (old new : CandidatesValue) (upper lower set kept : ℕ) (left : Bool) → old.size ≤ 9 → upper < old.size * old.size → lower < old.size * old.size → IsSetOf old lower set → ((v : ℕ) → v < 16 → (has_mark kept v ≡ true) ↔ ((u : ℕ) × (u < v) × (has_mark set u ≡ true))) → KeepsOf old new upper kept → left ≡ not (eqb kept 0) → Narrows (HoldsGreater upper lower) (IsUpperStruck upper lower) old new left
+pub upper_narrows : (old new : CandidatesValue) (upper lower set kept : ℕ) (left : Bool) → old.size ≤ 9 → upper < old.size * old.size → lower < old.size * old.size → IsSetOf old lower set → ((v : ℕ) → v < 16 → (has_mark kept v ≡ true) ↔ ((u : ℕ) × (u < v) × (has_mark set u ≡ true))) → KeepsOf old new upper kept → left ≡ not (kept == 0) → Narrows (HoldsGreater upper lower) (IsUpperStruck upper lower) old new left
 upper_narrows old new upper lower set kept left small inside below_in is above k answer =
     square_narrows old new upper kept left
     (λ g s size w.

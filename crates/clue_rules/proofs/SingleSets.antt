@@ -1,5 +1,5 @@
 -- Sets of values as bits: one value alone, and the values of one set that another lacks.
-use Rattle.std.proofs.Common.{◌≡◌, ◌≢◌, ℕ, ◌+◌, ◌-◌, ◌*◌, ◌^◌, ◌<◌, ◌≤◌, ◌↔◌, Bool, true, false, not, ◌&&◌, eqb, inl, inr, refl, sym, ap, ◌∙◌, subst, arith, add-one, bit_and, w16}
+use Rattle.std.proofs.Common.{◌≡◌, ◌≢◌, ℕ, ◌+◌, ◌-◌, ◌*◌, ◌^◌, ◌<◌, ◌≤◌, ◌↔◌, Bool, true, false, not, ◌&&◌, inl, inr, refl, sym, ap, ◌∙◌, subst, arith, add-one, bit_and, w16, ◌==◌}
 use Rattle.std.specs.Bool.{MatchBool}
 use Rattle.std.specs.Int.{bit_not, trailing_zeros}
 use Rattle.std.proofs.lemmas.Bool.{cases_Bool, cases_lt, cases_eq, both_ways, false_from_ne_true, and_parts, and_from, eq-eqb, ne_eqb}
@@ -79,7 +79,7 @@ mark-without a b k a_small b_small =
 
 -- ---- one value put in or taken out
 
-pub mark-one : (n k : ℕ) → has_mark (2 ^ n) k ≡ eqb k n
+pub mark-one : (n k : ℕ) → has_mark (2 ^ n) k ≡ (k == n)
 mark-one n k =
     elim (cases_eq k n) [
       | inl same ↦
@@ -88,7 +88,7 @@ mark-one n k =
       | inr other ↦ false_from_ne_true (has_mark (2 ^ n) k) (λ h. other (mark-pow n k h)) ∙ sym (ne_eqb k n other)
     ]
 
-pub mark-taken : (m n k : ℕ) → has_mark m n ≡ true → has_mark (flip_mark m n) k ≡ (has_mark m k && not (eqb k n))
+pub mark-taken : (m n k : ℕ) → has_mark m n ≡ true → has_mark (flip_mark m n) k ≡ (has_mark m k && not (k == n))
 mark-taken m n k was =
     elim (cases_eq k n) [
       | inl same ↦
@@ -101,7 +101,7 @@ mark-taken m n k was =
     and_true true = refl
     and_true false = refl
 
-pub mark-none_taken : (m n k : ℕ) → has_mark m n ≡ false → has_mark m k ≡ (has_mark m k && not (eqb k n))
+pub mark-none_taken : (m n k : ℕ) → has_mark m n ≡ false → has_mark m k ≡ (has_mark m k && not (k == n))
 mark-none_taken m n k was =
     elim (cases_eq k n) [
       | inl same ↦
@@ -116,7 +116,7 @@ mark-none_taken m n k was =
 
 -- ---- the test of a single value
 
-pub single_test : (set : ℕ) → set ≢ 0 → set < 2 ^ 16 → MatchBool (eqb (bit_and set (set - 1)) 0) ((v : ℕ) × IsSingle set v) ((v : ℕ) → IsSingle set v → ⊥)
+pub single_test : (set : ℕ) → set ≢ 0 → set < 2 ^ 16 → MatchBool (bit_and set (set - 1) == 0) ((v : ℕ) × IsSingle set v) ((v : ℕ) → IsSingle set v → ⊥)
 single_test set some small =
     elim (cases_eq (bit_and set (set - 1)) 0) [
       | inl none ↦ rw (eq-eqb (bit_and set (set - 1)) 0 none) (single_from_test set some small none)

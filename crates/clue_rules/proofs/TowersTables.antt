@@ -1,5 +1,5 @@
 -- The clues of a Towers puzzle as a table of 36 places: the full puzzle's, and one item less.
-use Rattle.std.proofs.Common.{◌≡◌, ℕ, zero, ◌+◌, ◌*◌, ◌<◌, ◌≤◌, not, eqb, List, set, All, refl}
+use Rattle.std.proofs.Common.{◌≡◌, ℕ, zero, ◌+◌, ◌*◌, ◌<◌, ◌≤◌, not, List, set, All, refl, ◌==◌}
 use Rattle.latin_board.specs.Squares.{GridValue, IsGrid}
 use Rattle.tower_lines.specs.TowersSeen.{seen}
 use Rattle.clue_rules.specs.Inner.TowersFields.{KeepsTowers, towers_value}
@@ -23,13 +23,13 @@ pub full_is : (g : GridValue) (clues : List ℕ) → HasClues g (4 * g.size) clu
 full_is g clues h = rw h.front refl
 
 pub clue_dropped : (givens : GridValue) (clues : List ℕ) (i : ℕ) → i < 4 * givens.size
-    → towers_value (set clues i 0) givens ≡ cut_towers (towers_value clues givens) (λ j. not (eqb j i))
+    → towers_value (set clues i 0) givens ≡ cut_towers (towers_value clues givens) (λ j. not (j == i))
 clue_dropped givens clues i inside =
     let kept = item_emptied zero (4 * givens.size) clues givens.numbers i inside in
     rw (kept.0, kept.1) refl
 
 pub given_dropped : (old new : GridValue) (clues : List ℕ) (i k : ℕ) → 4 * old.size + k ≡ i → new.size ≡ old.size → new.numbers ≡ set old.numbers k 0
-    → towers_value clues new ≡ cut_towers (towers_value clues old) (λ j. not (eqb j i))
+    → towers_value clues new ≡ cut_towers (towers_value clues old) (λ j. not (j == i))
 given_dropped old new clues i k e size numbers =
     let kept = given_emptied zero (4 * old.size) clues old.numbers i k e in
     rw (size, numbers, kept.0, kept.1) refl

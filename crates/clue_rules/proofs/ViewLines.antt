@@ -1,5 +1,5 @@
 -- The line that an edge place looks along, square by square.
-use Rattle.std.proofs.Common.{◌≡◌, ℕ, ◌+◌, ◌-◌, ◌*◌, ◌<◌, List, length, get_or, map, reverse, set, take, refl, sym, ap, ◌∙◌, inl, inr, arith}
+use Rattle.std.proofs.Common.{◌≡◌, ℕ, ◌+◌, ◌-◌, ◌*◌, ◌<◌, List, length, map, reverse, set, take, refl, sym, ap, ◌∙◌, inl, inr, arith, slice_index}
 use Rattle.std.specs.List.{range_with_len}
 use Rattle.std.proofs.Math.ListN.{length-set}
 use Rattle.std.proofs.lemmas.Bool.{lt-ltb, le-ltb, cases_lt}
@@ -25,7 +25,7 @@ back_along g line =
     let within : k < g.size = omega (arith, both, len) in
     let here : length (line_of g line) - 1 - k ≡ g.size - 1 - k = omega (arith, len) in
     get_or-reverse (line_of g line) k 0 (omega (arith, len))
-    ∙ ap (λ j. get_or (line_of g line) j 0) here
+    ∙ ap (λ j. slice_index (line_of g line) j) here
     ∙ get_or-line_of g line (g.size - 1 - k) (omega arith)
     ∙ sym (get_or-map-range_with_len back 0 g.size k k 0 within (omega arith)))
 

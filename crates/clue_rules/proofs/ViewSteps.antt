@@ -1,5 +1,5 @@
 -- What a clue rules out along its line: the line's fillings by sets, and a solution among them.
-use Rattle.std.proofs.Common.{◌≡◌, ◌≢◌, ℕ, ◌+◌, ◌*◌, ◌<◌, ◌≤◌, ◌⊎◌, Bool, true, false, List, length, get_or, take, inl, inr, refl, sym, ap, ◌∙◌, subst, arith}
+use Rattle.std.proofs.Common.{◌≡◌, ◌≢◌, ℕ, ◌+◌, ◌*◌, ◌<◌, ◌≤◌, ◌⊎◌, Bool, true, false, List, length, take, inl, inr, refl, sym, ap, ◌∙◌, subst, arith, slice_index}
 use Rattle.std.proofs.lemmas.Bool.{false_from_ne_true, cases_lt, lt-ltb, le-ltb}
 use Rattle.std.proofs.lemmas.List.{get_or-take, length-take-le}
 use Rattle.std.proofs.lemmas.List.FromFn.{get_or-map-range_with_len}
@@ -53,9 +53,9 @@ pub view_inside : (w place k : ℕ) → place < 4 * w → k < w → view_cell w 
 view_inside w place k inside low =
     line_cell_inside w (view_line w place) (view_index w place k) (view_line_low w place inside) (view_index_low w place k low)
 
-pub view_number : (g : GridValue) (place k : ℕ) → place < 4 * g.size → k < g.size → get_or (view_of g place) k 0 ≡ number_at g (view_cell g.size place k)
+pub view_number : (g : GridValue) (place k : ℕ) → place < 4 * g.size → k < g.size → slice_index (view_of g place) k ≡ number_at g (view_cell g.size place k)
 view_number g place k inside low =
-    ap (λ (xs : List ℕ). get_or xs k 0) (view_of-numbers g place inside)
+    ap (λ (xs : List ℕ). slice_index xs k) (view_of-numbers g place inside)
     ∙ get_or-map-range_with_len (λ k. number_at g (view_cell g.size place k)) 0 g.size k k 0 low (omega arith)
 
 -- ---- a solution is a filling of the line
@@ -71,7 +71,7 @@ view_filling c place clue sets g inside is small s size within shown =
     let whole = length-view_of g place in
     let long : length (take c.size sets) ≡ c.size = length-take-le c.size sets (omega (arith, is.count)) in
     let place_in : place < 4 * g.size = omega arith in
-    let at : (k : ℕ) → k < g.size → get_or (view_of g place) k 0 ≡ number_at g (view_cell g.size place k) = λ k low. view_number g place k place_in low in
+    let at : (k : ℕ) → k < g.size → slice_index (view_of g place) k ≡ number_at g (view_cell g.size place k) = λ k low. view_number g place k place_in low in
     let cell_is : (k : ℕ) → number_at g (view_cell g.size place k) ≡ number_at g (view_cell c.size place k) =
     λ k. ap (λ (w : ℕ). number_at g (view_cell w place k)) size in
     let pair : (k : ℕ) → k < c.size → IsPair c.size (view_cell c.size place k) (number_at g (view_cell c.size place k)) =
@@ -87,10 +87,10 @@ view_filling c place clue sets g inside is small s size within shown =
         candidates = λ j low.
             let in_g : j < g.size = omega arith in
             let in_c : j < c.size = omega arith in
-            let here : get_or (view_of g place) j 0 ≡ number_at g (view_cell c.size place j) = at j in_g ∙ cell_is j in
-            let has = in_set c (view_cell c.size place j) (get_or sets j 0) g (is.each j in_c) s size within (view_inside c.size place j inside in_c) in
-            let P : ℕ → Type 0 = λ m. has_mark m (get_or (view_of g place) j 0) ≡ true in
-            let Q : ℕ → Type 0 = λ v. has_mark (get_or sets j 0) v ≡ true in
+            let here : slice_index (view_of g place) j ≡ number_at g (view_cell c.size place j) = at j in_g ∙ cell_is j in
+            let has = in_set c (view_cell c.size place j) (slice_index sets j) g (is.each j in_c) s size within (view_inside c.size place j inside in_c) in
+            let P : ℕ → Type 0 = λ m. has_mark m (slice_index (view_of g place) j) ≡ true in
+            let Q : ℕ → Type 0 = λ v. has_mark (slice_index sets j) v ≡ true in
             subst P (sym (get_or-take c.size sets j 0 in_c)) (subst Q (sym here) has);
         apart = λ i j before low same.
             let i_in : i < g.size = omega arith in
@@ -101,7 +101,7 @@ view_filling c place clue sets g inside is small s size within shown =
       shown = shown;
     }
 
-view_solved : (c : CandidatesValue) (place clue : ℕ) (sets kept : List ℕ) (g : GridValue) → place < 4 * c.size → AreSetsOf c place sets → c.size ≤ 9 → KeepSupported c.size clue sets kept → IsSquare g → seen (view_of g place) ≡ clue → g.size ≡ c.size → IsWithin c g → (k : ℕ) → k < c.size → has_mark (get_or kept k 0) (number_at g (view_cell c.size place k)) ≡ true
+view_solved : (c : CandidatesValue) (place clue : ℕ) (sets kept : List ℕ) (g : GridValue) → place < 4 * c.size → AreSetsOf c place sets → c.size ≤ 9 → KeepSupported c.size clue sets kept → IsSquare g → seen (view_of g place) ≡ clue → g.size ≡ c.size → IsWithin c g → (k : ℕ) → k < c.size → has_mark (slice_index kept k) (number_at g (view_cell c.size place k)) ≡ true
 view_solved c place clue sets kept g inside is small supported s shown size within k low =
     let long : length (take c.size sets) ≡ c.size = length-take-le c.size sets (omega (arith, is.count)) in
     supported k (number_at g (view_cell c.size place k)) (record {
@@ -117,26 +117,26 @@ filling_earlier : (first c : CandidatesValue) (place clue : ℕ) (sets line : Li
 filling_earlier first c place clue sets line e is small f =
     let long : length (take c.size sets) ≡ c.size = length-take-le c.size sets (omega (arith, is.count)) in
     let whole : length line ≡ c.size = f.whole ∙ long in
-    let left : (k : ℕ) → k < c.size → IsPair c.size (view_cell c.size place k) (get_or line k 0) × (may_be c (view_cell c.size place k) (get_or line k 0) ≡ true) =
+    let left : (k : ℕ) → k < c.size → IsPair c.size (view_cell c.size place k) (slice_index line k) × (may_be c (view_cell c.size place k) (slice_index line k) ≡ true) =
     λ k low.
-    let P : ℕ → Type 0 = λ m. has_mark m (get_or line k 0) ≡ true in
-    (is.each k low (get_or line k 0)).0 (subst P (get_or-take c.size sets k 0 low) (f.start.candidates k (omega arith))) in
-    let Left : ℕ → Type 0 = λ w. (k : ℕ) → k < w → IsPair w (view_cell w place k) (get_or line k 0) × (may_be c (view_cell w place k) (get_or line k 0) ≡ true) in
+    let P : ℕ → Type 0 = λ m. has_mark m (slice_index line k) ≡ true in
+    (is.each k low (slice_index line k)).0 (subst P (get_or-take c.size sets k 0 low) (f.start.candidates k (omega arith))) in
+    let Left : ℕ → Type 0 = λ w. (k : ℕ) → k < w → IsPair w (view_cell w place k) (slice_index line k) × (may_be c (view_cell w place k) (slice_index line k) ≡ true) in
     let there : Left first.size = subst Left e.size left in
     record {
       whole = whole ∙ e.size;
       pairs = λ k low. (there k low).0;
-      candidates = λ k low. was_left first c (view_cell first.size place k) (get_or line k 0) e (there k low).1;
+      candidates = λ k low. was_left first c (view_cell first.size place k) (slice_index line k) e (there k low).1;
       apart = λ i j before low. f.start.apart i j before (omega (arith, e.size));
       shown = f.shown;
     }
 
-view_struck : (c : CandidatesValue) (place clue : ℕ) (sets kept : List ℕ) → AreSetsOf c place sets → c.size ≤ 9 → AreSupported c.size clue sets kept → (first : CandidatesValue) → IsEarlier first c → (cell v : ℕ) → IsViewStruck place clue first cell v → (k : ℕ) × (k < c.size) × (view_cell c.size place k ≡ cell) × (has_mark (get_or kept k 0) v ≡ false)
+view_struck : (c : CandidatesValue) (place clue : ℕ) (sets kept : List ℕ) → AreSetsOf c place sets → c.size ≤ 9 → AreSupported c.size clue sets kept → (first : CandidatesValue) → IsEarlier first c → (cell v : ℕ) → IsViewStruck place clue first cell v → (k : ℕ) × (k < c.size) × (view_cell c.size place k ≡ cell) × (has_mark (slice_index kept k) v ≡ false)
 view_struck c place clue sets kept is small supported first e cell v s = (
   s.index,
   omega (arith, s.inside, e.size),
   ap (λ (w : ℕ). view_cell w place s.index) e.size ∙ s.here,
-  false_from_ne_true (has_mark (get_or kept s.index 0) v) (λ has.
+  false_from_ne_true (has_mark (slice_index kept s.index) v) (λ has.
       let found = supported s.index v (omega (arith, s.inside, e.size)) has in
       s.unfilled.none found.line (filling_earlier first c place clue sets found.line e is small found.filling) found.here),
 )
@@ -152,7 +152,7 @@ pub view_kept : (c : CandidatesValue) (place clue : ℕ) (sets : List ℕ) → p
     → AreSupported c.size clue sets sets → Narrows (ShowsClue place clue) (IsViewStruck place clue) c c true
 view_kept c place clue sets inside is small supported =
     along_narrows (λ g s size w k low.
-    in_set c (view_cell c.size place k) (get_or sets k 0) g (is.each k low) s.0 size w (view_inside c.size place k inside low))
+    in_set c (view_cell c.size place k) (slice_index sets k) g (is.each k low) s.0 size w (view_inside c.size place k inside low))
     (λ first e cell v s. view_struck c place clue sets sets is small supported first e cell v s)
     (along_whole place sets sets c is (λ k low. refl))
 

@@ -1,5 +1,5 @@
 -- The clue part of a Towers description: what is read is written so, and what is written so is read.
-use Rattle.std.proofs.Common.{◌≡◌, ◌≢◌, ℕ, ◌+◌, ◌-◌, ◌*◌, ◌<◌, ◌≤◌, true, false, ◌==◌, nat_le, List, [], ◌∷◌, length, map, Ok, cond, refl, sym, ap, ◌∙◌, subst, arith}
+use Rattle.std.proofs.Common.{◌≡◌, ◌≢◌, ℕ, ◌+◌, ◌-◌, ◌*◌, ◌<◌, ◌≤◌, true, false, ◌==◌, nat_le, List, [], ◌∷◌, length, map, Ok, refl, sym, ap, ◌∙◌, subst, arith, if◌then◌else◌}
 use Rattle.std.specs.List.{AllByRecursion, list_all, join_with_byte}
 use Rattle.std.proofs.lemmas.List.{length-map}
 use Rattle.std.proofs.lemmas.List.Splits.{join_with_byte-slice_split}
@@ -29,7 +29,7 @@ field_taken w (b ∷ c ∷ bs) is = cc
 
 field_again : (w clue : ℕ) → clue ≤ w → (is_clue_field w (clue_field clue) ≡ true) × (clue_in (clue_field clue) ≡ clue)
 field_again w clue within =
-    elim (clue == 0) as (λ t. (clue == 0) ≡ t → (is_clue_field w (cond t [] ((48 + clue) ∷ [])) ≡ true) × (clue_in (cond t [] ((48 + clue) ∷ [])) ≡ clue)) [
+    elim (clue == 0) as (λ t. (clue == 0) ≡ t → (is_clue_field w (if t then [] else ((48 + clue) ∷ [])) ≡ true) × (clue_in (if t then [] else ((48 + clue) ∷ [])) ≡ clue)) [
       | true ↦ λ none. let e = eqb-true clue 0 none in (refl, omega arith)
       | false ↦ λ some.
           let apart = eqb-false clue 0 some in
@@ -56,7 +56,7 @@ fields_again w (clue ∷ clues) within =
 -- no field has a byte that is not a digit
 field_lacks : (c clue : ℕ) → c < 49 → Lacks c (clue_field clue)
 field_lacks c clue small =
-    elim (clue == 0) as (λ t. (clue == 0) ≡ t → Lacks c (cond t [] ((48 + clue) ∷ []))) [
+    elim (clue == 0) as (λ t. (clue == 0) ≡ t → Lacks c (if t then [] else ((48 + clue) ∷ []))) [
       | true ↦ λ none. tt
       | false ↦ λ some. let apart = eqb-false clue 0 some in (omega arith, tt)
     ] refl

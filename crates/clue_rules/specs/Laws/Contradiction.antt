@@ -1,5 +1,5 @@
 -- Two squares are each said to be the greater one exactly where the letters on both sides of some sign say so.
-use Rattle.std.proofs.Common.{◌≡◌, ℕ, ◌*◌, ◌<◌, ◌≤◌, Bool, true, false, eqb, ◌&&◌, List, [], ◌∷◌, Option, Some, None, refl, ap, inl, inr, arith}
+use Rattle.std.proofs.Common.{◌≡◌, ℕ, ◌*◌, ◌<◌, ◌≤◌, Bool, true, false, ◌&&◌, List, [], ◌∷◌, Option, Some, None, refl, ap, inl, inr, arith, ◌==◌}
 use Rattle.std.specs.Option.{option_map_or}
 use Rattle.std.specs.List.{list_any}
 use Rattle.std.proofs.lemmas.Bool.{eqb-true, eq-eqb, false≢true, and_parts, and_from, or_cases, or_right}
@@ -43,21 +43,21 @@ direction_some f Left h =
     (or_right (f Right) (list_any f (directions_behind Right))
     (or_right (f Down) (list_any f (directions_behind Down)) (rw h refl)))
 
-points_to : (o : Option ℕ) (b : ℕ) → option_map_or (λ c. eqb c b) o false ≡ true → o ≡ Some b
+points_to : (o : Option ℕ) (b : ℕ) → option_map_or (λ c. c == b) o false ≡ true → o ≡ Some b
 points_to None b e = absurd (false≢true e)
 points_to (Some c) b e = ap (λ n. Some n) (eqb-true c b e)
 
 -- the letter by which a square is said to be greater than another
 said_by : (w : ℕ) (pieces : List (List ℕ)) (a b : ℕ) → says_greater w pieces a b ≡ true → (d : Direction) × (says pieces a d ≡ true) × (neighbour w a d ≡ Some b)
 said_by w pieces a b e =
-    let there = some_direction (λ d. says pieces a d && option_map_or (λ c. eqb c b) (neighbour w a d) false) e in
-    let both = and_parts (says pieces a there.0) (option_map_or (λ c. eqb c b) (neighbour w a there.0) false) there.1 in
+    let there = some_direction (λ d. says pieces a d && option_map_or (λ c. c == b) (neighbour w a d) false) e in
+    let both = and_parts (says pieces a there.0) (option_map_or (λ c. c == b) (neighbour w a there.0) false) there.1 in
     (there.0, both.0, points_to (neighbour w a there.0) b both.1)
 
 said : (w : ℕ) (pieces : List (List ℕ)) (a b : ℕ) (d : Direction) → says pieces a d ≡ true → neighbour w a d ≡ Some b → says_greater w pieces a b ≡ true
 said w pieces a b d letter points =
-    direction_some (λ d. says pieces a d && option_map_or (λ c. eqb c b) (neighbour w a d) false) d
-    (and_from (says pieces a d) (option_map_or (λ c. eqb c b) (neighbour w a d) false) letter (rw points (eq-eqb b b refl)))
+    direction_some (λ d. says pieces a d && option_map_or (λ c. c == b) (neighbour w a d) false) d
+    (and_from (says pieces a d) (option_map_or (λ c. c == b) (neighbour w a d) false) letter (rw points (eq-eqb b b refl)))
 
 -- the letters on both sides of a sign
 both_say : (w : ℕ) (pieces : List (List ℕ)) (i : ℕ) (side : Side) → i < sign_count w → side_says w pieces i side ≡ true → side_says w pieces i (other_side side) ≡ true → signs_contradict w pieces ≡ true

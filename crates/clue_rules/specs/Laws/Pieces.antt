@@ -1,12 +1,12 @@
 -- What commas separate: pieces that are joined again, and a comma at the end.
-use Rattle.std.proofs.Common.{◌≡◌, ℕ, ◌⊎◌, true, false, cond, eqb, List, [], ◌∷◌, ◌++◌, Option, Some, None, refl, sym, ap, ◌∙◌, inl, inr, append_assoc}
+use Rattle.std.proofs.Common.{◌≡◌, ℕ, ◌⊎◌, true, false, List, [], ◌∷◌, ◌++◌, Option, Some, None, refl, sym, ap, ◌∙◌, inl, inr, append_assoc, ◌==◌, if◌then◌else◌}
 use Rattle.std.specs.List.{slice_split, join_with_byte, onto_first, AllByRecursion}
 use Rattle.byte_text.specs.Cuts.{Lacks, before, behind}
 use Rattle.byte_text.proofs.CutLaws.{cut_whole, pieces_more, pieces_last, before_at, behind_at, before_all, behind_none_in}
 use Rattle.clue_rules.specs.UnequalText.{without_empty_last}
 
 abbrev pub comma_pieces : List ℕ → List (List ℕ)
-comma_pieces bs = slice_split (λ b. eqb b 44) bs
+comma_pieces bs = slice_split (λ b. b == 44) bs
 
 -- the pieces of what is left of a text
 abbrev pub pieces_left : Option (List ℕ) → List (List ℕ)
@@ -50,7 +50,7 @@ drop-push (p ∷ q ∷ ps) = ap (λ qs. p ∷ qs) (drop-push (q ∷ ps))
 pub pieces-push : (bs : List ℕ) → comma_pieces (bs ++ 44 ∷ []) ≡ comma_pieces bs ++ [] ∷ []
 pieces-push [] = refl
 pieces-push (b ∷ bs) =
-    elim (eqb b 44) as (λ t. cond t ([] ∷ comma_pieces (bs ++ 44 ∷ [])) (onto_first b (comma_pieces (bs ++ 44 ∷ []))) ≡ cond t ([] ∷ comma_pieces bs) (onto_first b (comma_pieces bs)) ++ [] ∷ []) [
+    elim (b == 44) as (λ t. (if t then ([] ∷ comma_pieces (bs ++ 44 ∷ [])) else onto_first b (comma_pieces (bs ++ 44 ∷ []))) ≡ (if t then ([] ∷ comma_pieces bs) else onto_first b (comma_pieces bs)) ++ [] ∷ []) [
       | true ↦ ap (λ ps. [] ∷ ps) (pieces-push bs)
       | false ↦ rw (pieces-push bs, split_once bs) refl
     ]

@@ -1,5 +1,5 @@
 -- Which square is greater than which: at most one of two, as the test says, and as a grid holds it.
-use Rattle.std.proofs.Common.{◌≡◌, ℕ, ◌+◌, ◌-◌, ◌*◌, ◌/◌, ◌%◌, ◌<◌, ◌≤◌, true, cond, eqb, ltb, ◌&&◌, Some, None, refl, inl, inr, arith}
+use Rattle.std.proofs.Common.{◌≡◌, ℕ, ◌+◌, ◌-◌, ◌*◌, ◌/◌, ◌%◌, ◌<◌, ◌≤◌, true, nat_lt, ◌&&◌, Some, None, refl, inl, inr, arith, ◌==◌, if◌then◌else◌}
 use Rattle.std.specs.Option.{option_map_or}
 use Rattle.std.proofs.Math.Nat.{mod-lt}
 use Rattle.std.proofs.lemmas.Nat.{mod-mul-add}
@@ -25,15 +25,15 @@ next_column w a small h =
 
 pub between_found : (w a b i : ℕ) → 3 ≤ w → a < w * w → b < w * w → sign_between w a b ≡ Some i → IsBetween w i a b
 between_found w a b i small a_in b_in e =
-    elim (some_if ((eqb b (a + 1)) && (ltb 0 (b % w))) (a / w * (w - 1) + a % w) i (cond (eqb b (a + w)) (Some (pairs_across w + a)) None) e) [
+    elim (some_if ((b == a + 1) && (nat_lt 0 (b % w))) (a / w * (w - 1) + a % w) i (if b == a + w then Some (pairs_across w + a) else None) e) [
       | inl row ↦
-          let tests = and_parts (eqb b (a + 1)) (ltb 0 (b % w)) row.0 in
+          let tests = and_parts (b == a + 1) (nat_lt 0 (b % w)) row.0 in
           let next : b ≡ a + 1 = eqb-true b (a + 1) tests.0 in
           let column : 0 < b % w = ltb-true 0 (b % w) tests.1 in
           let room : a % w + 1 < w = next_column w a small (rw next at column) in
           inl (rw (next, ← row.1) (across_from w a small a_in room))
       | inr other ↦
-          elim (some_if (eqb b (a + w)) (pairs_across w + a) i None other.1) [
+          elim (some_if (b == a + w) (pairs_across w + a) i None other.1) [
             | inl column ↦
                 let next : b ≡ a + w = eqb-true b (a + w) column.0 in
                 inr (rw (next, ← column.1) (down_from w a small (omega arith)))

@@ -1,5 +1,5 @@
 -- No reading answers want of memory.
-use Rattle.std.proofs.Common.{◌*◌, ℕ, Bool, true, false, cond, ltb, not, List, length, Option, Some, None, Result, Ok, Err}
+use Rattle.std.proofs.Common.{◌*◌, ℕ, Bool, true, false, nat_lt, not, List, length, Option, Some, None, Result, Ok, Err, if◌then◌else◌}
 use Rattle.std.specs.List.{range_with_len, list_all, flat_map}
 use Rattle.byte_text.specs.Cuts.{before, behind}
 use Rattle.byte_text.specs.Reading.{◌>>=◌}
@@ -13,12 +13,12 @@ pub spares-then : {A B : Type 0} (r : Result A IdFault) (f : A → Result B IdFa
 spares-then (Ok a) f h k = k a
 spares-then (Err e) f h k = h
 
-pub spares-if : {A : Type 0} (b : Bool) (x y : Result A IdFault) → SparesMemory x → SparesMemory y → SparesMemory (cond b x y)
+pub spares-if : {A : Type 0} (b : Bool) (x y : Result A IdFault) → SparesMemory x → SparesMemory y → SparesMemory (if b then x else y)
 spares-if true x y h k = h
 spares-if false x y h k = k
 
 exactly_spares : {X : Type 0} (n : ℕ) (xs : List X) → SparesMemory (exactly n xs)
-exactly_spares n xs = spares-if (ltb (length xs) n) (Err TooFew) _ (λ e. cc) (spares-if (ltb n (length xs)) (Err TooMany) (Ok xs) (λ e. cc) tt)
+exactly_spares n xs = spares-if (nat_lt (length xs) n) (Err TooFew) _ (λ e. cc) (spares-if (nat_lt n (length xs)) (Err TooMany) (Ok xs) (λ e. cc) tt)
 
 clues_spare : (w : ℕ) (part : List ℕ) → SparesMemory (clues_at w part)
 unfolding clues_at

@@ -1,5 +1,5 @@
 -- The square part that is written is a text of its squares.
-use Rattle.std.proofs.Common.{◌≡◌, ◌≢◌, ℕ, zero, suc, ◌+◌, ◌-◌, ◌*◌, ◌/◌, ◌%◌, ◌<◌, ◌≤◌, Bool, true, false, ◌==◌, ◌&&◌, List, [], ◌∷◌, ◌++◌, replicate, inl, inr, cond, refl, sym, ap, ◌∙◌, subst, arith, append_assoc, append-nil, nat_le}
+use Rattle.std.proofs.Common.{◌≡◌, ◌≢◌, ℕ, zero, suc, ◌+◌, ◌-◌, ◌*◌, ◌/◌, ◌%◌, ◌<◌, ◌≤◌, Bool, true, false, ◌==◌, ◌&&◌, List, [], ◌∷◌, ◌++◌, replicate, inl, inr, refl, sym, ap, ◌∙◌, subst, arith, append_assoc, append-nil, nat_le, if◌then◌else◌}
 use Rattle.std.specs.List.{AllByRecursion}
 use Rattle.std.proofs.lemmas.List.{replicate-append-replicate, replicate_more}
 use Rattle.std.proofs.lemmas.Bool.{and_right, eqb-true, eqb-false, ne_eqb, lt-leb}
@@ -64,14 +64,14 @@ letters_begin n bs some =
     rw (blank_letters_some n some) (letters_begin_at ((n - 1) / 26) ((n - 1) % 26) bs)
 
 -- a given as it is written, and what stands behind it
-given_whole : (n : ℕ) (after_given : Bool) (s : ℕ) (bs : List ℕ) → blank_letters n ++ (cond ((n == 0) && after_given) (95 ∷ []) [] ++ ((48 + s) ∷ bs)) ≡ given_written n after_given s ++ bs
+given_whole : (n : ℕ) (after_given : Bool) (s : ℕ) (bs : List ℕ) → blank_letters n ++ ((if (n == 0) && after_given then (95 ∷ []) else []) ++ ((48 + s) ∷ bs)) ≡ given_written n after_given s ++ bs
 given_whole n after_given s bs = simp append_assoc
 
 given_begins : (n s : ℕ) (bs : List ℕ) → begins_digit (given_written n true s ++ bs) ≡ false
 given_begins n s bs =
     elim (n == 0) as (λ t. (n == 0) ≡ t → begins_digit (given_written n true s ++ bs) ≡ false) [
       | true ↦ λ none. rw none refl
-      | false ↦ λ some. subst (λ xs. begins_digit xs ≡ false) (given_whole n true s bs) (letters_begin n (cond ((n == 0) && true) (95 ∷ []) [] ++ ((48 + s) ∷ bs)) (eqb-false n 0 some))
+      | false ↦ λ some. subst (λ xs. begins_digit xs ≡ false) (given_whole n true s bs) (letters_begin n ((if (n == 0) && true then (95 ∷ []) else []) ++ ((48 + s) ∷ bs)) (eqb-false n 0 some))
     ] refl
 
 begins_written : (n : ℕ) (squares : List ℕ) → begins_digit (squares_written n true squares) ≡ false
@@ -81,7 +81,7 @@ begins_written n [] =
       | false ↦ λ some. subst (λ xs. begins_digit xs ≡ false) (append-nil (blank_letters n)) (letters_begin n [] (eqb-false n 0 some))
     ] refl
 begins_written n (s ∷ ss) =
-    elim (s == 0) as (λ t. begins_digit (cond t (squares_written (n + 1) true ss) (given_written n true s ++ squares_written 0 true ss)) ≡ false) [
+    elim (s == 0) as (λ t. begins_digit (if t then squares_written (n + 1) true ss else (given_written n true s ++ squares_written 0 true ss)) ≡ false) [
       | true ↦ begins_written (n + 1) ss
       | false ↦ given_begins n s (squares_written 0 true ss)
     ]
@@ -92,7 +92,7 @@ digit_text w s bs squares some within ends text =
     let value : s ≡ 48 + s - 48 = omega arith in
     inr (inr (omega arith, omega arith, ends, (squares, ap (λ x. x ∷ squares) value, text)))
 
-given_text : (w s : ℕ) (separate : Bool) (bs squares : List ℕ) → s ≢ 0 → s ≤ w → begins_digit bs ≡ false → IsSquareText w bs squares → IsSquareText w (cond separate (95 ∷ []) [] ++ ((48 + s) ∷ bs)) (s ∷ squares)
+given_text : (w s : ℕ) (separate : Bool) (bs squares : List ℕ) → s ≢ 0 → s ≤ w → begins_digit bs ≡ false → IsSquareText w bs squares → IsSquareText w ((if separate then (95 ∷ []) else []) ++ ((48 + s) ∷ bs)) (s ∷ squares)
 given_text w s true bs squares some within ends text = inl (refl, digit_text w s bs squares some within ends text)
 given_text w s false bs squares some within ends text = digit_text w s bs squares some within ends text
 
@@ -104,7 +104,7 @@ written_text : (w n : ℕ) (after_given : Bool) (squares : List ℕ) → AllByRe
 written_text w n after_given [] within =
     subst (λ t. IsSquareText w t (replicate n 0 ++ [])) (append-nil (blank_letters n)) (blanks_text w n [] [] refl)
 written_text w n after_given (s ∷ ss) within =
-    elim (s == 0) as (λ t. (s == 0) ≡ t → IsSquareText w (cond t (squares_written (n + 1) after_given ss) (given_written n after_given s ++ squares_written 0 true ss)) (replicate n 0 ++ s ∷ ss)) [
+    elim (s == 0) as (λ t. (s == 0) ≡ t → IsSquareText w (if t then squares_written (n + 1) after_given ss else (given_written n after_given s ++ squares_written 0 true ss)) (replicate n 0 ++ s ∷ ss)) [
       | true ↦ λ none.
           let e = eqb-true s 0 none in
           let squares_are : replicate (n + 1) 0 ++ ss ≡ replicate n 0 ++ s ∷ ss = zeros_more n ss ∙ ap (λ x. replicate n 0 ++ x ∷ ss) (sym e) in

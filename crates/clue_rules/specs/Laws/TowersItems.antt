@@ -1,5 +1,5 @@
 -- The laws of items: what a cut keeps, what two cuts make, and that the full puzzle of a Latin square is solved by it.
-use Rattle.std.proofs.Common.{◌≡◌, ℕ, zero, ◌+◌, ◌-◌, ◌*◌, ◌<◌, ◌≤◌, Bool, true, eqb, ◌&&◌, ◌||◌, [], length, get_or, refl, sym, ◌∙◌, inl, inr, arith, nat_lt}
+use Rattle.std.proofs.Common.{◌≡◌, ℕ, zero, ◌+◌, ◌-◌, ◌*◌, ◌<◌, ◌≤◌, Bool, true, ◌&&◌, ◌||◌, [], length, refl, sym, ◌∙◌, inl, inr, arith, nat_lt, ◌==◌, slice_index, slice_index_or}
 use Rattle.std.specs.Bool.{Decides}
 use Rattle.std.specs.List.{range_with_len}
 use Rattle.std.proofs.lemmas.Bool.{lt-ltb, cases_lt}
@@ -19,9 +19,9 @@ use Rattle.clue_rules.specs.Laws.Edges.{edge_cases}
 
 -- ---- the test of the clues
 
-one_clue_decides : (n m : ℕ) → Decides ((eqb n 0) || (eqb m n)) (0 < n → m ≡ n)
+one_clue_decides : (n m : ℕ) → Decides ((n == 0) || (m == n)) (0 < n → m ≡ n)
 one_clue_decides n m =
-    Decides-like ((eqb n 0) || (eqb m n))
+    Decides-like ((n == 0) || (m == n))
     (λ h low. elim h [ inl none ↦ absurd (omega arith) | inr same ↦ same ])
     (λ h. elim (cases_lt 0 n) [ inl low ↦ inr (h low) | inr none ↦ inl (omega arith) ])
     (Decides-or _ _ (Decides-eqb n 0) (Decides-eqb m n))
@@ -39,7 +39,7 @@ clues_decide v g =
 pub valid_size : (v : TowersValue) → IsTowers v → (3 ≤ v.size) × (v.size ≤ 9)
 valid_size v h = (h.smallest, h.largest)
 
-pub valid_given : (v : TowersValue) (cell : ℕ) → IsTowers v → cell < v.size * v.size → get_or v.givens cell 0 ≤ v.size
+pub valid_given : (v : TowersValue) (cell : ℕ) → IsTowers v → cell < v.size * v.size → slice_index v.givens cell ≤ v.size
 valid_given v cell h inside = h.givens_within cell 0 (rw h.given_count inside)
 
 -- ---- cuts
@@ -113,7 +113,7 @@ full_valid g h = record {
   clue_count = length-map-range_with_len (λ place. seen (view_of g place)) 0 (4 * g.size);
   clues_within =
       All-map (λ n. n ≤ g.size) (λ place. seen (view_of g place)) (range_with_len 0 (4 * g.size))
-      (λ k d inside. seen_within g (get_or (range_with_len 0 (4 * g.size)) k d));
+      (λ k d inside. seen_within g (slice_index_or (range_with_len 0 (4 * g.size)) k d));
   given_count = h.count;
   givens_within = h.within;
 }

@@ -1,5 +1,5 @@
 -- Towers descriptions: what is read has the grammar, what has the grammar is read, and what is written has it.
-use Rattle.std.proofs.Common.{◌≡◌, ℕ, ◌*◌, ◌≤◌, true, false, ◌==◌, ◌||◌, not, List, [], ◌∷◌, ◌++◌, length, replicate, Option, Some, None, Result, Ok, ◌⊎◌, inl, inr, cond, refl, sym, ap, ◌∙◌, subst, arith, append-nil}
+use Rattle.std.proofs.Common.{◌≡◌, ℕ, ◌*◌, ◌≤◌, true, false, ◌==◌, ◌||◌, not, List, [], ◌∷◌, ◌++◌, length, replicate, Option, Some, None, Result, Ok, ◌⊎◌, inl, inr, refl, sym, ap, ◌∙◌, subst, arith, append-nil, if◌then◌else◌}
 use Rattle.std.specs.List.{AllByRecursion, list_any}
 use Rattle.std.proofs.lemmas.List.{length-replicate}
 use Rattle.std.proofs.lemmas.List.Elements.{All-from_recursion, recursion_from_All}
@@ -94,7 +94,7 @@ none_given (n ∷ ns) =
 
 written_parts : (w : ℕ) (front givens : List ℕ) → length givens ≡ w * w → AllUpTo w givens → SquaresBehind w (front ++ square_part givens) front givens
 written_parts w front givens count within =
-    elim (list_any (λ n. not (n == 0)) givens) as (λ t. list_any (λ n. not (n == 0)) givens ≡ t → SquaresBehind w (front ++ cond t (44 ∷ squares_written 0 false givens) []) front givens) [
+    elim (list_any (λ n. not (n == 0)) givens) as (λ t. list_any (λ n. not (n == 0)) givens ≡ t → SquaresBehind w (front ++ (if t then (44 ∷ squares_written 0 false givens) else [])) front givens) [
       | true ↦ λ some. inr (squares_written 0 false givens, refl, squares_written_text w givens within)
       | false ↦ λ none. inl (append-nil front, none_given givens none ∙ ap (λ n. replicate n 0) count)
     ] refl

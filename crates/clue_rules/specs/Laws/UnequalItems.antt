@@ -1,5 +1,5 @@
 -- The laws of items: what a cut keeps, what two cuts make, and that the full puzzle of a Latin square is solved by it.
-use Rattle.std.proofs.Common.{◌≡◌, ◌≢◌, ℕ, zero, ◌+◌, ◌*◌, ◌/◌, ◌%◌, ◌<◌, ◌≤◌, Bool, true, false, cond, ◌&&◌, get_or, refl, sym, ◌∙◌, inl, inr, arith}
+use Rattle.std.proofs.Common.{◌≡◌, ◌≢◌, ℕ, zero, ◌+◌, ◌*◌, ◌/◌, ◌%◌, ◌<◌, ◌≤◌, Bool, true, false, ◌&&◌, refl, sym, ◌∙◌, inl, inr, arith, if◌then◌else◌, slice_index}
 use Rattle.std.proofs.lemmas.Nat.{div-mul-add, mod-mul-add}
 use Rattle.std.proofs.lemmas.Bool.{lt-ltb, le-ltb, cases_lt}
 use Rattle.std.proofs.lemmas.List.FromFn.{length-map-range_with_len, get_or-map-range_with_len}
@@ -19,7 +19,7 @@ use Rattle.clue_rules.specs.Laws.KeptItems.{length-kept, entry-kept, kept-all, k
 pub valid_size : (v : UnequalValue) → IsUnequal v → (3 ≤ v.size) × (v.size ≤ 9)
 valid_size v h = (h.givens.smallest, h.givens.largest)
 
-pub valid_given : (v : UnequalValue) (cell : ℕ) → IsUnequal v → cell < v.size * v.size → get_or v.givens cell 0 ≤ v.size
+pub valid_given : (v : UnequalValue) (cell : ℕ) → IsUnequal v → cell < v.size * v.size → slice_index v.givens cell ≤ v.size
 valid_given v cell h inside = h.givens.within cell 0 (rw h.givens.count inside)
 
 -- cuts
@@ -57,7 +57,7 @@ cut_agrees v a b h same =
     let kept = items_agree is_present Absent not_present (sign_count v.size) v.signs v.givens a b h.signs (λ i inside has. same i (omega (arith, h.givens.count)) has) in
     rw (kept.0, kept.1) refl
 
-sign_lost : (b : Bool) (s : Sign) (x y : ℕ) → holds_sign s x y ≡ true → holds_sign (cond b s Absent) x y ≡ true
+sign_lost : (b : Bool) (s : Sign) (x y : ℕ) → holds_sign s x y ≡ true → holds_sign (if b then s else Absent) x y ≡ true
 sign_lost true s x y h = h
 sign_lost false s x y h = refl
 

@@ -1,5 +1,5 @@
 -- The written form of an Unequal puzzle describes it.
-use Rattle.std.proofs.Common.{◌≡◌, ℕ, zero, suc, ◌+◌, ◌*◌, ◌<◌, ◌≤◌, Bool, true, false, List, [], ◌∷◌, ◌++◌, length, get_or, map, Option, Some, None, is_some, refl, sym, ap, ◌∙◌, inr, arith, append-nil, append_assoc}
+use Rattle.std.proofs.Common.{◌≡◌, ℕ, zero, suc, ◌+◌, ◌*◌, ◌<◌, ◌≤◌, Bool, true, false, List, [], ◌∷◌, ◌++◌, length, map, Option, Some, None, is_some, refl, sym, ap, ◌∙◌, inr, arith, append-nil, append_assoc, slice_index, slice_index_or}
 use Rattle.std.specs.List.{flat_map, range_with_len, join_with_byte, Contains}
 use Rattle.std.specs.Option.{option_map_or}
 use Rattle.std.proofs.lemmas.Bool.{false≢true}
@@ -46,7 +46,7 @@ pieces_written v = map (piece_of v) (range_with_len 0 (v.size * v.size))
 
 written_directions : (v : UnequalValue) (cell : ℕ) → cell < v.size * v.size → directions_at (pieces_written v) cell ≡ (piece_of v cell).greater
 written_directions v cell inside =
-    ap (λ ds. get_or ds cell []) (map_twice (λ p. p.greater) (piece_of v) (range_with_len 0 (v.size * v.size)))
+    ap (λ ds. slice_index_or ds cell []) (map_twice (λ p. p.greater) (piece_of v) (range_with_len 0 (v.size * v.size)))
     ∙ get_or-map-range_with_len (λ k. (piece_of v k).greater) 0 (v.size * v.size) cell cell [] inside (omega arith)
 
 count_written : (v : UnequalValue) → length (pieces_written v) ≡ v.size * v.size
@@ -90,7 +90,7 @@ unequal_canonical v valid =
           ∙ ap (λ ps. join_with_byte 44 ps ++ 44 ∷ []) (sym (map_twice piece_text (piece_of v) (range_with_len 0 n))));
       numbers =
           map_twice (λ p. p.number) (piece_of v) (range_with_len 0 n)
-          ∙ sym (fill_by_all (λ cell. get_or v.givens cell 0) v.givens n 0 valid.givens.count (λ k inside. refl));
+          ∙ sym (fill_by_all (λ cell. slice_index v.givens cell) v.givens n 0 valid.givens.count (λ k inside. refl));
       inside = λ cell d h.
           some_from_map_or (is_greater v cell) (neighbour v.size cell d) (written_letter v cell d h).1;
       signs = λ a b. (written_says v a b small, says_written v a b small);
