@@ -4,22 +4,23 @@ use Rattle.std.specs.List.{flat_map, list_all}
 use Rattle.std.proofs.lemmas.List.Splits.{length-slice_split}
 use Rattle.byte_text.specs.Cuts.{before, behind}
 use Rattle.byte_text.proofs.CutLaws.{pieces_more, pieces_last, cut_whole}
+use Rattle.byte_text.specs.Bytes.{slash}
 use Rattle.clue_rules.specs.TowersText.{clue_field, clue_part, fields, is_clue_field, clue_in}
 use Rattle.clue_rules.specs.Inner.Filled.{IsFilledTo}
 use Rattle.clue_rules.proofs.FilledLemmas.{filled_one}
 
 -- The fields are one more than the separators.
-pub field_count_by : (part : List ℕ) → length (fields part) ≡ count_by (λ b. b == 47) part + 1
-field_count_by part = length-slice_split (λ b. b == 47) part
+pub field_count_by : (part : List ℕ) → length (fields part) ≡ count_by (λ b. b == slash) part + 1
+field_count_by part = length-slice_split (λ b. b == slash) part
 
 -- the fields from a place in the clue part on; behind the last separator there is none
 abbrev pub fields_left : Option (List ℕ) → List (List ℕ)
 fields_left None = []
 fields_left (Some part) = fields part
 
-pub fields_step : (part front : List ℕ) (rest : Option (List ℕ)) → front ≡ before 47 part → rest ≡ behind 47 part → fields part ≡ front ∷ fields_left rest
-fields_step part front None is ends = pieces_last 47 part (sym ends) ∙ ap (λ f. f ∷ []) (sym (cut_whole 47 part (sym ends)) ∙ sym is)
-fields_step part front (Some more) is cut = pieces_more 47 part more (sym cut) ∙ ap (λ f. f ∷ fields more) (sym is)
+pub fields_step : (part front : List ℕ) (rest : Option (List ℕ)) → front ≡ before slash part → rest ≡ behind slash part → fields part ≡ front ∷ fields_left rest
+fields_step part front None is ends = pieces_last slash part (sym ends) ∙ ap (λ f. f ∷ []) (sym (cut_whole slash part (sym ends)) ∙ sym is)
+fields_step part front (Some more) is cut = pieces_more slash part more (sym cut) ∙ ap (λ f. f ∷ fields more) (sym is)
 
 -- What is known while the clues are filled: the places so far, and the fields that are left.
 pub record FillsClues (w : ℕ) (part : List ℕ) (rest : Option (List ℕ)) (place : ℕ) (clues : List ℕ) : Type 0 where
@@ -43,8 +44,8 @@ fills_step w part now front rest place clues fills step good small =
 
 -- clues behind the first, each behind its separator
 abbrev pub slashed : List ℕ → List ℕ
-slashed clues = flat_map (λ clue. 47 ∷ clue_field clue) clues
+slashed clues = flat_map (λ clue. slash ∷ clue_field clue) clues
 
 pub clue_part_slashed : (first : ℕ) (others : List ℕ) → clue_part (first ∷ others) ≡ clue_field first ++ slashed others
 clue_part_slashed first [] = sym (append-nil (clue_field first))
-clue_part_slashed first (second ∷ others) = ap (λ xs. clue_field first ++ 47 ∷ xs) (clue_part_slashed second others)
+clue_part_slashed first (second ∷ others) = ap (λ xs. clue_field first ++ slash ∷ xs) (clue_part_slashed second others)

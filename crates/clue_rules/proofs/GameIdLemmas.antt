@@ -20,6 +20,7 @@ use Rattle.byte_text.proofs.DecimalLaws.{number_taken, number_again}
 use Rattle.byte_text.proofs.ReadingLaws.{bind_taken, bind_again}
 use Rattle.clue_rules.proofs.ParameterLemmas.{params_taken, params_again}
 use Rattle.byte_text.specs.Cuts.{behind}
+use Rattle.byte_text.specs.Bytes.{digit_zero, colon, hash, exclamation, letter_a, letter_d}
 use Rattle.clue_rules.specs.IdFaults.{SparesMemory}
 use Rattle.clue_rules.specs.Laws.SparedMemory.{spares-then, spares-if}
 use Rattle.clue_rules.specs.Laws.Refusals.{refused_then}
@@ -52,9 +53,9 @@ split_again (b ∷ bs) separator rest none is =
     (rw none.0 (ap (λ xs. b ∷ xs) more.0), rw none.0 more.1)
 
 -- parameters have no separator in their text
-digit_no_separator : (w : ℕ) → w ≤ 9 → is_separator (48 + w) ≡ false
+digit_no_separator : (w : ℕ) → w ≤ 9 → is_separator (digit_zero + w) ≡ false
 digit_no_separator w small =
-    rw (ne_eqb (48 + w) 58 (omega arith), ne_eqb (48 + w) 35 (omega arith), ne_eqb (48 + w) 33 (omega arith)) refl
+    rw (ne_eqb (digit_zero + w) colon (omega arith), ne_eqb (digit_zero + w) hash (omega arith), ne_eqb (digit_zero + w) exclamation (omega arith)) refl
 
 letter_no_separator : (letters : List ℕ) (letter : Option ℕ) → LacksSeparators letters → IfSome letter (λ l. Contains letters l) → NoSeparators (letter_part letter)
 letter_no_separator letters None lacks member = tt
@@ -67,36 +68,36 @@ params_no_separator letters p lacks params =
 
 -- what stands behind the parameters
 abbrev Behind : Params → List ℕ → GameId (List ℕ) → Type 0
-Behind p bs (Described q desc) = (q ≡ p) × ((separator : ℕ) × (bs ≡ separator ∷ desc) × (separator ≢ 35) × (separator ≢ 33))
-Behind p bs (Seeded q seed) = (q ≡ p) × (seed < 2 ^ 64) × (bs ≡ 33 ∷ decimal seed)
+Behind p bs (Described q desc) = (q ≡ p) × ((separator : ℕ) × (bs ≡ separator ∷ desc) × (separator ≢ hash) × (separator ≢ exclamation))
+Behind p bs (Seeded q seed) = (q ≡ p) × (seed < 2 ^ 64) × (bs ≡ exclamation ∷ decimal seed)
 
-seed_taken : (p : Params) (bs : List ℕ) (seed : Option ℕ) (parts : GameId (List ℕ)) → decimal_value 18446744073709551615 bs ≡ seed → seeded p seed ≡ Ok parts → Behind p (33 ∷ bs) parts
+seed_taken : (p : Params) (bs : List ℕ) (seed : Option ℕ) (parts : GameId (List ℕ)) → decimal_value 18446744073709551615 bs ≡ seed → seeded p seed ≡ Ok parts → Behind p (exclamation ∷ bs) parts
 seed_taken p bs None parts number read = cc
 seed_taken p bs (Some seed) parts number read =
     let is : Seeded p seed ≡ parts = cc in
     let taken = number_taken 18446744073709551615 seed bs (omega arith) number in
-    subst (Behind p (33 ∷ bs)) is (refl, omega (arith, taken.1), ap (λ xs. 33 ∷ xs) taken.0)
+    subst (Behind p (exclamation ∷ bs)) is (refl, omega (arith, taken.1), ap (λ xs. exclamation ∷ xs) taken.0)
 
 behind_params_taken : (p : Params) (bs : List ℕ) (parts : GameId (List ℕ)) → behind_params p bs ≡ Ok parts → Behind p bs parts
 behind_params_taken p [] parts = λ read. cc
 behind_params_taken p (b ∷ bs) parts = λ read.
-    let own = refused_then (b == 35) ForeignSeed _ parts read in
-    elim (b == 33) as (λ t. (b == 33) ≡ t → (if t then seeded p (decimal_value 18446744073709551615 bs) else Ok (Described p bs)) ≡ Ok parts → Behind p (b ∷ bs) parts) [
-      | true ↦ λ seed read. rw (eqb-true b 33 seed) (seed_taken p bs (decimal_value 18446744073709551615 bs) parts refl read)
+    let own = refused_then (b == hash) ForeignSeed _ parts read in
+    elim (b == exclamation) as (λ t. (b == exclamation) ≡ t → (if t then seeded p (decimal_value 18446744073709551615 bs) else Ok (Described p bs)) ≡ Ok parts → Behind p (b ∷ bs) parts) [
+      | true ↦ λ seed read. rw (eqb-true b exclamation seed) (seed_taken p bs (decimal_value 18446744073709551615 bs) parts refl read)
       | false ↦ λ described read.
           let is : Described p bs ≡ parts = cc in
-          subst (Behind p (b ∷ bs)) is (refl, (b, refl, eqb-false b 35 own.0, eqb-false b 33 described))
+          subst (Behind p (b ∷ bs)) is (refl, (b, refl, eqb-false b hash own.0, eqb-false b exclamation described))
     ] refl own.1
 
 -- the separator before a description
-colon : (b : ℕ) → is_separator b ≡ true → b ≢ 35 → b ≢ 33 → b ≡ 58
-colon b is not_hash not_bang =
-    elim (or_cases (b == 58) ((b == 35) || (b == 33)) is) [
-      | inl same ↦ eqb-true b 58 same
+colon_left : (b : ℕ) → is_separator b ≡ true → b ≢ hash → b ≢ exclamation → b ≡ colon
+colon_left b is not_hash not_exclamation =
+    elim (or_cases (b == colon) ((b == hash) || (b == exclamation)) is) [
+      | inl same ↦ eqb-true b colon same
       | inr other ↦
-          elim (or_cases (b == 35) (b == 33) other) [
-            | inl hash ↦ absurd (not_hash (eqb-true b 35 hash))
-            | inr bang ↦ absurd (not_bang (eqb-true b 33 bang))
+          elim (or_cases (b == hash) (b == exclamation) other) [
+            | inl same ↦ absurd (not_hash (eqb-true b hash same))
+            | inr same ↦ absurd (not_exclamation (eqb-true b exclamation same))
           ]
     ]
 
@@ -104,12 +105,12 @@ parts_text : (letters : List ℕ) (text : List ℕ) (p : Params) (parts : GameId
 parts_text letters text p (Described q desc) params behind =
     let found = behind.1 in
     let split = split_taken text found.0 desc found.1 in
-    let is_colon = colon found.0 split.1 found.2 found.3 in
-    let text_is : text ≡ params_text p ++ 58 ∷ desc = let front = params.text_is in split.0 ∙ (ap (λ xs. xs ++ found.0 ∷ desc) front ∙ ap (λ b. params_text p ++ b ∷ desc) is_colon) in
+    let is_colon = colon_left found.0 split.1 found.2 found.3 in
+    let text_is : text ≡ params_text p ++ colon ∷ desc = let front = params.text_is in split.0 ∙ (ap (λ xs. xs ++ found.0 ∷ desc) front ∙ ap (λ b. params_text p ++ b ∷ desc) is_colon) in
     subst (λ v. IsIdText letters IsAnyText (Described v desc) text) (sym behind.0) (params.params, (desc, text_is, refl))
 parts_text letters text p (Seeded q seed) params behind =
-    let split = split_taken text 33 (decimal seed) behind.2 in
-    let text_is : text ≡ params_text p ++ 33 ∷ decimal seed = split.0 ∙ ap (λ xs. xs ++ 33 ∷ decimal seed) params.text_is in
+    let split = split_taken text exclamation (decimal seed) behind.2 in
+    let text_is : text ≡ params_text p ++ exclamation ∷ decimal seed = split.0 ∙ ap (λ xs. xs ++ exclamation ∷ decimal seed) params.text_is in
     subst (λ v. IsIdText letters IsAnyText (Seeded v seed) text) (sym behind.0) (params.params, behind.1, text_is)
 
 pub id_parts_taken : (letters : List ℕ) (has_adjacent : Bool) (text : List ℕ) (parts : GameId (List ℕ)) → id_parts_at letters has_adjacent text ≡ Ok parts → IsIdText letters IsAnyText parts text
@@ -131,18 +132,18 @@ split_params letters has_adjacent p separator rest lacks params is =
 
 pub id_parts_again : (letters : List ℕ) (has_adjacent : Bool) (text : List ℕ) (parts : GameId (List ℕ)) → LacksSeparators letters → IsIdText letters IsAnyText parts text → id_parts_at letters has_adjacent text ≡ Ok parts
 id_parts_again letters has_adjacent text (Described p desc) lacks h =
-    let text_is : text ≡ params_text p ++ 58 ∷ desc = h.1.1 ∙ ap (λ xs. params_text p ++ 58 ∷ xs) (sym h.1.2) in
-    ap (id_parts_at letters has_adjacent) text_is ∙ split_params letters has_adjacent p 58 desc lacks h.0 refl
+    let text_is : text ≡ params_text p ++ colon ∷ desc = h.1.1 ∙ ap (λ xs. params_text p ++ colon ∷ xs) (sym h.1.2) in
+    ap (id_parts_at letters has_adjacent) text_is ∙ split_params letters has_adjacent p colon desc lacks h.0 refl
 id_parts_again letters has_adjacent text (Seeded p seed) lacks h =
     let read : decimal_value 18446744073709551615 (decimal seed) ≡ Some seed = number_again 18446744073709551615 seed (omega (arith, h.1)) (omega arith) in
-    ap (id_parts_at letters has_adjacent) h.2 ∙ (split_params letters has_adjacent p 33 (decimal seed) lacks h.0 refl ∙ ap (seeded p) read)
+    ap (id_parts_at letters has_adjacent) h.2 ∙ (split_params letters has_adjacent p exclamation (decimal seed) lacks h.0 refl ∙ ap (seeded p) read)
 
 -- the ID with its description read
 with_taken : (D : Type 0) (letters : List ℕ) (desc_at : ℕ → List ℕ → Result D IdFault) (IsDesc : ℕ → D → List ℕ → Type 0) (text : List ℕ) (parts : GameId (List ℕ)) (id : GameId D) → ReadsGrammar D desc_at IsDesc → IsIdText letters IsAnyText parts text → with_description desc_at parts ≡ Ok id → IsIdText letters IsDesc id text
 with_taken D letters desc_at IsDesc text (Described p desc) id reads h read =
     let steps = bind_taken (desc_at p.size desc) (λ d. Ok (Described p d)) id read in
     let is : Described p steps.0 ≡ id = cc in
-    let text_is : text ≡ params_text p ++ 58 ∷ desc = h.1.1 ∙ ap (λ xs. params_text p ++ 58 ∷ xs) (sym h.1.2) in
+    let text_is : text ≡ params_text p ++ colon ∷ desc = h.1.1 ∙ ap (λ xs. params_text p ++ colon ∷ xs) (sym h.1.2) in
     subst (λ v. IsIdText letters IsDesc v text) is (h.0, (desc, text_is, reads.taken p.size desc steps.0 h.0.smallest h.0.largest steps.1))
 with_taken D letters desc_at IsDesc text (Seeded p seed) id reads h read =
     let is : Seeded p seed ≡ id = cc in
@@ -197,13 +198,13 @@ letter_spares letters w (b ∷ bs) = spares-if (list_any (λ l. l == b) letters)
 size_spares : (letters : List ℕ) (adjacent : Bool) (w : ℕ) (bs : List ℕ) → SparesMemory (behind_size letters adjacent w bs)
 size_spares letters adjacent w [] = tt
 size_spares letters adjacent w (b ∷ bs) =
-    spares-if (adjacent && (b == 97)) (Err AdjacentMode) _ (λ e. cc)
-    (spares-if (b == 100) _ (Err BadParams) (letter_spares letters w bs) (λ e. cc))
+    spares-if (adjacent && (b == letter_a)) (Err AdjacentMode) _ (λ e. cc)
+    (spares-if (b == letter_d) _ (Err BadParams) (letter_spares letters w bs) (λ e. cc))
 
 pub params_spare : (letters : List ℕ) (adjacent : Bool) (text : List ℕ) → SparesMemory (params_at letters adjacent text)
 unfolding params_at
 params_spare letters adjacent [] = λ e. cc
-params_spare letters adjacent (b ∷ bs) = spares-if (is_size b bs) _ (Err BadSize) (size_spares letters adjacent (b - 48) bs) (λ e. cc)
+params_spare letters adjacent (b ∷ bs) = spares-if (is_size b bs) _ (Err BadSize) (size_spares letters adjacent (b - digit_zero) bs) (λ e. cc)
 
 seed_spares : (p : Params) (seed : Option ℕ) → SparesMemory (seeded p seed)
 seed_spares p None = λ e. cc
@@ -212,8 +213,8 @@ seed_spares p (Some seed) = tt
 parts_spare : (p : Params) (bs : List ℕ) → SparesMemory (behind_params p bs)
 parts_spare p [] = λ e. cc
 parts_spare p (b ∷ bs) =
-    spares-if (b == 35) (Err ForeignSeed) _ (λ e. cc)
-    (spares-if (b == 33) _ (Ok (Described p bs)) (seed_spares p (decimal_value 18446744073709551615 bs)) tt)
+    spares-if (b == hash) (Err ForeignSeed) _ (λ e. cc)
+    (spares-if (b == exclamation) _ (Ok (Described p bs)) (seed_spares p (decimal_value 18446744073709551615 bs)) tt)
 
 description_spares : {D : Type 0} (desc_at : ℕ → List ℕ → Result D IdFault) → ((w : ℕ) (text : List ℕ) → SparesMemory (desc_at w text)) → (id : GameId (List ℕ)) → SparesMemory (with_description desc_at id)
 description_spares desc_at spares (Described p desc) = spares-then (desc_at p.size desc) _ (spares p.size desc) (λ d. tt)

@@ -7,10 +7,11 @@ use Rattle.std.proofs.lemmas.Bool.{and_parts}
 use Rattle.clue_rules.specs.declared.id_fault.IdFault.TheVariants.{TooFew, TooMany}
 use Rattle.clue_rules.specs.IdFaults.{exactly}
 use Rattle.clue_rules.specs.Inner.Filled.{IsFilledTo}
-use Rattle.clue_rules.specs.TowersText.{is_square_byte, is_square_part, squares_of}
+use Rattle.clue_rules.specs.TowersText.{is_square_byte, is_square_part, squares_of, blanks_of}
 use Rattle.clue_rules.proofs.FilledLemmas.{filled_begin}
 use Rattle.clue_rules.specs.Laws.SquarePart.{byte_taken, squares_of_underscore, squares_of_letter, squares_of_digit}
 use Rattle.clue_rules.specs.Laws.Exactly.{exactly_again, exactly_few, exactly_many}
+use Rattle.byte_text.specs.Bytes.{digit_zero, digit_nine}
 
 -- the squares of a byte that may stand there are in range
 pub byte_within : (w b : ℕ) (bs : List ℕ) → w ≤ 9 → is_square_byte w b bs ≡ true → All (λ n. n ≤ w) (squares_of b)
@@ -19,13 +20,13 @@ byte_within w b bs small is =
       | inl same ↦ subst (All (λ n. n ≤ w)) (sym (squares_of_underscore b same)) (All-nil (λ n. n ≤ w))
       | inr other ↦
           elim other [
-            | inl letter ↦ subst (All (λ n. n ≤ w)) (sym (squares_of_letter b letter.0 letter.1)) (All-replicate (λ n. n ≤ w) (b - 96) 0 (omega arith))
-            | inr given ↦ subst (All (λ n. n ≤ w)) (sym (squares_of_digit b (omega arith) (omega arith))) (All-cons (λ n. n ≤ w) (b - 48) [] (omega arith) (All-nil (λ n. n ≤ w)))
+            | inl letter ↦ subst (All (λ n. n ≤ w)) (sym (squares_of_letter b letter.0 letter.1)) (All-replicate (λ n. n ≤ w) (blanks_of b) 0 (omega arith))
+            | inr given ↦ subst (All (λ n. n ≤ w)) (sym (squares_of_digit b (omega arith) (omega arith))) (All-cons (λ n. n ≤ w) (b - digit_zero) [] (omega arith) (All-nil (λ n. n ≤ w)))
           ]
     ]
 
-pub digit_within : (w b : ℕ) → 48 ≤ b → b ≤ 57 → All (λ n. n ≤ w) (squares_of b) → b - 48 ≤ w
-digit_within w b low high within = All-head (λ n. n ≤ w) (b - 48) [] (subst (All (λ n. n ≤ w)) (squares_of_digit b low high) within)
+pub digit_within : (w b : ℕ) → digit_zero ≤ b → b ≤ digit_nine → All (λ n. n ≤ w) (squares_of b) → b - digit_zero ≤ w
+digit_within w b low high within = All-head (λ n. n ≤ w) (b - digit_zero) [] (subst (All (λ n. n ≤ w)) (squares_of_digit b low high) within)
 
 pub record FillsGivens (w : ℕ) (part rest : List ℕ) (cell : ℕ) (numbers : List ℕ) : Type 0 where
   pub filled : IsFilledTo 0 (w * w) cell numbers

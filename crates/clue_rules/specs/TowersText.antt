@@ -20,7 +20,7 @@ clue_part clues = join_with_byte slash (map clue_field clues)
 
 -- how many blank squares a letter stands for: 1 for `a`
 abbrev pub blanks_of : ℕ → ℕ
-blanks_of b = b - 96
+blanks_of b = b + 1 - letter_a
 
 -- A letter is a run of 1 to 26 blank squares, a digit that ends its run of digits is a given, `_` is nothing.
 abbrev pub IsSquareText : ℕ → List ℕ → List ℕ → Type 0

@@ -8,6 +8,7 @@ use Rattle.std.proofs.lemmas.List.Elements.{All-from_recursion}
 use Rattle.std.proofs.lemmas.List.FromFn.{length-map-range_with_len}
 use Rattle.std.proofs.lemmas.List.Splits.{join_with_byte-slice_split}
 use Rattle.byte_text.specs.Cuts.{Lacks}
+use Rattle.byte_text.specs.Bytes.{comma}
 use Rattle.clue_rules.specs.declared.id_fault.IdFault.TheVariants.{BadClue, BadSquares, OffGrid, Contradiction}
 use Rattle.clue_rules.specs.declared.unequal.direction.Direction.{Direction}
 use Rattle.clue_rules.specs.Unequal.{UnequalValue, IsUnequal, sign_count}
@@ -85,15 +86,15 @@ inside_letters w cell (x ∷ ds) h =
 
 -- the text, from its pieces and back
 
-pub joined_text : (text : List ℕ) (p : List ℕ) (ps : List (List ℕ)) → pieces_of text ≡ p ∷ ps → (text ≡ join_with_byte 44 (p ∷ ps)) ⊎ (text ≡ join_with_byte 44 (p ∷ ps) ++ 44 ∷ [])
+pub joined_text : (text : List ℕ) (p : List ℕ) (ps : List (List ℕ)) → pieces_of text ≡ p ∷ ps → (text ≡ join_with_byte comma (p ∷ ps)) ⊎ (text ≡ join_with_byte comma (p ∷ ps) ++ comma ∷ [])
 joined_text text p ps e =
-    let whole : text ≡ join_with_byte 44 (comma_pieces text) = sym (join_with_byte-slice_split 44 text) in
+    let whole : text ≡ join_with_byte comma (comma_pieces text) = sym (join_with_byte-slice_split comma text) in
     elim (dropped_last (comma_pieces text)) [
-      | inl same ↦ inl (whole ∙ ap (join_with_byte 44) (sym same ∙ e))
-      | inr more ↦ inr (whole ∙ ap (join_with_byte 44) (more ∙ ap (λ qs. qs ++ [] ∷ []) e) ∙ join-push 44 p ps)
+      | inl same ↦ inl (whole ∙ ap (join_with_byte comma) (sym same ∙ e))
+      | inr more ↦ inr (whole ∙ ap (join_with_byte comma) (more ∙ ap (λ qs. qs ++ [] ∷ []) e) ∙ join-push comma p ps)
     ]
 
-pub all_lack : (pieces : List Piece) → AllByRecursion (Lacks 44) (map piece_text pieces)
+pub all_lack : (pieces : List Piece) → AllByRecursion (Lacks comma) (map piece_text pieces)
 all_lack [] = tt
 all_lack (p ∷ ps) = (lacks_comma p, all_lack ps)
 
@@ -101,19 +102,19 @@ pub none_empty : (p : Piece) (pieces : List Piece) → without_empty_last (map p
 none_empty p [] = refl
 none_empty p (q ∷ pieces) = ap (λ qs. piece_text p ∷ qs) (none_empty q pieces)
 
-pub pieces_again : (text : List ℕ) (p : Piece) (pieces : List Piece) → (text ≡ join_with_byte 44 (map piece_text (p ∷ pieces))) ⊎ (text ≡ join_with_byte 44 (map piece_text (p ∷ pieces)) ++ 44 ∷ []) → pieces_of text ≡ map piece_text (p ∷ pieces)
+pub pieces_again : (text : List ℕ) (p : Piece) (pieces : List Piece) → (text ≡ join_with_byte comma (map piece_text (p ∷ pieces))) ⊎ (text ≡ join_with_byte comma (map piece_text (p ∷ pieces)) ++ comma ∷ []) → pieces_of text ≡ map piece_text (p ∷ pieces)
 pieces_again text p pieces h =
-    let split : comma_pieces (join_with_byte 44 (map piece_text (p ∷ pieces))) ≡ map piece_text (p ∷ pieces) = pieces-join (piece_text p) (map piece_text pieces) (all_lack (p ∷ pieces)) in
+    let split : comma_pieces (join_with_byte comma (map piece_text (p ∷ pieces))) ≡ map piece_text (p ∷ pieces) = pieces-join (piece_text p) (map piece_text pieces) (all_lack (p ∷ pieces)) in
     elim h [
       | inl same ↦ rw (same, split) (none_empty p pieces)
-      | inr more ↦ rw (more, pieces-push (join_with_byte 44 (map piece_text (p ∷ pieces))), split) (drop-push (map piece_text (p ∷ pieces)))
+      | inr more ↦ rw (more, pieces-push (join_with_byte comma (map piece_text (p ∷ pieces))), split) (drop-push (map piece_text (p ∷ pieces)))
     ]
 
-pub some_pieces : (text : List ℕ) (pieces : List Piece) → 0 < length pieces → pieces_of text ≡ map piece_text pieces → (text ≡ join_with_byte 44 (map piece_text pieces)) ⊎ (text ≡ join_with_byte 44 (map piece_text pieces) ++ 44 ∷ [])
+pub some_pieces : (text : List ℕ) (pieces : List Piece) → 0 < length pieces → pieces_of text ≡ map piece_text pieces → (text ≡ join_with_byte comma (map piece_text pieces)) ⊎ (text ≡ join_with_byte comma (map piece_text pieces) ++ comma ∷ [])
 some_pieces text [] some e = absurd (omega arith)
 some_pieces text (p ∷ pieces) some e = joined_text text (piece_text p) (map piece_text pieces) e
 
-pub pieces_some : (text : List ℕ) (pieces : List Piece) → 0 < length pieces → (text ≡ join_with_byte 44 (map piece_text pieces)) ⊎ (text ≡ join_with_byte 44 (map piece_text pieces) ++ 44 ∷ []) → pieces_of text ≡ map piece_text pieces
+pub pieces_some : (text : List ℕ) (pieces : List Piece) → 0 < length pieces → (text ≡ join_with_byte comma (map piece_text pieces)) ⊎ (text ≡ join_with_byte comma (map piece_text pieces) ++ comma ∷ []) → pieces_of text ≡ map piece_text pieces
 pieces_some text [] some h = absurd (omega arith)
 pieces_some text (p ∷ pieces) some h = pieces_again text p pieces h
 

@@ -5,6 +5,7 @@ use Rattle.std.proofs.lemmas.Bool.{eq-eqb, eqb-true, false≢true, and_parts}
 use Rattle.std.proofs.lemmas.Bool.Decides.{nat_tests}
 use Rattle.byte_text.specs.Cuts.{Lacks}
 use Rattle.byte_text.specs.Decimals.{begins_digit}
+use Rattle.byte_text.specs.Bytes.{capital_u, capital_r, capital_d, capital_l, comma, digit_zero}
 use Rattle.clue_rules.specs.declared.unequal.direction.Direction.{Direction}
 use Rattle.clue_rules.specs.declared.unequal.direction.Direction.TheVariants.{Up, Right, Down, Left}
 use Rattle.clue_rules.specs.UnequalText.{Piece, letter_of, piece_text, directions_at, number_in, has_number, direction_of, has_letters, piece_at, says}
@@ -19,14 +20,14 @@ direction_of-letter Down = refl
 direction_of-letter Left = refl
 
 pub letter_of-direction : (b : ℕ) (d : Direction) → direction_of b ≡ Some d → letter_of d ≡ b
-letter_of-direction b d e = elim (some_if (b == 85) Up d _ e) [
-  | inl up ↦ rw (← up.1) (sym (eqb-true b 85 up.0))
-  | inr right_on ↦ elim (some_if (b == 82) Right d _ right_on.1) [
-    | inl right ↦ rw (← right.1) (sym (eqb-true b 82 right.0))
-    | inr down_on ↦ elim (some_if (b == 68) Down d _ down_on.1) [
-      | inl down ↦ rw (← down.1) (sym (eqb-true b 68 down.0))
-      | inr left_on ↦ elim (some_if (b == 76) Left d None left_on.1) [
-        | inl left ↦ rw (← left.1) (sym (eqb-true b 76 left.0))
+letter_of-direction b d e = elim (some_if (b == capital_u) Up d _ e) [
+  | inl up ↦ rw (← up.1) (sym (eqb-true b capital_u up.0))
+  | inr right_on ↦ elim (some_if (b == capital_r) Right d _ right_on.1) [
+    | inl right ↦ rw (← right.1) (sym (eqb-true b capital_r right.0))
+    | inr down_on ↦ elim (some_if (b == capital_d) Down d _ down_on.1) [
+      | inl down ↦ rw (← down.1) (sym (eqb-true b capital_d down.0))
+      | inr left_on ↦ elim (some_if (b == capital_l) Left d None left_on.1) [
+        | inl left ↦ rw (← left.1) (sym (eqb-true b capital_l left.0))
         | inr none ↦ absurd (let f : None ≡ Some d = none.1 in cc)
       ]
     ]
@@ -39,7 +40,7 @@ same_letter d e h =
     let both : Some d ≡ Some e = sym (direction_of-letter d) ∙ ap direction_of letters ∙ direction_of-letter e in
     cc
 
-letter_no_comma : (d : Direction) → letter_of d ≢ 44
+letter_no_comma : (d : Direction) → letter_of d ≢ comma
 letter_no_comma Up e = omega arith
 letter_no_comma Right e = omega arith
 letter_no_comma Down e = omega arith
@@ -133,9 +134,9 @@ begins_no_digit (Left ∷ ds) = refl
 
 pub number_in-piece : (w : ℕ) (p : Piece) → p.number ≤ w → number_in w (piece_text p) ≡ Some p.number
 number_in-piece w p small =
-    let low : nat_le 48 (48 + p.number) ≡ true = grind (arith, nat_tests) in
-    let high : nat_le (48 + p.number) (48 + w) ≡ true = grind (arith, nat_tests) in
-    let number : 48 + p.number - 48 ≡ p.number = omega arith in
+    let low : nat_le digit_zero (digit_zero + p.number) ≡ true = grind (arith, nat_tests) in
+    let high : nat_le (digit_zero + p.number) (digit_zero + w) ≡ true = grind (arith, nat_tests) in
+    let number : digit_zero + p.number - digit_zero ≡ p.number = omega arith in
     rw (low, high, begins_no_digit p.greater, number) refl
 
 pub letters_piece : (p : Piece) → has_letters (piece_text p) ≡ true
@@ -148,10 +149,10 @@ letters_piece p = each p.greater
     each (Down ∷ ds) = each ds
     each (Left ∷ ds) = each ds
 
-pub lacks_comma : (p : Piece) → Lacks 44 (piece_text p)
+pub lacks_comma : (p : Piece) → Lacks comma (piece_text p)
 lacks_comma p = ((λ e. omega arith), each p.greater)
   where
-    each : (ds : List Direction) → Lacks 44 (map letter_of ds)
+    each : (ds : List Direction) → Lacks comma (map letter_of ds)
     each [] = tt
     each (d ∷ ds) = (letter_no_comma d, each ds)
 
@@ -170,15 +171,15 @@ letters_written (b ∷ bs) e = go (λ h. letters_written bs h) (direction_of b) 
     go rest None none parts = absurd (false≢true (sym (ap is_some none) ∙ parts.0))
     go rest (Some d) some parts = rw (some, letter_of-direction b d some, rest parts.1) refl
 
-number_written : (w b : ℕ) (bs : List ℕ) → has_number w (b ∷ bs) ≡ true → 48 + unwrap_or (number_in w (b ∷ bs)) 0 ≡ b
-number_written w b bs e = go (nat_le 48 b && nat_le b (48 + w) && not (begins_digit bs)) refl e
+number_written : (w b : ℕ) (bs : List ℕ) → has_number w (b ∷ bs) ≡ true → digit_zero + unwrap_or (number_in w (b ∷ bs)) 0 ≡ b
+number_written w b bs e = go (nat_le digit_zero b && nat_le b (digit_zero + w) && not (begins_digit bs)) refl e
   where
-    go : (t : Bool) → (nat_le 48 b && nat_le b (48 + w) && not (begins_digit bs)) ≡ t → is_some (if t then Some (b - 48) else None) ≡ true → 48 + unwrap_or (if t then Some (b - 48) else None) 0 ≡ b
+    go : (t : Bool) → (nat_le digit_zero b && nat_le b (digit_zero + w) && not (begins_digit bs)) ≡ t → is_some (if t then Some (b - digit_zero) else None) ≡ true → digit_zero + unwrap_or (if t then Some (b - digit_zero) else None) 0 ≡ b
     go false h e = absurd (false≢true e)
     go true h e =
-        let front = and_parts (nat_le 48 b && nat_le b (48 + w)) (not (begins_digit bs)) h in
-        let low = and_parts (nat_le 48 b) (nat_le b (48 + w)) front.0 in
-        let more : 48 ≤ b = grind (arith, nat_tests, low.0) in
+        let front = and_parts (nat_le digit_zero b && nat_le b (digit_zero + w)) (not (begins_digit bs)) h in
+        let low = and_parts (nat_le digit_zero b) (nat_le b (digit_zero + w)) front.0 in
+        let more : digit_zero ≤ b = grind (arith, nat_tests, low.0) in
         omega arith
 
 pub read_piece_written : (w : ℕ) (bytes : List ℕ) → has_number w bytes ≡ true → has_letters bytes ≡ true → piece_text (read_piece w bytes) ≡ bytes
@@ -187,12 +188,12 @@ read_piece_written w (b ∷ bs) number letters = rw (number_written w b bs numbe
 
 pub number_small : (w : ℕ) (bytes : List ℕ) → unwrap_or (number_in w bytes) 0 ≤ w
 number_small w [] = omega arith
-number_small w (b ∷ bs) = go (nat_le 48 b && nat_le b (48 + w) && not (begins_digit bs)) refl
+number_small w (b ∷ bs) = go (nat_le digit_zero b && nat_le b (digit_zero + w) && not (begins_digit bs)) refl
   where
-    go : (t : Bool) → (nat_le 48 b && nat_le b (48 + w) && not (begins_digit bs)) ≡ t → unwrap_or (if t then Some (b - 48) else None) 0 ≤ w
+    go : (t : Bool) → (nat_le digit_zero b && nat_le b (digit_zero + w) && not (begins_digit bs)) ≡ t → unwrap_or (if t then Some (b - digit_zero) else None) 0 ≤ w
     go false h = omega arith
     go true h =
-        let front = and_parts (nat_le 48 b && nat_le b (48 + w)) (not (begins_digit bs)) h in
-        let high = and_parts (nat_le 48 b) (nat_le b (48 + w)) front.0 in
-        let less : b ≤ 48 + w = grind (arith, nat_tests, high.1) in
+        let front = and_parts (nat_le digit_zero b && nat_le b (digit_zero + w)) (not (begins_digit bs)) h in
+        let high = and_parts (nat_le digit_zero b) (nat_le b (digit_zero + w)) front.0 in
+        let less : b ≤ digit_zero + w = grind (arith, nat_tests, high.1) in
         omega arith

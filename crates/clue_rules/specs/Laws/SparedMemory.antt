@@ -3,6 +3,7 @@ use Rattle.std.proofs.Common.{◌*◌, ℕ, Bool, true, false, nat_lt, not, List
 use Rattle.std.specs.List.{range_with_len, list_all, flat_map}
 use Rattle.byte_text.specs.Cuts.{before, behind}
 use Rattle.byte_text.specs.Reading.{◌>>=◌}
+use Rattle.byte_text.specs.Bytes.{comma}
 use Rattle.clue_rules.specs.declared.id_fault.IdFault.{IdFault}
 use Rattle.clue_rules.specs.declared.id_fault.IdFault.TheVariants.{BadClue, BadSquares, TooFew, TooMany, OffGrid, Contradiction}
 use Rattle.clue_rules.specs.IdFaults.{SparesMemory, exactly}
@@ -37,8 +38,8 @@ behind_spares w (Some part) = givens_spare w part
 pub towers_spares : (w : ℕ) (text : List ℕ) → SparesMemory (towers_at w text)
 unfolding towers_at
 towers_spares w text =
-    spares-then (clues_at w (before 44 text)) _ (clues_spare w (before 44 text))
-    (λ clues. spares-then (givens_behind w (behind 44 text)) _ (behind_spares w (behind 44 text)) (λ givens. tt))
+    spares-then (clues_at w (before comma text)) _ (clues_spare w (before comma text))
+    (λ clues. spares-then (givens_behind w (behind comma text)) _ (behind_spares w (behind comma text)) (λ givens. tt))
 
 pub unequal_spares : (w : ℕ) (text : List ℕ) → SparesMemory (unequal_at w text)
 unfolding unequal_at

@@ -8,6 +8,7 @@ use Rattle.byte_text.specs.Cuts.{before, behind}
 use Rattle.byte_text.specs.Reading.{◌>>=◌}
 use Rattle.byte_text.proofs.CutLaws.{cut_parts, cut_whole, before_at, behind_at, before_all, behind_none_in}
 use Rattle.byte_text.proofs.ReadingLaws.{bind_taken, bind_again}
+use Rattle.byte_text.specs.Bytes.{comma}
 use Rattle.clue_rules.specs.declared.id_fault.IdFault.{IdFault}
 use Rattle.clue_rules.specs.Towers.{TowersValue, IsTowers}
 use Rattle.clue_rules.specs.TowersText.{clue_part, IsSquareText, IsTowersText, squares_written, square_part, towers_text, clues_at, givens_behind, towers_at}
@@ -24,28 +25,28 @@ AllUpTo w ns = AllByRecursion (λ n. n ≤ w) ns
 -- the squares that stand behind the clues, or none
 abbrev SquaresBehind : ℕ → List ℕ → List ℕ → List ℕ → Type 0
 SquaresBehind w text front givens =
-    ((text ≡ front) × (givens ≡ replicate (w * w) 0)) ⊎ ((part : List ℕ) × (text ≡ front ++ 44 ∷ part) × IsSquareText w part givens)
+    ((text ≡ front) × (givens ≡ replicate (w * w) 0)) ⊎ ((part : List ℕ) × (text ≡ front ++ comma ∷ part) × IsSquareText w part givens)
 
 zeros_up_to : (w n : ℕ) → AllUpTo w (replicate n 0)
 zeros_up_to w n = subst (AllUpTo w) (append-nil (replicate n 0)) (zeros_within w n [] tt)
 
-givens_behind_taken : (w : ℕ) (text givens : List ℕ) (rest : Option (List ℕ)) → w ≤ 9 → behind 44 text ≡ rest → givens_behind w rest ≡ Ok givens → (length givens ≡ w * w) × AllUpTo w givens × SquaresBehind w text (before 44 text) givens
+givens_behind_taken : (w : ℕ) (text givens : List ℕ) (rest : Option (List ℕ)) → w ≤ 9 → behind comma text ≡ rest → givens_behind w rest ≡ Ok givens → (length givens ≡ w * w) × AllUpTo w givens × SquaresBehind w text (before comma text) givens
 givens_behind_taken w text givens None small cut read =
     let e : replicate (w * w) 0 ≡ givens = cc in
     let count : length givens ≡ w * w = ap length (sym e) ∙ length-replicate (w * w) 0 in
-    (count, subst (AllUpTo w) e (zeros_up_to w (w * w)), inl (sym (cut_whole 44 text cut), sym e))
+    (count, subst (AllUpTo w) e (zeros_up_to w (w * w)), inl (sym (cut_whole comma text cut), sym e))
 givens_behind_taken w text givens (Some part) small cut read =
     let taken = givens_taken w part givens small read in
-    (taken.0, squares_within w part givens taken.1, inr (part, cut_parts 44 text part cut, taken.1))
+    (taken.0, squares_within w part givens taken.1, inr (part, cut_parts comma text part cut, taken.1))
 
 pub towers_taken : (w : ℕ) (text : List ℕ) (p : TowersValue) → 3 ≤ w → w ≤ 9 → towers_at w text ≡ Ok p
     → IsTowersText p text × IsTowers p × (p.size ≡ w)
 unfolding towers_at
 towers_taken w text p small large read =
-    let first = bind_taken (clues_at w (before 44 text)) (λ clues. givens_behind w (behind 44 text) >>= made w clues) p read in
-    let second = bind_taken (givens_behind w (behind 44 text)) (made w first.0) p first.2 in
-    let clues = clues_taken w (before 44 text) first.0 first.1 in
-    let squares = givens_behind_taken w text second.0 (behind 44 text) large refl second.1 in
+    let first = bind_taken (clues_at w (before comma text)) (λ clues. givens_behind w (behind comma text) >>= made w clues) p read in
+    let second = bind_taken (givens_behind w (behind comma text)) (made w first.0) p first.2 in
+    let clues = clues_taken w (before comma text) first.0 first.1 in
+    let squares = givens_behind_taken w text second.0 (behind comma text) large refl second.1 in
     let value : TowersValue = record { size = w; clues = first.0; givens = second.0 } in
     let is : value ≡ p = cc in
     let puzzle : IsTowers value = record {
@@ -60,17 +61,17 @@ towers_taken w text p small large read =
     subst (λ v. IsTowersText v text × IsTowers v × (v.size ≡ w)) is (record { puzzle = puzzle; parts = parts }, puzzle, refl)
 
 -- where the description is cut, its clues and its givens are read
-cut_again : (w : ℕ) (text : List ℕ) (clues givens : List ℕ) → w ≤ 9 → length givens ≡ w * w → SquaresBehind w text (clue_part clues) givens → (before 44 text ≡ clue_part clues) × (givens_behind w (behind 44 text) ≡ Ok givens)
+cut_again : (w : ℕ) (text : List ℕ) (clues givens : List ℕ) → w ≤ 9 → length givens ≡ w * w → SquaresBehind w text (clue_part clues) givens → (before comma text ≡ clue_part clues) × (givens_behind w (behind comma text) ≡ Ok givens)
 cut_again w text clues givens small count parts =
     let lacks = clue_part_lacks_comma clues in
     elim parts [
       | inl alone ↦
-          let none : behind 44 text ≡ None = ap (behind 44) alone.0 ∙ behind_none_in 44 (clue_part clues) lacks in
-          (ap (before 44) alone.0 ∙ before_all 44 (clue_part clues) lacks, rw none (ap Ok (sym alone.1)))
+          let none : behind comma text ≡ None = ap (behind comma) alone.0 ∙ behind_none_in comma (clue_part clues) lacks in
+          (ap (before comma) alone.0 ∙ before_all comma (clue_part clues) lacks, rw none (ap Ok (sym alone.1)))
       | inr both ↦
           let part = both.0 in
-          let some : behind 44 text ≡ Some part = ap (behind 44) both.1 ∙ behind_at 44 (clue_part clues) part lacks in
-          (ap (before 44) both.1 ∙ before_at 44 (clue_part clues) part lacks, rw some (givens_again w part givens small count both.2))
+          let some : behind comma text ≡ Some part = ap (behind comma) both.1 ∙ behind_at comma (clue_part clues) part lacks in
+          (ap (before comma) both.1 ∙ before_at comma (clue_part clues) part lacks, rw some (givens_again w part givens small count both.2))
     ]
 
 pub towers_again : (text : List ℕ) (p : TowersValue) → IsTowersText p text → towers_at p.size text ≡ Ok p
@@ -78,10 +79,10 @@ unfolding towers_at
 towers_again text p h =
     let read = cut_again p.size text p.clues p.givens h.puzzle.largest h.puzzle.given_count h.parts in
     let within = recursion_from_All (λ n. n ≤ p.size) p.clues h.puzzle.clues_within in
-    let clues : clues_at p.size (before 44 text) ≡ Ok p.clues =
+    let clues : clues_at p.size (before comma text) ≡ Ok p.clues =
     ap (clues_at p.size) read.0 ∙ clues_again p.size p.clues (omega (arith, h.puzzle.smallest)) h.puzzle.clue_count within in
-    bind_again (clues_at p.size (before 44 text)) (λ clues. givens_behind p.size (behind 44 text) >>= made p.size clues) p.clues clues
-    ∙ bind_again (givens_behind p.size (behind 44 text)) (made p.size p.clues) p.givens read.1
+    bind_again (clues_at p.size (before comma text)) (λ clues. givens_behind p.size (behind comma text) >>= made p.size clues) p.clues clues
+    ∙ bind_again (givens_behind p.size (behind comma text)) (made p.size p.clues) p.givens read.1
 
 -- where no square is given, all are blank
 none_given : (givens : List ℕ) → list_any (λ n. not (n == 0)) givens ≡ false → givens ≡ replicate (length givens) 0
@@ -94,7 +95,7 @@ none_given (n ∷ ns) =
 
 written_parts : (w : ℕ) (front givens : List ℕ) → length givens ≡ w * w → AllUpTo w givens → SquaresBehind w (front ++ square_part givens) front givens
 written_parts w front givens count within =
-    elim (list_any (λ n. not (n == 0)) givens) as (λ t. list_any (λ n. not (n == 0)) givens ≡ t → SquaresBehind w (front ++ (if t then (44 ∷ squares_written 0 false givens) else [])) front givens) [
+    elim (list_any (λ n. not (n == 0)) givens) as (λ t. list_any (λ n. not (n == 0)) givens ≡ t → SquaresBehind w (front ++ (if t then (comma ∷ squares_written 0 false givens) else [])) front givens) [
       | true ↦ λ some. inr (squares_written 0 false givens, refl, squares_written_text w givens within)
       | false ↦ λ none. inl (append-nil front, none_given givens none ∙ ap (λ n. replicate n 0) count)
     ] refl

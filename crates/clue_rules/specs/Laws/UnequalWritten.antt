@@ -12,6 +12,7 @@ use Rattle.clue_rules.specs.Laws.Signs.{greater_found, greater_tested}
 use Rattle.clue_rules.specs.Laws.Letters.{contains_filter, filter_contains, directions_inside}
 use Rattle.clue_rules.specs.Laws.GoodPieces.{square_some}
 use Rattle.clue_rules.specs.Laws.SignSides.{way_from, towards, greater_by}
+use Rattle.byte_text.specs.Bytes.{comma}
 
 -- the written form describes
 
@@ -19,14 +20,14 @@ map_twice : {A B C : Type 0} (g : B → C) (f : A → B) (xs : List A) → map g
 map_twice g f [] = refl
 map_twice g f (x ∷ xs) = ap (λ ys. g (f x) ∷ ys) (map_twice g f xs)
 
-commas-join : (f : ℕ → List ℕ) (k : ℕ) (ks : List ℕ) → flat_map (λ i. f i ++ 44 ∷ []) (k ∷ ks) ≡ join_with_byte 44 (map f (k ∷ ks)) ++ 44 ∷ []
-commas-join f k [] = append-nil (f k ++ 44 ∷ [])
+commas-join : (f : ℕ → List ℕ) (k : ℕ) (ks : List ℕ) → flat_map (λ i. f i ++ comma ∷ []) (k ∷ ks) ≡ join_with_byte comma (map f (k ∷ ks)) ++ comma ∷ []
+commas-join f k [] = append-nil (f k ++ comma ∷ [])
 commas-join f k (m ∷ ks) =
-    append_assoc (f k) (44 ∷ []) (flat_map (λ i. f i ++ 44 ∷ []) (m ∷ ks))
-    ∙ ap (λ rest. f k ++ 44 ∷ rest) (commas-join f m ks)
-    ∙ sym (append_assoc (f k) (44 ∷ join_with_byte 44 (map f (m ∷ ks))) (44 ∷ []))
+    append_assoc (f k) (comma ∷ []) (flat_map (λ i. f i ++ comma ∷ []) (m ∷ ks))
+    ∙ ap (λ rest. f k ++ comma ∷ rest) (commas-join f m ks)
+    ∙ sym (append_assoc (f k) (comma ∷ join_with_byte comma (map f (m ∷ ks))) (comma ∷ []))
 
-commas-range : (f : ℕ → List ℕ) (n : ℕ) → 0 < n → flat_map (λ i. f i ++ 44 ∷ []) (range_with_len 0 n) ≡ join_with_byte 44 (map f (range_with_len 0 n)) ++ 44 ∷ []
+commas-range : (f : ℕ → List ℕ) (n : ℕ) → 0 < n → flat_map (λ i. f i ++ comma ∷ []) (range_with_len 0 n) ≡ join_with_byte comma (map f (range_with_len 0 n)) ++ comma ∷ []
 commas-range f zero some = absurd (omega arith)
 commas-range f (suc n) some = commas-join f 0 (range_with_len (0 + 1) n)
 
@@ -87,7 +88,7 @@ unequal_canonical v valid =
       pieces = pieces_written v;
       written = inr (
           commas-range (λ cell. piece_text (piece_of v cell)) n (square_some v.size small)
-          ∙ ap (λ ps. join_with_byte 44 ps ++ 44 ∷ []) (sym (map_twice piece_text (piece_of v) (range_with_len 0 n))));
+          ∙ ap (λ ps. join_with_byte comma ps ++ comma ∷ []) (sym (map_twice piece_text (piece_of v) (range_with_len 0 n))));
       numbers =
           map_twice (λ p. p.number) (piece_of v) (range_with_len 0 n)
           ∙ sym (fill_by_all (λ cell. slice_index v.givens cell) v.givens n 0 valid.givens.count (λ k inside. refl));
