@@ -18,7 +18,8 @@ abbrev pub fields_left : Option (List ℕ) → List (List ℕ)
 fields_left None = []
 fields_left (Some part) = fields part
 
-pub fields_step : (part front : List ℕ) (rest : Option (List ℕ)) → front ≡ before slash part → rest ≡ behind slash part → fields part ≡ front ∷ fields_left rest
+pub fields_step : (part front : List ℕ) (rest : Option (List ℕ)) → front ≡ before slash part → rest ≡ behind slash part
+    → fields part ≡ front ∷ fields_left rest
 fields_step part front None is ends = pieces_last slash part (sym ends) ∙ ap (λ f. f ∷ []) (sym (cut_whole slash part (sym ends)) ∙ sym is)
 fields_step part front (Some more) is cut = pieces_more slash part more (sym cut) ∙ ap (λ f. f ∷ fields more) (sym is)
 
@@ -29,7 +30,9 @@ pub record FillsClues (w : ℕ) (part : List ℕ) (rest : Option (List ℕ)) (pl
   pub tests : list_all (is_clue_field w) (fields_left rest) ≡ list_all (is_clue_field w) (fields part)
   pub values : map clue_in (fields part) ≡ take place clues ++ map clue_in (fields_left rest)
 
-pub fills_step : (w : ℕ) (part now front : List ℕ) (rest : Option (List ℕ)) (place : ℕ) (clues : List ℕ) → FillsClues w part (Some now) place clues → fields now ≡ front ∷ fields_left rest → is_clue_field w front ≡ true → w ≤ 9 → FillsClues w part rest (place + 1) (set clues place (clue_in front))
+pub fills_step : (w : ℕ) (part now front : List ℕ) (rest : Option (List ℕ)) (place : ℕ) (clues : List ℕ)
+    → FillsClues w part (Some now) place clues → fields now ≡ front ∷ fields_left rest → is_clue_field w front ≡ true → w ≤ 9
+    → FillsClues w part rest (place + 1) (set clues place (clue_in front))
 fills_step w part now front rest place clues fills step good small =
     let lengths : length (fields now) ≡ suc (length (fields_left rest)) = ap length step in
     let one = filled_one 0 36 place (clue_in front) clues fills.filled (omega (arith, fills.count)) in

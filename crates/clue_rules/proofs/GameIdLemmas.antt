@@ -31,7 +31,8 @@ pub record ReadsGrammar (D : Type 0) (desc_at : ℕ → List ℕ → Result D Id
   pub again : (w : ℕ) (desc : List ℕ) (d : D) → IsDesc w d desc → desc_at w desc ≡ Ok d
 
 -- where the text is split
-split_taken : (bs : List ℕ) (separator : ℕ) (rest : List ℕ) → from_separator bs ≡ separator ∷ rest → (bs ≡ params_part bs ++ separator ∷ rest) × (is_separator separator ≡ true)
+split_taken : (bs : List ℕ) (separator : ℕ) (rest : List ℕ) → from_separator bs ≡ separator ∷ rest
+    → (bs ≡ params_part bs ++ separator ∷ rest) × (is_separator separator ≡ true)
 split_taken [] separator rest = λ found. cc
 split_taken (b ∷ bs) separator rest =
     elim (is_separator b) as (λ t. is_separator b ≡ t → (if t then (b ∷ bs) else from_separator bs) ≡ separator ∷ rest → (b ∷ bs ≡ (if t then [] else (b ∷ params_part bs)) ++ separator ∷ rest) × (is_separator separator ≡ true)) [
@@ -46,7 +47,8 @@ split_taken (b ∷ bs) separator rest =
 abbrev NoSeparators : List ℕ → Type 0
 NoSeparators bs = AllByRecursion (λ b. is_separator b ≡ false) bs
 
-split_again : (front : List ℕ) (separator : ℕ) (rest : List ℕ) → NoSeparators front → is_separator separator ≡ true → (params_part (front ++ separator ∷ rest) ≡ front) × (from_separator (front ++ separator ∷ rest) ≡ separator ∷ rest)
+split_again : (front : List ℕ) (separator : ℕ) (rest : List ℕ) → NoSeparators front → is_separator separator ≡ true
+    → (params_part (front ++ separator ∷ rest) ≡ front) × (from_separator (front ++ separator ∷ rest) ≡ separator ∷ rest)
 split_again [] separator rest none is = (rw is refl, rw is refl)
 split_again (b ∷ bs) separator rest none is =
     let more = split_again bs separator rest none.1 is in
@@ -57,7 +59,8 @@ digit_no_separator : (w : ℕ) → w ≤ 9 → is_separator (digit_zero + w) ≡
 digit_no_separator w small =
     rw (ne_eqb (digit_zero + w) colon (omega arith), ne_eqb (digit_zero + w) hash (omega arith), ne_eqb (digit_zero + w) exclamation (omega arith)) refl
 
-letter_no_separator : (letters : List ℕ) (letter : Option ℕ) → LacksSeparators letters → IfSome letter (λ l. Contains letters l) → NoSeparators (letter_part letter)
+letter_no_separator : (letters : List ℕ) (letter : Option ℕ) → LacksSeparators letters → IfSome letter (λ l. Contains letters l)
+    → NoSeparators (letter_part letter)
 letter_no_separator letters None lacks member = tt
 letter_no_separator letters (Some letter) lacks member =
     (refl, (All-contains (λ l. is_separator l ≡ false) letters letter lacks member, tt))
@@ -71,7 +74,8 @@ abbrev Behind : Params → List ℕ → GameId (List ℕ) → Type 0
 Behind p bs (Described q desc) = (q ≡ p) × ((separator : ℕ) × (bs ≡ separator ∷ desc) × (separator ≢ hash) × (separator ≢ exclamation))
 Behind p bs (Seeded q seed) = (q ≡ p) × (seed < 2 ^ 64) × (bs ≡ exclamation ∷ decimal seed)
 
-seed_taken : (p : Params) (bs : List ℕ) (seed : Option ℕ) (parts : GameId (List ℕ)) → decimal_value 18446744073709551615 bs ≡ seed → seeded p seed ≡ Ok parts → Behind p (exclamation ∷ bs) parts
+seed_taken : (p : Params) (bs : List ℕ) (seed : Option ℕ) (parts : GameId (List ℕ)) → decimal_value 18446744073709551615 bs ≡ seed
+    → seeded p seed ≡ Ok parts → Behind p (exclamation ∷ bs) parts
 seed_taken p bs None parts number read = cc
 seed_taken p bs (Some seed) parts number read =
     let is : Seeded p seed ≡ parts = cc in
@@ -101,7 +105,8 @@ colon_left b is not_hash not_exclamation =
           ]
     ]
 
-parts_text : (letters : List ℕ) (text : List ℕ) (p : Params) (parts : GameId (List ℕ)) → IsParamText letters p (params_part text) → Behind p (from_separator text) parts → IsIdText letters IsAnyText parts text
+parts_text : (letters : List ℕ) (text : List ℕ) (p : Params) (parts : GameId (List ℕ)) → IsParamText letters p (params_part text)
+    → Behind p (from_separator text) parts → IsIdText letters IsAnyText parts text
 parts_text letters text p (Described q desc) params behind =
     let found = behind.1 in
     let split = split_taken text found.0 desc found.1 in
@@ -113,14 +118,17 @@ parts_text letters text p (Seeded q seed) params behind =
     let text_is : text ≡ params_text p ++ exclamation ∷ decimal seed = split.0 ∙ ap (λ xs. xs ++ exclamation ∷ decimal seed) params.text_is in
     subst (λ v. IsIdText letters IsAnyText (Seeded v seed) text) (sym behind.0) (params.params, behind.1, text_is)
 
-pub id_parts_taken : (letters : List ℕ) (has_adjacent : Bool) (text : List ℕ) (parts : GameId (List ℕ)) → id_parts_at letters has_adjacent text ≡ Ok parts → IsIdText letters IsAnyText parts text
+pub id_parts_taken : (letters : List ℕ) (has_adjacent : Bool) (text : List ℕ) (parts : GameId (List ℕ))
+    → id_parts_at letters has_adjacent text ≡ Ok parts → IsIdText letters IsAnyText parts text
 unfolding id_parts_at
 id_parts_taken letters has_adjacent text parts read =
     let steps = bind_taken (params_at letters has_adjacent (params_part text)) (λ p. behind_params p (from_separator text)) parts read in
     parts_text letters text steps.0 parts (params_taken letters has_adjacent (params_part text) steps.0 steps.1) (behind_params_taken steps.0 (from_separator text) parts steps.2)
 
 -- what stands behind the parameters is read behind them
-split_params : (letters : List ℕ) (has_adjacent : Bool) (p : Params) (separator : ℕ) (rest : List ℕ) → LacksSeparators letters → IsParams letters p → is_separator separator ≡ true → id_parts_at letters has_adjacent (params_text p ++ separator ∷ rest) ≡ behind_params p (separator ∷ rest)
+split_params : (letters : List ℕ) (has_adjacent : Bool) (p : Params) (separator : ℕ) (rest : List ℕ) → LacksSeparators letters
+    → IsParams letters p → is_separator separator ≡ true
+    → id_parts_at letters has_adjacent (params_text p ++ separator ∷ rest) ≡ behind_params p (separator ∷ rest)
 unfolding id_parts_at
 split_params letters has_adjacent p separator rest lacks params is =
     let text = params_text p ++ separator ∷ rest in
@@ -130,7 +138,8 @@ split_params letters has_adjacent p separator rest lacks params is =
     bind_again (params_at letters has_adjacent (params_part text)) (λ q. behind_params q (from_separator text)) p read
     ∙ ap (behind_params p) split.1
 
-pub id_parts_again : (letters : List ℕ) (has_adjacent : Bool) (text : List ℕ) (parts : GameId (List ℕ)) → LacksSeparators letters → IsIdText letters IsAnyText parts text → id_parts_at letters has_adjacent text ≡ Ok parts
+pub id_parts_again : (letters : List ℕ) (has_adjacent : Bool) (text : List ℕ) (parts : GameId (List ℕ)) → LacksSeparators letters
+    → IsIdText letters IsAnyText parts text → id_parts_at letters has_adjacent text ≡ Ok parts
 id_parts_again letters has_adjacent text (Described p desc) lacks h =
     let text_is : text ≡ params_text p ++ colon ∷ desc = h.1.1 ∙ ap (λ xs. params_text p ++ colon ∷ xs) (sym h.1.2) in
     ap (id_parts_at letters has_adjacent) text_is ∙ split_params letters has_adjacent p colon desc lacks h.0 refl
@@ -139,7 +148,10 @@ id_parts_again letters has_adjacent text (Seeded p seed) lacks h =
     ap (id_parts_at letters has_adjacent) h.2 ∙ (split_params letters has_adjacent p exclamation (decimal seed) lacks h.0 refl ∙ ap (seeded p) read)
 
 -- the ID with its description read
-with_taken : (D : Type 0) (letters : List ℕ) (desc_at : ℕ → List ℕ → Result D IdFault) (IsDesc : ℕ → D → List ℕ → Type 0) (text : List ℕ) (parts : GameId (List ℕ)) (id : GameId D) → ReadsGrammar D desc_at IsDesc → IsIdText letters IsAnyText parts text → with_description desc_at parts ≡ Ok id → IsIdText letters IsDesc id text
+with_taken : (D : Type 0) (letters : List ℕ) (desc_at : ℕ → List ℕ → Result D IdFault) (IsDesc : ℕ → D → List ℕ → Type 0)
+    (text : List ℕ) (parts : GameId (List ℕ)) (id : GameId D)
+    → ReadsGrammar D desc_at IsDesc → IsIdText letters IsAnyText parts text → with_description desc_at parts ≡ Ok id
+    → IsIdText letters IsDesc id text
 with_taken D letters desc_at IsDesc text (Described p desc) id reads h read =
     let steps = bind_taken (desc_at p.size desc) (λ d. Ok (Described p d)) id read in
     let is : Described p steps.0 ≡ id = cc in
@@ -149,13 +161,18 @@ with_taken D letters desc_at IsDesc text (Seeded p seed) id reads h read =
     let is : Seeded p seed ≡ id = cc in
     subst (λ v. IsIdText letters IsDesc v text) is h
 
-pub id_taken : (D : Type 0) (letters : List ℕ) (has_adjacent : Bool) (desc_at : ℕ → List ℕ → Result D IdFault) (IsDesc : ℕ → D → List ℕ → Type 0) (text : List ℕ) (id : GameId D) → ReadsGrammar D desc_at IsDesc → id_at letters has_adjacent desc_at text ≡ Ok id → IsIdText letters IsDesc id text
+pub id_taken : (D : Type 0) (letters : List ℕ) (has_adjacent : Bool) (desc_at : ℕ → List ℕ → Result D IdFault)
+    (IsDesc : ℕ → D → List ℕ → Type 0) (text : List ℕ) (id : GameId D)
+    → ReadsGrammar D desc_at IsDesc → id_at letters has_adjacent desc_at text ≡ Ok id → IsIdText letters IsDesc id text
 unfolding id_at
 id_taken D letters has_adjacent desc_at IsDesc text id reads read =
     let steps = bind_taken (id_parts_at letters has_adjacent text) (with_description desc_at) id read in
     with_taken D letters desc_at IsDesc text steps.0 id reads (id_parts_taken letters has_adjacent text steps.0 steps.1) steps.2
 
-pub id_again : (D : Type 0) (letters : List ℕ) (has_adjacent : Bool) (desc_at : ℕ → List ℕ → Result D IdFault) (IsDesc : ℕ → D → List ℕ → Type 0) (text : List ℕ) (id : GameId D) → LacksSeparators letters → ReadsGrammar D desc_at IsDesc → IsIdText letters IsDesc id text → id_at letters has_adjacent desc_at text ≡ Ok id
+pub id_again : (D : Type 0) (letters : List ℕ) (has_adjacent : Bool) (desc_at : ℕ → List ℕ → Result D IdFault)
+    (IsDesc : ℕ → D → List ℕ → Type 0) (text : List ℕ) (id : GameId D)
+    → LacksSeparators letters → ReadsGrammar D desc_at IsDesc → IsIdText letters IsDesc id text
+    → id_at letters has_adjacent desc_at text ≡ Ok id
 unfolding id_at
 id_again D letters has_adjacent desc_at IsDesc text (Described p d) lacks reads h =
     let desc = h.1.0 in
@@ -168,20 +185,32 @@ id_again D letters has_adjacent desc_at IsDesc text (Seeded p seed) lacks reads 
     bind_again (id_parts_at letters has_adjacent text) (with_description desc_at) (Seeded p seed) parts
 
 -- the same of an answer
-pub id_found : (D : Type 0) (letters : List ℕ) (has_adjacent : Bool) (desc_at : ℕ → List ℕ → Result D IdFault) (IsDesc : ℕ → D → List ℕ → Type 0) (text : List ℕ) (answer : Result (GameId D) IdFault) → ReadsGrammar D desc_at IsDesc → answer ≡ id_at letters has_adjacent desc_at text → IfOk answer (λ id. IsIdText letters IsDesc id text)
+pub id_found : (D : Type 0) (letters : List ℕ) (has_adjacent : Bool) (desc_at : ℕ → List ℕ → Result D IdFault)
+    (IsDesc : ℕ → D → List ℕ → Type 0) (text : List ℕ) (answer : Result (GameId D) IdFault)
+    → ReadsGrammar D desc_at IsDesc → answer ≡ id_at letters has_adjacent desc_at text
+    → IfOk answer (λ id. IsIdText letters IsDesc id text)
 id_found D letters has_adjacent desc_at IsDesc text (Ok id) reads is = id_taken D letters has_adjacent desc_at IsDesc text id reads (sym is)
 id_found D letters has_adjacent desc_at IsDesc text (Err e) reads is = tt
 
-pub id_parts_found : (letters : List ℕ) (has_adjacent : Bool) (text : List ℕ) (answer : Result (GameId (Bor (List ℕ))) IdFault) → Gives (λ id. id_map (λ r. r.now) id) answer (id_parts_at letters has_adjacent text) → IfOk answer (λ id. IsIdText letters IsAnyText (id_map (λ r. r.now) id) text)
+pub id_parts_found : (letters : List ℕ) (has_adjacent : Bool) (text : List ℕ) (answer : Result (GameId (Bor (List ℕ))) IdFault)
+    → Gives (λ id. id_map (λ r. r.now) id) answer (id_parts_at letters has_adjacent text)
+    → IfOk answer (λ id. IsIdText letters IsAnyText (id_map (λ r. r.now) id) text)
 id_parts_found letters has_adjacent text (Ok id) gives = id_parts_taken letters has_adjacent text (id_map (λ r. r.now) id) gives
 id_parts_found letters has_adjacent text (Err e) gives = tt
 
-pub id_parts_only : (letters : List ℕ) (has_adjacent : Bool) (text : List ℕ) (answer : Result (GameId (Bor (List ℕ))) IdFault) (id : GameId (List ℕ)) → Gives (λ v. id_map (λ r. r.now) v) answer (id_parts_at letters has_adjacent text) → LacksSeparators letters → IsIdText letters IsAnyText id text → Gives (λ v. id_map (λ r. r.now) v) answer (Ok id)
+pub id_parts_only : (letters : List ℕ) (has_adjacent : Bool) (text : List ℕ) (answer : Result (GameId (Bor (List ℕ))) IdFault)
+    (id : GameId (List ℕ))
+    → Gives (λ v. id_map (λ r. r.now) v) answer (id_parts_at letters has_adjacent text) → LacksSeparators letters
+    → IsIdText letters IsAnyText id text → Gives (λ v. id_map (λ r. r.now) v) answer (Ok id)
 id_parts_only letters has_adjacent text (Ok v) id gives lacks h = sym (id_parts_again letters has_adjacent text id lacks h) ∙ gives
 id_parts_only letters has_adjacent text (Err e) id gives lacks h = sym (id_parts_again letters has_adjacent text id lacks h) ∙ gives
 
 -- what a game owes of its descriptions makes its reading one of the grammar
-pub game_reads : (D : Type 0) (puzzle : D → Puzzle) (valid : D → Type 0) (describes : List ℕ → D → Type 0) (desc_at : ℕ → List ℕ → Result D IdFault) → ((w : ℕ) (text : List ℕ) (d : D) → 3 ≤ w → w ≤ 9 → desc_at w text ≡ Ok d → describes text d × valid d × ((puzzle d).size ≡ w)) → ((text : List ℕ) (d : D) → valid d → describes text d → desc_at (puzzle d).size text ≡ Ok d) → ReadsGrammar D desc_at (describes_at puzzle valid describes)
+pub game_reads : (D : Type 0) (puzzle : D → Puzzle) (valid : D → Type 0) (describes : List ℕ → D → Type 0)
+    (desc_at : ℕ → List ℕ → Result D IdFault)
+    → ((w : ℕ) (text : List ℕ) (d : D) → 3 ≤ w → w ≤ 9 → desc_at w text ≡ Ok d → describes text d × valid d × ((puzzle d).size ≡ w))
+    → ((text : List ℕ) (d : D) → valid d → describes text d → desc_at (puzzle d).size text ≡ Ok d)
+    → ReadsGrammar D desc_at (describes_at puzzle valid describes)
 game_reads D puzzle valid describes desc_at taken again = record {
   taken = λ w text d small large read. taken w text d small large read;
   again = λ w text d is. subst (λ n. desc_at n text ≡ Ok d) is.2 (again text d is.1 is.0);
@@ -216,11 +245,15 @@ parts_spare p (b ∷ bs) =
     spares-if (b == hash) (Err ForeignSeed) _ (λ e. cc)
     (spares-if (b == exclamation) _ (Ok (Described p bs)) (seed_spares p (decimal_value 18446744073709551615 bs)) tt)
 
-description_spares : {D : Type 0} (desc_at : ℕ → List ℕ → Result D IdFault) → ((w : ℕ) (text : List ℕ) → SparesMemory (desc_at w text)) → (id : GameId (List ℕ)) → SparesMemory (with_description desc_at id)
+description_spares : {D : Type 0} (desc_at : ℕ → List ℕ → Result D IdFault)
+    → ((w : ℕ) (text : List ℕ) → SparesMemory (desc_at w text)) → (id : GameId (List ℕ))
+    → SparesMemory (with_description desc_at id)
 description_spares desc_at spares (Described p desc) = spares-then (desc_at p.size desc) _ (spares p.size desc) (λ d. tt)
 description_spares desc_at spares (Seeded p seed) = tt
 
-pub id_spares : {D : Type 0} (letters : List ℕ) (adjacent : Bool) (desc_at : ℕ → List ℕ → Result D IdFault) → ((w : ℕ) (text : List ℕ) → SparesMemory (desc_at w text)) → (text : List ℕ) → SparesMemory (id_at letters adjacent desc_at text)
+pub id_spares : {D : Type 0} (letters : List ℕ) (adjacent : Bool) (desc_at : ℕ → List ℕ → Result D IdFault)
+    → ((w : ℕ) (text : List ℕ) → SparesMemory (desc_at w text)) → (text : List ℕ)
+    → SparesMemory (id_at letters adjacent desc_at text)
 unfolding id_parts_at id_at
 id_spares letters adjacent desc_at spares text =
     spares-then (id_parts_at letters adjacent text) (with_description desc_at)

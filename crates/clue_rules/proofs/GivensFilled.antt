@@ -36,11 +36,13 @@ pub record FillsGivens (w : ℕ) (part rest : List ℕ) (cell : ℕ) (numbers : 
 pub givens_begin : (w : ℕ) (part : List ℕ) → is_square_part w part ≡ true → FillsGivens w part part 0 (replicate (w * w) 0)
 givens_begin w part readable = record { filled = filled_begin 0 (w * w); readable = readable; squares = refl }
 
-pub givens_byte : (w b : ℕ) (part bs : List ℕ) (cell : ℕ) (numbers : List ℕ) → w ≤ 9 → FillsGivens w part (b ∷ bs) cell numbers → All (λ n. n ≤ w) (squares_of b)
+pub givens_byte : (w b : ℕ) (part bs : List ℕ) (cell : ℕ) (numbers : List ℕ) → w ≤ 9 → FillsGivens w part (b ∷ bs) cell numbers
+    → All (λ n. n ≤ w) (squares_of b)
 givens_byte w b part bs cell numbers small fills =
     byte_within w b bs small (and_parts (is_square_byte w b bs) (is_square_part w bs) fills.readable).0
 
-pub givens_step : (w b : ℕ) (part bs : List ℕ) (cell next : ℕ) (numbers more : List ℕ) → FillsGivens w part (b ∷ bs) cell numbers → IsFilledTo 0 (w * w) next more → take next more ≡ take cell numbers ++ squares_of b → FillsGivens w part bs next more
+pub givens_step : (w b : ℕ) (part bs : List ℕ) (cell next : ℕ) (numbers more : List ℕ) → FillsGivens w part (b ∷ bs) cell numbers
+    → IsFilledTo 0 (w * w) next more → take next more ≡ take cell numbers ++ squares_of b → FillsGivens w part bs next more
 givens_step w b part bs cell next numbers more fills filled taken = record {
   filled = filled;
   readable = (and_parts (is_square_byte w b bs) (is_square_part w bs) fills.readable).1;
@@ -50,19 +52,22 @@ givens_step w b part bs cell next numbers more fills filled taken = record {
 front_length : (w cell : ℕ) (numbers : List ℕ) → IsFilledTo 0 (w * w) cell numbers → length (take cell numbers) ≡ cell
 front_length w cell numbers filled = length-take-le cell numbers (omega (arith, filled.count, filled.within))
 
-pub givens_many : (w b : ℕ) (part bs : List ℕ) (cell : ℕ) (numbers : List ℕ) → FillsGivens w part (b ∷ bs) cell numbers → w * w < cell + length (squares_of b) → exactly (w * w) (flat_map squares_of part) ≡ Err TooMany
+pub givens_many : (w b : ℕ) (part bs : List ℕ) (cell : ℕ) (numbers : List ℕ) → FillsGivens w part (b ∷ bs) cell numbers
+    → w * w < cell + length (squares_of b) → exactly (w * w) (flat_map squares_of part) ≡ Err TooMany
 givens_many w b part bs cell numbers fills full =
     let lengths : length (flat_map squares_of part) ≡ cell + length (squares_of b ++ flat_map squares_of bs) =
     ap length fills.squares ∙ (length-append (take cell numbers) (squares_of b ++ flat_map squares_of bs) ∙ ap (λ n. n + length (squares_of b ++ flat_map squares_of bs)) (front_length w cell numbers fills.filled)) in
     let more : w * w < length (flat_map squares_of part) = omega (arith, lengths, length-append (squares_of b) (flat_map squares_of bs)) in
     exactly_many (w * w) (flat_map squares_of part) more
 
-pub givens_few : (w : ℕ) (part : List ℕ) (cell : ℕ) (numbers : List ℕ) → FillsGivens w part [] cell numbers → cell < w * w → exactly (w * w) (flat_map squares_of part) ≡ Err TooFew
+pub givens_few : (w : ℕ) (part : List ℕ) (cell : ℕ) (numbers : List ℕ) → FillsGivens w part [] cell numbers → cell < w * w
+    → exactly (w * w) (flat_map squares_of part) ≡ Err TooFew
 givens_few w part cell numbers fills few =
     let lengths : length (flat_map squares_of part) ≡ cell = ap length (fills.squares ∙ append-nil (take cell numbers)) ∙ front_length w cell numbers fills.filled in
     exactly_few (w * w) (flat_map squares_of part) (omega (arith, lengths))
 
-pub givens_end : (w : ℕ) (part : List ℕ) (cell : ℕ) (numbers : List ℕ) → FillsGivens w part [] cell numbers → w * w ≤ cell → exactly (w * w) (flat_map squares_of part) ≡ Ok numbers
+pub givens_end : (w : ℕ) (part : List ℕ) (cell : ℕ) (numbers : List ℕ) → FillsGivens w part [] cell numbers → w * w ≤ cell
+    → exactly (w * w) (flat_map squares_of part) ≡ Ok numbers
 givens_end w part cell numbers fills all =
     let whole : flat_map squares_of part ≡ numbers = fills.squares ∙ (append-nil (take cell numbers) ∙ take_all cell numbers (omega (arith, fills.filled.count))) in
     rw whole (exactly_again (w * w) numbers fills.filled.count)

@@ -28,7 +28,8 @@ below_first c cell kept = record {
   rest = λ d v h. refl;
 }
 
-pub below_kept : (first now : CandidatesValue) (cell kept n : ℕ) → KeepsBelow first now cell kept n → has_mark kept n ≡ true → KeepsBelow first now cell kept (n + 1)
+pub below_kept : (first now : CandidatesValue) (cell kept n : ℕ) → KeepsBelow first now cell kept n → has_mark kept n ≡ true
+    → KeepsBelow first now cell kept (n + 1)
 below_kept first now cell kept n h has = record {
   less = h.less;
   gone = λ v low high lacks. elim (cases_eq v n) [
@@ -40,7 +41,8 @@ below_kept first now cell kept n h has = record {
   rest = h.rest;
 }
 
-pub below_removed : (first now new : CandidatesValue) (cell kept n : ℕ) → KeepsBelow first now cell kept n → has_mark kept n ≡ false → Removes now new cell n → KeepsBelow first new cell kept (n + 1)
+pub below_removed : (first now new : CandidatesValue) (cell kept n : ℕ) → KeepsBelow first now cell kept n → has_mark kept n ≡ false
+    → Removes now new cell n → KeepsBelow first new cell kept (n + 1)
 below_removed first now new cell kept n h lacks r = record {
   less = earlier_trans first now new h.less (removed_earlier now new cell n r);
   gone = λ v low high none. elim (cases_eq v n) [
@@ -55,7 +57,8 @@ below_removed first now new cell kept n h lacks r = record {
       rest_removed now new cell n c v r (⊎_elim (λ m. inl m) (λ has. inr (n_lacks has)) apart) ∙ h.rest c v apart;
 }
 
-pub below_all : (first now : CandidatesValue) (cell kept n : ℕ) → KeepsBelow first now cell kept n → first.size < n → KeepsOf first now cell kept
+pub below_all : (first now : CandidatesValue) (cell kept n : ℕ) → KeepsBelow first now cell kept n → first.size < n
+    → KeepsOf first now cell kept
 below_all first now cell kept n h all = record {
   less = h.less;
   gone = λ v pair lacks. h.gone v pair.low (omega (arith, pair.high)) lacks;
@@ -78,8 +81,11 @@ kept_whole c cell kept set is whole = record {
 -- now is first with only the values of the sets kept in the first n squares from a place
 pub record KeepsUpTo (place : ℕ) (kept : List ℕ) (n : ℕ) (first now : CandidatesValue) : Type 0 where
   pub less : IsEarlier first now
-  pub keeps : (g : GridValue) → g.size ≡ first.size → ((k : ℕ) → k < first.size → has_mark (slice_index kept k) (number_at g (view_cell first.size place k)) ≡ true) → IsWithin first g → IsWithin now g
-  pub gone : (k v : ℕ) → k < n → IsPair first.size (view_cell first.size place k) v → has_mark (slice_index kept k) v ≡ false → may_be now (view_cell first.size place k) v ≡ false
+  pub keeps : (g : GridValue) → g.size ≡ first.size
+      → ((k : ℕ) → k < first.size → has_mark (slice_index kept k) (number_at g (view_cell first.size place k)) ≡ true)
+      → IsWithin first g → IsWithin now g
+  pub gone : (k v : ℕ) → k < n → IsPair first.size (view_cell first.size place k) v → has_mark (slice_index kept k) v ≡ false
+      → may_be now (view_cell first.size place k) v ≡ false
 
 pub up_to_none : (place : ℕ) (kept : List ℕ) (c : CandidatesValue) → KeepsUpTo place kept 0 c c
 up_to_none place kept c = record {
@@ -89,7 +95,8 @@ up_to_none place kept c = record {
 }
 
 -- a grid that has a value of the set in the square is still within
-pub within_kept : (old new : CandidatesValue) (cell kept : ℕ) (g : GridValue) → KeepsOf old new cell kept → IsWithin old g → has_mark kept (number_at g cell) ≡ true → IsWithin new g
+pub within_kept : (old new : CandidatesValue) (cell kept : ℕ) (g : GridValue) → KeepsOf old new cell kept → IsWithin old g
+    → has_mark kept (number_at g cell) ≡ true → IsWithin new g
 within_kept old new cell kept g k w has = record {
   each = λ c inside.
       let inside' : c < old.size * old.size = subst (λ (n : ℕ). c < n * n) k.less.size inside in
@@ -97,7 +104,9 @@ within_kept old new cell kept g k w has = record {
       k.rest c (number_at g c) (⊎_elim (λ same. inr (subst P (sym same) has)) (λ n. inl n) (cases_eq c cell)) ∙ w.each c inside';
 }
 
-pub up_to_more : (place : ℕ) (kept : List ℕ) (n cell : ℕ) (first now new : CandidatesValue) → KeepsUpTo place kept n first now → n < first.size → cell ≡ view_cell first.size place n → KeepsOf now new cell (slice_index kept n) → KeepsUpTo place kept (n + 1) first new
+pub up_to_more : (place : ℕ) (kept : List ℕ) (n cell : ℕ) (first now new : CandidatesValue) → KeepsUpTo place kept n first now
+    → n < first.size → cell ≡ view_cell first.size place n → KeepsOf now new cell (slice_index kept n)
+    → KeepsUpTo place kept (n + 1) first new
 up_to_more place kept n cell first now new h inside is k =
     let P : ℕ → Type 0 = λ c. KeepsOf now new c (slice_index kept n) in
     let here : KeepsOf now new (view_cell first.size place n) (slice_index kept n) = subst P is k in
@@ -114,7 +123,8 @@ up_to_more place kept n cell first now new h inside is k =
       ];
     }
 
-pub up_to_all : (place : ℕ) (kept : List ℕ) (n : ℕ) (first now : CandidatesValue) → KeepsUpTo place kept n first now → n ≡ first.size → KeepsAlong place kept first now true
+pub up_to_all : (place : ℕ) (kept : List ℕ) (n : ℕ) (first now : CandidatesValue) → KeepsUpTo place kept n first now
+    → n ≡ first.size → KeepsAlong place kept first now true
 up_to_all place kept n first now h all = record {
   less = h.less;
   keeps = h.keeps;
@@ -123,7 +133,8 @@ up_to_all place kept n first now h all = record {
 }
 
 -- where the sets are those of the candidates, nothing goes
-pub along_whole : (place : ℕ) (sets kept : List ℕ) (c : CandidatesValue) → AreSetsOf c place sets → ((k : ℕ) → k < c.size → slice_index sets k ≡ slice_index kept k) → KeepsAlong place kept c c true
+pub along_whole : (place : ℕ) (sets kept : List ℕ) (c : CandidatesValue) → AreSetsOf c place sets
+    → ((k : ℕ) → k < c.size → slice_index sets k ≡ slice_index kept k) → KeepsAlong place kept c c true
 along_whole place sets kept c is same = record {
   less = earlier_refl c;
   keeps = λ g size has w. w;
@@ -133,7 +144,8 @@ along_whole place sets kept c is same = record {
       both_ways (has_mark (slice_index kept k) v) lacks (subst P (same k inside) ((is.each k inside v).1 (pair, left))));
 }
 
-pub up_to_empty : (place : ℕ) (kept : List ℕ) (n : ℕ) (first now : CandidatesValue) → KeepsUpTo place kept (n + 1) first now → n < first.size → slice_index kept n ≡ 0 → KeepsAlong place kept first now false
+pub up_to_empty : (place : ℕ) (kept : List ℕ) (n : ℕ) (first now : CandidatesValue) → KeepsUpTo place kept (n + 1) first now
+    → n < first.size → slice_index kept n ≡ 0 → KeepsAlong place kept first now false
 up_to_empty place kept n first now h inside none = record {
   less = h.less;
   keeps = h.keeps;
@@ -146,7 +158,8 @@ up_to_empty place kept n first now h inside none = record {
 pub sets_none : (c : CandidatesValue) (place : ℕ) (sets : List ℕ) → length sets ≡ 9 → AreSetsTo c place 0 sets
 sets_none c place sets count = record { count = count; each = λ k low. absurd (omega arith) }
 
-pub sets_more : (c : CandidatesValue) (place n cell found : ℕ) (sets : List ℕ) → AreSetsTo c place n sets → n < 9 → cell ≡ view_cell c.size place n → IsSetOf c cell found → AreSetsTo c place (n + 1) (set sets n found)
+pub sets_more : (c : CandidatesValue) (place n cell found : ℕ) (sets : List ℕ) → AreSetsTo c place n sets → n < 9
+    → cell ≡ view_cell c.size place n → IsSetOf c cell found → AreSetsTo c place (n + 1) (set sets n found)
 sets_more c place n cell found sets h inside at is = record {
   count = length-set sets n found ∙ h.count;
   each = entries_more (λ k m. IsSetOf c (view_cell c.size place k) m) sets n found 0 (omega (arith, h.count)) h.each
@@ -166,13 +179,16 @@ pub record KeepsGivens (givens : GridValue) (first now : CandidatesValue) : Type
 pub givens_none : (givens : GridValue) (c : CandidatesValue) → KeepsGivens givens c c
 givens_none givens c = record { less = earlier_refl c; keeps = λ g agrees w. w }
 
-pub givens_more : (givens : GridValue) (n given : ℕ) (first now new : CandidatesValue) → KeepsGivens givens first now → n < givens.size * givens.size → given ≡ number_at givens n → IsEarlier now new → KeepsEach (λ g. 0 < given → number_at g n ≡ given) now new → KeepsGivens givens first new
+pub givens_more : (givens : GridValue) (n given : ℕ) (first now new : CandidatesValue) → KeepsGivens givens first now
+    → n < givens.size * givens.size → given ≡ number_at givens n → IsEarlier now new
+    → KeepsEach (λ g. 0 < given → number_at g n ≡ given) now new → KeepsGivens givens first new
 givens_more givens n given first now new h inside is less keeps = record {
   less = earlier_trans first now new h.less less;
   keeps = λ g agrees w. keeps g (λ some. agrees.each n inside (omega arith) ∙ sym is) (h.keeps g agrees w);
 }
 
-pub given_kept : (old new : CandidatesValue) (cell given kept : ℕ) → kept ≡ 2 ^ given → 0 < given → KeepsOf old new cell kept → KeepsEach (λ g. 0 < given → number_at g cell ≡ given) old new
+pub given_kept : (old new : CandidatesValue) (cell given kept : ℕ) → kept ≡ 2 ^ given → 0 < given → KeepsOf old new cell kept
+    → KeepsEach (λ g. 0 < given → number_at g cell ≡ given) old new
 given_kept old new cell given kept is some k g agrees w =
     let P : ℕ → ℕ → Type 0 = λ m v. has_mark m v ≡ true in
     let here : has_mark kept (number_at g cell) ≡ true = subst (λ m. P m (number_at g cell)) (sym is) (subst (P (2 ^ given)) (sym (agrees some)) (mark-pow_same given)) in

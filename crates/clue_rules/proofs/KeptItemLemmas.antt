@@ -29,7 +29,8 @@ kept-before empty i d (x ∷ xs) h =
 
 -- to keep all but one of a puzzle's items is to empty one place of the first list, or one given
 pub item_emptied : {X : Type 0} (empty : X) (n : ℕ) (xs : List X) (givens : List ℕ) (i : ℕ) → i < n
-    → (kept_items empty (λ j. not (j == i)) 0 (take n xs) ≡ take n (set xs i empty)) × (kept_items zero (λ j. not (j == i)) n givens ≡ givens)
+    → (kept_items empty (λ j. not (j == i)) 0 (take n xs) ≡ take n (set xs i empty))
+    × (kept_items zero (λ j. not (j == i)) n givens ≡ givens)
 item_emptied empty n xs givens i inside =
     (kept-but_one empty 0 i i (take n xs) (omega arith) ∙ sym (take-set-lt n xs i empty inside), kept-past zero n i givens inside)
 

@@ -64,7 +64,8 @@ tally_more sets n t u h more =
 
 -- ---- what is refuted
 
-pub clash_refutes : (sets : List ℕ) (n w : ℕ) (t : Tally) → IsTally sets n t → n < w → IsClash t (slice_index sets n) → (number : ℕ → ℕ) → IsPossible sets w number → ⊥
+pub clash_refutes : (sets : List ℕ) (n w : ℕ) (t : Tally) → IsTally sets n t → n < w → IsClash t (slice_index sets n)
+    → (number : ℕ → ℕ) → IsPossible sets w number → ⊥
 clash_refutes sets n w t h inside clash number p =
     elim clash [
       | inl empty ↦ both_ways (has_mark (slice_index sets n) (number n)) (empty (number n)) (p.within n inside)
@@ -77,7 +78,8 @@ clash_refutes sets n w t h inside clash number p =
           p.apart first.0 n low inside (λ same. omega (arith, first.1)) (there ∙ sym here)
     ]
 
-pub whole_tally : (sets : List ℕ) (w : ℕ) (t : Tally) → IsTally sets w t → bit_and t.once (full_marks w) ≡ full_marks w → IsWholeTally sets w t
+pub whole_tally : (sets : List ℕ) (w : ℕ) (t : Tally) → IsTally sets w t → bit_and t.once (full_marks w) ≡ full_marks w
+    → IsWholeTally sets w t
 whole_tally sets w t h all = record {
   tally = h;
   placed = λ v low high.
@@ -86,7 +88,8 @@ whole_tally sets w t h all = record {
       (and_parts _ _ (sym (mark-and t.once (full_marks w) v) ∙ subst P (sym all) full)).0;
 }
 
-pub lacking_refutes : (sets : List ℕ) (w : ℕ) (t : Tally) → IsTally sets w t → bit_and t.once (full_marks w) ≢ full_marks w → (number : ℕ → ℕ) → IsPossible sets w number → ⊥
+pub lacking_refutes : (sets : List ℕ) (w : ℕ) (t : Tally) → IsTally sets w t → bit_and t.once (full_marks w) ≢ full_marks w
+    → (number : ℕ → ℕ) → IsPossible sets w number → ⊥
 lacking_refutes sets w t h lacks number p =
     lacks (same_from_marks _ _ (λ v. elim (cases_Bool (has_mark (full_marks w) v)) [
       | inl full ↦
@@ -101,7 +104,8 @@ lacking_refutes sets w t h lacks number p =
 -- ---- what may stay
 
 -- numbers that the line can hold may stay
-pub possible_stays : (sets : List ℕ) (w : ℕ) (t : Tally) (number : ℕ → ℕ) (k : ℕ) → IsWholeTally sets w t → IsPossible sets w number → HoldValuesTo w sets → k < w → MayStay t (slice_index sets k) (number k)
+pub possible_stays : (sets : List ℕ) (w : ℕ) (t : Tally) (number : ℕ → ℕ) (k : ℕ) → IsWholeTally sets w t → IsPossible sets w number
+    → HoldValuesTo w sets → k < w → MayStay t (slice_index sets k) (number k)
 possible_stays sets w t number k h p values inside =
     elim (cases_Bool (has_mark t.singles (number k))) [
       | inl alone ↦
@@ -130,7 +134,8 @@ possible_stays sets w t number k h p values inside =
     ]
 
 -- a value that is alone in another set may not stay
-pub taken_goes : (sets : List ℕ) (w : ℕ) (t : Tally) (k by v : ℕ) → IsWholeTally sets w t → k < w → by < w → by ≢ k → IsSingle (slice_index sets by) v → MayStay t (slice_index sets k) v → ⊥
+pub taken_goes : (sets : List ℕ) (w : ℕ) (t : Tally) (k by v : ℕ) → IsWholeTally sets w t → k < w → by < w → by ≢ k
+    → IsSingle (slice_index sets by) v → MayStay t (slice_index sets k) v → ⊥
 taken_goes sets w t k by v h inside there apart single stays =
     elim stays [
       | inl own ↦ elim (cases_order by k) [
@@ -144,7 +149,8 @@ taken_goes sets w t k by v h inside there apart single stays =
     ]
 
 -- nor may a value where another has its one place
-pub displaced_goes : (sets : List ℕ) (w : ℕ) (t : Tally) (k v other : ℕ) → IsWholeTally sets w t → k < w → v ≢ other → 1 ≤ other → other ≤ w → ((j : ℕ) → j < w → has_mark (slice_index sets j) other ≡ true → j ≡ k) → MayStay t (slice_index sets k) v → ⊥
+pub displaced_goes : (sets : List ℕ) (w : ℕ) (t : Tally) (k v other : ℕ) → IsWholeTally sets w t → k < w → v ≢ other → 1 ≤ other
+    → other ≤ w → ((j : ℕ) → j < w → has_mark (slice_index sets j) other ≡ true → j ≡ k) → MayStay t (slice_index sets k) v → ⊥
 displaced_goes sets w t k v other h inside apart low high one stays =
     let once = h.placed other low high in
     let at = (h.tally.once other).0 once in
@@ -181,7 +187,8 @@ forced_to : (t : Tally) (set forced u : ℕ) → IsForced t set forced → has_m
 forced_to t set forced u f has hidden =
     f.is u ∙ and_from _ _ (mark-and set t.once u ∙ and_from _ _ has hidden.once) (ap not hidden.lone)
 
-free_from : (t : Tally) (set free v : ℕ) → IsFree t set free → has_mark free v ≡ true → (has_mark set v ≡ true) × (has_mark t.singles v ≡ false)
+free_from : (t : Tally) (set free v : ℕ) → IsFree t set free → has_mark free v ≡ true
+    → (has_mark set v ≡ true) × (has_mark t.singles v ≡ false)
 free_from t set free v f e =
     let parts = and_parts _ _ (sym (f.is v) ∙ e) in
     (parts.0, not-true (has_mark t.singles v) parts.1)
@@ -195,7 +202,8 @@ kept_single t set value single = record {
   all = λ v has stays. has;
 }
 
-pub kept_free : (t : Tally) (set forced free : ℕ) → ((v : ℕ) → IsSingle set v → ⊥) → IsForced t set forced → IsFree t set free → forced ≡ 0 → IsKeptOf t set free
+pub kept_free : (t : Tally) (set forced free : ℕ) → ((v : ℕ) → IsSingle set v → ⊥) → IsForced t set forced → IsFree t set free
+    → forced ≡ 0 → IsKeptOf t set free
 kept_free t set forced free many f r none = record {
   only = λ v e.
       let parts = free_from t set free v r e in (
@@ -213,7 +221,8 @@ kept_free t set forced free many f r none = record {
   ];
 }
 
-pub kept_forced : (t : Tally) (set forced free value : ℕ) → ((v : ℕ) → IsSingle set v → ⊥) → IsForced t set forced → IsFree t set free → IsSingle forced value → IsKeptOf t set (bit_and forced free)
+pub kept_forced : (t : Tally) (set forced free value : ℕ) → ((v : ℕ) → IsSingle set v → ⊥) → IsForced t set forced
+    → IsFree t set free → IsSingle forced value → IsKeptOf t set (bit_and forced free)
 kept_forced t set forced free value many f r one = record {
   only = λ v e.
       let both = and_parts _ _ (sym (mark-and forced free v) ∙ e) in
@@ -234,7 +243,8 @@ kept_forced t set forced free value many f r one = record {
   ];
 }
 
-pub kept_nothing : (t : Tally) (set forced : ℕ) → ((v : ℕ) → IsSingle set v → ⊥) → IsForced t set forced → forced ≢ 0 → forced < 2 ^ 16 → ((v : ℕ) → IsSingle forced v → ⊥) → IsKeptOf t set 0
+pub kept_nothing : (t : Tally) (set forced : ℕ) → ((v : ℕ) → IsSingle set v → ⊥) → IsForced t set forced → forced ≢ 0
+    → forced < 2 ^ 16 → ((v : ℕ) → IsSingle forced v → ⊥) → IsKeptOf t set 0
 kept_nothing t set forced many f some small two = record {
   only = λ v e. absurd (both_ways (has_mark 0 v) (mark-zero v) e);
   all = λ v has stays. elim stays [
@@ -286,7 +296,9 @@ or_either m n v = (
   λ h. mark-or m n v ∙ elim h [ inl first ↦ or_left (has_mark m v) (has_mark n v) first | inr second ↦ or_right (has_mark m v) (has_mark n v) second ],
 )
 
-pub counted_more : (t u : Tally) (set single : ℕ) → IsSinglesOf set single → set ≢ 0 → set < 2 ^ 16 → bit_and t.singles single ≡ 0 → u.once ≡ bit_or t.once set → u.twice ≡ bit_or t.twice (bit_and t.once set) → u.singles ≡ bit_or t.singles single → IsCounted t set u
+pub counted_more : (t u : Tally) (set single : ℕ) → IsSinglesOf set single → set ≢ 0 → set < 2 ^ 16 → bit_and t.singles single ≡ 0
+    → u.once ≡ bit_or t.once set → u.twice ≡ bit_or t.twice (bit_and t.once set) → u.singles ≡ bit_or t.singles single
+    → IsCounted t set u
 counted_more t u set single s some small apart once twice singles =
     let At : ℕ → ℕ → Type 0 = λ v m. has_mark m v ≡ true in
     record {
@@ -314,7 +326,10 @@ counted_more t u set single s some small apart once twice singles =
     }
 
 -- one set more is kept
-pub kept_more : (t : Tally) (sets kept : List ℕ) (n found : ℕ) → n < 9 → (length kept ≡ 9) × ((j : ℕ) → j < n → IsKeptOf t (slice_index sets j) (slice_index kept j)) → IsKeptOf t (slice_index sets n) found → (length (set kept n found) ≡ 9) × ((j : ℕ) → j < n + 1 → IsKeptOf t (slice_index sets j) (slice_index (set kept n found) j))
+pub kept_more : (t : Tally) (sets kept : List ℕ) (n found : ℕ) → n < 9
+    → (length kept ≡ 9) × ((j : ℕ) → j < n → IsKeptOf t (slice_index sets j) (slice_index kept j))
+    → IsKeptOf t (slice_index sets n) found
+    → (length (set kept n found) ≡ 9) × ((j : ℕ) → j < n + 1 → IsKeptOf t (slice_index sets j) (slice_index (set kept n found) j))
 kept_more t sets kept n found inside h is = (
   length-set kept n found ∙ h.0,
   entries_more (λ j m. IsKeptOf t (slice_index sets j) m) kept n found 0 (omega (arith, h.0)) h.1 is,

@@ -32,14 +32,16 @@ letter_taken letters w (letter ∷ bs) p = λ read.
     let found = refused_else (list_any (λ l. l == letter) letters) (if_no_more made bs) BadLetter p read in
     end bs (contains_from_any letters letter found.0) found.1
   where
-    end : (rest : List ℕ) → Contains letters letter → if_no_more (record { size = w; letter = Some letter }) rest ≡ Ok p → Reads letters w (letter_d ∷ letter ∷ rest) p
+    end : (rest : List ℕ) → Contains letters letter → if_no_more (record { size = w; letter = Some letter }) rest ≡ Ok p
+        → Reads letters w (letter_d ∷ letter ∷ rest) p
     end [] member read =
         let made : Params = record { size = w; letter = Some letter } in
         let is : made ≡ p = cc in
         subst (Reads letters w (letter_d ∷ letter ∷ [])) is (refl, member, refl)
     end (b ∷ rest) member read = cc
 
-size_taken : (letters : List ℕ) (has_adjacent : Bool) (w : ℕ) (bs : List ℕ) (p : Params) → behind_size letters has_adjacent w bs ≡ Ok p → Reads letters w bs p
+size_taken : (letters : List ℕ) (has_adjacent : Bool) (w : ℕ) (bs : List ℕ) (p : Params)
+    → behind_size letters has_adjacent w bs ≡ Ok p → Reads letters w bs p
 size_taken letters has_adjacent w [] p = λ read.
     let made : Params = record { size = w; letter = None } in
     let is : made ≡ p = cc in
@@ -49,7 +51,8 @@ size_taken letters has_adjacent w (b ∷ bs) p = λ read.
     let same = refused_else (b == letter_d) (letter_at letters w bs) BadParams p plain.1 in
     rw (eqb-true b letter_d same.0) (letter_taken letters w bs p same.1)
 
-pub params_taken : (letters : List ℕ) (has_adjacent : Bool) (text : List ℕ) (p : Params) → params_at letters has_adjacent text ≡ Ok p → IsParamText letters p text
+pub params_taken : (letters : List ℕ) (has_adjacent : Bool) (text : List ℕ) (p : Params)
+    → params_at letters has_adjacent text ≡ Ok p → IsParamText letters p text
 unfolding params_at
 params_taken letters has_adjacent [] p = λ read. cc
 params_taken letters has_adjacent (b ∷ bs) p = λ read.
@@ -66,12 +69,14 @@ params_taken letters has_adjacent (b ∷ bs) p = λ read.
       text_is = (let rest = taken.2 in cc);
     }
 
-pub params_found : (letters : List ℕ) (has_adjacent : Bool) (text : List ℕ) (answer : Result Params IdFault) → answer ≡ params_at letters has_adjacent text → IfOk answer (λ p. IsParamText letters p text)
+pub params_found : (letters : List ℕ) (has_adjacent : Bool) (text : List ℕ) (answer : Result Params IdFault)
+    → answer ≡ params_at letters has_adjacent text → IfOk answer (λ p. IsParamText letters p text)
 params_found letters has_adjacent text (Ok p) is = params_taken letters has_adjacent text p (sym is)
 params_found letters has_adjacent text (Err e) is = tt
 
 -- no adjacent mode is asked for
-letters_again : (letters : List ℕ) (has_adjacent : Bool) (w : ℕ) (letter : Option ℕ) → IfSome letter (λ l. Contains letters l) → behind_size letters has_adjacent w (letter_part letter) ≡ Ok (record { size = w; letter = letter })
+letters_again : (letters : List ℕ) (has_adjacent : Bool) (w : ℕ) (letter : Option ℕ) → IfSome letter (λ l. Contains letters l)
+    → behind_size letters has_adjacent w (letter_part letter) ≡ Ok (record { size = w; letter = letter })
 letters_again letters has_adjacent w None member = refl
 letters_again letters has_adjacent w (Some letter) member =
     rw (and_right has_adjacent false refl, any_from_contains letters letter member) refl
@@ -80,7 +85,8 @@ letter_part_begins : (letter : Option ℕ) → begins_digit (letter_part letter)
 letter_part_begins None = refl
 letter_part_begins (Some letter) = refl
 
-pub params_again : (letters : List ℕ) (has_adjacent : Bool) (text : List ℕ) (p : Params) → IsParamText letters p text → params_at letters has_adjacent text ≡ Ok p
+pub params_again : (letters : List ℕ) (has_adjacent : Bool) (text : List ℕ) (p : Params) → IsParamText letters p text
+    → params_at letters has_adjacent text ≡ Ok p
 unfolding params_at
 params_again letters has_adjacent text p h =
     let params = h.params in

@@ -32,7 +32,8 @@ settled_none sets line used count = record {
   apart = λ i j before low. absurd (omega arith);
 }
 
-pub settled_more : (sets line : List ℕ) (n used v : ℕ) → IsSettled sets n used line → n < 9 → IsSingle (slice_index sets n) v → bit_and used (slice_index sets n) ≡ 0 → IsSettled sets (n + 1) (bit_or used (slice_index sets n)) (set line n v)
+pub settled_more : (sets line : List ℕ) (n used v : ℕ) → IsSettled sets n used line → n < 9 → IsSingle (slice_index sets n) v
+    → bit_and used (slice_index sets n) ≡ 0 → IsSettled sets (n + 1) (bit_or used (slice_index sets n)) (set line n v)
 settled_more sets line n used v h inside single fresh =
     let here : slice_index (set line n v) n ≡ v = get_or-set_same line n v 0 (omega (arith, h.count)) in
     let there : (k : ℕ) → k ≢ n → slice_index (set line n v) k ≡ slice_index line k = λ k other. get_or-set_other line n k v 0 other in
@@ -56,7 +57,8 @@ settled_more sets line n used v h inside single fresh =
     }
 
 -- the line is then the only filling, and has each value of the sets
-pub settled_supported : (sets line : List ℕ) (w used clue : ℕ) → IsSettled sets w used line → w ≤ 9 → length sets ≡ 9 → HoldValuesTo w sets → seen (take w line) ≡ clue → AreSupported w clue sets sets
+pub settled_supported : (sets line : List ℕ) (w used clue : ℕ) → IsSettled sets w used line → w ≤ 9 → length sets ≡ 9
+    → HoldValuesTo w sets → seen (take w line) ≡ clue → AreSupported w clue sets sets
 settled_supported sets line w used clue h small count range shown k v inside has =
     let sets_long : length (take w sets) ≡ w = length-take-le w sets (omega arith) in
     let line_long : length (take w line) ≡ w = length-take-le w line (omega (arith, h.count)) in

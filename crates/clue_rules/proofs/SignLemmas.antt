@@ -11,11 +11,13 @@ use Rattle.clue_rules.specs.Laws.Signs.{greater_found, greater_tested}
 use Rattle.clue_rules.specs.Laws.SignSides.{Side, First, Second, other_side, square_at, greater_at, at_squares, greater_by, greater_from_sign}
 
 -- `is_greater` is the test of `IsGreater`
-pub greater_decides : (v : UnequalValue) (a b : ℕ) → 3 ≤ v.size → a < v.size * v.size → b < v.size * v.size → IsTrue (is_greater v a b) ↔ IsGreater v a b
+pub greater_decides : (v : UnequalValue) (a b : ℕ) → 3 ≤ v.size → a < v.size * v.size → b < v.size * v.size
+    → IsTrue (is_greater v a b) ↔ IsGreater v a b
 greater_decides v a b small a_in b_in = (greater_found v a b small a_in b_in, greater_tested v a b small)
 
 -- a sign that numbers hold says of the greater one that it is
-held_greater : (side : Side) (number : Side → ℕ) → holds_sign (greater_at side) (number First) (number Second) ≡ true → number (other_side side) < number side
+held_greater : (side : Side) (number : Side → ℕ) → holds_sign (greater_at side) (number First) (number Second) ≡ true
+    → number (other_side side) < number side
 held_greater First number h = ltb-true _ _ h
 held_greater Second number h = ltb-true _ _ h
 
@@ -34,7 +36,8 @@ held_signs v g small h =
     range_all (holds_sign_at v g) 0 (sign_count v.size)
     (λ i low high. at (sign_at v i) i refl (omega arith))
   where
-    at : (s : Sign) (i : ℕ) → sign_at v i ≡ s → i < sign_count v.size → holds_sign s (number_at g (first_side v.size i)) (number_at g (second_side v.size i)) ≡ true
+    at : (s : Sign) (i : ℕ) → sign_at v i ≡ s → i < sign_count v.size
+        → holds_sign s (number_at g (first_side v.size i)) (number_at g (second_side v.size i)) ≡ true
     at Absent i e inside = refl
     at FirstGreater i e inside = lt-ltb _ _ (h.each _ _ (greater_from_sign v i First small inside e))
     at SecondGreater i e inside = lt-ltb _ _ (h.each _ _ (greater_from_sign v i Second small inside e))

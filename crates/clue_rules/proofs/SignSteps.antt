@@ -38,7 +38,8 @@ on_either false p = tt
 
 square_narrows : {S : GridValue → Type 0} {T : CandidatesValue → ℕ → ℕ → Type 0} (old new : CandidatesValue) (cell kept : ℕ) (left : Bool)
     → ((g : GridValue) → S g → g.size ≡ old.size → IsWithin old g → has_mark kept (number_at g cell) ≡ true)
-    → ((first : CandidatesValue) → IsEarlier first old → (at v : ℕ) → IsPair first.size at v → T first at v → (at ≡ cell) × (has_mark kept v ≡ false))
+    → ((first : CandidatesValue) → IsEarlier first old → (at v : ℕ) → IsPair first.size at v → T first at v
+    → (at ≡ cell) × (has_mark kept v ≡ false))
     → KeepsOf old new cell kept → left ≡ not (kept == 0) → Narrows S T old new left
 square_narrows old new cell kept left solved struck k is = record {
   less = k.less;
@@ -57,7 +58,10 @@ square_narrows old new cell kept left solved struck k is = record {
 
 -- ---- both squares of a sign
 
-pub lower_narrows : (old new : CandidatesValue) (upper lower set kept : ℕ) (left : Bool) → upper < old.size * old.size → IsSetOf old upper set → ((v : ℕ) → (has_mark kept v ≡ true) ↔ ((u : ℕ) × (v < u) × (has_mark set u ≡ true))) → KeepsOf old new lower kept → left ≡ not (kept == 0) → Narrows (HoldsGreater upper lower) (IsLowerStruck upper lower) old new left
+pub lower_narrows : (old new : CandidatesValue) (upper lower set kept : ℕ) (left : Bool) → upper < old.size * old.size
+    → IsSetOf old upper set → ((v : ℕ) → (has_mark kept v ≡ true) ↔ ((u : ℕ) × (v < u) × (has_mark set u ≡ true)))
+    → KeepsOf old new lower kept → left ≡ not (kept == 0)
+    → Narrows (HoldsGreater upper lower) (IsLowerStruck upper lower) old new left
 lower_narrows old new upper lower set kept left inside is below k answer =
     square_narrows old new lower kept left
     (λ g s size w. (below (number_at g lower)).1 (number_at g upper, s.1, in_set old upper set g is s.0 size w inside))
@@ -70,7 +74,10 @@ lower_narrows old new upper lower set kept left inside is below k answer =
     ))
     k answer
 
-pub upper_narrows : (old new : CandidatesValue) (upper lower set kept : ℕ) (left : Bool) → old.size ≤ 9 → upper < old.size * old.size → lower < old.size * old.size → IsSetOf old lower set → ((v : ℕ) → v < 16 → (has_mark kept v ≡ true) ↔ ((u : ℕ) × (u < v) × (has_mark set u ≡ true))) → KeepsOf old new upper kept → left ≡ not (kept == 0) → Narrows (HoldsGreater upper lower) (IsUpperStruck upper lower) old new left
+pub upper_narrows : (old new : CandidatesValue) (upper lower set kept : ℕ) (left : Bool) → old.size ≤ 9
+    → upper < old.size * old.size → lower < old.size * old.size → IsSetOf old lower set
+    → ((v : ℕ) → v < 16 → (has_mark kept v ≡ true) ↔ ((u : ℕ) × (u < v) × (has_mark set u ≡ true))) → KeepsOf old new upper kept
+    → left ≡ not (kept == 0) → Narrows (HoldsGreater upper lower) (IsUpperStruck upper lower) old new left
 upper_narrows old new upper lower set kept left small inside below_in is above k answer =
     square_narrows old new upper kept left
     (λ g s size w.
@@ -100,7 +107,8 @@ ends_at v sign upper lower ends = elim ends.is [
   | inr second ↦ record { side = Second; says = second.0; upper_is = second.1; lower_is = second.2 }
 ]
 
-ends_greater : (v : UnequalValue) (sign upper lower : ℕ) → 3 ≤ v.size → sign < sign_count v.size → AreEnds v sign upper lower → IsGreater v upper lower
+ends_greater : (v : UnequalValue) (sign upper lower : ℕ) → 3 ≤ v.size → sign < sign_count v.size → AreEnds v sign upper lower
+    → IsGreater v upper lower
 ends_greater v sign upper lower small inside ends =
     let at = ends_at v sign upper lower ends in
     carried at.upper_is at.lower_is (greater_from_sign v sign at.side small inside at.says)
@@ -122,7 +130,10 @@ same_ends v sign a b upper lower one two =
     one_greater First Second e = cc
     one_greater Second First e = cc
 
-pub sign_narrows : (v : UnequalValue) (sign upper lower : ℕ) (old new : CandidatesValue) (left : Bool) → 3 ≤ v.size → sign < sign_count v.size → AreEnds v sign upper lower → Narrows (HoldsGreater upper lower) (IsEndStruckBy upper lower) old new left → Narrows (Solves (puzzle_of v)) (IsStruckAt v sign) old new left
+pub sign_narrows : (v : UnequalValue) (sign upper lower : ℕ) (old new : CandidatesValue) (left : Bool) → 3 ≤ v.size
+    → sign < sign_count v.size → AreEnds v sign upper lower
+    → Narrows (HoldsGreater upper lower) (IsEndStruckBy upper lower) old new left
+    → Narrows (Solves (puzzle_of v)) (IsStruckAt v sign) old new left
 sign_narrows v sign upper lower old new left small inside ends h =
     narrows_for (λ g s. (
       record { is_grid = s.is_grid; latin = s.latin },
@@ -133,7 +144,8 @@ sign_narrows v sign upper lower old new left small inside ends h =
     let P : ℕ → ℕ → Type 0 = λ a b. IsEndStruckBy a b first cell value in
     subst (λ a. P a lower) same.0 (subst (P s.upper) same.1 s.struck)) h)
 
-pub no_sign_narrows : (v : UnequalValue) (sign : ℕ) (c : CandidatesValue) → sign_at v sign ≡ Absent → Narrows (Solves (puzzle_of v)) (IsStruckAt v sign) c c true
+pub no_sign_narrows : (v : UnequalValue) (sign : ℕ) (c : CandidatesValue) → sign_at v sign ≡ Absent
+    → Narrows (Solves (puzzle_of v)) (IsStruckAt v sign) c c true
 no_sign_narrows v sign c none =
     narrows_by (λ first e cell value pair s. elim s.ends.is [
       | inl one ↦ let clash : FirstGreater ≡ Absent = sym one.0 ∙ none in cc
@@ -170,20 +182,23 @@ greater_ends v a b by = record {
   is = at by.side by.says by.at.here by.at.there;
 }
   where
-    at : (side : Side) → sign_at v by.sign ≡ greater_at side → a ≡ square_at v.size by.sign side → b ≡ square_at v.size by.sign (other_side side)
+    at : (side : Side) → sign_at v by.sign ≡ greater_at side → a ≡ square_at v.size by.sign side
+        → b ≡ square_at v.size by.sign (other_side side)
         → ((sign_at v by.sign ≡ FirstGreater) × (a ≡ first_side v.size by.sign) × (b ≡ second_side v.size by.sign))
         ⊎ ((sign_at v by.sign ≡ SecondGreater) × (a ≡ second_side v.size by.sign) × (b ≡ first_side v.size by.sign))
     at First says upper lower = inl (says, upper, lower)
     at Second says upper lower = inr (says, upper, lower)
 
-struck_along : (v : UnequalValue) (c : CandidatesValue) (a b cell value : ℕ) → 3 ≤ v.size → c.size ≡ v.size → IsGreater v a b → IsEndStruckBy a b c cell value → StruckBelow (IsStruckAlong v) (2 * c.size) c cell value
+struck_along : (v : UnequalValue) (c : CandidatesValue) (a b cell value : ℕ) → 3 ≤ v.size → c.size ≡ v.size → IsGreater v a b
+    → IsEndStruckBy a b c cell value → StruckBelow (IsStruckAlong v) (2 * c.size) c cell value
 struck_along v c a b cell value small size greater struck =
     let by = greater_by v a b small greater in
     let at = between_line v.size by.sign _ _ (between_at v.size by.sign small by.at.sign_inside) in
     let P : ℕ → Type 0 = λ i. IsStruckAt v i c cell value in
     (at.0, omega (arith, at.2), (at.1, at.3, subst P (sym at.4) (record { upper = a; lower = b; ends = greater_ends v a b by; struck = struck })))
 
-pub unequal_by_lines : (v : UnequalValue) (c : CandidatesValue) (cell value : ℕ) → 3 ≤ v.size → c.size ≡ v.size → IsUnequalStruck v c cell value → IsStruckByLines (IsStruckAlong v) c cell value
+pub unequal_by_lines : (v : UnequalValue) (c : CandidatesValue) (cell value : ℕ) → 3 ≤ v.size → c.size ≡ v.size
+    → IsUnequalStruck v c cell value → IsStruckByLines (IsStruckAlong v) c cell value
 unequal_by_lines v c cell value small size struck = elim struck [
   | inl latin ↦ inl latin
   | inr sign ↦ inr (elim sign.why [

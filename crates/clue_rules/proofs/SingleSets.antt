@@ -116,7 +116,8 @@ mark-none_taken m n k was =
 
 -- ---- the test of a single value
 
-pub single_test : (set : ℕ) → set ≢ 0 → set < 2 ^ 16 → MatchBool (bit_and set (set - 1) == 0) ((v : ℕ) × IsSingle set v) ((v : ℕ) → IsSingle set v → ⊥)
+pub single_test : (set : ℕ) → set ≢ 0 → set < 2 ^ 16
+    → MatchBool (bit_and set (set - 1) == 0) ((v : ℕ) × IsSingle set v) ((v : ℕ) → IsSingle set v → ⊥)
 single_test set some small =
     elim (cases_eq (bit_and set (set - 1)) 0) [
       | inl none ↦ rw (eq-eqb (bit_and set (set - 1)) 0 none) (single_from_test set some small none)
@@ -150,7 +151,8 @@ mark-top set k low high =
           absurd (omega arith)
     ]
 
-pub below_top : (set k v : ℕ) → 2 ^ k ≤ set → set < 2 * 2 ^ k → (has_mark (2 ^ k - 1) v ≡ true) ↔ ((u : ℕ) × (v < u) × (has_mark set u ≡ true))
+pub below_top : (set k v : ℕ) → 2 ^ k ≤ set → set < 2 * 2 ^ k
+    → (has_mark (2 ^ k - 1) v ≡ true) ↔ ((u : ℕ) × (v < u) × (has_mark set u ≡ true))
 below_top set k v low high = (
   λ e. (k, (mark-ones k v).0 e, mark-top set k low high),
   λ h. elim (cases_lt v k) [
@@ -165,7 +167,10 @@ none_in_zero v = (
   λ h. absurd (both_ways (has_mark 0 h.0) (mark-zero h.0) h.2),
 )
 
-pub above_bottom : (set all rest kept k v : ℕ) → set ≢ 0 → set < 2 ^ 16 → k ≡ trailing_zeros w16 set → v < 16 → has_mark all v ≡ true → has_mark rest v ≡ (has_mark all v && not (has_mark (2 ^ k - 1) v)) → has_mark kept v ≡ (has_mark rest v && not (has_mark (2 ^ k) v)) → (has_mark kept v ≡ true) ↔ ((u : ℕ) × (u < v) × (has_mark set u ≡ true))
+pub above_bottom : (set all rest kept k v : ℕ) → set ≢ 0 → set < 2 ^ 16 → k ≡ trailing_zeros w16 set → v < 16
+    → has_mark all v ≡ true → has_mark rest v ≡ (has_mark all v && not (has_mark (2 ^ k - 1) v))
+    → has_mark kept v ≡ (has_mark rest v && not (has_mark (2 ^ k) v))
+    → (has_mark kept v ≡ true) ↔ ((u : ℕ) × (u < v) × (has_mark set u ≡ true))
 above_bottom set all rest kept k v some small is low every rest_is kept_is =
     let p : 0 < set = omega arith in
     let lowest = bit_at-trailing_zeros w16 set p small in

@@ -28,7 +28,8 @@ clue_dropped givens clues i inside =
     let kept = item_emptied zero (4 * givens.size) clues givens.numbers i inside in
     rw (kept.0, kept.1) refl
 
-pub given_dropped : (old new : GridValue) (clues : List ℕ) (i k : ℕ) → 4 * old.size + k ≡ i → new.size ≡ old.size → new.numbers ≡ set old.numbers k 0
+pub given_dropped : (old new : GridValue) (clues : List ℕ) (i k : ℕ) → 4 * old.size + k ≡ i → new.size ≡ old.size
+    → new.numbers ≡ set old.numbers k 0
     → towers_value clues new ≡ cut_towers (towers_value clues old) (λ j. not (j == i))
 given_dropped old new clues i k e size numbers =
     let kept = given_emptied zero (4 * old.size) clues old.numbers i k e in

@@ -8,7 +8,8 @@ use Rattle.clue_rules.specs.Laws.UnequalItems.{full_sign}
 use Rattle.clue_rules.specs.Laws.SignSides.{Side, First, Second, other_side, square_at, greater_at, at_squares, side_between, between_at_side, greater_by, greater_from_sign}
 
 -- the sign of two numbers says of the greater one that it is
-sign_of_greater : (side : Side) (number : Side → ℕ) → sign_of (number First) (number Second) ≡ greater_at side → number (other_side side) < number side
+sign_of_greater : (side : Side) (number : Side → ℕ) → sign_of (number First) (number Second) ≡ greater_at side
+    → number (other_side side) < number side
 sign_of_greater side number e = elim (cases_lt (number Second) (number First)) [
   | inl greater ↦ first side greater (rw (lt-ltb (number Second) (number First) greater) at e)
   | inr upper ↦ elim (cases_lt (number First) (number Second)) [
@@ -29,12 +30,14 @@ sign_of_greater side number e = elim (cases_lt (number Second) (number First)) [
     none First e = cc
     none Second e = cc
 
-greater_sign : (side : Side) (number : Side → ℕ) → number (other_side side) < number side → sign_of (number First) (number Second) ≡ greater_at side
+greater_sign : (side : Side) (number : Side → ℕ) → number (other_side side) < number side
+    → sign_of (number First) (number Second) ≡ greater_at side
 greater_sign First number h = rw (lt-ltb (number Second) (number First) h) refl
 greater_sign Second number h = rw (le-ltb (number Second) (number First) (omega arith), lt-ltb (number First) (number Second) h) refl
 
 -- the full puzzle says of each two neighbours which one the grid has greater
-pub full_greater : (g : GridValue) (a b : ℕ) → 3 ≤ g.size → IsGreater (full_unequal g) a b ↔ (AreNeighbours g.size a b × (number_at g b < number_at g a))
+pub full_greater : (g : GridValue) (a b : ℕ) → 3 ≤ g.size
+    → IsGreater (full_unequal g) a b ↔ (AreNeighbours g.size a b × (number_at g b < number_at g a))
 full_greater g a b small = (
   λ h.
       let by = greater_by (full_unequal g) a b small h in

@@ -11,7 +11,10 @@ one_letter : (p : Direction → Bool) (d : Direction) → map letter_of (filter 
 one_letter p d = elim (p d) as (λ t. map letter_of (if t then (d ∷ []) else []) ≡ (if t then (letter_of d ∷ []) else [])) [ true ↦ refl | false ↦ refl ]
 
 -- one direction more
-pub letters_more : (p : Direction → Bool) (ds : List Direction) (i : ℕ) (d : Direction) (front old new : List ℕ) → i < length ds → old ≡ front ++ map letter_of (filter p (take i ds)) → new ≡ old ++ (if p (slice_index_or ds i d) then (letter_of (slice_index_or ds i d) ∷ []) else []) → new ≡ front ++ map letter_of (filter p (take (i + 1) ds))
+pub letters_more : (p : Direction → Bool) (ds : List Direction) (i : ℕ) (d : Direction) (front old new : List ℕ) → i < length ds
+    → old ≡ front ++ map letter_of (filter p (take i ds))
+    → new ≡ old ++ (if p (slice_index_or ds i d) then (letter_of (slice_index_or ds i d) ∷ []) else [])
+    → new ≡ front ++ map letter_of (filter p (take (i + 1) ds))
 letters_more p ds i d front old new inside before here =
     let more : map letter_of (filter p (take (i + 1) ds)) ≡ map letter_of (filter p (take i ds)) ++ (if p (slice_index_or ds i d) then (letter_of (slice_index_or ds i d) ∷ []) else []) =
     rw (take_more ds i d inside, filter-append p (take i ds) (slice_index_or ds i d ∷ []), map-append letter_of (filter p (take i ds)) (filter p (slice_index_or ds i d ∷ [])), one_letter p (slice_index_or ds i d)) refl in
@@ -25,7 +28,8 @@ range_more a (suc n) =
     rw next (ap (λ xs. a ∷ xs) (range_more (a + 1) n ∙ ap (λ x. range_with_len (a + 1) n ++ x ∷ []) last))
 
 -- one piece more
-pub pieces_more : (f : ℕ → List ℕ) (i : ℕ) (old new : List ℕ) → old ≡ flat_map f (range_with_len 0 i) → new ≡ old ++ f i → new ≡ flat_map f (range_with_len 0 (i + 1))
+pub pieces_more : (f : ℕ → List ℕ) (i : ℕ) (old new : List ℕ) → old ≡ flat_map f (range_with_len 0 i) → new ≡ old ++ f i
+    → new ≡ flat_map f (range_with_len 0 (i + 1))
 pieces_more f i old new before here =
     let place : 0 + i ≡ i = omega arith in
     rw (here, before, range_more 0 i, flat_map-append f (range_with_len 0 i) ((0 + i) ∷ []), place, append-nil (f i)) refl

@@ -15,7 +15,8 @@ use Rattle.clue_rules.specs.Views.{view_of, view_cell}
 abbrev pub numbers_from : GridValue → ℕ → ℕ → List ℕ
 numbers_from g place n = map (λ k. number_at g (view_cell g.size place k)) (range_with_len 0 n)
 
-back_along : (g : GridValue) (line : ℕ) → reverse (line_of g line) ≡ map (λ k. number_at g (line_cell g.size line (g.size - 1 - k))) (range_with_len 0 g.size)
+back_along : (g : GridValue) (line : ℕ)
+    → reverse (line_of g line) ≡ map (λ k. number_at g (line_cell g.size line (g.size - 1 - k))) (range_with_len 0 g.size)
 back_along g line =
     let len = length-line_of g line in
     let both = length-reverse (line_of g line) in
@@ -59,7 +60,8 @@ pub record IsWritten (g : GridValue) (place n : ℕ) (line : List ℕ) : Type 0 
 pub written_none : (g : GridValue) (place : ℕ) (line : List ℕ) → length line ≡ 9 → IsWritten g place 0 line
 written_none g place line count = record { count = count; front = refl }
 
-pub written_more : (g : GridValue) (place n v : ℕ) (line : List ℕ) → IsWritten g place n line → n < 9 → v ≡ number_at g (view_cell g.size place n) → IsWritten g place (n + 1) (set line n v)
+pub written_more : (g : GridValue) (place n v : ℕ) (line : List ℕ) → IsWritten g place n line → n < 9
+    → v ≡ number_at g (view_cell g.size place n) → IsWritten g place (n + 1) (set line n v)
 written_more g place n v line h inside is = record {
   count = length-set line n v ∙ h.count;
   front =

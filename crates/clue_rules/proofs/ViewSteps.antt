@@ -53,20 +53,24 @@ pub view_inside : (w place k : ℕ) → place < 4 * w → k < w → view_cell w 
 view_inside w place k inside low =
     line_cell_inside w (view_line w place) (view_index w place k) (view_line_low w place inside) (view_index_low w place k low)
 
-pub view_number : (g : GridValue) (place k : ℕ) → place < 4 * g.size → k < g.size → slice_index (view_of g place) k ≡ number_at g (view_cell g.size place k)
+pub view_number : (g : GridValue) (place k : ℕ) → place < 4 * g.size → k < g.size
+    → slice_index (view_of g place) k ≡ number_at g (view_cell g.size place k)
 view_number g place k inside low =
     ap (λ (xs : List ℕ). slice_index xs k) (view_of-numbers g place inside)
     ∙ get_or-map-range_with_len (λ k. number_at g (view_cell g.size place k)) 0 g.size k k 0 low (omega arith)
 
 -- ---- a solution is a filling of the line
 
-view_differs : (g : GridValue) (place i j : ℕ) → IsSquare g → place < 4 * g.size → i < g.size → j < g.size → i ≢ j → number_at g (view_cell g.size place i) ≢ number_at g (view_cell g.size place j)
+view_differs : (g : GridValue) (place i j : ℕ) → IsSquare g → place < 4 * g.size → i < g.size → j < g.size → i ≢ j
+    → number_at g (view_cell g.size place i) ≢ number_at g (view_cell g.size place j)
 view_differs g place i j s inside first second apart =
     line_differs g s.is_grid s.latin (view_line g.size place) (view_index g.size place i) (view_index g.size place j)
     (view_line_low g.size place inside) (view_index_low g.size place i first) (view_index_low g.size place j second)
     (view_index_apart g.size place i j first second apart)
 
-view_filling : (c : CandidatesValue) (place clue : ℕ) (sets : List ℕ) (g : GridValue) → place < 4 * c.size → AreSetsOf c place sets → c.size ≤ 9 → IsSquare g → g.size ≡ c.size → IsWithin c g → seen (view_of g place) ≡ clue → IsFilling (take c.size sets) clue (view_of g place)
+view_filling : (c : CandidatesValue) (place clue : ℕ) (sets : List ℕ) (g : GridValue) → place < 4 * c.size → AreSetsOf c place sets
+    → c.size ≤ 9 → IsSquare g → g.size ≡ c.size → IsWithin c g → seen (view_of g place) ≡ clue
+    → IsFilling (take c.size sets) clue (view_of g place)
 view_filling c place clue sets g inside is small s size within shown =
     let whole = length-view_of g place in
     let long : length (take c.size sets) ≡ c.size = length-take-le c.size sets (omega (arith, is.count)) in
@@ -101,7 +105,10 @@ view_filling c place clue sets g inside is small s size within shown =
       shown = shown;
     }
 
-view_solved : (c : CandidatesValue) (place clue : ℕ) (sets kept : List ℕ) (g : GridValue) → place < 4 * c.size → AreSetsOf c place sets → c.size ≤ 9 → KeepSupported c.size clue sets kept → IsSquare g → seen (view_of g place) ≡ clue → g.size ≡ c.size → IsWithin c g → (k : ℕ) → k < c.size → has_mark (slice_index kept k) (number_at g (view_cell c.size place k)) ≡ true
+view_solved : (c : CandidatesValue) (place clue : ℕ) (sets kept : List ℕ) (g : GridValue) → place < 4 * c.size
+    → AreSetsOf c place sets → c.size ≤ 9 → KeepSupported c.size clue sets kept → IsSquare g → seen (view_of g place) ≡ clue
+    → g.size ≡ c.size → IsWithin c g → (k : ℕ) → k < c.size
+    → has_mark (slice_index kept k) (number_at g (view_cell c.size place k)) ≡ true
 view_solved c place clue sets kept g inside is small supported s shown size within k low =
     let long : length (take c.size sets) ≡ c.size = length-take-le c.size sets (omega (arith, is.count)) in
     supported k (number_at g (view_cell c.size place k)) (record {
@@ -113,7 +120,8 @@ view_solved c place clue sets kept g inside is small supported s shown size with
 
 -- ---- a filling by later candidates is one by earlier ones
 
-filling_earlier : (first c : CandidatesValue) (place clue : ℕ) (sets line : List ℕ) → IsEarlier first c → AreSetsOf c place sets → c.size ≤ 9 → IsFilling (take c.size sets) clue line → IsViewFilling first place clue line
+filling_earlier : (first c : CandidatesValue) (place clue : ℕ) (sets line : List ℕ) → IsEarlier first c → AreSetsOf c place sets
+    → c.size ≤ 9 → IsFilling (take c.size sets) clue line → IsViewFilling first place clue line
 filling_earlier first c place clue sets line e is small f =
     let long : length (take c.size sets) ≡ c.size = length-take-le c.size sets (omega (arith, is.count)) in
     let whole : length line ≡ c.size = f.whole ∙ long in
@@ -131,7 +139,10 @@ filling_earlier first c place clue sets line e is small f =
       shown = f.shown;
     }
 
-view_struck : (c : CandidatesValue) (place clue : ℕ) (sets kept : List ℕ) → AreSetsOf c place sets → c.size ≤ 9 → AreSupported c.size clue sets kept → (first : CandidatesValue) → IsEarlier first c → (cell v : ℕ) → IsViewStruck place clue first cell v → (k : ℕ) × (k < c.size) × (view_cell c.size place k ≡ cell) × (has_mark (slice_index kept k) v ≡ false)
+view_struck : (c : CandidatesValue) (place clue : ℕ) (sets kept : List ℕ) → AreSetsOf c place sets → c.size ≤ 9
+    → AreSupported c.size clue sets kept → (first : CandidatesValue) → IsEarlier first c → (cell v : ℕ)
+    → IsViewStruck place clue first cell v
+    → (k : ℕ) × (k < c.size) × (view_cell c.size place k ≡ cell) × (has_mark (slice_index kept k) v ≡ false)
 view_struck c place clue sets kept is small supported first e cell v s = (
   s.index,
   omega (arith, s.inside, e.size),
@@ -141,7 +152,8 @@ view_struck c place clue sets kept is small supported first e cell v s = (
       s.unfilled.none found.line (filling_earlier first c place clue sets found.line e is small found.filling) found.here),
 )
 
-pub view_narrows : (old new : CandidatesValue) (place clue : ℕ) (sets kept : List ℕ) (left : Bool) → place < 4 * old.size → AreSetsOf old place sets → old.size ≤ 9
+pub view_narrows : (old new : CandidatesValue) (place clue : ℕ) (sets kept : List ℕ) (left : Bool) → place < 4 * old.size
+    → AreSetsOf old place sets → old.size ≤ 9
     → AreSupported old.size clue sets kept → KeepSupported old.size clue sets kept → KeepsAlong place kept old new left → Narrows (ShowsClue place clue) (IsViewStruck place clue) old new left
 view_narrows old new place clue sets kept left inside is small supported keeps h =
     along_narrows (λ g s size w k low. view_solved old place clue sets kept g inside is small keeps s.0 s.1 size w k low)
@@ -158,10 +170,14 @@ view_kept c place clue sets inside is small supported =
 
 -- ---- a clue of a puzzle, and the clues at both ends of a line
 
-pub no_clue_narrows : (v : TowersValue) (place : ℕ) (c : CandidatesValue) → clue_of v place ≡ 0 → Narrows (Solves (towers_puzzle v)) (IsClueStruck v place) c c true
+pub no_clue_narrows : (v : TowersValue) (place : ℕ) (c : CandidatesValue) → clue_of v place ≡ 0
+    → Narrows (Solves (towers_puzzle v)) (IsClueStruck v place) c c true
 no_clue_narrows v place c none = narrows_by (λ first e cell value pair s. absurd (omega (arith, s.0))) (narrows_nothing (Solves (towers_puzzle v)) c)
 
-pub clue_narrows : (v : TowersValue) (place clue : ℕ) (old new : CandidatesValue) (left : Bool) → old.size ≡ v.size → place < 4 * old.size → clue ≡ clue_of v place → clue ≢ 0 → Narrows (ShowsClue place clue) (IsViewStruck place clue) old new left → Narrows (Solves (towers_puzzle v)) (IsClueStruck v place) old new left
+pub clue_narrows : (v : TowersValue) (place clue : ℕ) (old new : CandidatesValue) (left : Bool) → old.size ≡ v.size
+    → place < 4 * old.size → clue ≡ clue_of v place → clue ≢ 0
+    → Narrows (ShowsClue place clue) (IsViewStruck place clue) old new left
+    → Narrows (Solves (towers_puzzle v)) (IsClueStruck v place) old new left
 clue_narrows v place clue old new left size inside is some h =
     narrows_for (λ g s. (
       record { is_grid = s.is_grid; latin = s.latin },
@@ -179,7 +195,11 @@ ends w place line inside =
     (λ from left is. inl (rw (lt-ltb line w (omega arith)) (omega arith)))
     (λ right is. inr (rw (lt-ltb line w (omega arith)) (omega arith)))
 
-pub ends_narrow : (v : TowersValue) (line front back : ℕ) (old between new : CandidatesValue) (left : Bool) → front ≡ front_place old.size line → back ≡ front + old.size → Narrows (Solves (towers_puzzle v)) (IsClueStruck v front) old between true → Narrows (Solves (towers_puzzle v)) (IsClueStruck v back) between new left → Narrows (Solves (towers_puzzle v)) (IsEndStruck v line) old new left
+pub ends_narrow : (v : TowersValue) (line front back : ℕ) (old between new : CandidatesValue) (left : Bool)
+    → front ≡ front_place old.size line → back ≡ front + old.size
+    → Narrows (Solves (towers_puzzle v)) (IsClueStruck v front) old between true
+    → Narrows (Solves (towers_puzzle v)) (IsClueStruck v back) between new left
+    → Narrows (Solves (towers_puzzle v)) (IsEndStruck v line) old new left
 ends_narrow v line front back old between new left first second one two =
     narrows_by (λ c e cell value pair s.
     let P : ℕ → Type 0 = λ n. IsClueStruck v n c cell value in
@@ -191,7 +211,8 @@ ends_narrow v line front back old between new left first second one two =
 
 -- ---- all that a puzzle strikes
 
-pub towers_by_lines : (v : TowersValue) (c : CandidatesValue) (cell value : ℕ) → IsTowersStruck v c cell value → IsStruckByLines (IsEndStruck v) c cell value
+pub towers_by_lines : (v : TowersValue) (c : CandidatesValue) (cell value : ℕ) → IsTowersStruck v c cell value
+    → IsStruckByLines (IsEndStruck v) c cell value
 towers_by_lines v c cell value struck = elim struck [
   | inl latin ↦ inl latin
   | inr tower ↦ inr (

@@ -10,7 +10,8 @@ use Rattle.clue_rules.specs.Views.{view_cell}
 
 -- no pair is left that is struck by the old candidates, or was by earlier ones
 pub record LacksStruck (Struck : CandidatesValue → ℕ → ℕ → Type 0) (old new : CandidatesValue) : Type 0 where
-  pub each : (first : CandidatesValue) → IsEarlier first old → (cell value : ℕ) → IsPair first.size cell value → Struck first cell value → may_be new cell value ≡ false
+  pub each : (first : CandidatesValue) → IsEarlier first old → (cell value : ℕ) → IsPair first.size cell value
+      → Struck first cell value → may_be new cell value ≡ false
 
 -- a step from old to new candidates, after which something may be left or, by its answer, nothing is
 pub record Narrows (Sought : GridValue → Type 0) (Struck : CandidatesValue → ℕ → ℕ → Type 0) (old new : CandidatesValue) (left : Bool) : Type 0 where
@@ -58,7 +59,9 @@ AreSetsOf c place sets = AreSetsTo c place c.size sets
 -- new is old with only the values of these sets kept in the squares from a place; by the answer, one of the sets is empty
 pub record KeepsAlong (place : ℕ) (kept : List ℕ) (old new : CandidatesValue) (left : Bool) : Type 0 where
   pub less : IsEarlier old new
-  pub keeps : (g : GridValue) → g.size ≡ old.size → ((k : ℕ) → k < old.size → has_mark (slice_index kept k) (number_at g (view_cell old.size place k)) ≡ true) → IsWithin old g → IsWithin new g
+  pub keeps : (g : GridValue) → g.size ≡ old.size
+      → ((k : ℕ) → k < old.size → has_mark (slice_index kept k) (number_at g (view_cell old.size place k)) ≡ true) → IsWithin old g
+      → IsWithin new g
   pub empty : OnFalse left ((k : ℕ) × (k < old.size) × ((v : ℕ) → has_mark (slice_index kept k) v ≡ false))
   pub gone : OnTrue left ((k v : ℕ) → k < old.size → IsPair old.size (view_cell old.size place k) v → has_mark (slice_index kept k) v ≡ false → may_be new (view_cell old.size place k) v ≡ false)
 

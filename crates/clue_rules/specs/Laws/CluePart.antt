@@ -37,7 +37,8 @@ field_again w clue within =
           (and_from (nat_le (digit_zero + 1) (digit_zero + clue)) (nat_le (digit_zero + clue) (digit_zero + w)) (le-leb (digit_zero + 1) (digit_zero + clue) (omega arith)) (le-leb (digit_zero + clue) (digit_zero + w) (omega arith)), omega arith)
     ] refl
 
-fields_taken : (w : ℕ) (fs : List (List ℕ)) → list_all (is_clue_field w) fs ≡ true → (map clue_field (map clue_in fs) ≡ fs) × AllByRecursion (λ clue. clue ≤ w) (map clue_in fs)
+fields_taken : (w : ℕ) (fs : List (List ℕ)) → list_all (is_clue_field w) fs ≡ true
+    → (map clue_field (map clue_in fs) ≡ fs) × AllByRecursion (λ clue. clue ≤ w) (map clue_in fs)
 fields_taken w [] all = (refl, tt)
 fields_taken w (f ∷ fs) all =
     let tests = and_parts (is_clue_field w f) (list_all (is_clue_field w) fs) all in
@@ -46,7 +47,8 @@ fields_taken w (f ∷ fs) all =
     let whole : clue_field (clue_in f) ∷ map clue_field (map clue_in fs) ≡ f ∷ fs = let e = one.0 in let es = more.0 in cc in
     (whole, (one.1, more.1))
 
-fields_again : (w : ℕ) (clues : List ℕ) → AllByRecursion (λ clue. clue ≤ w) clues → (list_all (is_clue_field w) (map clue_field clues) ≡ true) × (map clue_in (map clue_field clues) ≡ clues)
+fields_again : (w : ℕ) (clues : List ℕ) → AllByRecursion (λ clue. clue ≤ w) clues
+    → (list_all (is_clue_field w) (map clue_field clues) ≡ true) × (map clue_in (map clue_field clues) ≡ clues)
 fields_again w [] within = (refl, refl)
 fields_again w (clue ∷ clues) within =
     let one = field_again w clue within.0 in
@@ -69,13 +71,15 @@ fields_lack c (clue ∷ clues) small = (field_lacks c clue small, fields_lack c 
 pub clue_part_lacks_comma : (clues : List ℕ) → Lacks comma (clue_part clues)
 clue_part_lacks_comma clues = lacks_join comma slash (map clue_field clues) (omega arith) (fields_lack comma clues (omega arith))
 
-clues_in_taken : (w : ℕ) (fs : List (List ℕ)) (clues : List ℕ) → clues_in w fs ≡ Ok clues → (list_all (is_clue_field w) fs ≡ true) × (map clue_in fs ≡ clues)
+clues_in_taken : (w : ℕ) (fs : List (List ℕ)) (clues : List ℕ) → clues_in w fs ≡ Ok clues
+    → (list_all (is_clue_field w) fs ≡ true) × (map clue_in fs ≡ clues)
 clues_in_taken w fs clues read =
     let readable = refused_else (list_all (is_clue_field w) fs) (Ok (map clue_in fs)) BadClue clues read in
     let same : Ok (map clue_in fs) ≡ Ok clues = readable.1 in
     (readable.0, cc)
 
-pub clues_taken : (w : ℕ) (part clues : List ℕ) → clues_at w part ≡ Ok clues → (part ≡ clue_part clues) × (length clues ≡ 4 * w) × AllByRecursion (λ clue. clue ≤ w) clues
+pub clues_taken : (w : ℕ) (part clues : List ℕ) → clues_at w part ≡ Ok clues
+    → (part ≡ clue_part clues) × (length clues ≡ 4 * w) × AllByRecursion (λ clue. clue ≤ w) clues
 unfolding clues_at
 clues_taken w part clues read =
     let steps = bind_taken (exactly (4 * w) (fields part)) (clues_in w) clues read in
@@ -87,7 +91,8 @@ clues_taken w part clues read =
     let lengths : length clues ≡ length steps.0 = ap length (sym ones.1) ∙ length-map steps.0 clue_in in
     (sym joined, lengths ∙ (ap length (sym count.0) ∙ count.1), subst (AllByRecursion (λ clue. clue ≤ w)) ones.1 each.1)
 
-pub clues_again : (w : ℕ) (clues : List ℕ) → 0 < w → length clues ≡ 4 * w → AllByRecursion (λ clue. clue ≤ w) clues → clues_at w (clue_part clues) ≡ Ok clues
+pub clues_again : (w : ℕ) (clues : List ℕ) → 0 < w → length clues ≡ 4 * w → AllByRecursion (λ clue. clue ≤ w) clues
+    → clues_at w (clue_part clues) ≡ Ok clues
 unfolding clues_at
 clues_again w clues some count within =
     let fs = map clue_field clues in

@@ -48,25 +48,29 @@ points_to None b e = absurd (false≢true e)
 points_to (Some c) b e = ap (λ n. Some n) (eqb-true c b e)
 
 -- the letter by which a square is said to be greater than another
-said_by : (w : ℕ) (pieces : List (List ℕ)) (a b : ℕ) → says_greater w pieces a b ≡ true → (d : Direction) × (says pieces a d ≡ true) × (neighbour w a d ≡ Some b)
+said_by : (w : ℕ) (pieces : List (List ℕ)) (a b : ℕ) → says_greater w pieces a b ≡ true
+    → (d : Direction) × (says pieces a d ≡ true) × (neighbour w a d ≡ Some b)
 said_by w pieces a b e =
     let there = some_direction (λ d. says pieces a d && option_map_or (λ c. c == b) (neighbour w a d) false) e in
     let both = and_parts (says pieces a there.0) (option_map_or (λ c. c == b) (neighbour w a there.0) false) there.1 in
     (there.0, both.0, points_to (neighbour w a there.0) b both.1)
 
-said : (w : ℕ) (pieces : List (List ℕ)) (a b : ℕ) (d : Direction) → says pieces a d ≡ true → neighbour w a d ≡ Some b → says_greater w pieces a b ≡ true
+said : (w : ℕ) (pieces : List (List ℕ)) (a b : ℕ) (d : Direction) → says pieces a d ≡ true → neighbour w a d ≡ Some b
+    → says_greater w pieces a b ≡ true
 said w pieces a b d letter points =
     direction_some (λ d. says pieces a d && option_map_or (λ c. c == b) (neighbour w a d) false) d
     (and_from (says pieces a d) (option_map_or (λ c. c == b) (neighbour w a d) false) letter (rw points (eq-eqb b b refl)))
 
 -- the letters on both sides of a sign
-both_say : (w : ℕ) (pieces : List (List ℕ)) (i : ℕ) (side : Side) → i < sign_count w → side_says w pieces i side ≡ true → side_says w pieces i (other_side side) ≡ true → signs_contradict w pieces ≡ true
+both_say : (w : ℕ) (pieces : List (List ℕ)) (i : ℕ) (side : Side) → i < sign_count w → side_says w pieces i side ≡ true
+    → side_says w pieces i (other_side side) ≡ true → signs_contradict w pieces ≡ true
 both_say w pieces i First inside first second =
     range_some _ 0 (sign_count w) i (omega arith) (omega arith) (and_from (first_says w pieces i) (second_says w pieces i) first second)
 both_say w pieces i Second inside second first =
     range_some _ 0 (sign_count w) i (omega arith) (omega arith) (and_from (first_says w pieces i) (second_says w pieces i) first second)
 
-signs_from_squares : (w : ℕ) (pieces : List (List ℕ)) (a b : ℕ) → 3 ≤ w → a < w * w → says_greater w pieces a b ≡ true → says_greater w pieces b a ≡ true → signs_contradict w pieces ≡ true
+signs_from_squares : (w : ℕ) (pieces : List (List ℕ)) (a b : ℕ) → 3 ≤ w → a < w * w → says_greater w pieces a b ≡ true
+    → says_greater w pieces b a ≡ true → signs_contradict w pieces ≡ true
 signs_from_squares w pieces a b small inside e f =
     let one = said_by w pieces a b e in
     let two = said_by w pieces b a f in
@@ -76,7 +80,8 @@ signs_from_squares w pieces a b small inside e f =
     (rw (← there.at.here, ← there.way) one.1)
     (rw (← there.at.there, ← back) two.1)
 
-squares_from_signs : (w : ℕ) (pieces : List (List ℕ)) (i : ℕ) → 3 ≤ w → i < sign_count w → first_says w pieces i ≡ true → second_says w pieces i ≡ true → contradicts w pieces ≡ true
+squares_from_signs : (w : ℕ) (pieces : List (List ℕ)) (i : ℕ) → 3 ≤ w → i < sign_count w → first_says w pieces i ≡ true
+    → second_says w pieces i ≡ true → contradicts w pieces ≡ true
 unfolding contradicts
 squares_from_signs w pieces i small inside first second =
     let one = standing w i First small inside in

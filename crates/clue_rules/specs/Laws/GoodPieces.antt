@@ -26,7 +26,8 @@ pub record AreGood (w : ℕ) (pieces : List (List ℕ)) : Type 0 where
   pub inside : list_all (points_inside w pieces) (range_with_len 0 (w * w)) ≡ true
   pub agree : contradicts w pieces ≡ false
 
-pub good_taken : (w : ℕ) (pieces : List (List ℕ)) (v : UnequalValue) → puzzle_at w pieces ≡ Ok v → AreGood w pieces × (puzzle_in w pieces ≡ v)
+pub good_taken : (w : ℕ) (pieces : List (List ℕ)) (v : UnequalValue) → puzzle_at w pieces ≡ Ok v
+    → AreGood w pieces × (puzzle_in w pieces ≡ v)
 good_taken w pieces v h =
     let numbers = refused_then (not (list_all (has_number w) pieces)) BadSquares _ v h in
     let letters = refused_then (not (list_all has_letters pieces)) BadClue _ v numbers.1 in
@@ -39,14 +40,16 @@ pub good_again : (w : ℕ) (pieces : List (List ℕ)) → AreGood w pieces → p
 good_again w pieces h = rw (h.numbers, h.letters, h.inside, h.agree) refl
 
 -- the pieces that were read, written again
-pub read_pieces : (w : ℕ) (bytes : List (List ℕ)) → list_all (has_number w) bytes ≡ true → list_all has_letters bytes ≡ true → map piece_text (map (read_piece w) bytes) ≡ bytes
+pub read_pieces : (w : ℕ) (bytes : List (List ℕ)) → list_all (has_number w) bytes ≡ true → list_all has_letters bytes ≡ true
+    → map piece_text (map (read_piece w) bytes) ≡ bytes
 read_pieces w [] numbers letters = refl
 read_pieces w (p ∷ ps) numbers letters =
     let number = and_parts (has_number w p) (list_all (has_number w) ps) numbers in
     let letter = and_parts (has_letters p) (list_all has_letters ps) letters in
     rw (read_piece_written w p number.0 letter.0, read_pieces w ps number.1 letter.1) refl
 
-pub map-number : (w : ℕ) (bytes : List (List ℕ)) → map (λ p. p.number) (map (read_piece w) bytes) ≡ map (λ p. unwrap_or (number_in w p) 0) bytes
+pub map-number : (w : ℕ) (bytes : List (List ℕ))
+    → map (λ p. p.number) (map (read_piece w) bytes) ≡ map (λ p. unwrap_or (number_in w p) 0) bytes
 map-number w [] = refl
 map-number w (p ∷ ps) = ap (λ ns. unwrap_or (number_in w p) 0 ∷ ns) (map-number w ps)
 
@@ -66,7 +69,8 @@ read_valid w bytes small large count = record {
 }
 
 -- the letters of the pieces point to squares of the grid
-pub letters_inside : (w cell : ℕ) (ds : List Direction) (d : Direction) → list_all (is_inside w cell) (map letter_of ds) ≡ true → Contains ds d → IsSome (neighbour w cell d)
+pub letters_inside : (w cell : ℕ) (ds : List Direction) (d : Direction) → list_all (is_inside w cell) (map letter_of ds) ≡ true
+    → Contains ds d → IsSome (neighbour w cell d)
 letters_inside w cell [] d e h = absurd (omega (arith, h.1))
 letters_inside w cell (x ∷ ds) d e h =
     let parts = and_parts (is_inside w cell (letter_of x)) (list_all (is_inside w cell) (map letter_of ds)) e in
@@ -78,7 +82,8 @@ letters_inside w cell (x ∷ ds) d e h =
       | inr there ↦ letters_inside w cell ds d parts.1 there
     ]
 
-pub inside_letters : (w cell : ℕ) (ds : List Direction) → ((d : Direction) → Contains ds d → IsSome (neighbour w cell d)) → list_all (is_inside w cell) (map letter_of ds) ≡ true
+pub inside_letters : (w cell : ℕ) (ds : List Direction) → ((d : Direction) → Contains ds d → IsSome (neighbour w cell d))
+    → list_all (is_inside w cell) (map letter_of ds) ≡ true
 inside_letters w cell [] h = refl
 inside_letters w cell (x ∷ ds) h =
     let first : is_inside w cell (letter_of x) ≡ true = rw (direction_of-letter x) (h x (contains_here x x ds refl)) in
@@ -86,7 +91,8 @@ inside_letters w cell (x ∷ ds) h =
 
 -- the text, from its pieces and back
 
-pub joined_text : (text : List ℕ) (p : List ℕ) (ps : List (List ℕ)) → pieces_of text ≡ p ∷ ps → (text ≡ join_with_byte comma (p ∷ ps)) ⊎ (text ≡ join_with_byte comma (p ∷ ps) ++ comma ∷ [])
+pub joined_text : (text : List ℕ) (p : List ℕ) (ps : List (List ℕ)) → pieces_of text ≡ p ∷ ps
+    → (text ≡ join_with_byte comma (p ∷ ps)) ⊎ (text ≡ join_with_byte comma (p ∷ ps) ++ comma ∷ [])
 joined_text text p ps e =
     let whole : text ≡ join_with_byte comma (comma_pieces text) = sym (join_with_byte-slice_split comma text) in
     elim (dropped_last (comma_pieces text)) [
@@ -102,7 +108,10 @@ pub none_empty : (p : Piece) (pieces : List Piece) → without_empty_last (map p
 none_empty p [] = refl
 none_empty p (q ∷ pieces) = ap (λ qs. piece_text p ∷ qs) (none_empty q pieces)
 
-pub pieces_again : (text : List ℕ) (p : Piece) (pieces : List Piece) → (text ≡ join_with_byte comma (map piece_text (p ∷ pieces))) ⊎ (text ≡ join_with_byte comma (map piece_text (p ∷ pieces)) ++ comma ∷ []) → pieces_of text ≡ map piece_text (p ∷ pieces)
+pub pieces_again : (text : List ℕ) (p : Piece) (pieces : List Piece)
+    → (text ≡ join_with_byte comma (map piece_text (p ∷ pieces)))
+    ⊎ (text ≡ join_with_byte comma (map piece_text (p ∷ pieces)) ++ comma ∷ [])
+    → pieces_of text ≡ map piece_text (p ∷ pieces)
 pieces_again text p pieces h =
     let split : comma_pieces (join_with_byte comma (map piece_text (p ∷ pieces))) ≡ map piece_text (p ∷ pieces) = pieces-join (piece_text p) (map piece_text pieces) (all_lack (p ∷ pieces)) in
     elim h [
@@ -110,18 +119,22 @@ pieces_again text p pieces h =
       | inr more ↦ rw (more, pieces-push (join_with_byte comma (map piece_text (p ∷ pieces))), split) (drop-push (map piece_text (p ∷ pieces)))
     ]
 
-pub some_pieces : (text : List ℕ) (pieces : List Piece) → 0 < length pieces → pieces_of text ≡ map piece_text pieces → (text ≡ join_with_byte comma (map piece_text pieces)) ⊎ (text ≡ join_with_byte comma (map piece_text pieces) ++ comma ∷ [])
+pub some_pieces : (text : List ℕ) (pieces : List Piece) → 0 < length pieces → pieces_of text ≡ map piece_text pieces
+    → (text ≡ join_with_byte comma (map piece_text pieces)) ⊎ (text ≡ join_with_byte comma (map piece_text pieces) ++ comma ∷ [])
 some_pieces text [] some e = absurd (omega arith)
 some_pieces text (p ∷ pieces) some e = joined_text text (piece_text p) (map piece_text pieces) e
 
-pub pieces_some : (text : List ℕ) (pieces : List Piece) → 0 < length pieces → (text ≡ join_with_byte comma (map piece_text pieces)) ⊎ (text ≡ join_with_byte comma (map piece_text pieces) ++ comma ∷ []) → pieces_of text ≡ map piece_text pieces
+pub pieces_some : (text : List ℕ) (pieces : List Piece) → 0 < length pieces
+    → (text ≡ join_with_byte comma (map piece_text pieces)) ⊎ (text ≡ join_with_byte comma (map piece_text pieces) ++ comma ∷ [])
+    → pieces_of text ≡ map piece_text pieces
 pieces_some text [] some h = absurd (omega arith)
 pieces_some text (p ∷ pieces) some h = pieces_again text p pieces h
 
 pub square_some : (w : ℕ) → 3 ≤ w → 0 < w * w
 square_some w small = grind arith
 
-pub good_numbers : (w : ℕ) (pieces : List Piece) → AllByRecursion (λ n. n ≤ w) (map (λ p. p.number) pieces) → list_all (has_number w) (map piece_text pieces) ≡ true
+pub good_numbers : (w : ℕ) (pieces : List Piece) → AllByRecursion (λ n. n ≤ w) (map (λ p. p.number) pieces)
+    → list_all (has_number w) (map piece_text pieces) ≡ true
 good_numbers w [] h = refl
 good_numbers w (p ∷ pieces) h =
     let first : has_number w (piece_text p) ≡ true = ap is_some (number_in-piece w p h.0) in
@@ -131,7 +144,8 @@ pub good_letters : (pieces : List Piece) → list_all has_letters (map piece_tex
 good_letters [] = refl
 good_letters (p ∷ pieces) = rw (letters_piece p, good_letters pieces) refl
 
-pub numbers_again : (w : ℕ) (pieces : List Piece) → AllByRecursion (λ n. n ≤ w) (map (λ p. p.number) pieces) → map (λ p. unwrap_or (number_in w p) 0) (map piece_text pieces) ≡ map (λ p. p.number) pieces
+pub numbers_again : (w : ℕ) (pieces : List Piece) → AllByRecursion (λ n. n ≤ w) (map (λ p. p.number) pieces)
+    → map (λ p. unwrap_or (number_in w p) 0) (map piece_text pieces) ≡ map (λ p. p.number) pieces
 numbers_again w [] h = refl
 numbers_again w (p ∷ pieces) h =
     let first : unwrap_or (number_in w (piece_text p)) 0 ≡ p.number = ap (λ o. unwrap_or o 0) (number_in-piece w p h.0) in

@@ -57,7 +57,8 @@ kept-agrees {X} empty present gone a b i (x ∷ xs) h =
     later : (k : ℕ) → a (i + suc k) ≡ b (i + suc k) → a (i + 1 + k) ≡ b (i + 1 + k)
     later k same = let e : i + 1 + k ≡ i + suc k = omega arith in rw e same
 
-kept-within : (w : ℕ) (keep : ℕ → Bool) (i : ℕ) (xs : List ℕ) → AllByRecursion (λ n. n ≤ w) xs → AllByRecursion (λ n. n ≤ w) (kept_items zero keep i xs)
+kept-within : (w : ℕ) (keep : ℕ → Bool) (i : ℕ) (xs : List ℕ) → AllByRecursion (λ n. n ≤ w) xs
+    → AllByRecursion (λ n. n ≤ w) (kept_items zero keep i xs)
 kept-within w keep i [] h = tt
 kept-within w keep i (x ∷ xs) h = (either (keep i) h.0, kept-within w keep (i + 1) xs h.1)
   where
@@ -84,12 +85,15 @@ still_asked keep i xs k number asks = rw (entry-kept zero keep i xs k (i + k) re
 abbrev pub has_item : {X : Type 0} → (X → Bool) → X → ℕ → List X → List ℕ → ℕ → Bool
 has_item present empty n xs givens i = if nat_lt i n then present (slice_index_or xs i empty) else nat_lt 0 (slice_index givens (i - n))
 
-present_kept : {X : Type 0} (present : X → Bool) (empty : X) → present empty ≡ false → (b : Bool) (x : X) → present (if b then x else empty) ≡ (present x && b)
+present_kept : {X : Type 0} (present : X → Bool) (empty : X) → present empty ≡ false → (b : Bool) (x : X)
+    → present (if b then x else empty) ≡ (present x && b)
 present_kept present empty none true x = elim (present x) as (λ t. t ≡ (t && true)) [ true ↦ refl | false ↦ refl ]
 present_kept present empty none false x = none ∙ sym (and_right (present x) false refl)
 
-pub has_item-kept : {X : Type 0} (present : X → Bool) (empty : X) → present empty ≡ false → (n : ℕ) (xs : List X) (givens : List ℕ) (keep : ℕ → Bool) (i : ℕ)
-    → has_item present empty n (kept_items empty keep 0 xs) (kept_items zero keep n givens) i ≡ (has_item present empty n xs givens i && keep i)
+pub has_item-kept : {X : Type 0} (present : X → Bool) (empty : X) → present empty ≡ false
+    → (n : ℕ) (xs : List X) (givens : List ℕ) (keep : ℕ → Bool) (i : ℕ)
+    → has_item present empty n (kept_items empty keep 0 xs) (kept_items zero keep n givens) i
+    ≡ (has_item present empty n xs givens i && keep i)
 has_item-kept present empty none n xs givens keep i =
     elim (cases_lt i n) [
       | inl low ↦

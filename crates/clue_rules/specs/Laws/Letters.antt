@@ -100,21 +100,25 @@ pub among_letters : (ds : List Direction) (d : Direction) → list_any (λ b. b 
 among_letters [] d e = absurd (false≢true e)
 among_letters (x ∷ ds) d e = go (λ h. among_letters ds d h) (letter_of x == letter_of d) refl e
   where
-    go : (list_any (λ b. b == letter_of d) (map letter_of ds) ≡ true → Contains ds d) → (t : Bool) → (letter_of x == letter_of d) ≡ t → (t || list_any (λ b. b == letter_of d) (map letter_of ds)) ≡ true → Contains (x ∷ ds) d
+    go : (list_any (λ b. b == letter_of d) (map letter_of ds) ≡ true → Contains ds d) → (t : Bool)
+        → (letter_of x == letter_of d) ≡ t → (t || list_any (λ b. b == letter_of d) (map letter_of ds)) ≡ true → Contains (x ∷ ds) d
     go rest true here h = contains_here d x ds (same_letter x d here)
     go rest false other h = contains_there d x ds (rest h)
 
 -- the pieces as texts
 
-pub letters_at : (pieces : List Piece) (cell : ℕ) → drop 1 (piece_at (map piece_text pieces) cell) ≡ map letter_of (directions_at pieces cell)
+pub letters_at : (pieces : List Piece) (cell : ℕ)
+    → drop 1 (piece_at (map piece_text pieces) cell) ≡ map letter_of (directions_at pieces cell)
 letters_at [] cell = refl
 letters_at (p ∷ pieces) zero = refl
 letters_at (p ∷ pieces) (suc cell) = letters_at pieces cell
 
-pub says_contains : (pieces : List Piece) (cell : ℕ) (d : Direction) → says (map piece_text pieces) cell d ≡ true → Contains (directions_at pieces cell) d
+pub says_contains : (pieces : List Piece) (cell : ℕ) (d : Direction) → says (map piece_text pieces) cell d ≡ true
+    → Contains (directions_at pieces cell) d
 says_contains pieces cell d e = among_letters (directions_at pieces cell) d (rw (letters_at pieces cell) at e)
 
-pub contains_says : (pieces : List Piece) (cell : ℕ) (d : Direction) → Contains (directions_at pieces cell) d → says (map piece_text pieces) cell d ≡ true
+pub contains_says : (pieces : List Piece) (cell : ℕ) (d : Direction) → Contains (directions_at pieces cell) d
+    → says (map piece_text pieces) cell d ≡ true
 contains_says pieces cell d h = rw (letters_at pieces cell) (letter_among (directions_at pieces cell) d h)
 
 -- a square past the last piece has no direction
@@ -167,14 +171,19 @@ letters_written : (bs : List ℕ) → list_all (λ b. is_some (direction_of b)) 
 letters_written [] e = refl
 letters_written (b ∷ bs) e = go (λ h. letters_written bs h) (direction_of b) refl (and_parts (is_some (direction_of b)) (list_all (λ x. is_some (direction_of x)) bs) e)
   where
-    go : (list_all (λ x. is_some (direction_of x)) bs ≡ true → map letter_of (filter_map direction_of bs) ≡ bs) → (o : Option Direction) → direction_of b ≡ o → (is_some (direction_of b) ≡ true) × (list_all (λ x. is_some (direction_of x)) bs ≡ true) → map letter_of (filter_map direction_of (b ∷ bs)) ≡ b ∷ bs
+    go : (list_all (λ x. is_some (direction_of x)) bs ≡ true → map letter_of (filter_map direction_of bs) ≡ bs)
+        → (o : Option Direction) → direction_of b ≡ o
+        → (is_some (direction_of b) ≡ true) × (list_all (λ x. is_some (direction_of x)) bs ≡ true)
+        → map letter_of (filter_map direction_of (b ∷ bs)) ≡ b ∷ bs
     go rest None none parts = absurd (false≢true (sym (ap is_some none) ∙ parts.0))
     go rest (Some d) some parts = rw (some, letter_of-direction b d some, rest parts.1) refl
 
 number_written : (w b : ℕ) (bs : List ℕ) → has_number w (b ∷ bs) ≡ true → digit_zero + unwrap_or (number_in w (b ∷ bs)) 0 ≡ b
 number_written w b bs e = go (nat_le digit_zero b && nat_le b (digit_zero + w) && not (begins_digit bs)) refl e
   where
-    go : (t : Bool) → (nat_le digit_zero b && nat_le b (digit_zero + w) && not (begins_digit bs)) ≡ t → is_some (if t then Some (b - digit_zero) else None) ≡ true → digit_zero + unwrap_or (if t then Some (b - digit_zero) else None) 0 ≡ b
+    go : (t : Bool) → (nat_le digit_zero b && nat_le b (digit_zero + w) && not (begins_digit bs)) ≡ t
+        → is_some (if t then Some (b - digit_zero) else None) ≡ true
+        → digit_zero + unwrap_or (if t then Some (b - digit_zero) else None) 0 ≡ b
     go false h e = absurd (false≢true e)
     go true h e =
         let front = and_parts (nat_le digit_zero b && nat_le b (digit_zero + w)) (not (begins_digit bs)) h in
@@ -182,7 +191,8 @@ number_written w b bs e = go (nat_le digit_zero b && nat_le b (digit_zero + w) &
         let more : digit_zero ≤ b = grind (arith, nat_tests, low.0) in
         omega arith
 
-pub read_piece_written : (w : ℕ) (bytes : List ℕ) → has_number w bytes ≡ true → has_letters bytes ≡ true → piece_text (read_piece w bytes) ≡ bytes
+pub read_piece_written : (w : ℕ) (bytes : List ℕ) → has_number w bytes ≡ true → has_letters bytes ≡ true
+    → piece_text (read_piece w bytes) ≡ bytes
 read_piece_written w [] number letters = absurd (false≢true number)
 read_piece_written w (b ∷ bs) number letters = rw (number_written w b bs number, letters_written bs letters) refl
 
@@ -190,7 +200,8 @@ pub number_small : (w : ℕ) (bytes : List ℕ) → unwrap_or (number_in w bytes
 number_small w [] = omega arith
 number_small w (b ∷ bs) = go (nat_le digit_zero b && nat_le b (digit_zero + w) && not (begins_digit bs)) refl
   where
-    go : (t : Bool) → (nat_le digit_zero b && nat_le b (digit_zero + w) && not (begins_digit bs)) ≡ t → unwrap_or (if t then Some (b - digit_zero) else None) 0 ≤ w
+    go : (t : Bool) → (nat_le digit_zero b && nat_le b (digit_zero + w) && not (begins_digit bs)) ≡ t
+        → unwrap_or (if t then Some (b - digit_zero) else None) 0 ≤ w
     go false h = omega arith
     go true h =
         let front = and_parts (nat_le digit_zero b && nat_le b (digit_zero + w)) (not (begins_digit bs)) h in

@@ -21,7 +21,8 @@ split_once bs = elim (behind comma bs) as (λ o. behind comma bs ≡ o → comma
 ] refl
 
 -- a piece without commas, and the pieces behind it
-pub pieces-join : (p : List ℕ) (ps : List (List ℕ)) → AllByRecursion (Lacks comma) (p ∷ ps) → comma_pieces (join_with_byte comma (p ∷ ps)) ≡ p ∷ ps
+pub pieces-join : (p : List ℕ) (ps : List (List ℕ)) → AllByRecursion (Lacks comma) (p ∷ ps)
+    → comma_pieces (join_with_byte comma (p ∷ ps)) ≡ p ∷ ps
 pieces-join p [] h = rw (split_once p, before_all comma p h.0, behind_none_in comma p h.0) refl
 pieces-join p (q ∷ ps) h =
     let rest : List ℕ = join_with_byte comma (q ∷ ps) in

@@ -3,7 +3,8 @@ use Rattle.std.proofs.Common.{◌≡◌, ℕ, zero, suc, ◌+◌, ◌<◌, ◌�
 use Rattle.std.specs.List.{list_all, list_any, range_with_len}
 use Rattle.std.proofs.lemmas.Bool.{false≢true, cases_lt, and_parts, or_cases, or_right, false_from_ne_true}
 
-pub some_if : {X : Type 0} (t : Bool) (x y : X) (o : Option X) → (if t then Some x else o) ≡ Some y → ((t ≡ true) × (x ≡ y)) ⊎ ((t ≡ false) × (o ≡ Some y))
+pub some_if : {X : Type 0} (t : Bool) (x y : X) (o : Option X) → (if t then Some x else o) ≡ Some y
+    → ((t ≡ true) × (x ≡ y)) ⊎ ((t ≡ false) × (o ≡ Some y))
 some_if true x y o e = inl (refl, cc)
 some_if false x y o e = inr (refl, e)
 

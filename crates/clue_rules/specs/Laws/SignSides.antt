@@ -58,7 +58,8 @@ standing w i First small inside = (both_sides w i _ _ (sides_at w i small inside
 standing w i Second small inside = (both_sides w i _ _ (sides_at w i small inside)).1
 
 -- what is so of the squares of a sign is so of two that stand there
-pub at_squares : (P : ℕ → ℕ → Type 0) (w i : ℕ) (side : Side) (a b : ℕ) → StandAt w i side a b → P (square_at w i side) (square_at w i (other_side side)) → P a b
+pub at_squares : (P : ℕ → ℕ → Type 0) (w i : ℕ) (side : Side) (a b : ℕ) → StandAt w i side a b
+    → P (square_at w i side) (square_at w i (other_side side)) → P a b
 at_squares P w i side a b h p = rw (h.here, h.there) p
 
 sides_of : (w i a b : ℕ) → 3 ≤ w → StandAt w i First a b → AreSides w i a b
@@ -156,7 +157,8 @@ towards w a b Left small inside e =
     let left_column : b % w ≡ a % w - 1 = rw left (mod-mul-add (a / w) w (a % w - 1) (omega arith)) in
     (towards_across w b a small (omega (arith, there.1)) (omega arith) (omega (arith, there.1))).1
 
-pub way_is : (w i : ℕ) (side : Side) (a b : ℕ) (d : Direction) → 3 ≤ w → StandAt w i side a b → neighbour w a d ≡ Some b → d ≡ way_from w i side
+pub way_is : (w i : ℕ) (side : Side) (a b : ℕ) (d : Direction) → 3 ≤ w → StandAt w i side a b → neighbour w a d ≡ Some b
+    → d ≡ way_from w i side
 way_is w i side a b d small at e =
     let there = towards w a b d small at.here_inside e in
     let one = one_side w there.sign i there.side side a b small there.at at in
@@ -178,14 +180,16 @@ greater_by v a b small h = elim h.says [
   | inr (down, e) ↦ record { sign = h.sign; side = Second; at = (both_sides v.size h.sign b a (between_sides v.size h.sign b a small down)).1; says = e }
 ]
 
-pub greater_from_sign : (v : UnequalValue) (i : ℕ) (side : Side) → 3 ≤ v.size → i < sign_count v.size → sign_at v i ≡ greater_at side → IsGreater v (square_at v.size i side) (square_at v.size i (other_side side))
+pub greater_from_sign : (v : UnequalValue) (i : ℕ) (side : Side) → 3 ≤ v.size → i < sign_count v.size
+    → sign_at v i ≡ greater_at side → IsGreater v (square_at v.size i side) (square_at v.size i (other_side side))
 greater_from_sign v i First small inside e = record { sign = i; says = inl (between_at v.size i small inside, e) }
 greater_from_sign v i Second small inside e = record { sign = i; says = inr (between_at v.size i small inside, e) }
 
 same_says : (v : UnequalValue) (i j : ℕ) (s t : Side) → i ≡ j → s ≡ t → sign_at v i ≡ greater_at s → sign_at v j ≡ greater_at t
 same_says v i j s t same side e = rw (← same, ← side) e
 
-pub sign_from_greater : (v : UnequalValue) (i : ℕ) (side : Side) → 3 ≤ v.size → i < sign_count v.size → IsGreater v (square_at v.size i side) (square_at v.size i (other_side side)) → sign_at v i ≡ greater_at side
+pub sign_from_greater : (v : UnequalValue) (i : ℕ) (side : Side) → 3 ≤ v.size → i < sign_count v.size
+    → IsGreater v (square_at v.size i side) (square_at v.size i (other_side side)) → sign_at v i ≡ greater_at side
 sign_from_greater v i side small inside h =
     let by = greater_by v _ _ small h in
     let one = one_side v.size by.sign i by.side side _ _ small by.at (standing v.size i side small inside) in

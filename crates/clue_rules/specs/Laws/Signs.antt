@@ -42,7 +42,8 @@ between_found w a b i small a_in b_in e =
     ]
 
 -- the sign that stands between two squares
-sign_there : (v : UnequalValue) (a b : ℕ) (s : Sign) → 3 ≤ v.size → a < v.size * v.size → b < v.size * v.size → (Absent ≡ s → ⊥) → sign_of_pair v a b ≡ s → (i : ℕ) × IsBetween v.size i a b × (sign_at v i ≡ s)
+sign_there : (v : UnequalValue) (a b : ℕ) (s : Sign) → 3 ≤ v.size → a < v.size * v.size → b < v.size * v.size → (Absent ≡ s → ⊥)
+    → sign_of_pair v a b ≡ s → (i : ℕ) × IsBetween v.size i a b × (sign_at v i ≡ s)
 sign_there v a b s small a_in b_in some h =
     elim (sign_between v.size a b) as (λ o. sign_between v.size a b ≡ o → option_map_or (λ i. sign_at v i) o Absent ≡ s → (i : ℕ) × IsBetween v.size i a b × (sign_at v i ≡ s)) [
       | None ↦ λ e t. absurd (some t)
@@ -65,7 +66,8 @@ not_first e = cc
 not_second : Absent ≡ SecondGreater → ⊥
 not_second e = cc
 
-pub greater_found : (v : UnequalValue) (a b : ℕ) → 3 ≤ v.size → a < v.size * v.size → b < v.size * v.size → is_greater v a b ≡ true → IsGreater v a b
+pub greater_found : (v : UnequalValue) (a b : ℕ) → 3 ≤ v.size → a < v.size * v.size → b < v.size * v.size → is_greater v a b ≡ true
+    → IsGreater v a b
 greater_found v a b small a_in b_in h =
     elim (or_cases (says_first (sign_of_pair v a b)) (says_second (sign_of_pair v b a)) h) [
       | inl t ↦ let there = sign_there v a b FirstGreater small a_in b_in not_first (is_first (sign_of_pair v a b) t) in record { sign = there.0; says = inl (there.1, there.2) }

@@ -10,7 +10,8 @@ use Rattle.clue_rules.specs.IdFaults.{SparesMemory, exactly}
 use Rattle.clue_rules.specs.TowersText.{fields, is_clue_field, clues_in, clues_at, is_square_part, squares_of, givens_at, givens_behind, towers_at}
 use Rattle.clue_rules.specs.UnequalText.{pieces_of, has_number, has_letters, points_inside, contradicts, puzzle_in, puzzle_at, unequal_at}
 
-pub spares-then : {A B : Type 0} (r : Result A IdFault) (f : A → Result B IdFault) → SparesMemory r → ((a : A) → SparesMemory (f a)) → SparesMemory (r >>= f)
+pub spares-then : {A B : Type 0} (r : Result A IdFault) (f : A → Result B IdFault) → SparesMemory r → ((a : A) → SparesMemory (f a))
+    → SparesMemory (r >>= f)
 spares-then (Ok a) f h k = k a
 spares-then (Err e) f h k = h
 

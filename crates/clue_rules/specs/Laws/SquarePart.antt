@@ -82,7 +82,8 @@ byte_again w b bs byte =
           ]
     ]
 
-pub squares_again : (w : ℕ) (bs squares : List ℕ) → w ≤ 9 → IsSquareText w bs squares → (is_square_part w bs ≡ true) × (flat_map squares_of bs ≡ squares)
+pub squares_again : (w : ℕ) (bs squares : List ℕ) → w ≤ 9 → IsSquareText w bs squares
+    → (is_square_part w bs ≡ true) × (flat_map squares_of bs ≡ squares)
 squares_again w [] squares small text = (refl, sym text)
 squares_again w (b ∷ bs) squares small text =
     elim text [
@@ -109,7 +110,8 @@ squares_again w (b ∷ bs) squares small text =
     ]
 
 -- the squares of a square part are in range
-pub zeros_within : (w n : ℕ) (squares : List ℕ) → AllByRecursion (λ s. s ≤ w) squares → AllByRecursion (λ s. s ≤ w) (replicate n 0 ++ squares)
+pub zeros_within : (w n : ℕ) (squares : List ℕ) → AllByRecursion (λ s. s ≤ w) squares
+    → AllByRecursion (λ s. s ≤ w) (replicate n 0 ++ squares)
 zeros_within w zero squares within = within
 zeros_within w (suc n) squares within = (omega arith, zeros_within w n squares within)
 
@@ -127,14 +129,16 @@ squares_within w (b ∷ bs) squares text =
           ]
     ]
 
-pub givens_taken : (w : ℕ) (part givens : List ℕ) → w ≤ 9 → givens_at w part ≡ Ok givens → (length givens ≡ w * w) × IsSquareText w part givens
+pub givens_taken : (w : ℕ) (part givens : List ℕ) → w ≤ 9 → givens_at w part ≡ Ok givens
+    → (length givens ≡ w * w) × IsSquareText w part givens
 unfolding givens_at
 givens_taken w part givens small read =
     let readable = refused_else (is_square_part w part) (exactly (w * w) (flat_map squares_of part)) BadSquares givens read in
     let count = exactly_taken (w * w) (flat_map squares_of part) givens readable.1 in
     (ap length (sym count.0) ∙ count.1, subst (IsSquareText w part) count.0 (squares_taken w part small readable.0))
 
-pub givens_again : (w : ℕ) (part givens : List ℕ) → w ≤ 9 → length givens ≡ w * w → IsSquareText w part givens → givens_at w part ≡ Ok givens
+pub givens_again : (w : ℕ) (part givens : List ℕ) → w ≤ 9 → length givens ≡ w * w → IsSquareText w part givens
+    → givens_at w part ≡ Ok givens
 unfolding givens_at
 givens_again w part givens small count text =
     let read = squares_again w part givens small text in

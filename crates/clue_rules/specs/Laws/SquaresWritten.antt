@@ -8,13 +8,15 @@ use Rattle.byte_text.specs.Bytes.{letter_z, letter_a, digit_nine, digit_zero, un
 use Rattle.clue_rules.specs.TowersText.{IsSquareText, blank_letters, given_written, squares_written}
 
 -- one letter
-letter_text : (w k : ℕ) (bs squares : List ℕ) → k < 26 → IsSquareText w bs squares → IsSquareText w ((letter_a + k) ∷ bs) (replicate (k + 1) 0 ++ squares)
+letter_text : (w k : ℕ) (bs squares : List ℕ) → k < 26 → IsSquareText w bs squares
+    → IsSquareText w ((letter_a + k) ∷ bs) (replicate (k + 1) 0 ++ squares)
 letter_text w k bs squares small text =
     let run : letter_a + k + 1 - letter_a ≡ k + 1 = omega arith in
     inr (inl (omega arith, omega arith, (squares, ap (λ n. replicate n 0 ++ squares) (sym run), text)))
 
 -- so many times `z`
-zs_text : (w k : ℕ) (bs squares : List ℕ) → IsSquareText w bs squares → IsSquareText w (replicate k letter_z ++ bs) (replicate (k * 26) 0 ++ squares)
+zs_text : (w k : ℕ) (bs squares : List ℕ) → IsSquareText w bs squares
+    → IsSquareText w (replicate k letter_z ++ bs) (replicate (k * 26) 0 ++ squares)
 zs_text w zero bs squares text = text
 zs_text w (suc k) bs squares text =
     let more = letter_text w 25 (replicate k letter_z ++ bs) (replicate (k * 26) 0 ++ squares) (omega arith) (zs_text w k bs squares text) in
@@ -28,7 +30,8 @@ blank_letters_some : (n : ℕ) → n ≢ 0 → blank_letters n ≡ replicate ((n
 blank_letters_some n some = rw (ne_eqb n 0 some) refl
 
 -- `z` so many times, and one more letter
-run_text : (w k r : ℕ) (bs squares : List ℕ) → r < 26 → IsSquareText w bs squares → IsSquareText w ((replicate k letter_z ++ ((letter_a + r) ∷ [])) ++ bs) (replicate (k * 26 + (r + 1)) 0 ++ squares)
+run_text : (w k r : ℕ) (bs squares : List ℕ) → r < 26 → IsSquareText w bs squares
+    → IsSquareText w ((replicate k letter_z ++ ((letter_a + r) ∷ [])) ++ bs) (replicate (k * 26 + (r + 1)) 0 ++ squares)
 run_text w k r bs squares small text =
     let last = letter_text w r bs squares small text in
     let whole = zs_text w k ((letter_a + r) ∷ bs) (replicate (r + 1) 0 ++ squares) last in
@@ -40,7 +43,8 @@ run_text w k r bs squares small text =
     subst (λ t. IsSquareText w t (replicate (k * 26 + (r + 1)) 0 ++ squares)) bytes (subst (IsSquareText w (replicate k letter_z ++ ((letter_a + r) ∷ bs))) runs whole)
 
 -- the letters of a run of blanks
-blanks_text : (w n : ℕ) (bs squares : List ℕ) → IsSquareText w bs squares → IsSquareText w (blank_letters n ++ bs) (replicate n 0 ++ squares)
+blanks_text : (w n : ℕ) (bs squares : List ℕ) → IsSquareText w bs squares
+    → IsSquareText w (blank_letters n ++ bs) (replicate n 0 ++ squares)
 blanks_text w n bs squares text =
     elim (n == 0) as (λ t. (n == 0) ≡ t → IsSquareText w (blank_letters n ++ bs) (replicate n 0 ++ squares)) [
       | true ↦ λ none. let e = eqb-true n 0 none in rw e text
@@ -64,7 +68,9 @@ letters_begin n bs some =
     rw (blank_letters_some n some) (letters_begin_at ((n - 1) / 26) ((n - 1) % 26) bs)
 
 -- a given as it is written, and what stands behind it
-given_whole : (n : ℕ) (after_given : Bool) (s : ℕ) (bs : List ℕ) → blank_letters n ++ ((if (n == 0) && after_given then (underscore ∷ []) else []) ++ ((digit_zero + s) ∷ bs)) ≡ given_written n after_given s ++ bs
+given_whole : (n : ℕ) (after_given : Bool) (s : ℕ) (bs : List ℕ)
+    → blank_letters n ++ ((if (n == 0) && after_given then (underscore ∷ []) else []) ++ ((digit_zero + s) ∷ bs))
+    ≡ given_written n after_given s ++ bs
 given_whole n after_given s bs = simp append_assoc
 
 given_begins : (n s : ℕ) (bs : List ℕ) → begins_digit (given_written n true s ++ bs) ≡ false
@@ -87,12 +93,14 @@ begins_written n (s ∷ ss) =
     ]
 
 -- a given, and `_` before it or not
-digit_text : (w s : ℕ) (bs squares : List ℕ) → s ≢ 0 → s ≤ w → begins_digit bs ≡ false → IsSquareText w bs squares → IsSquareText w ((digit_zero + s) ∷ bs) (s ∷ squares)
+digit_text : (w s : ℕ) (bs squares : List ℕ) → s ≢ 0 → s ≤ w → begins_digit bs ≡ false → IsSquareText w bs squares
+    → IsSquareText w ((digit_zero + s) ∷ bs) (s ∷ squares)
 digit_text w s bs squares some within ends text =
     let value : s ≡ digit_zero + s - digit_zero = omega arith in
     inr (inr (omega arith, omega arith, ends, (squares, ap (λ x. x ∷ squares) value, text)))
 
-given_text : (w s : ℕ) (separate : Bool) (bs squares : List ℕ) → s ≢ 0 → s ≤ w → begins_digit bs ≡ false → IsSquareText w bs squares → IsSquareText w ((if separate then (underscore ∷ []) else []) ++ ((digit_zero + s) ∷ bs)) (s ∷ squares)
+given_text : (w s : ℕ) (separate : Bool) (bs squares : List ℕ) → s ≢ 0 → s ≤ w → begins_digit bs ≡ false → IsSquareText w bs squares
+    → IsSquareText w ((if separate then (underscore ∷ []) else []) ++ ((digit_zero + s) ∷ bs)) (s ∷ squares)
 given_text w s true bs squares some within ends text = inl (refl, digit_text w s bs squares some within ends text)
 given_text w s false bs squares some within ends text = digit_text w s bs squares some within ends text
 
@@ -100,7 +108,8 @@ zeros_more : (n : ℕ) (squares : List ℕ) → replicate (n + 1) 0 ++ squares �
 zeros_more n squares =
     ap (λ xs. xs ++ squares) (sym (replicate_more n 0)) ∙ append_assoc (replicate n 0) (0 ∷ []) squares
 
-written_text : (w n : ℕ) (after_given : Bool) (squares : List ℕ) → AllByRecursion (λ s. s ≤ w) squares → IsSquareText w (squares_written n after_given squares) (replicate n 0 ++ squares)
+written_text : (w n : ℕ) (after_given : Bool) (squares : List ℕ) → AllByRecursion (λ s. s ≤ w) squares
+    → IsSquareText w (squares_written n after_given squares) (replicate n 0 ++ squares)
 written_text w n after_given [] within =
     subst (λ t. IsSquareText w t (replicate n 0 ++ [])) (append-nil (blank_letters n)) (blanks_text w n [] [] refl)
 written_text w n after_given (s ∷ ss) within =
@@ -114,5 +123,6 @@ written_text w n after_given (s ∷ ss) within =
     ] refl
 
 -- what is written is a text of the squares
-pub squares_written_text : (w : ℕ) (squares : List ℕ) → AllByRecursion (λ s. s ≤ w) squares → IsSquareText w (squares_written 0 false squares) squares
+pub squares_written_text : (w : ℕ) (squares : List ℕ) → AllByRecursion (λ s. s ≤ w) squares
+    → IsSquareText w (squares_written 0 false squares) squares
 squares_written_text w squares within = written_text w 0 false squares within

@@ -66,13 +66,15 @@ cut_cut v first second = rw (kept-kept zero first second 0 v.clues, kept-kept ze
 pub few_items : (w : ℕ) → 3 ≤ w → w ≤ 6 → towers_items w ≤ 96
 few_items w low high = small_widths (λ n. towers_items n ≤ 96) (omega arith) (omega arith) (omega arith) (omega arith) w low high
 
-pub cut_agrees : (v : TowersValue) (a b : ℕ → Bool) → IsTowers v → ((i : ℕ) → i < towers_items v.size → has_towers v i ≡ true → a i ≡ b i) → cut_towers v a ≡ cut_towers v b
+pub cut_agrees : (v : TowersValue) (a b : ℕ → Bool) → IsTowers v
+    → ((i : ℕ) → i < towers_items v.size → has_towers v i ≡ true → a i ≡ b i) → cut_towers v a ≡ cut_towers v b
 cut_agrees v a b h same =
     let kept = items_agree (nat_lt 0) zero not_positive (4 * v.size) v.clues v.givens a b h.clue_count (λ i inside has. same i (omega (arith, h.given_count)) has) in
     rw (kept.0, kept.1) refl
 
 -- a cut loses no solution
-pub cut_solved : (v : TowersValue) (keep : ℕ → Bool) (g : GridValue) → Solves (towers_puzzle v) g → Solves (towers_puzzle (cut_towers v keep)) g
+pub cut_solved : (v : TowersValue) (keep : ℕ → Bool) (g : GridValue) → Solves (towers_puzzle v) g
+    → Solves (towers_puzzle (cut_towers v keep)) g
 cut_solved v keep g h = record {
   is_grid = h.is_grid;
   same_size = h.same_size;

@@ -30,7 +30,9 @@ SquaresBehind w text front givens =
 zeros_up_to : (w n : ℕ) → AllUpTo w (replicate n 0)
 zeros_up_to w n = subst (AllUpTo w) (append-nil (replicate n 0)) (zeros_within w n [] tt)
 
-givens_behind_taken : (w : ℕ) (text givens : List ℕ) (rest : Option (List ℕ)) → w ≤ 9 → behind comma text ≡ rest → givens_behind w rest ≡ Ok givens → (length givens ≡ w * w) × AllUpTo w givens × SquaresBehind w text (before comma text) givens
+givens_behind_taken : (w : ℕ) (text givens : List ℕ) (rest : Option (List ℕ)) → w ≤ 9 → behind comma text ≡ rest
+    → givens_behind w rest ≡ Ok givens
+    → (length givens ≡ w * w) × AllUpTo w givens × SquaresBehind w text (before comma text) givens
 givens_behind_taken w text givens None small cut read =
     let e : replicate (w * w) 0 ≡ givens = cc in
     let count : length givens ≡ w * w = ap length (sym e) ∙ length-replicate (w * w) 0 in
@@ -61,7 +63,9 @@ towers_taken w text p small large read =
     subst (λ v. IsTowersText v text × IsTowers v × (v.size ≡ w)) is (record { puzzle = puzzle; parts = parts }, puzzle, refl)
 
 -- where the description is cut, its clues and its givens are read
-cut_again : (w : ℕ) (text : List ℕ) (clues givens : List ℕ) → w ≤ 9 → length givens ≡ w * w → SquaresBehind w text (clue_part clues) givens → (before comma text ≡ clue_part clues) × (givens_behind w (behind comma text) ≡ Ok givens)
+cut_again : (w : ℕ) (text : List ℕ) (clues givens : List ℕ) → w ≤ 9 → length givens ≡ w * w
+    → SquaresBehind w text (clue_part clues) givens
+    → (before comma text ≡ clue_part clues) × (givens_behind w (behind comma text) ≡ Ok givens)
 cut_again w text clues givens small count parts =
     let lacks = clue_part_lacks_comma clues in
     elim parts [
@@ -93,7 +97,8 @@ none_given (n ∷ ns) =
       | false ↦ λ given none. cc
     ] refl
 
-written_parts : (w : ℕ) (front givens : List ℕ) → length givens ≡ w * w → AllUpTo w givens → SquaresBehind w (front ++ square_part givens) front givens
+written_parts : (w : ℕ) (front givens : List ℕ) → length givens ≡ w * w → AllUpTo w givens
+    → SquaresBehind w (front ++ square_part givens) front givens
 written_parts w front givens count within =
     elim (list_any (λ n. not (n == 0)) givens) as (λ t. list_any (λ n. not (n == 0)) givens ≡ t → SquaresBehind w (front ++ (if t then (comma ∷ squares_written 0 false givens) else [])) front givens) [
       | true ↦ λ some. inr (squares_written 0 false givens, refl, squares_written_text w givens within)

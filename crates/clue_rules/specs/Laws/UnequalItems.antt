@@ -41,7 +41,8 @@ cut_has v keep i = has_item-kept is_present Absent refl (sign_count v.size) v.si
 pub cut_all : (v : UnequalValue) → cut_unequal v (λ i. true) ≡ v
 cut_all v = rw (kept-all Absent 0 v.signs, kept-all zero (sign_count v.size) v.givens) refl
 
-pub cut_cut : (v : UnequalValue) (first second : ℕ → Bool) → cut_unequal (cut_unequal v first) second ≡ cut_unequal v (λ i. first i && second i)
+pub cut_cut : (v : UnequalValue) (first second : ℕ → Bool)
+    → cut_unequal (cut_unequal v first) second ≡ cut_unequal v (λ i. first i && second i)
 cut_cut v first second = rw (kept-kept Absent first second 0 v.signs, kept-kept zero first second (sign_count v.size) v.givens) refl
 
 pub few_items : (w : ℕ) → 3 ≤ w → w ≤ 6 → unequal_items w ≤ 96
@@ -52,7 +53,8 @@ not_present Absent h = refl
 not_present FirstGreater h = cc
 not_present SecondGreater h = cc
 
-pub cut_agrees : (v : UnequalValue) (a b : ℕ → Bool) → IsUnequal v → ((i : ℕ) → i < unequal_items v.size → has_unequal v i ≡ true → a i ≡ b i) → cut_unequal v a ≡ cut_unequal v b
+pub cut_agrees : (v : UnequalValue) (a b : ℕ → Bool) → IsUnequal v
+    → ((i : ℕ) → i < unequal_items v.size → has_unequal v i ≡ true → a i ≡ b i) → cut_unequal v a ≡ cut_unequal v b
 cut_agrees v a b h same =
     let kept = items_agree is_present Absent not_present (sign_count v.size) v.signs v.givens a b h.signs (λ i inside has. same i (omega (arith, h.givens.count)) has) in
     rw (kept.0, kept.1) refl
@@ -78,7 +80,8 @@ cut_solved v keep g h = record {
 pub full_valid : (g : GridValue) → IsGrid g → IsUnequal (full_unequal g)
 full_valid g h = record { givens = h; signs = length-map-range_with_len _ 0 (sign_count g.size) }
 
-pub full_sign : (g : GridValue) (i : ℕ) → i < sign_count g.size → sign_at (full_unequal g) i ≡ sign_of (number_at g (first_side g.size i)) (number_at g (second_side g.size i))
+pub full_sign : (g : GridValue) (i : ℕ) → i < sign_count g.size
+    → sign_at (full_unequal g) i ≡ sign_of (number_at g (first_side g.size i)) (number_at g (second_side g.size i))
 full_sign g i inside = get_or-map-range_with_len _ 0 (sign_count g.size) i i Absent inside (omega arith)
 
 sign_present : (x y : ℕ) → x ≢ y → is_present (sign_of x y) ≡ true

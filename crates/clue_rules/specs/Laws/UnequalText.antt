@@ -31,7 +31,8 @@ said_side says side = by (says First) (says Second) side refl refl
     by false false First first second e = absurd (cc)
     by false false Second first second e = absurd (cc)
 
-side_said : (says : Side → Bool) (side : Side) → (says First && says Second) ≡ false → says side ≡ true → said_sign (says First) (says Second) ≡ greater_at side
+side_said : (says : Side → Bool) (side : Side) → (says First && says Second) ≡ false → says side ≡ true
+    → said_sign (says First) (says Second) ≡ greater_at side
 side_said says First apart e = rw e refl
 side_said says Second apart e = by (says First) (rw e at apart)
   where
@@ -39,7 +40,8 @@ side_said says Second apart e = by (says First) (rw e at apart)
     by true none = absurd (false≢true (sym none))
     by false none = rw e refl
 
-sign_matches : (s : Sign) (says : Side → Bool) → ((side : Side) → s ≡ greater_at side → says side ≡ true) → ((side : Side) → says side ≡ true → s ≡ greater_at side) → said_sign (says First) (says Second) ≡ s
+sign_matches : (s : Sign) (says : Side → Bool) → ((side : Side) → s ≡ greater_at side → says side ≡ true)
+    → ((side : Side) → says side ≡ true → s ≡ greater_at side) → said_sign (says First) (says Second) ≡ s
 sign_matches s says said there = by (says First) (says Second) s refl refl (said First) (said Second) (there First) (there Second)
   where
     by : (first second : Bool) (s : Sign) → says First ≡ first → says Second ≡ second
@@ -51,11 +53,13 @@ sign_matches s says said there = by (says First) (says Second) s refl refl (said
     by false false FirstGreater one two a b c d = absurd (false≢true (sym one ∙ a refl))
     by false false SecondGreater one two a b c d = absurd (false≢true (sym two ∙ b refl))
 
-read_sign : (w i : ℕ) (bytes : List (List ℕ)) → i < sign_count w → sign_at (puzzle_in w bytes) i ≡ said_sign (first_says w bytes i) (second_says w bytes i)
+read_sign : (w i : ℕ) (bytes : List (List ℕ)) → i < sign_count w
+    → sign_at (puzzle_in w bytes) i ≡ said_sign (first_says w bytes i) (second_says w bytes i)
 read_sign w i bytes inside = get_or-map-range_with_len _ 0 (sign_count w) i i Absent inside (omega arith)
 
 -- what was read says the signs of its puzzle
-read_signs : (w : ℕ) (pieces : List Piece) → 3 ≤ w → contradicts w (map piece_text pieces) ≡ false → SaysSigns (puzzle_in w (map piece_text pieces)) pieces
+read_signs : (w : ℕ) (pieces : List Piece) → 3 ≤ w → contradicts w (map piece_text pieces) ≡ false
+    → SaysSigns (puzzle_in w (map piece_text pieces)) pieces
 read_signs w pieces small agree =
     let bytes : List (List ℕ) = map piece_text pieces in
     record {
@@ -66,7 +70,10 @@ read_signs w pieces small agree =
 
 -- what is read describes the puzzle
 
-read_text : (w : ℕ) (text : List ℕ) (pieces : List Piece) → 3 ≤ w → w ≤ 9 → length pieces ≡ w * w → pieces_of text ≡ map piece_text pieces → AreGood w (map piece_text pieces) → map (λ p. p.number) pieces ≡ (puzzle_in w (map piece_text pieces)).givens → IsUnequalText (puzzle_in w (map piece_text pieces)) text
+read_text : (w : ℕ) (text : List ℕ) (pieces : List Piece) → 3 ≤ w → w ≤ 9 → length pieces ≡ w * w
+    → pieces_of text ≡ map piece_text pieces → AreGood w (map piece_text pieces)
+    → map (λ p. p.number) pieces ≡ (puzzle_in w (map piece_text pieces)).givens
+    → IsUnequalText (puzzle_in w (map piece_text pieces)) text
 read_text w text pieces small large count split good numbers =
     let signs = read_signs w pieces small good.agree in
     let v : UnequalValue = puzzle_in w (map piece_text pieces) in
@@ -82,7 +89,8 @@ read_text w text pieces small large count split good numbers =
       signs = greater_said v pieces small count signs;
     }
 
-taken_pieces : (w : ℕ) (text : List ℕ) (bytes : List (List ℕ)) → 3 ≤ w → w ≤ 9 → length bytes ≡ w * w → pieces_of text ≡ bytes → AreGood w bytes → IsUnequalText (puzzle_in w bytes) text
+taken_pieces : (w : ℕ) (text : List ℕ) (bytes : List (List ℕ)) → 3 ≤ w → w ≤ 9 → length bytes ≡ w * w → pieces_of text ≡ bytes
+    → AreGood w bytes → IsUnequalText (puzzle_in w bytes) text
 taken_pieces w text bytes small large count split good =
     let same : map piece_text (map (read_piece w) bytes) ≡ bytes = read_pieces w bytes good.numbers good.letters in
     let P : List (List ℕ) → Type 0 = λ bs. IsUnequalText (puzzle_in w bs) text in
@@ -107,7 +115,8 @@ not_both true true h = absurd (h refl refl)
 not_both true false h = refl
 not_both false t h = refl
 
-again_pieces : (v : UnequalValue) (text : List ℕ) → (h : IsUnequalText v text) → AreGood v.size (map piece_text h.pieces) × (puzzle_in v.size (map piece_text h.pieces) ≡ v)
+again_pieces : (v : UnequalValue) (text : List ℕ) → (h : IsUnequalText v text)
+    → AreGood v.size (map piece_text h.pieces) × (puzzle_in v.size (map piece_text h.pieces) ≡ v)
 again_pieces v text h =
     let w : ℕ = v.size in
     let pieces : List Piece = h.pieces in

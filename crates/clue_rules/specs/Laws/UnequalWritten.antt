@@ -20,14 +20,16 @@ map_twice : {A B C : Type 0} (g : B → C) (f : A → B) (xs : List A) → map g
 map_twice g f [] = refl
 map_twice g f (x ∷ xs) = ap (λ ys. g (f x) ∷ ys) (map_twice g f xs)
 
-commas-join : (f : ℕ → List ℕ) (k : ℕ) (ks : List ℕ) → flat_map (λ i. f i ++ comma ∷ []) (k ∷ ks) ≡ join_with_byte comma (map f (k ∷ ks)) ++ comma ∷ []
+commas-join : (f : ℕ → List ℕ) (k : ℕ) (ks : List ℕ)
+    → flat_map (λ i. f i ++ comma ∷ []) (k ∷ ks) ≡ join_with_byte comma (map f (k ∷ ks)) ++ comma ∷ []
 commas-join f k [] = append-nil (f k ++ comma ∷ [])
 commas-join f k (m ∷ ks) =
     append_assoc (f k) (comma ∷ []) (flat_map (λ i. f i ++ comma ∷ []) (m ∷ ks))
     ∙ ap (λ rest. f k ++ comma ∷ rest) (commas-join f m ks)
     ∙ sym (append_assoc (f k) (comma ∷ join_with_byte comma (map f (m ∷ ks))) (comma ∷ []))
 
-commas-range : (f : ℕ → List ℕ) (n : ℕ) → 0 < n → flat_map (λ i. f i ++ comma ∷ []) (range_with_len 0 n) ≡ join_with_byte comma (map f (range_with_len 0 n)) ++ comma ∷ []
+commas-range : (f : ℕ → List ℕ) (n : ℕ) → 0 < n
+    → flat_map (λ i. f i ++ comma ∷ []) (range_with_len 0 n) ≡ join_with_byte comma (map f (range_with_len 0 n)) ++ comma ∷ []
 commas-range f zero some = absurd (omega arith)
 commas-range f (suc n) some = commas-join f 0 (range_with_len (0 + 1) n)
 
@@ -45,7 +47,8 @@ some_from_map_or g (Some b) e = refl
 abbrev pub pieces_written : UnequalValue → List Piece
 pieces_written v = map (piece_of v) (range_with_len 0 (v.size * v.size))
 
-written_directions : (v : UnequalValue) (cell : ℕ) → cell < v.size * v.size → directions_at (pieces_written v) cell ≡ (piece_of v cell).greater
+written_directions : (v : UnequalValue) (cell : ℕ) → cell < v.size * v.size
+    → directions_at (pieces_written v) cell ≡ (piece_of v cell).greater
 written_directions v cell inside =
     ap (λ ds. slice_index_or ds cell []) (map_twice (λ p. p.greater) (piece_of v) (range_with_len 0 (v.size * v.size)))
     ∙ get_or-map-range_with_len (λ k. (piece_of v k).greater) 0 (v.size * v.size) cell cell [] inside (omega arith)
@@ -55,12 +58,14 @@ count_written v = length-map-range_with_len (piece_of v) 0 (v.size * v.size)
 
 -- a letter is written exactly where the square is the greater one
 
-letter_written : (v : UnequalValue) (a b : ℕ) (d : Direction) → 3 ≤ v.size → a < v.size * v.size → neighbour v.size a d ≡ Some b → IsGreater v a b → Contains (directions_at (pieces_written v) a) d
+letter_written : (v : UnequalValue) (a b : ℕ) (d : Direction) → 3 ≤ v.size → a < v.size * v.size → neighbour v.size a d ≡ Some b
+    → IsGreater v a b → Contains (directions_at (pieces_written v) a) d
 letter_written v a b d small inside points h =
     let test : is_greater_towards v a d ≡ true = rw points (greater_tested v a b small h) in
     rw (written_directions v a inside) (contains_filter (is_greater_towards v a) d directions (all_has d) test)
 
-written_letter : (v : UnequalValue) (a : ℕ) (d : Direction) → Contains (directions_at (pieces_written v) a) d → (a < v.size * v.size) × (is_greater_towards v a d ≡ true)
+written_letter : (v : UnequalValue) (a : ℕ) (d : Direction) → Contains (directions_at (pieces_written v) a) d
+    → (a < v.size * v.size) × (is_greater_towards v a d ≡ true)
 written_letter v a d h =
     let inside : a < v.size * v.size = omega (arith, directions_inside (pieces_written v) a d h, count_written v) in
     (inside, filter_contains (is_greater_towards v a) d directions (rw (written_directions v a inside) at h))
