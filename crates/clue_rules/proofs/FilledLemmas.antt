@@ -15,7 +15,8 @@ pub filled_run : {X : Type 0} (empty : X) (n place k : ℕ) (xs : List X) → Is
     → IsFilledTo empty n (place + k) xs × (take (place + k) xs ≡ take place xs ++ replicate k empty)
 filled_run empty n place k xs filled fits =
     let rest : drop (place + k) xs ≡ replicate (n - (place + k)) empty =
-    sym (drop-drop k place xs) ∙ (ap (drop k) filled.rest ∙ (drop-replicate k (n - place) empty ∙ ap (λ m. replicate m empty) (omega arith))) in
+    sym (drop-drop k place xs)
+    ∙ (ap (drop k) filled.rest ∙ (drop-replicate k (n - place) empty ∙ ap (λ m. replicate m empty) (omega arith))) in
     let front : take k (drop place xs) ≡ replicate k empty = ap (take k) filled.rest ∙ take-replicate k (n - place) empty (omega arith) in
     (record { count = filled.count; within = fits; rest = rest }, take-add place k xs ∙ ap (λ ys. take place xs ++ ys) front)
 

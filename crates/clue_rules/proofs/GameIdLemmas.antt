@@ -115,7 +115,8 @@ parts_text letters text p (Described q desc) params behind =
     subst (λ v. IsIdText letters IsAnyText (Described v desc) text) (sym behind.0) (params.params, (desc, text_is, refl))
 parts_text letters text p (Seeded q seed) params behind =
     let split = split_taken text exclamation (decimal seed) behind.2 in
-    let text_is : text ≡ params_text p ++ exclamation ∷ decimal seed = split.0 ∙ ap (λ xs. xs ++ exclamation ∷ decimal seed) params.text_is in
+    let text_is : text ≡ params_text p ++ exclamation ∷ decimal seed =
+    split.0 ∙ ap (λ xs. xs ++ exclamation ∷ decimal seed) params.text_is in
     subst (λ v. IsIdText letters IsAnyText (Seeded v seed) text) (sym behind.0) (params.params, behind.1, text_is)
 
 pub id_parts_taken : (letters : List ℕ) (has_adjacent : Bool) (text : List ℕ) (parts : GameId (List ℕ))
@@ -123,7 +124,8 @@ pub id_parts_taken : (letters : List ℕ) (has_adjacent : Bool) (text : List ℕ
 unfolding id_parts_at
 id_parts_taken letters has_adjacent text parts read =
     let steps = bind_taken (params_at letters has_adjacent (params_part text)) (λ p. behind_params p (from_separator text)) parts read in
-    parts_text letters text steps.0 parts (params_taken letters has_adjacent (params_part text) steps.0 steps.1) (behind_params_taken steps.0 (from_separator text) parts steps.2)
+    parts_text letters text steps.0 parts (params_taken letters has_adjacent (params_part text) steps.0 steps.1)
+    (behind_params_taken steps.0 (from_separator text) parts steps.2)
 
 -- what stands behind the parameters is read behind them
 split_params : (letters : List ℕ) (has_adjacent : Bool) (p : Params) (separator : ℕ) (rest : List ℕ) → LacksSeparators letters
@@ -134,7 +136,8 @@ split_params letters has_adjacent p separator rest lacks params is =
     let text = params_text p ++ separator ∷ rest in
     let split = split_again (params_text p) separator rest (params_no_separator letters p lacks params) is in
     let read : params_at letters has_adjacent (params_part text) ≡ Ok p =
-    ap (params_at letters has_adjacent) split.0 ∙ params_again letters has_adjacent (params_text p) p (record { params = params; text_is = refl }) in
+    ap (params_at letters has_adjacent) split.0
+    ∙ params_again letters has_adjacent (params_text p) p (record { params = params; text_is = refl }) in
     bind_again (params_at letters has_adjacent (params_part text)) (λ q. behind_params q (from_separator text)) p read
     ∙ ap (behind_params p) split.1
 
@@ -144,8 +147,10 @@ id_parts_again letters has_adjacent text (Described p desc) lacks h =
     let text_is : text ≡ params_text p ++ colon ∷ desc = h.1.1 ∙ ap (λ xs. params_text p ++ colon ∷ xs) (sym h.1.2) in
     ap (id_parts_at letters has_adjacent) text_is ∙ split_params letters has_adjacent p colon desc lacks h.0 refl
 id_parts_again letters has_adjacent text (Seeded p seed) lacks h =
-    let read : decimal_value 18446744073709551615 (decimal seed) ≡ Some seed = number_again 18446744073709551615 seed (omega (arith, h.1)) (omega arith) in
-    ap (id_parts_at letters has_adjacent) h.2 ∙ (split_params letters has_adjacent p exclamation (decimal seed) lacks h.0 refl ∙ ap (seeded p) read)
+    let read : decimal_value 18446744073709551615 (decimal seed) ≡ Some seed =
+    number_again 18446744073709551615 seed (omega (arith, h.1)) (omega arith) in
+    ap (id_parts_at letters has_adjacent) h.2
+    ∙ (split_params letters has_adjacent p exclamation (decimal seed) lacks h.0 refl ∙ ap (seeded p) read)
 
 -- the ID with its description read
 with_taken : (D : Type 0) (letters : List ℕ) (desc_at : ℕ → List ℕ → Result D IdFault) (IsDesc : ℕ → D → List ℕ → Type 0)
@@ -222,7 +227,8 @@ spares-more p (b ∷ bs) = λ e. cc
 
 letter_spares : (letters : List ℕ) (w : ℕ) (bs : List ℕ) → SparesMemory (letter_at letters w bs)
 letter_spares letters w [] = λ e. cc
-letter_spares letters w (b ∷ bs) = spares-if (list_any (λ l. l == b) letters) _ (Err BadLetter) (spares-more (record { size = w; letter = Some b }) bs) (λ e. cc)
+letter_spares letters w (b ∷ bs) =
+    spares-if (list_any (λ l. l == b) letters) _ (Err BadLetter) (spares-more (record { size = w; letter = Some b }) bs) (λ e. cc)
 
 size_spares : (letters : List ℕ) (adjacent : Bool) (w : ℕ) (bs : List ℕ) → SparesMemory (behind_size letters adjacent w bs)
 size_spares letters adjacent w [] = tt
@@ -233,7 +239,8 @@ size_spares letters adjacent w (b ∷ bs) =
 pub params_spare : (letters : List ℕ) (adjacent : Bool) (text : List ℕ) → SparesMemory (params_at letters adjacent text)
 unfolding params_at
 params_spare letters adjacent [] = λ e. cc
-params_spare letters adjacent (b ∷ bs) = spares-if (is_size b bs) _ (Err BadSize) (size_spares letters adjacent (b - digit_zero) bs) (λ e. cc)
+params_spare letters adjacent (b ∷ bs) =
+    spares-if (is_size b bs) _ (Err BadSize) (size_spares letters adjacent (b - digit_zero) bs) (λ e. cc)
 
 seed_spares : (p : Params) (seed : Option ℕ) → SparesMemory (seeded p seed)
 seed_spares p None = λ e. cc

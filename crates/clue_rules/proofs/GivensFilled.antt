@@ -20,8 +20,12 @@ byte_within w b bs small is =
       | inl same ↦ subst (All (λ n. n ≤ w)) (sym (squares_of_underscore b same)) (All-nil (λ n. n ≤ w))
       | inr other ↦
           elim other [
-            | inl letter ↦ subst (All (λ n. n ≤ w)) (sym (squares_of_letter b letter.0 letter.1)) (All-replicate (λ n. n ≤ w) (blanks_of b) 0 (omega arith))
-            | inr given ↦ subst (All (λ n. n ≤ w)) (sym (squares_of_digit b (omega arith) (omega arith))) (All-cons (λ n. n ≤ w) (b - digit_zero) [] (omega arith) (All-nil (λ n. n ≤ w)))
+            | inl letter ↦
+                subst (All (λ n. n ≤ w)) (sym (squares_of_letter b letter.0 letter.1))
+                (All-replicate (λ n. n ≤ w) (blanks_of b) 0 (omega arith))
+            | inr given ↦
+                subst (All (λ n. n ≤ w)) (sym (squares_of_digit b (omega arith) (omega arith)))
+                (All-cons (λ n. n ≤ w) (b - digit_zero) [] (omega arith) (All-nil (λ n. n ≤ w)))
           ]
     ]
 
@@ -46,7 +50,9 @@ pub givens_step : (w b : ℕ) (part bs : List ℕ) (cell next : ℕ) (numbers mo
 givens_step w b part bs cell next numbers more fills filled taken = record {
   filled = filled;
   readable = (and_parts (is_square_byte w b bs) (is_square_part w bs) fills.readable).1;
-  squares = fills.squares ∙ (sym (append_assoc (take cell numbers) (squares_of b) (flat_map squares_of bs)) ∙ ap (λ xs. xs ++ flat_map squares_of bs) (sym taken));
+  squares =
+      fills.squares
+      ∙ (sym (append_assoc (take cell numbers) (squares_of b) (flat_map squares_of bs)) ∙ ap (λ xs. xs ++ flat_map squares_of bs) (sym taken));
 }
 
 front_length : (w cell : ℕ) (numbers : List ℕ) → IsFilledTo 0 (w * w) cell numbers → length (take cell numbers) ≡ cell
@@ -63,11 +69,13 @@ givens_many w b part bs cell numbers fills full =
 pub givens_few : (w : ℕ) (part : List ℕ) (cell : ℕ) (numbers : List ℕ) → FillsGivens w part [] cell numbers → cell < w * w
     → exactly (w * w) (flat_map squares_of part) ≡ Err TooFew
 givens_few w part cell numbers fills few =
-    let lengths : length (flat_map squares_of part) ≡ cell = ap length (fills.squares ∙ append-nil (take cell numbers)) ∙ front_length w cell numbers fills.filled in
+    let lengths : length (flat_map squares_of part) ≡ cell =
+    ap length (fills.squares ∙ append-nil (take cell numbers)) ∙ front_length w cell numbers fills.filled in
     exactly_few (w * w) (flat_map squares_of part) (omega (arith, lengths))
 
 pub givens_end : (w : ℕ) (part : List ℕ) (cell : ℕ) (numbers : List ℕ) → FillsGivens w part [] cell numbers → w * w ≤ cell
     → exactly (w * w) (flat_map squares_of part) ≡ Ok numbers
 givens_end w part cell numbers fills all =
-    let whole : flat_map squares_of part ≡ numbers = fills.squares ∙ (append-nil (take cell numbers) ∙ take_all cell numbers (omega (arith, fills.filled.count))) in
+    let whole : flat_map squares_of part ≡ numbers =
+    fills.squares ∙ (append-nil (take cell numbers) ∙ take_all cell numbers (omega (arith, fills.filled.count))) in
     rw whole (exactly_again (w * w) numbers fills.filled.count)

@@ -191,5 +191,6 @@ pub given_kept : (old new : CandidatesValue) (cell given kept : ℕ) → kept �
     → KeepsEach (λ g. 0 < given → number_at g cell ≡ given) old new
 given_kept old new cell given kept is some k g agrees w =
     let P : ℕ → ℕ → Type 0 = λ m v. has_mark m v ≡ true in
-    let here : has_mark kept (number_at g cell) ≡ true = subst (λ m. P m (number_at g cell)) (sym is) (subst (P (2 ^ given)) (sym (agrees some)) (mark-pow_same given)) in
+    let here : has_mark kept (number_at g cell) ≡ true =
+    subst (λ m. P m (number_at g cell)) (sym is) (subst (P (2 ^ given)) (sym (agrees some)) (mark-pow_same given)) in
     within_kept old new cell kept g k w here

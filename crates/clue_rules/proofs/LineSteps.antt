@@ -29,7 +29,10 @@ pub along_narrows : {S : GridValue → Type 0} {T : CandidatesValue → ℕ → 
 along_narrows {kept = kept} {old = old} {new = new} {r = r} solved struck h = record {
   less = h.less;
   keeps = λ g s size w. h.keeps g size (λ k inside. solved g s size w k inside) w;
-  refutes = on_false r (λ empty g s size w. both_ways (has_mark (slice_index kept empty.0) _) (empty.2 _) (solved g s size w empty.0 empty.1)) h.empty;
+  refutes =
+      on_false r
+      (λ empty g s size w. both_ways (has_mark (slice_index kept empty.0) _) (empty.2 _) (solved g s size w empty.0 empty.1))
+      h.empty;
   struck = on_true r (λ gone. record {
     each = λ first e cell v pair s.
         let at = struck first e cell v s in
@@ -72,7 +75,8 @@ square_possible c line place sets g a is s size within =
     λ k. ap (number_at g) (a.cells k ∙ ap (λ (w : ℕ). line_cell w line k) (sym size)) in
     record {
       within = λ k inside.
-          in_set c (view_cell c.size place k) (slice_index sets k) g (is.each k inside) s size within (along_inside c.size line place k a inside);
+          in_set c (view_cell c.size place k) (slice_index sets k) g (is.each k inside) s size within
+          (along_inside c.size line place k a inside);
       apart = λ i j first second apart same.
           line_differs g s.is_grid s.latin line i j (omega (arith, a.line_is)) (omega arith) (omega arith) apart
           (sym (cell_is i) ∙ same ∙ cell_is j);
@@ -137,9 +141,12 @@ line_struck c line place sets kept t a is whole keeps first e cell v struck =
           elim struck.why [
             | inl taken ↦
                 let there : taken.by < c.size = omega (arith, taken.inside, e.size) in
-                taken_goes sets c.size t k taken.by v whole inside there taken.apart (taken_single first c line place taken.by v sets t e a is whole there taken.only) stays
+                taken_goes sets c.size t k taken.by v whole inside there taken.apart
+                (taken_single first c line place taken.by v sets t e a is whole there taken.only) stays
             | inr displaced ↦
-                displaced_goes sets c.size t k v displaced.other whole inside displaced.apart displaced.low (omega (arith, displaced.high, e.size)) (one_place first c line place k displaced.other sets e a is displaced.one) stays
+                displaced_goes sets c.size t k v displaced.other whole inside displaced.apart displaced.low
+                (omega (arith, displaced.high, e.size))
+                (one_place first c line place k displaced.other sets e a is displaced.one) stays
           ]),
     )
 

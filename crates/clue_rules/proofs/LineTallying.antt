@@ -83,7 +83,8 @@ pub whole_tally : (sets : List ℕ) (w : ℕ) (t : Tally) → IsTally sets w t �
 whole_tally sets w t h all = record {
   tally = h;
   placed = λ v low high.
-      let full : has_mark (full_marks w) v ≡ true = has_mark-full_marks w v ∙ and_from (nat_le 1 v) (nat_le v w) (le-leb 1 v low) (le-leb v w high) in
+      let full : has_mark (full_marks w) v ≡ true =
+      has_mark-full_marks w v ∙ and_from (nat_le 1 v) (nat_le v w) (le-leb 1 v low) (le-leb v w high) in
       let P : ℕ → Type 0 = λ m. has_mark m v ≡ true in
       (and_parts _ _ (sym (mark-and t.once (full_marks w) v) ∙ subst P (sym all) full)).0;
 }
@@ -98,7 +99,9 @@ lacking_refutes sets w t h lacks number p =
           let P : ℕ → Type 0 = λ u. has_mark (slice_index sets at.0) u ≡ true in
           let once = (h.once v).1 (at.0, at.1, subst P at.2 (p.within at.0 at.1)) in
           mark-and t.once (full_marks w) v ∙ and_from _ _ once full ∙ sym full
-      | inr none ↦ mark-and t.once (full_marks w) v ∙ false_from_ne_true _ (λ e. both_ways (has_mark (full_marks w) v) none (and_parts _ _ e).1) ∙ sym none
+      | inr none ↦
+          mark-and t.once (full_marks w) v
+          ∙ false_from_ne_true _ (λ e. both_ways (has_mark (full_marks w) v) none (and_parts _ _ e).1) ∙ sym none
     ]))
 
 -- ---- what may stay
@@ -125,7 +128,8 @@ possible_stays sets w t number k h p values inside =
             elim (cases_order at.0 k) [
               | inl same ↦ sym at.2 ∙ ap number same
               | inr order ↦ elim order [
-                | inl before ↦ absurd (both_ways (has_mark t.twice u) hidden.lone ((h.tally.twice u).1 (at.0, k, before, inside, there, has)))
+                | inl before ↦
+                    absurd (both_ways (has_mark t.twice u) hidden.lone ((h.tally.twice u).1 (at.0, k, before, inside, there, has)))
                 | inr after ↦ absurd (both_ways (has_mark t.twice u) hidden.lone ((h.tally.twice u).1 (k, at.0, after, at.1, has, there)))
               ]
             ],

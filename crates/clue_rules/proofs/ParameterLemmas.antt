@@ -93,7 +93,10 @@ params_again letters has_adjacent text p h =
     let low = params.smallest in
     let high = params.largest in
     let ends : not (begins_digit (letter_part p.letter)) ≡ true = ap not (letter_part_begins p.letter) in
-    let bounds = and_from (nat_le (digit_zero + p.size) (digit_zero + 9)) (not (begins_digit (letter_part p.letter))) (le-leb (digit_zero + p.size) (digit_zero + 9) (omega arith)) ends in
-    let is : is_size (digit_zero + p.size) (letter_part p.letter) ≡ true = and_from (nat_le (digit_zero + 3) (digit_zero + p.size)) _ (le-leb (digit_zero + 3) (digit_zero + p.size) (omega arith)) bounds in
+    let bounds =
+    and_from (nat_le (digit_zero + p.size) (digit_zero + 9)) (not (begins_digit (letter_part p.letter)))
+    (le-leb (digit_zero + p.size) (digit_zero + 9) (omega arith)) ends in
+    let is : is_size (digit_zero + p.size) (letter_part p.letter) ≡ true =
+    and_from (nat_le (digit_zero + 3) (digit_zero + p.size)) _ (le-leb (digit_zero + 3) (digit_zero + p.size) (omega arith)) bounds in
     let size : digit_zero + p.size - digit_zero ≡ p.size = omega arith in
     ap (params_at letters has_adjacent) h.text_is ∙ rw (is, size) (letters_again letters has_adjacent p.size p.letter params.letter)

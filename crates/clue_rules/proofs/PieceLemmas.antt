@@ -23,7 +23,8 @@ pieces_without_comma text rest wanted some h = elim h [
         → comma_pieces text ≡ ps ++ [] ∷ [] → exactly wanted (ps ++ [] ∷ []) ≡ exactly wanted ps
     empty_last text [] lacks e = exactly_few wanted ([] ∷ []) some ∙ sym (exactly_few wanted [] (omega arith))
     empty_last text (p ∷ ps) lacks e =
-        let joined : text ≡ join_with_byte comma (p ∷ ps) ++ comma ∷ [] = sym (join_with_byte-slice_split comma text) ∙ ap (join_with_byte comma) e ∙ join-push comma p ps in
+        let joined : text ≡ join_with_byte comma (p ∷ ps) ++ comma ∷ [] =
+        sym (join_with_byte-slice_split comma text) ∙ ap (join_with_byte comma) e ∙ join-push comma p ps in
         absurd (lacks (join_with_byte comma (p ∷ ps)) joined)
 
     same : (text : List ℕ) → ((front : List ℕ) → text ≢ front ++ comma ∷ [])
@@ -36,7 +37,8 @@ pieces_without_comma text rest wanted some h = elim h [
 pub pieces_shorter : (o after : Option (List ℕ)) (bytes : List ℕ) → o ≡ Some bytes → after ≡ behind comma bytes
     → length (pieces_left after) < length (pieces_left o)
 pieces_shorter o after bytes e f =
-    let here : length (pieces_left (Some bytes)) ≡ length (pieces_left (behind comma bytes)) + 1 = ap length (split_once bytes) ∙ omega arith in
+    let here : length (pieces_left (Some bytes)) ≡ length (pieces_left (behind comma bytes)) + 1 =
+    ap length (split_once bytes) ∙ omega arith in
     rw (e, f) (omega (arith, here))
 
 pub pieces_step : (ps : List (List ℕ)) (o after : Option (List ℕ)) (bytes piece : List ℕ) (all : List (List ℕ))

@@ -40,7 +40,8 @@ settled_more sets line n used v h inside single fresh =
     let new : (k : ℕ) → k < n → slice_index line k ≢ v = λ k low same.
     let P : ℕ → Type 0 = λ u. has_mark used u ≡ true in
     let Q : ℕ → Type 0 = λ m. has_mark m v ≡ true in
-    both_ways (has_mark 0 v) (mark-zero v) (subst Q fresh (mark-and used (slice_index sets n) v ∙ and_from _ _ (subst P same (h.in_used k low)) single.has)) in
+    both_ways (has_mark 0 v) (mark-zero v)
+    (subst Q fresh (mark-and used (slice_index sets n) v ∙ and_from _ _ (subst P same (h.in_used k low)) single.has)) in
     record {
       count = length-set line n v ∙ h.count;
       single = entries_more (λ k u. IsSingle (slice_index sets k) u) line n v 0 (omega (arith, h.count)) h.single single;

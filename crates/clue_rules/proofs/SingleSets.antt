@@ -193,7 +193,8 @@ above_bottom set all rest kept k v some small is low every rest_is kept_is =
           (k, omega arith, has),
       λ h.
           let below = least h.0 h.2 in
-          let not_low : has_mark (2 ^ k - 1) v ≡ false = false_from_ne_true (has_mark (2 ^ k - 1) v) (λ e. omega (arith, (mark-ones k v).0 e, h.1)) in
+          let not_low : has_mark (2 ^ k - 1) v ≡ false =
+          false_from_ne_true (has_mark (2 ^ k - 1) v) (λ e. omega (arith, (mark-ones k v).0 e, h.1)) in
           let other : has_mark (2 ^ k) v ≡ false = false_from_ne_true (has_mark (2 ^ k) v) (λ e. omega (arith, mark-pow k v e, h.1)) in
           kept_is ∙ and_from _ _ (rest_is ∙ and_from _ _ every (ap not not_low)) (ap not other),
     )

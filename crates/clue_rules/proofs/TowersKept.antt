@@ -11,7 +11,9 @@ kept_at_size : (part clues : List ℕ) (givens : GridValue) → IsFilledTo 0 36 
     → clues_at givens.size part ≡ Ok (take (4 * givens.size) clues) → KeepsTowers clues givens
 kept_at_size part clues givens filled read = record {
   padded = filled;
-  within = All-from_recursion (λ clue. clue ≤ givens.size) (take (4 * givens.size) clues) (clues_taken givens.size part (take (4 * givens.size) clues) read).2;
+  within =
+      All-from_recursion (λ clue. clue ≤ givens.size) (take (4 * givens.size) clues)
+      (clues_taken givens.size part (take (4 * givens.size) clues) read).2;
 }
 
 pub towers_kept : (w : ℕ) (part clues : List ℕ) (givens : GridValue) → givens.size ≡ w → IsFilledTo 0 36 (4 * w) clues

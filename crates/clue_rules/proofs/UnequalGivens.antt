@@ -39,7 +39,8 @@ pub givens_read : (w i : ℕ) (g : GridValue) (pieces : List (List ℕ)) → g.s
     → Some g ≡ (if list_all (has_number w) pieces then Some (givens_grid w pieces) else None)
 givens_read w i g pieces size count all good numbers =
     let whole : take i pieces ≡ pieces = take_all i pieces all in
-    let read : g.numbers ≡ map (λ p. unwrap_or (number_in w p) 0) pieces = sym (take_all i g.numbers (omega arith)) ∙ numbers ∙ ap (map (λ p. unwrap_or (number_in w p) 0)) whole in
+    let read : g.numbers ≡ map (λ p. unwrap_or (number_in w p) 0) pieces =
+    sym (take_all i g.numbers (omega arith)) ∙ numbers ∙ ap (map (λ p. unwrap_or (number_in w p) 0)) whole in
     let each : list_all (has_number w) pieces ≡ true = rw whole at good in
     let same : g ≡ givens_grid w pieces = λ j. record { size = size j; numbers = read j } in
     rw each (ap (λ x. Some x) same)

@@ -14,8 +14,10 @@ none_of false s h = absurd (cc)
 
 pub said_some : (w : ℕ) (pieces : List (List ℕ)) (i : ℕ) (s : Sign) → sign_in w pieces i ≡ Some s
     → ((first_says w pieces i && second_says w pieces i) ≡ false) × (s ≡ said_sign (first_says w pieces i) (second_says w pieces i))
-said_some w pieces i s h = some_of (first_says w pieces i && second_says w pieces i) (said_sign (first_says w pieces i) (second_says w pieces i)) s h
+said_some w pieces i s h =
+    some_of (first_says w pieces i && second_says w pieces i) (said_sign (first_says w pieces i) (second_says w pieces i)) s h
 
 pub said_none : (w : ℕ) (pieces : List (List ℕ)) (i : ℕ) → sign_in w pieces i ≡ None
     → (first_says w pieces i && second_says w pieces i) ≡ true
-said_none w pieces i h = none_of (first_says w pieces i && second_says w pieces i) (said_sign (first_says w pieces i) (second_says w pieces i)) h
+said_none w pieces i h =
+    none_of (first_says w pieces i && second_says w pieces i) (said_sign (first_says w pieces i) (second_says w pieces i)) h

@@ -30,7 +30,8 @@ use Rattle.clue_rules.proofs.KeptCandidates.{along_whole}
 
 pub view_line_low : (w place : ℕ) → place < 4 * w → view_line w place < 2 * w
 view_line_low w place inside =
-    edge_cases (λ line. line < 2 * w) w place _ _ _ _ (λ upper. omega arith) (λ from lower. lower) (λ from left. omega arith) (λ right. omega arith)
+    edge_cases (λ line. line < 2 * w) w place _ _ _ _ (λ upper. omega arith) (λ from lower. lower) (λ from left. omega arith)
+    (λ right. omega arith)
 
 view_index_low : (w place k : ℕ) → k < w → view_index w place k < w
 view_index_low w place k low =
@@ -75,7 +76,8 @@ view_filling c place clue sets g inside is small s size within shown =
     let whole = length-view_of g place in
     let long : length (take c.size sets) ≡ c.size = length-take-le c.size sets (omega (arith, is.count)) in
     let place_in : place < 4 * g.size = omega arith in
-    let at : (k : ℕ) → k < g.size → slice_index (view_of g place) k ≡ number_at g (view_cell g.size place k) = λ k low. view_number g place k place_in low in
+    let at : (k : ℕ) → k < g.size → slice_index (view_of g place) k ≡ number_at g (view_cell g.size place k) =
+    λ k low. view_number g place k place_in low in
     let cell_is : (k : ℕ) → number_at g (view_cell g.size place k) ≡ number_at g (view_cell c.size place k) =
     λ k. ap (λ (w : ℕ). number_at g (view_cell w place k)) size in
     let pair : (k : ℕ) → k < c.size → IsPair c.size (view_cell c.size place k) (number_at g (view_cell c.size place k)) =
@@ -92,7 +94,9 @@ view_filling c place clue sets g inside is small s size within shown =
             let in_g : j < g.size = omega arith in
             let in_c : j < c.size = omega arith in
             let here : slice_index (view_of g place) j ≡ number_at g (view_cell c.size place j) = at j in_g ∙ cell_is j in
-            let has = in_set c (view_cell c.size place j) (slice_index sets j) g (is.each j in_c) s size within (view_inside c.size place j inside in_c) in
+            let has =
+            in_set c (view_cell c.size place j) (slice_index sets j) g (is.each j in_c) s size within
+            (view_inside c.size place j inside in_c) in
             let P : ℕ → Type 0 = λ m. has_mark m (slice_index (view_of g place) j) ≡ true in
             let Q : ℕ → Type 0 = λ v. has_mark (slice_index sets j) v ≡ true in
             subst P (sym (get_or-take c.size sets j 0 in_c)) (subst Q (sym here) has);
@@ -172,7 +176,8 @@ view_kept c place clue sets inside is small supported =
 
 pub no_clue_narrows : (v : TowersValue) (place : ℕ) (c : CandidatesValue) → clue_of v place ≡ 0
     → Narrows (Solves (towers_puzzle v)) (IsClueStruck v place) c c true
-no_clue_narrows v place c none = narrows_by (λ first e cell value pair s. absurd (omega (arith, s.0))) (narrows_nothing (Solves (towers_puzzle v)) c)
+no_clue_narrows v place c none =
+    narrows_by (λ first e cell value pair s. absurd (omega (arith, s.0))) (narrows_nothing (Solves (towers_puzzle v)) c)
 
 pub clue_narrows : (v : TowersValue) (place clue : ℕ) (old new : CandidatesValue) (left : Bool) → old.size ≡ v.size
     → place < 4 * old.size → clue ≡ clue_of v place → clue ≢ 0

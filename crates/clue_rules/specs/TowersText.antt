@@ -85,7 +85,8 @@ is_blank_letter b = nat_le letter_a b && nat_le b letter_z
 
 -- the byte may stand before the others
 abbrev pub is_square_byte : ℕ → ℕ → List ℕ → Bool
-is_square_byte w b bs = (b == underscore) || (is_blank_letter b || (nat_le (digit_zero + 1) b && (nat_le b (digit_zero + w) && not (begins_digit bs))))
+is_square_byte w b bs =
+    (b == underscore) || (is_blank_letter b || (nat_le (digit_zero + 1) b && (nat_le b (digit_zero + w) && not (begins_digit bs))))
 
 abbrev pub is_square_part : ℕ → List ℕ → Bool
 is_square_part w [] = true

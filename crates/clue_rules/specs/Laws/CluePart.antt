@@ -99,6 +99,7 @@ clues_again w clues some count within =
     let lengths : length fs ≡ length clues = length-map clues clue_field in
     let pieces : fields (clue_part clues) ≡ fs = pieces_join slash fs (omega arith) (fields_lack slash clues (omega arith)) in
     let right = fields_again w clues within in
-    let counts : exactly (4 * w) (fields (clue_part clues)) ≡ Ok fs = ap (exactly (4 * w)) pieces ∙ exactly_again (4 * w) fs (lengths ∙ count) in
+    let counts : exactly (4 * w) (fields (clue_part clues)) ≡ Ok fs =
+    ap (exactly (4 * w)) pieces ∙ exactly_again (4 * w) fs (lengths ∙ count) in
     let ones : clues_in w fs ≡ Ok clues = rw right.0 (ap Ok right.1) in
     bind_again (exactly (4 * w) (fields (clue_part clues))) (clues_in w) fs counts ∙ ones

@@ -113,10 +113,12 @@ pub pieces_again : (text : List ℕ) (p : Piece) (pieces : List Piece)
     ⊎ (text ≡ join_with_byte comma (map piece_text (p ∷ pieces)) ++ comma ∷ [])
     → pieces_of text ≡ map piece_text (p ∷ pieces)
 pieces_again text p pieces h =
-    let split : comma_pieces (join_with_byte comma (map piece_text (p ∷ pieces))) ≡ map piece_text (p ∷ pieces) = pieces-join (piece_text p) (map piece_text pieces) (all_lack (p ∷ pieces)) in
+    let split : comma_pieces (join_with_byte comma (map piece_text (p ∷ pieces))) ≡ map piece_text (p ∷ pieces) =
+    pieces-join (piece_text p) (map piece_text pieces) (all_lack (p ∷ pieces)) in
     elim h [
       | inl same ↦ rw (same, split) (none_empty p pieces)
-      | inr more ↦ rw (more, pieces-push (join_with_byte comma (map piece_text (p ∷ pieces))), split) (drop-push (map piece_text (p ∷ pieces)))
+      | inr more ↦
+          rw (more, pieces-push (join_with_byte comma (map piece_text (p ∷ pieces))), split) (drop-push (map piece_text (p ∷ pieces)))
     ]
 
 pub some_pieces : (text : List ℕ) (pieces : List Piece) → 0 < length pieces → pieces_of text ≡ map piece_text pieces

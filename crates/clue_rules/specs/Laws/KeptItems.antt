@@ -97,9 +97,11 @@ pub has_item-kept : {X : Type 0} (present : X → Bool) (empty : X) → present 
 has_item-kept present empty none n xs givens keep i =
     elim (cases_lt i n) [
       | inl low ↦
-          rw (lt-ltb i n low, entry-kept empty keep 0 xs i i (omega arith)) (present_kept present empty none (keep i) (slice_index_or xs i empty))
+          rw (lt-ltb i n low, entry-kept empty keep 0 xs i i (omega arith))
+          (present_kept present empty none (keep i) (slice_index_or xs i empty))
       | inr high ↦
-          rw (le-ltb i n high, entry-kept zero keep n givens (i - n) i (omega arith)) (present_kept (nat_lt 0) zero refl (keep i) (slice_index givens (i - n)))
+          rw (le-ltb i n high, entry-kept zero keep n givens (i - n) i (omega arith))
+          (present_kept (nat_lt 0) zero refl (keep i) (slice_index givens (i - n)))
     ]
 
 -- a number that isn't positive is none

@@ -169,7 +169,9 @@ read_piece w bytes = record {
 
 letters_written : (bs : List ℕ) → list_all (λ b. is_some (direction_of b)) bs ≡ true → map letter_of (filter_map direction_of bs) ≡ bs
 letters_written [] e = refl
-letters_written (b ∷ bs) e = go (λ h. letters_written bs h) (direction_of b) refl (and_parts (is_some (direction_of b)) (list_all (λ x. is_some (direction_of x)) bs) e)
+letters_written (b ∷ bs) e =
+    go (λ h. letters_written bs h) (direction_of b) refl
+    (and_parts (is_some (direction_of b)) (list_all (λ x. is_some (direction_of x)) bs) e)
   where
     go : (list_all (λ x. is_some (direction_of x)) bs ≡ true → map letter_of (filter_map direction_of bs) ≡ bs)
         → (o : Option Direction) → direction_of b ≡ o

@@ -65,7 +65,9 @@ across_sides w i a b small h =
       between =
           let place : Some (a / w * (w - 1) + a % w) ≡ Some i = rw (a_row, a_column, ← h.sign_is) refl in
           rw (eq-eqb b (a + 1) next, b_column, lt-ltb 0 (h.column + 1) (omega arith)) place;
-      points = rw (lt-ltb i (pairs_across w) sign, a_column, ne_eqb (h.column + 1) w (λ e. omega (arith, h.column_inside))) (ap (λ n. Some n) (sym next));
+      points =
+          rw (lt-ltb i (pairs_across w) sign, a_column, ne_eqb (h.column + 1) w (λ e. omega (arith, h.column_inside)))
+          (ap (λ n. Some n) (sym next));
       points_back =
           let before : b - 1 ≡ a = omega arith in
           rw (lt-ltb i (pairs_across w) sign, b_column, ne_eqb (h.column + 1) 0 (λ e. omega arith)) (ap (λ n. Some n) before);

@@ -200,7 +200,8 @@ pub never_both : (v : UnequalValue) (a b : ℕ) → 3 ≤ v.size → IsGreater v
 never_both v a b small up down =
     let one = greater_by v a b small up in
     let two = greater_by v b a small down in
-    let same = one_side v.size one.sign two.sign one.side (other_side two.side) a b small one.at (turned v.size two.sign two.side b a small two.at) in
+    let same =
+    one_side v.size one.sign two.sign one.side (other_side two.side) a b small one.at (turned v.size two.sign two.side b a small two.at) in
     clash two.side (sym (same_says v one.sign two.sign one.side (other_side two.side) same.0 same.1 one.says) ∙ two.says)
   where
     clash : (side : Side) → greater_at (other_side side) ≡ greater_at side → ⊥

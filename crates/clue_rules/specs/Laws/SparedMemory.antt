@@ -20,7 +20,8 @@ spares-if true x y h k = h
 spares-if false x y h k = k
 
 exactly_spares : {X : Type 0} (n : ℕ) (xs : List X) → SparesMemory (exactly n xs)
-exactly_spares n xs = spares-if (nat_lt (length xs) n) (Err TooFew) _ (λ e. cc) (spares-if (nat_lt n (length xs)) (Err TooMany) (Ok xs) (λ e. cc) tt)
+exactly_spares n xs =
+    spares-if (nat_lt (length xs) n) (Err TooFew) _ (λ e. cc) (spares-if (nat_lt n (length xs)) (Err TooMany) (Ok xs) (λ e. cc) tt)
 
 clues_spare : (w : ℕ) (part : List ℕ) → SparesMemory (clues_at w part)
 unfolding clues_at

@@ -12,7 +12,8 @@ use Rattle.clue_rules.specs.Laws.Refusals.{refused_else}
 
 -- what a byte of a square part may be
 abbrev pub SquareByte : ℕ → ℕ → List ℕ → Type 0
-SquareByte w b bs = (b ≡ underscore) ⊎ ((letter_a ≤ b) × (b ≤ letter_z)) ⊎ ((digit_zero + 1 ≤ b) × (b ≤ digit_zero + w) × (begins_digit bs ≡ false))
+SquareByte w b bs =
+    (b ≡ underscore) ⊎ ((letter_a ≤ b) × (b ≤ letter_z)) ⊎ ((digit_zero + 1 ≤ b) × (b ≤ digit_zero + w) × (begins_digit bs ≡ false))
 
 letter_true : (b : ℕ) → letter_a ≤ b → b ≤ letter_z → is_blank_letter b ≡ true
 letter_true b low high = and_from (nat_le letter_a b) (nat_le b letter_z) (le-leb letter_a b low) (le-leb b letter_z high)
@@ -45,7 +46,8 @@ squares_of_letter b low high = rw (letter_true b low high) refl
 
 pub squares_of_digit : (b : ℕ) → digit_zero ≤ b → b ≤ digit_nine → squares_of b ≡ (b - digit_zero) ∷ []
 squares_of_digit b low high =
-    let digit : is_digit b ≡ true = and_from (nat_le digit_zero b) (nat_le b digit_nine) (le-leb digit_zero b low) (le-leb b digit_nine high) in
+    let digit : is_digit b ≡ true =
+    and_from (nat_le digit_zero b) (nat_le b digit_nine) (le-leb digit_zero b low) (le-leb b digit_nine high) in
     rw (letter_false b (omega arith), digit) refl
 
 pub squares_taken : (w : ℕ) (bs : List ℕ) → w ≤ 9 → is_square_part w bs ≡ true → IsSquareText w bs (flat_map squares_of bs)
@@ -77,7 +79,9 @@ byte_again w b bs byte =
             | inr given ↦
                 let ends : not (begins_digit bs) ≡ true = rw given.2 refl in
                 let bounds = and_from (nat_le b (digit_zero + w)) (not (begins_digit bs)) (le-leb b (digit_zero + w) given.1) ends in
-                let is_given = and_from (nat_le (digit_zero + 1) b) (nat_le b (digit_zero + w) && not (begins_digit bs)) (le-leb (digit_zero + 1) b given.0) bounds in
+                let is_given =
+                and_from (nat_le (digit_zero + 1) b) (nat_le b (digit_zero + w) && not (begins_digit bs))
+                (le-leb (digit_zero + 1) b given.0) bounds in
                 or_right (b == underscore) (is_blank_letter b || digit) (or_right (is_blank_letter b) digit is_given)
           ]
     ]
@@ -123,7 +127,8 @@ squares_within w (b ∷ bs) squares text =
       | inr other ↦
           elim other [
             | inl letter ↦
-                subst (AllByRecursion (λ s. s ≤ w)) (sym letter.2.1) (zeros_within w (blanks_of b) letter.2.0 (squares_within w bs letter.2.0 letter.2.2))
+                subst (AllByRecursion (λ s. s ≤ w)) (sym letter.2.1)
+                (zeros_within w (blanks_of b) letter.2.0 (squares_within w bs letter.2.0 letter.2.2))
             | inr given ↦
                 subst (AllByRecursion (λ s. s ≤ w)) (sym given.3.1) (omega arith, squares_within w bs given.3.0 given.3.2)
           ]

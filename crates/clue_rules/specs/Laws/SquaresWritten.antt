@@ -40,7 +40,8 @@ run_text w k r bs squares small text =
     ∙ ap (λ xs. xs ++ squares) (replicate-append-replicate (k * 26) (r + 1) 0) in
     let bytes : replicate k letter_z ++ ((letter_a + r) ∷ bs) ≡ (replicate k letter_z ++ ((letter_a + r) ∷ [])) ++ bs =
     sym (append_assoc (replicate k letter_z) ((letter_a + r) ∷ []) bs) in
-    subst (λ t. IsSquareText w t (replicate (k * 26 + (r + 1)) 0 ++ squares)) bytes (subst (IsSquareText w (replicate k letter_z ++ ((letter_a + r) ∷ bs))) runs whole)
+    subst (λ t. IsSquareText w t (replicate (k * 26 + (r + 1)) 0 ++ squares)) bytes
+    (subst (IsSquareText w (replicate k letter_z ++ ((letter_a + r) ∷ bs))) runs whole)
 
 -- the letters of a run of blanks
 blanks_text : (w n : ℕ) (bs squares : List ℕ) → IsSquareText w bs squares
@@ -116,7 +117,8 @@ written_text w n after_given (s ∷ ss) within =
     elim (s == 0) as (λ t. (s == 0) ≡ t → IsSquareText w (if t then squares_written (n + 1) after_given ss else (given_written n after_given s ++ squares_written 0 true ss)) (replicate n 0 ++ s ∷ ss)) [
       | true ↦ λ none.
           let e = eqb-true s 0 none in
-          let squares_are : replicate (n + 1) 0 ++ ss ≡ replicate n 0 ++ s ∷ ss = zeros_more n ss ∙ ap (λ x. replicate n 0 ++ x ∷ ss) (sym e) in
+          let squares_are : replicate (n + 1) 0 ++ ss ≡ replicate n 0 ++ s ∷ ss =
+          zeros_more n ss ∙ ap (λ x. replicate n 0 ++ x ∷ ss) (sym e) in
           subst (IsSquareText w (squares_written (n + 1) after_given ss)) squares_are (written_text w (n + 1) after_given ss within.1)
       | false ↦ λ some.
           subst (λ t. IsSquareText w t (replicate n 0 ++ s ∷ ss)) (given_whole n after_given s (squares_written 0 true ss)) (blanks_text w n _ (s ∷ ss) (given_text w s ((n == 0) && after_given) (squares_written 0 true ss) ss (eqb-false s 0 some) within.0 (begins_written 0 ss) (written_text w 0 true ss within.1)))

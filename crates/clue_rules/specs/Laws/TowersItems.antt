@@ -69,7 +69,9 @@ few_items w low high = small_widths (λ n. towers_items n ≤ 96) (omega arith) 
 pub cut_agrees : (v : TowersValue) (a b : ℕ → Bool) → IsTowers v
     → ((i : ℕ) → i < towers_items v.size → has_towers v i ≡ true → a i ≡ b i) → cut_towers v a ≡ cut_towers v b
 cut_agrees v a b h same =
-    let kept = items_agree (nat_lt 0) zero not_positive (4 * v.size) v.clues v.givens a b h.clue_count (λ i inside has. same i (omega (arith, h.given_count)) has) in
+    let kept =
+    items_agree (nat_lt 0) zero not_positive (4 * v.size) v.clues v.givens a b h.clue_count
+    (λ i inside has. same i (omega (arith, h.given_count)) has) in
     rw (kept.0, kept.1) refl
 
 -- a cut loses no solution

@@ -109,5 +109,7 @@ written_parts w front givens count within =
 pub towers_canonical : (p : TowersValue) → IsTowers p → IsTowersText p (towers_text p)
 towers_canonical p puzzle = record {
   puzzle = puzzle;
-  parts = written_parts p.size (clue_part p.clues) p.givens puzzle.given_count (recursion_from_All (λ n. n ≤ p.size) p.givens puzzle.givens_within);
+  parts =
+      written_parts p.size (clue_part p.clues) p.givens puzzle.given_count
+      (recursion_from_All (λ n. n ≤ p.size) p.givens puzzle.givens_within);
 }

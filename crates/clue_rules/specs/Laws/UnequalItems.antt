@@ -56,7 +56,9 @@ not_present SecondGreater h = cc
 pub cut_agrees : (v : UnequalValue) (a b : ℕ → Bool) → IsUnequal v
     → ((i : ℕ) → i < unequal_items v.size → has_unequal v i ≡ true → a i ≡ b i) → cut_unequal v a ≡ cut_unequal v b
 cut_agrees v a b h same =
-    let kept = items_agree is_present Absent not_present (sign_count v.size) v.signs v.givens a b h.signs (λ i inside has. same i (omega (arith, h.givens.count)) has) in
+    let kept =
+    items_agree is_present Absent not_present (sign_count v.size) v.signs v.givens a b h.signs
+    (λ i inside has. same i (omega (arith, h.givens.count)) has) in
     rw (kept.0, kept.1) refl
 
 sign_lost : (b : Bool) (s : Sign) (x y : ℕ) → holds_sign s x y ≡ true → holds_sign (if b then s else Absent) x y ≡ true

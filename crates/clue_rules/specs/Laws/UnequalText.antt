@@ -128,14 +128,17 @@ again_pieces v text h =
     let signs : (puzzle_in w bytes).signs ≡ v.signs =
     ext_get_or Absent (puzzle_in w bytes).signs v.signs (length-map-range_with_len _ 0 (sign_count w) ∙ sym h.puzzle.signs)
     (λ i low.
-    let inside : i < sign_count v.size = omega (arith, length-map-range_with_len (λ j. said_sign (first_says w bytes j) (second_says w bytes j)) 0 (sign_count w)) in
+    let inside : i < sign_count v.size =
+    omega (arith, length-map-range_with_len (λ j. said_sign (first_says w bytes j) (second_says w bytes j)) 0 (sign_count w)) in
     read_sign w i bytes inside
     ∙ sign_matches (sign_at v i) (side_says w bytes i) (λ side e. said.said i side inside e) (λ side e. said.there i side inside e)) in
     let givens : (puzzle_in w bytes).givens ≡ v.givens = numbers_again w pieces within ∙ h.numbers in (
       record {
         numbers = good_numbers w pieces within;
         letters = good_letters pieces;
-        inside = range_all (points_inside w bytes) 0 (w * w) (λ cell low high. rw (letters_at pieces cell) (inside_letters w cell (directions_at pieces cell) (h.inside cell)));
+        inside =
+            range_all (points_inside w bytes) 0 (w * w)
+            (λ cell low high. rw (letters_at pieces cell) (inside_letters w cell (directions_at pieces cell) (h.inside cell)));
         agree = contradicts_signs w bytes small ∙ range_none _ 0 (sign_count w) (λ i low high.
             not_both (first_says w bytes i) (second_says w bytes i) (λ f g.
             let one = said.there i First (omega arith) f in
@@ -148,7 +151,8 @@ again_pieces v text h =
 pub unequal_again : (text : List ℕ) (v : UnequalValue) → IsUnequalText v text → unequal_at v.size text ≡ Ok v
 unfolding unequal_at
 unequal_again text v h =
-    let count : length h.pieces ≡ v.size * v.size = sym (length-map h.pieces (λ p. p.number)) ∙ ap length h.numbers ∙ h.puzzle.givens.count in
+    let count : length h.pieces ≡ v.size * v.size =
+    sym (length-map h.pieces (λ p. p.number)) ∙ ap length h.numbers ∙ h.puzzle.givens.count in
     let some : 0 < length h.pieces = omega (arith, square_some v.size h.puzzle.givens.smallest) in
     let split : pieces_of text ≡ map piece_text h.pieces = pieces_some text h.pieces some h.written in
     let good = again_pieces v text h in

@@ -16,7 +16,8 @@ returns-else-left-eq0-clause-filled c =
     let w = c.args.givens.now.size in
     let width : c.get-width.result ≡ w = omega arith in
     let area : c.get-width.result * c.get-width.result ≡ w * w = ap (λ n. n * n) width in
-    rw c.set.ensures.numbers (filled_one 0 (w * w) c.args.cell (c.args.byte - digit_zero) c.args.givens.now.numbers c.requires.filled (omega arith)).0
+    rw c.set.ensures.numbers
+    (filled_one 0 (w * w) c.args.cell (c.args.byte - digit_zero) c.args.givens.now.numbers c.requires.filled (omega arith)).0
 
 pub returns-then-run-left-clause-filled : goal.returns-then-run-left-clause-filled
 returns-then-run-left-clause-filled c =
@@ -31,5 +32,7 @@ returns-then-run-left-clause-numbers c =
     let width : c.get-width.result ≡ w = omega arith in
     let area : c.get-width.result * c.get-width.result ≡ w * w = ap (λ n. n * n) width in
     let run : blanks_of c.args.byte ≡ c.args.byte - letter_a + 1 = omega arith in
-    let squares : squares_of c.args.byte ≡ replicate (c.args.byte - letter_a + 1) 0 = squares_of_letter c.args.byte (omega arith) (omega arith) ∙ ap (λ n. replicate n 0) run in
-    (filled_run 0 (w * w) c.args.cell (c.args.byte - letter_a + 1) c.args.givens.now.numbers c.requires.filled (omega arith)).1 ∙ ap (λ xs. take c.args.cell c.args.givens.now.numbers ++ xs) (sym squares)
+    let squares : squares_of c.args.byte ≡ replicate (c.args.byte - letter_a + 1) 0 =
+    squares_of_letter c.args.byte (omega arith) (omega arith) ∙ ap (λ n. replicate n 0) run in
+    (filled_run 0 (w * w) c.args.cell (c.args.byte - letter_a + 1) c.args.givens.now.numbers c.requires.filled (omega arith)).1
+    ∙ ap (λ xs. take c.args.cell c.args.givens.now.numbers ++ xs) (sym squares)

@@ -8,7 +8,8 @@ use Rattle.clue_rules.proofs.unequal.description.signs_in.Given as goal
 
 abbrev pub invariant-loop-sign : goal.invariant-loop-sign
 invariant-loop-sign l = record {
-  filled : IsFilledBy Absent 144 (λ i. said_sign (first_says l.size (texts_of l.pieces) i) (second_says l.size (texts_of l.pieces) i)) l.sign l.signs;
+  filled : IsFilledBy Absent 144
+      (λ i. said_sign (first_says l.size (texts_of l.pieces) i) (second_says l.size (texts_of l.pieces) i)) l.sign l.signs;
   agree : list_any (λ i. first_says l.size (texts_of l.pieces) i && second_says l.size (texts_of l.pieces) i) (range_with_len 0 l.sign)
       ≡ false;
 }

@@ -6,4 +6,5 @@ use Rattle.clue_rules.proofs.unequal.description.written.Goals as goal
 
 pub loop-cell-preserved : goal.loop-cell-preserved
 loop-cell-preserved c =
-    pieces_more (λ k. piece_text (piece_of c.args.puzzle.now k) ++ comma ∷ []) c.loop-cell.cell _ _ c.loop-cell.invariant c.in_ok-push_piece.ensures
+    pieces_more (λ k. piece_text (piece_of c.args.puzzle.now k) ++ comma ∷ []) c.loop-cell.cell _ _ c.loop-cell.invariant
+    c.in_ok-push_piece.ensures

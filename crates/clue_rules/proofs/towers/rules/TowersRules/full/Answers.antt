@@ -8,7 +8,8 @@ loop-place-init c = filled_none _ _ _
 
 pub loop-place-preserved : goal.loop-place-preserved
 loop-place-preserved c =
-    filled_more _ _ _ c.loop-place.place c.loop-place.clues c.seen_from.result (omega arith) c.seen_from.ensures.value c.loop-place.invariant
+    filled_more _ _ _ c.loop-place.place c.loop-place.clues c.seen_from.result (omega arith) c.seen_from.ensures.value
+    c.loop-place.invariant
 
 pub invariant_of-result : goal.invariant_of-result
 invariant_of-result c =
