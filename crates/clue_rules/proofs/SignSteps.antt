@@ -11,7 +11,7 @@ use Rattle.trail_solver.specs.Puzzles.{Solves}
 use Rattle.trail_solver.proofs.Earlier.{was_left}
 use Rattle.clue_rules.specs.Inner.Narrowing.{IsStruckByLines, KeepsOf, Narrows, StruckBelow, IsSetOf}
 use Rattle.clue_rules.specs.Unequal.{UnequalValue, IsBetween, IsGreater, sign_count, sign_at, first_side, second_side}
-use Rattle.clue_rules.specs.Unequal.{puzzle_of}
+use Rattle.clue_rules.specs.Unequal.{unequal_puzzle}
 use Rattle.clue_rules.specs.Laws.SignPlaces.{between_at}
 use Rattle.clue_rules.proofs.SignLemmas.{signs_held}
 use Rattle.clue_rules.specs.Struck.{IsUnequalStruck}
@@ -133,7 +133,7 @@ same_ends v sign a b upper lower one two =
 pub sign_narrows : (v : UnequalValue) (sign upper lower : ℕ) (old new : CandidatesValue) (left : Bool) → 3 ≤ v.size
     → sign < sign_count v.size → AreEnds v sign upper lower
     → Narrows (HoldsGreater upper lower) (IsEndStruckBy upper lower) old new left
-    → Narrows (Solves (puzzle_of v)) (IsStruckAt v sign) old new left
+    → Narrows (Solves (unequal_puzzle v)) (IsStruckAt v sign) old new left
 sign_narrows v sign upper lower old new left small inside ends h =
     narrows_for (λ g s. (
       record { is_grid = s.is_grid; latin = s.latin },
@@ -145,13 +145,13 @@ sign_narrows v sign upper lower old new left small inside ends h =
     subst (λ a. P a lower) same.0 (subst (P s.upper) same.1 s.struck)) h)
 
 pub no_sign_narrows : (v : UnequalValue) (sign : ℕ) (c : CandidatesValue) → sign_at v sign ≡ Absent
-    → Narrows (Solves (puzzle_of v)) (IsStruckAt v sign) c c true
+    → Narrows (Solves (unequal_puzzle v)) (IsStruckAt v sign) c c true
 no_sign_narrows v sign c none =
     narrows_by (λ first e cell value pair s. elim s.ends.is [
       | inl one ↦ let clash : FirstGreater ≡ Absent = sym one.0 ∙ none in cc
       | inr two ↦ let clash : SecondGreater ≡ Absent = sym two.0 ∙ none in cc
     ])
-    (narrows_nothing (Solves (puzzle_of v)) c)
+    (narrows_nothing (Solves (unequal_puzzle v)) c)
 
 -- ---- all that a puzzle strikes
 

@@ -5,7 +5,7 @@ use Rattle.std.proofs.lemmas.List.{get_or-map, take_more, take_more_set, map-app
 use Rattle.std.proofs.lemmas.List.Folds.{list_all-append, list_all_at}
 use Rattle.latin_board.specs.Squares.{GridValue}
 use Rattle.clue_rules.specs.Inner.UnequalPieces.{texts_of}
-use Rattle.clue_rules.specs.UnequalText.{number_in, has_number, givens_grid}
+use Rattle.clue_rules.specs.UnequalText.{number_in, has_number, grid_in}
 
 -- one piece more that has a number
 pub good_more : (w i n : ℕ) (pieces : List (List ℕ)) → i < length pieces → list_all (has_number w) (take i pieces) ≡ true
@@ -36,11 +36,11 @@ piece_here pieces i w d o inside e = rw (get_or-map (λ p. p.now) pieces i d [] 
 pub givens_read : (w i : ℕ) (g : GridValue) (pieces : List (List ℕ)) → g.size ≡ w → length g.numbers ≡ length pieces
     → length pieces ≤ i → list_all (has_number w) (take i pieces) ≡ true
     → take i g.numbers ≡ map (λ p. unwrap_or (number_in w p) 0) (take i pieces)
-    → Some g ≡ (if list_all (has_number w) pieces then Some (givens_grid w pieces) else None)
+    → Some g ≡ (if list_all (has_number w) pieces then Some (grid_in w pieces) else None)
 givens_read w i g pieces size count all good numbers =
     let whole : take i pieces ≡ pieces = take_all i pieces all in
     let read : g.numbers ≡ map (λ p. unwrap_or (number_in w p) 0) pieces =
     sym (take_all i g.numbers (omega arith)) ∙ numbers ∙ ap (map (λ p. unwrap_or (number_in w p) 0)) whole in
     let each : list_all (has_number w) pieces ≡ true = rw whole at good in
-    let same : g ≡ givens_grid w pieces = λ j. record { size = size j; numbers = read j } in
+    let same : g ≡ grid_in w pieces = λ j. record { size = size j; numbers = read j } in
     rw each (ap (λ x. Some x) same)

@@ -118,8 +118,8 @@ abbrev pub is_greater : UnequalValue → ℕ → ℕ → Bool
 is_greater v a b = says_first (sign_of_pair v a b) || says_second (sign_of_pair v b a)
 
 -- what generic code knows of the puzzle: no edge has a clue
-abbrev pub puzzle_of : UnequalValue → Puzzle
-puzzle_of v = record {
+abbrev pub unequal_puzzle : UnequalValue → Puzzle
+unequal_puzzle v = record {
   size = v.size;
   given = λ cell. slice_index v.givens cell;
   meets = holds_signs v;

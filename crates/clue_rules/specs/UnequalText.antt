@@ -154,15 +154,15 @@ contradicts w pieces =
     list_any (λ a. list_any (λ b. says_greater w pieces a b && says_greater w pieces b a) (range_with_len 0 (w * w)))
     (range_with_len 0 (w * w))
 
-abbrev pub givens_grid : ℕ → List (List ℕ) → GridValue
-givens_grid w pieces = record { size = w; numbers = map (λ piece. unwrap_or (number_in w piece) 0) pieces }
+abbrev pub grid_in : ℕ → List (List ℕ) → GridValue
+grid_in w pieces = record { size = w; numbers = map (λ piece. unwrap_or (number_in w piece) 0) pieces }
 
 -- the puzzle that pieces describe
 abbrev pub puzzle_in : ℕ → List (List ℕ) → UnequalValue
 puzzle_in w pieces = record {
   size = w;
   signs = map (λ i. said_sign (first_says w pieces i) (second_says w pieces i)) (range_with_len 0 (sign_count w));
-  givens = (givens_grid w pieces).numbers;
+  givens = (grid_in w pieces).numbers;
 }
 
 -- that puzzle, or the first of the faults that lie in the pieces

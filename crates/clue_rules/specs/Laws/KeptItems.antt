@@ -3,7 +3,7 @@ use Rattle.std.proofs.Common.{◌≡◌, ℕ, zero, suc, ◌+◌, ◌-◌, ◌*�
 use Rattle.std.specs.List.{AllByRecursion, All}
 use Rattle.std.proofs.lemmas.Bool.{lt-ltb, le-ltb, cases_lt, and_right}
 use Rattle.std.proofs.lemmas.List.Elements.{All-from_recursion, recursion_from_All}
-use Rattle.latin_board.specs.Squares.{GridValue, IsLatin, number_at}
+use Rattle.latin_board.specs.Squares.{GridValue, IsGrid, IsLatin, number_at}
 use Rattle.latin_board.proofs.LatinLines.{latin_full}
 use Rattle.clue_rules.specs.Items.{kept_items}
 
@@ -69,6 +69,15 @@ kept-within w keep i (x ∷ xs) h = (either (keep i) h.0, kept-within w keep (i 
 pub All-kept : (w : ℕ) (keep : ℕ → Bool) (i : ℕ) (xs : List ℕ) → All (λ n. n ≤ w) xs → All (λ n. n ≤ w) (kept_items zero keep i xs)
 All-kept w keep i xs h =
     All-from_recursion (λ n. n ≤ w) (kept_items zero keep i xs) (kept-within w keep i xs (recursion_from_All (λ n. n ≤ w) xs h))
+
+-- a grid of givens is one still
+pub IsGrid-kept : (g : GridValue) (keep : ℕ → Bool) (i : ℕ) → IsGrid g → IsGrid (record { size = g.size; numbers = kept_items zero keep i g.numbers })
+IsGrid-kept g keep i h = record {
+  smallest = h.smallest;
+  largest = h.largest;
+  count = length-kept zero keep i g.numbers ∙ h.count;
+  within = All-kept g.size keep i g.numbers h.within;
+}
 
 -- what an item asks for, it asks for still if it is kept
 pub still_asked : (keep : ℕ → Bool) (i : ℕ) (xs : List ℕ) (k number : ℕ) → (0 < slice_index xs k → number ≡ slice_index xs k)

@@ -12,9 +12,9 @@ use Rattle.latin_board.proofs.LatinTest.{all_in_range}
 use Rattle.tower_lines.specs.TowersSeen.{seen}
 use Rattle.tower_lines.proofs.SeenLemmas.{seen_most, seen_some}
 use Rattle.trail_solver.specs.Puzzles.{Solves}
-use Rattle.clue_rules.specs.Towers.{TowersValue, IsTowers, clue_of, HoldsClues, meets_clue, meets_clues, towers_puzzle, towers_items, has_towers, cut_towers, full_towers}
+use Rattle.clue_rules.specs.Towers.{TowersValue, IsTowers, clue_of, HoldsClues, holds_clue, holds_clues, towers_puzzle, towers_items, has_towers, cut_towers, full_towers, given_grid}
 use Rattle.clue_rules.specs.Views.{view_of}
-use Rattle.clue_rules.specs.Laws.KeptItems.{length-kept, kept-all, kept-kept, All-kept, still_asked, has_item-kept, items_agree, has_item-full, not_positive, small_widths}
+use Rattle.clue_rules.specs.Laws.KeptItems.{length-kept, kept-all, kept-kept, All-kept, still_asked, has_item-kept, items_agree, has_item-full, not_positive, small_widths, IsGrid-kept}
 use Rattle.clue_rules.specs.Laws.Edges.{edge_cases}
 
 -- ---- the test of the clues
@@ -26,32 +26,29 @@ one_clue_decides n m =
     (λ h. elim (cases_lt 0 n) [ inl low ↦ inr (h low) | inr none ↦ inl (omega arith) ])
     (Decides-or _ _ (Decides-eqb n 0) (Decides-eqb m n))
 
-pub clues_decide : (v : TowersValue) (g : GridValue) → Decides (meets_clues v g) (HoldsClues v g)
+pub clues_decide : (v : TowersValue) (g : GridValue) → Decides (holds_clues v g) (HoldsClues v g)
 clues_decide v g =
-    Decides-like (meets_clues v g)
+    Decides-like (holds_clues v g)
     (λ all. record { each = λ place inside. all place (omega arith) (omega arith) })
     (λ h place low inside. h.each place (omega arith))
-    (all_in_range (meets_clue v g) (λ place. 0 < clue_of v place → seen (view_of g place) ≡ clue_of v place)
+    (all_in_range (holds_clue v g) (λ place. 0 < clue_of v place → seen (view_of g place) ≡ clue_of v place)
     (λ place. one_clue_decides (clue_of v place) (seen (view_of g place))) 0 (4 * v.size))
 
 -- ---- what holds of every puzzle
 
 pub valid_size : (v : TowersValue) → IsTowers v → (3 ≤ v.size) × (v.size ≤ 9)
-valid_size v h = (h.smallest, h.largest)
+valid_size v h = (h.givens.smallest, h.givens.largest)
 
 pub valid_given : (v : TowersValue) (cell : ℕ) → IsTowers v → cell < v.size * v.size → slice_index v.givens cell ≤ v.size
-valid_given v cell h inside = h.givens_within cell 0 (rw h.given_count inside)
+valid_given v cell h inside = h.givens.within cell 0 (rw h.givens.count inside)
 
 -- ---- cuts
 
 pub cut_valid : (v : TowersValue) (keep : ℕ → Bool) → IsTowers v → IsTowers (cut_towers v keep)
 cut_valid v keep h = record {
-  smallest = h.smallest;
-  largest = h.largest;
+  givens = IsGrid-kept (given_grid v) keep (4 * v.size) h.givens;
   clue_count = length-kept zero keep 0 v.clues ∙ h.clue_count;
   clues_within = All-kept v.size keep 0 v.clues h.clues_within;
-  given_count = length-kept zero keep (4 * v.size) v.givens ∙ h.given_count;
-  givens_within = All-kept v.size keep (4 * v.size) v.givens h.givens_within;
 }
 
 pub cut_has : (v : TowersValue) (keep : ℕ → Bool) (i : ℕ) → has_towers (cut_towers v keep) i ≡ (has_towers v i && keep i)
@@ -71,7 +68,7 @@ pub cut_agrees : (v : TowersValue) (a b : ℕ → Bool) → IsTowers v
 cut_agrees v a b h same =
     let kept =
     items_agree (nat_lt 0) zero not_positive (4 * v.size) v.clues v.givens a b h.clue_count
-    (λ i inside has. same i (omega (arith, h.given_count)) has) in
+    (λ i inside has. same i (omega (arith, h.givens.count)) has) in
     rw (kept.0, kept.1) refl
 
 -- a cut loses no solution
@@ -112,14 +109,11 @@ full_clue g place inside =
 
 pub full_valid : (g : GridValue) → IsGrid g → IsTowers (full_towers g)
 full_valid g h = record {
-  smallest = h.smallest;
-  largest = h.largest;
+  givens = h;
   clue_count = length-map-range_with_len (λ place. seen (view_of g place)) 0 (4 * g.size);
   clues_within =
       All-map (λ n. n ≤ g.size) (λ place. seen (view_of g place)) (range_with_len 0 (4 * g.size))
       (λ k d inside. seen_within g (slice_index_or (range_with_len 0 (4 * g.size)) k d));
-  given_count = h.count;
-  givens_within = h.within;
 }
 
 pub full_has : (g : GridValue) (i : ℕ) → IsGrid g → IsLatin g → i < towers_items g.size → has_towers (full_towers g) i ≡ true

@@ -52,12 +52,14 @@ towers_taken w text p small large read =
     let value : TowersValue = record { size = w; clues = first.0; givens = second.0 } in
     let is : value ≡ p = cc in
     let puzzle : IsTowers value = record {
-      smallest = small;
-      largest = large;
+      givens = record {
+        smallest = small;
+        largest = large;
+        count = squares.0;
+        within = All-from_recursion (λ n. n ≤ w) second.0 squares.1;
+      };
       clue_count = clues.1;
       clues_within = All-from_recursion (λ n. n ≤ w) first.0 clues.2;
-      given_count = squares.0;
-      givens_within = All-from_recursion (λ n. n ≤ w) second.0 squares.1;
     } in
     let parts = subst (λ front. SquaresBehind w text front second.0) clues.0 squares.2 in
     subst (λ v. IsTowersText v text × IsTowers v × (v.size ≡ w)) is (record { puzzle = puzzle; parts = parts }, puzzle, refl)
@@ -81,10 +83,10 @@ cut_again w text clues givens small count parts =
 pub towers_again : (text : List ℕ) (p : TowersValue) → IsTowersText p text → towers_at p.size text ≡ Ok p
 unfolding towers_at
 towers_again text p h =
-    let read = cut_again p.size text p.clues p.givens h.puzzle.largest h.puzzle.given_count h.parts in
+    let read = cut_again p.size text p.clues p.givens h.puzzle.givens.largest h.puzzle.givens.count h.parts in
     let within = recursion_from_All (λ n. n ≤ p.size) p.clues h.puzzle.clues_within in
     let clues : clues_at p.size (before comma text) ≡ Ok p.clues =
-    ap (clues_at p.size) read.0 ∙ clues_again p.size p.clues (omega (arith, h.puzzle.smallest)) h.puzzle.clue_count within in
+    ap (clues_at p.size) read.0 ∙ clues_again p.size p.clues (omega (arith, h.puzzle.givens.smallest)) h.puzzle.clue_count within in
     bind_again (clues_at p.size (before comma text)) (λ clues. givens_behind p.size (behind comma text) >>= made p.size clues) p.clues clues
     ∙ bind_again (givens_behind p.size (behind comma text)) (made p.size p.clues) p.givens read.1
 
@@ -110,6 +112,6 @@ pub towers_canonical : (p : TowersValue) → IsTowers p → IsTowersText p (towe
 towers_canonical p puzzle = record {
   puzzle = puzzle;
   parts =
-      written_parts p.size (clue_part p.clues) p.givens puzzle.given_count
-      (recursion_from_All (λ n. n ≤ p.size) p.givens puzzle.givens_within);
+      written_parts p.size (clue_part p.clues) p.givens puzzle.givens.count
+      (recursion_from_All (λ n. n ≤ p.size) p.givens puzzle.givens.within);
 }

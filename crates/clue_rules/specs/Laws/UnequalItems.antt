@@ -9,10 +9,10 @@ use Rattle.latin_board.proofs.LatinLines.{peers_differ}
 use Rattle.trail_solver.specs.Puzzles.{Solves}
 use Rattle.clue_rules.specs.declared.unequal.sign.Sign.{Sign}
 use Rattle.clue_rules.specs.declared.unequal.sign.Sign.TheVariants.{Absent, FirstGreater, SecondGreater}
-use Rattle.clue_rules.specs.Unequal.{UnequalValue, IsUnequal, IsAcross, IsDown, sign_count, sign_at, first_side, second_side, holds_sign, puzzle_of, unequal_items, is_present, has_unequal, cut_unequal, sign_of, full_unequal}
+use Rattle.clue_rules.specs.Unequal.{UnequalValue, IsUnequal, IsAcross, IsDown, sign_count, sign_at, first_side, second_side, holds_sign, unequal_puzzle, unequal_items, is_present, has_unequal, cut_unequal, sign_of, full_unequal, given_grid}
 use Rattle.clue_rules.specs.Laws.SignPlaces.{sides_at, between_at}
 use Rattle.clue_rules.specs.Laws.RangeTests.{all_in_range, range_all}
-use Rattle.clue_rules.specs.Laws.KeptItems.{length-kept, entry-kept, kept-all, kept-kept, All-kept, still_asked, has_item-kept, items_agree, has_item-full, small_widths}
+use Rattle.clue_rules.specs.Laws.KeptItems.{length-kept, entry-kept, kept-all, kept-kept, still_asked, has_item-kept, items_agree, has_item-full, small_widths, IsGrid-kept}
 
 -- what holds of every puzzle
 
@@ -26,12 +26,7 @@ valid_given v cell h inside = h.givens.within cell 0 (rw h.givens.count inside)
 
 pub cut_valid : (v : UnequalValue) (keep : ℕ → Bool) → IsUnequal v → IsUnequal (cut_unequal v keep)
 cut_valid v keep h = record {
-  givens = record {
-    smallest = h.givens.smallest;
-    largest = h.givens.largest;
-    count = length-kept zero keep (sign_count v.size) v.givens ∙ h.givens.count;
-    within = All-kept v.size keep (sign_count v.size) v.givens h.givens.within;
-  };
+  givens = IsGrid-kept (given_grid v) keep (sign_count v.size) h.givens;
   signs = length-kept Absent keep 0 v.signs ∙ h.signs;
 }
 
@@ -66,7 +61,7 @@ sign_lost true s x y h = h
 sign_lost false s x y h = refl
 
 -- a cut loses no solution
-pub cut_solved : (v : UnequalValue) (keep : ℕ → Bool) (g : GridValue) → Solves (puzzle_of v) g → Solves (puzzle_of (cut_unequal v keep)) g
+pub cut_solved : (v : UnequalValue) (keep : ℕ → Bool) (g : GridValue) → Solves (unequal_puzzle v) g → Solves (unequal_puzzle (cut_unequal v keep)) g
 cut_solved v keep g h = record {
   is_grid = h.is_grid;
   same_size = h.same_size;
@@ -101,7 +96,7 @@ sign_of_holds x y = elim (cases_lt y x) [
   ]
 ]
 
-pub full_solved : (g : GridValue) → IsGrid g → IsLatin g → Solves (puzzle_of (full_unequal g)) g
+pub full_solved : (g : GridValue) → IsGrid g → IsLatin g → Solves (unequal_puzzle (full_unequal g)) g
 full_solved g is_grid latin = record {
   is_grid = is_grid;
   same_size = refl;

@@ -6,7 +6,7 @@ ghost use Rattle.trail_solver.specs.Puzzles.{Solves};
 ghost use Rattle.clue_rules.specs.declared.unequal.sign.Sign.TheVariants.{Absent};
 ghost use Rattle.clue_rules.specs.Inner.Narrowing.{IsSquare, Narrows};
 ghost use Rattle.clue_rules.specs.Unequal.{sign_at, sign_count};
-ghost use Rattle.clue_rules.specs.Unequal.{puzzle_of};
+ghost use Rattle.clue_rules.specs.Unequal.{unequal_puzzle};
 ghost use Rattle.clue_rules.specs.Inner.UnequalLines.{AreEnds, IsLowerStruck, IsUpperStruck, IsEndStruckBy, IsStruckAt, IsStruckAlong, line_sign, HoldsGreater};
 
 use crate::lines::changed::ChangedLines;
@@ -20,12 +20,12 @@ use trail_solver::Candidates;
 
 impl LineRules for Unequal {
     ghost use Rattle.trail_solver.specs.Puzzles.{Solves};
-    ghost use Rattle.clue_rules.specs.Unequal.{puzzle_of};
+    ghost use Rattle.clue_rules.specs.Unequal.{unequal_puzzle};
     ghost use Rattle.clue_rules.specs.Inner.UnequalLines.{IsStruckAlong};
 
     ghost width = { λ v. v.size };
 
-    ghost sought = { λ v g. Solves (puzzle_of v) g };
+    ghost sought = { λ v g. Solves (unequal_puzzle v) g };
 
     ghost rules_out = { IsStruckAlong };
 
@@ -57,7 +57,7 @@ impl Unequal {
     ) -> bool
         requires size { candidates.old.size ≡ self.now.size }
         requires sign { sign < sign_count self.now.size }
-        ensures { Narrows (Solves (puzzle_of self.now)) (IsStruckAt self.now sign)
+        ensures { Narrows (Solves (unequal_puzzle self.now)) (IsStruckAt self.now sign)
             candidates.old candidates.new result }
     {
         // The proof learns here that the width is from 3 to 9.
