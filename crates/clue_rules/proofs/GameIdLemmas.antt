@@ -9,7 +9,7 @@ use Rattle.clue_rules.specs.declared.game_id.GameId.TheVariants.{Described, Seed
 use Rattle.clue_rules.specs.declared.params.Params.{Params}
 use Rattle.trail_solver.specs.Puzzles.{Puzzle}
 use Rattle.clue_rules.specs.Parameters.{params_at, IsParams, letter_part, params_text, IsParamText, if_no_more, letter_at, behind_size, is_size}
-use Rattle.clue_rules.specs.GameIds.{is_separator, params_part, from_separator, seeded, behind_params, id_parts_at, with_description, id_at, id_map, LacksSeparators, describes_at, IsIdText, IsAnyText}
+use Rattle.clue_rules.specs.GameIds.{is_separator, params_part, from_separator, seeded, behind_params, id_parts_at, with_description, id_at, id_map, LacksSeparators, describes_at, IsIdText, IsAnyText, largest_seed}
 use Rattle.std.proofs.Common.{◌≡◌, IfOk, ◌≢◌, ℕ, ◌+◌, ◌^◌, ◌<◌, ◌≤◌, Bool, true, false, ◌==◌, ◌||◌, List, [], ◌∷◌, ◌++◌, Option, Some, None, IfSome, Result, Ok, Err, refl, sym, ap, ◌∙◌, subst, arith, inl, inr, ◌-◌, ◌&&◌, if◌then◌else◌}
 use Rattle.std.specs.List.{AllByRecursion, Contains, list_any}
 use Rattle.std.specs.Fmt.{decimal}
@@ -44,6 +44,7 @@ split_taken (b ∷ bs) separator rest =
           (ap (λ xs. b ∷ xs) more.0, more.1)
     ] refl
 
+-- no byte of the text is a separator
 abbrev NoSeparators : List ℕ → Type 0
 NoSeparators bs = AllByRecursion (λ b. is_separator b ≡ false) bs
 
@@ -74,20 +75,20 @@ abbrev Behind : Params → List ℕ → GameId (List ℕ) → Type 0
 Behind p bs (Described q desc) = (q ≡ p) × ((separator : ℕ) × (bs ≡ separator ∷ desc) × (separator ≢ hash) × (separator ≢ exclamation))
 Behind p bs (Seeded q seed) = (q ≡ p) × (seed < 2 ^ 64) × (bs ≡ exclamation ∷ decimal seed)
 
-seed_taken : (p : Params) (bs : List ℕ) (seed : Option ℕ) (parts : GameId (List ℕ)) → decimal_value 18446744073709551615 bs ≡ seed
+seed_taken : (p : Params) (bs : List ℕ) (seed : Option ℕ) (parts : GameId (List ℕ)) → decimal_value largest_seed bs ≡ seed
     → seeded p seed ≡ Ok parts → Behind p (exclamation ∷ bs) parts
 seed_taken p bs None parts number read = cc
 seed_taken p bs (Some seed) parts number read =
     let is : Seeded p seed ≡ parts = cc in
-    let taken = number_taken 18446744073709551615 seed bs (omega arith) number in
+    let taken = number_taken largest_seed seed bs (omega arith) number in
     subst (Behind p (exclamation ∷ bs)) is (refl, omega (arith, taken.1), ap (λ xs. exclamation ∷ xs) taken.0)
 
 behind_params_taken : (p : Params) (bs : List ℕ) (parts : GameId (List ℕ)) → behind_params p bs ≡ Ok parts → Behind p bs parts
 behind_params_taken p [] parts = λ read. cc
 behind_params_taken p (b ∷ bs) parts = λ read.
     let own = refused_then (b == hash) ForeignSeed _ parts read in
-    elim (b == exclamation) as (λ t. (b == exclamation) ≡ t → (if t then seeded p (decimal_value 18446744073709551615 bs) else Ok (Described p bs)) ≡ Ok parts → Behind p (b ∷ bs) parts) [
-      | true ↦ λ seed read. rw (eqb-true b exclamation seed) (seed_taken p bs (decimal_value 18446744073709551615 bs) parts refl read)
+    elim (b == exclamation) as (λ t. (b == exclamation) ≡ t → (if t then seeded p (decimal_value largest_seed bs) else Ok (Described p bs)) ≡ Ok parts → Behind p (b ∷ bs) parts) [
+      | true ↦ λ seed read. rw (eqb-true b exclamation seed) (seed_taken p bs (decimal_value largest_seed bs) parts refl read)
       | false ↦ λ described read.
           let is : Described p bs ≡ parts = cc in
           subst (Behind p (b ∷ bs)) is (refl, (b, refl, eqb-false b hash own.0, eqb-false b exclamation described))
@@ -147,8 +148,8 @@ id_parts_again letters has_adjacent text (Described p desc) lacks h =
     let text_is : text ≡ params_text p ++ colon ∷ desc = h.1.1 ∙ ap (λ xs. params_text p ++ colon ∷ xs) (sym h.1.2) in
     ap (id_parts_at letters has_adjacent) text_is ∙ split_params letters has_adjacent p colon desc lacks h.0 refl
 id_parts_again letters has_adjacent text (Seeded p seed) lacks h =
-    let read : decimal_value 18446744073709551615 (decimal seed) ≡ Some seed =
-    number_again 18446744073709551615 seed (omega (arith, h.1)) (omega arith) in
+    let read : decimal_value largest_seed (decimal seed) ≡ Some seed =
+    number_again largest_seed seed (omega (arith, h.1)) (omega arith) in
     ap (id_parts_at letters has_adjacent) h.2
     ∙ (split_params letters has_adjacent p exclamation (decimal seed) lacks h.0 refl ∙ ap (seeded p) read)
 
@@ -250,7 +251,7 @@ parts_spare : (p : Params) (bs : List ℕ) → SparesMemory (behind_params p bs)
 parts_spare p [] = λ e. cc
 parts_spare p (b ∷ bs) =
     spares-if (b == hash) (Err ForeignSeed) _ (λ e. cc)
-    (spares-if (b == exclamation) _ (Ok (Described p bs)) (seed_spares p (decimal_value 18446744073709551615 bs)) tt)
+    (spares-if (b == exclamation) _ (Ok (Described p bs)) (seed_spares p (decimal_value largest_seed bs)) tt)
 
 description_spares : {D : Type 0} (desc_at : ℕ → List ℕ → Result D IdFault)
     → ((w : ℕ) (text : List ℕ) → SparesMemory (desc_at w text)) → (id : GameId (List ℕ))

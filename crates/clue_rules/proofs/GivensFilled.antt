@@ -1,4 +1,4 @@
--- What is known while the givens are filled.
+-- The givens of a Towers description, filled byte by byte.
 use Rattle.std.proofs.Common.{◌≡◌, ℕ, ◌+◌, ◌-◌, ◌*◌, ◌<◌, ◌≤◌, true, List, [], ◌∷◌, ◌++◌, length, take, replicate, Ok, Err, inl, inr, refl, sym, ap, ◌∙◌, subst, arith, append_assoc, append-nil, length-append, All, take_all}
 use Rattle.std.specs.List.{flat_map}
 use Rattle.std.proofs.lemmas.List.Elements.{All-nil, All-cons, All-replicate, All-head}
@@ -32,6 +32,7 @@ byte_within w b bs small is =
 pub digit_within : (w b : ℕ) → digit_zero ≤ b → b ≤ digit_nine → All (λ n. n ≤ w) (squares_of b) → b - digit_zero ≤ w
 digit_within w b low high within = All-head (λ n. n ≤ w) (b - digit_zero) [] (subst (All (λ n. n ≤ w)) (squares_of_digit b low high) within)
 
+-- what is known while the givens are filled: the squares so far, and the part that is left
 pub record FillsGivens (w : ℕ) (part rest : List ℕ) (cell : ℕ) (numbers : List ℕ) : Type 0 where
   pub filled : IsFilledTo 0 (w * w) cell numbers
   pub readable : is_square_part w rest ≡ true

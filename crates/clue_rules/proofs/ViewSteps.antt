@@ -17,7 +17,7 @@ use Rattle.clue_rules.specs.Laws.TowersItems.{length-view_of, clues_decide}
 use Rattle.clue_rules.specs.Towers.{towers_puzzle}
 use Rattle.clue_rules.specs.Towers.{TowersValue}
 use Rattle.clue_rules.specs.Struck.{IsViewFilling, IsViewStruck, IsTowersStruck}
-use Rattle.clue_rules.specs.Inner.TowersLines.{IsEndStruck, IsClueStruck, ShowsClue, AreSupported, KeepSupported}
+use Rattle.clue_rules.specs.Inner.TowersLines.{IsStruckAlong, IsStruckAt, ShowsClue, AreSupported, KeepSupported}
 use Rattle.clue_rules.specs.Views.{view_of, view_cell, view_line, view_index, front_place}
 use Rattle.clue_rules.specs.Towers.{clue_of}
 use Rattle.clue_rules.proofs.LineSteps.{along_narrows, grid_pair, in_set}
@@ -158,7 +158,8 @@ view_struck c place clue sets kept is small supported first e cell v s = (
 
 pub view_narrows : (old new : CandidatesValue) (place clue : ℕ) (sets kept : List ℕ) (left : Bool) → place < 4 * old.size
     → AreSetsOf old place sets → old.size ≤ 9
-    → AreSupported old.size clue sets kept → KeepSupported old.size clue sets kept → KeepsAlong place kept old new left → Narrows (ShowsClue place clue) (IsViewStruck place clue) old new left
+    → AreSupported old.size clue sets kept → KeepSupported old.size clue sets kept → KeepsAlong place kept old new left
+    → Narrows (ShowsClue place clue) (IsViewStruck place clue) old new left
 view_narrows old new place clue sets kept left inside is small supported keeps h =
     along_narrows (λ g s size w k low. view_solved old place clue sets kept g inside is small keeps s.0 s.1 size w k low)
     (λ first e cell v s. view_struck old place clue sets kept is small supported first e cell v s) h
@@ -175,14 +176,14 @@ view_kept c place clue sets inside is small supported =
 -- ---- a clue of a puzzle, and the clues at both ends of a line
 
 pub no_clue_narrows : (v : TowersValue) (place : ℕ) (c : CandidatesValue) → clue_of v place ≡ 0
-    → Narrows (Solves (towers_puzzle v)) (IsClueStruck v place) c c true
+    → Narrows (Solves (towers_puzzle v)) (IsStruckAt v place) c c true
 no_clue_narrows v place c none =
     narrows_by (λ first e cell value pair s. absurd (omega (arith, s.0))) (narrows_nothing (Solves (towers_puzzle v)) c)
 
 pub clue_narrows : (v : TowersValue) (place clue : ℕ) (old new : CandidatesValue) (left : Bool) → old.size ≡ v.size
     → place < 4 * old.size → clue ≡ clue_of v place → clue ≢ 0
     → Narrows (ShowsClue place clue) (IsViewStruck place clue) old new left
-    → Narrows (Solves (towers_puzzle v)) (IsClueStruck v place) old new left
+    → Narrows (Solves (towers_puzzle v)) (IsStruckAt v place) old new left
 clue_narrows v place clue old new left size inside is some h =
     narrows_for (λ g s. (
       record { is_grid = s.is_grid; latin = s.latin },
@@ -202,12 +203,12 @@ ends w place line inside =
 
 pub ends_narrow : (v : TowersValue) (line front back : ℕ) (old between new : CandidatesValue) (left : Bool)
     → front ≡ front_place old.size line → back ≡ front + old.size
-    → Narrows (Solves (towers_puzzle v)) (IsClueStruck v front) old between true
-    → Narrows (Solves (towers_puzzle v)) (IsClueStruck v back) between new left
-    → Narrows (Solves (towers_puzzle v)) (IsEndStruck v line) old new left
+    → Narrows (Solves (towers_puzzle v)) (IsStruckAt v front) old between true
+    → Narrows (Solves (towers_puzzle v)) (IsStruckAt v back) between new left
+    → Narrows (Solves (towers_puzzle v)) (IsStruckAlong v line) old new left
 ends_narrow v line front back old between new left first second one two =
     narrows_by (λ c e cell value pair s.
-    let P : ℕ → Type 0 = λ n. IsClueStruck v n c cell value in
+    let P : ℕ → Type 0 = λ n. IsStruckAt v n c cell value in
     elim (ends c.size s.place line s.place_is s.line_is) [
       | inl at ↦ inl (subst P (at ∙ ap (λ (w : ℕ). front_place w line) (sym e.size) ∙ sym first) (s.clued, s.struck))
       | inr at ↦ inr (subst P (at ∙ ap (λ (w : ℕ). front_place w line + w) (sym e.size) ∙ ap (λ (n : ℕ). n + old.size) (sym first) ∙ sym second) (s.clued, s.struck))
@@ -217,7 +218,7 @@ ends_narrow v line front back old between new left first second one two =
 -- ---- all that a puzzle strikes
 
 pub towers_by_lines : (v : TowersValue) (c : CandidatesValue) (cell value : ℕ) → IsTowersStruck v c cell value
-    → IsStruckByLines (IsEndStruck v) c cell value
+    → IsStruckByLines (IsStruckAlong v) c cell value
 towers_by_lines v c cell value struck = elim struck [
   | inl latin ↦ inl latin
   | inr tower ↦ inr (

@@ -31,10 +31,11 @@ clue_of v place = slice_index v.clues place
 pub record HoldsClues (v : TowersValue) (g : GridValue) : Type 0 where
   pub each : (place : ℕ) → place < 4 * v.size → 0 < clue_of v place → seen (view_of g place) ≡ clue_of v place
 
--- `HoldsClues` as a test that computes
+-- the clue at a place is met, or there is none
 abbrev pub holds_clue : TowersValue → GridValue → ℕ → Bool
 holds_clue v g place = (clue_of v place == 0) || (seen (view_of g place) == clue_of v place)
 
+-- `HoldsClues` as a test that computes
 abbrev pub holds_clues : TowersValue → GridValue → Bool
 holds_clues v g = list_all (holds_clue v g) (range_with_len 0 (4 * v.size))
 
@@ -47,6 +48,7 @@ towers_puzzle v = record {
   clued = λ place. nat_lt 0 (clue_of v place);
 }
 
+-- how many items a puzzle of a width can have: its clues, and behind them its givens
 abbrev pub towers_items : ℕ → ℕ
 towers_items w = 4 * w + w * w
 

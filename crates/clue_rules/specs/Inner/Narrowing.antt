@@ -14,7 +14,8 @@ pub record LacksStruck (Struck : CandidatesValue → ℕ → ℕ → Type 0) (ol
       → Struck first cell value → may_be new cell value ≡ false
 
 -- a step from old to new candidates, after which something may be left or, by its answer, nothing is
-pub record Narrows (Sought : GridValue → Type 0) (Struck : CandidatesValue → ℕ → ℕ → Type 0) (old new : CandidatesValue) (left : Bool) : Type 0 where
+pub record Narrows (Sought : GridValue → Type 0) (Struck : CandidatesValue → ℕ → ℕ → Type 0)
+    (old new : CandidatesValue) (left : Bool) : Type 0 where
   pub less : IsEarlier old new
   pub keeps : (g : GridValue) → Sought g → g.size ≡ old.size → IsWithin old g → IsWithin new g
   pub refutes : OnFalse left ((g : GridValue) → Sought g → g.size ≡ old.size → IsWithin old g → ⊥)
@@ -28,7 +29,7 @@ KeepsEach Sought old new = (g : GridValue) → Sought g → IsWithin old g → I
 abbrev pub NoneStruck : CandidatesValue → ℕ → ℕ → Type 0
 NoneStruck c cell value = ⊥
 
--- those that one of the first n of a row of steps strikes
+-- what one of the first n of a row of steps strikes
 abbrev pub StruckBelow : (ℕ → CandidatesValue → ℕ → ℕ → Type 0) → ℕ → CandidatesValue → ℕ → ℕ → Type 0
 StruckBelow Struck n c cell value = (k : ℕ) × (k < n) × Struck k c cell value
 
@@ -63,9 +64,10 @@ pub record KeepsAlong (place : ℕ) (kept : List ℕ) (old new : CandidatesValue
       → ((k : ℕ) → k < old.size → has_mark (slice_index kept k) (number_at g (view_cell old.size place k)) ≡ true) → IsWithin old g
       → IsWithin new g
   pub empty : OnFalse left ((k : ℕ) × (k < old.size) × ((v : ℕ) → has_mark (slice_index kept k) v ≡ false))
-  pub gone : OnTrue left ((k v : ℕ) → k < old.size → IsPair old.size (view_cell old.size place k) v → has_mark (slice_index kept k) v ≡ false → may_be new (view_cell old.size place k) v ≡ false)
+  pub gone : OnTrue left ((k v : ℕ) → k < old.size → IsPair old.size (view_cell old.size place k) v
+      → has_mark (slice_index kept k) v ≡ false → may_be new (view_cell old.size place k) v ≡ false)
 
--- those that rows and columns strike, and those that a rule strikes along one of the lines
+-- what rows and columns strike, and what a rule strikes along one of the lines
 abbrev pub IsStruckByLines : (ℕ → CandidatesValue → ℕ → ℕ → Type 0) → CandidatesValue → ℕ → ℕ → Type 0
 IsStruckByLines Struck c cell value = IsLatinStruck c cell value ⊎ StruckBelow Struck (2 * c.size) c cell value
 

@@ -12,8 +12,8 @@ use Rattle.tower_lines.specs.LineFillings.{IsSupported}
 use Rattle.clue_rules.specs.Views.{view_of}
 use Rattle.clue_rules.specs.Inner.Narrowing.{IsSquare}
 
--- the same by a place at one end of the line
-pub record IsEndStruck (v : TowersValue) (line : ℕ) (c : CandidatesValue) (cell value : ℕ) : Type 0 where
+-- what the clue at one end of a line rules out
+pub record IsStruckAlong (v : TowersValue) (line : ℕ) (c : CandidatesValue) (cell value : ℕ) : Type 0 where
   pub place : ℕ
   pub place_is : place < 4 * c.size
   pub line_is : view_line c.size place ≡ line
@@ -21,8 +21,8 @@ pub record IsEndStruck (v : TowersValue) (line : ℕ) (c : CandidatesValue) (cel
   pub struck : IsViewStruck place (clue_of v place) c cell value
 
 -- what the clue at a place rules out, if there is one
-abbrev pub IsClueStruck : TowersValue → ℕ → CandidatesValue → ℕ → ℕ → Type 0
-IsClueStruck v place c cell value = (0 < clue_of v place) × IsViewStruck place (clue_of v place) c cell value
+abbrev pub IsStruckAt : TowersValue → ℕ → CandidatesValue → ℕ → ℕ → Type 0
+IsStruckAt v place c cell value = (0 < clue_of v place) × IsViewStruck place (clue_of v place) c cell value
 
 -- a Latin square that shows as many towers from a place as the clue says
 abbrev pub ShowsClue : ℕ → ℕ → GridValue → Type 0

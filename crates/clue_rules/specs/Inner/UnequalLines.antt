@@ -15,20 +15,21 @@ pub record AreEnds (v : UnequalValue) (sign upper lower : ℕ) : Type 0 where
   pub is : ((sign_at v sign ≡ FirstGreater) × (upper ≡ first_side v.size sign) × (lower ≡ second_side v.size sign))
       ⊎ ((sign_at v sign ≡ SecondGreater) × (upper ≡ second_side v.size sign) × (lower ≡ first_side v.size sign))
 
--- what the lower, or the upper, of two squares can't hold
+-- what the lower of two squares can't hold
 pub record IsLowerStruck (upper lower : ℕ) (c : CandidatesValue) (cell value : ℕ) : Type 0 where
   pub here : cell ≡ lower
   pub none : HasNoneAbove c upper value
 
+-- what the upper of two squares can't hold
 pub record IsUpperStruck (upper lower : ℕ) (c : CandidatesValue) (cell value : ℕ) : Type 0 where
   pub here : cell ≡ upper
   pub none : HasNoneBelow c lower value
 
--- what either of them can't hold
+-- what either of two squares can't hold
 abbrev pub IsEndStruckBy : ℕ → ℕ → CandidatesValue → ℕ → ℕ → Type 0
 IsEndStruckBy upper lower c cell value = IsLowerStruck upper lower c cell value ⊎ IsUpperStruck upper lower c cell value
 
--- the same of the two squares of a sign
+-- what a sign rules out in the squares on both its sides
 pub record IsStruckAt (v : UnequalValue) (sign : ℕ) (c : CandidatesValue) (cell value : ℕ) : Type 0 where
   pub upper : ℕ
   pub lower : ℕ

@@ -41,7 +41,8 @@ kept-kept empty first second i (x ∷ xs) =
 
 -- only the entries that say something matter to what is kept
 kept-agrees : {X : Type 0} (empty : X) (present : X → Bool) → ((x : X) → present x ≡ false → x ≡ empty)
-    → (a b : ℕ → Bool) (i : ℕ) (xs : List X) → ((k : ℕ) → k < length xs → present (slice_index_or xs k empty) ≡ true → a (i + k) ≡ b (i + k))
+    → (a b : ℕ → Bool) (i : ℕ) (xs : List X)
+    → ((k : ℕ) → k < length xs → present (slice_index_or xs k empty) ≡ true → a (i + k) ≡ b (i + k))
     → kept_items empty a i xs ≡ kept_items empty b i xs
 kept-agrees empty present gone a b i [] h = refl
 kept-agrees {X} empty present gone a b i (x ∷ xs) h =

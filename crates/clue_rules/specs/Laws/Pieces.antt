@@ -6,6 +6,7 @@ use Rattle.byte_text.proofs.CutLaws.{cut_whole, pieces_more, pieces_last, before
 use Rattle.byte_text.specs.Bytes.{comma}
 use Rattle.clue_rules.specs.UnequalText.{without_empty_last}
 
+-- what commas separate, an empty piece at the end too
 abbrev pub comma_pieces : List ℕ → List (List ℕ)
 comma_pieces bs = slice_split (λ b. b == comma) bs
 
@@ -56,5 +57,3 @@ pieces-push (b ∷ bs) =
       | true ↦ ap (λ ps. [] ∷ ps) (pieces-push bs)
       | false ↦ rw (pieces-push bs, split_once bs) refl
     ]
-
--- a text that is cut piece by piece: the pieces so far, and those of what is left

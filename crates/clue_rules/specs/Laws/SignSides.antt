@@ -13,11 +13,12 @@ use Rattle.clue_rules.specs.Unequal.{UnequalValue, pairs_across, sign_count, sig
 use Rattle.clue_rules.specs.UnequalText.{neighbour, forth, back}
 use Rattle.clue_rules.specs.Laws.SignPlaces.{AreSides, across_sides, down_sides, between_sides, between_at, sides_at, one_sign_between, across_from, down_from}
 
--- the side of the left or the upper square, and the other one
+-- the side of the left or the upper square, and that of the other one
 pub data Side : Type 0 where
   First : Side
   Second : Side
 
+-- the side across the sign
 abbrev pub other_side : Side → Side
 other_side First = Second
 other_side Second = First

@@ -16,9 +16,11 @@ use Rattle.clue_rules.specs.Laws.CluePart.{clue_part_lacks_comma, clues_taken, c
 use Rattle.clue_rules.specs.Laws.SquarePart.{givens_taken, givens_again, squares_within, zeros_within}
 use Rattle.clue_rules.specs.Laws.SquaresWritten.{squares_written_text}
 
+-- the puzzle that is made of what was read
 abbrev made : ℕ → List ℕ → List ℕ → Result TowersValue IdFault
 made w clues givens = Ok (record { size = w; clues = clues; givens = givens })
 
+-- no number of the list is greater than the width
 abbrev AllUpTo : ℕ → List ℕ → Type 0
 AllUpTo w ns = AllByRecursion (λ n. n ≤ w) ns
 
