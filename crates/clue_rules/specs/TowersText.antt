@@ -32,11 +32,16 @@ IsSquareText w (b ∷ bs) squares =
     ⊎ ((digit_zero + 1 ≤ b) × (b ≤ digit_zero + w) × (begins_digit bs ≡ false)
     × ((more : List ℕ) × (squares ≡ (b - digit_zero) ∷ more) × IsSquareText w bs more))
 
--- The text describes the puzzle: the clues, and behind a `,` the squares, if any is given.
+-- The text is this front, and no square is given, or the front and behind a `,` the squares.
+abbrev pub SaysSquares : ℕ → List ℕ → List ℕ → List ℕ → Type 0
+SaysSquares w text front squares =
+    ((text ≡ front) × (squares ≡ replicate (w * w) 0))
+    ⊎ ((part : List ℕ) × (text ≡ front ++ comma ∷ part) × IsSquareText w part squares)
+
+-- The text describes the puzzle: the clues, and behind them the squares, if any is given.
 pub record IsTowersText (v : TowersValue) (text : List ℕ) : Type 0 where
   pub puzzle : IsTowers v
-  pub parts : ((text ≡ clue_part v.clues) × (v.givens ≡ replicate (v.size * v.size) 0))
-      ⊎ ((part : List ℕ) × (text ≡ clue_part v.clues ++ comma ∷ part) × IsSquareText v.size part v.givens)
+  pub parts : SaysSquares v.size text (clue_part v.clues) v.givens
 
 -- n blank squares: `z` for each 26 while more than 26 are left, and a letter for the rest
 abbrev pub blank_letters : ℕ → List ℕ

@@ -48,13 +48,16 @@ pub record Says (w : ℕ) (pieces : List Piece) (a b : ℕ) : Type 0 where
   pub letter : Contains (directions_at pieces a) direction
   pub points : neighbour w a direction ≡ Some b
 
--- The text describes the puzzle: a piece for each square in reading order, separated by commas, one comma more at the
--- end or not. Letters stand in any order and may repeat, and none points out of the grid.
+-- The text is these pieces, separated by commas, one comma more at the end or not.
+abbrev pub ArePiecesOf : List ℕ → List (List ℕ) → Type 0
+ArePiecesOf text pieces = (text ≡ join_with_byte comma pieces) ⊎ (text ≡ join_with_byte comma pieces ++ comma ∷ [])
+
+-- The text describes the puzzle: a piece for each square in reading order. Letters stand in any order and may repeat, and
+-- none points out of the grid.
 pub record IsUnequalText (v : UnequalValue) (text : List ℕ) : Type 0 where
   pub puzzle : IsUnequal v
   pub pieces : List Piece
-  pub written : (text ≡ join_with_byte comma (map piece_text pieces))
-      ⊎ (text ≡ join_with_byte comma (map piece_text pieces) ++ comma ∷ [])
+  pub written : ArePiecesOf text (map piece_text pieces)
   pub numbers : map (λ p. p.number) pieces ≡ v.givens
   pub inside : (cell : ℕ) (d : Direction) → Contains (directions_at pieces cell) d → IsSome (neighbour v.size cell d)
   pub signs : (a b : ℕ) → IsGreater v a b ↔ Says v.size pieces a b

@@ -1,5 +1,5 @@
 -- The pieces of a description: from the text and back, and when there is no fault in them.
-use Rattle.std.proofs.Common.{◌≡◌, ℕ, ◌*◌, ◌<◌, ◌≤◌, ◌⊎◌, true, false, not, List, [], ◌∷◌, ◌++◌, length, map, Some, is_some, unwrap_or, Ok, refl, sym, ap, ◌∙◌, inl, inr, arith}
+use Rattle.std.proofs.Common.{◌≡◌, ℕ, ◌*◌, ◌<◌, ◌≤◌, true, false, not, List, [], ◌∷◌, ◌++◌, length, map, Some, is_some, unwrap_or, Ok, refl, sym, ap, ◌∙◌, inl, inr, arith}
 use Rattle.std.specs.List.{list_all, range_with_len, join_with_byte, Contains, AllByRecursion}
 use Rattle.std.specs.Option.{IsSome}
 use Rattle.std.proofs.lemmas.Bool.{and_parts, not-false}
@@ -12,7 +12,7 @@ use Rattle.byte_text.specs.Bytes.{comma}
 use Rattle.clue_rules.specs.declared.id_fault.IdFault.TheVariants.{BadClue, BadSquares, OffGrid, Contradiction}
 use Rattle.clue_rules.specs.declared.unequal.direction.Direction.{Direction}
 use Rattle.clue_rules.specs.Unequal.{UnequalValue, IsUnequal, sign_count}
-use Rattle.clue_rules.specs.UnequalText.{Piece, letter_of, neighbour, piece_text, without_empty_last, pieces_of, number_in, has_number, direction_of, has_letters, is_inside, points_inside, contradicts, puzzle_in, puzzle_at}
+use Rattle.clue_rules.specs.UnequalText.{Piece, letter_of, neighbour, piece_text, without_empty_last, pieces_of, number_in, has_number, direction_of, has_letters, is_inside, points_inside, contradicts, puzzle_in, puzzle_at, ArePiecesOf}
 use Rattle.clue_rules.specs.Laws.Pieces.{comma_pieces, pieces-join, join-push, dropped_last, drop-push, pieces-push}
 use Rattle.clue_rules.specs.Laws.Letters.{direction_of-letter, contains_here, contains_there, contains_cases, number_in-piece, letters_piece, lacks_comma, read_piece, read_piece_written, number_small}
 use Rattle.clue_rules.specs.Laws.Refusals.{refused_then}
@@ -91,8 +91,7 @@ inside_letters w cell (x ∷ ds) h =
 
 -- the text, from its pieces and back
 
-pub joined_text : (text : List ℕ) (p : List ℕ) (ps : List (List ℕ)) → pieces_of text ≡ p ∷ ps
-    → (text ≡ join_with_byte comma (p ∷ ps)) ⊎ (text ≡ join_with_byte comma (p ∷ ps) ++ comma ∷ [])
+pub joined_text : (text : List ℕ) (p : List ℕ) (ps : List (List ℕ)) → pieces_of text ≡ p ∷ ps → ArePiecesOf text (p ∷ ps)
 joined_text text p ps e =
     let whole : text ≡ join_with_byte comma (comma_pieces text) = sym (join_with_byte-slice_split comma text) in
     elim (dropped_last (comma_pieces text)) [
@@ -108,9 +107,7 @@ pub none_empty : (p : Piece) (pieces : List Piece) → without_empty_last (map p
 none_empty p [] = refl
 none_empty p (q ∷ pieces) = ap (λ qs. piece_text p ∷ qs) (none_empty q pieces)
 
-pub pieces_again : (text : List ℕ) (p : Piece) (pieces : List Piece)
-    → (text ≡ join_with_byte comma (map piece_text (p ∷ pieces)))
-    ⊎ (text ≡ join_with_byte comma (map piece_text (p ∷ pieces)) ++ comma ∷ [])
+pub pieces_again : (text : List ℕ) (p : Piece) (pieces : List Piece) → ArePiecesOf text (map piece_text (p ∷ pieces))
     → pieces_of text ≡ map piece_text (p ∷ pieces)
 pieces_again text p pieces h =
     let split : comma_pieces (join_with_byte comma (map piece_text (p ∷ pieces))) ≡ map piece_text (p ∷ pieces) =
@@ -122,12 +119,11 @@ pieces_again text p pieces h =
     ]
 
 pub some_pieces : (text : List ℕ) (pieces : List Piece) → 0 < length pieces → pieces_of text ≡ map piece_text pieces
-    → (text ≡ join_with_byte comma (map piece_text pieces)) ⊎ (text ≡ join_with_byte comma (map piece_text pieces) ++ comma ∷ [])
+    → ArePiecesOf text (map piece_text pieces)
 some_pieces text [] some e = absurd (omega arith)
 some_pieces text (p ∷ pieces) some e = joined_text text (piece_text p) (map piece_text pieces) e
 
-pub pieces_some : (text : List ℕ) (pieces : List Piece) → 0 < length pieces
-    → (text ≡ join_with_byte comma (map piece_text pieces)) ⊎ (text ≡ join_with_byte comma (map piece_text pieces) ++ comma ∷ [])
+pub pieces_some : (text : List ℕ) (pieces : List Piece) → 0 < length pieces → ArePiecesOf text (map piece_text pieces)
     → pieces_of text ≡ map piece_text pieces
 pieces_some text [] some h = absurd (omega arith)
 pieces_some text (p ∷ pieces) some h = pieces_again text p pieces h

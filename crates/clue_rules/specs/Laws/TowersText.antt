@@ -1,5 +1,5 @@
 -- Towers descriptions: what is read has the grammar, what has the grammar is read, and what is written has it.
-use Rattle.std.proofs.Common.{◌≡◌, ℕ, ◌*◌, ◌≤◌, true, false, ◌==◌, ◌||◌, not, List, [], ◌∷◌, ◌++◌, length, replicate, Option, Some, None, Result, Ok, ◌⊎◌, inl, inr, refl, sym, ap, ◌∙◌, subst, arith, append-nil, if◌then◌else◌}
+use Rattle.std.proofs.Common.{◌≡◌, ℕ, ◌*◌, ◌≤◌, true, false, ◌==◌, ◌||◌, not, List, [], ◌∷◌, ◌++◌, length, replicate, Option, Some, None, Result, Ok, inl, inr, refl, sym, ap, ◌∙◌, subst, arith, append-nil, if◌then◌else◌}
 use Rattle.std.specs.List.{AllByRecursion, list_any}
 use Rattle.std.proofs.lemmas.List.{length-replicate}
 use Rattle.std.proofs.lemmas.List.Elements.{All-from_recursion, recursion_from_All}
@@ -11,7 +11,7 @@ use Rattle.byte_text.proofs.ReadingLaws.{bind_taken, bind_again}
 use Rattle.byte_text.specs.Bytes.{comma}
 use Rattle.clue_rules.specs.declared.id_fault.IdFault.{IdFault}
 use Rattle.clue_rules.specs.Towers.{TowersValue, IsTowers}
-use Rattle.clue_rules.specs.TowersText.{clue_part, IsSquareText, IsTowersText, squares_written, square_part, towers_text, clues_at, givens_behind, towers_at}
+use Rattle.clue_rules.specs.TowersText.{clue_part, IsTowersText, squares_written, square_part, towers_text, clues_at, givens_behind, towers_at, SaysSquares}
 use Rattle.clue_rules.specs.Laws.CluePart.{clue_part_lacks_comma, clues_taken, clues_again}
 use Rattle.clue_rules.specs.Laws.SquarePart.{givens_taken, givens_again, squares_within, zeros_within}
 use Rattle.clue_rules.specs.Laws.SquaresWritten.{squares_written_text}
@@ -24,17 +24,12 @@ made w clues givens = Ok (record { size = w; clues = clues; givens = givens })
 abbrev AllUpTo : ℕ → List ℕ → Type 0
 AllUpTo w ns = AllByRecursion (λ n. n ≤ w) ns
 
--- the squares that stand behind the clues, or none
-abbrev SquaresBehind : ℕ → List ℕ → List ℕ → List ℕ → Type 0
-SquaresBehind w text front givens =
-    ((text ≡ front) × (givens ≡ replicate (w * w) 0)) ⊎ ((part : List ℕ) × (text ≡ front ++ comma ∷ part) × IsSquareText w part givens)
-
 zeros_up_to : (w n : ℕ) → AllUpTo w (replicate n 0)
 zeros_up_to w n = subst (AllUpTo w) (append-nil (replicate n 0)) (zeros_within w n [] tt)
 
 givens_behind_taken : (w : ℕ) (text givens : List ℕ) (rest : Option (List ℕ)) → w ≤ 9 → behind comma text ≡ rest
     → givens_behind w rest ≡ Ok givens
-    → (length givens ≡ w * w) × AllUpTo w givens × SquaresBehind w text (before comma text) givens
+    → (length givens ≡ w * w) × AllUpTo w givens × SaysSquares w text (before comma text) givens
 givens_behind_taken w text givens None small cut read =
     let e : replicate (w * w) 0 ≡ givens = cc in
     let count : length givens ≡ w * w = ap length (sym e) ∙ length-replicate (w * w) 0 in
@@ -63,12 +58,12 @@ towers_taken w text p small large read =
       clue_count = clues.1;
       clues_within = All-from_recursion (λ n. n ≤ w) first.0 clues.2;
     } in
-    let parts = subst (λ front. SquaresBehind w text front second.0) clues.0 squares.2 in
+    let parts = subst (λ front. SaysSquares w text front second.0) clues.0 squares.2 in
     subst (λ v. IsTowersText v text × IsTowers v × (v.size ≡ w)) is (record { puzzle = puzzle; parts = parts }, puzzle, refl)
 
 -- where the description is cut, its clues and its givens are read
 cut_again : (w : ℕ) (text : List ℕ) (clues givens : List ℕ) → w ≤ 9 → length givens ≡ w * w
-    → SquaresBehind w text (clue_part clues) givens
+    → SaysSquares w text (clue_part clues) givens
     → (before comma text ≡ clue_part clues) × (givens_behind w (behind comma text) ≡ Ok givens)
 cut_again w text clues givens small count parts =
     let lacks = clue_part_lacks_comma clues in
@@ -102,9 +97,9 @@ none_given (n ∷ ns) =
     ] refl
 
 written_parts : (w : ℕ) (front givens : List ℕ) → length givens ≡ w * w → AllUpTo w givens
-    → SquaresBehind w (front ++ square_part givens) front givens
+    → SaysSquares w (front ++ square_part givens) front givens
 written_parts w front givens count within =
-    elim (list_any (λ n. not (n == 0)) givens) as (λ t. list_any (λ n. not (n == 0)) givens ≡ t → SquaresBehind w (front ++ (if t then (comma ∷ squares_written 0 false givens) else [])) front givens) [
+    elim (list_any (λ n. not (n == 0)) givens) as (λ t. list_any (λ n. not (n == 0)) givens ≡ t → SaysSquares w (front ++ (if t then (comma ∷ squares_written 0 false givens) else [])) front givens) [
       | true ↦ λ some. inr (squares_written 0 false givens, refl, squares_written_text w givens within)
       | false ↦ λ none. inl (append-nil front, none_given givens none ∙ ap (λ n. replicate n 0) count)
     ] refl
