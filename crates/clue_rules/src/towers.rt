@@ -42,7 +42,8 @@ impl Model for Towers {
       givens = record { size = v.size; numbers = v.givens };
     } };
 
-    ghost inverse_ok = { λ p h. let f : List ℕ → Inside = λ xs. record { clues = xs; givens = p.givens } in
+    ghost inverse_ok = { λ p h.
+        let f : List ℕ → Inside = λ xs. record { clues = xs; givens = p.givens } in
         ap f (places_and_rest 0 36 (4 * p.givens.size) p.clues h.padded) };
 }
 

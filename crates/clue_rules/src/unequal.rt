@@ -59,7 +59,8 @@ impl Model for Unequal {
       givens = record { size = v.size; numbers = v.givens };
     } };
 
-    ghost inverse_ok = { λ p h. let f : List SignValue → Inside = λ xs. record { signs = xs; givens = p.givens } in
+    ghost inverse_ok = { λ p h.
+        let f : List SignValue → Inside = λ xs. record { signs = xs; givens = p.givens } in
         ap f (places_and_rest Absent 144 (sign_count p.givens.size) p.signs h.padded) };
 }
 

@@ -114,7 +114,8 @@ impl Rules for Towers {
         requires { candidates.old.size ≡ self.now.size }
         ensures less { IsEarlier candidates.old candidates.new }
         ensures keeps { KeepsSolutions (towers_puzzle self.now) candidates.old candidates.new }
-        ensures refutes { OnFalse result (HasNoSolutionWithin (towers_puzzle self.now) candidates.old) }
+        ensures refutes { OnFalse result
+            (HasNoSolutionWithin (towers_puzzle self.now) candidates.old) }
         ensures struck { OnTrue result
             (NoneLeft (IsTowersStruck self.now) candidates.old candidates.new) }
     {

@@ -101,7 +101,8 @@ impl Rules for Unequal {
         requires { candidates.old.size ≡ self.now.size }
         ensures less { IsEarlier candidates.old candidates.new }
         ensures keeps { KeepsSolutions (unequal_puzzle self.now) candidates.old candidates.new }
-        ensures refutes { OnFalse result (HasNoSolutionWithin (unequal_puzzle self.now) candidates.old) }
+        ensures refutes { OnFalse result
+            (HasNoSolutionWithin (unequal_puzzle self.now) candidates.old) }
         ensures struck { OnTrue result
             (NoneLeft (IsUnequalStruck self.now) candidates.old candidates.new) }
     {
