@@ -76,8 +76,8 @@ HasNoneAbove c cell value = (u : ℕ) → value < u → u ≤ c.size → may_be 
 abbrev pub HasNoneBelow : CandidatesValue → ℕ → ℕ → Type 0
 HasNoneBelow c cell value = (u : ℕ) → 1 ≤ u → u < value → may_be c cell u ≡ false
 
--- the cell is the lower end of a sign whose upper end has no greater value, or the upper end of one whose lower end has
--- no less
+-- the cell is the lesser end of a sign whose greater end has no greater value, or the greater end of one whose lesser end
+-- has no less
 pub record IsSignStruck (v : UnequalValue) (c : CandidatesValue) (cell value : ℕ) : Type 0 where
   pub other : ℕ
   pub why : (IsGreater v other cell × HasNoneAbove c other value) ⊎ (IsGreater v cell other × HasNoneBelow c other value)
