@@ -9,20 +9,21 @@ use Rattle.clue_rules.specs.declared.game_id.GameId.TheVariants.{Described, Seed
 use Rattle.clue_rules.specs.declared.params.Params.{Params}
 use Rattle.trail_solver.specs.Puzzles.{Puzzle}
 use Rattle.clue_rules.specs.Parameters.{params_at, IsParams, letter_part, params_text, IsParamText, if_no_more, letter_at, behind_size, is_size}
-use Rattle.clue_rules.specs.GameIds.{is_separator, params_part, from_separator, seeded, behind_params, id_parts_at, with_description, id_at, id_map, LacksSeparators, describes_at, IsIdText, IsAnyText}
-use Rattle.std.proofs.Common.{◌≡◌, IfOk, ◌≢◌, ℕ, ◌+◌, ◌^◌, ◌<◌, ◌≤◌, Bool, true, false, ◌==◌, ◌||◌, List, [], ◌∷◌, ◌++◌, Option, Some, None, IfSome, Result, Ok, Err, cond, refl, sym, ap, ◌∙◌, subst, arith, inl, inr, ◌-◌, ◌&&◌}
+use Rattle.clue_rules.specs.GameIds.{is_separator, params_part, from_separator, seeded, behind_params, id_parts_at, with_description, id_at, id_map, LacksSeparators, describes_at, IsIdText, IsAnyText, largest_seed}
+use Rattle.std.proofs.Common.{◌≡◌, IfOk, ◌≢◌, ℕ, ◌+◌, ◌^◌, ◌<◌, ◌≤◌, Bool, true, false, ◌==◌, ◌||◌, List, [], ◌∷◌, ◌++◌, Option, Some, None, IfSome, Result, Ok, Err, refl, sym, ap, ◌∙◌, subst, arith, inl, inr, ◌-◌, ◌&&◌, if◌then◌else◌}
 use Rattle.std.specs.List.{AllByRecursion, Contains, list_any}
 use Rattle.std.specs.Fmt.{decimal}
 use Rattle.std.proofs.lemmas.List.Elements.{All-contains}
-use borrow.Author.Tests.{eqb-true, eqb-false, apart_eqb}
+use Rattle.std.proofs.lemmas.Bool.{or_cases, eqb-true, eqb-false, ne_eqb}
 use denote.Bor.{Bor}
 use Rattle.byte_text.proofs.DecimalLaws.{number_taken, number_again}
 use Rattle.byte_text.proofs.ReadingLaws.{bind_taken, bind_again}
-use Rattle.clue_rules.specs.Laws.JoinedTests.{one_from_or}
 use Rattle.clue_rules.proofs.ParameterLemmas.{params_taken, params_again}
 use Rattle.byte_text.specs.Cuts.{behind}
+use Rattle.byte_text.specs.Bytes.{digit_zero, colon, hash, exclamation, letter_a, letter_d}
 use Rattle.clue_rules.specs.IdFaults.{SparesMemory}
 use Rattle.clue_rules.specs.Laws.SparedMemory.{spares-then, spares-if}
+use Rattle.clue_rules.specs.Laws.Refusals.{refused_then}
 
 -- Reading gives the puzzles that the grammar of descriptions has, at each size.
 pub record ReadsGrammar (D : Type 0) (desc_at : ℕ → List ℕ → Result D IdFault) (IsDesc : ℕ → D → List ℕ → Type 0) : Type 0 where
@@ -30,10 +31,11 @@ pub record ReadsGrammar (D : Type 0) (desc_at : ℕ → List ℕ → Result D Id
   pub again : (w : ℕ) (desc : List ℕ) (d : D) → IsDesc w d desc → desc_at w desc ≡ Ok d
 
 -- where the text is split
-split_taken : (bs : List ℕ) (separator : ℕ) (rest : List ℕ) → from_separator bs ≡ separator ∷ rest → (bs ≡ params_part bs ++ separator ∷ rest) × (is_separator separator ≡ true)
+split_taken : (bs : List ℕ) (separator : ℕ) (rest : List ℕ) → from_separator bs ≡ separator ∷ rest
+    → (bs ≡ params_part bs ++ separator ∷ rest) × (is_separator separator ≡ true)
 split_taken [] separator rest = λ found. cc
 split_taken (b ∷ bs) separator rest =
-    elim (is_separator b) as (λ t. is_separator b ≡ t → cond t (b ∷ bs) (from_separator bs) ≡ separator ∷ rest → (b ∷ bs ≡ cond t [] (b ∷ params_part bs) ++ separator ∷ rest) × (is_separator separator ≡ true)) [
+    elim (is_separator b) as (λ t. is_separator b ≡ t → (if t then (b ∷ bs) else from_separator bs) ≡ separator ∷ rest → (b ∷ bs ≡ (if t then [] else (b ∷ params_part bs)) ++ separator ∷ rest) × (is_separator separator ≡ true)) [
       | true ↦ λ is found.
           let same : b ≡ separator = cc in
           (found, subst (λ c. is_separator c ≡ true) same is)
@@ -42,21 +44,24 @@ split_taken (b ∷ bs) separator rest =
           (ap (λ xs. b ∷ xs) more.0, more.1)
     ] refl
 
+-- no byte of the text is a separator
 abbrev NoSeparators : List ℕ → Type 0
 NoSeparators bs = AllByRecursion (λ b. is_separator b ≡ false) bs
 
-split_again : (front : List ℕ) (separator : ℕ) (rest : List ℕ) → NoSeparators front → is_separator separator ≡ true → (params_part (front ++ separator ∷ rest) ≡ front) × (from_separator (front ++ separator ∷ rest) ≡ separator ∷ rest)
+split_again : (front : List ℕ) (separator : ℕ) (rest : List ℕ) → NoSeparators front → is_separator separator ≡ true
+    → (params_part (front ++ separator ∷ rest) ≡ front) × (from_separator (front ++ separator ∷ rest) ≡ separator ∷ rest)
 split_again [] separator rest none is = (rw is refl, rw is refl)
 split_again (b ∷ bs) separator rest none is =
     let more = split_again bs separator rest none.1 is in
     (rw none.0 (ap (λ xs. b ∷ xs) more.0), rw none.0 more.1)
 
 -- parameters have no separator in their text
-digit_no_separator : (w : ℕ) → w ≤ 9 → is_separator (48 + w) ≡ false
+digit_no_separator : (w : ℕ) → w ≤ 9 → is_separator (digit_zero + w) ≡ false
 digit_no_separator w small =
-    rw (apart_eqb (48 + w) 58 (omega arith), apart_eqb (48 + w) 35 (omega arith), apart_eqb (48 + w) 33 (omega arith)) refl
+    rw (ne_eqb (digit_zero + w) colon (omega arith), ne_eqb (digit_zero + w) hash (omega arith), ne_eqb (digit_zero + w) exclamation (omega arith)) refl
 
-letter_no_separator : (letters : List ℕ) (letter : Option ℕ) → LacksSeparators letters → IfSome letter (λ l. Contains letters l) → NoSeparators (letter_part letter)
+letter_no_separator : (letters : List ℕ) (letter : Option ℕ) → LacksSeparators letters → IfSome letter (λ l. Contains letters l)
+    → NoSeparators (letter_part letter)
 letter_no_separator letters None lacks member = tt
 letter_no_separator letters (Some letter) lacks member =
     (refl, (All-contains (λ l. is_separator l ≡ false) letters letter lacks member, tt))
@@ -67,96 +72,113 @@ params_no_separator letters p lacks params =
 
 -- what stands behind the parameters
 abbrev Behind : Params → List ℕ → GameId (List ℕ) → Type 0
-Behind p bs (Described q desc) = (q ≡ p) × ((separator : ℕ) × (bs ≡ separator ∷ desc) × (separator ≢ 35) × (separator ≢ 33))
-Behind p bs (Seeded q seed) = (q ≡ p) × (seed < 2 ^ 64) × (bs ≡ 33 ∷ decimal seed)
+Behind p bs (Described q desc) = (q ≡ p) × ((separator : ℕ) × (bs ≡ separator ∷ desc) × (separator ≢ hash) × (separator ≢ exclamation))
+Behind p bs (Seeded q seed) = (q ≡ p) × (seed < 2 ^ 64) × (bs ≡ exclamation ∷ decimal seed)
 
-seed_taken : (p : Params) (bs : List ℕ) (seed : Option ℕ) (parts : GameId (List ℕ)) → decimal_value 18446744073709551615 bs ≡ seed → seeded p seed ≡ Ok parts → Behind p (33 ∷ bs) parts
+seed_taken : (p : Params) (bs : List ℕ) (seed : Option ℕ) (parts : GameId (List ℕ)) → decimal_value largest_seed bs ≡ seed
+    → seeded p seed ≡ Ok parts → Behind p (exclamation ∷ bs) parts
 seed_taken p bs None parts number read = cc
 seed_taken p bs (Some seed) parts number read =
     let is : Seeded p seed ≡ parts = cc in
-    let taken = number_taken 18446744073709551615 seed bs (omega arith) number in
-    subst (Behind p (33 ∷ bs)) is (refl, omega (arith, taken.1), ap (λ xs. 33 ∷ xs) taken.0)
+    let taken = number_taken largest_seed seed bs (omega arith) number in
+    subst (Behind p (exclamation ∷ bs)) is (refl, omega (arith, taken.1), ap (λ xs. exclamation ∷ xs) taken.0)
 
-behind_taken : (p : Params) (bs : List ℕ) (parts : GameId (List ℕ)) → behind_params p bs ≡ Ok parts → Behind p bs parts
-behind_taken p [] parts = λ read. cc
-behind_taken p (b ∷ bs) parts =
-    elim (b == 35) as (λ t. (b == 35) ≡ t → cond t (Err ForeignSeed) (cond (b == 33) (seeded p (decimal_value 18446744073709551615 bs)) (Ok (Described p bs))) ≡ Ok parts → Behind p (b ∷ bs) parts) [
-      | true ↦ λ foreign read. cc
-      | false ↦ λ own.
-          elim (b == 33) as (λ t. (b == 33) ≡ t → cond t (seeded p (decimal_value 18446744073709551615 bs)) (Ok (Described p bs)) ≡ Ok parts → Behind p (b ∷ bs) parts) [
-            | true ↦ λ seed read. rw (eqb-true b 33 seed) (seed_taken p bs (decimal_value 18446744073709551615 bs) parts refl read)
-            | false ↦ λ described read.
-                let is : Described p bs ≡ parts = cc in
-                subst (Behind p (b ∷ bs)) is (refl, (b, refl, eqb-false b 35 own, eqb-false b 33 described))
-          ] refl
-    ] refl
+behind_params_taken : (p : Params) (bs : List ℕ) (parts : GameId (List ℕ)) → behind_params p bs ≡ Ok parts → Behind p bs parts
+behind_params_taken p [] parts = λ read. cc
+behind_params_taken p (b ∷ bs) parts = λ read.
+    let own = refused_then (b == hash) ForeignSeed _ parts read in
+    elim (b == exclamation) as (λ t. (b == exclamation) ≡ t → (if t then seeded p (decimal_value largest_seed bs) else Ok (Described p bs)) ≡ Ok parts → Behind p (b ∷ bs) parts) [
+      | true ↦ λ seed read. rw (eqb-true b exclamation seed) (seed_taken p bs (decimal_value largest_seed bs) parts refl read)
+      | false ↦ λ described read.
+          let is : Described p bs ≡ parts = cc in
+          subst (Behind p (b ∷ bs)) is (refl, (b, refl, eqb-false b hash own.0, eqb-false b exclamation described))
+    ] refl own.1
 
 -- the separator before a description
-colon : (b : ℕ) → is_separator b ≡ true → b ≢ 35 → b ≢ 33 → b ≡ 58
-colon b is not_hash not_bang =
-    elim (one_from_or (b == 58) ((b == 35) || (b == 33)) is) [
-      | inl same ↦ eqb-true b 58 same
+colon_left : (b : ℕ) → is_separator b ≡ true → b ≢ hash → b ≢ exclamation → b ≡ colon
+colon_left b is not_hash not_exclamation =
+    elim (or_cases (b == colon) ((b == hash) || (b == exclamation)) is) [
+      | inl same ↦ eqb-true b colon same
       | inr other ↦
-          elim (one_from_or (b == 35) (b == 33) other) [
-            | inl hash ↦ absurd (not_hash (eqb-true b 35 hash))
-            | inr bang ↦ absurd (not_bang (eqb-true b 33 bang))
+          elim (or_cases (b == hash) (b == exclamation) other) [
+            | inl same ↦ absurd (not_hash (eqb-true b hash same))
+            | inr same ↦ absurd (not_exclamation (eqb-true b exclamation same))
           ]
     ]
 
-parts_text : (letters : List ℕ) (text : List ℕ) (p : Params) (parts : GameId (List ℕ)) → IsParamText letters p (params_part text) → Behind p (from_separator text) parts → IsIdText letters IsAnyText parts text
+parts_text : (letters : List ℕ) (text : List ℕ) (p : Params) (parts : GameId (List ℕ)) → IsParamText letters p (params_part text)
+    → Behind p (from_separator text) parts → IsIdText letters IsAnyText parts text
 parts_text letters text p (Described q desc) params behind =
     let found = behind.1 in
     let split = split_taken text found.0 desc found.1 in
-    let is_colon = colon found.0 split.1 found.2 found.3 in
-    let text_is : text ≡ params_text p ++ 58 ∷ desc = let front = params.text_is in split.0 ∙ (ap (λ xs. xs ++ found.0 ∷ desc) front ∙ ap (λ b. params_text p ++ b ∷ desc) is_colon) in
+    let is_colon = colon_left found.0 split.1 found.2 found.3 in
+    let text_is : text ≡ params_text p ++ colon ∷ desc = let front = params.text_is in split.0 ∙ (ap (λ xs. xs ++ found.0 ∷ desc) front ∙ ap (λ b. params_text p ++ b ∷ desc) is_colon) in
     subst (λ v. IsIdText letters IsAnyText (Described v desc) text) (sym behind.0) (params.params, (desc, text_is, refl))
 parts_text letters text p (Seeded q seed) params behind =
-    let split = split_taken text 33 (decimal seed) behind.2 in
-    let text_is : text ≡ params_text p ++ 33 ∷ decimal seed = split.0 ∙ ap (λ xs. xs ++ 33 ∷ decimal seed) params.text_is in
+    let split = split_taken text exclamation (decimal seed) behind.2 in
+    let text_is : text ≡ params_text p ++ exclamation ∷ decimal seed =
+    split.0 ∙ ap (λ xs. xs ++ exclamation ∷ decimal seed) params.text_is in
     subst (λ v. IsIdText letters IsAnyText (Seeded v seed) text) (sym behind.0) (params.params, behind.1, text_is)
 
-pub id_parts_taken : (letters : List ℕ) (has_adjacent : Bool) (text : List ℕ) (parts : GameId (List ℕ)) → id_parts_at letters has_adjacent text ≡ Ok parts → IsIdText letters IsAnyText parts text
+pub id_parts_taken : (letters : List ℕ) (has_adjacent : Bool) (text : List ℕ) (parts : GameId (List ℕ))
+    → id_parts_at letters has_adjacent text ≡ Ok parts → IsIdText letters IsAnyText parts text
 unfolding id_parts_at
 id_parts_taken letters has_adjacent text parts read =
     let steps = bind_taken (params_at letters has_adjacent (params_part text)) (λ p. behind_params p (from_separator text)) parts read in
-    parts_text letters text steps.0 parts (params_taken letters has_adjacent (params_part text) steps.0 steps.1) (behind_taken steps.0 (from_separator text) parts steps.2)
+    parts_text letters text steps.0 parts (params_taken letters has_adjacent (params_part text) steps.0 steps.1)
+    (behind_params_taken steps.0 (from_separator text) parts steps.2)
 
-parts_again : (letters : List ℕ) (has_adjacent : Bool) (p : Params) (separator : ℕ) (rest : List ℕ) → LacksSeparators letters → IsParams letters p → is_separator separator ≡ true → id_parts_at letters has_adjacent (params_text p ++ separator ∷ rest) ≡ behind_params p (separator ∷ rest)
+-- what stands behind the parameters is read behind them
+split_params : (letters : List ℕ) (has_adjacent : Bool) (p : Params) (separator : ℕ) (rest : List ℕ) → LacksSeparators letters
+    → IsParams letters p → is_separator separator ≡ true
+    → id_parts_at letters has_adjacent (params_text p ++ separator ∷ rest) ≡ behind_params p (separator ∷ rest)
 unfolding id_parts_at
-parts_again letters has_adjacent p separator rest lacks params is =
+split_params letters has_adjacent p separator rest lacks params is =
     let text = params_text p ++ separator ∷ rest in
     let split = split_again (params_text p) separator rest (params_no_separator letters p lacks params) is in
     let read : params_at letters has_adjacent (params_part text) ≡ Ok p =
-    ap (params_at letters has_adjacent) split.0 ∙ params_again letters has_adjacent (params_text p) p (record { params = params; text_is = refl }) in
+    ap (params_at letters has_adjacent) split.0
+    ∙ params_again letters has_adjacent (params_text p) p (record { params = params; text_is = refl }) in
     bind_again (params_at letters has_adjacent (params_part text)) (λ q. behind_params q (from_separator text)) p read
     ∙ ap (behind_params p) split.1
 
-pub id_parts_again : (letters : List ℕ) (has_adjacent : Bool) (text : List ℕ) (parts : GameId (List ℕ)) → LacksSeparators letters → IsIdText letters IsAnyText parts text → id_parts_at letters has_adjacent text ≡ Ok parts
+pub id_parts_again : (letters : List ℕ) (has_adjacent : Bool) (text : List ℕ) (parts : GameId (List ℕ)) → LacksSeparators letters
+    → IsIdText letters IsAnyText parts text → id_parts_at letters has_adjacent text ≡ Ok parts
 id_parts_again letters has_adjacent text (Described p desc) lacks h =
-    let text_is : text ≡ params_text p ++ 58 ∷ desc = h.1.1 ∙ ap (λ xs. params_text p ++ 58 ∷ xs) (sym h.1.2) in
-    ap (id_parts_at letters has_adjacent) text_is ∙ parts_again letters has_adjacent p 58 desc lacks h.0 refl
+    let text_is : text ≡ params_text p ++ colon ∷ desc = h.1.1 ∙ ap (λ xs. params_text p ++ colon ∷ xs) (sym h.1.2) in
+    ap (id_parts_at letters has_adjacent) text_is ∙ split_params letters has_adjacent p colon desc lacks h.0 refl
 id_parts_again letters has_adjacent text (Seeded p seed) lacks h =
-    let read : decimal_value 18446744073709551615 (decimal seed) ≡ Some seed = number_again 18446744073709551615 seed (omega (arith, h.1)) (omega arith) in
-    ap (id_parts_at letters has_adjacent) h.2 ∙ (parts_again letters has_adjacent p 33 (decimal seed) lacks h.0 refl ∙ ap (seeded p) read)
+    let read : decimal_value largest_seed (decimal seed) ≡ Some seed =
+    number_again largest_seed seed (omega (arith, h.1)) (omega arith) in
+    ap (id_parts_at letters has_adjacent) h.2
+    ∙ (split_params letters has_adjacent p exclamation (decimal seed) lacks h.0 refl ∙ ap (seeded p) read)
 
 -- the ID with its description read
-with_taken : (D : Type 0) (letters : List ℕ) (desc_at : ℕ → List ℕ → Result D IdFault) (IsDesc : ℕ → D → List ℕ → Type 0) (text : List ℕ) (parts : GameId (List ℕ)) (id : GameId D) → ReadsGrammar D desc_at IsDesc → IsIdText letters IsAnyText parts text → with_description desc_at parts ≡ Ok id → IsIdText letters IsDesc id text
+with_taken : (D : Type 0) (letters : List ℕ) (desc_at : ℕ → List ℕ → Result D IdFault) (IsDesc : ℕ → D → List ℕ → Type 0)
+    (text : List ℕ) (parts : GameId (List ℕ)) (id : GameId D)
+    → ReadsGrammar D desc_at IsDesc → IsIdText letters IsAnyText parts text → with_description desc_at parts ≡ Ok id
+    → IsIdText letters IsDesc id text
 with_taken D letters desc_at IsDesc text (Described p desc) id reads h read =
     let steps = bind_taken (desc_at p.size desc) (λ d. Ok (Described p d)) id read in
     let is : Described p steps.0 ≡ id = cc in
-    let text_is : text ≡ params_text p ++ 58 ∷ desc = h.1.1 ∙ ap (λ xs. params_text p ++ 58 ∷ xs) (sym h.1.2) in
+    let text_is : text ≡ params_text p ++ colon ∷ desc = h.1.1 ∙ ap (λ xs. params_text p ++ colon ∷ xs) (sym h.1.2) in
     subst (λ v. IsIdText letters IsDesc v text) is (h.0, (desc, text_is, reads.taken p.size desc steps.0 h.0.smallest h.0.largest steps.1))
 with_taken D letters desc_at IsDesc text (Seeded p seed) id reads h read =
     let is : Seeded p seed ≡ id = cc in
     subst (λ v. IsIdText letters IsDesc v text) is h
 
-pub id_taken : (D : Type 0) (letters : List ℕ) (has_adjacent : Bool) (desc_at : ℕ → List ℕ → Result D IdFault) (IsDesc : ℕ → D → List ℕ → Type 0) (text : List ℕ) (id : GameId D) → ReadsGrammar D desc_at IsDesc → id_at letters has_adjacent desc_at text ≡ Ok id → IsIdText letters IsDesc id text
+pub id_taken : (D : Type 0) (letters : List ℕ) (has_adjacent : Bool) (desc_at : ℕ → List ℕ → Result D IdFault)
+    (IsDesc : ℕ → D → List ℕ → Type 0) (text : List ℕ) (id : GameId D)
+    → ReadsGrammar D desc_at IsDesc → id_at letters has_adjacent desc_at text ≡ Ok id → IsIdText letters IsDesc id text
 unfolding id_at
 id_taken D letters has_adjacent desc_at IsDesc text id reads read =
     let steps = bind_taken (id_parts_at letters has_adjacent text) (with_description desc_at) id read in
     with_taken D letters desc_at IsDesc text steps.0 id reads (id_parts_taken letters has_adjacent text steps.0 steps.1) steps.2
 
-pub id_again : (D : Type 0) (letters : List ℕ) (has_adjacent : Bool) (desc_at : ℕ → List ℕ → Result D IdFault) (IsDesc : ℕ → D → List ℕ → Type 0) (text : List ℕ) (id : GameId D) → LacksSeparators letters → ReadsGrammar D desc_at IsDesc → IsIdText letters IsDesc id text → id_at letters has_adjacent desc_at text ≡ Ok id
+pub id_again : (D : Type 0) (letters : List ℕ) (has_adjacent : Bool) (desc_at : ℕ → List ℕ → Result D IdFault)
+    (IsDesc : ℕ → D → List ℕ → Type 0) (text : List ℕ) (id : GameId D)
+    → LacksSeparators letters → ReadsGrammar D desc_at IsDesc → IsIdText letters IsDesc id text
+    → id_at letters has_adjacent desc_at text ≡ Ok id
 unfolding id_at
 id_again D letters has_adjacent desc_at IsDesc text (Described p d) lacks reads h =
     let desc = h.1.0 in
@@ -169,20 +191,32 @@ id_again D letters has_adjacent desc_at IsDesc text (Seeded p seed) lacks reads 
     bind_again (id_parts_at letters has_adjacent text) (with_description desc_at) (Seeded p seed) parts
 
 -- the same of an answer
-pub id_found : (D : Type 0) (letters : List ℕ) (has_adjacent : Bool) (desc_at : ℕ → List ℕ → Result D IdFault) (IsDesc : ℕ → D → List ℕ → Type 0) (text : List ℕ) (answer : Result (GameId D) IdFault) → ReadsGrammar D desc_at IsDesc → answer ≡ id_at letters has_adjacent desc_at text → IfOk answer (λ id. IsIdText letters IsDesc id text)
+pub id_found : (D : Type 0) (letters : List ℕ) (has_adjacent : Bool) (desc_at : ℕ → List ℕ → Result D IdFault)
+    (IsDesc : ℕ → D → List ℕ → Type 0) (text : List ℕ) (answer : Result (GameId D) IdFault)
+    → ReadsGrammar D desc_at IsDesc → answer ≡ id_at letters has_adjacent desc_at text
+    → IfOk answer (λ id. IsIdText letters IsDesc id text)
 id_found D letters has_adjacent desc_at IsDesc text (Ok id) reads is = id_taken D letters has_adjacent desc_at IsDesc text id reads (sym is)
 id_found D letters has_adjacent desc_at IsDesc text (Err e) reads is = tt
 
-pub id_parts_found : (letters : List ℕ) (has_adjacent : Bool) (text : List ℕ) (answer : Result (GameId (Bor (List ℕ))) IdFault) → Gives (λ id. id_map (λ r. r.now) id) answer (id_parts_at letters has_adjacent text) → IfOk answer (λ id. IsIdText letters IsAnyText (id_map (λ r. r.now) id) text)
+pub id_parts_found : (letters : List ℕ) (has_adjacent : Bool) (text : List ℕ) (answer : Result (GameId (Bor (List ℕ))) IdFault)
+    → Gives (λ id. id_map (λ r. r.now) id) answer (id_parts_at letters has_adjacent text)
+    → IfOk answer (λ id. IsIdText letters IsAnyText (id_map (λ r. r.now) id) text)
 id_parts_found letters has_adjacent text (Ok id) gives = id_parts_taken letters has_adjacent text (id_map (λ r. r.now) id) gives
 id_parts_found letters has_adjacent text (Err e) gives = tt
 
-pub id_parts_only : (letters : List ℕ) (has_adjacent : Bool) (text : List ℕ) (answer : Result (GameId (Bor (List ℕ))) IdFault) (id : GameId (List ℕ)) → Gives (λ v. id_map (λ r. r.now) v) answer (id_parts_at letters has_adjacent text) → LacksSeparators letters → IsIdText letters IsAnyText id text → Gives (λ v. id_map (λ r. r.now) v) answer (Ok id)
+pub id_parts_only : (letters : List ℕ) (has_adjacent : Bool) (text : List ℕ) (answer : Result (GameId (Bor (List ℕ))) IdFault)
+    (id : GameId (List ℕ))
+    → Gives (λ v. id_map (λ r. r.now) v) answer (id_parts_at letters has_adjacent text) → LacksSeparators letters
+    → IsIdText letters IsAnyText id text → Gives (λ v. id_map (λ r. r.now) v) answer (Ok id)
 id_parts_only letters has_adjacent text (Ok v) id gives lacks h = sym (id_parts_again letters has_adjacent text id lacks h) ∙ gives
 id_parts_only letters has_adjacent text (Err e) id gives lacks h = sym (id_parts_again letters has_adjacent text id lacks h) ∙ gives
 
 -- what a game owes of its descriptions makes its reading one of the grammar
-pub game_reads : (D : Type 0) (puzzle : D → Puzzle) (valid : D → Type 0) (describes : List ℕ → D → Type 0) (desc_at : ℕ → List ℕ → Result D IdFault) → ((w : ℕ) (text : List ℕ) (d : D) → 3 ≤ w → w ≤ 9 → desc_at w text ≡ Ok d → describes text d × valid d × ((puzzle d).size ≡ w)) → ((text : List ℕ) (d : D) → valid d → describes text d → desc_at (puzzle d).size text ≡ Ok d) → ReadsGrammar D desc_at (describes_at puzzle valid describes)
+pub game_reads : (D : Type 0) (puzzle : D → Puzzle) (valid : D → Type 0) (describes : List ℕ → D → Type 0)
+    (desc_at : ℕ → List ℕ → Result D IdFault)
+    → ((w : ℕ) (text : List ℕ) (d : D) → 3 ≤ w → w ≤ 9 → desc_at w text ≡ Ok d → describes text d × valid d × ((puzzle d).size ≡ w))
+    → ((text : List ℕ) (d : D) → valid d → describes text d → desc_at (puzzle d).size text ≡ Ok d)
+    → ReadsGrammar D desc_at (describes_at puzzle valid describes)
 game_reads D puzzle valid describes desc_at taken again = record {
   taken = λ w text d small large read. taken w text d small large read;
   again = λ w text d is. subst (λ n. desc_at n text ≡ Ok d) is.2 (again text d is.1 is.0);
@@ -194,18 +228,20 @@ spares-more p (b ∷ bs) = λ e. cc
 
 letter_spares : (letters : List ℕ) (w : ℕ) (bs : List ℕ) → SparesMemory (letter_at letters w bs)
 letter_spares letters w [] = λ e. cc
-letter_spares letters w (b ∷ bs) = spares-if (list_any (λ l. l == b) letters) _ (Err BadLetter) (spares-more (record { size = w; letter = Some b }) bs) (λ e. cc)
+letter_spares letters w (b ∷ bs) =
+    spares-if (list_any (λ l. l == b) letters) _ (Err BadLetter) (spares-more (record { size = w; letter = Some b }) bs) (λ e. cc)
 
 size_spares : (letters : List ℕ) (adjacent : Bool) (w : ℕ) (bs : List ℕ) → SparesMemory (behind_size letters adjacent w bs)
 size_spares letters adjacent w [] = tt
 size_spares letters adjacent w (b ∷ bs) =
-    spares-if (adjacent && (b == 97)) (Err AdjacentMode) _ (λ e. cc)
-    (spares-if (b == 100) _ (Err BadParams) (letter_spares letters w bs) (λ e. cc))
+    spares-if (adjacent && (b == letter_a)) (Err AdjacentMode) _ (λ e. cc)
+    (spares-if (b == letter_d) _ (Err BadParams) (letter_spares letters w bs) (λ e. cc))
 
 pub params_spare : (letters : List ℕ) (adjacent : Bool) (text : List ℕ) → SparesMemory (params_at letters adjacent text)
 unfolding params_at
 params_spare letters adjacent [] = λ e. cc
-params_spare letters adjacent (b ∷ bs) = spares-if (is_size b bs) _ (Err BadSize) (size_spares letters adjacent (b - 48) bs) (λ e. cc)
+params_spare letters adjacent (b ∷ bs) =
+    spares-if (is_size b bs) _ (Err BadSize) (size_spares letters adjacent (b - digit_zero) bs) (λ e. cc)
 
 seed_spares : (p : Params) (seed : Option ℕ) → SparesMemory (seeded p seed)
 seed_spares p None = λ e. cc
@@ -214,14 +250,18 @@ seed_spares p (Some seed) = tt
 parts_spare : (p : Params) (bs : List ℕ) → SparesMemory (behind_params p bs)
 parts_spare p [] = λ e. cc
 parts_spare p (b ∷ bs) =
-    spares-if (b == 35) (Err ForeignSeed) _ (λ e. cc)
-    (spares-if (b == 33) _ (Ok (Described p bs)) (seed_spares p (decimal_value 18446744073709551615 bs)) tt)
+    spares-if (b == hash) (Err ForeignSeed) _ (λ e. cc)
+    (spares-if (b == exclamation) _ (Ok (Described p bs)) (seed_spares p (decimal_value largest_seed bs)) tt)
 
-description_spares : {D : Type 0} (desc_at : ℕ → List ℕ → Result D IdFault) → ((w : ℕ) (text : List ℕ) → SparesMemory (desc_at w text)) → (id : GameId (List ℕ)) → SparesMemory (with_description desc_at id)
+description_spares : {D : Type 0} (desc_at : ℕ → List ℕ → Result D IdFault)
+    → ((w : ℕ) (text : List ℕ) → SparesMemory (desc_at w text)) → (id : GameId (List ℕ))
+    → SparesMemory (with_description desc_at id)
 description_spares desc_at spares (Described p desc) = spares-then (desc_at p.size desc) _ (spares p.size desc) (λ d. tt)
 description_spares desc_at spares (Seeded p seed) = tt
 
-pub id_spares : {D : Type 0} (letters : List ℕ) (adjacent : Bool) (desc_at : ℕ → List ℕ → Result D IdFault) → ((w : ℕ) (text : List ℕ) → SparesMemory (desc_at w text)) → (text : List ℕ) → SparesMemory (id_at letters adjacent desc_at text)
+pub id_spares : {D : Type 0} (letters : List ℕ) (adjacent : Bool) (desc_at : ℕ → List ℕ → Result D IdFault)
+    → ((w : ℕ) (text : List ℕ) → SparesMemory (desc_at w text)) → (text : List ℕ)
+    → SparesMemory (id_at letters adjacent desc_at text)
 unfolding id_parts_at id_at
 id_spares letters adjacent desc_at spares text =
     spares-then (id_parts_at letters adjacent text) (with_description desc_at)

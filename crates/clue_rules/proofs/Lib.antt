@@ -14,13 +14,12 @@ pub mod SettledLines
 pub mod SignLemmas
 pub mod SignSteps
 pub mod SingleSets
-pub mod TowersFull
 pub mod TowersKept
 pub mod TowersTables
 pub mod UnequalFullLemmas
 pub mod UnequalGivens
 pub mod UnequalSaid
-pub mod UnequalTable
+pub mod UnequalTables
 pub mod UnequalWritten
 pub mod ViewLines
 pub mod ViewSteps

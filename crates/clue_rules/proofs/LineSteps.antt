@@ -1,5 +1,5 @@
 -- What one row or column rules out: its squares' candidates as sets, and a Latin square among them.
-use Rattle.std.proofs.Common.{◌≡◌, ℕ, ◌*◌, ◌<◌, ◌≤◌, Bool, true, false, List, get_or, inl, inr, sym, ap, ◌∙◌, subst, arith}
+use Rattle.std.proofs.Common.{◌≡◌, ℕ, ◌*◌, ◌<◌, Bool, true, false, List, inl, inr, sym, ap, ◌∙◌, subst, arith, slice_index}
 use Rattle.std.proofs.lemmas.Bool.{both_ways, false_from_ne_true}
 use Rattle.latin_board.specs.Marks.{has_mark}
 use Rattle.latin_board.specs.Squares.{GridValue, number_at}
@@ -9,8 +9,8 @@ use Rattle.latin_board.proofs.Numbers.{number_within}
 use Rattle.trail_solver.specs.Pairs.{IsPair}
 use Rattle.trail_solver.specs.Candidates.{CandidatesValue, IsEarlier, IsOnly, IsWithin, may_be}
 use Rattle.trail_solver.proofs.Earlier.{earlier_refl, only_later, was_left}
-use Rattle.clue_rules.specs.Inner.Narrowing.{AreSetsOf, IsSquare, KeepsAlong, Narrows, StruckBelow}
-use Rattle.clue_rules.specs.Inner.LineTallies.{IsSingle, IsPossible, IsWholeTally, IsKeptOf, IsLineStruck}
+use Rattle.clue_rules.specs.Inner.Narrowing.{AreSetsOf, IsSquare, KeepsAlong, Narrows, StruckBelow, IsSetOf}
+use Rattle.clue_rules.specs.Inner.LineTallies.{IsSingle, IsPossible, IsWholeTally, IsKeptOf, IsLineStruck, HoldValuesTo}
 use Rattle.clue_rules.specs.Struck.{IsOnePlace, IsPeerStruck, IsPlaceStruck, IsLatinStruck}
 use Rattle.clue_rules.specs.Views.{view_cell}
 use Rattle.clue_rules.specs.declared.lines.latin.Tally.{Tally}
@@ -19,14 +19,20 @@ use Rattle.clue_rules.proofs.LineTallying.{possible_stays, taken_goes, displaced
 
 -- ---- from the sets that are kept along a line to a step of narrowing
 
-pub along_narrows : {S : GridValue → Type 0} {T : CandidatesValue → ℕ → ℕ → Type 0} {place : ℕ} {kept : List ℕ} {old new : CandidatesValue} {r : Bool}
-    → ((g : GridValue) → S g → g.size ≡ old.size → IsWithin old g → (k : ℕ) → k < old.size → has_mark (get_or kept k 0) (number_at g (view_cell old.size place k)) ≡ true)
-    → ((first : CandidatesValue) → IsEarlier first old → (cell v : ℕ) → T first cell v → (k : ℕ) × (k < old.size) × (view_cell old.size place k ≡ cell) × (has_mark (get_or kept k 0) v ≡ false))
+pub along_narrows : {S : GridValue → Type 0} {T : CandidatesValue → ℕ → ℕ → Type 0} {place : ℕ} {kept : List ℕ}
+    {old new : CandidatesValue} {r : Bool}
+    → ((g : GridValue) → S g → g.size ≡ old.size → IsWithin old g → (k : ℕ) → k < old.size
+    → has_mark (slice_index kept k) (number_at g (view_cell old.size place k)) ≡ true)
+    → ((first : CandidatesValue) → IsEarlier first old → (cell v : ℕ) → T first cell v
+    → (k : ℕ) × (k < old.size) × (view_cell old.size place k ≡ cell) × (has_mark (slice_index kept k) v ≡ false))
     → KeepsAlong place kept old new r → Narrows S T old new r
 along_narrows {kept = kept} {old = old} {new = new} {r = r} solved struck h = record {
   less = h.less;
   keeps = λ g s size w. h.keeps g size (λ k inside. solved g s size w k inside) w;
-  refutes = on_false r (λ empty g s size w. both_ways (has_mark (get_or kept empty.0 0) _) (empty.2 _) (solved g s size w empty.0 empty.1)) h.empty;
+  refutes =
+      on_false r
+      (λ empty g s size w. both_ways (has_mark (slice_index kept empty.0) _) (empty.2 _) (solved g s size w empty.0 empty.1))
+      h.empty;
   struck = on_true r (λ gone. record {
     each = λ first e cell v pair s.
         let at = struck first e cell v s in
@@ -52,18 +58,25 @@ grid_pair g w cell s size inside =
       high = omega (arith, number_within g s.is_grid cell here);
     }
 
+-- a grid within the candidates has a number of the cell's set
+pub in_set : (c : CandidatesValue) (cell set : ℕ) (g : GridValue) → IsSetOf c cell set → IsSquare g → g.size ≡ c.size → IsWithin c g
+    → cell < c.size * c.size → has_mark set (number_at g cell) ≡ true
+in_set c cell set g is s size w inside = (is (number_at g cell)).1 (grid_pair g c.size cell s size inside, w.each cell inside)
+
 along_inside : (w line place k : ℕ) → IsAlong w line place → k < w → view_cell w place k < w * w
 along_inside w line place k a inside = rw (a.cells k) (line_cell_inside w line k a.line_is inside)
 
 -- the numbers of a Latin square within the candidates are possible
-pub square_possible : (c : CandidatesValue) (line place : ℕ) (sets : List ℕ) (g : GridValue) → IsAlong c.size line place → AreSetsOf c place sets → IsSquare g → g.size ≡ c.size → IsWithin c g → IsPossible sets c.size (λ k. number_at g (view_cell c.size place k))
+pub square_possible : (c : CandidatesValue) (line place : ℕ) (sets : List ℕ) (g : GridValue) → IsAlong c.size line place
+    → AreSetsOf c place sets → IsSquare g → g.size ≡ c.size → IsWithin c g
+    → IsPossible sets c.size (λ k. number_at g (view_cell c.size place k))
 square_possible c line place sets g a is s size within =
     let cell_is : (k : ℕ) → number_at g (view_cell c.size place k) ≡ number_at g (line_cell g.size line k) =
     λ k. ap (number_at g) (a.cells k ∙ ap (λ (w : ℕ). line_cell w line k) (sym size)) in
     record {
       within = λ k inside.
-          let there = along_inside c.size line place k a inside in
-          (is.each k (number_at g (view_cell c.size place k)) inside).1 (grid_pair g c.size (view_cell c.size place k) s size there, within.each (view_cell c.size place k) there);
+          in_set c (view_cell c.size place k) (slice_index sets k) g (is.each k inside) s size within
+          (along_inside c.size line place k a inside);
       apart = λ i j first second apart same.
           line_differs g s.is_grid s.latin line i j (omega (arith, a.line_is)) (omega arith) (omega arith) apart
           (sym (cell_is i) ∙ same ∙ cell_is j);
@@ -74,38 +87,48 @@ square_possible c line place sets g a is s size within =
 
 -- ---- what the tally of a line's sets says
 
-sets_values : (c : CandidatesValue) (place : ℕ) (sets : List ℕ) → AreSetsOf c place sets → (i v : ℕ) → i < c.size → has_mark (get_or sets i 0) v ≡ true → (1 ≤ v) × (v ≤ c.size)
-sets_values c place sets is i v inside has = let p = ((is.each i v inside).0 has).0 in (p.low, p.high)
+sets_values : (c : CandidatesValue) (place : ℕ) (sets : List ℕ) → AreSetsOf c place sets → HoldValuesTo c.size sets
+sets_values c place sets is k v inside has = let p = ((is.each k inside v).0 has).0 in (p.low, p.high)
 
-pub line_solved : (c : CandidatesValue) (line place : ℕ) (sets kept : List ℕ) (t : Tally) → IsAlong c.size line place → AreSetsOf c place sets → IsWholeTally sets c.size t → ((k : ℕ) → k < c.size → IsKeptOf t (get_or sets k 0) (get_or kept k 0)) → (g : GridValue) → IsSquare g → g.size ≡ c.size → IsWithin c g → (k : ℕ) → k < c.size → has_mark (get_or kept k 0) (number_at g (view_cell c.size place k)) ≡ true
+pub line_solved : (c : CandidatesValue) (line place : ℕ) (sets kept : List ℕ) (t : Tally) → IsAlong c.size line place
+    → AreSetsOf c place sets → IsWholeTally sets c.size t
+    → ((k : ℕ) → k < c.size → IsKeptOf t (slice_index sets k) (slice_index kept k)) → (g : GridValue) → IsSquare g → g.size ≡ c.size
+    → IsWithin c g → (k : ℕ) → k < c.size → has_mark (slice_index kept k) (number_at g (view_cell c.size place k)) ≡ true
 line_solved c line place sets kept t a is whole keeps g s size within k inside =
     let p = square_possible c line place sets g a is s size within in
     (keeps k inside).all _ (p.within k inside) (possible_stays sets c.size t (λ k. number_at g (view_cell c.size place k)) k whole p (sets_values c place sets is) inside)
 
 -- a square that had one candidate has that one still
-taken_single : (first c : CandidatesValue) (line place by v : ℕ) (sets : List ℕ) (t : Tally) → IsEarlier first c → IsAlong c.size line place → AreSetsOf c place sets → IsWholeTally sets c.size t → by < c.size → IsOnly first (line_cell first.size line by) v → IsSingle (get_or sets by 0) v
+taken_single : (first c : CandidatesValue) (line place by v : ℕ) (sets : List ℕ) (t : Tally) → IsEarlier first c
+    → IsAlong c.size line place → AreSetsOf c place sets → IsWholeTally sets c.size t → by < c.size
+    → IsOnly first (line_cell first.size line by) v → IsSingle (slice_index sets by) v
 taken_single first c line place by v sets t e a is whole inside only =
     let cell = view_cell c.size place by in
     let same : line_cell first.size line by ≡ cell = ap (λ (w : ℕ). line_cell w line by) (sym e.size) ∙ sym (a.cells by) in
     let Only : ℕ → Type 0 = λ i. IsOnly first i v in
     let was : IsOnly first cell v = subst Only same only in
     let some = whole.tally.some by inside in
-    let left = (is.each by some.0 inside).0 some.1 in
+    let left = (is.each by inside some.0).0 some.1 in
     let now = only_later first c cell v some.0 e was left.0.low left.0.high left.1 in
     record {
-      has = (is.each by v inside).1 (record { inside = left.0.inside; low = now.low; high = now.high }, now.left);
-      alone = λ u has. let p = (is.each by u inside).0 has in now.alone u p.0.low p.0.high p.1;
+      has = (is.each by inside v).1 (record { inside = left.0.inside; low = now.low; high = now.high }, now.left);
+      alone = λ u has. let p = (is.each by inside u).0 has in now.alone u p.0.low p.0.high p.1;
     }
 
 -- a value that had one place has no other still
-one_place : (first c : CandidatesValue) (line place k v : ℕ) (sets : List ℕ) → IsEarlier first c → IsAlong c.size line place → AreSetsOf c place sets → IsOnePlace first line v k → (j : ℕ) → j < c.size → has_mark (get_or sets j 0) v ≡ true → j ≡ k
+one_place : (first c : CandidatesValue) (line place k v : ℕ) (sets : List ℕ) → IsEarlier first c → IsAlong c.size line place
+    → AreSetsOf c place sets → IsOnePlace first line v k → (j : ℕ) → j < c.size → has_mark (slice_index sets j) v ≡ true → j ≡ k
 one_place first c line place k v sets e a is one j inside has =
-    let left = ((is.each j v inside).0 has).1 in
+    let left = ((is.each j inside v).0 has).1 in
     let same : view_cell c.size place j ≡ line_cell first.size line j = a.cells j ∙ ap (λ (w : ℕ). line_cell w line j) e.size in
     let P : ℕ → Type 0 = λ i. may_be c i v ≡ true in
     one.alone j (omega (arith, e.size)) (was_left first c (line_cell first.size line j) v e (subst P same left))
 
-pub line_struck : (c : CandidatesValue) (line place : ℕ) (sets kept : List ℕ) (t : Tally) → IsAlong c.size line place → AreSetsOf c place sets → IsWholeTally sets c.size t → ((k : ℕ) → k < c.size → IsKeptOf t (get_or sets k 0) (get_or kept k 0)) → (first : CandidatesValue) → IsEarlier first c → (cell v : ℕ) → IsLineStruck line first cell v → (k : ℕ) × (k < c.size) × (view_cell c.size place k ≡ cell) × (has_mark (get_or kept k 0) v ≡ false)
+pub line_struck : (c : CandidatesValue) (line place : ℕ) (sets kept : List ℕ) (t : Tally) → IsAlong c.size line place
+    → AreSetsOf c place sets → IsWholeTally sets c.size t
+    → ((k : ℕ) → k < c.size → IsKeptOf t (slice_index sets k) (slice_index kept k)) → (first : CandidatesValue) → IsEarlier first c
+    → (cell v : ℕ) → IsLineStruck line first cell v
+    → (k : ℕ) × (k < c.size) × (view_cell c.size place k ≡ cell) × (has_mark (slice_index kept k) v ≡ false)
 line_struck c line place sets kept t a is whole keeps first e cell v struck =
     let k = struck.place in
     let inside : k < c.size = omega (arith, struck.inside, e.size) in
@@ -113,14 +136,17 @@ line_struck c line place sets kept t a is whole keeps first e cell v struck =
       k,
       inside,
       here,
-      false_from_ne_true (has_mark (get_or kept k 0) v) (λ has.
+      false_from_ne_true (has_mark (slice_index kept k) v) (λ has.
           let stays = ((keeps k inside).only v has).1 in
           elim struck.why [
             | inl taken ↦
                 let there : taken.by < c.size = omega (arith, taken.inside, e.size) in
-                taken_goes sets c.size t k taken.by v whole inside there taken.apart (taken_single first c line place taken.by v sets t e a is whole there taken.only) stays
+                taken_goes sets c.size t k taken.by v whole inside there taken.apart
+                (taken_single first c line place taken.by v sets t e a is whole there taken.only) stays
             | inr displaced ↦
-                displaced_goes sets c.size t k v displaced.other whole inside displaced.apart displaced.low (omega (arith, displaced.high, e.size)) (one_place first c line place k displaced.other sets e a is displaced.one) stays
+                displaced_goes sets c.size t k v displaced.other whole inside displaced.apart displaced.low
+                (omega (arith, displaced.high, e.size))
+                (one_place first c line place k displaced.other sets e a is displaced.one) stays
           ]),
     )
 
@@ -156,7 +182,8 @@ place_line c cell v struck = (
 pub latin_by_lines : (c : CandidatesValue) (cell v : ℕ) → IsLatinStruck c cell v → StruckBelow IsLineStruck (2 * c.size) c cell v
 latin_by_lines c cell v struck = elim struck [ inl peer ↦ peer_line c cell v peer | inr place ↦ place_line c cell v place ]
 
-pub latin_narrows : (n : ℕ) (old new : CandidatesValue) → n ≡ 2 * old.size → Narrows IsSquare (StruckBelow IsLineStruck n) old new true → Narrows IsSquare IsLatinStruck old new true
+pub latin_narrows : (n : ℕ) (old new : CandidatesValue) → n ≡ 2 * old.size
+    → Narrows IsSquare (StruckBelow IsLineStruck n) old new true → Narrows IsSquare IsLatinStruck old new true
 latin_narrows n old new all h =
     narrows_by (λ first e cell v pair s.
     let same : 2 * first.size ≡ n = omega (arith, e.size) in
@@ -165,7 +192,9 @@ latin_narrows n old new all h =
 
 -- ---- one line as a step
 
-pub line_refuted : {T : CandidatesValue → ℕ → ℕ → Type 0} (c : CandidatesValue) (line place : ℕ) (sets : List ℕ) → IsAlong c.size line place → AreSetsOf c place sets → ((number : ℕ → ℕ) → IsPossible sets c.size number → ⊥) → Narrows IsSquare T c c false
+pub line_refuted : {T : CandidatesValue → ℕ → ℕ → Type 0} (c : CandidatesValue) (line place : ℕ) (sets : List ℕ)
+    → IsAlong c.size line place → AreSetsOf c place sets → ((number : ℕ → ℕ) → IsPossible sets c.size number → ⊥)
+    → Narrows IsSquare T c c false
 line_refuted c line place sets a is none = record {
   less = earlier_refl c;
   keeps = λ g s size w. w;
@@ -173,7 +202,10 @@ line_refuted c line place sets a is none = record {
   struck = tt;
 }
 
-pub line_narrows : (old new : CandidatesValue) (line place : ℕ) (sets kept : List ℕ) (t : Tally) (left : Bool) → IsAlong old.size line place → AreSetsOf old place sets → IsWholeTally sets old.size t → ((k : ℕ) → k < old.size → IsKeptOf t (get_or sets k 0) (get_or kept k 0)) → KeepsAlong place kept old new left → Narrows IsSquare (IsLineStruck line) old new left
+pub line_narrows : (old new : CandidatesValue) (line place : ℕ) (sets kept : List ℕ) (t : Tally) (left : Bool)
+    → IsAlong old.size line place → AreSetsOf old place sets → IsWholeTally sets old.size t
+    → ((k : ℕ) → k < old.size → IsKeptOf t (slice_index sets k) (slice_index kept k)) → KeepsAlong place kept old new left
+    → Narrows IsSquare (IsLineStruck line) old new left
 line_narrows old new line place sets kept t left a is whole keeps h =
     along_narrows (λ g s size w k inside. line_solved old line place sets kept t a is whole keeps g s size w k inside)
     (λ first e cell v s. line_struck old line place sets kept t a is whole keeps first e cell v s) h

@@ -2,13 +2,13 @@
 use Rattle.std.proofs.Common.{◌≡◌, ◌≢◌, ℕ, ◌+◌, ◌-◌, ◌*◌, ◌<◌, ◌≤◌, ◌⊎◌, length, Bool, true, false, inl, inr, sym, ◌∙◌, subst, arith}
 use Rattle.std.specs.Bool.{OnTrue, OnFalse}
 use Rattle.std.proofs.Math.Nat.{mul-le-mul_left}
-use Rattle.std.proofs.lemmas.Bool.{cases_lt}
 use Rattle.latin_board.specs.Squares.{GridValue}
 use Rattle.trail_solver.specs.Pairs.{IsPair}
 use Rattle.trail_solver.specs.Candidates.{CandidatesValue, IsEarlier, may_be}
 use Rattle.trail_solver.proofs.Earlier.{earlier_refl, earlier_trans, prefix_length, stays_gone}
 use Rattle.clue_rules.specs.Inner.Narrowing.{LacksStruck, Narrows, NoneStruck, StruckBelow, IsStruckByLines}
 use Rattle.clue_rules.specs.Struck.{IsLatinStruck}
+use Rattle.clue_rules.proofs.RangeLemmas.{below_cases}
 
 pub on_true : (b : Bool) {P Q : Type 0} → (P → Q) → OnTrue b P → OnTrue b Q
 on_true true f h = f h
@@ -18,11 +18,14 @@ pub on_false : (b : Bool) {P Q : Type 0} → (P → Q) → OnFalse b P → OnFal
 on_false true f h = tt
 on_false false f h = f h
 
-lacks_by : {T U : CandidatesValue → ℕ → ℕ → Type 0} {a b : CandidatesValue} → ((first : CandidatesValue) → IsEarlier first a → (cell v : ℕ) → IsPair first.size cell v → U first cell v → T first cell v) → LacksStruck T a b → LacksStruck U a b
+lacks_by : {T U : CandidatesValue → ℕ → ℕ → Type 0} {a b : CandidatesValue}
+    → ((first : CandidatesValue) → IsEarlier first a → (cell v : ℕ) → IsPair first.size cell v → U first cell v → T first cell v)
+    → LacksStruck T a b → LacksStruck U a b
 lacks_by f h = record { each = λ first e cell v pair s. h.each first e cell v pair (f first e cell v pair s) }
 
 -- a step for fewer grids
-pub narrows_for : {S R : GridValue → Type 0} {T : CandidatesValue → ℕ → ℕ → Type 0} {a b : CandidatesValue} {r : Bool} → ((g : GridValue) → S g → R g) → Narrows R T a b r → Narrows S T a b r
+pub narrows_for : {S R : GridValue → Type 0} {T : CandidatesValue → ℕ → ℕ → Type 0} {a b : CandidatesValue} {r : Bool}
+    → ((g : GridValue) → S g → R g) → Narrows R T a b r → Narrows S T a b r
 narrows_for {r = r} f h = record {
   less = h.less;
   keeps = λ g s size w. h.keeps g (f g s) size w;
@@ -31,7 +34,9 @@ narrows_for {r = r} f h = record {
 }
 
 -- a step that strikes more
-pub narrows_by : {S : GridValue → Type 0} {T U : CandidatesValue → ℕ → ℕ → Type 0} {a b : CandidatesValue} {r : Bool} → ((first : CandidatesValue) → IsEarlier first a → (cell v : ℕ) → IsPair first.size cell v → U first cell v → T first cell v) → Narrows S T a b r → Narrows S U a b r
+pub narrows_by : {S : GridValue → Type 0} {T U : CandidatesValue → ℕ → ℕ → Type 0} {a b : CandidatesValue} {r : Bool}
+    → ((first : CandidatesValue) → IsEarlier first a → (cell v : ℕ) → IsPair first.size cell v → U first cell v → T first cell v)
+    → Narrows S T a b r → Narrows S U a b r
 narrows_by {r = r} f h = record {
   less = h.less;
   keeps = h.keeps;
@@ -48,7 +53,9 @@ narrows_nothing S c = record {
 }
 
 -- two steps
-pub narrows_then : {S : GridValue → Type 0} {T U V : CandidatesValue → ℕ → ℕ → Type 0} {a b c : CandidatesValue} {r : Bool} → ((first : CandidatesValue) (cell v : ℕ) → V first cell v → T first cell v ⊎ U first cell v) → Narrows S T a b true → Narrows S U b c r → Narrows S V a c r
+pub narrows_then : {S : GridValue → Type 0} {T U V : CandidatesValue → ℕ → ℕ → Type 0} {a b c : CandidatesValue} {r : Bool}
+    → ((first : CandidatesValue) (cell v : ℕ) → V first cell v → T first cell v ⊎ U first cell v) → Narrows S T a b true
+    → Narrows S U b c r → Narrows S V a c r
 narrows_then {a = a} {b = b} {c = c} {r = r} f one two = record {
   less = earlier_trans a b c one.less two.less;
   keeps = λ g s size w. two.keeps g s (size ∙ sym one.less.size) (one.keeps g s size w);
@@ -62,7 +69,8 @@ narrows_then {a = a} {b = b} {c = c} {r = r} f one two = record {
 }
 
 -- a step, and then one that finds that nothing is left
-pub narrows_stop : {S : GridValue → Type 0} {T U V : CandidatesValue → ℕ → ℕ → Type 0} {a b c : CandidatesValue} → Narrows S T a b true → Narrows S U b c false → Narrows S V a c false
+pub narrows_stop : {S : GridValue → Type 0} {T U V : CandidatesValue → ℕ → ℕ → Type 0} {a b c : CandidatesValue}
+    → Narrows S T a b true → Narrows S U b c false → Narrows S V a c false
 narrows_stop {a = a} {b = b} {c = c} one two = record {
   less = earlier_trans a b c one.less two.less;
   keeps = λ g s size w. two.keeps g s (size ∙ sym one.less.size) (one.keeps g s size w);
@@ -71,25 +79,23 @@ narrows_stop {a = a} {b = b} {c = c} one two = record {
 }
 
 -- a row of steps
-pub below_none : (S : GridValue → Type 0) (T : ℕ → CandidatesValue → ℕ → ℕ → Type 0) (c : CandidatesValue) → Narrows S (StruckBelow T 0) c c true
+pub below_none : (S : GridValue → Type 0) (T : ℕ → CandidatesValue → ℕ → ℕ → Type 0) (c : CandidatesValue)
+    → Narrows S (StruckBelow T 0) c c true
 below_none S T c = narrows_by (λ first e cell v pair s. absurd (omega (arith, s.1))) (narrows_nothing S c)
 
-pub below_more : {S : GridValue → Type 0} {T : ℕ → CandidatesValue → ℕ → ℕ → Type 0} {n : ℕ} {a b c : CandidatesValue} → Narrows S (StruckBelow T n) a b true → Narrows S (T n) b c true → Narrows S (StruckBelow T (n + 1)) a c true
-below_more {T = T} {n = n} one two =
-    narrows_then (λ first cell v s. elim (cases_lt s.0 n) [
-      | inl low ↦ inl (s.0, low, s.2)
-      | inr high ↦
-          let last : s.0 ≡ n = omega (arith, s.1) in
-          let P : ℕ → Type 0 = λ k. T k first cell v in
-          inr (subst P last s.2)
-    ]) one two
+pub below_more : {S : GridValue → Type 0} {T : ℕ → CandidatesValue → ℕ → ℕ → Type 0} {n : ℕ} {a b c : CandidatesValue}
+    → Narrows S (StruckBelow T n) a b true → Narrows S (T n) b c true → Narrows S (StruckBelow T (n + 1)) a c true
+below_more {T = T} {n = n} one two = narrows_then (λ first cell v s. below_cases (λ k. T k first cell v) n s) one two
 
 -- steps of which nothing is known to be struck
-pub nothing_more : {S : GridValue → Type 0} {U : CandidatesValue → ℕ → ℕ → Type 0} {a b c : CandidatesValue} {r : Bool} → Narrows S NoneStruck a b true → Narrows S U b c r → Narrows S NoneStruck a c r
+pub nothing_more : {S : GridValue → Type 0} {U : CandidatesValue → ℕ → ℕ → Type 0} {a b c : CandidatesValue} {r : Bool}
+    → Narrows S NoneStruck a b true → Narrows S U b c r → Narrows S NoneStruck a c r
 nothing_more one two = narrows_then (λ first cell v none. inl none) one two
 
 -- what rows and columns strike, what a rule does along every line, and then a step of which nothing is known
-pub lines_narrow : {S R : GridValue → Type 0} {T : ℕ → CandidatesValue → ℕ → ℕ → Type 0} {a b c d : CandidatesValue} {r : Bool} → ((g : GridValue) → S g → R g) → Narrows R IsLatinStruck a b true → Narrows S (StruckBelow T (2 * b.size)) b c true → Narrows S NoneStruck c d r → Narrows S (IsStruckByLines T) a d r
+pub lines_narrow : {S R : GridValue → Type 0} {T : ℕ → CandidatesValue → ℕ → ℕ → Type 0} {a b c d : CandidatesValue} {r : Bool}
+    → ((g : GridValue) → S g → R g) → Narrows R IsLatinStruck a b true → Narrows S (StruckBelow T (2 * b.size)) b c true
+    → Narrows S NoneStruck c d r → Narrows S (IsStruckByLines T) a d r
 lines_narrow {T = T} {b = b} f latin rule rest =
     let every : Narrows _ (λ k cell v. StruckBelow T (2 * k.size) k cell v) b _ true =
     narrows_by (λ first e cell v pair s.
@@ -97,7 +103,8 @@ lines_narrow {T = T} {b = b} f latin rule rest =
     subst P (sym e.size) s) rule in
     narrows_then (λ first cell v s. inl s) (narrows_then (λ first cell v s. s) (narrows_for f latin) every) rest
 
-pub lines_refuted : {S R : GridValue → Type 0} {T U : CandidatesValue → ℕ → ℕ → Type 0} {a b : CandidatesValue} → ((g : GridValue) → S g → R g) → Narrows R T a b false → Narrows S U a b false
+pub lines_refuted : {S R : GridValue → Type 0} {T U : CandidatesValue → ℕ → ℕ → Type 0} {a b : CandidatesValue}
+    → ((g : GridValue) → S g → R g) → Narrows R T a b false → Narrows S U a b false
 lines_refuted f h = record {
   less = h.less;
   keeps = λ g s size w. h.keeps g (f g s) size w;
@@ -114,12 +121,16 @@ cube_most w small =
     omega (arith, square, cube)
 
 -- the trail that a step made longer is nearer to its greatest length
-pub trail_nearer : (old new : CandidatesValue) (size before after : ℕ) → IsEarlier old new → before ≡ length old.trail → after ≡ length new.trail → before ≢ after → after ≤ size * size * size → size ≤ 9 → 729 - length new.trail < 729 - length old.trail
+pub trail_nearer : (old new : CandidatesValue) (size before after : ℕ) → IsEarlier old new → before ≡ length old.trail
+    → after ≡ length new.trail → before ≢ after → after ≤ size * size * size → size ≤ 9
+    → 729 - length new.trail < 729 - length old.trail
 trail_nearer old new size before after e was is grew bound small =
     let le = prefix_length old.trail new.trail e.adds in
     let most = cube_most size small in
     omega arith
 
 -- what is struck by the first candidates is gone in the end
-pub struck_gone : {S : GridValue → Type 0} {T : CandidatesValue → ℕ → ℕ → Type 0} {first old new : CandidatesValue} {r : Bool} → IsEarlier first old → Narrows S T old new r → OnTrue r ((cell v : ℕ) → IsPair first.size cell v → T first cell v → may_be new cell v ≡ false)
+pub struck_gone : {S : GridValue → Type 0} {T : CandidatesValue → ℕ → ℕ → Type 0} {first old new : CandidatesValue} {r : Bool}
+    → IsEarlier first old → Narrows S T old new r
+    → OnTrue r ((cell v : ℕ) → IsPair first.size cell v → T first cell v → may_be new cell v ≡ false)
 struck_gone {first = first} {r = r} e h = on_true r (λ lacks cell v pair s. lacks.each first e cell v pair s) h.struck

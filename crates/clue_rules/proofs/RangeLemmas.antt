@@ -1,11 +1,29 @@
--- Tests over a range of numbers.
-use Rattle.std.proofs.Common.{◌≡◌, ℕ, ◌+◌, Bool, false, inl, inr, arith}
+-- One number more in a range.
+use Rattle.std.proofs.Common.{◌≡◌, ℕ, ◌+◌, Bool, false, inl, inr, arith, ◌<◌, ◌⊎◌, ◌↔◌, subst}
 use Rattle.std.specs.List.{list_any, range_with_len}
 use Rattle.std.proofs.lemmas.Bool.{cases_lt}
 use Rattle.clue_rules.specs.Laws.RangeTests.{none_in_range, range_none}
 
-pub none_more : (p : ℕ → Bool) (n : ℕ) → list_any p (range_with_len 0 n) ≡ false → p n ≡ false → list_any p (range_with_len 0 (n + 1)) ≡ false
+pub none_more : (p : ℕ → Bool) (n : ℕ) → list_any p (range_with_len 0 n) ≡ false → p n ≡ false
+    → list_any p (range_with_len 0 (n + 1)) ≡ false
 none_more p n before here = range_none p 0 (n + 1) (λ i low high. elim (cases_lt i n) [
   | inl below ↦ none_in_range p 0 n i before low (omega arith)
   | inr same ↦ let last : i ≡ n = omega arith in rw last here
 ])
+
+-- what holds of one below n + 1 holds of one below n, or of n
+pub below_cases : (P : ℕ → Type 0) (n : ℕ) → (k : ℕ) × (k < n + 1) × P k → ((k : ℕ) × (k < n) × P k) ⊎ P n
+below_cases P n h = elim (cases_lt h.0 n) [
+  | inl low ↦ inl (h.0, low, h.2)
+  | inr high ↦ let last : h.0 ≡ n = omega (arith, h.1) in inr (subst P last h.2)
+]
+
+pub below_one_more : {A B : Type 0} (P : ℕ → Type 0) (n : ℕ) → A ↔ ((k : ℕ) × (k < n) × P k) → B ↔ (A ⊎ P n)
+    → B ↔ ((k : ℕ) × (k < n + 1) × P k)
+below_one_more P n before more = (
+  λ b. elim (more.0 b) [
+    | inl old ↦ let found = before.0 old in (found.0, omega (arith, found.1), found.2)
+    | inr new ↦ (n, omega arith, new)
+  ],
+  λ h. more.1 (elim (below_cases P n h) [ inl found ↦ inl (before.1 found) | inr last ↦ inr last ]),
+)

@@ -1,5 +1,5 @@
 -- A line whose squares have one candidate each: its only filling.
-use Rattle.std.proofs.Common.{◌≡◌, ◌≢◌, ℕ, ◌+◌, ◌<◌, ◌≤◌, true, List, length, get_or, set, take, sym, ap, ◌∙◌, subst, inl, inr, arith, bit_and, bit_or, w16}
+use Rattle.std.proofs.Common.{◌≡◌, ◌≢◌, ℕ, ◌+◌, ◌<◌, ◌≤◌, true, List, length, set, take, sym, ap, ◌∙◌, subst, inl, inr, arith, bit_and, bit_or, w16, slice_index}
 use Rattle.std.specs.Int.{trailing_zeros}
 use Rattle.std.proofs.Math.ListN.{length-set}
 use Rattle.std.proofs.lemmas.Bool.{cases_eq, both_ways, and_from, or_left, or_right}
@@ -7,9 +7,10 @@ use Rattle.std.proofs.lemmas.List.{get_or-set_same, get_or-set_other, get_or-tak
 use Rattle.std.proofs.lemmas.Nat.Bits.{bit_at-trailing_zeros}
 use Rattle.latin_board.specs.Marks.{has_mark}
 use Rattle.tower_lines.specs.TowersSeen.{seen}
-use Rattle.tower_lines.specs.LineFillings.{IsSupported}
 use Rattle.tower_lines.proofs.MarkLemmas.{mark-and, mark-or, mark-zero, mark-from_bit}
-use Rattle.clue_rules.specs.Inner.LineTallies.{IsSingle}
+use Rattle.clue_rules.specs.Inner.LineTallies.{IsSingle, HoldValuesTo}
+use Rattle.clue_rules.specs.Inner.TowersLines.{AreSupported}
+use Rattle.clue_rules.proofs.FilledLemmas.{entries_more}
 
 -- the lowest value of a set
 pub lowest_in : (set : ℕ) → set ≢ 0 → set < 65536 → has_mark set (trailing_zeros w16 set) ≡ true
@@ -19,9 +20,9 @@ lowest_in set some small =
 -- the first n sets have one value each, those of the line, all different and all used
 pub record IsSettled (sets : List ℕ) (n used : ℕ) (line : List ℕ) : Type 0 where
   pub count : length line ≡ 9
-  pub single : (k : ℕ) → k < n → IsSingle (get_or sets k 0) (get_or line k 0)
-  pub in_used : (k : ℕ) → k < n → has_mark used (get_or line k 0) ≡ true
-  pub apart : (i j : ℕ) → i < j → j < n → get_or line i 0 ≢ get_or line j 0
+  pub single : (k : ℕ) → k < n → IsSingle (slice_index sets k) (slice_index line k)
+  pub in_used : (k : ℕ) → k < n → has_mark used (slice_index line k) ≡ true
+  pub apart : (i j : ℕ) → i < j → j < n → slice_index line i ≢ slice_index line j
 
 pub settled_none : (sets line : List ℕ) (used : ℕ) → length line ≡ 9 → IsSettled sets 0 used line
 settled_none sets line used count = record {
@@ -31,51 +32,40 @@ settled_none sets line used count = record {
   apart = λ i j before low. absurd (omega arith);
 }
 
-pub settled_more : (sets line : List ℕ) (n used v : ℕ) → IsSettled sets n used line → n < 9 → IsSingle (get_or sets n 0) v → bit_and used (get_or sets n 0) ≡ 0 → IsSettled sets (n + 1) (bit_or used (get_or sets n 0)) (set line n v)
+pub settled_more : (sets line : List ℕ) (n used v : ℕ) → IsSettled sets n used line → n < 9 → IsSingle (slice_index sets n) v
+    → bit_and used (slice_index sets n) ≡ 0 → IsSettled sets (n + 1) (bit_or used (slice_index sets n)) (set line n v)
 settled_more sets line n used v h inside single fresh =
-    let here : get_or (set line n v) n 0 ≡ v = get_or-set_same line n v 0 (omega (arith, h.count)) in
-    let there : (k : ℕ) → k ≢ n → get_or (set line n v) k 0 ≡ get_or line k 0 = λ k other. get_or-set_other line n k v 0 other in
-    let new : (k : ℕ) → k < n → get_or line k 0 ≢ v = λ k low same.
+    let here : slice_index (set line n v) n ≡ v = get_or-set_same line n v 0 (omega (arith, h.count)) in
+    let there : (k : ℕ) → k ≢ n → slice_index (set line n v) k ≡ slice_index line k = λ k other. get_or-set_other line n k v 0 other in
+    let new : (k : ℕ) → k < n → slice_index line k ≢ v = λ k low same.
     let P : ℕ → Type 0 = λ u. has_mark used u ≡ true in
     let Q : ℕ → Type 0 = λ m. has_mark m v ≡ true in
-    both_ways (has_mark 0 v) (mark-zero v) (subst Q fresh (mark-and used (get_or sets n 0) v ∙ and_from _ _ (subst P same (h.in_used k low)) single.has)) in
+    both_ways (has_mark 0 v) (mark-zero v)
+    (subst Q fresh (mark-and used (slice_index sets n) v ∙ and_from _ _ (subst P same (h.in_used k low)) single.has)) in
     record {
       count = length-set line n v ∙ h.count;
-      single = λ k low. elim (cases_eq k n) [
-        | inl same ↦
-            let P : ℕ → Type 0 = λ i. IsSingle (get_or sets i 0) (get_or (set line n v) i 0) in
-            let Q : ℕ → Type 0 = λ u. IsSingle (get_or sets n 0) u in
-            subst P (sym same) (subst Q (sym here) single)
-        | inr other ↦
-            let Q : ℕ → Type 0 = λ u. IsSingle (get_or sets k 0) u in
-            subst Q (sym (there k other)) (h.single k (omega arith))
-      ];
-      in_used = λ k low. elim (cases_eq k n) [
-        | inl same ↦
-            let P : ℕ → Type 0 = λ i. has_mark (bit_or used (get_or sets n 0)) (get_or (set line n v) i 0) ≡ true in
-            let Q : ℕ → Type 0 = λ u. has_mark (bit_or used (get_or sets n 0)) u ≡ true in
-            subst P (sym same) (subst Q (sym here) (mark-or used (get_or sets n 0) v ∙ or_right (has_mark used v) _ single.has))
-        | inr other ↦
-            let Q : ℕ → Type 0 = λ u. has_mark (bit_or used (get_or sets n 0)) u ≡ true in
-            subst Q (sym (there k other)) (mark-or used (get_or sets n 0) (get_or line k 0) ∙ or_left _ (has_mark (get_or sets n 0) (get_or line k 0)) (h.in_used k (omega arith)))
-      ];
+      single = entries_more (λ k u. IsSingle (slice_index sets k) u) line n v 0 (omega (arith, h.count)) h.single single;
+      in_used = entries_more (λ k u. has_mark (bit_or used (slice_index sets n)) u ≡ true) line n v 0 (omega (arith, h.count))
+          (λ k low. mark-or used (slice_index sets n) (slice_index line k) ∙ or_left _ (has_mark (slice_index sets n) (slice_index line k)) (h.in_used k low))
+          (mark-or used (slice_index sets n) v ∙ or_right (has_mark used v) _ single.has);
       apart = λ i j before low same. elim (cases_eq j n) [
         | inl last ↦
             let i_there = there i (λ e. omega arith) in
-            let j_here : get_or (set line n v) j 0 ≡ v = ap (λ k. get_or (set line n v) k 0) last ∙ here in
+            let j_here : slice_index (set line n v) j ≡ v = ap (λ k. slice_index (set line n v) k) last ∙ here in
             new i (omega arith) (sym i_there ∙ same ∙ j_here)
         | inr other ↦ h.apart i j before (omega arith) (sym (there i (λ e. omega arith)) ∙ same ∙ there j other)
       ];
     }
 
 -- the line is then the only filling, and has each value of the sets
-pub settled_supported : (sets line : List ℕ) (w used clue : ℕ) → IsSettled sets w used line → w ≤ 9 → length sets ≡ 9 → ((k v : ℕ) → k < w → has_mark (get_or sets k 0) v ≡ true → (1 ≤ v) × (v ≤ w)) → seen (take w line) ≡ clue → (k v : ℕ) → k < w → has_mark (get_or sets k 0) v ≡ true → IsSupported (take w sets) clue k v
+pub settled_supported : (sets line : List ℕ) (w used clue : ℕ) → IsSettled sets w used line → w ≤ 9 → length sets ≡ 9
+    → HoldValuesTo w sets → seen (take w line) ≡ clue → AreSupported w clue sets sets
 settled_supported sets line w used clue h small count range shown k v inside has =
     let sets_long : length (take w sets) ≡ w = length-take-le w sets (omega arith) in
     let line_long : length (take w line) ≡ w = length-take-le w line (omega (arith, h.count)) in
-    let at : (j : ℕ) → j < w → get_or (take w line) j 0 ≡ get_or line j 0 = λ j low. get_or-take w line j 0 low in
-    let own : (j : ℕ) → j < w → has_mark (get_or sets j 0) (get_or (take w line) j 0) ≡ true =
-    λ j low. let P : ℕ → Type 0 = λ u. has_mark (get_or sets j 0) u ≡ true in subst P (sym (at j low)) (h.single j low).has in
+    let at : (j : ℕ) → j < w → slice_index (take w line) j ≡ slice_index line j = λ j low. get_or-take w line j 0 low in
+    let own : (j : ℕ) → j < w → has_mark (slice_index sets j) (slice_index (take w line) j) ≡ true =
+    λ j low. let P : ℕ → Type 0 = λ u. has_mark (slice_index sets j) u ≡ true in subst P (sym (at j low)) (h.single j low).has in
     record {
       line = take w line;
       filling = record {
@@ -83,11 +73,11 @@ settled_supported sets line w used clue h small count range shown k v inside has
           room = omega arith;
           values = λ j low.
               let in_line : j < w = omega arith in
-              let r = range j (get_or (take w line) j 0) in_line (own j in_line) in
+              let r = range j (slice_index (take w line) j) in_line (own j in_line) in
               (r.0, omega (arith, r.1));
           candidates = λ j low.
               let in_line : j < w = omega arith in
-              let P : ℕ → Type 0 = λ m. has_mark m (get_or (take w line) j 0) ≡ true in
+              let P : ℕ → Type 0 = λ m. has_mark m (slice_index (take w line) j) ≡ true in
               subst P (sym (get_or-take w sets j 0 in_line)) (own j in_line);
           apart = λ i j before low same.
               h.apart i j before (omega arith) (sym (at i (omega arith)) ∙ same ∙ at j (omega arith));

@@ -1,5 +1,5 @@
 -- What a sign rules out in the squares on both its sides, and along a line.
-use Rattle.std.proofs.Common.{◌≡◌, ℕ, ◌+◌, ◌-◌, ◌*◌, ◌<◌, ◌≤◌, ◌↔◌, Bool, true, false, not, eqb, inl, inr, refl, sym, ap, ◌∙◌, subst, arith}
+use Rattle.std.proofs.Common.{◌≡◌, ℕ, ◌+◌, ◌-◌, ◌*◌, ◌<◌, ◌≤◌, ◌↔◌, Bool, true, false, not, inl, inr, refl, sym, ap, ◌∙◌, subst, arith, ◌⊎◌, ◌==◌}
 use Rattle.std.specs.Bool.{OnTrue, OnFalse}
 use Rattle.std.proofs.lemmas.Bool.{both_ways, false_from_ne_true, cases_eq, eq-eqb, ne_eqb, lt-ltb, le-ltb}
 use Rattle.latin_board.specs.Marks.{has_mark}
@@ -9,21 +9,23 @@ use Rattle.trail_solver.specs.Pairs.{IsPair}
 use Rattle.trail_solver.specs.Candidates.{CandidatesValue, IsEarlier, IsWithin, may_be}
 use Rattle.trail_solver.specs.Puzzles.{Solves}
 use Rattle.trail_solver.proofs.Earlier.{was_left}
-use Rattle.clue_rules.specs.Inner.Narrowing.{IsSquare, IsStruckByLines, KeepsOf, Narrows, StruckBelow}
-use Rattle.clue_rules.specs.Unequal.{UnequalValue, IsBetween, IsGreater, sign_count, sign_at, first_side}
-use Rattle.clue_rules.specs.Unequal.{puzzle_of}
-use Rattle.clue_rules.specs.Laws.SignPlaces.{between_at, between_sides}
+use Rattle.clue_rules.specs.Inner.Narrowing.{IsStruckByLines, KeepsOf, Narrows, StruckBelow, IsSetOf}
+use Rattle.clue_rules.specs.Unequal.{UnequalValue, IsBetween, IsGreater, sign_count, sign_at, first_side, second_side}
+use Rattle.clue_rules.specs.Unequal.{unequal_puzzle}
+use Rattle.clue_rules.specs.Laws.SignPlaces.{between_at}
 use Rattle.clue_rules.proofs.SignLemmas.{signs_held}
 use Rattle.clue_rules.specs.Struck.{IsUnequalStruck}
-use Rattle.clue_rules.specs.Inner.UnequalLines.{AreEnds, IsLowerStruck, IsUpperStruck, IsEndStruckBy, IsStruckAt, IsStruckAlong, line_sign}
+use Rattle.clue_rules.specs.Inner.UnequalLines.{AreEnds, IsStruckAt, IsStruckAlong, line_sign, HoldsGreater, AreInside, IsLesserStruck, IsGreaterStruck, IsEndStruck}
 use Rattle.clue_rules.specs.declared.unequal.sign.Sign.TheVariants.{Absent, FirstGreater, SecondGreater}
 use Rattle.clue_rules.proofs.KeptCandidates.{within_kept}
-use Rattle.clue_rules.proofs.LineSteps.{grid_pair}
+use Rattle.clue_rules.proofs.LineSteps.{grid_pair, in_set}
 use Rattle.clue_rules.proofs.Narrowings.{narrows_by, narrows_for, narrows_nothing}
+use Rattle.clue_rules.specs.Laws.SignSides.{Side, First, Second, other_side, square_at, greater_at, greater_by, greater_from_sign, IsGreaterBy}
+use Rattle.clue_rules.specs.declared.unequal.lines.Ends.{Ends}
 
 -- ---- a step at one square
 
-by_answer : (n : ℕ) (left : Bool) → left ≡ not (eqb n 0) → {P : Type 0} → (n ≡ 0 → P) → OnFalse left P
+by_answer : (n : ℕ) (left : Bool) → left ≡ not (n == 0) → {P : Type 0} → (n ≡ 0 → P) → OnFalse left P
 by_answer n left is {P} f =
     let Q : Bool → Type 0 = λ b. OnFalse b P in
     elim (cases_eq n 0) [
@@ -37,8 +39,9 @@ on_either false p = tt
 
 square_narrows : {S : GridValue → Type 0} {T : CandidatesValue → ℕ → ℕ → Type 0} (old new : CandidatesValue) (cell kept : ℕ) (left : Bool)
     → ((g : GridValue) → S g → g.size ≡ old.size → IsWithin old g → has_mark kept (number_at g cell) ≡ true)
-    → ((first : CandidatesValue) → IsEarlier first old → (at v : ℕ) → IsPair first.size at v → T first at v → (at ≡ cell) × (has_mark kept v ≡ false))
-    → KeepsOf old new cell kept → left ≡ not (eqb kept 0) → Narrows S T old new left
+    → ((first : CandidatesValue) → IsEarlier first old → (at v : ℕ) → IsPair first.size at v → T first at v
+    → (at ≡ cell) × (has_mark kept v ≡ false))
+    → KeepsOf old new cell kept → left ≡ not (kept == 0) → Narrows S T old new left
 square_narrows old new cell kept left solved struck k is = record {
   less = k.less;
   keeps = λ g s size w. within_kept old new cell kept g k w (solved g s size w);
@@ -56,90 +59,104 @@ square_narrows old new cell kept left solved struck k is = record {
 
 -- ---- both squares of a sign
 
--- the set is that of the cell's candidates
-abbrev pub IsSetOf : CandidatesValue → ℕ → ℕ → Type 0
-IsSetOf c cell set = (v : ℕ) → (has_mark set v ≡ true) ↔ (IsPair c.size cell v × (may_be c cell v ≡ true))
-
--- the grids in which the one square holds the greater number
-abbrev pub HasGreater : ℕ → ℕ → GridValue → Type 0
-HasGreater upper lower g = IsSquare g × (number_at g lower < number_at g upper)
-
-in_set : (c : CandidatesValue) (cell set : ℕ) (g : GridValue) → IsSetOf c cell set → IsSquare g → g.size ≡ c.size → IsWithin c g → cell < c.size * c.size → has_mark set (number_at g cell) ≡ true
-in_set c cell set g is s size w inside = (is (number_at g cell)).1 (grid_pair g c.size cell s size inside, w.each cell inside)
-
-pub lower_narrows : (old new : CandidatesValue) (upper lower set kept : ℕ) (left : Bool) → upper < old.size * old.size → IsSetOf old upper set → ((v : ℕ) → (has_mark kept v ≡ true) ↔ ((u : ℕ) × (v < u) × (has_mark set u ≡ true))) → KeepsOf old new lower kept → left ≡ not (eqb kept 0) → Narrows (HasGreater upper lower) (IsLowerStruck upper lower) old new left
-lower_narrows old new upper lower set kept left inside is below k answer =
-    square_narrows old new lower kept left
-    (λ g s size w. (below (number_at g lower)).1 (number_at g upper, s.1, in_set old upper set g is s.0 size w inside))
+pub lesser_narrows : (old new : CandidatesValue) (ends : Ends) (set kept : ℕ) (left : Bool) → AreInside old.size ends
+    → IsSetOf old ends.greater set → ((v : ℕ) → (has_mark kept v ≡ true) ↔ ((u : ℕ) × (v < u) × (has_mark set u ≡ true)))
+    → KeepsOf old new ends.lesser kept → left ≡ not (kept == 0)
+    → Narrows (HoldsGreater ends) (IsLesserStruck ends) old new left
+lesser_narrows old new ends set kept left inside is below k answer =
+    square_narrows old new ends.lesser kept left
+    (λ g s size w.
+    (below (number_at g ends.lesser)).1 (number_at g ends.greater, s.1, in_set old ends.greater set g is s.0 size w inside.0))
     (λ first e cell v pair s. (
       s.here,
       false_from_ne_true (has_mark kept v) (λ has.
           let u = (below v).0 has in
           let left = (is u.0).0 u.2 in
-          both_ways (may_be first upper u.0) (s.none u.0 u.1 (omega (arith, left.0.high, e.size))) (was_left first old upper u.0 e left.1)),
+          both_ways (may_be first ends.greater u.0) (s.none u.0 u.1 (omega (arith, left.0.high, e.size)))
+          (was_left first old ends.greater u.0 e left.1)),
     ))
     k answer
 
-pub upper_narrows : (old new : CandidatesValue) (upper lower set kept : ℕ) (left : Bool) → old.size ≤ 9 → upper < old.size * old.size → lower < old.size * old.size → IsSetOf old lower set → ((v : ℕ) → v < 16 → (has_mark kept v ≡ true) ↔ ((u : ℕ) × (u < v) × (has_mark set u ≡ true))) → KeepsOf old new upper kept → left ≡ not (eqb kept 0) → Narrows (HasGreater upper lower) (IsUpperStruck upper lower) old new left
-upper_narrows old new upper lower set kept left small inside below_in is above k answer =
-    square_narrows old new upper kept left
+pub greater_narrows : (old new : CandidatesValue) (ends : Ends) (set kept : ℕ) (left : Bool) → old.size ≤ 9
+    → AreInside old.size ends → IsSetOf old ends.lesser set
+    → ((v : ℕ) → v < 16 → (has_mark kept v ≡ true) ↔ ((u : ℕ) × (u < v) × (has_mark set u ≡ true)))
+    → KeepsOf old new ends.greater kept → left ≡ not (kept == 0)
+    → Narrows (HoldsGreater ends) (IsGreaterStruck ends) old new left
+greater_narrows old new ends set kept left small inside is above k answer =
+    square_narrows old new ends.greater kept left
     (λ g s size w.
-    let pair = grid_pair g old.size upper s.0 size inside in
-    (above (number_at g upper) (omega (arith, pair.high))).1 (number_at g lower, s.1, in_set old lower set g is s.0 size w below_in))
+    let pair = grid_pair g old.size ends.greater s.0 size inside.0 in
+    (above (number_at g ends.greater) (omega (arith, pair.high))).1
+    (number_at g ends.lesser, s.1, in_set old ends.lesser set g is s.0 size w inside.1))
     (λ first e cell v pair s. (
       s.here,
       false_from_ne_true (has_mark kept v) (λ has.
           let u = (above v (omega (arith, pair.high, e.size))).0 has in
           let left = (is u.0).0 u.2 in
-          both_ways (may_be first lower u.0) (s.none u.0 left.0.low u.1) (was_left first old lower u.0 e left.1)),
+          both_ways (may_be first ends.lesser u.0) (s.none u.0 left.0.low u.1) (was_left first old ends.lesser u.0 e left.1)),
     ))
     k answer
 
 -- ---- one sign of a puzzle
 
-ends_greater : (v : UnequalValue) (sign upper lower : ℕ) → 3 ≤ v.size → sign < sign_count v.size → AreEnds v sign upper lower → IsGreater v upper lower
-ends_greater v sign upper lower small inside ends =
-    let between = between_at v.size sign small inside in
-    let P : ℕ → ℕ → Type 0 = λ a b. IsBetween v.size sign a b in
-    record {
-      sign = sign;
-      says = elim ends.is [
-        | inl first ↦ inl (subst (λ a. P a lower) (sym first.1) (subst (P (first_side v.size sign)) (sym first.2) between), first.0)
-        | inr second ↦ inr (subst (λ a. P a upper) (sym second.2) (subst (P (first_side v.size sign)) (sym second.1) between), second.0)
-      ];
-    }
+-- the ends of a sign stand on its sides, the greater one where the sign says so
+record EndsAt (v : UnequalValue) (sign : ℕ) (ends : Ends) : Type 0 where
+  side : Side
+  says : sign_at v sign ≡ greater_at side
+  greater_is : ends.greater ≡ square_at v.size sign side
+  lesser_is : ends.lesser ≡ square_at v.size sign (other_side side)
 
--- a sign has its ends but once
-same_ends : (v : UnequalValue) (sign a b upper lower : ℕ) → AreEnds v sign a b → AreEnds v sign upper lower → (a ≡ upper) × (b ≡ lower)
-same_ends v sign a b upper lower one two = elim one.is [
-  | inl first ↦ elim two.is [
-    | inl same ↦ (first.1 ∙ sym same.1, first.2 ∙ sym same.2)
-    | inr other ↦ (cc, cc)
-  ]
-  | inr second ↦ elim two.is [
-    | inl other ↦ (cc, cc)
-    | inr same ↦ (second.1 ∙ sym same.1, second.2 ∙ sym same.2)
-  ]
+ends_at : (v : UnequalValue) (sign : ℕ) (ends : Ends) → AreEnds v sign ends → EndsAt v sign ends
+ends_at v sign ends are = elim are.is [
+  | inl first ↦ record { side = First; says = first.0; greater_is = first.1; lesser_is = first.2 }
+  | inr second ↦ record { side = Second; says = second.0; greater_is = second.1; lesser_is = second.2 }
 ]
 
-pub sign_narrows : (v : UnequalValue) (sign upper lower : ℕ) (old new : CandidatesValue) (left : Bool) → 3 ≤ v.size → sign < sign_count v.size → AreEnds v sign upper lower → Narrows (HasGreater upper lower) (IsEndStruckBy upper lower) old new left → Narrows (λ g. Solves (puzzle_of v) g) (IsStruckAt v sign) old new left
-sign_narrows v sign upper lower old new left small inside ends h =
+ends_greater : (v : UnequalValue) (sign : ℕ) (ends : Ends) → 3 ≤ v.size → sign < sign_count v.size → AreEnds v sign ends
+    → IsGreater v ends.greater ends.lesser
+ends_greater v sign ends small inside are =
+    let at = ends_at v sign ends are in
+    carried at.greater_is at.lesser_is (greater_from_sign v sign at.side small inside at.says)
+  where
+    carried : {a b c d : ℕ} → a ≡ c → b ≡ d → IsGreater v c d → IsGreater v a b
+    carried e f h = rw (e, f) h
+
+-- a sign has its ends but once
+same_ends : (v : UnequalValue) (sign : ℕ) (one two : Ends) → AreEnds v sign one → AreEnds v sign two → one ≡ two
+same_ends v sign one two h k =
+    let first = ends_at v sign one h in
+    let second = ends_at v sign two k in
+    let side = one_greater first.side second.side (sym first.says ∙ second.says) in
+    let greater : one.greater ≡ two.greater = first.greater_is ∙ ap (square_at v.size sign) side ∙ sym second.greater_is in
+    let lesser : one.lesser ≡ two.lesser =
+    first.lesser_is ∙ ap (λ s. square_at v.size sign (other_side s)) side ∙ sym second.lesser_is in
+    λ i. record { greater = greater i; lesser = lesser i }
+  where
+    one_greater : (s t : Side) → greater_at s ≡ greater_at t → s ≡ t
+    one_greater First First e = refl
+    one_greater Second Second e = refl
+    one_greater First Second e = cc
+    one_greater Second First e = cc
+
+pub sign_narrows : (v : UnequalValue) (sign : ℕ) (ends : Ends) (old new : CandidatesValue) (left : Bool) → 3 ≤ v.size
+    → sign < sign_count v.size → AreEnds v sign ends → Narrows (HoldsGreater ends) (IsEndStruck ends) old new left
+    → Narrows (Solves (unequal_puzzle v)) (IsStruckAt v sign) old new left
+sign_narrows v sign ends old new left small inside are h =
     narrows_for (λ g s. (
       record { is_grid = s.is_grid; latin = s.latin },
-      (signs_held v g small s.clues).each upper lower (ends_greater v sign upper lower small inside ends),
+      (signs_held v g small s.clues).each ends.greater ends.lesser (ends_greater v sign ends small inside are),
     ))
     (narrows_by (λ first e cell value pair s.
-    let same = same_ends v sign s.upper s.lower upper lower s.ends ends in
-    let P : ℕ → ℕ → Type 0 = λ a b. IsEndStruckBy a b first cell value in
-    subst (λ a. P a lower) same.0 (subst (P s.upper) same.1 s.struck)) h)
+    subst (λ (x : Ends). IsEndStruck x first cell value) (same_ends v sign s.ends ends s.are are) s.struck) h)
 
-pub no_sign_narrows : (v : UnequalValue) (sign : ℕ) (c : CandidatesValue) → sign_at v sign ≡ Absent → Narrows (λ g. Solves (puzzle_of v) g) (IsStruckAt v sign) c c true
+pub no_sign_narrows : (v : UnequalValue) (sign : ℕ) (c : CandidatesValue) → sign_at v sign ≡ Absent
+    → Narrows (Solves (unequal_puzzle v)) (IsStruckAt v sign) c c true
 no_sign_narrows v sign c none =
-    narrows_by (λ first e cell value pair s. elim s.ends.is [
+    narrows_by (λ first e cell value pair s. elim s.are.is [
       | inl one ↦ let clash : FirstGreater ≡ Absent = sym one.0 ∙ none in cc
       | inr two ↦ let clash : SecondGreater ≡ Absent = sym two.0 ∙ none in cc
     ])
-    (narrows_nothing (λ g. Solves (puzzle_of v) g) c)
+    (narrows_nothing (Solves (unequal_puzzle v)) c)
 
 -- ---- all that a puzzle strikes
 
@@ -163,29 +180,31 @@ between_line w sign a b between = elim between [
 ]
 
 -- the sign that says that a holds the greater number has them as its ends
-greater_ends : (v : UnequalValue) (a b : ℕ) → 3 ≤ v.size → (greater : IsGreater v a b) → AreEnds v greater.sign a b
-greater_ends v a b small greater = elim greater.says [
-  | inl one ↦
-      let sides = between_sides v.size greater.sign a b small one.0 in
-      record { upper_in = omega (arith, sides.order, sides.inside); lower_in = sides.inside; is = inl (one.1, sides.first, sides.second) }
-  | inr two ↦
-      let sides = between_sides v.size greater.sign b a small two.0 in
-      record { upper_in = sides.inside; lower_in = omega (arith, sides.order, sides.inside); is = inr (two.1, sides.second, sides.first) }
-]
+greater_ends : (v : UnequalValue) (a b : ℕ) → (by : IsGreaterBy v a b) → AreEnds v by.sign (record { greater = a; lesser = b })
+greater_ends v a b by = record {
+  inside = (by.at.here_inside, by.at.there_inside);
+  is = at by.side by.says by.at.here by.at.there;
+}
+  where
+    at : (side : Side) → sign_at v by.sign ≡ greater_at side → a ≡ square_at v.size by.sign side
+        → b ≡ square_at v.size by.sign (other_side side)
+        → ((sign_at v by.sign ≡ FirstGreater) × (a ≡ first_side v.size by.sign) × (b ≡ second_side v.size by.sign))
+        ⊎ ((sign_at v by.sign ≡ SecondGreater) × (a ≡ second_side v.size by.sign) × (b ≡ first_side v.size by.sign))
+    at First says greater lesser = inl (says, greater, lesser)
+    at Second says greater lesser = inr (says, greater, lesser)
 
-greater_line : (v : UnequalValue) (a b : ℕ) → (greater : IsGreater v a b) → (line : ℕ) × (k : ℕ) × (line < 2 * v.size) × (k < v.size - 1) × (line_sign v.size line k ≡ greater.sign)
-greater_line v a b greater = elim greater.says [
-  | inl one ↦ between_line v.size greater.sign a b one.0
-  | inr two ↦ between_line v.size greater.sign b a two.0
-]
-
-struck_along : (v : UnequalValue) (c : CandidatesValue) (a b cell value : ℕ) → 3 ≤ v.size → c.size ≡ v.size → (greater : IsGreater v a b) → IsEndStruckBy a b c cell value → StruckBelow (IsStruckAlong v) (2 * c.size) c cell value
+struck_along : (v : UnequalValue) (c : CandidatesValue) (a b cell value : ℕ) → 3 ≤ v.size → c.size ≡ v.size → IsGreater v a b
+    → IsEndStruck (record { greater = a; lesser = b }) c cell value → StruckBelow (IsStruckAlong v) (2 * c.size) c cell value
 struck_along v c a b cell value small size greater struck =
-    let at = greater_line v a b greater in
+    let by = greater_by v a b small greater in
+    let at = between_line v.size by.sign _ _ (between_at v.size by.sign small by.at.sign_inside) in
     let P : ℕ → Type 0 = λ i. IsStruckAt v i c cell value in
-    (at.0, omega (arith, at.2), (at.1, at.3, subst P (sym at.4) (record { upper = a; lower = b; ends = greater_ends v a b small greater; struck = struck })))
+    let here : IsStruckAt v by.sign c cell value =
+    record { ends = record { greater = a; lesser = b }; are = greater_ends v a b by; struck = struck } in
+    (at.0, omega (arith, at.2), (at.1, at.3, subst P (sym at.4) here))
 
-pub unequal_by_lines : (v : UnequalValue) (c : CandidatesValue) (cell value : ℕ) → 3 ≤ v.size → c.size ≡ v.size → IsUnequalStruck v c cell value → IsStruckByLines (IsStruckAlong v) c cell value
+pub unequal_by_lines : (v : UnequalValue) (c : CandidatesValue) (cell value : ℕ) → 3 ≤ v.size → c.size ≡ v.size
+    → IsUnequalStruck v c cell value → IsStruckByLines (IsStruckAlong v) c cell value
 unequal_by_lines v c cell value small size struck = elim struck [
   | inl latin ↦ inl latin
   | inr sign ↦ inr (elim sign.why [

@@ -1,5 +1,5 @@
 -- Sets of values as bits: one value alone, and the values of one set that another lacks.
-use Rattle.std.proofs.Common.{◌≡◌, ◌≢◌, ℕ, ◌+◌, ◌-◌, ◌*◌, ◌^◌, ◌<◌, ◌≤◌, ◌↔◌, Bool, true, false, not, ◌&&◌, eqb, inl, inr, refl, sym, ap, ◌∙◌, subst, arith, add-one, bit_and, w16}
+use Rattle.std.proofs.Common.{◌≡◌, ◌≢◌, ℕ, ◌+◌, ◌-◌, ◌*◌, ◌^◌, ◌<◌, ◌≤◌, ◌↔◌, Bool, true, false, not, ◌&&◌, inl, inr, refl, sym, ap, ◌∙◌, subst, arith, add-one, bit_and, w16, ◌==◌}
 use Rattle.std.specs.Bool.{MatchBool}
 use Rattle.std.specs.Int.{bit_not, trailing_zeros}
 use Rattle.std.proofs.lemmas.Bool.{cases_Bool, cases_lt, cases_eq, both_ways, false_from_ne_true, and_parts, and_from, eq-eqb, ne_eqb}
@@ -79,7 +79,7 @@ mark-without a b k a_small b_small =
 
 -- ---- one value put in or taken out
 
-pub mark-one : (n k : ℕ) → has_mark (2 ^ n) k ≡ eqb k n
+pub mark-one : (n k : ℕ) → has_mark (2 ^ n) k ≡ (k == n)
 mark-one n k =
     elim (cases_eq k n) [
       | inl same ↦
@@ -88,7 +88,7 @@ mark-one n k =
       | inr other ↦ false_from_ne_true (has_mark (2 ^ n) k) (λ h. other (mark-pow n k h)) ∙ sym (ne_eqb k n other)
     ]
 
-pub mark-taken : (m n k : ℕ) → has_mark m n ≡ true → has_mark (flip_mark m n) k ≡ (has_mark m k && not (eqb k n))
+pub mark-taken : (m n k : ℕ) → has_mark m n ≡ true → has_mark (flip_mark m n) k ≡ (has_mark m k && not (k == n))
 mark-taken m n k was =
     elim (cases_eq k n) [
       | inl same ↦
@@ -101,7 +101,7 @@ mark-taken m n k was =
     and_true true = refl
     and_true false = refl
 
-pub mark-none_taken : (m n k : ℕ) → has_mark m n ≡ false → has_mark m k ≡ (has_mark m k && not (eqb k n))
+pub mark-none_taken : (m n k : ℕ) → has_mark m n ≡ false → has_mark m k ≡ (has_mark m k && not (k == n))
 mark-none_taken m n k was =
     elim (cases_eq k n) [
       | inl same ↦
@@ -116,7 +116,8 @@ mark-none_taken m n k was =
 
 -- ---- the test of a single value
 
-pub single_test : (set : ℕ) → set ≢ 0 → set < 2 ^ 16 → MatchBool (eqb (bit_and set (set - 1)) 0) ((v : ℕ) × IsSingle set v) ((v : ℕ) → IsSingle set v → ⊥)
+pub single_test : (set : ℕ) → set ≢ 0 → set < 2 ^ 16
+    → MatchBool (bit_and set (set - 1) == 0) ((v : ℕ) × IsSingle set v) ((v : ℕ) → IsSingle set v → ⊥)
 single_test set some small =
     elim (cases_eq (bit_and set (set - 1)) 0) [
       | inl none ↦ rw (eq-eqb (bit_and set (set - 1)) 0 none) (single_from_test set some small none)
@@ -150,7 +151,8 @@ mark-top set k low high =
           absurd (omega arith)
     ]
 
-pub below_top : (set k v : ℕ) → 2 ^ k ≤ set → set < 2 * 2 ^ k → (has_mark (2 ^ k - 1) v ≡ true) ↔ ((u : ℕ) × (v < u) × (has_mark set u ≡ true))
+pub below_top : (set k v : ℕ) → 2 ^ k ≤ set → set < 2 * 2 ^ k
+    → (has_mark (2 ^ k - 1) v ≡ true) ↔ ((u : ℕ) × (v < u) × (has_mark set u ≡ true))
 below_top set k v low high = (
   λ e. (k, (mark-ones k v).0 e, mark-top set k low high),
   λ h. elim (cases_lt v k) [
@@ -165,7 +167,10 @@ none_in_zero v = (
   λ h. absurd (both_ways (has_mark 0 h.0) (mark-zero h.0) h.2),
 )
 
-pub above_bottom : (set all rest kept k v : ℕ) → set ≢ 0 → set < 2 ^ 16 → k ≡ trailing_zeros w16 set → v < 16 → has_mark all v ≡ true → has_mark rest v ≡ (has_mark all v && not (has_mark (2 ^ k - 1) v)) → has_mark kept v ≡ (has_mark rest v && not (has_mark (2 ^ k) v)) → (has_mark kept v ≡ true) ↔ ((u : ℕ) × (u < v) × (has_mark set u ≡ true))
+pub above_bottom : (set all rest kept k v : ℕ) → set ≢ 0 → set < 2 ^ 16 → k ≡ trailing_zeros w16 set → v < 16
+    → has_mark all v ≡ true → has_mark rest v ≡ (has_mark all v && not (has_mark (2 ^ k - 1) v))
+    → has_mark kept v ≡ (has_mark rest v && not (has_mark (2 ^ k) v))
+    → (has_mark kept v ≡ true) ↔ ((u : ℕ) × (u < v) × (has_mark set u ≡ true))
 above_bottom set all rest kept k v some small is low every rest_is kept_is =
     let p : 0 < set = omega arith in
     let lowest = bit_at-trailing_zeros w16 set p small in
@@ -188,7 +193,8 @@ above_bottom set all rest kept k v some small is low every rest_is kept_is =
           (k, omega arith, has),
       λ h.
           let below = least h.0 h.2 in
-          let not_low : has_mark (2 ^ k - 1) v ≡ false = false_from_ne_true (has_mark (2 ^ k - 1) v) (λ e. omega (arith, (mark-ones k v).0 e, h.1)) in
+          let not_low : has_mark (2 ^ k - 1) v ≡ false =
+          false_from_ne_true (has_mark (2 ^ k - 1) v) (λ e. omega (arith, (mark-ones k v).0 e, h.1)) in
           let other : has_mark (2 ^ k) v ≡ false = false_from_ne_true (has_mark (2 ^ k) v) (λ e. omega (arith, mark-pow k v e, h.1)) in
           kept_is ∙ and_from _ _ (rest_is ∙ and_from _ _ every (ap not not_low)) (ap not other),
     )

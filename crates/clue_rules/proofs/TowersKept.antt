@@ -7,14 +7,18 @@ use Rattle.clue_rules.specs.Inner.TowersFields.{KeepsTowers}
 use Rattle.clue_rules.specs.TowersText.{clues_at}
 use Rattle.clue_rules.specs.Laws.CluePart.{clues_taken}
 
-kept_at_size : (part clues : List ℕ) (givens : GridValue) → IsFilledTo 36 (4 * givens.size) clues → clues_at givens.size part ≡ Ok (take (4 * givens.size) clues) → KeepsTowers clues givens
+kept_at_size : (part clues : List ℕ) (givens : GridValue) → IsFilledTo 0 36 (4 * givens.size) clues
+    → clues_at givens.size part ≡ Ok (take (4 * givens.size) clues) → KeepsTowers clues givens
 kept_at_size part clues givens filled read = record {
   padded = filled;
-  within = All-from_recursion (λ clue. clue ≤ givens.size) (take (4 * givens.size) clues) (clues_taken givens.size part (take (4 * givens.size) clues) read).2;
+  within =
+      All-from_recursion (λ clue. clue ≤ givens.size) (take (4 * givens.size) clues)
+      (clues_taken givens.size part (take (4 * givens.size) clues) read).2;
 }
 
-pub towers_kept : (w : ℕ) (part clues : List ℕ) (givens : GridValue) → givens.size ≡ w → IsFilledTo 36 (4 * w) clues → clues_at w part ≡ Ok (take (4 * w) clues) → KeepsTowers clues givens
+pub towers_kept : (w : ℕ) (part clues : List ℕ) (givens : GridValue) → givens.size ≡ w → IsFilledTo 0 36 (4 * w) clues
+    → clues_at w part ≡ Ok (take (4 * w) clues) → KeepsTowers clues givens
 towers_kept w part clues givens size filled read =
     kept_at_size part clues givens
-    (subst (λ n. IsFilledTo 36 (4 * n) clues) (sym size) filled)
+    (subst (λ n. IsFilledTo 0 36 (4 * n) clues) (sym size) filled)
     (subst (λ n. clues_at n part ≡ Ok (take (4 * n) clues)) (sym size) read)

@@ -1,25 +1,36 @@
--- One item less in the fields of a puzzle.
-use Rattle.std.proofs.Common.{◌≡◌, ℕ, zero, ◌+◌, ◌*◌, ◌<◌, not, eqb, List, set, take, refl, arith}
-use Rattle.std.proofs.Math.Seq.{take-set-lt}
-use Rattle.std.proofs.lemmas.List.{length-take}
-use Rattle.latin_board.specs.Squares.{GridValue}
-use Rattle.clue_rules.proofs.KeptItemLemmas.{kept-but_one, kept-past, kept-before}
-use Rattle.clue_rules.specs.Inner.TowersFields.{towers_value}
-use Rattle.clue_rules.specs.Towers.{cut_towers}
+-- The clues of a Towers puzzle as a table of 36 places: the full puzzle's, and one item less.
+use Rattle.std.proofs.Common.{◌≡◌, ℕ, zero, ◌+◌, ◌*◌, ◌<◌, ◌≤◌, not, List, set, All, refl, ◌==◌}
+use Rattle.latin_board.specs.Squares.{GridValue, IsGrid}
+use Rattle.tower_lines.specs.TowersSeen.{seen}
+use Rattle.clue_rules.specs.Inner.TowersFields.{KeepsTowers, towers_value}
+use Rattle.clue_rules.specs.Towers.{cut_towers, full_towers}
+use Rattle.clue_rules.specs.Views.{view_of}
+use Rattle.clue_rules.specs.Laws.TowersItems.{full_valid}
+use Rattle.clue_rules.proofs.FilledLemmas.{IsFilledBy}
+use Rattle.clue_rules.proofs.KeptItemLemmas.{item_emptied, given_emptied}
 
-pub clue_dropped : (givens : GridValue) (clues : List ℕ) (i : ℕ) → i < 4 * givens.size → towers_value (set clues i 0) givens ≡ cut_towers (towers_value clues givens) (λ j. not (eqb j i))
+-- the clues of the first n places are the grid's
+abbrev pub HasClues : GridValue → ℕ → List ℕ → Type 0
+HasClues g n clues = IsFilledBy zero 36 (λ place. seen (view_of g place)) n clues
+
+pub full_kept : (g : GridValue) (clues : List ℕ) → IsGrid g → HasClues g (4 * g.size) clues → KeepsTowers clues g
+full_kept g clues is_grid h = record {
+  padded = h.filled;
+  within = let P : List ℕ → Type 0 = λ xs. All (λ clue. clue ≤ g.size) xs in rw h.front ((full_valid g is_grid).clues_within);
+}
+
+pub full_is : (g : GridValue) (clues : List ℕ) → HasClues g (4 * g.size) clues → towers_value clues g ≡ full_towers g
+full_is g clues h = rw h.front refl
+
+pub clue_dropped : (givens : GridValue) (clues : List ℕ) (i : ℕ) → i < 4 * givens.size
+    → towers_value (set clues i 0) givens ≡ cut_towers (towers_value clues givens) (λ j. not (j == i))
 clue_dropped givens clues i inside =
-    rw (
-      take-set-lt (4 * givens.size) clues i 0 inside,
-      kept-but_one zero 0 i i (take (4 * givens.size) clues) (omega arith),
-      kept-past zero (4 * givens.size) i givens.numbers inside,
-    ) refl
+    let kept = item_emptied zero (4 * givens.size) clues givens.numbers i inside in
+    rw (kept.0, kept.1) refl
 
-pub given_dropped : (old new : GridValue) (clues : List ℕ) (i k : ℕ) → 4 * old.size + k ≡ i → new.size ≡ old.size → new.numbers ≡ set old.numbers k 0 → towers_value clues new ≡ cut_towers (towers_value clues old) (λ j. not (eqb j i))
+pub given_dropped : (old new : GridValue) (clues : List ℕ) (i k : ℕ) → 4 * old.size + k ≡ i → new.size ≡ old.size
+    → new.numbers ≡ set old.numbers k 0
+    → towers_value clues new ≡ cut_towers (towers_value clues old) (λ j. not (j == i))
 given_dropped old new clues i k e size numbers =
-    rw (
-      size,
-      numbers,
-      kept-before zero 0 i (take (4 * old.size) clues) (omega (arith, length-take (4 * old.size) clues)),
-      kept-but_one zero (4 * old.size) i k old.numbers e,
-    ) refl
+    let kept = given_emptied zero (4 * old.size) clues old.numbers i k e in
+    rw (size, numbers, kept.0, kept.1) refl

@@ -3,68 +3,54 @@ use Rattle.std.proofs.Common.{◌≡◌, ℕ, ◌<◌, ◌≤◌, refl, sym, ◌
 use Rattle.std.proofs.lemmas.Bool.{lt-ltb, le-ltb, cases_lt}
 use Rattle.latin_board.specs.Squares.{GridValue, number_at}
 use Rattle.clue_rules.specs.declared.unequal.sign.Sign.TheVariants.{Absent, FirstGreater, SecondGreater}
-use Rattle.clue_rules.specs.Unequal.{sign_at, IsGreater, AreNeighbours, sign_of, full_unequal}
-use Rattle.clue_rules.specs.Laws.SignPlaces.{AreSides, between_sides}
+use Rattle.clue_rules.specs.Unequal.{IsGreater, AreNeighbours, sign_of, full_unequal}
 use Rattle.clue_rules.specs.Laws.UnequalItems.{full_sign}
+use Rattle.clue_rules.specs.Laws.SignSides.{Side, First, Second, other_side, square_at, greater_at, at_squares, side_between, between_at_side, greater_by, greater_from_sign}
 
-sign_of_first : (x y : ℕ) → sign_of x y ≡ FirstGreater → y < x
-sign_of_first x y e = elim (cases_lt y x) [
-  | inl greater ↦ greater
-  | inr other ↦ elim (cases_lt x y) [
-    | inl less ↦ absurd (let f : SecondGreater ≡ FirstGreater = rw (le-ltb y x other, lt-ltb x y less) at e in cc)
-    | inr same ↦ absurd (let f : Absent ≡ FirstGreater = rw (le-ltb y x other, le-ltb x y same) at e in cc)
+-- the sign of two numbers says of the greater one that it is
+sign_of_greater : (side : Side) (number : Side → ℕ) → sign_of (number First) (number Second) ≡ greater_at side
+    → number (other_side side) < number side
+sign_of_greater side number e = elim (cases_lt (number Second) (number First)) [
+  | inl greater ↦ first side greater (rw (lt-ltb (number Second) (number First) greater) at e)
+  | inr upper ↦ elim (cases_lt (number First) (number Second)) [
+    | inl less ↦ second side less (rw (le-ltb (number Second) (number First) upper, lt-ltb (number First) (number Second) less) at e)
+    | inr lower ↦ none side (rw (le-ltb (number Second) (number First) upper, le-ltb (number First) (number Second) lower) at e)
   ]
 ]
-
-sign_of_second : (x y : ℕ) → sign_of x y ≡ SecondGreater → x < y
-sign_of_second x y e = elim (cases_lt y x) [
-  | inl greater ↦ absurd (let f : FirstGreater ≡ SecondGreater = rw (lt-ltb y x greater) at e in cc)
-  | inr other ↦ elim (cases_lt x y) [
-    | inl less ↦ less
-    | inr same ↦ absurd (let f : Absent ≡ SecondGreater = rw (le-ltb y x other, le-ltb x y same) at e in cc)
-  ]
-]
-
-greater_sign : (x y : ℕ) → y < x → sign_of x y ≡ FirstGreater
-greater_sign x y h = rw (lt-ltb y x h) refl
-
-smaller_sign : (x y : ℕ) → x < y → sign_of x y ≡ SecondGreater
-smaller_sign x y h = rw (le-ltb y x (omega arith), lt-ltb x y h) refl
-
--- the sign of the full puzzle between two neighbours
-full_sign_between : (g : GridValue) (i a b : ℕ) → AreSides g.size i a b → sign_at (full_unequal g) i ≡ sign_of (number_at g a) (number_at g b)
-full_sign_between g i a b sides = full_sign g i sides.sign ∙ same _ _ (sym sides.first) (sym sides.second)
   where
-    same : (x y : ℕ) → x ≡ a → y ≡ b → sign_of (number_at g x) (number_at g y) ≡ sign_of (number_at g a) (number_at g b)
-    same x y e f = rw (e, f) refl
+    first : (side : Side) → number Second < number First → FirstGreater ≡ greater_at side → number (other_side side) < number side
+    first First greater e = greater
+    first Second greater e = cc
+
+    second : (side : Side) → number First < number Second → SecondGreater ≡ greater_at side → number (other_side side) < number side
+    second First less e = cc
+    second Second less e = less
+
+    none : {P : Type 0} (side : Side) → Absent ≡ greater_at side → P
+    none First e = cc
+    none Second e = cc
+
+greater_sign : (side : Side) (number : Side → ℕ) → number (other_side side) < number side
+    → sign_of (number First) (number Second) ≡ greater_at side
+greater_sign First number h = rw (lt-ltb (number Second) (number First) h) refl
+greater_sign Second number h = rw (le-ltb (number Second) (number First) (omega arith), lt-ltb (number First) (number Second) h) refl
 
 -- the full puzzle says of each two neighbours which one the grid has greater
-pub full_greater : (g : GridValue) (a b : ℕ) → 3 ≤ g.size → IsGreater (full_unequal g) a b ↔ (AreNeighbours g.size a b × (number_at g b < number_at g a))
+pub full_greater : (g : GridValue) (a b : ℕ) → 3 ≤ g.size
+    → IsGreater (full_unequal g) a b ↔ (AreNeighbours g.size a b × (number_at g b < number_at g a))
 full_greater g a b small = (
-  (λ h. elim h.says [
-    | inl (between, e) ↦
-        let sides = between_sides g.size h.sign a b small between in (
-          record { sign = h.sign; between = inl between },
-          sign_of_first (number_at g a) (number_at g b) (sym (full_sign_between g h.sign a b sides) ∙ e),
-        )
-    | inr (between, e) ↦
-        let sides = between_sides g.size h.sign b a small between in (
-          record { sign = h.sign; between = inr between },
-          sign_of_second (number_at g b) (number_at g a) (sym (full_sign_between g h.sign b a sides) ∙ e),
-        )
-  ]),
-  (λ h. elim h.0.between [
-    | inl between ↦
-        let sides = between_sides g.size h.0.sign a b small between in
-        record {
-          sign = h.0.sign;
-          says = inl (between, full_sign_between g h.0.sign a b sides ∙ greater_sign (number_at g a) (number_at g b) h.1);
-        }
-    | inr between ↦
-        let sides = between_sides g.size h.0.sign b a small between in
-        record {
-          sign = h.0.sign;
-          says = inr (between, full_sign_between g h.0.sign b a sides ∙ smaller_sign (number_at g b) (number_at g a) h.1);
-        }
-  ]),
+  λ h.
+      let by = greater_by (full_unequal g) a b small h in
+      let number : Side → ℕ = λ side. number_at g (square_at g.size by.sign side) in (
+        record { sign = by.sign; between = between_at_side g.size by.sign by.side a b small by.at },
+        at_squares (λ x y. number_at g y < number_at g x) g.size by.sign by.side a b by.at
+            (sign_of_greater by.side number (sym (full_sign g by.sign by.at.sign_inside) ∙ by.says)),
+      ),
+  λ h.
+      let beside = side_between g.size h.0.sign a b small h.0.between in
+      let number : Side → ℕ = λ side. number_at g (square_at g.size h.0.sign side) in
+      let less : number (other_side beside.0) < number beside.0 = rw (← beside.1.here, ← beside.1.there) h.1 in
+      at_squares (IsGreater (full_unequal g)) g.size h.0.sign beside.0 a b beside.1
+      (greater_from_sign (full_unequal g) h.0.sign beside.0 small beside.1.sign_inside
+      (full_sign g h.0.sign beside.1.sign_inside ∙ greater_sign beside.0 number less)),
 )

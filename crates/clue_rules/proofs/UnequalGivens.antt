@@ -1,37 +1,46 @@
 -- The numbers of the pieces of a description, read one by one into a list.
-use Rattle.std.proofs.Common.{◌≡◌, ℕ, ◌+◌, ◌<◌, ◌≤◌, true, false, cond, List, [], ◌∷◌, ◌++◌, length, get_or, set, take, map, Option, Some, None, unwrap_or, is_some, Bor, take_all, refl, sym, ap, ◌∙◌, arith}
+use Rattle.std.proofs.Common.{◌≡◌, ℕ, ◌+◌, ◌<◌, ◌≤◌, true, false, List, [], ◌∷◌, ◌++◌, length, set, take, map, Option, Some, None, unwrap_or, is_some, Bor, take_all, refl, sym, ap, ◌∙◌, arith, if◌then◌else◌, slice_index_or}
 use Rattle.std.specs.List.{list_all}
 use Rattle.std.proofs.lemmas.List.{get_or-map, take_more, take_more_set, map-append}
 use Rattle.std.proofs.lemmas.List.Folds.{list_all-append, list_all_at}
 use Rattle.latin_board.specs.Squares.{GridValue}
 use Rattle.clue_rules.specs.Inner.UnequalPieces.{texts_of}
-use Rattle.clue_rules.specs.UnequalText.{number_in, has_number, givens_grid}
+use Rattle.clue_rules.specs.UnequalText.{number_in, has_number, grid_in}
 
 -- one piece more that has a number
-pub good_more : (w i n : ℕ) (pieces : List (List ℕ)) → i < length pieces → list_all (has_number w) (take i pieces) ≡ true → number_in w (get_or pieces i []) ≡ Some n → list_all (has_number w) (take (i + 1) pieces) ≡ true
+pub good_more : (w i n : ℕ) (pieces : List (List ℕ)) → i < length pieces → list_all (has_number w) (take i pieces) ≡ true
+    → number_in w (slice_index_or pieces i []) ≡ Some n → list_all (has_number w) (take (i + 1) pieces) ≡ true
 good_more w i n pieces inside before here =
-    let good : has_number w (get_or pieces i []) ≡ true = ap is_some here in
-    rw (take_more pieces i [] inside, list_all-append (has_number w) (take i pieces) (get_or pieces i [] ∷ []), before, good) refl
+    let good : has_number w (slice_index_or pieces i []) ≡ true = ap is_some here in
+    rw (take_more pieces i [] inside, list_all-append (has_number w) (take i pieces) (slice_index_or pieces i [] ∷ []), before, good) refl
 
-pub numbers_more : (w i n : ℕ) (pieces : List (List ℕ)) (numbers : List ℕ) → i < length pieces → i < length numbers → number_in w (get_or pieces i []) ≡ Some n → take i numbers ≡ map (λ p. unwrap_or (number_in w p) 0) (take i pieces) → take (i + 1) (set numbers i n) ≡ map (λ p. unwrap_or (number_in w p) 0) (take (i + 1) pieces)
+pub numbers_more : (w i n : ℕ) (pieces : List (List ℕ)) (numbers : List ℕ) → i < length pieces → i < length numbers
+    → number_in w (slice_index_or pieces i []) ≡ Some n → take i numbers ≡ map (λ p. unwrap_or (number_in w p) 0) (take i pieces)
+    → take (i + 1) (set numbers i n) ≡ map (λ p. unwrap_or (number_in w p) 0) (take (i + 1) pieces)
 numbers_more w i n pieces numbers inside room here before =
-    let number : n ≡ unwrap_or (number_in w (get_or pieces i [])) 0 = ap (λ o. unwrap_or o 0) (sym here) in
-    rw (take_more_set numbers i n room, take_more pieces i [] inside, map-append (λ p. unwrap_or (number_in w p) 0) (take i pieces) (get_or pieces i [] ∷ []), before)
+    let number : n ≡ unwrap_or (number_in w (slice_index_or pieces i [])) 0 = ap (λ o. unwrap_or o 0) (sym here) in
+    rw (take_more_set numbers i n room, take_more pieces i [] inside, map-append (λ p. unwrap_or (number_in w p) 0) (take i pieces) (slice_index_or pieces i [] ∷ []), before)
     (ap (λ m. map (λ p. unwrap_or (number_in w p) 0) (take i pieces) ++ m ∷ []) number)
 
 -- a piece without a number
-pub bad_piece : (w i : ℕ) (pieces : List (List ℕ)) → i < length pieces → number_in w (get_or pieces i []) ≡ None → list_all (has_number w) pieces ≡ false
+pub bad_piece : (w i : ℕ) (pieces : List (List ℕ)) → i < length pieces → number_in w (slice_index_or pieces i []) ≡ None
+    → list_all (has_number w) pieces ≡ false
 bad_piece w i pieces inside none = list_all_at (has_number w) pieces i [] inside (ap is_some none)
 
 -- the piece at a place, as the list of references and as the list of texts
-pub piece_here : (pieces : List (Bor (List ℕ))) (i w : ℕ) (d : Bor (List ℕ)) (o : Option ℕ) → i < length pieces → o ≡ number_in w (get_or pieces i d).now → number_in w (get_or (texts_of pieces) i []) ≡ o
+pub piece_here : (pieces : List (Bor (List ℕ))) (i w : ℕ) (d : Bor (List ℕ)) (o : Option ℕ) → i < length pieces
+    → o ≡ number_in w (slice_index_or pieces i d).now → number_in w (slice_index_or (texts_of pieces) i []) ≡ o
 piece_here pieces i w d o inside e = rw (get_or-map (λ p. p.now) pieces i d [] inside) (sym e)
 
 -- all pieces are read
-pub givens_read : (w i : ℕ) (g : GridValue) (pieces : List (List ℕ)) → g.size ≡ w → length g.numbers ≡ length pieces → length pieces ≤ i → list_all (has_number w) (take i pieces) ≡ true → take i g.numbers ≡ map (λ p. unwrap_or (number_in w p) 0) (take i pieces) → Some g ≡ cond (list_all (has_number w) pieces) (Some (givens_grid w pieces)) None
+pub givens_read : (w i : ℕ) (g : GridValue) (pieces : List (List ℕ)) → g.size ≡ w → length g.numbers ≡ length pieces
+    → length pieces ≤ i → list_all (has_number w) (take i pieces) ≡ true
+    → take i g.numbers ≡ map (λ p. unwrap_or (number_in w p) 0) (take i pieces)
+    → Some g ≡ (if list_all (has_number w) pieces then Some (grid_in w pieces) else None)
 givens_read w i g pieces size count all good numbers =
     let whole : take i pieces ≡ pieces = take_all i pieces all in
-    let read : g.numbers ≡ map (λ p. unwrap_or (number_in w p) 0) pieces = sym (take_all i g.numbers (omega arith)) ∙ numbers ∙ ap (map (λ p. unwrap_or (number_in w p) 0)) whole in
+    let read : g.numbers ≡ map (λ p. unwrap_or (number_in w p) 0) pieces =
+    sym (take_all i g.numbers (omega arith)) ∙ numbers ∙ ap (map (λ p. unwrap_or (number_in w p) 0)) whole in
     let each : list_all (has_number w) pieces ≡ true = rw whole at good in
-    let same : g ≡ givens_grid w pieces = λ j. record { size = size j; numbers = read j } in
+    let same : g ≡ grid_in w pieces = λ j. record { size = size j; numbers = read j } in
     rw each (ap (λ x. Some x) same)

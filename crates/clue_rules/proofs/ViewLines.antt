@@ -1,11 +1,10 @@
 -- The line that an edge place looks along, square by square.
-use Rattle.std.proofs.Common.{◌≡◌, ℕ, ◌+◌, ◌-◌, ◌*◌, ◌<◌, List, length, get_or, map, reverse, set, take, refl, sym, ap, ◌∙◌, inl, inr, arith}
+use Rattle.std.proofs.Common.{◌≡◌, ℕ, ◌+◌, ◌-◌, ◌*◌, ◌<◌, List, length, map, reverse, sym, ap, ◌∙◌, inl, inr, arith, slice_index}
 use Rattle.std.specs.List.{range_with_len}
-use Rattle.std.proofs.Math.ListN.{length-set}
 use Rattle.std.proofs.lemmas.Bool.{lt-ltb, le-ltb, cases_lt}
 use Rattle.std.proofs.lemmas.Grind.{same_number_lists}
-use Rattle.std.proofs.lemmas.List.{get_or-reverse, length-reverse, take_more_set}
-use Rattle.std.proofs.lemmas.List.FromFn.{length-map-range_with_len, get_or-map-range_with_len, map-range_with_len_more}
+use Rattle.std.proofs.lemmas.List.{get_or-reverse, length-reverse}
+use Rattle.std.proofs.lemmas.List.FromFn.{length-map-range_with_len, get_or-map-range_with_len}
 use Rattle.latin_board.specs.Squares.{GridValue, number_at}
 use Rattle.latin_board.specs.Lines.{line_cell, line_of}
 use Rattle.latin_board.proofs.LatinLines.{line_of-row, line_of-column, length-line_of, get_or-line_of}
@@ -15,7 +14,8 @@ use Rattle.clue_rules.specs.Views.{view_of, view_cell}
 abbrev pub numbers_from : GridValue → ℕ → ℕ → List ℕ
 numbers_from g place n = map (λ k. number_at g (view_cell g.size place k)) (range_with_len 0 n)
 
-back_along : (g : GridValue) (line : ℕ) → reverse (line_of g line) ≡ map (λ k. number_at g (line_cell g.size line (g.size - 1 - k))) (range_with_len 0 g.size)
+back_along : (g : GridValue) (line : ℕ)
+    → reverse (line_of g line) ≡ map (λ k. number_at g (line_cell g.size line (g.size - 1 - k))) (range_with_len 0 g.size)
 back_along g line =
     let len = length-line_of g line in
     let both = length-reverse (line_of g line) in
@@ -25,7 +25,7 @@ back_along g line =
     let within : k < g.size = omega (arith, both, len) in
     let here : length (line_of g line) - 1 - k ≡ g.size - 1 - k = omega (arith, len) in
     get_or-reverse (line_of g line) k 0 (omega (arith, len))
-    ∙ ap (λ j. get_or (line_of g line) j 0) here
+    ∙ ap (λ j. slice_index (line_of g line) j) here
     ∙ get_or-line_of g line (g.size - 1 - k) (omega arith)
     ∙ sym (get_or-map-range_with_len back 0 g.size k k 0 within (omega arith)))
 
@@ -49,20 +49,3 @@ view_of-numbers g place inside =
         ]
       ]
     ]
-
--- ---- the numbers written down one after another
-
-pub record IsWritten (g : GridValue) (place n : ℕ) (line : List ℕ) : Type 0 where
-  pub count : length line ≡ 9
-  pub front : take n line ≡ numbers_from g place n
-
-pub written_none : (g : GridValue) (place : ℕ) (line : List ℕ) → length line ≡ 9 → IsWritten g place 0 line
-written_none g place line count = record { count = count; front = refl }
-
-pub written_more : (g : GridValue) (place n v : ℕ) (line : List ℕ) → IsWritten g place n line → n < 9 → v ≡ number_at g (view_cell g.size place n) → IsWritten g place (n + 1) (set line n v)
-written_more g place n v line h inside is = record {
-  count = length-set line n v ∙ h.count;
-  front =
-      rw (take_more_set line n v (omega (arith, h.count)), h.front, is, map-range_with_len_more (λ k. number_at g (view_cell g.size place k)) 0 n n (omega arith))
-      refl;
-}

@@ -1,5 +1,5 @@
 -- What a clue rules out along its line: the line's fillings by sets, and a solution among them.
-use Rattle.std.proofs.Common.{◌≡◌, ◌≢◌, ℕ, ◌+◌, ◌-◌, ◌*◌, ◌<◌, ◌≤◌, ◌↔◌, ◌⊎◌, Bool, true, false, List, length, get_or, take, inl, inr, refl, sym, ap, ◌∙◌, subst, arith}
+use Rattle.std.proofs.Common.{◌≡◌, ◌≢◌, ℕ, ◌+◌, ◌*◌, ◌<◌, ◌≤◌, ◌⊎◌, Bool, true, false, List, length, take, inl, inr, refl, sym, ap, ◌∙◌, subst, arith, slice_index}
 use Rattle.std.proofs.lemmas.Bool.{false_from_ne_true, cases_lt, lt-ltb, le-ltb}
 use Rattle.std.proofs.lemmas.List.{get_or-take, length-take-le}
 use Rattle.std.proofs.lemmas.List.FromFn.{get_or-map-range_with_len}
@@ -7,50 +7,35 @@ use Rattle.latin_board.specs.Marks.{has_mark}
 use Rattle.latin_board.specs.Squares.{GridValue, number_at}
 use Rattle.latin_board.proofs.LatinLines.{line_differs, line_cell_inside}
 use Rattle.tower_lines.specs.TowersSeen.{seen}
-use Rattle.tower_lines.specs.LineFillings.{IsFilling, IsSupported}
+use Rattle.tower_lines.specs.LineFillings.{IsFilling}
 use Rattle.trail_solver.specs.Pairs.{IsPair}
 use Rattle.trail_solver.specs.Candidates.{CandidatesValue, IsEarlier, IsWithin, may_be}
 use Rattle.trail_solver.specs.Puzzles.{Solves}
-use Rattle.trail_solver.proofs.Earlier.{earlier_refl, was_left}
+use Rattle.trail_solver.proofs.Earlier.{was_left}
 use Rattle.clue_rules.specs.Inner.Narrowing.{AreSetsOf, IsSquare, IsStruckByLines, KeepsAlong, Narrows}
 use Rattle.clue_rules.specs.Laws.TowersItems.{length-view_of, clues_decide}
 use Rattle.clue_rules.specs.Towers.{towers_puzzle}
 use Rattle.clue_rules.specs.Towers.{TowersValue}
 use Rattle.clue_rules.specs.Struck.{IsViewFilling, IsViewStruck, IsTowersStruck}
-use Rattle.clue_rules.specs.Inner.TowersLines.{IsEndStruck, IsClueStruck}
+use Rattle.clue_rules.specs.Inner.TowersLines.{IsStruckAlong, IsStruckAt, ShowsClue, AreSupported, KeepSupported}
 use Rattle.clue_rules.specs.Views.{view_of, view_cell, view_line, view_index, front_place}
 use Rattle.clue_rules.specs.Towers.{clue_of}
-use Rattle.clue_rules.proofs.LineSteps.{along_narrows, grid_pair}
+use Rattle.clue_rules.proofs.LineSteps.{along_narrows, grid_pair, in_set}
 use Rattle.clue_rules.proofs.Narrowings.{narrows_by, narrows_for, narrows_nothing, narrows_then}
 use Rattle.clue_rules.proofs.ViewLines.{view_of-numbers}
+use Rattle.clue_rules.specs.Laws.Edges.{edge_cases}
+use Rattle.clue_rules.proofs.KeptCandidates.{along_whole}
 
 -- ---- the squares from a place
 
 pub view_line_low : (w place : ℕ) → place < 4 * w → view_line w place < 2 * w
 view_line_low w place inside =
-    elim (cases_lt place w) [
-      | inl top ↦ rw (lt-ltb place w top) (omega arith)
-      | inr below ↦ elim (cases_lt place (2 * w)) [
-        | inl bottom ↦ rw (le-ltb place w below, lt-ltb place (2 * w) bottom) bottom
-        | inr beside ↦ elim (cases_lt place (3 * w)) [
-          | inl left ↦ rw (le-ltb place w below, le-ltb place (2 * w) beside, lt-ltb place (3 * w) left) (omega arith)
-          | inr right ↦ rw (le-ltb place w below, le-ltb place (2 * w) beside, le-ltb place (3 * w) right) (omega arith)
-        ]
-      ]
-    ]
+    edge_cases (λ line. line < 2 * w) w place _ _ _ _ (λ upper. omega arith) (λ from lower. lower) (λ from left. omega arith)
+    (λ right. omega arith)
 
 view_index_low : (w place k : ℕ) → k < w → view_index w place k < w
 view_index_low w place k low =
-    elim (cases_lt place w) [
-      | inl top ↦ rw (lt-ltb place w top) low
-      | inr below ↦ elim (cases_lt place (2 * w)) [
-        | inl bottom ↦ rw (le-ltb place w below, lt-ltb place (2 * w) bottom) (omega arith)
-        | inr beside ↦ elim (cases_lt place (3 * w)) [
-          | inl left ↦ rw (le-ltb place w below, le-ltb place (2 * w) beside, lt-ltb place (3 * w) left) low
-          | inr right ↦ rw (le-ltb place w below, le-ltb place (2 * w) beside, le-ltb place (3 * w) right) (omega arith)
-        ]
-      ]
-    ]
+    edge_cases (λ i. i < w) w place _ _ _ _ (λ upper. low) (λ from lower. omega arith) (λ from left. low) (λ right. omega arith)
 
 view_index_apart : (w place i j : ℕ) → i < w → j < w → i ≢ j → view_index w place i ≢ view_index w place j
 view_index_apart w place i j first second apart =
@@ -69,29 +54,30 @@ pub view_inside : (w place k : ℕ) → place < 4 * w → k < w → view_cell w 
 view_inside w place k inside low =
     line_cell_inside w (view_line w place) (view_index w place k) (view_line_low w place inside) (view_index_low w place k low)
 
-pub view_number : (g : GridValue) (place k : ℕ) → place < 4 * g.size → k < g.size → get_or (view_of g place) k 0 ≡ number_at g (view_cell g.size place k)
+pub view_number : (g : GridValue) (place k : ℕ) → place < 4 * g.size → k < g.size
+    → slice_index (view_of g place) k ≡ number_at g (view_cell g.size place k)
 view_number g place k inside low =
-    ap (λ (xs : List ℕ). get_or xs k 0) (view_of-numbers g place inside)
+    ap (λ (xs : List ℕ). slice_index xs k) (view_of-numbers g place inside)
     ∙ get_or-map-range_with_len (λ k. number_at g (view_cell g.size place k)) 0 g.size k k 0 low (omega arith)
 
 -- ---- a solution is a filling of the line
 
-view_differs : (g : GridValue) (place i j : ℕ) → IsSquare g → place < 4 * g.size → i < g.size → j < g.size → i ≢ j → number_at g (view_cell g.size place i) ≢ number_at g (view_cell g.size place j)
+view_differs : (g : GridValue) (place i j : ℕ) → IsSquare g → place < 4 * g.size → i < g.size → j < g.size → i ≢ j
+    → number_at g (view_cell g.size place i) ≢ number_at g (view_cell g.size place j)
 view_differs g place i j s inside first second apart =
     line_differs g s.is_grid s.latin (view_line g.size place) (view_index g.size place i) (view_index g.size place j)
     (view_line_low g.size place inside) (view_index_low g.size place i first) (view_index_low g.size place j second)
     (view_index_apart g.size place i j first second apart)
 
--- what `supported` says of the sets of a line
-abbrev pub AreKeptSupported : ℕ → ℕ → List ℕ → List ℕ → Type 0
-AreKeptSupported w clue sets kept = (k v : ℕ) → (has_mark (get_or kept k 0) v ≡ true) ↔ IsSupported (take w sets) clue k v
-
-view_filling : (c : CandidatesValue) (place clue : ℕ) (sets : List ℕ) (g : GridValue) → place < 4 * c.size → AreSetsOf c place sets → c.size ≤ 9 → IsSquare g → g.size ≡ c.size → IsWithin c g → seen (view_of g place) ≡ clue → IsFilling (take c.size sets) clue (view_of g place)
+view_filling : (c : CandidatesValue) (place clue : ℕ) (sets : List ℕ) (g : GridValue) → place < 4 * c.size → AreSetsOf c place sets
+    → c.size ≤ 9 → IsSquare g → g.size ≡ c.size → IsWithin c g → seen (view_of g place) ≡ clue
+    → IsFilling (take c.size sets) clue (view_of g place)
 view_filling c place clue sets g inside is small s size within shown =
     let whole = length-view_of g place in
     let long : length (take c.size sets) ≡ c.size = length-take-le c.size sets (omega (arith, is.count)) in
     let place_in : place < 4 * g.size = omega arith in
-    let at : (k : ℕ) → k < g.size → get_or (view_of g place) k 0 ≡ number_at g (view_cell g.size place k) = λ k low. view_number g place k place_in low in
+    let at : (k : ℕ) → k < g.size → slice_index (view_of g place) k ≡ number_at g (view_cell g.size place k) =
+    λ k low. view_number g place k place_in low in
     let cell_is : (k : ℕ) → number_at g (view_cell g.size place k) ≡ number_at g (view_cell c.size place k) =
     λ k. ap (λ (w : ℕ). number_at g (view_cell w place k)) size in
     let pair : (k : ℕ) → k < c.size → IsPair c.size (view_cell c.size place k) (number_at g (view_cell c.size place k)) =
@@ -107,10 +93,12 @@ view_filling c place clue sets g inside is small s size within shown =
         candidates = λ j low.
             let in_g : j < g.size = omega arith in
             let in_c : j < c.size = omega arith in
-            let here : get_or (view_of g place) j 0 ≡ number_at g (view_cell c.size place j) = at j in_g ∙ cell_is j in
-            let has = (is.each j (number_at g (view_cell c.size place j)) in_c).1 (pair j in_c, within.each (view_cell c.size place j) (view_inside c.size place j inside in_c)) in
-            let P : ℕ → Type 0 = λ m. has_mark m (get_or (view_of g place) j 0) ≡ true in
-            let Q : ℕ → Type 0 = λ v. has_mark (get_or sets j 0) v ≡ true in
+            let here : slice_index (view_of g place) j ≡ number_at g (view_cell c.size place j) = at j in_g ∙ cell_is j in
+            let has =
+            in_set c (view_cell c.size place j) (slice_index sets j) g (is.each j in_c) s size within
+            (view_inside c.size place j inside in_c) in
+            let P : ℕ → Type 0 = λ m. has_mark m (slice_index (view_of g place) j) ≡ true in
+            let Q : ℕ → Type 0 = λ v. has_mark (slice_index sets j) v ≡ true in
             subst P (sym (get_or-take c.size sets j 0 in_c)) (subst Q (sym here) has);
         apart = λ i j before low same.
             let i_in : i < g.size = omega arith in
@@ -121,10 +109,13 @@ view_filling c place clue sets g inside is small s size within shown =
       shown = shown;
     }
 
-view_solved : (c : CandidatesValue) (place clue : ℕ) (sets kept : List ℕ) (g : GridValue) → place < 4 * c.size → AreSetsOf c place sets → c.size ≤ 9 → AreKeptSupported c.size clue sets kept → IsSquare g → seen (view_of g place) ≡ clue → g.size ≡ c.size → IsWithin c g → (k : ℕ) → k < c.size → has_mark (get_or kept k 0) (number_at g (view_cell c.size place k)) ≡ true
+view_solved : (c : CandidatesValue) (place clue : ℕ) (sets kept : List ℕ) (g : GridValue) → place < 4 * c.size
+    → AreSetsOf c place sets → c.size ≤ 9 → KeepSupported c.size clue sets kept → IsSquare g → seen (view_of g place) ≡ clue
+    → g.size ≡ c.size → IsWithin c g → (k : ℕ) → k < c.size
+    → has_mark (slice_index kept k) (number_at g (view_cell c.size place k)) ≡ true
 view_solved c place clue sets kept g inside is small supported s shown size within k low =
     let long : length (take c.size sets) ≡ c.size = length-take-le c.size sets (omega (arith, is.count)) in
-    (supported k (number_at g (view_cell c.size place k))).1 (record {
+    supported k (number_at g (view_cell c.size place k)) (record {
       line = view_of g place;
       filling = view_filling c place clue sets g inside is small s size within shown;
       inside = omega arith;
@@ -133,45 +124,66 @@ view_solved c place clue sets kept g inside is small supported s shown size with
 
 -- ---- a filling by later candidates is one by earlier ones
 
-filling_earlier : (first c : CandidatesValue) (place clue : ℕ) (sets line : List ℕ) → IsEarlier first c → AreSetsOf c place sets → c.size ≤ 9 → IsFilling (take c.size sets) clue line → IsViewFilling first place clue line
+filling_earlier : (first c : CandidatesValue) (place clue : ℕ) (sets line : List ℕ) → IsEarlier first c → AreSetsOf c place sets
+    → c.size ≤ 9 → IsFilling (take c.size sets) clue line → IsViewFilling first place clue line
 filling_earlier first c place clue sets line e is small f =
     let long : length (take c.size sets) ≡ c.size = length-take-le c.size sets (omega (arith, is.count)) in
     let whole : length line ≡ c.size = f.whole ∙ long in
-    let left : (k : ℕ) → k < c.size → IsPair c.size (view_cell c.size place k) (get_or line k 0) × (may_be c (view_cell c.size place k) (get_or line k 0) ≡ true) =
+    let left : (k : ℕ) → k < c.size → IsPair c.size (view_cell c.size place k) (slice_index line k) × (may_be c (view_cell c.size place k) (slice_index line k) ≡ true) =
     λ k low.
-    let P : ℕ → Type 0 = λ m. has_mark m (get_or line k 0) ≡ true in
-    (is.each k (get_or line k 0) low).0 (subst P (get_or-take c.size sets k 0 low) (f.start.candidates k (omega arith))) in
-    let Left : ℕ → Type 0 = λ w. (k : ℕ) → k < w → IsPair w (view_cell w place k) (get_or line k 0) × (may_be c (view_cell w place k) (get_or line k 0) ≡ true) in
+    let P : ℕ → Type 0 = λ m. has_mark m (slice_index line k) ≡ true in
+    (is.each k low (slice_index line k)).0 (subst P (get_or-take c.size sets k 0 low) (f.start.candidates k (omega arith))) in
+    let Left : ℕ → Type 0 = λ w. (k : ℕ) → k < w → IsPair w (view_cell w place k) (slice_index line k) × (may_be c (view_cell w place k) (slice_index line k) ≡ true) in
     let there : Left first.size = subst Left e.size left in
     record {
       whole = whole ∙ e.size;
       pairs = λ k low. (there k low).0;
-      candidates = λ k low. was_left first c (view_cell first.size place k) (get_or line k 0) e (there k low).1;
+      candidates = λ k low. was_left first c (view_cell first.size place k) (slice_index line k) e (there k low).1;
       apart = λ i j before low. f.start.apart i j before (omega (arith, e.size));
       shown = f.shown;
     }
 
-view_struck : (c : CandidatesValue) (place clue : ℕ) (sets kept : List ℕ) → AreSetsOf c place sets → c.size ≤ 9 → AreKeptSupported c.size clue sets kept → (first : CandidatesValue) → IsEarlier first c → (cell v : ℕ) → IsViewStruck place clue first cell v → (k : ℕ) × (k < c.size) × (view_cell c.size place k ≡ cell) × (has_mark (get_or kept k 0) v ≡ false)
+view_struck : (c : CandidatesValue) (place clue : ℕ) (sets kept : List ℕ) → AreSetsOf c place sets → c.size ≤ 9
+    → AreSupported c.size clue sets kept → (first : CandidatesValue) → IsEarlier first c → (cell v : ℕ)
+    → IsViewStruck place clue first cell v
+    → (k : ℕ) × (k < c.size) × (view_cell c.size place k ≡ cell) × (has_mark (slice_index kept k) v ≡ false)
 view_struck c place clue sets kept is small supported first e cell v s = (
   s.index,
   omega (arith, s.inside, e.size),
   ap (λ (w : ℕ). view_cell w place s.index) e.size ∙ s.here,
-  false_from_ne_true (has_mark (get_or kept s.index 0) v) (λ has.
-      let found = (supported s.index v).0 has in
+  false_from_ne_true (has_mark (slice_index kept s.index) v) (λ has.
+      let found = supported s.index v (omega (arith, s.inside, e.size)) has in
       s.unfilled.none found.line (filling_earlier first c place clue sets found.line e is small found.filling) found.here),
 )
 
-pub view_narrows : (old new : CandidatesValue) (place clue : ℕ) (sets kept : List ℕ) (left : Bool) → place < 4 * old.size → AreSetsOf old place sets → old.size ≤ 9 → AreKeptSupported old.size clue sets kept → KeepsAlong place kept old new left → Narrows (λ g. IsSquare g × (seen (view_of g place) ≡ clue)) (IsViewStruck place clue) old new left
-view_narrows old new place clue sets kept left inside is small supported h =
-    along_narrows (λ g s size w k low. view_solved old place clue sets kept g inside is small supported s.0 s.1 size w k low)
+pub view_narrows : (old new : CandidatesValue) (place clue : ℕ) (sets kept : List ℕ) (left : Bool) → place < 4 * old.size
+    → AreSetsOf old place sets → old.size ≤ 9
+    → AreSupported old.size clue sets kept → KeepSupported old.size clue sets kept → KeepsAlong place kept old new left
+    → Narrows (ShowsClue place clue) (IsViewStruck place clue) old new left
+view_narrows old new place clue sets kept left inside is small supported keeps h =
+    along_narrows (λ g s size w k low. view_solved old place clue sets kept g inside is small keeps s.0 s.1 size w k low)
     (λ first e cell v s. view_struck old place clue sets kept is small supported first e cell v s) h
+
+-- where each candidate is in some filling, nothing goes
+pub view_kept : (c : CandidatesValue) (place clue : ℕ) (sets : List ℕ) → place < 4 * c.size → AreSetsOf c place sets → c.size ≤ 9
+    → AreSupported c.size clue sets sets → Narrows (ShowsClue place clue) (IsViewStruck place clue) c c true
+view_kept c place clue sets inside is small supported =
+    along_narrows (λ g s size w k low.
+    in_set c (view_cell c.size place k) (slice_index sets k) g (is.each k low) s.0 size w (view_inside c.size place k inside low))
+    (λ first e cell v s. view_struck c place clue sets sets is small supported first e cell v s)
+    (along_whole place sets sets c is (λ k low. refl))
 
 -- ---- a clue of a puzzle, and the clues at both ends of a line
 
-pub no_clue_narrows : (v : TowersValue) (place : ℕ) (c : CandidatesValue) → clue_of v place ≡ 0 → Narrows (λ g. Solves (towers_puzzle v) g) (IsClueStruck v place) c c true
-no_clue_narrows v place c none = narrows_by (λ first e cell value pair s. absurd (omega (arith, s.0))) (narrows_nothing (λ g. Solves (towers_puzzle v) g) c)
+pub no_clue_narrows : (v : TowersValue) (place : ℕ) (c : CandidatesValue) → clue_of v place ≡ 0
+    → Narrows (Solves (towers_puzzle v)) (IsStruckAt v place) c c true
+no_clue_narrows v place c none =
+    narrows_by (λ first e cell value pair s. absurd (omega (arith, s.0))) (narrows_nothing (Solves (towers_puzzle v)) c)
 
-pub clue_narrows : (v : TowersValue) (place clue : ℕ) (old new : CandidatesValue) (left : Bool) → old.size ≡ v.size → place < 4 * old.size → clue ≡ clue_of v place → clue ≢ 0 → Narrows (λ g. IsSquare g × (seen (view_of g place) ≡ clue)) (IsViewStruck place clue) old new left → Narrows (λ g. Solves (towers_puzzle v) g) (IsClueStruck v place) old new left
+pub clue_narrows : (v : TowersValue) (place clue : ℕ) (old new : CandidatesValue) (left : Bool) → old.size ≡ v.size
+    → place < 4 * old.size → clue ≡ clue_of v place → clue ≢ 0
+    → Narrows (ShowsClue place clue) (IsViewStruck place clue) old new left
+    → Narrows (Solves (towers_puzzle v)) (IsStruckAt v place) old new left
 clue_narrows v place clue old new left size inside is some h =
     narrows_for (λ g s. (
       record { is_grid = s.is_grid; latin = s.latin },
@@ -182,30 +194,21 @@ clue_narrows v place clue old new left size inside is some h =
     subst P (sym is) s.1) h)
 
 ends : (w place line : ℕ) → place < 4 * w → view_line w place ≡ line → (place ≡ front_place w line) ⊎ (place ≡ front_place w line + w)
-ends w place line inside is =
-    elim (cases_lt place w) [
-      | inl top ↦
-          let at : w + place ≡ line = rw (lt-ltb place w top) at is in
-          inl (rw (le-ltb line w (omega arith)) (omega arith))
-      | inr below ↦ elim (cases_lt place (2 * w)) [
-        | inl bottom ↦
-            let at : place ≡ line = rw (le-ltb place w below, lt-ltb place (2 * w) bottom) at is in
-            inr (rw (le-ltb line w (omega arith)) (omega arith))
-        | inr beside ↦ elim (cases_lt place (3 * w)) [
-          | inl left ↦
-              let at : place - 2 * w ≡ line = rw (le-ltb place w below, le-ltb place (2 * w) beside, lt-ltb place (3 * w) left) at is in
-              inl (rw (lt-ltb line w (omega arith)) (omega arith))
-          | inr right ↦
-              let at : place - 3 * w ≡ line = rw (le-ltb place w below, le-ltb place (2 * w) beside, le-ltb place (3 * w) right) at is in
-              inr (rw (lt-ltb line w (omega arith)) (omega arith))
-        ]
-      ]
-    ]
+ends w place line inside =
+    edge_cases (λ at. at ≡ line → (place ≡ front_place w line) ⊎ (place ≡ front_place w line + w)) w place _ _ _ _
+    (λ upper is. inl (rw (le-ltb line w (omega arith)) (omega arith)))
+    (λ from lower is. inr (rw (le-ltb line w (omega arith)) (omega arith)))
+    (λ from left is. inl (rw (lt-ltb line w (omega arith)) (omega arith)))
+    (λ right is. inr (rw (lt-ltb line w (omega arith)) (omega arith)))
 
-pub ends_narrow : (v : TowersValue) (line front back : ℕ) (old between new : CandidatesValue) (left : Bool) → front ≡ front_place old.size line → back ≡ front + old.size → Narrows (λ g. Solves (towers_puzzle v) g) (IsClueStruck v front) old between true → Narrows (λ g. Solves (towers_puzzle v) g) (IsClueStruck v back) between new left → Narrows (λ g. Solves (towers_puzzle v) g) (IsEndStruck v line) old new left
+pub ends_narrow : (v : TowersValue) (line front back : ℕ) (old between new : CandidatesValue) (left : Bool)
+    → front ≡ front_place old.size line → back ≡ front + old.size
+    → Narrows (Solves (towers_puzzle v)) (IsStruckAt v front) old between true
+    → Narrows (Solves (towers_puzzle v)) (IsStruckAt v back) between new left
+    → Narrows (Solves (towers_puzzle v)) (IsStruckAlong v line) old new left
 ends_narrow v line front back old between new left first second one two =
     narrows_by (λ c e cell value pair s.
-    let P : ℕ → Type 0 = λ n. IsClueStruck v n c cell value in
+    let P : ℕ → Type 0 = λ n. IsStruckAt v n c cell value in
     elim (ends c.size s.place line s.place_is s.line_is) [
       | inl at ↦ inl (subst P (at ∙ ap (λ (w : ℕ). front_place w line) (sym e.size) ∙ sym first) (s.clued, s.struck))
       | inr at ↦ inr (subst P (at ∙ ap (λ (w : ℕ). front_place w line + w) (sym e.size) ∙ ap (λ (n : ℕ). n + old.size) (sym first) ∙ sym second) (s.clued, s.struck))
@@ -214,7 +217,8 @@ ends_narrow v line front back old between new left first second one two =
 
 -- ---- all that a puzzle strikes
 
-pub towers_by_lines : (v : TowersValue) (c : CandidatesValue) (cell value : ℕ) → IsTowersStruck v c cell value → IsStruckByLines (IsEndStruck v) c cell value
+pub towers_by_lines : (v : TowersValue) (c : CandidatesValue) (cell value : ℕ) → IsTowersStruck v c cell value
+    → IsStruckByLines (IsStruckAlong v) c cell value
 towers_by_lines v c cell value struck = elim struck [
   | inl latin ↦ inl latin
   | inr tower ↦ inr (
@@ -229,25 +233,3 @@ towers_by_lines v c cell value struck = elim struck [
     },
   )
 ]
-
--- ---- a line of which each candidate is in a filling
-
-pub view_kept : (c : CandidatesValue) (place clue : ℕ) (sets : List ℕ) → place < 4 * c.size → AreSetsOf c place sets → c.size ≤ 9 → ((k v : ℕ) → k < c.size → has_mark (get_or sets k 0) v ≡ true → IsSupported (take c.size sets) clue k v) → Narrows (λ g. IsSquare g × (seen (view_of g place) ≡ clue)) (IsViewStruck place clue) c c true
-view_kept c place clue sets inside is small supported = record {
-  less = earlier_refl c;
-  keeps = λ g s size w. w;
-  refutes = tt;
-  struck = record {
-    each = λ first e cell v pair s.
-        let k = s.index in
-        let low : k < c.size = omega (arith, s.inside, e.size) in
-        let here : view_cell c.size place k ≡ cell = ap (λ (w : ℕ). view_cell w place k) e.size ∙ s.here in
-        let gone : may_be c (view_cell c.size place k) v ≡ false =
-        false_from_ne_true (may_be c (view_cell c.size place k) v) (λ left.
-        let at : IsPair c.size (view_cell c.size place k) v = record { inside = view_inside c.size place k inside low; low = pair.low; high = omega (arith, pair.high, e.size) } in
-        let found = supported k v low ((is.each k v low).1 (at, left)) in
-        s.unfilled.none found.line (filling_earlier first c place clue sets found.line e is small found.filling) found.here) in
-        let P : ℕ → Type 0 = λ i. may_be c i v ≡ false in
-        subst P here gone;
-  };
-}

@@ -19,44 +19,51 @@ IsIdText letters IsDesc (Described p d) text =
 IsIdText letters IsDesc (Seeded p seed) text =
     IsParams letters p × (seed < 2 ^ 64) × (text ≡ params_text p ++ exclamation ∷ decimal seed)
 
--- a description that may be any text, and stands for itself
+-- The description may be any text, and stands for itself.
 abbrev pub IsAnyText : ℕ → List ℕ → List ℕ → Type 0
 IsAnyText w desc text = desc ≡ text
 
--- `:`, `#` and `!`
+-- the byte is `:`, `#` or `!`
 abbrev pub is_separator : ℕ → Bool
 is_separator b = (b == colon) || ((b == hash) || (b == exclamation))
 
--- what stands before the first separator, and what stands from it on
+-- what stands before the first separator
 abbrev pub params_part : List ℕ → List ℕ
 params_part [] = []
 params_part (b ∷ bs) = if is_separator b then [] else (b ∷ params_part bs)
 
+-- what stands from the first separator on
 abbrev pub from_separator : List ℕ → List ℕ
 from_separator [] = []
 from_separator (b ∷ bs) = if is_separator b then (b ∷ bs) else from_separator bs
 
--- a seed is from 0 to 2 ^ 64 - 1
+-- the greatest seed
+abbrev pub largest_seed : ℕ
+largest_seed = 18446744073709551615
+
+-- the ID with a seed, where one could be read
 abbrev pub seeded : Params → Option ℕ → Result (GameId (List ℕ)) IdFault
 seeded p None = Err BadSeed
 seeded p (Some seed) = Ok (Seeded p seed)
 
+-- the ID of what stands from the separator on, behind its parameters
 abbrev pub behind_params : Params → List ℕ → Result (GameId (List ℕ)) IdFault
 behind_params p [] = Err NoDescription
 behind_params p (separator ∷ bs) =
     if separator == hash then Err ForeignSeed
-    else (if separator == exclamation then seeded p (decimal_value 18446744073709551615 bs) else Ok (Described p bs))
+    else (if separator == exclamation then seeded p (decimal_value largest_seed bs) else Ok (Described p bs))
 
--- the ID with its description as a text
+-- the ID that a text says with its description as a text, or the first fault of what stands before the description
 unfoldable pub id_parts_at : List ℕ → Bool → List ℕ → Result (GameId (List ℕ)) IdFault
 id_parts_at letters has_adjacent text =
     params_at letters has_adjacent (params_part text) >>= λ p. behind_params p (from_separator text)
 
--- the description, read at the size of the parameters
+-- the ID with its description read at the size of its parameters
 abbrev pub with_description : {D : Type 0} → (ℕ → List ℕ → Result D IdFault) → GameId (List ℕ) → Result (GameId D) IdFault
 with_description desc_at (Described p desc) = desc_at p.size desc >>= λ d. Ok (Described p d)
 with_description desc_at (Seeded p seed) = Ok (Seeded p seed)
 
+-- the ID that a text says, or its first fault
 unfoldable pub id_at : {D : Type 0} → List ℕ → Bool → (ℕ → List ℕ → Result D IdFault) → List ℕ → Result (GameId D) IdFault
 id_at letters has_adjacent desc_at text = id_parts_at letters has_adjacent text >>= with_description desc_at
 

@@ -1,8 +1,10 @@
--- The faults of a game ID: number and name of each, and the two of a list that has too few or too many members.
+-- The faults of game IDs, parameters and descriptions: the number and the name of each, and the two of a list that has too
+-- few or too many members.
 use Rattle.std.specs.Prelude.{◌≢◌, ℕ, List, codes, Result, IfErr, length, Ok, Err, nat_lt, if◌then◌else◌}
 use Rattle.clue_rules.specs.declared.id_fault.IdFault.{IdFault}
 use Rattle.clue_rules.specs.declared.id_fault.IdFault.TheVariants.{BadSize, BadLetter, AdjacentMode, BadParams, ForeignSeed, NoDescription, BadSeed, BadClue, BadSquares, TooFew, TooMany, OffGrid, Contradiction, OutOfMemory}
 
+-- a fault's number
 abbrev pub id_fault_number : IdFault → ℕ
 id_fault_number BadSize = 1
 id_fault_number BadLetter = 2
@@ -19,6 +21,7 @@ id_fault_number OffGrid = 12
 id_fault_number Contradiction = 13
 id_fault_number OutOfMemory = 14
 
+-- its name, as a program prints it
 abbrev pub id_fault_name : IdFault → List ℕ
 id_fault_name BadSize = codes "BadSize"
 id_fault_name BadLetter = codes "BadLetter"
@@ -35,9 +38,10 @@ id_fault_name OffGrid = codes "OffGrid"
 id_fault_name Contradiction = codes "Contradiction"
 id_fault_name OutOfMemory = codes "OutOfMemory"
 
--- the answer isn't want of memory
+-- the answer is no refusal for want of memory
 abbrev pub SparesMemory : {A : Type 0} → Result A IdFault → Type 0
 SparesMemory answer = IfErr answer (λ fault. fault ≢ OutOfMemory)
 
+-- the list, where it has exactly n members
 abbrev pub exactly : {X : Type 0} → ℕ → List X → Result (List X) IdFault
 exactly n xs = if nat_lt (length xs) n then Err TooFew else (if nat_lt n (length xs) then Err TooMany else Ok xs)

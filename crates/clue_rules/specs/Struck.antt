@@ -38,7 +38,7 @@ pub record IsPlaceStruck (c : CandidatesValue) (cell value : ℕ) : Type 0 where
 abbrev pub IsLatinStruck : CandidatesValue → ℕ → ℕ → Type 0
 IsLatinStruck c cell value = IsPeerStruck c cell value ⊎ IsPlaceStruck c cell value
 
--- candidates for the squares from a place, without repeats, that show as many towers as the clue says
+-- the line takes a candidate from each square from a place, none twice, and shows as many towers as the clue says
 pub record IsViewFilling (c : CandidatesValue) (place clue : ℕ) (line : List ℕ) : Type 0 where
   pub whole : length line ≡ c.size
   pub pairs : (k : ℕ) → k < c.size → IsPair c.size (view_cell c.size place k) (slice_index line k)
@@ -46,11 +46,11 @@ pub record IsViewFilling (c : CandidatesValue) (place clue : ℕ) (line : List �
   pub apart : (i j : ℕ) → i < j → j < c.size → slice_index line i ≢ slice_index line j
   pub shown : seen line ≡ clue
 
--- no such line has the value at its k-th square
+-- no such line has the value in its k-th square
 pub record HasNoFilling (c : CandidatesValue) (place clue k value : ℕ) : Type 0 where
   pub none : (line : List ℕ) → IsViewFilling c place clue line → slice_index line k ≢ value
 
--- the same of the cell, which is one of the squares from the place
+-- the cell is one of the squares from the place, and no such line has the value there
 pub record IsViewStruck (place clue : ℕ) (c : CandidatesValue) (cell value : ℕ) : Type 0 where
   pub index : ℕ
   pub inside : index < c.size
@@ -58,7 +58,7 @@ pub record IsViewStruck (place clue : ℕ) (c : CandidatesValue) (cell value : �
   pub unfilled : HasNoFilling c place clue index value
 
 -- some clued line through the cell has no filling with the value there
-pub record IsTowerStruck (v : TowersValue) (c : CandidatesValue) (cell value : ℕ) : Type 0 where
+pub record IsClueStruck (v : TowersValue) (c : CandidatesValue) (cell value : ℕ) : Type 0 where
   pub place : ℕ
   pub place_is : place < 4 * c.size
   pub clued : 0 < clue_of v place
@@ -66,17 +66,18 @@ pub record IsTowerStruck (v : TowersValue) (c : CandidatesValue) (cell value : �
 
 -- what a Towers puzzle rules out
 abbrev pub IsTowersStruck : TowersValue → CandidatesValue → ℕ → ℕ → Type 0
-IsTowersStruck v c cell value = IsLatinStruck c cell value ⊎ IsTowerStruck v c cell value
+IsTowersStruck v c cell value = IsLatinStruck c cell value ⊎ IsClueStruck v c cell value
 
--- no candidate of the cell is greater than the value, or less
+-- no candidate of the cell is greater than the value
 abbrev pub HasNoneAbove : CandidatesValue → ℕ → ℕ → Type 0
 HasNoneAbove c cell value = (u : ℕ) → value < u → u ≤ c.size → may_be c cell u ≡ false
 
+-- no candidate of the cell is less than the value
 abbrev pub HasNoneBelow : CandidatesValue → ℕ → ℕ → Type 0
 HasNoneBelow c cell value = (u : ℕ) → 1 ≤ u → u < value → may_be c cell u ≡ false
 
--- the cell is the lower end of a sign whose upper end has no greater value, or the upper end of one whose lower end has
--- no less
+-- the cell is the lesser end of a sign whose greater end has no greater value, or the greater end of one whose lesser end
+-- has no less
 pub record IsSignStruck (v : UnequalValue) (c : CandidatesValue) (cell value : ℕ) : Type 0 where
   pub other : ℕ
   pub why : (IsGreater v other cell × HasNoneAbove c other value) ⊎ (IsGreater v cell other × HasNoneBelow c other value)
@@ -95,6 +96,6 @@ KeepsSolutions p old new = (g : GridValue) → Solves p g → IsWithin old g →
 abbrev pub HasNoSolutionWithin : Puzzle → CandidatesValue → Type 0
 HasNoSolutionWithin p c = (g : GridValue) → Solves p g → IsWithin c g → ⊥
 
--- no pair is left that is struck by the old candidates
+-- no pair is left that the old candidates strike
 abbrev pub NoneLeft : (CandidatesValue → ℕ → ℕ → Type 0) → CandidatesValue → CandidatesValue → Type 0
 NoneLeft Struck old new = (cell value : ℕ) → IsPair old.size cell value → Struck old cell value → may_be new cell value ≡ false

@@ -1,25 +1,27 @@
 -- Towers puzzles: clues and givens, the grids that meet the clues, and the items.
 use Rattle.std.specs.Prelude.{◌≡◌, ℕ, ◌*◌, ◌≤◌, List, length, All, ◌+◌, ◌-◌, ◌<◌, Bool, ◌==◌, ◌||◌, nat_lt, if◌then◌else◌, slice_index, zero, map}
 use Rattle.std.specs.List.{range_with_len, list_all}
-use Rattle.latin_board.specs.Squares.{GridValue}
+use Rattle.latin_board.specs.Squares.{GridValue, IsGrid}
 use Rattle.tower_lines.specs.TowersSeen.{seen}
 use Rattle.clue_rules.specs.Views.{view_of}
 use Rattle.trail_solver.specs.Puzzles.{Puzzle}
 use Rattle.clue_rules.specs.Items.{kept_items}
 
+-- a width, a clue for each edge place and a number for each square, 0 where there is none
 pub record TowersValue : Type 0 where
   pub size : ℕ
   pub clues : List ℕ
   pub givens : List ℕ
 
+-- the givens as a grid, blank where none is
+abbrev pub given_grid : TowersValue → GridValue
+given_grid v = record { size = v.size; numbers = v.givens }
+
 -- what each Towers puzzle of the program keeps
-pub record IsTowers (p : TowersValue) : Type 0 where
-  pub smallest : 3 ≤ p.size
-  pub largest : p.size ≤ 9
-  pub clue_count : length p.clues ≡ 4 * p.size
-  pub clues_within : All (λ clue. clue ≤ p.size) p.clues
-  pub given_count : length p.givens ≡ p.size * p.size
-  pub givens_within : All (λ n. n ≤ p.size) p.givens
+pub record IsTowers (v : TowersValue) : Type 0 where
+  pub givens : IsGrid (given_grid v)
+  pub clue_count : length v.clues ≡ 4 * v.size
+  pub clues_within : All (λ clue. clue ≤ v.size) v.clues
 
 -- the clue at a place, 0 for none
 abbrev pub clue_of : TowersValue → ℕ → ℕ
@@ -29,22 +31,24 @@ clue_of v place = slice_index v.clues place
 pub record HoldsClues (v : TowersValue) (g : GridValue) : Type 0 where
   pub each : (place : ℕ) → place < 4 * v.size → 0 < clue_of v place → seen (view_of g place) ≡ clue_of v place
 
--- `HoldsClues` as a test that computes
-abbrev pub meets_clue : TowersValue → GridValue → ℕ → Bool
-meets_clue v g place = (clue_of v place == 0) || (seen (view_of g place) == clue_of v place)
+-- the clue at a place is met, or there is none
+abbrev pub holds_clue : TowersValue → GridValue → ℕ → Bool
+holds_clue v g place = (clue_of v place == 0) || (seen (view_of g place) == clue_of v place)
 
-abbrev pub meets_clues : TowersValue → GridValue → Bool
-meets_clues v g = list_all (meets_clue v g) (range_with_len 0 (4 * v.size))
+-- `HoldsClues` as a test that computes
+abbrev pub holds_clues : TowersValue → GridValue → Bool
+holds_clues v g = list_all (holds_clue v g) (range_with_len 0 (4 * v.size))
 
 -- what generic code knows of the puzzle
 abbrev pub towers_puzzle : TowersValue → Puzzle
 towers_puzzle v = record {
   size = v.size;
   given = λ cell. slice_index v.givens cell;
-  meets = meets_clues v;
+  meets = holds_clues v;
   clued = λ place. nat_lt 0 (clue_of v place);
 }
 
+-- how many items a puzzle of a width can have: its clues, and behind them its givens
 abbrev pub towers_items : ℕ → ℕ
 towers_items w = 4 * w + w * w
 

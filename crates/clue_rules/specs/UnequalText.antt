@@ -34,6 +34,7 @@ pub record Piece : Type 0 where
   pub number : ℕ
   pub greater : List Direction
 
+-- its text: the digit of the number, and a letter for each direction
 abbrev pub piece_text : Piece → List ℕ
 piece_text p = (digit_zero + p.number) ∷ map letter_of p.greater
 
@@ -41,19 +42,22 @@ piece_text p = (digit_zero + p.number) ∷ map letter_of p.greater
 abbrev pub directions_at : List Piece → ℕ → List Direction
 directions_at pieces cell = slice_index_or (map (λ p. p.greater) pieces) cell []
 
--- a letter at the square a points to b
+-- a letter at the square a says that it is greater than b
 pub record Says (w : ℕ) (pieces : List Piece) (a b : ℕ) : Type 0 where
   pub direction : Direction
   pub letter : Contains (directions_at pieces a) direction
   pub points : neighbour w a direction ≡ Some b
 
--- The text describes the puzzle: a piece for each square in reading order, separated by commas, one comma more at the
--- end or not. Letters stand in any order and may repeat, and none points out of the grid.
+-- The text is these pieces, separated by commas, one comma more at the end or not.
+abbrev pub ArePiecesOf : List ℕ → List (List ℕ) → Type 0
+ArePiecesOf text pieces = (text ≡ join_with_byte comma pieces) ⊎ (text ≡ join_with_byte comma pieces ++ comma ∷ [])
+
+-- The text describes the puzzle: a piece for each square in reading order. Letters stand in any order and may repeat, and
+-- none points out of the grid.
 pub record IsUnequalText (v : UnequalValue) (text : List ℕ) : Type 0 where
   pub puzzle : IsUnequal v
   pub pieces : List Piece
-  pub written : (text ≡ join_with_byte comma (map piece_text pieces))
-      ⊎ (text ≡ join_with_byte comma (map piece_text pieces) ++ comma ∷ [])
+  pub written : ArePiecesOf text (map piece_text pieces)
   pub numbers : map (λ p. p.number) pieces ≡ v.givens
   pub inside : (cell : ℕ) (d : Direction) → Contains (directions_at pieces cell) d → IsSome (neighbour v.size cell d)
   pub signs : (a b : ℕ) → IsGreater v a b ↔ Says v.size pieces a b
@@ -73,7 +77,7 @@ piece_of v cell = record {
   greater = filter (is_greater_towards v cell) directions;
 }
 
--- a comma ends it
+-- the text of that piece, which a comma ends
 abbrev pub piece_written : UnequalValue → ℕ → List ℕ
 piece_written v cell = piece_text (piece_of v cell) ++ comma ∷ []
 
@@ -95,28 +99,34 @@ pieces_of text = without_empty_last (slice_split (λ b. b == comma) text)
 -- the digit from 0 to w with which the piece begins, where no other stands behind it
 abbrev pub number_in : ℕ → List ℕ → Option ℕ
 number_in w [] = None
-number_in w (b ∷ bs) = if nat_le digit_zero b && nat_le b (digit_zero + w) && not (begins_digit bs) then Some (b - digit_zero) else None
+number_in w (b ∷ bs) =
+    if nat_le digit_zero b && nat_le b (digit_zero + w) && not (begins_digit bs) then Some (b - digit_zero) else None
 
+-- the piece begins with such a digit
 abbrev pub has_number : ℕ → List ℕ → Bool
 has_number w piece = is_some (number_in w piece)
 
+-- the direction that a letter stands for
 abbrev pub direction_of : ℕ → Option Direction
 direction_of b =
     if b == capital_u then Some Up
-    else (if b == capital_r then Some Right else (if b == capital_d then Some Down else (if b == capital_l then Some Left else None)))
+    else (if b == capital_r then Some Right
+    else (if b == capital_d then Some Down
+    else (if b == capital_l then Some Left else None)))
 
 -- all bytes behind the digit are letters
 abbrev pub has_letters : List ℕ → Bool
 has_letters piece = list_all (λ b. is_some (direction_of b)) (drop 1 piece)
 
+-- the piece of a square, empty past the last
 abbrev pub piece_at : List (List ℕ) → ℕ → List ℕ
 piece_at pieces cell = slice_index_or pieces cell []
 
--- a letter at a square points to a square of the grid
+-- the byte is a letter, and at this square it points to a square of the grid
 abbrev pub is_inside : ℕ → ℕ → ℕ → Bool
 is_inside w cell b = is_some (option_and_then (neighbour w cell) (direction_of b))
 
--- all letters at a square do
+-- all letters at a square point to squares of the grid
 abbrev pub points_inside : ℕ → List (List ℕ) → ℕ → Bool
 points_inside w pieces cell = list_all (is_inside w cell) (drop 1 (piece_at pieces cell))
 
@@ -124,20 +134,23 @@ points_inside w pieces cell = list_all (is_inside w cell) (drop 1 (piece_at piec
 abbrev pub says : List (List ℕ) → ℕ → Direction → Bool
 says pieces cell d = list_any (λ b. b == letter_of d) (drop 1 (piece_at pieces cell))
 
--- the directions from a sign's first square to its second, and back
+-- the direction from the square on a sign's first side to that on its second side
 abbrev pub forth : ℕ → ℕ → Direction
 forth w sign = if nat_lt sign (pairs_across w) then Right else Down
 
+-- the direction back
 abbrev pub back : ℕ → ℕ → Direction
 back w sign = if nat_lt sign (pairs_across w) then Left else Up
 
+-- a letter says that the square on a sign's first side is the greater one
 abbrev pub first_says : ℕ → List (List ℕ) → ℕ → Bool
 first_says w pieces sign = says pieces (first_side w sign) (forth w sign)
 
+-- a letter says that the square on its second side is
 abbrev pub second_says : ℕ → List (List ℕ) → ℕ → Bool
 second_says w pieces sign = says pieces (second_side w sign) (back w sign)
 
--- the sign that stands where the first square says that it is greater, and the second that it is
+-- the sign of two neighbours by whether the first is said to be the greater one, and whether the second is
 abbrev pub said_sign : Bool → Bool → Sign
 said_sign true second = FirstGreater
 said_sign false true = SecondGreater
@@ -154,15 +167,16 @@ contradicts w pieces =
     list_any (λ a. list_any (λ b. says_greater w pieces a b && says_greater w pieces b a) (range_with_len 0 (w * w)))
     (range_with_len 0 (w * w))
 
-abbrev pub givens_grid : ℕ → List (List ℕ) → GridValue
-givens_grid w pieces = record { size = w; numbers = map (λ piece. unwrap_or (number_in w piece) 0) pieces }
+-- the grid of the numbers that pieces begin with
+abbrev pub grid_in : ℕ → List (List ℕ) → GridValue
+grid_in w pieces = record { size = w; numbers = map (λ piece. unwrap_or (number_in w piece) 0) pieces }
 
 -- the puzzle that pieces describe
 abbrev pub puzzle_in : ℕ → List (List ℕ) → UnequalValue
 puzzle_in w pieces = record {
   size = w;
   signs = map (λ i. said_sign (first_says w pieces i) (second_says w pieces i)) (range_with_len 0 (sign_count w));
-  givens = (givens_grid w pieces).numbers;
+  givens = (grid_in w pieces).numbers;
 }
 
 -- that puzzle, or the first of the faults that lie in the pieces

@@ -3,27 +3,26 @@ use Rattle.std.specs.Prelude.{ℕ, ◌+◌, ◌-◌, ◌*◌, nat_lt, if◌then�
 use Rattle.latin_board.specs.Squares.{GridValue, row_of, column_of}
 use Rattle.latin_board.specs.Lines.{line_cell}
 
+-- one of four, by the edge at which a place stands: the upper, the lower, the left or the right one
+abbrev pub by_edge : {A : Type 0} → ℕ → ℕ → A → A → A → A → A
+by_edge w place upper lower left right =
+    if nat_lt place w then upper
+    else (if nat_lt place (2 * w) then lower
+    else (if nat_lt place (3 * w) then left else right))
+
 -- the line of a place: its column read down, its column read up, its row read to the right, its row read to the left
 abbrev pub view_of : GridValue → ℕ → List ℕ
 view_of g place =
-    if nat_lt place g.size then column_of g place
-    else (if nat_lt place (2 * g.size) then reverse (column_of g (place - g.size))
-    else (if nat_lt place (3 * g.size) then row_of g (place - 2 * g.size)
-    else reverse (row_of g (place - 3 * g.size))))
+    by_edge g.size place (column_of g place) (reverse (column_of g (place - g.size)))
+    (row_of g (place - 2 * g.size)) (reverse (row_of g (place - 3 * g.size)))
 
 -- the same line among the rows and columns
 abbrev pub view_line : ℕ → ℕ → ℕ
-view_line w place =
-    if nat_lt place w then w + place
-    else (if nat_lt place (2 * w) then place
-    else (if nat_lt place (3 * w) then place - 2 * w else place - 3 * w))
+view_line w place = by_edge w place (w + place) place (place - 2 * w) (place - 3 * w)
 
 -- where in that line the k-th square from the place is
 abbrev pub view_index : ℕ → ℕ → ℕ → ℕ
-view_index w place k =
-    if nat_lt place w then k
-    else (if nat_lt place (2 * w) then w - 1 - k
-    else (if nat_lt place (3 * w) then k else w - 1 - k))
+view_index w place k = by_edge w place k (w - 1 - k) k (w - 1 - k)
 
 -- the k-th square from a place
 abbrev pub view_cell : ℕ → ℕ → ℕ → ℕ

@@ -28,21 +28,23 @@ impl Model for Towers {
     ghost use Rattle.std.specs.Prelude.{ℕ, ◌-◌, ◌*◌, ◌++◌, List, replicate};
     ghost use Rattle.std.proofs.Common.{ap};
     ghost use Rattle.clue_rules.specs.Towers.{TowersValue};
-    ghost use Rattle.clue_rules.specs.Inner.TowersFields.{KeepsTowers, towers_value, places_and_rest};
+    ghost use Rattle.clue_rules.specs.Inner.Filled.{places_and_rest};
+    ghost use Rattle.clue_rules.specs.Inner.TowersFields.{KeepsTowers, towers_value};
 
     ghost Value = { TowersValue };
 
-    ghost view = { λ t. towers_value t.clues t.givens };
+    ghost view = { λ p. towers_value p.clues p.givens };
 
-    ghost invariant = { λ t. KeepsTowers t.clues t.givens };
+    ghost invariant = { λ p. KeepsTowers p.clues p.givens };
 
     ghost inverse = { λ v. record {
       clues = v.clues ++ replicate (36 - 4 * v.size) 0;
       givens = record { size = v.size; numbers = v.givens };
     } };
 
-    ghost inverse_ok = { λ a h. let f : List ℕ → Inside = λ xs. record { clues = xs; givens = a.givens } in
-        ap f (places_and_rest 36 (4 * a.givens.size) a.clues h.padded) };
+    ghost inverse_ok = { λ p h.
+        let f : List ℕ → Inside = λ xs. record { clues = xs; givens = p.givens } in
+        ap f (places_and_rest 0 36 (4 * p.givens.size) p.clues h.padded) };
 }
 
 impl Towers {

@@ -8,7 +8,7 @@ ghost use Rattle.trail_solver.specs.Pairs.{IsPair};
 ghost use Rattle.trail_solver.specs.Candidates.{IsEarlier, IsWithin, may_be};
 ghost use Rattle.trail_solver.specs.Puzzles.{Solves};
 ghost use Rattle.clue_rules.specs.Unequal.{IsUnequal, given_grid, IsGreater, AreNeighbours, is_greater, holds_signs, HoldsSigns, holds_sign, sign_count, sign_at, sign_of_pair, first_side, second_side};
-ghost use Rattle.clue_rules.specs.Unequal.{puzzle_of, full_unequal};
+ghost use Rattle.clue_rules.specs.Unequal.{unequal_puzzle, full_unequal};
 ghost use Rattle.clue_rules.specs.Inner.UnequalFields.{HoldsPlaces};
 ghost use Rattle.clue_rules.specs.Struck.{IsUnequalStruck};
 ghost use Rattle.clue_rules.specs.Laws.UnequalSameness.{same_unequal, same_unequal_decides};
@@ -40,30 +40,28 @@ pub struct Unequal {
 }
 
 impl Model for Unequal {
-    ghost use Rattle.std.specs.Prelude.{◌-◌, ◌++◌, List, take, replicate};
+    ghost use Rattle.std.specs.Prelude.{◌-◌, ◌++◌, List, replicate};
     ghost use Rattle.std.proofs.Common.{ap};
     ghost use Rattle.clue_rules.specs.declared.unequal.sign.Sign.{Sign as SignValue};
     ghost use Rattle.clue_rules.specs.declared.unequal.sign.Sign.TheVariants.{Absent};
     ghost use Rattle.clue_rules.specs.Unequal.{UnequalValue, sign_count};
-    ghost use Rattle.clue_rules.specs.Inner.UnequalFields.{KeepsSigns, signs_and_rest};
+    ghost use Rattle.clue_rules.specs.Inner.Filled.{places_and_rest};
+    ghost use Rattle.clue_rules.specs.Inner.UnequalFields.{KeepsUnequal, unequal_value};
 
     ghost Value = { UnequalValue };
 
-    ghost view = { λ p. record {
-      size = p.givens.size;
-      signs = take (sign_count p.givens.size) p.signs;
-      givens = p.givens.numbers;
-    } };
+    ghost view = { λ p. unequal_value p.signs p.givens };
 
-    ghost invariant = { λ p. KeepsSigns p.givens p.signs };
+    ghost invariant = { λ p. KeepsUnequal p.signs p.givens };
 
     ghost inverse = { λ v. record {
       signs = v.signs ++ replicate (144 - sign_count v.size) Absent;
       givens = record { size = v.size; numbers = v.givens };
     } };
 
-    ghost inverse_ok = { λ p h. let f : List SignValue → Inside = λ xs. record { signs = xs; givens = p.givens } in
-        ap f (signs_and_rest p.givens p.signs h) };
+    ghost inverse_ok = { λ p h.
+        let f : List SignValue → Inside = λ xs. record { signs = xs; givens = p.givens } in
+        ap f (places_and_rest Absent 144 (sign_count p.givens.size) p.signs h.padded) };
 }
 
 impl Unequal {

@@ -1,7 +1,14 @@
--- A list of n places that is filled from the front: the places from one on hold 0.
-use Rattle.std.specs.Prelude.{◌≡◌, ℕ, ◌-◌, ◌≤◌, List, length, drop, replicate}
+-- A table of n places that is filled from the front.
+use Rattle.std.specs.Prelude.{◌≡◌, ℕ, ◌-◌, ◌≤◌, List, ◌++◌, length, take, drop, replicate}
+use Rattle.std.proofs.Common.{take-append-drop}
 
-pub record IsFilledTo (n place : ℕ) (xs : List ℕ) : Type 0 where
+-- the places from this one on are empty
+pub record IsFilledTo {X : Type 0} (empty : X) (n place : ℕ) (xs : List X) : Type 0 where
   pub count : length xs ≡ n
   pub within : place ≤ n
-  pub rest : drop place xs ≡ replicate (n - place) 0
+  pub rest : drop place xs ≡ replicate (n - place) empty
+
+-- those before it and the empty rest are all
+pub places_and_rest : {X : Type 0} (empty : X) (n place : ℕ) (xs : List X) → IsFilledTo empty n place xs
+    → take place xs ++ replicate (n - place) empty ≡ xs
+places_and_rest empty n place xs filled = rw (← filled.rest) (take-append-drop place xs)

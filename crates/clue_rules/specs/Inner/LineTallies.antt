@@ -6,6 +6,10 @@ use Rattle.trail_solver.specs.Candidates.{CandidatesValue, IsOnly}
 use Rattle.clue_rules.specs.Struck.{IsOnePlace}
 use Rattle.clue_rules.specs.declared.lines.latin.Tally.{Tally}
 
+-- the values of the first w sets are from 1 to w
+abbrev pub HoldValuesTo : ℕ → List ℕ → Type 0
+HoldValuesTo w sets = (k v : ℕ) → k < w → has_mark (slice_index sets k) v ≡ true → (1 ≤ v) × (v ≤ w)
+
 -- the value is the set's only one
 pub record IsSingle (set value : ℕ) : Type 0 where
   pub has : has_mark set value ≡ true
@@ -25,7 +29,9 @@ AreImpossible sets n = (number : ℕ → ℕ) → IsPossible sets n number → �
 -- and no value is alone in two
 pub record IsTally (sets : List ℕ) (n : ℕ) (t : Tally) : Type 0 where
   pub once : (v : ℕ) → (has_mark t.once v ≡ true) ↔ ((k : ℕ) × (k < n) × (has_mark (slice_index sets k) v ≡ true))
-  pub twice : (v : ℕ) → (has_mark t.twice v ≡ true) ↔ ((i : ℕ) × (j : ℕ) × (i < j) × (j < n) × (has_mark (slice_index sets i) v ≡ true) × (has_mark (slice_index sets j) v ≡ true))
+  pub twice : (v : ℕ)
+      → (has_mark t.twice v ≡ true)
+      ↔ ((i : ℕ) × (j : ℕ) × (i < j) × (j < n) × (has_mark (slice_index sets i) v ≡ true) × (has_mark (slice_index sets j) v ≡ true))
   pub singles : (v : ℕ) → (has_mark t.singles v ≡ true) ↔ ((k : ℕ) × (k < n) × IsSingle (slice_index sets k) v)
   pub some : (k : ℕ) → k < n → (v : ℕ) × (has_mark (slice_index sets k) v ≡ true)
   pub apart : (i j v : ℕ) → i < j → j < n → IsSingle (slice_index sets i) v → IsSingle (slice_index sets j) v → ⊥
@@ -38,7 +44,8 @@ pub record IsWholeTally (sets : List ℕ) (n : ℕ) (t : Tally) : Type 0 where
 -- new is the tally with one set more
 pub record IsCounted (old : Tally) (set : ℕ) (new : Tally) : Type 0 where
   pub once : (v : ℕ) → (has_mark new.once v ≡ true) ↔ ((has_mark old.once v ≡ true) ⊎ (has_mark set v ≡ true))
-  pub twice : (v : ℕ) → (has_mark new.twice v ≡ true) ↔ ((has_mark old.twice v ≡ true) ⊎ ((has_mark old.once v ≡ true) × (has_mark set v ≡ true)))
+  pub twice : (v : ℕ)
+      → (has_mark new.twice v ≡ true) ↔ ((has_mark old.twice v ≡ true) ⊎ ((has_mark old.once v ≡ true) × (has_mark set v ≡ true)))
   pub singles : (v : ℕ) → (has_mark new.singles v ≡ true) ↔ ((has_mark old.singles v ≡ true) ⊎ IsSingle set v)
   pub some : (v : ℕ) × (has_mark set v ≡ true)
   pub fresh : (v : ℕ) → IsSingle set v → has_mark old.singles v ≡ false

@@ -10,10 +10,12 @@ use Rattle.clue_rules.specs.Views.{view_cell}
 
 -- no pair is left that is struck by the old candidates, or was by earlier ones
 pub record LacksStruck (Struck : CandidatesValue → ℕ → ℕ → Type 0) (old new : CandidatesValue) : Type 0 where
-  pub each : (first : CandidatesValue) → IsEarlier first old → (cell value : ℕ) → IsPair first.size cell value → Struck first cell value → may_be new cell value ≡ false
+  pub each : (first : CandidatesValue) → IsEarlier first old → (cell value : ℕ) → IsPair first.size cell value
+      → Struck first cell value → may_be new cell value ≡ false
 
 -- a step from old to new candidates, after which something may be left or, by its answer, nothing is
-pub record Narrows (Sought : GridValue → Type 0) (Struck : CandidatesValue → ℕ → ℕ → Type 0) (old new : CandidatesValue) (left : Bool) : Type 0 where
+pub record Narrows (Sought : GridValue → Type 0) (Struck : CandidatesValue → ℕ → ℕ → Type 0)
+    (old new : CandidatesValue) (left : Bool) : Type 0 where
   pub less : IsEarlier old new
   pub keeps : (g : GridValue) → Sought g → g.size ≡ old.size → IsWithin old g → IsWithin new g
   pub refutes : OnFalse left ((g : GridValue) → Sought g → g.size ≡ old.size → IsWithin old g → ⊥)
@@ -27,7 +29,7 @@ KeepsEach Sought old new = (g : GridValue) → Sought g → IsWithin old g → I
 abbrev pub NoneStruck : CandidatesValue → ℕ → ℕ → Type 0
 NoneStruck c cell value = ⊥
 
--- those that one of the first n of a row of steps strikes
+-- what one of the first n of a row of steps strikes
 abbrev pub StruckBelow : (ℕ → CandidatesValue → ℕ → ℕ → Type 0) → ℕ → CandidatesValue → ℕ → ℕ → Type 0
 StruckBelow Struck n c cell value = (k : ℕ) × (k < n) × Struck k c cell value
 
@@ -42,19 +44,30 @@ pub record KeepsOf (old new : CandidatesValue) (cell kept : ℕ) : Type 0 where
   pub gone : (v : ℕ) → IsPair old.size cell v → has_mark kept v ≡ false → may_be new cell v ≡ false
   pub rest : (c v : ℕ) → (c ≢ cell) ⊎ (has_mark kept v ≡ true) → may_be new c v ≡ may_be old c v
 
--- the sets are those of the candidates of the squares from a place
-pub record AreSetsOf (c : CandidatesValue) (place : ℕ) (sets : List ℕ) : Type 0 where
+-- the set is that of the cell's candidates
+abbrev pub IsSetOf : CandidatesValue → ℕ → ℕ → Type 0
+IsSetOf c cell set = (v : ℕ) → (has_mark set v ≡ true) ↔ (IsPair c.size cell v × (may_be c cell v ≡ true))
+
+-- the first n sets are those of the squares from a place
+pub record AreSetsTo (c : CandidatesValue) (place n : ℕ) (sets : List ℕ) : Type 0 where
   pub count : length sets ≡ 9
-  pub each : (k v : ℕ) → k < c.size → (has_mark (slice_index sets k) v ≡ true) ↔ (IsPair c.size (view_cell c.size place k) v × (may_be c (view_cell c.size place k) v ≡ true))
+  pub each : (k : ℕ) → k < n → IsSetOf c (view_cell c.size place k) (slice_index sets k)
+
+-- the sets are those of all squares from a place
+abbrev pub AreSetsOf : CandidatesValue → ℕ → List ℕ → Type 0
+AreSetsOf c place sets = AreSetsTo c place c.size sets
 
 -- new is old with only the values of these sets kept in the squares from a place; by the answer, one of the sets is empty
 pub record KeepsAlong (place : ℕ) (kept : List ℕ) (old new : CandidatesValue) (left : Bool) : Type 0 where
   pub less : IsEarlier old new
-  pub keeps : (g : GridValue) → g.size ≡ old.size → ((k : ℕ) → k < old.size → has_mark (slice_index kept k) (number_at g (view_cell old.size place k)) ≡ true) → IsWithin old g → IsWithin new g
+  pub keeps : (g : GridValue) → g.size ≡ old.size
+      → ((k : ℕ) → k < old.size → has_mark (slice_index kept k) (number_at g (view_cell old.size place k)) ≡ true) → IsWithin old g
+      → IsWithin new g
   pub empty : OnFalse left ((k : ℕ) × (k < old.size) × ((v : ℕ) → has_mark (slice_index kept k) v ≡ false))
-  pub gone : OnTrue left ((k v : ℕ) → k < old.size → IsPair old.size (view_cell old.size place k) v → has_mark (slice_index kept k) v ≡ false → may_be new (view_cell old.size place k) v ≡ false)
+  pub gone : OnTrue left ((k v : ℕ) → k < old.size → IsPair old.size (view_cell old.size place k) v
+      → has_mark (slice_index kept k) v ≡ false → may_be new (view_cell old.size place k) v ≡ false)
 
--- those that rows and columns strike, and those that a rule strikes along one of the lines
+-- what rows and columns strike, and what a rule strikes along one of the lines
 abbrev pub IsStruckByLines : (ℕ → CandidatesValue → ℕ → ℕ → Type 0) → CandidatesValue → ℕ → ℕ → Type 0
 IsStruckByLines Struck c cell value = IsLatinStruck c cell value ⊎ StruckBelow Struck (2 * c.size) c cell value
 

@@ -4,7 +4,7 @@ use Rattle.trail_solver.specs.Candidates.{CandidatesValue}
 use Rattle.clue_rules.specs.Struck.{IsViewStruck}
 use Rattle.clue_rules.specs.Towers.{TowersValue, clue_of}
 use Rattle.clue_rules.specs.Views.{view_line}
-use Rattle.std.specs.Prelude.{◌≤◌, true, List, take, slice_index}
+use Rattle.std.specs.Prelude.{true, List, take, slice_index}
 use Rattle.latin_board.specs.Marks.{has_mark}
 use Rattle.latin_board.specs.Squares.{GridValue}
 use Rattle.tower_lines.specs.TowersSeen.{seen}
@@ -12,8 +12,8 @@ use Rattle.tower_lines.specs.LineFillings.{IsSupported}
 use Rattle.clue_rules.specs.Views.{view_of}
 use Rattle.clue_rules.specs.Inner.Narrowing.{IsSquare}
 
--- the same by a place at one end of the line
-pub record IsEndStruck (v : TowersValue) (line : ℕ) (c : CandidatesValue) (cell value : ℕ) : Type 0 where
+-- what the clue at one end of a line rules out
+pub record IsStruckAlong (v : TowersValue) (line : ℕ) (c : CandidatesValue) (cell value : ℕ) : Type 0 where
   pub place : ℕ
   pub place_is : place < 4 * c.size
   pub line_is : view_line c.size place ≡ line
@@ -21,17 +21,17 @@ pub record IsEndStruck (v : TowersValue) (line : ℕ) (c : CandidatesValue) (cel
   pub struck : IsViewStruck place (clue_of v place) c cell value
 
 -- what the clue at a place rules out, if there is one
-abbrev pub IsClueStruck : TowersValue → ℕ → CandidatesValue → ℕ → ℕ → Type 0
-IsClueStruck v place c cell value = (0 < clue_of v place) × IsViewStruck place (clue_of v place) c cell value
+abbrev pub IsStruckAt : TowersValue → ℕ → CandidatesValue → ℕ → ℕ → Type 0
+IsStruckAt v place c cell value = (0 < clue_of v place) × IsViewStruck place (clue_of v place) c cell value
 
 -- a Latin square that shows as many towers from a place as the clue says
 abbrev pub ShowsClue : ℕ → ℕ → GridValue → Type 0
 ShowsClue place clue g = IsSquare g × (seen (view_of g place) ≡ clue)
 
--- the values of the first w sets are from 1 to w
-abbrev pub HoldValuesTo : ℕ → List ℕ → Type 0
-HoldValuesTo w sets = (k v : ℕ) → k < w → has_mark (slice_index sets k) v ≡ true → (1 ≤ v) × (v ≤ w)
+-- each value that is kept of the first w sets stands in its square in some filling
+abbrev pub AreSupported : ℕ → ℕ → List ℕ → List ℕ → Type 0
+AreSupported w clue sets kept = (k v : ℕ) → k < w → has_mark (slice_index kept k) v ≡ true → IsSupported (take w sets) clue k v
 
--- each value of the first w sets stands there in some filling
-abbrev pub AreSupported : ℕ → ℕ → List ℕ → Type 0
-AreSupported w clue sets = (k v : ℕ) → k < w → has_mark (slice_index sets k) v ≡ true → IsSupported (take w sets) clue k v
+-- each value that some filling has is kept
+abbrev pub KeepSupported : ℕ → ℕ → List ℕ → List ℕ → Type 0
+KeepSupported w clue sets kept = (k v : ℕ) → IsSupported (take w sets) clue k v → has_mark (slice_index kept k) v ≡ true

@@ -7,33 +7,37 @@ use Rattle.clue_rules.specs.Struck.{HasNoneAbove, HasNoneBelow}
 use Rattle.clue_rules.specs.Unequal.{UnequalValue, pairs_across, sign_at, first_side, second_side}
 use Rattle.latin_board.specs.Squares.{GridValue, number_at}
 use Rattle.clue_rules.specs.Inner.Narrowing.{IsSquare}
+use Rattle.clue_rules.specs.declared.unequal.lines.Ends.{Ends}
 
--- the squares on both sides of a sign, the one that holds the greater number first
-pub record AreEnds (v : UnequalValue) (sign upper lower : ℕ) : Type 0 where
-  pub upper_in : upper < v.size * v.size
-  pub lower_in : lower < v.size * v.size
-  pub is : ((sign_at v sign ≡ FirstGreater) × (upper ≡ first_side v.size sign) × (lower ≡ second_side v.size sign))
-      ⊎ ((sign_at v sign ≡ SecondGreater) × (upper ≡ second_side v.size sign) × (lower ≡ first_side v.size sign))
+-- both ends are squares of the grid
+abbrev pub AreInside : ℕ → Ends → Type 0
+AreInside w ends = (ends.greater < w * w) × (ends.lesser < w * w)
 
--- what the lower, or the upper, of two squares can't hold
-pub record IsLowerStruck (upper lower : ℕ) (c : CandidatesValue) (cell value : ℕ) : Type 0 where
-  pub here : cell ≡ lower
-  pub none : HasNoneAbove c upper value
+-- the ends are the squares on both sides of a sign, the greater end being the one that it says holds the greater number
+pub record AreEnds (v : UnequalValue) (sign : ℕ) (ends : Ends) : Type 0 where
+  pub inside : AreInside v.size ends
+  pub is : ((sign_at v sign ≡ FirstGreater) × (ends.greater ≡ first_side v.size sign) × (ends.lesser ≡ second_side v.size sign))
+      ⊎ ((sign_at v sign ≡ SecondGreater) × (ends.greater ≡ second_side v.size sign) × (ends.lesser ≡ first_side v.size sign))
 
-pub record IsUpperStruck (upper lower : ℕ) (c : CandidatesValue) (cell value : ℕ) : Type 0 where
-  pub here : cell ≡ upper
-  pub none : HasNoneBelow c lower value
+-- what the lesser end can't hold
+pub record IsLesserStruck (ends : Ends) (c : CandidatesValue) (cell value : ℕ) : Type 0 where
+  pub here : cell ≡ ends.lesser
+  pub none : HasNoneAbove c ends.greater value
 
--- what either of them can't hold
-abbrev pub IsEndStruckBy : ℕ → ℕ → CandidatesValue → ℕ → ℕ → Type 0
-IsEndStruckBy upper lower c cell value = IsLowerStruck upper lower c cell value ⊎ IsUpperStruck upper lower c cell value
+-- what the greater end can't hold
+pub record IsGreaterStruck (ends : Ends) (c : CandidatesValue) (cell value : ℕ) : Type 0 where
+  pub here : cell ≡ ends.greater
+  pub none : HasNoneBelow c ends.lesser value
 
--- the same of the two squares of a sign
+-- what either end can't hold
+abbrev pub IsEndStruck : Ends → CandidatesValue → ℕ → ℕ → Type 0
+IsEndStruck ends c cell value = IsLesserStruck ends c cell value ⊎ IsGreaterStruck ends c cell value
+
+-- what a sign rules out at its ends
 pub record IsStruckAt (v : UnequalValue) (sign : ℕ) (c : CandidatesValue) (cell value : ℕ) : Type 0 where
-  pub upper : ℕ
-  pub lower : ℕ
-  pub ends : AreEnds v sign upper lower
-  pub struck : IsEndStruckBy upper lower c cell value
+  pub ends : Ends
+  pub are : AreEnds v sign ends
+  pub struck : IsEndStruck ends c cell value
 
 -- the sign between the k-th and the next square of a line
 abbrev pub line_sign : ℕ → ℕ → ℕ → ℕ
@@ -43,6 +47,6 @@ line_sign w line k = if nat_lt line w then line * (w - 1) + k else pairs_across 
 abbrev pub IsStruckAlong : UnequalValue → ℕ → CandidatesValue → ℕ → ℕ → Type 0
 IsStruckAlong v line c cell value = StruckBelow (λ k. IsStruckAt v (line_sign v.size line k)) (v.size - 1) c cell value
 
--- a Latin square whose number is greater in the one square than in the other
-abbrev pub HoldsGreater : ℕ → ℕ → GridValue → Type 0
-HoldsGreater upper lower g = IsSquare g × (number_at g lower < number_at g upper)
+-- a Latin square whose number is greater at the greater end
+abbrev pub HoldsGreater : Ends → GridValue → Type 0
+HoldsGreater ends g = IsSquare g × (number_at g ends.lesser < number_at g ends.greater)

@@ -1,15 +1,15 @@
 -- Letters and numbers as the bytes of a piece: what is read of a piece that was written, and what is written of one that was read.
-use Rattle.std.proofs.Common.{◌≡◌, ◌≢◌, ℕ, zero, suc, ◌+◌, ◌-◌, ◌<◌, ◌≤◌, ◌⊎◌, Bool, true, false, cond, eqb, leb, not, ◌&&◌, ◌||◌, List, [], ◌∷◌, length, get_or, drop, map, Option, Some, None, is_some, unwrap_or, refl, sym, ap, ◌∙◌, inl, inr, arith}
+use Rattle.std.proofs.Common.{◌≡◌, ◌≢◌, ℕ, zero, suc, ◌+◌, ◌-◌, ◌<◌, ◌≤◌, ◌⊎◌, Bool, true, false, nat_le, not, ◌&&◌, ◌||◌, List, [], ◌∷◌, length, drop, map, Option, Some, None, is_some, unwrap_or, refl, sym, ap, ◌∙◌, inl, inr, arith, ◌==◌, if◌then◌else◌, slice_index_or}
 use Rattle.std.specs.List.{list_all, list_any, filter, filter_map, Contains}
-use Rattle.std.proofs.lemmas.Bool.{eq-eqb, eqb-true, false≢true}
+use Rattle.std.proofs.lemmas.Bool.{eq-eqb, eqb-true, false≢true, and_parts}
 use Rattle.std.proofs.lemmas.Bool.Decides.{nat_tests}
 use Rattle.byte_text.specs.Cuts.{Lacks}
 use Rattle.byte_text.specs.Decimals.{begins_digit}
+use Rattle.byte_text.specs.Bytes.{capital_u, capital_r, capital_d, capital_l, comma, digit_zero}
 use Rattle.clue_rules.specs.declared.unequal.direction.Direction.{Direction}
 use Rattle.clue_rules.specs.declared.unequal.direction.Direction.TheVariants.{Up, Right, Down, Left}
 use Rattle.clue_rules.specs.UnequalText.{Piece, letter_of, piece_text, directions_at, number_in, has_number, direction_of, has_letters, piece_at, says}
 use Rattle.clue_rules.specs.Laws.RangeTests.{some_if}
-use Rattle.clue_rules.specs.Laws.JoinedTests.{both_from_and}
 
 -- directions and letters
 
@@ -20,27 +20,27 @@ direction_of-letter Down = refl
 direction_of-letter Left = refl
 
 pub letter_of-direction : (b : ℕ) (d : Direction) → direction_of b ≡ Some d → letter_of d ≡ b
-letter_of-direction b d e = elim (some_if (eqb b 85) Up d _ e) [
-  | inl up ↦ rw (← up.1) (sym (eqb-true b 85 up.0))
-  | inr right_on ↦ elim (some_if (eqb b 82) Right d _ right_on.1) [
-    | inl right ↦ rw (← right.1) (sym (eqb-true b 82 right.0))
-    | inr down_on ↦ elim (some_if (eqb b 68) Down d _ down_on.1) [
-      | inl down ↦ rw (← down.1) (sym (eqb-true b 68 down.0))
-      | inr left_on ↦ elim (some_if (eqb b 76) Left d None left_on.1) [
-        | inl left ↦ rw (← left.1) (sym (eqb-true b 76 left.0))
+letter_of-direction b d e = elim (some_if (b == capital_u) Up d _ e) [
+  | inl up ↦ rw (← up.1) (sym (eqb-true b capital_u up.0))
+  | inr right_on ↦ elim (some_if (b == capital_r) Right d _ right_on.1) [
+    | inl right ↦ rw (← right.1) (sym (eqb-true b capital_r right.0))
+    | inr down_on ↦ elim (some_if (b == capital_d) Down d _ down_on.1) [
+      | inl down ↦ rw (← down.1) (sym (eqb-true b capital_d down.0))
+      | inr left_on ↦ elim (some_if (b == capital_l) Left d None left_on.1) [
+        | inl left ↦ rw (← left.1) (sym (eqb-true b capital_l left.0))
         | inr none ↦ absurd (let f : None ≡ Some d = none.1 in cc)
       ]
     ]
   ]
 ]
 
-pub same_letter : (d e : Direction) → eqb (letter_of d) (letter_of e) ≡ true → d ≡ e
+pub same_letter : (d e : Direction) → (letter_of d == letter_of e) ≡ true → d ≡ e
 same_letter d e h =
     let letters : letter_of d ≡ letter_of e = eqb-true (letter_of d) (letter_of e) h in
     let both : Some d ≡ Some e = sym (direction_of-letter d) ∙ ap direction_of letters ∙ direction_of-letter e in
     cc
 
-letter_no_comma : (d : Direction) → letter_of d ≢ 44
+letter_no_comma : (d : Direction) → letter_of d ≢ comma
 letter_no_comma Up e = omega arith
 letter_no_comma Right e = omega arith
 letter_no_comma Down e = omega arith
@@ -57,7 +57,7 @@ contains_there x y xs h = (suc h.0, omega (arith, h.1), h.2)
 pub contains_cases : {X : Type 0} (x y : X) (xs : List X) → Contains (y ∷ xs) x → (y ≡ x) ⊎ Contains xs x
 contains_cases x y xs h = at h.0 h.1 h.2
   where
-    at : (k : ℕ) → k < length (y ∷ xs) → get_or (y ∷ xs) k x ≡ x → (y ≡ x) ⊎ Contains xs x
+    at : (k : ℕ) → k < length (y ∷ xs) → slice_index_or (y ∷ xs) k x ≡ x → (y ≡ x) ⊎ Contains xs x
     at zero inside e = inl e
     at (suc k) inside e = inr (k, omega arith, e)
 
@@ -68,14 +68,14 @@ contains_filter p x (y ∷ xs) h e = elim (contains_cases x y xs h) [
   | inr there ↦ kept (p y) (contains_filter p x xs there e)
 ]
   where
-    kept : (b : Bool) → Contains (filter p xs) x → Contains (cond b (y ∷ filter p xs) (filter p xs)) x
+    kept : (b : Bool) → Contains (filter p xs) x → Contains (if b then (y ∷ filter p xs) else filter p xs) x
     kept true h = contains_there x y (filter p xs) h
     kept false h = h
 
 pub filter_contains : {X : Type 0} (p : X → Bool) (x : X) (xs : List X) → Contains (filter p xs) x → p x ≡ true
 filter_contains p x [] h = absurd (omega (arith, h.1))
 filter_contains p x (y ∷ xs) h =
-    elim (p y) as (λ t. p y ≡ t → Contains (cond t (y ∷ filter p xs) (filter p xs)) x → p x ≡ true) [
+    elim (p y) as (λ t. p y ≡ t → Contains (if t then (y ∷ filter p xs) else filter p xs) x → p x ≡ true) [
       | true ↦ λ e h. elim (contains_cases x y (filter p xs) h) [
         | inl here ↦ ap p (sym here) ∙ e
         | inr there ↦ filter_contains p x xs there
@@ -85,36 +85,40 @@ filter_contains p x (y ∷ xs) h =
 
 -- a letter among letters is its direction among directions
 
-pub letter_among : (ds : List Direction) (d : Direction) → Contains ds d → list_any (λ b. eqb b (letter_of d)) (map letter_of ds) ≡ true
+pub letter_among : (ds : List Direction) (d : Direction) → Contains ds d → list_any (λ b. b == letter_of d) (map letter_of ds) ≡ true
 letter_among [] d h = absurd (omega (arith, h.1))
 letter_among (x ∷ ds) d h = elim (contains_cases d x ds h) [
   | inl here ↦ rw (eq-eqb (letter_of x) (letter_of d) (ap letter_of here)) refl
-  | inr there ↦ rw (letter_among ds d there) (either (eqb (letter_of x) (letter_of d)))
+  | inr there ↦ rw (letter_among ds d there) (either (letter_of x == letter_of d))
 ]
   where
     either : (s : Bool) → (s || true) ≡ true
     either true = refl
     either false = refl
 
-pub among_letters : (ds : List Direction) (d : Direction) → list_any (λ b. eqb b (letter_of d)) (map letter_of ds) ≡ true → Contains ds d
+pub among_letters : (ds : List Direction) (d : Direction) → list_any (λ b. b == letter_of d) (map letter_of ds) ≡ true → Contains ds d
 among_letters [] d e = absurd (false≢true e)
-among_letters (x ∷ ds) d e = go (λ h. among_letters ds d h) (eqb (letter_of x) (letter_of d)) refl e
+among_letters (x ∷ ds) d e = go (λ h. among_letters ds d h) (letter_of x == letter_of d) refl e
   where
-    go : (list_any (λ b. eqb b (letter_of d)) (map letter_of ds) ≡ true → Contains ds d) → (t : Bool) → eqb (letter_of x) (letter_of d) ≡ t → (t || list_any (λ b. eqb b (letter_of d)) (map letter_of ds)) ≡ true → Contains (x ∷ ds) d
+    go : (list_any (λ b. b == letter_of d) (map letter_of ds) ≡ true → Contains ds d) → (t : Bool)
+        → (letter_of x == letter_of d) ≡ t → (t || list_any (λ b. b == letter_of d) (map letter_of ds)) ≡ true → Contains (x ∷ ds) d
     go rest true here h = contains_here d x ds (same_letter x d here)
     go rest false other h = contains_there d x ds (rest h)
 
 -- the pieces as texts
 
-pub letters_at : (pieces : List Piece) (cell : ℕ) → drop 1 (piece_at (map piece_text pieces) cell) ≡ map letter_of (directions_at pieces cell)
+pub letters_at : (pieces : List Piece) (cell : ℕ)
+    → drop 1 (piece_at (map piece_text pieces) cell) ≡ map letter_of (directions_at pieces cell)
 letters_at [] cell = refl
 letters_at (p ∷ pieces) zero = refl
 letters_at (p ∷ pieces) (suc cell) = letters_at pieces cell
 
-pub says_contains : (pieces : List Piece) (cell : ℕ) (d : Direction) → says (map piece_text pieces) cell d ≡ true → Contains (directions_at pieces cell) d
+pub says_contains : (pieces : List Piece) (cell : ℕ) (d : Direction) → says (map piece_text pieces) cell d ≡ true
+    → Contains (directions_at pieces cell) d
 says_contains pieces cell d e = among_letters (directions_at pieces cell) d (rw (letters_at pieces cell) at e)
 
-pub contains_says : (pieces : List Piece) (cell : ℕ) (d : Direction) → Contains (directions_at pieces cell) d → says (map piece_text pieces) cell d ≡ true
+pub contains_says : (pieces : List Piece) (cell : ℕ) (d : Direction) → Contains (directions_at pieces cell) d
+    → says (map piece_text pieces) cell d ≡ true
 contains_says pieces cell d h = rw (letters_at pieces cell) (letter_among (directions_at pieces cell) d h)
 
 -- a square past the last piece has no direction
@@ -134,9 +138,9 @@ begins_no_digit (Left ∷ ds) = refl
 
 pub number_in-piece : (w : ℕ) (p : Piece) → p.number ≤ w → number_in w (piece_text p) ≡ Some p.number
 number_in-piece w p small =
-    let low : leb 48 (48 + p.number) ≡ true = grind (arith, nat_tests) in
-    let high : leb (48 + p.number) (48 + w) ≡ true = grind (arith, nat_tests) in
-    let number : 48 + p.number - 48 ≡ p.number = omega arith in
+    let low : nat_le digit_zero (digit_zero + p.number) ≡ true = grind (arith, nat_tests) in
+    let high : nat_le (digit_zero + p.number) (digit_zero + w) ≡ true = grind (arith, nat_tests) in
+    let number : digit_zero + p.number - digit_zero ≡ p.number = omega arith in
     rw (low, high, begins_no_digit p.greater, number) refl
 
 pub letters_piece : (p : Piece) → has_letters (piece_text p) ≡ true
@@ -149,10 +153,10 @@ letters_piece p = each p.greater
     each (Down ∷ ds) = each ds
     each (Left ∷ ds) = each ds
 
-pub lacks_comma : (p : Piece) → Lacks 44 (piece_text p)
+pub lacks_comma : (p : Piece) → Lacks comma (piece_text p)
 lacks_comma p = ((λ e. omega arith), each p.greater)
   where
-    each : (ds : List Direction) → Lacks 44 (map letter_of ds)
+    each : (ds : List Direction) → Lacks comma (map letter_of ds)
     each [] = tt
     each (d ∷ ds) = (letter_no_comma d, each ds)
 
@@ -165,35 +169,44 @@ read_piece w bytes = record {
 
 letters_written : (bs : List ℕ) → list_all (λ b. is_some (direction_of b)) bs ≡ true → map letter_of (filter_map direction_of bs) ≡ bs
 letters_written [] e = refl
-letters_written (b ∷ bs) e = go (λ h. letters_written bs h) (direction_of b) refl (both_from_and (is_some (direction_of b)) (list_all (λ x. is_some (direction_of x)) bs) e)
+letters_written (b ∷ bs) e =
+    go (λ h. letters_written bs h) (direction_of b) refl
+    (and_parts (is_some (direction_of b)) (list_all (λ x. is_some (direction_of x)) bs) e)
   where
-    go : (list_all (λ x. is_some (direction_of x)) bs ≡ true → map letter_of (filter_map direction_of bs) ≡ bs) → (o : Option Direction) → direction_of b ≡ o → (is_some (direction_of b) ≡ true) × (list_all (λ x. is_some (direction_of x)) bs ≡ true) → map letter_of (filter_map direction_of (b ∷ bs)) ≡ b ∷ bs
+    go : (list_all (λ x. is_some (direction_of x)) bs ≡ true → map letter_of (filter_map direction_of bs) ≡ bs)
+        → (o : Option Direction) → direction_of b ≡ o
+        → (is_some (direction_of b) ≡ true) × (list_all (λ x. is_some (direction_of x)) bs ≡ true)
+        → map letter_of (filter_map direction_of (b ∷ bs)) ≡ b ∷ bs
     go rest None none parts = absurd (false≢true (sym (ap is_some none) ∙ parts.0))
     go rest (Some d) some parts = rw (some, letter_of-direction b d some, rest parts.1) refl
 
-number_written : (w b : ℕ) (bs : List ℕ) → has_number w (b ∷ bs) ≡ true → 48 + unwrap_or (number_in w (b ∷ bs)) 0 ≡ b
-number_written w b bs e = go (leb 48 b && leb b (48 + w) && not (begins_digit bs)) refl e
+number_written : (w b : ℕ) (bs : List ℕ) → has_number w (b ∷ bs) ≡ true → digit_zero + unwrap_or (number_in w (b ∷ bs)) 0 ≡ b
+number_written w b bs e = go (nat_le digit_zero b && nat_le b (digit_zero + w) && not (begins_digit bs)) refl e
   where
-    go : (t : Bool) → (leb 48 b && leb b (48 + w) && not (begins_digit bs)) ≡ t → is_some (cond t (Some (b - 48)) None) ≡ true → 48 + unwrap_or (cond t (Some (b - 48)) None) 0 ≡ b
+    go : (t : Bool) → (nat_le digit_zero b && nat_le b (digit_zero + w) && not (begins_digit bs)) ≡ t
+        → is_some (if t then Some (b - digit_zero) else None) ≡ true
+        → digit_zero + unwrap_or (if t then Some (b - digit_zero) else None) 0 ≡ b
     go false h e = absurd (false≢true e)
     go true h e =
-        let front = both_from_and (leb 48 b && leb b (48 + w)) (not (begins_digit bs)) h in
-        let low = both_from_and (leb 48 b) (leb b (48 + w)) front.0 in
-        let more : 48 ≤ b = grind (arith, nat_tests, low.0) in
+        let front = and_parts (nat_le digit_zero b && nat_le b (digit_zero + w)) (not (begins_digit bs)) h in
+        let low = and_parts (nat_le digit_zero b) (nat_le b (digit_zero + w)) front.0 in
+        let more : digit_zero ≤ b = grind (arith, nat_tests, low.0) in
         omega arith
 
-pub read_piece_written : (w : ℕ) (bytes : List ℕ) → has_number w bytes ≡ true → has_letters bytes ≡ true → piece_text (read_piece w bytes) ≡ bytes
+pub read_piece_written : (w : ℕ) (bytes : List ℕ) → has_number w bytes ≡ true → has_letters bytes ≡ true
+    → piece_text (read_piece w bytes) ≡ bytes
 read_piece_written w [] number letters = absurd (false≢true number)
 read_piece_written w (b ∷ bs) number letters = rw (number_written w b bs number, letters_written bs letters) refl
 
 pub number_small : (w : ℕ) (bytes : List ℕ) → unwrap_or (number_in w bytes) 0 ≤ w
 number_small w [] = omega arith
-number_small w (b ∷ bs) = go (leb 48 b && leb b (48 + w) && not (begins_digit bs)) refl
+number_small w (b ∷ bs) = go (nat_le digit_zero b && nat_le b (digit_zero + w) && not (begins_digit bs)) refl
   where
-    go : (t : Bool) → (leb 48 b && leb b (48 + w) && not (begins_digit bs)) ≡ t → unwrap_or (cond t (Some (b - 48)) None) 0 ≤ w
+    go : (t : Bool) → (nat_le digit_zero b && nat_le b (digit_zero + w) && not (begins_digit bs)) ≡ t
+        → unwrap_or (if t then Some (b - digit_zero) else None) 0 ≤ w
     go false h = omega arith
     go true h =
-        let front = both_from_and (leb 48 b && leb b (48 + w)) (not (begins_digit bs)) h in
-        let high = both_from_and (leb 48 b) (leb b (48 + w)) front.0 in
-        let less : b ≤ 48 + w = grind (arith, nat_tests, high.1) in
+        let front = and_parts (nat_le digit_zero b && nat_le b (digit_zero + w)) (not (begins_digit bs)) h in
+        let high = and_parts (nat_le digit_zero b) (nat_le b (digit_zero + w)) front.0 in
+        let less : b ≤ digit_zero + w = grind (arith, nat_tests, high.1) in
         omega arith

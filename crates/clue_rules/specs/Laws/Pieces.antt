@@ -1,30 +1,33 @@
 -- What commas separate: pieces that are joined again, and a comma at the end.
-use Rattle.std.proofs.Common.{◌≡◌, ℕ, ◌⊎◌, true, false, cond, eqb, List, [], ◌∷◌, ◌++◌, Option, Some, None, refl, sym, ap, ◌∙◌, inl, inr, append_assoc}
+use Rattle.std.proofs.Common.{◌≡◌, ℕ, ◌⊎◌, true, false, List, [], ◌∷◌, ◌++◌, Option, Some, None, refl, sym, ap, ◌∙◌, inl, inr, append_assoc, ◌==◌, if◌then◌else◌}
 use Rattle.std.specs.List.{slice_split, join_with_byte, onto_first, AllByRecursion}
 use Rattle.byte_text.specs.Cuts.{Lacks, before, behind}
 use Rattle.byte_text.proofs.CutLaws.{cut_whole, pieces_more, pieces_last, before_at, behind_at, before_all, behind_none_in}
+use Rattle.byte_text.specs.Bytes.{comma}
 use Rattle.clue_rules.specs.UnequalText.{without_empty_last}
 
+-- what commas separate, an empty piece at the end too
 abbrev pub comma_pieces : List ℕ → List (List ℕ)
-comma_pieces bs = slice_split (λ b. eqb b 44) bs
+comma_pieces bs = slice_split (λ b. b == comma) bs
 
 -- the pieces of what is left of a text
 abbrev pub pieces_left : Option (List ℕ) → List (List ℕ)
 pieces_left None = []
 pieces_left (Some rest) = comma_pieces rest
 
-pub split_once : (bs : List ℕ) → comma_pieces bs ≡ before 44 bs ∷ pieces_left (behind 44 bs)
-split_once bs = elim (behind 44 bs) as (λ o. behind 44 bs ≡ o → comma_pieces bs ≡ before 44 bs ∷ pieces_left o) [
-  | None ↦ λ e. pieces_last 44 bs e ∙ ap (λ xs. xs ∷ []) (sym (cut_whole 44 bs e))
-  | Some rest ↦ λ e. pieces_more 44 bs rest e
+pub split_once : (bs : List ℕ) → comma_pieces bs ≡ before comma bs ∷ pieces_left (behind comma bs)
+split_once bs = elim (behind comma bs) as (λ o. behind comma bs ≡ o → comma_pieces bs ≡ before comma bs ∷ pieces_left o) [
+  | None ↦ λ e. pieces_last comma bs e ∙ ap (λ xs. xs ∷ []) (sym (cut_whole comma bs e))
+  | Some rest ↦ λ e. pieces_more comma bs rest e
 ] refl
 
 -- a piece without commas, and the pieces behind it
-pub pieces-join : (p : List ℕ) (ps : List (List ℕ)) → AllByRecursion (Lacks 44) (p ∷ ps) → comma_pieces (join_with_byte 44 (p ∷ ps)) ≡ p ∷ ps
-pieces-join p [] h = rw (split_once p, before_all 44 p h.0, behind_none_in 44 p h.0) refl
+pub pieces-join : (p : List ℕ) (ps : List (List ℕ)) → AllByRecursion (Lacks comma) (p ∷ ps)
+    → comma_pieces (join_with_byte comma (p ∷ ps)) ≡ p ∷ ps
+pieces-join p [] h = rw (split_once p, before_all comma p h.0, behind_none_in comma p h.0) refl
 pieces-join p (q ∷ ps) h =
-    let rest : List ℕ = join_with_byte 44 (q ∷ ps) in
-    split_once (p ++ 44 ∷ rest) ∙ rw (before_at 44 p rest h.0, behind_at 44 p rest h.0) (ap (λ qs. p ∷ qs) (pieces-join q ps h.1))
+    let rest : List ℕ = join_with_byte comma (q ∷ ps) in
+    split_once (p ++ comma ∷ rest) ∙ rw (before_at comma p rest h.0, behind_at comma p rest h.0) (ap (λ qs. p ∷ qs) (pieces-join q ps h.1))
 
 pub join-push : (c : ℕ) (p : List ℕ) (ps : List (List ℕ)) → join_with_byte c ((p ∷ ps) ++ [] ∷ []) ≡ join_with_byte c (p ∷ ps) ++ c ∷ []
 join-push c p [] = refl
@@ -47,12 +50,10 @@ drop-push ((b ∷ bs) ∷ []) = refl
 drop-push (p ∷ q ∷ ps) = ap (λ qs. p ∷ qs) (drop-push (q ∷ ps))
 
 -- a comma at the end makes an empty piece more
-pub pieces-push : (bs : List ℕ) → comma_pieces (bs ++ 44 ∷ []) ≡ comma_pieces bs ++ [] ∷ []
+pub pieces-push : (bs : List ℕ) → comma_pieces (bs ++ comma ∷ []) ≡ comma_pieces bs ++ [] ∷ []
 pieces-push [] = refl
 pieces-push (b ∷ bs) =
-    elim (eqb b 44) as (λ t. cond t ([] ∷ comma_pieces (bs ++ 44 ∷ [])) (onto_first b (comma_pieces (bs ++ 44 ∷ []))) ≡ cond t ([] ∷ comma_pieces bs) (onto_first b (comma_pieces bs)) ++ [] ∷ []) [
+    elim (b == comma) as (λ t. (if t then ([] ∷ comma_pieces (bs ++ comma ∷ [])) else onto_first b (comma_pieces (bs ++ comma ∷ []))) ≡ (if t then ([] ∷ comma_pieces bs) else onto_first b (comma_pieces bs)) ++ [] ∷ []) [
       | true ↦ ap (λ ps. [] ∷ ps) (pieces-push bs)
       | false ↦ rw (pieces-push bs, split_once bs) refl
     ]
-
--- a text that is cut piece by piece: the pieces so far, and those of what is left

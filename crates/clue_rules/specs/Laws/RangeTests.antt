@@ -1,10 +1,10 @@
--- Tests and lists over a range of numbers, and what a direction's letter in a list means.
-use Rattle.std.proofs.Common.{◌≡◌, ℕ, zero, suc, ◌+◌, ◌<◌, ◌≤◌, Bool, true, false, Option, Some, ◌⊎◌, cond, refl, sym, ◌∙◌, inl, inr, arith}
+-- Tests of the numbers of a range.
+use Rattle.std.proofs.Common.{◌≡◌, ℕ, zero, suc, ◌+◌, ◌<◌, ◌≤◌, Bool, true, false, Option, Some, ◌⊎◌, refl, sym, ◌∙◌, inl, inr, arith, if◌then◌else◌}
 use Rattle.std.specs.List.{list_all, list_any, range_with_len}
-use Rattle.std.proofs.lemmas.Bool.{false≢true, cases_lt}
-use Rattle.clue_rules.specs.Laws.JoinedTests.{both_from_and, one_from_or, or_from_second}
+use Rattle.std.proofs.lemmas.Bool.{false≢true, cases_lt, and_parts, or_cases, or_right, false_from_ne_true}
 
-pub some_if : {X : Type 0} (t : Bool) (x y : X) (o : Option X) → cond t (Some x) o ≡ Some y → ((t ≡ true) × (x ≡ y)) ⊎ ((t ≡ false) × (o ≡ Some y))
+pub some_if : {X : Type 0} (t : Bool) (x y : X) (o : Option X) → (if t then Some x else o) ≡ Some y
+    → ((t ≡ true) × (x ≡ y)) ⊎ ((t ≡ false) × (o ≡ Some y))
 some_if true x y o e = inl (refl, cc)
 some_if false x y o e = inr (refl, e)
 
@@ -12,7 +12,7 @@ some_if false x y o e = inr (refl, e)
 pub all_in_range : (p : ℕ → Bool) (a n i : ℕ) → list_all p (range_with_len a n) ≡ true → a ≤ i → i < a + n → p i ≡ true
 all_in_range p a zero i e low high = absurd (omega arith)
 all_in_range p a (suc n) i e low high =
-    let parts = both_from_and (p a) (list_all p (range_with_len (a + 1) n)) e in
+    let parts = and_parts (p a) (list_all p (range_with_len (a + 1) n)) e in
     elim (cases_lt a i) [
       | inl below ↦ all_in_range p (a + 1) n i parts.1 (omega arith) (omega arith)
       | inr same ↦ let here : i ≡ a = omega arith in rw here parts.0
@@ -27,13 +27,13 @@ range_all p a (suc n) h =
 pub range_some : (p : ℕ → Bool) (a n i : ℕ) → a ≤ i → i < a + n → p i ≡ true → list_any p (range_with_len a n) ≡ true
 range_some p a zero i low high h = absurd (omega arith)
 range_some p a (suc n) i low high h = elim (cases_lt a i) [
-  | inl below ↦ or_from_second (p a) (list_any p (range_with_len (a + 1) n)) (range_some p (a + 1) n i (omega arith) (omega arith) h)
+  | inl below ↦ or_right (p a) (list_any p (range_with_len (a + 1) n)) (range_some p (a + 1) n i (omega arith) (omega arith) h)
   | inr same ↦ let here : p a ≡ true = let e : a ≡ i = omega arith in rw e h in rw here refl
 ]
 
 pub some_in_range : (p : ℕ → Bool) (a n : ℕ) → list_any p (range_with_len a n) ≡ true → (i : ℕ) × (a ≤ i) × (i < a + n) × (p i ≡ true)
 some_in_range p a zero e = absurd (false≢true e)
-some_in_range p a (suc n) e = elim (one_from_or (p a) (list_any p (range_with_len (a + 1) n)) e) [
+some_in_range p a (suc n) e = elim (or_cases (p a) (list_any p (range_with_len (a + 1) n)) e) [
   | inl here ↦ (a, omega arith, omega arith, here)
   | inr later ↦
       let there = some_in_range p (a + 1) n later in
@@ -41,14 +41,10 @@ some_in_range p a (suc n) e = elim (one_from_or (p a) (list_any p (range_with_le
 ]
 
 -- a test that holds of no number of a range
-is_false : (t : Bool) → (t ≡ true → ⊥) → t ≡ false
-is_false true h = absurd (h refl)
-is_false false h = refl
-
 pub none_in_range : (p : ℕ → Bool) (a n i : ℕ) → list_any p (range_with_len a n) ≡ false → a ≤ i → i < a + n → p i ≡ false
-none_in_range p a n i e low high = is_false (p i) (λ h. false≢true (sym e ∙ range_some p a n i low high h))
+none_in_range p a n i e low high = false_from_ne_true (p i) (λ h. false≢true (sym e ∙ range_some p a n i low high h))
 
 pub range_none : (p : ℕ → Bool) (a n : ℕ) → ((i : ℕ) → a ≤ i → i < a + n → p i ≡ false) → list_any p (range_with_len a n) ≡ false
 range_none p a n h =
-    is_false (list_any p (range_with_len a n))
+    false_from_ne_true (list_any p (range_with_len a n))
     (λ some. let there = some_in_range p a n some in false≢true (sym (h there.0 there.1 there.2) ∙ there.3))

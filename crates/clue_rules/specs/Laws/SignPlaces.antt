@@ -1,10 +1,8 @@
 -- The places of signs: which squares stand on both sides of one, and which place stands between two squares.
-use Rattle.std.proofs.Common.{◌≡◌, ℕ, ◌+◌, ◌-◌, ◌*◌, ◌/◌, ◌%◌, ◌<◌, ◌≤◌, ◌⊎◌, Bool, true, false, cond, eqb, ltb, Some, None, refl, sym, ap, subst, ◌∙◌, inl, inr, arith}
+use Rattle.std.proofs.Common.{◌≡◌, ℕ, ◌+◌, ◌-◌, ◌*◌, ◌/◌, ◌%◌, ◌<◌, ◌≤◌, Some, refl, sym, ap, ◌∙◌, inl, inr, arith}
 use Rattle.std.proofs.Math.Nat.{div-lt_iff_lt-mul, mod-lt, mul_comm}
 use Rattle.std.proofs.lemmas.Nat.{div-mul-add, mod-mul-add, mul-add-lt}
-use Rattle.std.proofs.lemmas.Bool.{lt-ltb, le-ltb, ltb-true, ltb-false, eq-eqb, ne_eqb, eqb-false, cases_lt}
-use Rattle.clue_rules.specs.declared.unequal.direction.Direction.{Direction}
-use Rattle.clue_rules.specs.declared.unequal.direction.Direction.TheVariants.{Up, Right, Down, Left}
+use Rattle.std.proofs.lemmas.Bool.{lt-ltb, le-ltb, eq-eqb, ne_eqb, cases_lt}
 use Rattle.clue_rules.specs.Unequal.{pairs_across, sign_count, IsAcross, IsDown, IsBetween, first_side, second_side, sign_between}
 use Rattle.clue_rules.specs.UnequalText.{neighbour, forth, back}
 
@@ -67,7 +65,9 @@ across_sides w i a b small h =
       between =
           let place : Some (a / w * (w - 1) + a % w) ≡ Some i = rw (a_row, a_column, ← h.sign_is) refl in
           rw (eq-eqb b (a + 1) next, b_column, lt-ltb 0 (h.column + 1) (omega arith)) place;
-      points = rw (lt-ltb i (pairs_across w) sign, a_column, ne_eqb (h.column + 1) w (λ e. omega (arith, h.column_inside))) (ap (λ n. Some n) (sym next));
+      points =
+          rw (lt-ltb i (pairs_across w) sign, a_column, ne_eqb (h.column + 1) w (λ e. omega (arith, h.column_inside)))
+          (ap (λ n. Some n) (sym next));
       points_back =
           let before : b - 1 ≡ a = omega arith in
           rw (lt-ltb i (pairs_across w) sign, b_column, ne_eqb (h.column + 1) 0 (λ e. omega arith)) (ap (λ n. Some n) before);
@@ -142,67 +142,3 @@ down_from w a small inside =
       first_is = omega arith;
       second_is = omega arith;
     }
-
-some_else : (t : Bool) (x y : ℕ) → cond t None (Some x) ≡ Some y → (t ≡ false) × (x ≡ y)
-some_else true x y e = absurd (cc)
-some_else false x y e = (refl, cc)
-
-some_then : (t : Bool) (x y : ℕ) → cond t (Some x) None ≡ Some y → (t ≡ true) × (x ≡ y)
-some_then true x y e = (refl, cc)
-some_then false x y e = absurd (cc)
-
--- a square and its neighbour in a direction: the direction and the sign between them
-pub record IsTowards (w a b : ℕ) (d : Direction) : Type 0 where
-  pub sign : ℕ
-  pub sides : (AreSides w sign a b × (d ≡ forth w sign)) ⊎ (AreSides w sign b a × (d ≡ back w sign))
-
-forth_across : (w i a b : ℕ) → 3 ≤ w → IsAcross w i a b → (Right ≡ forth w i) × (Left ≡ back w i)
-forth_across w i a b small h =
-    let short : h.column < w - 1 = omega (arith, h.column_inside) in
-    let sign : i < pairs_across w = rw (h.sign_is, mul_comm w (w - 1)) (mul-add-lt h.row (w - 1) h.column w h.row_inside short) in
-    rw (lt-ltb i (pairs_across w) sign) (refl, refl)
-
-forth_down : (w i a b : ℕ) → IsDown w i a b → (Down ≡ forth w i) × (Up ≡ back w i)
-forth_down w i a b h =
-    let low : pairs_across w ≤ i = omega (arith, h.sign_is) in
-    rw (le-ltb i (pairs_across w) low) (refl, refl)
-
-towards_across : (w a b : ℕ) → 3 ≤ w → a < w * w → a % w + 1 < w → a + 1 ≡ b → IsTowards w a b Right × IsTowards w b a Left
-towards_across w a b small inside room next =
-    let i : ℕ = a / w * (w - 1) + a % w in
-    let h : IsAcross w i a b = subst (λ (x : ℕ). IsAcross w i a x) next (across_from w a small inside room) in
-    let way = forth_across w i a b small h in (
-      record { sign = i; sides = inl (across_sides w i a b small h, way.0) },
-      record { sign = i; sides = inr (across_sides w i a b small h, way.1) },
-    )
-
-towards_down : (w a b : ℕ) → 3 ≤ w → b < w * w → a + w ≡ b → IsTowards w a b Down × IsTowards w b a Up
-towards_down w a b small inside next =
-    let i : ℕ = pairs_across w + a in
-    let h : IsDown w i a b = subst (λ (x : ℕ). IsDown w i a x) next (down_from w a small (omega arith)) in
-    let way = forth_down w i a b h in (
-      record { sign = i; sides = inl (down_sides w i a b small h, way.0) },
-      record { sign = i; sides = inr (down_sides w i a b small h, way.1) },
-    )
-
-pub towards : (w a b : ℕ) (d : Direction) → 3 ≤ w → a < w * w → neighbour w a d ≡ Some b → IsTowards w a b d
-towards w a b Up small inside e =
-    let there = some_else (ltb a w) (a - w) b e in
-    let high : w ≤ a = ltb-false a w there.0 in
-    (towards_down w b a small inside (omega (arith, there.1))).1
-towards w a b Right small inside e =
-    let there = some_else (eqb (a % w + 1) w) (a + 1) b e in
-    let column : a % w < w = mod-lt a (omega arith) in
-    let room : a % w + 1 < w = omega (arith, eqb-false (a % w + 1) w there.0) in
-    (towards_across w a b small inside room there.1).0
-towards w a b Down small inside e =
-    let there = some_then (ltb (a + w) (w * w)) (a + w) b e in
-    let fits : a + w < w * w = ltb-true (a + w) (w * w) there.0 in
-    (towards_down w a b small (omega (arith, there.1)) there.1).0
-towards w a b Left small inside e =
-    let there = some_else (eqb (a % w) 0) (a - 1) b e in
-    let column : 0 < a % w = omega (arith, eqb-false (a % w) 0 there.0) in
-    let column_inside : a % w < w = mod-lt a (omega arith) in
-    let left : b ≡ a / w * w + (a % w - 1) = omega (arith, there.1) in
-    let left_column : b % w ≡ a % w - 1 = rw left (mod-mul-add (a / w) w (a % w - 1) (omega arith)) in
-    (towards_across w b a small (omega (arith, there.1)) (omega arith) (omega (arith, there.1))).1

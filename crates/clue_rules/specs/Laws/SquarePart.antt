@@ -1,56 +1,59 @@
 -- The square part of a Towers description: what is read has the grammar, and what has the grammar is read.
-use Rattle.std.proofs.Common.{◌≡◌, ℕ, zero, suc, ◌+◌, ◌-◌, ◌*◌, ◌<◌, ◌≤◌, true, false, ◌==◌, ◌&&◌, ◌||◌, not, nat_le, List, [], ◌∷◌, ◌++◌, length, replicate, Ok, Err, ◌⊎◌, inl, inr, cond, refl, sym, ap, ◌∙◌, subst, arith}
+use Rattle.std.proofs.Common.{◌≡◌, ℕ, zero, suc, ◌+◌, ◌-◌, ◌*◌, ◌<◌, ◌≤◌, true, false, ◌==◌, ◌&&◌, ◌||◌, not, nat_le, List, [], ◌∷◌, ◌++◌, length, replicate, Ok, ◌⊎◌, inl, inr, refl, sym, ap, ◌∙◌, subst, arith}
 use Rattle.std.specs.List.{AllByRecursion, flat_map}
-use borrow.Author.Tests.{eqb-true, eq-eqb, leb-true, le-leb, lt-leb, not-true}
+use Rattle.std.proofs.lemmas.Bool.{and_parts, and_from, or_cases, or_right, eqb-true, eq-eqb, leb-true, le-leb, lt-leb, not-true}
 use Rattle.byte_text.specs.Decimals.{is_digit, begins_digit}
+use Rattle.byte_text.specs.Bytes.{underscore, letter_a, letter_z, digit_zero, digit_nine}
 use Rattle.clue_rules.specs.declared.id_fault.IdFault.TheVariants.{BadSquares}
 use Rattle.clue_rules.specs.IdFaults.{exactly}
-use Rattle.clue_rules.specs.TowersText.{IsSquareText, is_blank_letter, is_square_byte, is_square_part, squares_of, givens_at}
-use Rattle.clue_rules.specs.Laws.JoinedTests.{both_from_and, and_from_both, one_from_or, or_from_second}
-use Rattle.clue_rules.specs.Laws.Counted.{counted_taken, counted_again}
+use Rattle.clue_rules.specs.TowersText.{IsSquareText, is_blank_letter, is_square_byte, is_square_part, squares_of, givens_at, blanks_of}
+use Rattle.clue_rules.specs.Laws.Exactly.{exactly_taken, exactly_again}
+use Rattle.clue_rules.specs.Laws.Refusals.{refused_else}
 
 -- what a byte of a square part may be
 abbrev pub SquareByte : ℕ → ℕ → List ℕ → Type 0
-SquareByte w b bs = (b ≡ 95) ⊎ ((97 ≤ b) × (b ≤ 122)) ⊎ ((49 ≤ b) × (b ≤ 48 + w) × (begins_digit bs ≡ false))
+SquareByte w b bs =
+    (b ≡ underscore) ⊎ ((letter_a ≤ b) × (b ≤ letter_z)) ⊎ ((digit_zero + 1 ≤ b) × (b ≤ digit_zero + w) × (begins_digit bs ≡ false))
 
-letter_true : (b : ℕ) → 97 ≤ b → b ≤ 122 → is_blank_letter b ≡ true
-letter_true b low high = and_from_both (nat_le 97 b) (nat_le b 122) (le-leb 97 b low) (le-leb b 122 high)
+letter_true : (b : ℕ) → letter_a ≤ b → b ≤ letter_z → is_blank_letter b ≡ true
+letter_true b low high = and_from (nat_le letter_a b) (nat_le b letter_z) (le-leb letter_a b low) (le-leb b letter_z high)
 
-letter_false : (b : ℕ) → b < 97 → is_blank_letter b ≡ false
-letter_false b low = rw (lt-leb 97 b low) refl
+letter_false : (b : ℕ) → b < letter_a → is_blank_letter b ≡ false
+letter_false b low = rw (lt-leb letter_a b low) refl
 
 pub byte_taken : (w b : ℕ) (bs : List ℕ) → is_square_byte w b bs ≡ true → SquareByte w b bs
 byte_taken w b bs is =
-    let digit = nat_le 49 b && (nat_le b (48 + w) && not (begins_digit bs)) in
-    elim (one_from_or (b == 95) (is_blank_letter b || digit) is) [
-      | inl same ↦ inl (eqb-true b 95 same)
+    let digit = nat_le (digit_zero + 1) b && (nat_le b (digit_zero + w) && not (begins_digit bs)) in
+    elim (or_cases (b == underscore) (is_blank_letter b || digit) is) [
+      | inl same ↦ inl (eqb-true b underscore same)
       | inr other ↦
-          elim (one_from_or (is_blank_letter b) digit other) [
+          elim (or_cases (is_blank_letter b) digit other) [
             | inl letter ↦
-                let bounds = both_from_and (nat_le 97 b) (nat_le b 122) letter in
-                inr (inl (leb-true 97 b bounds.0, leb-true b 122 bounds.1))
+                let bounds = and_parts (nat_le letter_a b) (nat_le b letter_z) letter in
+                inr (inl (leb-true letter_a b bounds.0, leb-true b letter_z bounds.1))
             | inr is_given ↦
-                let first = both_from_and (nat_le 49 b) (nat_le b (48 + w) && not (begins_digit bs)) is_given in
-                let second = both_from_and (nat_le b (48 + w)) (not (begins_digit bs)) first.1 in
-                inr (inr (leb-true 49 b first.0, leb-true b (48 + w) second.0, not-true (begins_digit bs) second.1))
+                let first = and_parts (nat_le (digit_zero + 1) b) (nat_le b (digit_zero + w) && not (begins_digit bs)) is_given in
+                let second = and_parts (nat_le b (digit_zero + w)) (not (begins_digit bs)) first.1 in
+                inr (inr (leb-true (digit_zero + 1) b first.0, leb-true b (digit_zero + w) second.0, not-true (begins_digit bs) second.1))
           ]
     ]
 
-pub squares_of_underscore : (b : ℕ) → b ≡ 95 → squares_of b ≡ []
+pub squares_of_underscore : (b : ℕ) → b ≡ underscore → squares_of b ≡ []
 squares_of_underscore b same = rw same refl
 
-pub squares_of_letter : (b : ℕ) → 97 ≤ b → b ≤ 122 → squares_of b ≡ replicate (b - 96) 0
+pub squares_of_letter : (b : ℕ) → letter_a ≤ b → b ≤ letter_z → squares_of b ≡ replicate (blanks_of b) 0
 squares_of_letter b low high = rw (letter_true b low high) refl
 
-pub squares_of_digit : (b : ℕ) → 48 ≤ b → b ≤ 57 → squares_of b ≡ (b - 48) ∷ []
+pub squares_of_digit : (b : ℕ) → digit_zero ≤ b → b ≤ digit_nine → squares_of b ≡ (b - digit_zero) ∷ []
 squares_of_digit b low high =
-    let digit : is_digit b ≡ true = and_from_both (nat_le 48 b) (nat_le b 57) (le-leb 48 b low) (le-leb b 57 high) in
+    let digit : is_digit b ≡ true =
+    and_from (nat_le digit_zero b) (nat_le b digit_nine) (le-leb digit_zero b low) (le-leb b digit_nine high) in
     rw (letter_false b (omega arith), digit) refl
 
 pub squares_taken : (w : ℕ) (bs : List ℕ) → w ≤ 9 → is_square_part w bs ≡ true → IsSquareText w bs (flat_map squares_of bs)
 squares_taken w [] small is = refl
 squares_taken w (b ∷ bs) small is =
-    let tests = both_from_and (is_square_byte w b bs) (is_square_part w bs) is in
+    let tests = and_parts (is_square_byte w b bs) (is_square_part w bs) is in
     let more = squares_taken w bs small tests.1 in
     let rest = flat_map squares_of bs in
     elim (byte_taken w b bs tests.0) [
@@ -67,48 +70,52 @@ squares_taken w (b ∷ bs) small is =
 -- a byte of the grammar passes, and so does the rest
 byte_again : (w b : ℕ) (bs : List ℕ) → SquareByte w b bs → is_square_byte w b bs ≡ true
 byte_again w b bs byte =
-    let digit = nat_le 49 b && (nat_le b (48 + w) && not (begins_digit bs)) in
+    let digit = nat_le (digit_zero + 1) b && (nat_le b (digit_zero + w) && not (begins_digit bs)) in
     elim byte [
-      | inl same ↦ rw (eq-eqb b 95 same) refl
+      | inl same ↦ rw (eq-eqb b underscore same) refl
       | inr other ↦
           elim other [
-            | inl letter ↦ or_from_second (b == 95) (is_blank_letter b || digit) (rw (letter_true b letter.0 letter.1) refl)
+            | inl letter ↦ or_right (b == underscore) (is_blank_letter b || digit) (rw (letter_true b letter.0 letter.1) refl)
             | inr given ↦
                 let ends : not (begins_digit bs) ≡ true = rw given.2 refl in
-                let bounds = and_from_both (nat_le b (48 + w)) (not (begins_digit bs)) (le-leb b (48 + w) given.1) ends in
-                let is_given = and_from_both (nat_le 49 b) (nat_le b (48 + w) && not (begins_digit bs)) (le-leb 49 b given.0) bounds in
-                or_from_second (b == 95) (is_blank_letter b || digit) (or_from_second (is_blank_letter b) digit is_given)
+                let bounds = and_from (nat_le b (digit_zero + w)) (not (begins_digit bs)) (le-leb b (digit_zero + w) given.1) ends in
+                let is_given =
+                and_from (nat_le (digit_zero + 1) b) (nat_le b (digit_zero + w) && not (begins_digit bs))
+                (le-leb (digit_zero + 1) b given.0) bounds in
+                or_right (b == underscore) (is_blank_letter b || digit) (or_right (is_blank_letter b) digit is_given)
           ]
     ]
 
-pub squares_again : (w : ℕ) (bs squares : List ℕ) → w ≤ 9 → IsSquareText w bs squares → (is_square_part w bs ≡ true) × (flat_map squares_of bs ≡ squares)
+pub squares_again : (w : ℕ) (bs squares : List ℕ) → w ≤ 9 → IsSquareText w bs squares
+    → (is_square_part w bs ≡ true) × (flat_map squares_of bs ≡ squares)
 squares_again w [] squares small text = (refl, sym text)
 squares_again w (b ∷ bs) squares small text =
     elim text [
       | inl underscore ↦
           let more = squares_again w bs squares small underscore.1 in
-          (and_from_both _ _ (byte_again w b bs (inl underscore.0)) more.0, rw (squares_of_underscore b underscore.0) more.1)
+          (and_from _ _ (byte_again w b bs (inl underscore.0)) more.0, rw (squares_of_underscore b underscore.0) more.1)
       | inr other ↦
           elim other [
             | inl letter ↦
                 let rest = letter.2.0 in
                 let more = squares_again w bs rest small letter.2.2 in
                 let here = squares_of_letter b letter.0 letter.1 in (
-                  and_from_both _ _ (byte_again w b bs (inr (inl (letter.0, letter.1)))) more.0,
-                  ap (λ xs. xs ++ flat_map squares_of bs) here ∙ (ap (λ xs. replicate (b - 96) 0 ++ xs) more.1 ∙ sym letter.2.1),
+                  and_from _ _ (byte_again w b bs (inr (inl (letter.0, letter.1)))) more.0,
+                  ap (λ xs. xs ++ flat_map squares_of bs) here ∙ (ap (λ xs. replicate (blanks_of b) 0 ++ xs) more.1 ∙ sym letter.2.1),
                 )
             | inr given ↦
                 let rest = given.3.0 in
                 let more = squares_again w bs rest small given.3.2 in
                 let here = squares_of_digit b (omega arith) (omega arith) in (
-                  and_from_both _ _ (byte_again w b bs (inr (inr (given.0, given.1, given.2)))) more.0,
-                  ap (λ xs. xs ++ flat_map squares_of bs) here ∙ (ap (λ xs. (b - 48) ∷ xs) more.1 ∙ sym given.3.1),
+                  and_from _ _ (byte_again w b bs (inr (inr (given.0, given.1, given.2)))) more.0,
+                  ap (λ xs. xs ++ flat_map squares_of bs) here ∙ (ap (λ xs. (b - digit_zero) ∷ xs) more.1 ∙ sym given.3.1),
                 )
           ]
     ]
 
 -- the squares of a square part are in range
-pub zeros_within : (w n : ℕ) (squares : List ℕ) → AllByRecursion (λ s. s ≤ w) squares → AllByRecursion (λ s. s ≤ w) (replicate n 0 ++ squares)
+pub zeros_within : (w n : ℕ) (squares : List ℕ) → AllByRecursion (λ s. s ≤ w) squares
+    → AllByRecursion (λ s. s ≤ w) (replicate n 0 ++ squares)
 zeros_within w zero squares within = within
 zeros_within w (suc n) squares within = (omega arith, zeros_within w n squares within)
 
@@ -120,24 +127,24 @@ squares_within w (b ∷ bs) squares text =
       | inr other ↦
           elim other [
             | inl letter ↦
-                subst (AllByRecursion (λ s. s ≤ w)) (sym letter.2.1) (zeros_within w (b - 96) letter.2.0 (squares_within w bs letter.2.0 letter.2.2))
+                subst (AllByRecursion (λ s. s ≤ w)) (sym letter.2.1)
+                (zeros_within w (blanks_of b) letter.2.0 (squares_within w bs letter.2.0 letter.2.2))
             | inr given ↦
                 subst (AllByRecursion (λ s. s ≤ w)) (sym given.3.1) (omega arith, squares_within w bs given.3.0 given.3.2)
           ]
     ]
 
-pub givens_taken : (w : ℕ) (part givens : List ℕ) → w ≤ 9 → givens_at w part ≡ Ok givens → (length givens ≡ w * w) × IsSquareText w part givens
+pub givens_taken : (w : ℕ) (part givens : List ℕ) → w ≤ 9 → givens_at w part ≡ Ok givens
+    → (length givens ≡ w * w) × IsSquareText w part givens
 unfolding givens_at
-givens_taken w part givens small =
-    elim (is_square_part w part) as (λ t. is_square_part w part ≡ t → cond t (exactly (w * w) (flat_map squares_of part)) (Err BadSquares) ≡ Ok givens → (length givens ≡ w * w) × IsSquareText w part givens) [
-      | true ↦ λ is read.
-          let count = counted_taken (w * w) (flat_map squares_of part) givens read in
-          (ap length (sym count.0) ∙ count.1, subst (IsSquareText w part) count.0 (squares_taken w part small is))
-      | false ↦ λ is read. cc
-    ] refl
+givens_taken w part givens small read =
+    let readable = refused_else (is_square_part w part) (exactly (w * w) (flat_map squares_of part)) BadSquares givens read in
+    let count = exactly_taken (w * w) (flat_map squares_of part) givens readable.1 in
+    (ap length (sym count.0) ∙ count.1, subst (IsSquareText w part) count.0 (squares_taken w part small readable.0))
 
-pub givens_again : (w : ℕ) (part givens : List ℕ) → w ≤ 9 → length givens ≡ w * w → IsSquareText w part givens → givens_at w part ≡ Ok givens
+pub givens_again : (w : ℕ) (part givens : List ℕ) → w ≤ 9 → length givens ≡ w * w → IsSquareText w part givens
+    → givens_at w part ≡ Ok givens
 unfolding givens_at
 givens_again w part givens small count text =
     let read = squares_again w part givens small text in
-    rw (read.0, read.1) (counted_again (w * w) givens count)
+    rw (read.0, read.1) (exactly_again (w * w) givens count)

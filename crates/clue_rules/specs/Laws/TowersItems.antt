@@ -1,74 +1,58 @@
 -- The laws of items: what a cut keeps, what two cuts make, and that the full puzzle of a Latin square is solved by it.
-use Rattle.std.proofs.Common.{◌≡◌, ℕ, zero, ◌+◌, ◌-◌, ◌*◌, ◌<◌, ◌≤◌, Bool, true, eqb, ltb, ◌&&◌, ◌||◌, List, [], length, get_or, refl, sym, ◌∙◌, inl, inr, arith}
+use Rattle.std.proofs.Common.{◌≡◌, ℕ, zero, ◌+◌, ◌-◌, ◌*◌, ◌<◌, ◌≤◌, Bool, true, ◌&&◌, ◌||◌, [], length, refl, sym, ◌∙◌, inl, inr, arith, nat_lt, ◌==◌, slice_index, slice_index_or}
 use Rattle.std.specs.Bool.{Decides}
-use Rattle.std.specs.List.{range_with_len, All}
-use Rattle.std.proofs.lemmas.Bool.{lt-ltb, le-ltb, cases_lt}
+use Rattle.std.specs.List.{range_with_len}
+use Rattle.std.proofs.lemmas.Bool.{lt-ltb, cases_lt}
 use Rattle.std.proofs.lemmas.Bool.Decides.{Decides-like, Decides-or, Decides-eqb}
 use Rattle.std.proofs.lemmas.List.{length-reverse}
-use Rattle.std.proofs.lemmas.List.Elements.{All-from_recursion, recursion_from_All, All-map}
+use Rattle.std.proofs.lemmas.List.Elements.{All-map}
 use Rattle.std.proofs.lemmas.List.FromFn.{length-map-range_with_len, get_or-map-range_with_len}
 use Rattle.latin_board.specs.Squares.{GridValue, IsGrid, IsLatin, number_at, row_of, column_of}
-use Rattle.latin_board.proofs.LatinLines.{latin_full}
 use Rattle.latin_board.proofs.LatinTest.{all_in_range}
 use Rattle.tower_lines.specs.TowersSeen.{seen}
 use Rattle.tower_lines.proofs.SeenLemmas.{seen_most, seen_some}
 use Rattle.trail_solver.specs.Puzzles.{Solves}
-use Rattle.clue_rules.specs.Items.{kept_items}
-use Rattle.clue_rules.specs.Laws.KeptItems.{length-kept, get_or-kept, kept-all, kept-kept, kept-agrees, kept-within, positive-cond, asked_still, not_positive, small_widths}
-use Rattle.clue_rules.specs.Towers.{TowersValue, IsTowers, clue_of, HoldsClues, meets_clue, meets_clues, towers_puzzle, towers_items, has_towers, cut_towers, full_towers}
+use Rattle.clue_rules.specs.Towers.{TowersValue, IsTowers, clue_of, HoldsClues, holds_clue, holds_clues, towers_puzzle, towers_items, has_towers, cut_towers, full_towers, given_grid}
 use Rattle.clue_rules.specs.Views.{view_of}
+use Rattle.clue_rules.specs.Laws.KeptItems.{length-kept, kept-all, kept-kept, All-kept, still_asked, has_item-kept, items_agree, has_item-full, not_positive, small_widths, IsGrid-kept}
+use Rattle.clue_rules.specs.Laws.Edges.{edge_cases}
 
 -- ---- the test of the clues
 
-one_clue_decides : (n m : ℕ) → Decides ((eqb n 0) || (eqb m n)) (0 < n → m ≡ n)
+one_clue_decides : (n m : ℕ) → Decides ((n == 0) || (m == n)) (0 < n → m ≡ n)
 one_clue_decides n m =
-    Decides-like ((eqb n 0) || (eqb m n))
+    Decides-like ((n == 0) || (m == n))
     (λ h low. elim h [ inl none ↦ absurd (omega arith) | inr same ↦ same ])
     (λ h. elim (cases_lt 0 n) [ inl low ↦ inr (h low) | inr none ↦ inl (omega arith) ])
     (Decides-or _ _ (Decides-eqb n 0) (Decides-eqb m n))
 
-pub clues_decide : (v : TowersValue) (g : GridValue) → Decides (meets_clues v g) (HoldsClues v g)
+pub clues_decide : (v : TowersValue) (g : GridValue) → Decides (holds_clues v g) (HoldsClues v g)
 clues_decide v g =
-    Decides-like (meets_clues v g)
+    Decides-like (holds_clues v g)
     (λ all. record { each = λ place inside. all place (omega arith) (omega arith) })
     (λ h place low inside. h.each place (omega arith))
-    (all_in_range (meets_clue v g) (λ place. 0 < clue_of v place → seen (view_of g place) ≡ clue_of v place)
+    (all_in_range (holds_clue v g) (λ place. 0 < clue_of v place → seen (view_of g place) ≡ clue_of v place)
     (λ place. one_clue_decides (clue_of v place) (seen (view_of g place))) 0 (4 * v.size))
 
 -- ---- what holds of every puzzle
 
 pub valid_size : (v : TowersValue) → IsTowers v → (3 ≤ v.size) × (v.size ≤ 9)
-valid_size v h = (h.smallest, h.largest)
+valid_size v h = (h.givens.smallest, h.givens.largest)
 
-pub valid_given : (v : TowersValue) (cell : ℕ) → IsTowers v → cell < v.size * v.size → get_or v.givens cell 0 ≤ v.size
-valid_given v cell h inside = h.givens_within cell 0 (rw h.given_count inside)
+pub valid_given : (v : TowersValue) (cell : ℕ) → IsTowers v → cell < v.size * v.size → slice_index v.givens cell ≤ v.size
+valid_given v cell h inside = h.givens.within cell 0 (rw h.givens.count inside)
 
 -- ---- cuts
 
-all_kept : (w : ℕ) (keep : ℕ → Bool) (i : ℕ) (xs : List ℕ) → All (λ n. n ≤ w) xs → All (λ n. n ≤ w) (kept_items zero keep i xs)
-all_kept w keep i xs h =
-    All-from_recursion (λ n. n ≤ w) (kept_items zero keep i xs) (kept-within w keep i xs (recursion_from_All (λ n. n ≤ w) xs h))
-
 pub cut_valid : (v : TowersValue) (keep : ℕ → Bool) → IsTowers v → IsTowers (cut_towers v keep)
 cut_valid v keep h = record {
-  smallest = h.smallest;
-  largest = h.largest;
+  givens = IsGrid-kept (given_grid v) keep (4 * v.size) h.givens;
   clue_count = length-kept zero keep 0 v.clues ∙ h.clue_count;
-  clues_within = all_kept v.size keep 0 v.clues h.clues_within;
-  given_count = length-kept zero keep (4 * v.size) v.givens ∙ h.given_count;
-  givens_within = all_kept v.size keep (4 * v.size) v.givens h.givens_within;
+  clues_within = All-kept v.size keep 0 v.clues h.clues_within;
 }
 
 pub cut_has : (v : TowersValue) (keep : ℕ → Bool) (i : ℕ) → has_towers (cut_towers v keep) i ≡ (has_towers v i && keep i)
-cut_has v keep i =
-    elim (cases_lt i (4 * v.size)) [
-      | inl low ↦
-          rw (lt-ltb i (4 * v.size) low, get_or-kept zero keep 0 v.clues i i (omega arith))
-          (positive-cond (keep i) (clue_of v i))
-      | inr high ↦
-          rw (le-ltb i (4 * v.size) high, get_or-kept zero keep (4 * v.size) v.givens (i - 4 * v.size) i (omega arith))
-          (positive-cond (keep i) (get_or v.givens (i - 4 * v.size) 0))
-    ]
+cut_has v keep i = has_item-kept (nat_lt 0) zero refl (4 * v.size) v.clues v.givens keep i
 
 pub cut_all : (v : TowersValue) → cut_towers v (λ i. true) ≡ v
 cut_all v = rw (kept-all zero 0 v.clues, kept-all zero (4 * v.size) v.givens) refl
@@ -79,40 +63,24 @@ cut_cut v first second = rw (kept-kept zero first second 0 v.clues, kept-kept ze
 pub few_items : (w : ℕ) → 3 ≤ w → w ≤ 6 → towers_items w ≤ 96
 few_items w low high = small_widths (λ n. towers_items n ≤ 96) (omega arith) (omega arith) (omega arith) (omega arith) w low high
 
-clue_is_item : (v : TowersValue) (place : ℕ) → place < 4 * v.size → has_towers v place ≡ ltb 0 (clue_of v place)
-clue_is_item v place inside = rw (lt-ltb place (4 * v.size) inside) refl
-
-given_is_item : (v : TowersValue) (cell : ℕ) → has_towers v (4 * v.size + cell) ≡ ltb 0 (get_or v.givens cell 0)
-given_is_item v cell =
-    let back : 4 * v.size + cell - 4 * v.size ≡ cell = omega arith in
-    rw (le-ltb (4 * v.size + cell) (4 * v.size) (omega arith), back) refl
-
-pub cut_agrees : (v : TowersValue) (a b : ℕ → Bool) → IsTowers v → ((i : ℕ) → i < towers_items v.size → has_towers v i ≡ true → a i ≡ b i) → cut_towers v a ≡ cut_towers v b
+pub cut_agrees : (v : TowersValue) (a b : ℕ → Bool) → IsTowers v
+    → ((i : ℕ) → i < towers_items v.size → has_towers v i ≡ true → a i ≡ b i) → cut_towers v a ≡ cut_towers v b
 cut_agrees v a b h same =
-    let clues : kept_items zero a 0 v.clues ≡ kept_items zero b 0 v.clues =
-    kept-agrees zero (ltb 0) not_positive a b 0 v.clues (λ k inside here.
-    at_zero k (same k (omega (arith, h.clue_count)) (clue_is_item v k (omega (arith, h.clue_count)) ∙ here))) in
-    let givens : kept_items zero a (4 * v.size) v.givens ≡ kept_items zero b (4 * v.size) v.givens =
-    kept-agrees zero (ltb 0) not_positive a b (4 * v.size) v.givens (λ k inside here.
-    same (4 * v.size + k) (omega (arith, h.given_count)) (given_is_item v k ∙ here)) in
-    rw (clues, givens) refl
-  where
-    at_zero : (k : ℕ) → a k ≡ b k → a (0 + k) ≡ b (0 + k)
-    at_zero k e = let back : 0 + k ≡ k = omega arith in rw back e
+    let kept =
+    items_agree (nat_lt 0) zero not_positive (4 * v.size) v.clues v.givens a b h.clue_count
+    (λ i inside has. same i (omega (arith, h.givens.count)) has) in
+    rw (kept.0, kept.1) refl
 
 -- a cut loses no solution
-pub cut_solved : (v : TowersValue) (keep : ℕ → Bool) (g : GridValue) → Solves (towers_puzzle v) g → Solves (towers_puzzle (cut_towers v keep)) g
+pub cut_solved : (v : TowersValue) (keep : ℕ → Bool) (g : GridValue) → Solves (towers_puzzle v) g
+    → Solves (towers_puzzle (cut_towers v keep)) g
 cut_solved v keep g h = record {
   is_grid = h.is_grid;
   same_size = h.same_size;
   latin = h.latin;
-  givens = λ cell inside.
-      let here = get_or-kept zero keep (4 * v.size) v.givens cell (4 * v.size + cell) refl in
-      rw here (asked_still (keep (4 * v.size + cell)) (get_or v.givens cell 0) (number_at g cell) (h.givens cell inside));
+  givens = λ cell inside. still_asked keep (4 * v.size) v.givens cell (number_at g cell) (h.givens cell inside);
   clues = (clues_decide (cut_towers v keep) g).1 (record {
-    each = λ place inside.
-        let here = get_or-kept zero keep 0 v.clues place place (omega arith) in
-        rw here (asked_still (keep place) (clue_of v place) (seen (view_of g place)) (((clues_decide v g).0 h.clues).each place inside));
+    each = λ place inside. still_asked keep 0 v.clues place (seen (view_of g place)) (((clues_decide v g).0 h.clues).each place inside);
   });
 }
 
@@ -126,17 +94,11 @@ length-row g row = length-map-range_with_len (λ c. number_at g (row * g.size + 
 
 pub length-view_of : (g : GridValue) (place : ℕ) → length (view_of g place) ≡ g.size
 length-view_of g place =
-    elim (cases_lt place g.size) [
-      | inl top ↦ rw (lt-ltb place g.size top) (length-column g place)
-      | inr below ↦ elim (cases_lt place (2 * g.size)) [
-        | inl bottom ↦ rw (le-ltb place g.size below, lt-ltb place (2 * g.size) bottom) (length-reverse (column_of g (place - g.size)) ∙ length-column g (place - g.size))
-        | inr beside ↦ elim (cases_lt place (3 * g.size)) [
-          | inl left ↦ rw (le-ltb place g.size below, le-ltb place (2 * g.size) beside, lt-ltb place (3 * g.size) left) (length-row g (place - 2 * g.size))
-          | inr right ↦ rw (le-ltb place g.size below, le-ltb place (2 * g.size) beside, le-ltb place (3 * g.size) right)
-              (length-reverse (row_of g (place - 3 * g.size)) ∙ length-row g (place - 3 * g.size))
-        ]
-      ]
-    ]
+    edge_cases (λ line. length line ≡ g.size) g.size place _ _ _ _
+    (λ upper. length-column g place)
+    (λ from lower. length-reverse (column_of g (place - g.size)) ∙ length-column g (place - g.size))
+    (λ from left. length-row g (place - 2 * g.size))
+    (λ right. length-reverse (row_of g (place - 3 * g.size)) ∙ length-row g (place - 3 * g.size))
 
 pub seen_within : (g : GridValue) (place : ℕ) → seen (view_of g place) ≤ g.size
 seen_within g place = omega (arith, seen_most [] (view_of g place), length-view_of g place)
@@ -147,26 +109,18 @@ full_clue g place inside =
 
 pub full_valid : (g : GridValue) → IsGrid g → IsTowers (full_towers g)
 full_valid g h = record {
-  smallest = h.smallest;
-  largest = h.largest;
+  givens = h;
   clue_count = length-map-range_with_len (λ place. seen (view_of g place)) 0 (4 * g.size);
   clues_within =
       All-map (λ n. n ≤ g.size) (λ place. seen (view_of g place)) (range_with_len 0 (4 * g.size))
-      (λ k d inside. seen_within g (get_or (range_with_len 0 (4 * g.size)) k d));
-  given_count = h.count;
-  givens_within = h.within;
+      (λ k d inside. seen_within g (slice_index_or (range_with_len 0 (4 * g.size)) k d));
 }
 
 pub full_has : (g : GridValue) (i : ℕ) → IsGrid g → IsLatin g → i < towers_items g.size → has_towers (full_towers g) i ≡ true
 full_has g i is_grid latin inside =
-    elim (cases_lt i (4 * g.size)) [
-      | inl low ↦
-          rw (lt-ltb i (4 * g.size) low, full_clue g i low)
-          (lt-ltb 0 (seen (view_of g i)) (seen_some (view_of g i) (omega (arith, length-view_of g i, is_grid.smallest))))
-      | inr high ↦
-          rw (le-ltb i (4 * g.size) high)
-          (lt-ltb 0 (number_at g (i - 4 * g.size)) ((latin_full g latin).each (i - 4 * g.size) (omega arith)))
-    ]
+    has_item-full (nat_lt 0) zero (4 * g.size) (full_towers g).clues g i latin
+    (λ low. rw (full_clue g i low) (lt-ltb 0 (seen (view_of g i)) (seen_some (view_of g i) (omega (arith, length-view_of g i, is_grid.smallest)))))
+    inside
 
 pub full_solved : (g : GridValue) → IsGrid g → IsLatin g → Solves (towers_puzzle (full_towers g)) g
 full_solved g is_grid latin = record {

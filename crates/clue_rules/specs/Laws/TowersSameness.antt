@@ -6,6 +6,7 @@ use Rattle.std.proofs.Common.{ap}
 use Rattle.std.proofs.lemmas.Bool.Decides.{Decides-like, Decides-and, Decides-eqb}
 use Rattle.clue_rules.specs.Towers.{TowersValue}
 
+-- both puzzles have the same width, clues and givens
 abbrev pub same_towers : TowersValue → TowersValue → Bool
 same_towers p q = p.size == q.size && pointwise ◌==◌ p.clues q.clues && pointwise ◌==◌ p.givens q.givens
 

@@ -1,94 +1,91 @@
 -- Towers descriptions: what is read has the grammar, what has the grammar is read, and what is written has it.
-use Rattle.std.proofs.Common.{◌≡◌, ℕ, ◌*◌, ◌≤◌, true, false, ◌==◌, ◌||◌, not, List, [], ◌∷◌, ◌++◌, length, replicate, Option, Some, None, Result, Ok, ◌⊎◌, inl, inr, cond, refl, sym, ap, ◌∙◌, subst, arith, append-nil}
+use Rattle.std.proofs.Common.{◌≡◌, ℕ, ◌*◌, ◌≤◌, true, false, ◌==◌, ◌||◌, not, List, [], ◌∷◌, ◌++◌, length, replicate, Option, Some, None, Result, Ok, inl, inr, refl, sym, ap, ◌∙◌, subst, arith, append-nil, if◌then◌else◌}
 use Rattle.std.specs.List.{AllByRecursion, list_any}
 use Rattle.std.proofs.lemmas.List.{length-replicate}
 use Rattle.std.proofs.lemmas.List.Elements.{All-from_recursion, recursion_from_All}
-use borrow.Author.Tests.{eqb-true}
+use Rattle.std.proofs.lemmas.Bool.{eqb-true}
 use Rattle.byte_text.specs.Cuts.{before, behind}
 use Rattle.byte_text.specs.Reading.{◌>>=◌}
 use Rattle.byte_text.proofs.CutLaws.{cut_parts, cut_whole, before_at, behind_at, before_all, behind_none_in}
 use Rattle.byte_text.proofs.ReadingLaws.{bind_taken, bind_again}
+use Rattle.byte_text.specs.Bytes.{comma}
 use Rattle.clue_rules.specs.declared.id_fault.IdFault.{IdFault}
 use Rattle.clue_rules.specs.Towers.{TowersValue, IsTowers}
-use Rattle.clue_rules.specs.TowersText.{clue_part, IsSquareText, IsTowersText, squares_written, square_part, towers_text, clues_at, givens_behind, towers_at}
+use Rattle.clue_rules.specs.TowersText.{clue_part, IsTowersText, squares_written, square_part, towers_text, clues_at, givens_behind, towers_at, SaysSquares}
 use Rattle.clue_rules.specs.Laws.CluePart.{clue_part_lacks_comma, clues_taken, clues_again}
 use Rattle.clue_rules.specs.Laws.SquarePart.{givens_taken, givens_again, squares_within, zeros_within}
 use Rattle.clue_rules.specs.Laws.SquaresWritten.{squares_written_text}
 
+-- the puzzle that is made of what was read
 abbrev made : ℕ → List ℕ → List ℕ → Result TowersValue IdFault
 made w clues givens = Ok (record { size = w; clues = clues; givens = givens })
 
+-- no number of the list is greater than the width
 abbrev AllUpTo : ℕ → List ℕ → Type 0
 AllUpTo w ns = AllByRecursion (λ n. n ≤ w) ns
-
--- the squares that stand behind the clues, or none
-abbrev SquaresBehind : ℕ → List ℕ → List ℕ → List ℕ → Type 0
-SquaresBehind w text front givens =
-    ((text ≡ front) × (givens ≡ replicate (w * w) 0)) ⊎ ((part : List ℕ) × (text ≡ front ++ 44 ∷ part) × IsSquareText w part givens)
 
 zeros_up_to : (w n : ℕ) → AllUpTo w (replicate n 0)
 zeros_up_to w n = subst (AllUpTo w) (append-nil (replicate n 0)) (zeros_within w n [] tt)
 
-behind_taken : (w : ℕ) (text givens : List ℕ) (rest : Option (List ℕ)) → w ≤ 9 → behind 44 text ≡ rest → givens_behind w rest ≡ Ok givens → (length givens ≡ w * w) × AllUpTo w givens × SquaresBehind w text (before 44 text) givens
-behind_taken w text givens None small cut read =
+givens_behind_taken : (w : ℕ) (text givens : List ℕ) (rest : Option (List ℕ)) → w ≤ 9 → behind comma text ≡ rest
+    → givens_behind w rest ≡ Ok givens
+    → (length givens ≡ w * w) × AllUpTo w givens × SaysSquares w text (before comma text) givens
+givens_behind_taken w text givens None small cut read =
     let e : replicate (w * w) 0 ≡ givens = cc in
     let count : length givens ≡ w * w = ap length (sym e) ∙ length-replicate (w * w) 0 in
-    (count, subst (AllUpTo w) e (zeros_up_to w (w * w)), inl (sym (cut_whole 44 text cut), sym e))
-behind_taken w text givens (Some part) small cut read =
+    (count, subst (AllUpTo w) e (zeros_up_to w (w * w)), inl (sym (cut_whole comma text cut), sym e))
+givens_behind_taken w text givens (Some part) small cut read =
     let taken = givens_taken w part givens small read in
-    (taken.0, squares_within w part givens taken.1, inr (part, cut_parts 44 text part cut, taken.1))
+    (taken.0, squares_within w part givens taken.1, inr (part, cut_parts comma text part cut, taken.1))
 
-pub towers_taken : (w : ℕ) (text : List ℕ) (p : TowersValue) → 3 ≤ w → w ≤ 9 → towers_at w text ≡ Ok p → IsTowersText w p text
+pub towers_taken : (w : ℕ) (text : List ℕ) (p : TowersValue) → 3 ≤ w → w ≤ 9 → towers_at w text ≡ Ok p
+    → IsTowersText p text × IsTowers p × (p.size ≡ w)
 unfolding towers_at
-towers_taken w text p large small read =
-    let first = bind_taken (clues_at w (before 44 text)) (λ clues. givens_behind w (behind 44 text) >>= made w clues) p read in
-    let second = bind_taken (givens_behind w (behind 44 text)) (made w first.0) p first.2 in
-    let clues = clues_taken w (before 44 text) first.0 first.1 in
-    let squares = behind_taken w text second.0 (behind 44 text) small refl second.1 in
+towers_taken w text p small large read =
+    let first = bind_taken (clues_at w (before comma text)) (λ clues. givens_behind w (behind comma text) >>= made w clues) p read in
+    let second = bind_taken (givens_behind w (behind comma text)) (made w first.0) p first.2 in
+    let clues = clues_taken w (before comma text) first.0 first.1 in
+    let squares = givens_behind_taken w text second.0 (behind comma text) large refl second.1 in
     let value : TowersValue = record { size = w; clues = first.0; givens = second.0 } in
     let is : value ≡ p = cc in
-    let parts = subst (λ front. SquaresBehind w text front second.0) clues.0 squares.2 in
-    subst (λ v. IsTowersText w v text) is (record {
-      puzzle = record {
-        smallest = large;
-        largest = small;
-        clue_count = clues.1;
-        clues_within = All-from_recursion (λ n. n ≤ w) first.0 clues.2;
-        given_count = squares.0;
-        givens_within = All-from_recursion (λ n. n ≤ w) second.0 squares.1;
+    let puzzle : IsTowers value = record {
+      givens = record {
+        smallest = small;
+        largest = large;
+        count = squares.0;
+        within = All-from_recursion (λ n. n ≤ w) second.0 squares.1;
       };
-      size_is = refl;
-      parts = parts;
-    })
+      clue_count = clues.1;
+      clues_within = All-from_recursion (λ n. n ≤ w) first.0 clues.2;
+    } in
+    let parts = subst (λ front. SaysSquares w text front second.0) clues.0 squares.2 in
+    subst (λ v. IsTowersText v text × IsTowers v × (v.size ≡ w)) is (record { puzzle = puzzle; parts = parts }, puzzle, refl)
 
-parts_again : (w : ℕ) (text : List ℕ) (clues givens : List ℕ) → w ≤ 9 → length givens ≡ w * w → SquaresBehind w text (clue_part clues) givens → (before 44 text ≡ clue_part clues) × (givens_behind w (behind 44 text) ≡ Ok givens)
-parts_again w text clues givens small count parts =
+-- where the description is cut, its clues and its givens are read
+cut_again : (w : ℕ) (text : List ℕ) (clues givens : List ℕ) → w ≤ 9 → length givens ≡ w * w
+    → SaysSquares w text (clue_part clues) givens
+    → (before comma text ≡ clue_part clues) × (givens_behind w (behind comma text) ≡ Ok givens)
+cut_again w text clues givens small count parts =
     let lacks = clue_part_lacks_comma clues in
     elim parts [
       | inl alone ↦
-          let none : behind 44 text ≡ None = ap (behind 44) alone.0 ∙ behind_none_in 44 (clue_part clues) lacks in
-          (ap (before 44) alone.0 ∙ before_all 44 (clue_part clues) lacks, rw none (ap Ok (sym alone.1)))
+          let none : behind comma text ≡ None = ap (behind comma) alone.0 ∙ behind_none_in comma (clue_part clues) lacks in
+          (ap (before comma) alone.0 ∙ before_all comma (clue_part clues) lacks, rw none (ap Ok (sym alone.1)))
       | inr both ↦
           let part = both.0 in
-          let some : behind 44 text ≡ Some part = ap (behind 44) both.1 ∙ behind_at 44 (clue_part clues) part lacks in
-          (ap (before 44) both.1 ∙ before_at 44 (clue_part clues) part lacks, rw some (givens_again w part givens small count both.2))
+          let some : behind comma text ≡ Some part = ap (behind comma) both.1 ∙ behind_at comma (clue_part clues) part lacks in
+          (ap (before comma) both.1 ∙ before_at comma (clue_part clues) part lacks, rw some (givens_again w part givens small count both.2))
     ]
 
--- the size is that of the puzzle here
-again_at_size : (text : List ℕ) (p : TowersValue) → IsTowers p → SquaresBehind p.size text (clue_part p.clues) p.givens → towers_at p.size text ≡ Ok p
+pub towers_again : (text : List ℕ) (p : TowersValue) → IsTowersText p text → towers_at p.size text ≡ Ok p
 unfolding towers_at
-again_at_size text p puzzle parts =
-    let read = parts_again p.size text p.clues p.givens puzzle.largest puzzle.given_count parts in
-    let within = recursion_from_All (λ n. n ≤ p.size) p.clues puzzle.clues_within in
-    let clues : clues_at p.size (before 44 text) ≡ Ok p.clues =
-    ap (clues_at p.size) read.0 ∙ clues_again p.size p.clues (omega (arith, puzzle.smallest)) puzzle.clue_count within in
-    bind_again (clues_at p.size (before 44 text)) (λ clues. givens_behind p.size (behind 44 text) >>= made p.size clues) p.clues clues
-    ∙ bind_again (givens_behind p.size (behind 44 text)) (made p.size p.clues) p.givens read.1
-
-pub towers_again : (w : ℕ) (text : List ℕ) (p : TowersValue) → IsTowersText w p text → towers_at w text ≡ Ok p
-towers_again w text p h =
-    let parts = subst (λ v. SquaresBehind v text (clue_part p.clues) p.givens) (sym h.size_is) h.parts in
-    subst (λ v. towers_at v text ≡ Ok p) h.size_is (again_at_size text p h.puzzle parts)
+towers_again text p h =
+    let read = cut_again p.size text p.clues p.givens h.puzzle.givens.largest h.puzzle.givens.count h.parts in
+    let within = recursion_from_All (λ n. n ≤ p.size) p.clues h.puzzle.clues_within in
+    let clues : clues_at p.size (before comma text) ≡ Ok p.clues =
+    ap (clues_at p.size) read.0 ∙ clues_again p.size p.clues (omega (arith, h.puzzle.givens.smallest)) h.puzzle.clue_count within in
+    bind_again (clues_at p.size (before comma text)) (λ clues. givens_behind p.size (behind comma text) >>= made p.size clues) p.clues clues
+    ∙ bind_again (givens_behind p.size (behind comma text)) (made p.size p.clues) p.givens read.1
 
 -- where no square is given, all are blank
 none_given : (givens : List ℕ) → list_any (λ n. not (n == 0)) givens ≡ false → givens ≡ replicate (length givens) 0
@@ -99,17 +96,19 @@ none_given (n ∷ ns) =
       | false ↦ λ given none. cc
     ] refl
 
-written_parts : (w : ℕ) (front givens : List ℕ) → length givens ≡ w * w → AllUpTo w givens → SquaresBehind w (front ++ square_part givens) front givens
+written_parts : (w : ℕ) (front givens : List ℕ) → length givens ≡ w * w → AllUpTo w givens
+    → SaysSquares w (front ++ square_part givens) front givens
 written_parts w front givens count within =
-    elim (list_any (λ n. not (n == 0)) givens) as (λ t. list_any (λ n. not (n == 0)) givens ≡ t → SquaresBehind w (front ++ cond t (44 ∷ squares_written 0 false givens) []) front givens) [
+    elim (list_any (λ n. not (n == 0)) givens) as (λ t. list_any (λ n. not (n == 0)) givens ≡ t → SaysSquares w (front ++ (if t then (comma ∷ squares_written 0 false givens) else [])) front givens) [
       | true ↦ λ some. inr (squares_written 0 false givens, refl, squares_written_text w givens within)
       | false ↦ λ none. inl (append-nil front, none_given givens none ∙ ap (λ n. replicate n 0) count)
     ] refl
 
 -- the description that is written describes the puzzle
-pub towers_text_is : (p : TowersValue) → IsTowers p → IsTowersText p.size p (towers_text p)
-towers_text_is p puzzle = record {
+pub towers_canonical : (p : TowersValue) → IsTowers p → IsTowersText p (towers_text p)
+towers_canonical p puzzle = record {
   puzzle = puzzle;
-  size_is = refl;
-  parts = written_parts p.size (clue_part p.clues) p.givens puzzle.given_count (recursion_from_All (λ n. n ≤ p.size) p.givens puzzle.givens_within);
+  parts =
+      written_parts p.size (clue_part p.clues) p.givens puzzle.givens.count
+      (recursion_from_All (λ n. n ≤ p.size) p.givens puzzle.givens.within);
 }

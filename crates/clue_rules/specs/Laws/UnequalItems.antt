@@ -1,60 +1,43 @@
 -- The laws of items: what a cut keeps, what two cuts make, and that the full puzzle of a Latin square is solved by it.
-use Rattle.std.proofs.Common.{◌≡◌, ◌≢◌, ℕ, zero, ◌+◌, ◌-◌, ◌*◌, ◌/◌, ◌%◌, ◌<◌, ◌≤◌, Bool, true, false, cond, ltb, ◌&&◌, get_or, refl, sym, ◌∙◌, inl, inr, arith}
+use Rattle.std.proofs.Common.{◌≡◌, ◌≢◌, ℕ, zero, ◌+◌, ◌*◌, ◌/◌, ◌%◌, ◌<◌, ◌≤◌, Bool, true, false, ◌&&◌, refl, sym, ◌∙◌, inl, inr, arith, if◌then◌else◌, slice_index}
 use Rattle.std.proofs.lemmas.Nat.{div-mul-add, mod-mul-add}
 use Rattle.std.proofs.lemmas.Bool.{lt-ltb, le-ltb, cases_lt}
-use Rattle.std.proofs.lemmas.List.Elements.{All-from_recursion, recursion_from_All}
 use Rattle.std.proofs.lemmas.List.FromFn.{length-map-range_with_len, get_or-map-range_with_len}
 use Rattle.latin_board.specs.Squares.{GridValue, IsGrid, IsLatin, number_at}
 use Rattle.latin_board.specs.Lines.{ArePeers}
-use Rattle.latin_board.proofs.LatinLines.{latin_full, peers_differ}
+use Rattle.latin_board.proofs.LatinLines.{peers_differ}
 use Rattle.trail_solver.specs.Puzzles.{Solves}
 use Rattle.clue_rules.specs.declared.unequal.sign.Sign.{Sign}
 use Rattle.clue_rules.specs.declared.unequal.sign.Sign.TheVariants.{Absent, FirstGreater, SecondGreater}
-use Rattle.clue_rules.specs.Unequal.{UnequalValue, IsUnequal, IsAcross, IsDown, sign_count, sign_at, first_side, second_side, holds_sign, puzzle_of, unequal_items, is_present, has_unequal, cut_unequal, sign_of, full_unequal}
-use Rattle.clue_rules.specs.Items.{kept_items}
-use Rattle.clue_rules.specs.Laws.KeptItems.{length-kept, get_or-kept, kept-all, kept-kept, kept-agrees, kept-within, positive-cond, asked_still, not_positive, small_widths}
+use Rattle.clue_rules.specs.Unequal.{UnequalValue, IsUnequal, IsAcross, IsDown, sign_count, sign_at, first_side, second_side, holds_sign, unequal_puzzle, unequal_items, is_present, has_unequal, cut_unequal, sign_of, full_unequal, given_grid}
 use Rattle.clue_rules.specs.Laws.SignPlaces.{sides_at, between_at}
 use Rattle.clue_rules.specs.Laws.RangeTests.{all_in_range, range_all}
+use Rattle.clue_rules.specs.Laws.KeptItems.{length-kept, entry-kept, kept-all, kept-kept, still_asked, has_item-kept, items_agree, has_item-full, small_widths, IsGrid-kept}
 
 -- what holds of every puzzle
 
 pub valid_size : (v : UnequalValue) → IsUnequal v → (3 ≤ v.size) × (v.size ≤ 9)
 valid_size v h = (h.givens.smallest, h.givens.largest)
 
-pub valid_given : (v : UnequalValue) (cell : ℕ) → IsUnequal v → cell < v.size * v.size → get_or v.givens cell 0 ≤ v.size
+pub valid_given : (v : UnequalValue) (cell : ℕ) → IsUnequal v → cell < v.size * v.size → slice_index v.givens cell ≤ v.size
 valid_given v cell h inside = h.givens.within cell 0 (rw h.givens.count inside)
 
 -- cuts
 
 pub cut_valid : (v : UnequalValue) (keep : ℕ → Bool) → IsUnequal v → IsUnequal (cut_unequal v keep)
 cut_valid v keep h = record {
-  givens = record {
-    smallest = h.givens.smallest;
-    largest = h.givens.largest;
-    count = length-kept zero keep (sign_count v.size) v.givens ∙ h.givens.count;
-    within = All-from_recursion (λ n. n ≤ v.size) _ (kept-within v.size keep (sign_count v.size) v.givens (recursion_from_All (λ n. n ≤ v.size) v.givens h.givens.within));
-  };
+  givens = IsGrid-kept (given_grid v) keep (sign_count v.size) h.givens;
   signs = length-kept Absent keep 0 v.signs ∙ h.signs;
 }
 
-present-cond : (b : Bool) (s : Sign) → is_present (cond b s Absent) ≡ (is_present s && b)
-present-cond true Absent = refl
-present-cond true FirstGreater = refl
-present-cond true SecondGreater = refl
-present-cond false Absent = refl
-present-cond false FirstGreater = refl
-present-cond false SecondGreater = refl
-
 pub cut_has : (v : UnequalValue) (keep : ℕ → Bool) (i : ℕ) → has_unequal (cut_unequal v keep) i ≡ (has_unequal v i && keep i)
-cut_has v keep i = elim (cases_lt i (sign_count v.size)) [
-  | inl low ↦ rw (lt-ltb i (sign_count v.size) low, get_or-kept Absent keep 0 v.signs i i (omega arith)) (present-cond (keep i) (sign_at v i))
-  | inr high ↦ rw (le-ltb i (sign_count v.size) high, get_or-kept zero keep (sign_count v.size) v.givens (i - sign_count v.size) i (omega arith)) (positive-cond (keep i) (get_or v.givens (i - sign_count v.size) 0))
-]
+cut_has v keep i = has_item-kept is_present Absent refl (sign_count v.size) v.signs v.givens keep i
 
 pub cut_all : (v : UnequalValue) → cut_unequal v (λ i. true) ≡ v
 cut_all v = rw (kept-all Absent 0 v.signs, kept-all zero (sign_count v.size) v.givens) refl
 
-pub cut_cut : (v : UnequalValue) (first second : ℕ → Bool) → cut_unequal (cut_unequal v first) second ≡ cut_unequal v (λ i. first i && second i)
+pub cut_cut : (v : UnequalValue) (first second : ℕ → Bool)
+    → cut_unequal (cut_unequal v first) second ≡ cut_unequal v (λ i. first i && second i)
 cut_cut v first second = rw (kept-kept Absent first second 0 v.signs, kept-kept zero first second (sign_count v.size) v.givens) refl
 
 pub few_items : (w : ℕ) → 3 ≤ w → w ≤ 6 → unequal_items w ≤ 96
@@ -65,42 +48,27 @@ not_present Absent h = refl
 not_present FirstGreater h = cc
 not_present SecondGreater h = cc
 
-has_sign : (v : UnequalValue) (i : ℕ) → i < sign_count v.size → has_unequal v i ≡ is_present (sign_at v i)
-has_sign v i inside = rw (lt-ltb i (sign_count v.size) inside) refl
-
-given_is_item : (v : UnequalValue) (cell : ℕ) → has_unequal v (sign_count v.size + cell) ≡ ltb 0 (get_or v.givens cell 0)
-given_is_item v cell =
-    let back : sign_count v.size + cell - sign_count v.size ≡ cell = omega arith in
-    rw (le-ltb (sign_count v.size + cell) (sign_count v.size) (omega arith), back) refl
-
-pub cut_agrees : (v : UnequalValue) (a b : ℕ → Bool) → IsUnequal v → ((i : ℕ) → i < unequal_items v.size → has_unequal v i ≡ true → a i ≡ b i) → cut_unequal v a ≡ cut_unequal v b
+pub cut_agrees : (v : UnequalValue) (a b : ℕ → Bool) → IsUnequal v
+    → ((i : ℕ) → i < unequal_items v.size → has_unequal v i ≡ true → a i ≡ b i) → cut_unequal v a ≡ cut_unequal v b
 cut_agrees v a b h same =
-    let signs : kept_items Absent a 0 v.signs ≡ kept_items Absent b 0 v.signs =
-    kept-agrees Absent is_present not_present a b 0 v.signs (λ k inside here.
-    at_zero k (same k (omega (arith, h.signs)) (has_sign v k (omega (arith, h.signs)) ∙ here))) in
-    let givens : kept_items zero a (sign_count v.size) v.givens ≡ kept_items zero b (sign_count v.size) v.givens =
-    kept-agrees zero (ltb 0) not_positive a b (sign_count v.size) v.givens (λ k inside here.
-    same (sign_count v.size + k) (omega (arith, h.givens.count)) (given_is_item v k ∙ here)) in
-    rw (signs, givens) refl
-  where
-    at_zero : (k : ℕ) → a k ≡ b k → a (0 + k) ≡ b (0 + k)
-    at_zero k e = let back : 0 + k ≡ k = omega arith in rw back e
+    let kept =
+    items_agree is_present Absent not_present (sign_count v.size) v.signs v.givens a b h.signs
+    (λ i inside has. same i (omega (arith, h.givens.count)) has) in
+    rw (kept.0, kept.1) refl
 
-sign_lost : (b : Bool) (s : Sign) (x y : ℕ) → holds_sign s x y ≡ true → holds_sign (cond b s Absent) x y ≡ true
+sign_lost : (b : Bool) (s : Sign) (x y : ℕ) → holds_sign s x y ≡ true → holds_sign (if b then s else Absent) x y ≡ true
 sign_lost true s x y h = h
 sign_lost false s x y h = refl
 
 -- a cut loses no solution
-pub cut_solved : (v : UnequalValue) (keep : ℕ → Bool) (g : GridValue) → Solves (puzzle_of v) g → Solves (puzzle_of (cut_unequal v keep)) g
+pub cut_solved : (v : UnequalValue) (keep : ℕ → Bool) (g : GridValue) → Solves (unequal_puzzle v) g → Solves (unequal_puzzle (cut_unequal v keep)) g
 cut_solved v keep g h = record {
   is_grid = h.is_grid;
   same_size = h.same_size;
   latin = h.latin;
-  givens = λ cell inside.
-      let here = get_or-kept zero keep (sign_count v.size) v.givens cell (sign_count v.size + cell) refl in
-      rw here (asked_still (keep (sign_count v.size + cell)) (get_or v.givens cell 0) (number_at g cell) (h.givens cell inside));
+  givens = λ cell inside. still_asked keep (sign_count v.size) v.givens cell (number_at g cell) (h.givens cell inside);
   clues = range_all _ 0 (sign_count v.size) (λ i low high.
-      let here = get_or-kept Absent keep 0 v.signs i i (omega arith) in
+      let here = entry-kept Absent keep 0 v.signs i i (omega arith) in
       rw here (sign_lost (keep i) (sign_at v i) _ _ (all_in_range _ 0 (sign_count v.size) i h.clues low high)));
 }
 
@@ -109,7 +77,8 @@ cut_solved v keep g h = record {
 pub full_valid : (g : GridValue) → IsGrid g → IsUnequal (full_unequal g)
 full_valid g h = record { givens = h; signs = length-map-range_with_len _ 0 (sign_count g.size) }
 
-pub full_sign : (g : GridValue) (i : ℕ) → i < sign_count g.size → sign_at (full_unequal g) i ≡ sign_of (number_at g (first_side g.size i)) (number_at g (second_side g.size i))
+pub full_sign : (g : GridValue) (i : ℕ) → i < sign_count g.size
+    → sign_at (full_unequal g) i ≡ sign_of (number_at g (first_side g.size i)) (number_at g (second_side g.size i))
 full_sign g i inside = get_or-map-range_with_len _ 0 (sign_count g.size) i i Absent inside (omega arith)
 
 sign_present : (x y : ℕ) → x ≢ y → is_present (sign_of x y) ≡ true
@@ -127,10 +96,7 @@ sign_of_holds x y = elim (cases_lt y x) [
   ]
 ]
 
-full_has_given : (g : GridValue) → IsLatin g → (cell : ℕ) → cell < g.size * g.size → ltb 0 (number_at g cell) ≡ true
-full_has_given g latin cell inside = lt-ltb 0 (number_at g cell) ((latin_full g latin).each cell inside)
-
-pub full_solved : (g : GridValue) → IsGrid g → IsLatin g → Solves (puzzle_of (full_unequal g)) g
+pub full_solved : (g : GridValue) → IsGrid g → IsLatin g → Solves (unequal_puzzle (full_unequal g)) g
 full_solved g is_grid latin = record {
   is_grid = is_grid;
   same_size = refl;
@@ -166,10 +132,9 @@ sides_peers w i small inside =
         column_of a r e = rw e (mod-mul-add r w h.column h.column_inside)
 
 pub full_has : (g : GridValue) (i : ℕ) → IsGrid g → IsLatin g → i < unequal_items g.size → has_unequal (full_unequal g) i ≡ true
-full_has g i is_grid latin inside = elim (cases_lt i (sign_count g.size)) [
-  | inl low ↦
-      let differ = peers_differ g is_grid latin (first_side g.size i) (second_side g.size i) (sides_peers g.size i is_grid.smallest low) in
-      rw (lt-ltb i (sign_count g.size) low, full_sign g i low) (sign_present _ _ differ)
-  | inr high ↦
-      rw (le-ltb i (sign_count g.size) high) (full_has_given g latin (i - sign_count g.size) (omega arith))
-]
+full_has g i is_grid latin inside =
+    has_item-full is_present Absent (sign_count g.size) (full_unequal g).signs g i latin
+    (λ low.
+    let differ = peers_differ g is_grid latin (first_side g.size i) (second_side g.size i) (sides_peers g.size i is_grid.smallest low) in
+    rw (full_sign g i low) (sign_present _ _ differ))
+    inside

@@ -8,6 +8,7 @@ use Rattle.clue_rules.specs.declared.unequal.sign.Sign.{Sign}
 use Rattle.clue_rules.specs.declared.unequal.sign.Sign.TheVariants.{Absent, FirstGreater, SecondGreater}
 use Rattle.clue_rules.specs.Unequal.{UnequalValue}
 
+-- both signs are the same
 abbrev pub same_sign : Sign → Sign → Bool
 same_sign Absent Absent = true
 same_sign FirstGreater FirstGreater = true
@@ -19,6 +20,7 @@ same_sign FirstGreater SecondGreater = false
 same_sign SecondGreater Absent = false
 same_sign SecondGreater FirstGreater = false
 
+-- both puzzles have the same width, signs and givens
 abbrev pub same_unequal : UnequalValue → UnequalValue → Bool
 same_unequal p q = p.size == q.size && pointwise same_sign p.signs q.signs && pointwise ◌==◌ p.givens q.givens
 

@@ -1,5 +1,5 @@
 -- The written form of an Unequal puzzle describes it.
-use Rattle.std.proofs.Common.{◌≡◌, ℕ, zero, suc, ◌+◌, ◌*◌, ◌<◌, ◌≤◌, Bool, true, false, List, [], ◌∷◌, ◌++◌, length, get_or, map, Option, Some, None, is_some, refl, sym, ap, ◌∙◌, inl, inr, arith, append-nil, append_assoc}
+use Rattle.std.proofs.Common.{◌≡◌, ℕ, zero, suc, ◌+◌, ◌*◌, ◌<◌, ◌≤◌, Bool, true, false, List, [], ◌∷◌, ◌++◌, length, map, Option, Some, None, is_some, refl, sym, ap, ◌∙◌, inr, arith, append-nil, append_assoc, slice_index, slice_index_or}
 use Rattle.std.specs.List.{flat_map, range_with_len, join_with_byte, Contains}
 use Rattle.std.specs.Option.{option_map_or}
 use Rattle.std.proofs.lemmas.Bool.{false≢true}
@@ -7,12 +7,12 @@ use Rattle.std.proofs.lemmas.List.FromFn.{length-map-range_with_len, get_or-map-
 use Rattle.clue_rules.specs.declared.unequal.direction.Direction.{Direction}
 use Rattle.clue_rules.specs.declared.unequal.direction.Direction.TheVariants.{Up, Right, Down, Left}
 use Rattle.clue_rules.specs.Unequal.{UnequalValue, IsUnequal, IsGreater, is_greater}
-use Rattle.clue_rules.specs.UnequalText.{directions, Piece, Says, IsUnequalText, neighbour, piece_text, directions_at, is_greater_towards, piece_of, unequal_text, forth, back}
-use Rattle.clue_rules.specs.Laws.SignPlaces.{between_sides}
+use Rattle.clue_rules.specs.UnequalText.{directions, Piece, Says, IsUnequalText, neighbour, piece_text, directions_at, is_greater_towards, piece_of, unequal_text}
 use Rattle.clue_rules.specs.Laws.Signs.{greater_found, greater_tested}
 use Rattle.clue_rules.specs.Laws.Letters.{contains_filter, filter_contains, directions_inside}
-use Rattle.clue_rules.specs.Laws.SaidSigns.{towards_inside}
 use Rattle.clue_rules.specs.Laws.GoodPieces.{square_some}
+use Rattle.clue_rules.specs.Laws.SignSides.{way_from, towards, greater_by}
+use Rattle.byte_text.specs.Bytes.{comma}
 
 -- the written form describes
 
@@ -20,14 +20,16 @@ map_twice : {A B C : Type 0} (g : B → C) (f : A → B) (xs : List A) → map g
 map_twice g f [] = refl
 map_twice g f (x ∷ xs) = ap (λ ys. g (f x) ∷ ys) (map_twice g f xs)
 
-commas-join : (f : ℕ → List ℕ) (k : ℕ) (ks : List ℕ) → flat_map (λ i. f i ++ 44 ∷ []) (k ∷ ks) ≡ join_with_byte 44 (map f (k ∷ ks)) ++ 44 ∷ []
-commas-join f k [] = append-nil (f k ++ 44 ∷ [])
+commas-join : (f : ℕ → List ℕ) (k : ℕ) (ks : List ℕ)
+    → flat_map (λ i. f i ++ comma ∷ []) (k ∷ ks) ≡ join_with_byte comma (map f (k ∷ ks)) ++ comma ∷ []
+commas-join f k [] = append-nil (f k ++ comma ∷ [])
 commas-join f k (m ∷ ks) =
-    append_assoc (f k) (44 ∷ []) (flat_map (λ i. f i ++ 44 ∷ []) (m ∷ ks))
-    ∙ ap (λ rest. f k ++ 44 ∷ rest) (commas-join f m ks)
-    ∙ sym (append_assoc (f k) (44 ∷ join_with_byte 44 (map f (m ∷ ks))) (44 ∷ []))
+    append_assoc (f k) (comma ∷ []) (flat_map (λ i. f i ++ comma ∷ []) (m ∷ ks))
+    ∙ ap (λ rest. f k ++ comma ∷ rest) (commas-join f m ks)
+    ∙ sym (append_assoc (f k) (comma ∷ join_with_byte comma (map f (m ∷ ks))) (comma ∷ []))
 
-commas-range : (f : ℕ → List ℕ) (n : ℕ) → 0 < n → flat_map (λ i. f i ++ 44 ∷ []) (range_with_len 0 n) ≡ join_with_byte 44 (map f (range_with_len 0 n)) ++ 44 ∷ []
+commas-range : (f : ℕ → List ℕ) (n : ℕ) → 0 < n
+    → flat_map (λ i. f i ++ comma ∷ []) (range_with_len 0 n) ≡ join_with_byte comma (map f (range_with_len 0 n)) ++ comma ∷ []
 commas-range f zero some = absurd (omega arith)
 commas-range f (suc n) some = commas-join f 0 (range_with_len (0 + 1) n)
 
@@ -45,9 +47,10 @@ some_from_map_or g (Some b) e = refl
 abbrev pub pieces_written : UnequalValue → List Piece
 pieces_written v = map (piece_of v) (range_with_len 0 (v.size * v.size))
 
-written_directions : (v : UnequalValue) (cell : ℕ) → cell < v.size * v.size → directions_at (pieces_written v) cell ≡ (piece_of v cell).greater
+written_directions : (v : UnequalValue) (cell : ℕ) → cell < v.size * v.size
+    → directions_at (pieces_written v) cell ≡ (piece_of v cell).greater
 written_directions v cell inside =
-    ap (λ ds. get_or ds cell []) (map_twice (λ p. p.greater) (piece_of v) (range_with_len 0 (v.size * v.size)))
+    ap (λ ds. slice_index_or ds cell []) (map_twice (λ p. p.greater) (piece_of v) (range_with_len 0 (v.size * v.size)))
     ∙ get_or-map-range_with_len (λ k. (piece_of v k).greater) 0 (v.size * v.size) cell cell [] inside (omega arith)
 
 count_written : (v : UnequalValue) → length (pieces_written v) ≡ v.size * v.size
@@ -55,38 +58,31 @@ count_written v = length-map-range_with_len (piece_of v) 0 (v.size * v.size)
 
 -- a letter is written exactly where the square is the greater one
 
-letter_written : (v : UnequalValue) (a b : ℕ) (d : Direction) → 3 ≤ v.size → a < v.size * v.size → neighbour v.size a d ≡ Some b → IsGreater v a b → Contains (directions_at (pieces_written v) a) d
+letter_written : (v : UnequalValue) (a b : ℕ) (d : Direction) → 3 ≤ v.size → a < v.size * v.size → neighbour v.size a d ≡ Some b
+    → IsGreater v a b → Contains (directions_at (pieces_written v) a) d
 letter_written v a b d small inside points h =
     let test : is_greater_towards v a d ≡ true = rw points (greater_tested v a b small h) in
     rw (written_directions v a inside) (contains_filter (is_greater_towards v a) d directions (all_has d) test)
 
-written_letter : (v : UnequalValue) (a : ℕ) (d : Direction) → Contains (directions_at (pieces_written v) a) d → (a < v.size * v.size) × (is_greater_towards v a d ≡ true)
+written_letter : (v : UnequalValue) (a : ℕ) (d : Direction) → Contains (directions_at (pieces_written v) a) d
+    → (a < v.size * v.size) × (is_greater_towards v a d ≡ true)
 written_letter v a d h =
     let inside : a < v.size * v.size = omega (arith, directions_inside (pieces_written v) a d h, count_written v) in
     (inside, filter_contains (is_greater_towards v a) d directions (rw (written_directions v a inside) at h))
 
 written_says : (v : UnequalValue) (a b : ℕ) → 3 ≤ v.size → IsGreater v a b → Says v.size (pieces_written v) a b
-written_says v a b small h = elim h.says [
-  | inl (between, e) ↦
-      let sides = between_sides v.size h.sign a b small between in
-      record {
-        direction = forth v.size h.sign;
-        letter = letter_written v a b (forth v.size h.sign) small (omega (arith, sides.order, sides.inside)) sides.points h;
-        points = sides.points;
-      }
-  | inr (between, e) ↦
-      let sides = between_sides v.size h.sign b a small between in
-      record {
-        direction = back v.size h.sign;
-        letter = letter_written v a b (back v.size h.sign) small sides.inside sides.points_back h;
-        points = sides.points_back;
-      }
-]
+written_says v a b small h =
+    let by = greater_by v a b small h in
+    record {
+      direction = way_from v.size by.sign by.side;
+      letter = letter_written v a b (way_from v.size by.sign by.side) small by.at.here_inside by.at.points h;
+      points = by.at.points;
+    }
 
 says_written : (v : UnequalValue) (a b : ℕ) → 3 ≤ v.size → Says v.size (pieces_written v) a b → IsGreater v a b
 says_written v a b small h =
     let there = written_letter v a h.direction h.letter in
-    greater_found v a b small there.0 (towards_inside v.size a b h.direction small there.0 h.points) (rw h.points at there.1)
+    greater_found v a b small there.0 (towards v.size a b h.direction small there.0 h.points).at.there_inside (rw h.points at there.1)
 
 pub unequal_canonical : (v : UnequalValue) → IsUnequal v → IsUnequalText v (unequal_text v)
 unequal_canonical v valid =
@@ -97,10 +93,10 @@ unequal_canonical v valid =
       pieces = pieces_written v;
       written = inr (
           commas-range (λ cell. piece_text (piece_of v cell)) n (square_some v.size small)
-          ∙ ap (λ ps. join_with_byte 44 ps ++ 44 ∷ []) (sym (map_twice piece_text (piece_of v) (range_with_len 0 n))));
+          ∙ ap (λ ps. join_with_byte comma ps ++ comma ∷ []) (sym (map_twice piece_text (piece_of v) (range_with_len 0 n))));
       numbers =
           map_twice (λ p. p.number) (piece_of v) (range_with_len 0 n)
-          ∙ sym (fill_by_all (λ cell. get_or v.givens cell 0) v.givens n 0 valid.givens.count (λ k inside. refl));
+          ∙ sym (fill_by_all (λ cell. slice_index v.givens cell) v.givens n 0 valid.givens.count (λ k inside. refl));
       inside = λ cell d h.
           some_from_map_or (is_greater v cell) (neighbour v.size cell d) (written_letter v cell d h).1;
       signs = λ a b. (written_says v a b small, says_written v a b small);

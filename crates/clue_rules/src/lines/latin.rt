@@ -60,25 +60,14 @@ fn strike_changed(candidates: &mut Candidates, changed: &mut ChangedLines) -> bo
 {
     let width = candidates.size().get();
     for line in 0..2 * width {
-        if !strike_if_changed(candidates, line, changed) {
+        if changed.take_latin(line) && !strike_line(candidates, line, changed) {
             return false;
         }
     }
     true
 }
 
-fn strike_if_changed(candidates: &mut Candidates, line: u8, changed: &mut ChangedLines) -> bool
-    requires { line < 2 * candidates.old.size }
-    ensures { Narrows IsSquare NoneStruck candidates.old candidates.new result }
-{
-    // The proof learns here that the width is from 3 to 9.
-    let _size = candidates.size();
-    if !changed.take_latin(line) {
-        return true;
-    }
-    strike_line(candidates, line, changed)
-}
-
+// Takes away what one row or column rules out.
 fn strike_line(candidates: &mut Candidates, line: u8, changed: &mut ChangedLines) -> bool
     requires { line < 2 * candidates.old.size }
     ensures { Narrows IsSquare (IsLineStruck line) candidates.old candidates.new result }

@@ -125,29 +125,11 @@ fn strike_changed_rules<P: LineRules>(
 {
     let width = candidates.size().get();
     for line in 0..2 * width {
-        if !strike_rule_if_changed(p, candidates, line, changed) {
+        if changed.take_rule(line) && !strike_rule(p, candidates, line, changed) {
             return false;
         }
     }
     true
-}
-
-fn strike_rule_if_changed<P: LineRules>(
-    p: &P,
-    candidates: &mut Candidates,
-    line: u8,
-    changed: &mut ChangedLines,
-) -> bool
-    requires size { candidates.old.size ≡ P.width p.now }
-    requires line { line < 2 * candidates.old.size }
-    ensures { Narrows (P.sought p.now) NoneStruck candidates.old candidates.new result }
-{
-    // The proof learns here that the width is from 3 to 9.
-    let _size = candidates.size();
-    if !changed.take_rule(line) {
-        return true;
-    }
-    strike_rule(p, candidates, line, changed)
 }
 
 // Takes away what the rule strikes along a line, and then what rows and columns say of what is left.

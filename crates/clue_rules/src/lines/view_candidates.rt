@@ -45,7 +45,8 @@ pub(crate) fn keep_fewer(
 // Whether the first sets of two rows are the same.
 fn are_same(sets: &[u16; LINE], others: &[u16; LINE], width: usize) -> bool
     requires { width ≤ 9 }
-    ensures { OnTrue result ((k : ℕ) → k < width → slice_index sets.now k ≡ slice_index others.now k) }
+    ensures { OnTrue result
+        ((k : ℕ) → k < width → slice_index sets.now k ≡ slice_index others.now k) }
 {
     for k in 0..width {
         if sets[k] != others[k] {

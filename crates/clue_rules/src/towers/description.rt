@@ -39,7 +39,7 @@ pub(crate) fn read_towers(size: Size, text: &[u8]) -> Result<Towers, IdFault>
 #[tactic(auto, unfolding(crate::specs::TowersText::clues_at))]
 fn read_clues(size: Size, part: &[u8]) -> Result<[u8; PLACES], IdFault>
     ensures value { Gives (λ clues. take (4 * size) clues) result (clues_at size part.now) }
-    ensures filled { IfOk result (IsFilledTo 36 (4 * size)) }
+    ensures filled { IfOk result (IsFilledTo 0 36 (4 * size)) }
 {
     let wanted = 4 * size.get() as usize;
     let count = field_count(part);
@@ -70,7 +70,7 @@ fn fill_clues(size: Size, part: &[u8]) -> Result<[u8; PLACES], IdFault>
     requires { length (fields part.now) ≡ 4 * size }
     ensures value { Gives (λ clues. take (4 * size) clues) result
         (clues_in size (fields part.now)) }
-    ensures filled { IfOk result (IsFilledTo 36 (4 * size)) }
+    ensures filled { IfOk result (IsFilledTo 0 36 (4 * size)) }
 {
     let mut clues = [0; PLACES];
     let mut place = 0;
@@ -150,12 +150,12 @@ fn fill_givens(size: Size, part: &[u8]) -> Result<Grid, IdFault>
 
 // Puts the squares of a byte from `cell` on, and gives the cell behind them; `None` where they don't fit.
 fn put_squares(givens: &mut Grid, cell: usize, byte: u8) -> Option<usize>
-    requires filled { IsFilledTo (givens.old.size * givens.old.size) cell givens.old.numbers }
+    requires filled { IsFilledTo 0 (givens.old.size * givens.old.size) cell givens.old.numbers }
     requires within { All (λ n. n ≤ givens.old.size) (squares_of byte) }
     ensures size { givens.new.size ≡ givens.old.size }
     ensures next { IfSome result (λ next. next ≡ cell + length (squares_of byte)) }
     ensures filled { IfSome result (λ next.
-        IsFilledTo (givens.old.size * givens.old.size) next givens.new.numbers) }
+        IsFilledTo 0 (givens.old.size * givens.old.size) next givens.new.numbers) }
     ensures numbers { IfSome result (λ next.
         take next givens.new.numbers ≡ take cell givens.old.numbers ++ squares_of byte) }
     ensures full { IfNone result

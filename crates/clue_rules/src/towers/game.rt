@@ -11,16 +11,15 @@ use trail_solver::Rules;
 impl Game for Towers {
     ghost use Rattle.clue_rules.specs.Laws.GameIds.{towers_letters_lack};
     ghost use Rattle.std.specs.Prelude.{codes};
-    ghost use Rattle.clue_rules.specs.TowersText.{IsTowersText, towers_text};
-    ghost use Rattle.clue_rules.specs.TowersText.{towers_at};
-    ghost use Rattle.clue_rules.specs.Laws.TowersGame as laws;
+    ghost use Rattle.clue_rules.specs.TowersText.{IsTowersText, towers_text, towers_at};
+    ghost use Rattle.clue_rules.specs.Laws.TowersText.{towers_taken, towers_again, towers_canonical};
     ghost use Rattle.clue_rules.specs.Laws.SparedMemory.{towers_spares};
 
     ghost title = { codes "Towers" };
 
     ghost letter_codes = { codes "ehxu" };
 
-    ghost describes = { λ text p. IsTowersText p.size p text };
+    ghost describes = { λ text p. IsTowersText p text };
 
     ghost desc_at = { towers_at };
 
@@ -56,11 +55,11 @@ impl Game for Towers {
 
     ghost plain_letters = { towers_letters_lack };
 
-    ghost desc_taken = { λ w text p large small read. laws.desc_taken w text p large small read };
+    ghost desc_taken = { towers_taken };
 
     ghost desc_spares = { towers_spares };
 
-    ghost desc_again = { λ text p valid text_is. laws.desc_again text p text_is };
+    ghost desc_again = { λ text p valid described. towers_again text p described };
 
-    ghost desc_canonical = { λ p valid. laws.desc_canonical p valid };
+    ghost desc_canonical = { towers_canonical };
 }

@@ -11,7 +11,8 @@ ghost use Rattle.trail_solver.specs.Puzzles.{Solves};
 ghost use Rattle.clue_rules.specs.Inner.Narrowing.{IsSquare, Narrows};
 ghost use Rattle.clue_rules.specs.Towers.{towers_puzzle};
 ghost use Rattle.clue_rules.specs.Struck.{IsViewStruck};
-ghost use Rattle.clue_rules.specs.Inner.TowersLines.{IsEndStruck, IsClueStruck, ShowsClue, HoldValuesTo, AreSupported};
+ghost use Rattle.clue_rules.specs.Inner.TowersLines.{IsStruckAlong, IsStruckAt, ShowsClue, AreSupported};
+ghost use Rattle.clue_rules.specs.Inner.LineTallies.{HoldValuesTo};
 ghost use Rattle.clue_rules.specs.Views.{view_of};
 ghost use Rattle.clue_rules.specs.Towers.{clue_of};
 
@@ -27,13 +28,13 @@ use trail_solver::Candidates;
 impl LineRules for Towers {
     ghost use Rattle.trail_solver.specs.Puzzles.{Solves};
     ghost use Rattle.clue_rules.specs.Towers.{towers_puzzle};
-    ghost use Rattle.clue_rules.specs.Inner.TowersLines.{IsEndStruck, IsClueStruck, ShowsClue, HoldValuesTo, AreSupported};
+    ghost use Rattle.clue_rules.specs.Inner.TowersLines.{IsStruckAlong, IsStruckAt, ShowsClue, AreSupported};
 
     ghost width = { λ v. v.size };
 
     ghost sought = { λ v g. Solves (towers_puzzle v) g };
 
-    ghost rules_out = { IsEndStruck };
+    ghost rules_out = { IsStruckAlong };
 
     fn strike_along(
         &self,
@@ -63,7 +64,7 @@ impl Towers {
         requires size { candidates.old.size ≡ self.now.size }
         requires place { place < 4 * candidates.old.size }
         requires line { line < 2 * candidates.old.size }
-        ensures { Narrows (Solves (towers_puzzle self.now)) (IsClueStruck self.now place)
+        ensures { Narrows (Solves (towers_puzzle self.now)) (IsStruckAt self.now place)
             candidates.old candidates.new result }
     {
         // The proof learns here that the width is from 3 to 9.
@@ -85,7 +86,7 @@ impl Towers {
     ) -> bool
         requires size { candidates.old.size ≡ self.now.size }
         requires place { place < 4 * candidates.old.size }
-        ensures { Narrows (Solves (towers_puzzle self.now)) (IsClueStruck self.now place)
+        ensures { Narrows (Solves (towers_puzzle self.now)) (IsStruckAt self.now place)
             candidates.old candidates.new result }
     {
         let clue = self.clue(place);
@@ -117,7 +118,7 @@ fn narrow_view(candidates: &mut Candidates, place: u8, clue: u8, changed: &mut C
 fn shows_alone(sets: &[u16; LINE], width: usize, clue: u8) -> bool
     requires width { width ≤ 9 }
     requires values { HoldValuesTo width sets.now }
-    ensures { OnTrue result (AreSupported width clue sets.now) }
+    ensures { OnTrue result (AreSupported width clue sets.now sets.now) }
 {
     let mut line = [0; LINE];
     let mut used = 0;

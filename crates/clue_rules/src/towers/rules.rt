@@ -8,8 +8,8 @@ ghost use Rattle.clue_rules.specs.Views.{view_of};
 ghost use Rattle.trail_solver.specs.Candidates.{IsEarlier, IsWithin, may_be};
 ghost use Rattle.trail_solver.specs.Pairs.{IsPair};
 ghost use Rattle.trail_solver.specs.Puzzles.{Solves};
-ghost use Rattle.clue_rules.specs.Towers.{TowersValue, IsTowers};
-ghost use Rattle.clue_rules.specs.Towers.{clue_of, meets_clue, meets_clues, HoldsClues};
+ghost use Rattle.clue_rules.specs.Towers.{TowersValue, IsTowers, given_grid};
+ghost use Rattle.clue_rules.specs.Towers.{clue_of, holds_clue, holds_clues, HoldsClues};
 ghost use Rattle.clue_rules.specs.Struck.{IsTowersStruck, KeepsSolutions, HasNoSolutionWithin, NoneLeft};
 ghost use Rattle.clue_rules.specs.Towers.{towers_puzzle, towers_items, has_towers, cut_towers, full_towers};
 
@@ -49,27 +49,27 @@ impl Towers {
     }
 
     fn givens(&self) -> &Grid
-        ensures { result.now ≡ record { size = self.now.size; numbers = self.now.givens } }
+        ensures { result.now ≡ given_grid self.now }
     {
         &self.givens
     }
 
     // Whether as many towers are seen from a place as its clue says.
-    fn meets_clue(&self, grid: &Grid, place: u8) -> bool
+    fn holds_clue(&self, grid: &Grid, place: u8) -> bool
         requires size { grid.now.size ≡ self.now.size }
         requires inside { place < 4 * self.now.size }
-        ensures { result ≡ meets_clue self.now grid.now place }
+        ensures { result ≡ holds_clue self.now grid.now place }
     {
         let clue = self.clue(place);
         clue == 0 || seen_from(grid, place) == clue
     }
 
-    fn meets_clues(&self, grid: &Grid) -> bool
+    fn holds_clues(&self, grid: &Grid) -> bool
         requires { grid.now.size ≡ self.now.size }
-        ensures { result ≡ meets_clues self.now grid.now }
+        ensures { result ≡ holds_clues self.now grid.now }
     {
         let width = self.givens.size().get();
-        (0..4 * width).all(|place| self.meets_clue(grid, place))
+        (0..4 * width).all(|place| self.holds_clue(grid, place))
     }
 }
 
@@ -102,11 +102,11 @@ impl Rules for Towers {
     fn holds(&self, grid: &Grid) -> bool
         requires size { grid.now.size ≡ self.now.size }
         requires full { IsFull grid.now }
-        ensures value { result ≡ meets_clues self.now grid.now }
+        ensures value { result ≡ holds_clues self.now grid.now }
         // It is the rule: from each clued place as many towers are seen as the clue says.
         ensures rule { IsTrue result ↔ HoldsClues self.now grid.now }
     {
-        self.meets_clues(grid)
+        self.holds_clues(grid)
     }
 
     /// Where it answers true, no pair is left that rows and columns or a clue rule out by the candidates that were given.
@@ -114,7 +114,8 @@ impl Rules for Towers {
         requires { candidates.old.size ≡ self.now.size }
         ensures less { IsEarlier candidates.old candidates.new }
         ensures keeps { KeepsSolutions (towers_puzzle self.now) candidates.old candidates.new }
-        ensures refutes { OnFalse result (HasNoSolutionWithin (towers_puzzle self.now) candidates.old) }
+        ensures refutes { OnFalse result
+            (HasNoSolutionWithin (towers_puzzle self.now) candidates.old) }
         ensures struck { OnTrue result
             (NoneLeft (IsTowersStruck self.now) candidates.old candidates.new) }
     {

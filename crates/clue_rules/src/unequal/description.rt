@@ -9,7 +9,7 @@ ghost use Rattle.clue_rules.specs.Unequal.{UnequalValue, sign_count};
 ghost use Rattle.clue_rules.specs.Inner.UnequalFields.{HoldsPlaces};
 ghost use Rattle.clue_rules.specs.UnequalText.{IsUnequalText, letter_of, is_greater_towards, piece_written, unequal_text};
 ghost use Rattle.clue_rules.specs.Inner.UnequalPieces.{texts_of, sign_in};
-ghost use Rattle.clue_rules.specs.UnequalText.{has_number, givens_grid, has_letters, points_inside, piece_at, contradicts, puzzle_in, puzzle_at, unequal_at};
+ghost use Rattle.clue_rules.specs.UnequalText.{has_number, grid_in, has_letters, points_inside, piece_at, contradicts, puzzle_in, puzzle_at, unequal_at};
 
 use super::direction::Direction;
 use super::pieces::{has_letters, number_in, pieces_of, points_inside, says};
@@ -59,7 +59,7 @@ fn puzzle_in(size: Size, pieces: &[&[u8]]) -> Result<Unequal, IdFault>
 fn givens_in(size: Size, pieces: &[&[u8]]) -> Option<Grid>
     requires { length pieces.now ≡ size * size }
     ensures { result ≡ (if list_all (has_number size) (texts_of pieces.now)
-        then Some (givens_grid size (texts_of pieces.now)) else None) }
+        then Some (grid_in size (texts_of pieces.now)) else None) }
 {
     let mut givens = Grid::blank(size);
     for (cell, piece) in pieces.iter().enumerate() {

@@ -10,9 +10,8 @@ use std::alloc::Global;
 impl Game for Unequal {
     ghost use Rattle.clue_rules.specs.Laws.GameIds.{unequal_letters_lack};
     ghost use Rattle.std.specs.Prelude.{codes};
-    ghost use Rattle.clue_rules.specs.UnequalText.{IsUnequalText, unequal_text};
-    ghost use Rattle.clue_rules.specs.UnequalText.{unequal_at};
-    ghost use Rattle.clue_rules.specs.Laws.UnequalText.{desc_taken as taken, unequal_again};
+    ghost use Rattle.clue_rules.specs.UnequalText.{IsUnequalText, unequal_text, unequal_at};
+    ghost use Rattle.clue_rules.specs.Laws.UnequalText.{unequal_taken, unequal_again};
     ghost use Rattle.clue_rules.specs.Laws.UnequalWritten.{unequal_canonical};
     ghost use Rattle.clue_rules.specs.Laws.SparedMemory.{unequal_spares};
 
@@ -54,7 +53,7 @@ impl Game for Unequal {
 
     ghost plain_letters = { unequal_letters_lack };
 
-    ghost desc_taken = { taken };
+    ghost desc_taken = { unequal_taken };
 
     ghost desc_spares = { unequal_spares };
 

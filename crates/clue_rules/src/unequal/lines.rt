@@ -6,8 +6,8 @@ ghost use Rattle.trail_solver.specs.Puzzles.{Solves};
 ghost use Rattle.clue_rules.specs.declared.unequal.sign.Sign.TheVariants.{Absent};
 ghost use Rattle.clue_rules.specs.Inner.Narrowing.{IsSquare, Narrows};
 ghost use Rattle.clue_rules.specs.Unequal.{sign_at, sign_count};
-ghost use Rattle.clue_rules.specs.Unequal.{puzzle_of};
-ghost use Rattle.clue_rules.specs.Inner.UnequalLines.{AreEnds, IsLowerStruck, IsUpperStruck, IsEndStruckBy, IsStruckAt, IsStruckAlong, line_sign, HoldsGreater};
+ghost use Rattle.clue_rules.specs.Unequal.{unequal_puzzle};
+ghost use Rattle.clue_rules.specs.Inner.UnequalLines.{AreEnds, IsStruckAt, IsStruckAlong, line_sign};
 
 use crate::lines::changed::ChangedLines;
 use crate::lines::narrowing::LineRules;
@@ -20,12 +20,12 @@ use trail_solver::Candidates;
 
 impl LineRules for Unequal {
     ghost use Rattle.trail_solver.specs.Puzzles.{Solves};
-    ghost use Rattle.clue_rules.specs.Unequal.{puzzle_of};
+    ghost use Rattle.clue_rules.specs.Unequal.{unequal_puzzle};
     ghost use Rattle.clue_rules.specs.Inner.UnequalLines.{IsStruckAlong};
 
     ghost width = { λ v. v.size };
 
-    ghost sought = { λ v g. Solves (puzzle_of v) g };
+    ghost sought = { λ v g. Solves (unequal_puzzle v) g };
 
     ghost rules_out = { IsStruckAlong };
 
@@ -57,28 +57,33 @@ impl Unequal {
     ) -> bool
         requires size { candidates.old.size ≡ self.now.size }
         requires sign { sign < sign_count self.now.size }
-        ensures { Narrows (Solves (puzzle_of self.now)) (IsStruckAt self.now sign)
+        ensures { Narrows (Solves (unequal_puzzle self.now)) (IsStruckAt self.now sign)
             candidates.old candidates.new result }
     {
         // The proof learns here that the width is from 3 to 9.
         let _size = candidates.size();
-        let Some((upper, lower)) = self.ends(sign) else {
-            return true;
-        };
-        strike_ends(candidates, upper, lower, changed)
+        match self.ends(sign) {
+            Some(ends) => ends.strike(candidates, changed),
+            None => true,
+        }
     }
 
-    // The squares on both sides of a sign, the one that holds the greater number first, or none where there is no sign.
-    fn ends(&self, sign: usize) -> Option<(usize, usize)>
+    // The squares on both sides of a sign, or none where there is no sign.
+    fn ends(&self, sign: usize) -> Option<Ends>
         requires { sign < sign_count self.now.size }
-        ensures { MatchOption result (sign_at self.now sign ≡ Absent)
-            (λ ends. AreEnds self.now sign ends.0 ends.1) }
+        ensures { MatchOption result (sign_at self.now sign ≡ Absent) (AreEnds self.now sign) }
     {
         let (first, second) = squares(self.givens.size(), sign);
         match self.signs[sign] {
             Sign::Absent => None,
-            Sign::FirstGreater => Some((first, second)),
-            Sign::SecondGreater => Some((second, first)),
+            Sign::FirstGreater => Some(Ends {
+                greater: first,
+                lesser: second,
+            }),
+            Sign::SecondGreater => Some(Ends {
+                greater: second,
+                lesser: first,
+            }),
         }
     }
 }
@@ -99,52 +104,44 @@ fn line_sign(size: Size, line: u8, k: usize) -> usize
     }
 }
 
-// Takes away what doesn't let the one square hold a greater number than the other.
-fn strike_ends(
-    candidates: &mut Candidates,
-    upper: usize,
-    lower: usize,
-    changed: &mut ChangedLines,
-) -> bool
-    requires upper { upper < candidates.old.size * candidates.old.size }
-    requires lower { lower < candidates.old.size * candidates.old.size }
-    ensures { Narrows (HoldsGreater upper lower) (IsEndStruckBy upper lower)
-        candidates.old candidates.new result }
-{
-    strike_lower(candidates, upper, lower, changed)
-        && strike_upper(candidates, upper, lower, changed)
+// The squares on both sides of a sign: the one that holds the greater number, and the other.
+#[derive(Clone, Copy)]
+struct Ends {
+    greater: usize,
+    lesser: usize,
 }
 
-// Keeps in the lower square what is below some candidate of the upper one.
-fn strike_lower(
-    candidates: &mut Candidates,
-    upper: usize,
-    lower: usize,
-    changed: &mut ChangedLines,
-) -> bool
-    requires upper { upper < candidates.old.size * candidates.old.size }
-    requires lower { lower < candidates.old.size * candidates.old.size }
-    ensures { Narrows (HoldsGreater upper lower) (IsLowerStruck upper lower)
-        candidates.old candidates.new result }
-{
-    let kept = below_greatest(candidates.values(upper));
-    keep_of(candidates, lower, kept, changed)
-}
+impl Ends {
+    ghost use Rattle.clue_rules.specs.Inner.UnequalLines.{AreInside, IsLesserStruck, IsGreaterStruck, IsEndStruck, HoldsGreater};
 
-// Keeps in the upper square what is above some candidate of the lower one.
-fn strike_upper(
-    candidates: &mut Candidates,
-    upper: usize,
-    lower: usize,
-    changed: &mut ChangedLines,
-) -> bool
-    requires upper { upper < candidates.old.size * candidates.old.size }
-    requires lower { lower < candidates.old.size * candidates.old.size }
-    ensures { Narrows (HoldsGreater upper lower) (IsUpperStruck upper lower)
-        candidates.old candidates.new result }
-{
-    // The proof learns here that the width is from 3 to 9.
-    let _size = candidates.size();
-    let kept = above_least(candidates.values(lower));
-    keep_of(candidates, upper, kept, changed)
+    // Takes away what doesn't let the greater end hold the greater number.
+    fn strike(self, candidates: &mut Candidates, changed: &mut ChangedLines) -> bool
+        requires { AreInside candidates.old.size self }
+        ensures { Narrows (HoldsGreater self) (IsEndStruck self)
+            candidates.old candidates.new result }
+    {
+        self.strike_lesser(candidates, changed) && self.strike_greater(candidates, changed)
+    }
+
+    // Keeps in the lesser end what is below some candidate of the greater one.
+    fn strike_lesser(self, candidates: &mut Candidates, changed: &mut ChangedLines) -> bool
+        requires { AreInside candidates.old.size self }
+        ensures { Narrows (HoldsGreater self) (IsLesserStruck self)
+            candidates.old candidates.new result }
+    {
+        let kept = below_greatest(candidates.values(self.greater));
+        keep_of(candidates, self.lesser, kept, changed)
+    }
+
+    // Keeps in the greater end what is above some candidate of the lesser one.
+    fn strike_greater(self, candidates: &mut Candidates, changed: &mut ChangedLines) -> bool
+        requires { AreInside candidates.old.size self }
+        ensures { Narrows (HoldsGreater self) (IsGreaterStruck self)
+            candidates.old candidates.new result }
+    {
+        // The proof learns here that the width is from 3 to 9.
+        let _size = candidates.size();
+        let kept = above_least(candidates.values(self.lesser));
+        keep_of(candidates, self.greater, kept, changed)
+    }
 }

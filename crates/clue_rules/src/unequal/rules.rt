@@ -8,7 +8,7 @@ ghost use Rattle.trail_solver.specs.Pairs.{IsPair};
 ghost use Rattle.trail_solver.specs.Candidates.{IsEarlier, IsWithin, may_be};
 ghost use Rattle.trail_solver.specs.Puzzles.{Solves};
 ghost use Rattle.clue_rules.specs.Unequal.{IsUnequal, given_grid, IsGreater, AreNeighbours, is_greater, holds_signs, HoldsSigns, holds_sign_at, sign_count, sign_at, sign_of_pair, first_side, second_side};
-ghost use Rattle.clue_rules.specs.Unequal.{puzzle_of, full_unequal};
+ghost use Rattle.clue_rules.specs.Unequal.{unequal_puzzle, full_unequal};
 ghost use Rattle.clue_rules.specs.Inner.UnequalFields.{HoldsPlaces};
 ghost use Rattle.clue_rules.specs.Struck.{IsUnequalStruck, KeepsSolutions, HasNoSolutionWithin, NoneLeft};
 ghost use Rattle.clue_rules.specs.Laws.UnequalSameness.{same_unequal, same_unequal_decides};
@@ -21,7 +21,7 @@ use latin_board::{Grid, Size};
 use trail_solver::{Candidates, Rules};
 
 impl Unequal {
-    fn holds_every_sign(&self, grid: &Grid) -> bool
+    fn holds_signs(&self, grid: &Grid) -> bool
         requires { grid.now.size ≡ self.now.size }
         ensures value { result ≡ holds_signs self.now grid.now }
         ensures valid { IsUnequal self.now }
@@ -63,10 +63,10 @@ fn signs_of(grid: &Grid) -> [Sign; SIGNS]
 impl Rules for Unequal {
     ghost use Rattle.std.specs.Prelude.{refl};
     ghost use Rattle.clue_rules.specs.Unequal.{IsUnequal};
-    ghost use Rattle.clue_rules.specs.Unequal.{puzzle_of, unequal_items, has_unequal, cut_unequal, full_unequal};
+    ghost use Rattle.clue_rules.specs.Unequal.{unequal_puzzle, unequal_items, has_unequal, cut_unequal, full_unequal};
     ghost use Rattle.clue_rules.specs.Laws.UnequalItems as laws;
 
-    ghost puzzle = { puzzle_of };
+    ghost puzzle = { unequal_puzzle };
 
     ghost valid = { IsUnequal };
 
@@ -93,15 +93,16 @@ impl Rules for Unequal {
         // That is the rule: wherever a sign says which of two neighbours is the greater, the grid's number there is.
         ensures rule { IsTrue result ↔ HoldsSigns self.now grid.now }
     {
-        self.holds_every_sign(grid)
+        self.holds_signs(grid)
     }
 
     /// Where it answers true, no pair is left that rows and columns or a sign rule out by the candidates that were given.
     fn narrow(&self, candidates: &mut Candidates) -> bool
         requires { candidates.old.size ≡ self.now.size }
         ensures less { IsEarlier candidates.old candidates.new }
-        ensures keeps { KeepsSolutions (puzzle_of self.now) candidates.old candidates.new }
-        ensures refutes { OnFalse result (HasNoSolutionWithin (puzzle_of self.now) candidates.old) }
+        ensures keeps { KeepsSolutions (unequal_puzzle self.now) candidates.old candidates.new }
+        ensures refutes { OnFalse result
+            (HasNoSolutionWithin (unequal_puzzle self.now) candidates.old) }
         ensures struck { OnTrue result
             (NoneLeft (IsUnequalStruck self.now) candidates.old candidates.new) }
     {

@@ -13,13 +13,20 @@ pub returns-clause-found : goal.returns-clause-found
 returns-clause-found g c =
     let game = g.P.Game in
     let rules = g.P.Rules in
-    id_found g.row.P.Denot game.letter_codes (has_adjacent game.title) game.desc_at (describes_at rules.puzzle rules.valid game.describes) c.args.text.now c.parse_id.result (game_reads g.row.P.Denot rules.puzzle rules.valid game.describes game.desc_at g.met.P.Game.desc_taken g.met.P.Game.desc_again) c.parse_id.ensures
+    id_found g.row.P.Denot game.letter_codes (has_adjacent game.title) game.desc_at
+    (describes_at rules.puzzle rules.valid game.describes) c.args.text.now c.parse_id.result
+    (game_reads g.row.P.Denot rules.puzzle rules.valid game.describes game.desc_at g.met.P.Game.desc_taken g.met.P.Game.desc_again)
+    c.parse_id.ensures
 
 pub returns-clause-only : goal.returns-clause-only
 returns-clause-only g c = λ id text.
     let game = g.P.Game in
     let rules = g.P.Rules in
-    c.parse_id.ensures ∙ id_again g.row.P.Denot game.letter_codes (has_adjacent game.title) game.desc_at (describes_at rules.puzzle rules.valid game.describes) c.args.text.now id g.met.P.Game.plain_letters (game_reads g.row.P.Denot rules.puzzle rules.valid game.describes game.desc_at g.met.P.Game.desc_taken g.met.P.Game.desc_again) text
+    c.parse_id.ensures
+    ∙ id_again g.row.P.Denot game.letter_codes (has_adjacent game.title) game.desc_at
+    (describes_at rules.puzzle rules.valid game.describes) c.args.text.now id g.met.P.Game.plain_letters
+    (game_reads g.row.P.Denot rules.puzzle rules.valid game.describes game.desc_at g.met.P.Game.desc_taken g.met.P.Game.desc_again)
+    text
 
 pub returns-clause-without_memory : goal.returns-clause-without_memory
 returns-clause-without_memory g c =

@@ -11,7 +11,8 @@ returns-in_default c =
 
 pub returns : goal.returns
 returns c =
-    line_narrows c.args.candidates.now c.keep_fewer.new.candidates c.args.line c.front_place-place.result c.view_sets-sets.result c.kept_along-kept.result c.in-Some.tally c.keep_fewer.result
+    line_narrows c.args.candidates.now c.keep_fewer.new.candidates c.args.line c.front_place-place.result
+    c.view_sets-sets.result c.kept_along-kept.result c.in-Some.tally c.keep_fewer.result
     (record { line_is = c.requires; cells = rw c.size-size.ensures.value at c.front_place-place.ensures.cells })
     c.view_sets-sets.ensures
     (rw (c.get-width.ensures.value ∙ c.size-size.ensures.value) at c.in-Some.ensures)

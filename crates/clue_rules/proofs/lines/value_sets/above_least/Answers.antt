@@ -10,4 +10,5 @@ returns c = λ v low.
     let small : k < 16 = trailing_low c.args.set c.if-set-eq0.false c.ranges.set.fits in
     let rest = rw (one_shl k 16 small) at c.without.ensures in
     let kept = rw (one_shl k 16 small) at c.without-2.ensures in
-    above_bottom c.args.set 65535 c.without.result c.without-2.result k v c.if-set-eq0.false c.ranges.set.fits refl low (mark-every v low) (rest v) (kept v)
+    above_bottom c.args.set 65535 c.without.result c.without-2.result k v c.if-set-eq0.false c.ranges.set.fits refl low
+    (mark-every v low) (rest v) (kept v)

@@ -9,7 +9,8 @@ pub push_clue-requires-in-loop-clue : goal.push_clue-requires-in-loop-clue
 push_clue-requires-in-loop-clue c =
     let parts : c.args.clues.now ≡ c.in-Some.first.now ∷ c.in-Some.others.now = c.in-Some.ensures.cases.0 in
     let all = subst (All (λ n. n ≤ 9)) parts c.requires in
-    All-get_or (λ n. n ≤ 9) c.in-Some.others.now c.loop-clue.clue-index 0 (omega arith) (All-tail (λ n. n ≤ 9) c.in-Some.first.now c.in-Some.others.now all)
+    All-get_or (λ n. n ≤ 9) c.in-Some.others.now c.loop-clue.clue-index 0 (omega arith)
+    (All-tail (λ n. n ≤ 9) c.in-Some.first.now c.in-Some.others.now all)
 
 pub returns : goal.returns
 returns c =

@@ -15,4 +15,5 @@ invariant_of-result c =
       | in-Some+in_ok-givens-in-Some w ↦ ap size_of w.givens-is ∙ w.in_ok-givens-in-Some.ensures.size
       | in-None w ↦ ap size_of (w.givens-is ∙ w.blank-givens.ensures)
     ] in
-    towers_kept c.args.size c.cut.result.0.now c.in_ok-clues.clues c.match-square_part.givens size c.in_ok-clues.ensures.filled c.in_ok-clues.ensures.value
+    towers_kept c.args.size c.cut.result.0.now c.in_ok-clues.clues c.match-square_part.givens size c.in_ok-clues.ensures.filled
+    c.in_ok-clues.ensures.value

@@ -1,15 +1,16 @@
 use Rattle.std.proofs.Common.{◌≡◌, ◌∙◌, ap, sym, take, arith}
 use Rattle.latin_board.specs.Squares.{number_at}
 use Rattle.tower_lines.specs.TowersSeen.{seen}
-use Rattle.clue_rules.proofs.ViewLines.{written_more, numbers_from, view_of-numbers}
+use Rattle.clue_rules.proofs.ViewLines.{numbers_from, view_of-numbers}
+use Rattle.clue_rules.proofs.FilledLemmas.{filled_more}
 use Rattle.clue_rules.proofs.towers.rules.seen_from.Goals as goal
 
 pub loop-k-preserved : goal.loop-k-preserved
 loop-k-preserved c =
     let g = c.args.grid.now in
     let at : c.get.result ≡ number_at g c.view_cell.result = c.get.ensures.value in
-    written_more g c.args.place c.loop-k.k c.get.result c.loop-k.line c.loop-k.invariant (omega arith)
-    (at ∙ ap (number_at g) (rw c.size-size.ensures.value at c.view_cell.ensures.value))
+    filled_more _ _ _ c.loop-k.k c.loop-k.line c.get.result (omega arith)
+    (at ∙ ap (number_at g) (rw c.size-size.ensures.value at c.view_cell.ensures.value)) c.loop-k.invariant
 
 pub returns-clause-value : goal.returns-clause-value
 returns-clause-value c =

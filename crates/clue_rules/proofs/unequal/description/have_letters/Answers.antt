@@ -10,5 +10,6 @@ pub returns : goal.returns
 returns c =
     let pieces = c.args.pieces.now in
     let each : c.all.result ≡ list_all (λ p. has_letters p.now) pieces =
-    all_from_yields_List (λ p. has_letters p.now) _ _ c.all.result c.all.ensures.ran (YieldsList-from_slice pieces cc) (λ x b q k. search (rules, tests)) in
+    all_from_yields_List (λ p. has_letters p.now) _ _ c.all.result c.all.ensures.ran (YieldsList-from_slice pieces cc)
+    (λ x b q k. search (rules, tests)) in
     each ∙ sym (list_all-map has_letters (λ p. p.now) pieces)

@@ -15,7 +15,8 @@ returns-then-len-wanted c =
 
 pub loop-rest-smaller : goal.loop-rest-smaller
 loop-rest-smaller c =
-    pieces_shorter (text_left c.loop-rest.rest) (text_left c.cut.result.1) c.in-Some.bytes.now (ap text_left c.in-Some.is) c.cut.ensures.rest
+    pieces_shorter (text_left c.loop-rest.rest) (text_left c.cut.result.1) c.in-Some.bytes.now (ap text_left c.in-Some.is)
+    c.cut.ensures.rest
 
 pub loop-rest-preserved : goal.loop-rest-preserved
 loop-rest-preserved c = record {

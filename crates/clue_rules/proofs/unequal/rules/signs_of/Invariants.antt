@@ -1,9 +1,11 @@
 use Rattle.latin_board.specs.Squares.{number_at}
-use Rattle.clue_rules.specs.Unequal.{sign_count, first_side, second_side}
+use Rattle.clue_rules.specs.Unequal.{first_side, second_side}
 use Rattle.clue_rules.specs.Unequal.{sign_of}
-use Rattle.clue_rules.proofs.UnequalTable.{IsFilled}
+use Rattle.clue_rules.proofs.FilledLemmas.{IsFilledBy}
+use Rattle.clue_rules.specs.declared.unequal.sign.Sign.TheVariants.{Absent}
 use Rattle.clue_rules.proofs.unequal.rules.signs_of.Given as goal
 
 abbrev pub invariant-loop-sign : goal.invariant-loop-sign
 invariant-loop-sign l =
-    IsFilled (sign_count l.grid.size) (λ i. sign_of (number_at l.grid (first_side l.grid.size i)) (number_at l.grid (second_side l.grid.size i))) l.sign l.signs
+    IsFilledBy Absent 144
+    (λ i. sign_of (number_at l.grid (first_side l.grid.size i)) (number_at l.grid (second_side l.grid.size i))) l.sign l.signs

@@ -21,4 +21,5 @@ returns c =
       | then-is_single w ↦ rw w.single-is (singles_alone c.args.set w.if-is_single.ensures.0 w.if-is_single.ensures.1)
       | else-is_single w ↦ rw w.single-is (singles_none c.args.set w.if-is_single.ensures)
     ] in
-    counted_more c.args.self _ c.args.set c.if-is_single.single s c.if-set-eq0.false c.ranges.set.fits c.if-self-single-ne0.false refl refl refl
+    counted_more c.args.self _ c.args.set c.if-is_single.single s c.if-set-eq0.false c.ranges.set.fits
+    c.if-self-single-ne0.false refl refl refl

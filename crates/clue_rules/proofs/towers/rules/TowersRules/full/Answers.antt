@@ -1,14 +1,15 @@
 use Rattle.std.proofs.Common.{◌≡◌, ◌*◌, arith}
-use Rattle.clue_rules.proofs.TowersFull.{no_clues, one_clue_more, full_kept}
+use Rattle.clue_rules.proofs.FilledLemmas.{filled_none, filled_more}
+use Rattle.clue_rules.proofs.TowersTables.{full_kept}
 use Rattle.clue_rules.proofs.towers.rules.TowersRules.full.Goals as goal
 
 pub loop-place-init : goal.loop-place-init
-loop-place-init c = no_clues c.args.grid.now
+loop-place-init c = filled_none _ _ _
 
 pub loop-place-preserved : goal.loop-place-preserved
 loop-place-preserved c =
-    one_clue_more c.args.grid.now c.loop-place.place c.seen_from.result c.loop-place.clues c.loop-place.invariant
-    (omega arith) (omega arith) c.seen_from.ensures.value
+    filled_more _ _ _ c.loop-place.place c.loop-place.clues c.seen_from.result (omega arith) c.seen_from.ensures.value
+    c.loop-place.invariant
 
 pub invariant_of-result : goal.invariant_of-result
 invariant_of-result c =

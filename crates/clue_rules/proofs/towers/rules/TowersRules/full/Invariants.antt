@@ -1,4 +1,4 @@
-use Rattle.clue_rules.proofs.TowersFull.{HasClues}
+use Rattle.clue_rules.proofs.TowersTables.{HasClues}
 use Rattle.clue_rules.proofs.towers.rules.TowersRules.full.Given as goal
 
 abbrev pub invariant-loop-place : goal.invariant-loop-place

@@ -1,0 +1,13 @@
+-- What holds at each of the four edges holds of what a place's own edge gives.
+use Rattle.std.proofs.Common.{ℕ, ◌*◌, ◌<◌, ◌≤◌, nat_lt}
+use Rattle.std.proofs.lemmas.Bool.{cond_both, ltb-true, ltb-false}
+use Rattle.clue_rules.specs.Views.{by_edge}
+
+pub edge_cases : {A : Type 0} (P : A → Type 0) (w place : ℕ) (upper lower left right : A)
+    → (place < w → P upper) → (w ≤ place → place < 2 * w → P lower)
+    → (2 * w ≤ place → place < 3 * w → P left) → (3 * w ≤ place → P right) → P (by_edge w place upper lower left right)
+edge_cases P w place upper lower left right at_upper at_lower at_left at_right =
+    cond_both (nat_lt place w) upper _ P (λ e. at_upper (ltb-true place w e)) (λ e.
+    cond_both (nat_lt place (2 * w)) lower _ P (λ f. at_lower (ltb-false place w e) (ltb-true place (2 * w) f)) (λ f.
+    cond_both (nat_lt place (3 * w)) left right P (λ g. at_left (ltb-false place (2 * w) f) (ltb-true place (3 * w) g))
+    (λ g. at_right (ltb-false place (3 * w) g))))
