@@ -23,7 +23,7 @@ use Rattle.play_midend.proofs.Linking.{linked_new}
 use Rattle.play_midend.proofs.Viewing.{viewed, past_viewed, shown_viewed}
 
 -- which refusals are none
-or_none : (a b : Option PlayFault) → option_or a b ≡ None → (a ≡ None) × (b ≡ None)
+pub or_none : (a b : Option PlayFault) → option_or a b ≡ None → (a ≡ None) × (b ≡ None)
 or_none None b h = (refl, h)
 or_none (Some x) b h = cc
 
@@ -32,7 +32,9 @@ pub played_allowed : {P : Type 0} (p : Puzzle) (h : History P) (m : Move) → re
 played_allowed p h m allowed = ap (λ o. unless_refused o (with_move h m)) allowed
 
 -- the refusal at a state, over the fields of a session
-pub refusal_viewed : {P : Type 0} (p : Puzzle) (puzzle : P) (params next_params : Params) (extras : Extras) (records : List Record) (n : ℕ) (board : BoardValue) (m : Move) → AreLinked p records n board → refusal_in p (viewed puzzle params next_params extras (moves_of records) n) m ≡ option_or (first_state_refusal (n + 1) m) (option_or (refusal_of p board m) (full_refusal (n + 1)))
+pub refusal_viewed : {P : Type 0} (p : Puzzle) (puzzle : P) (params next_params : Params) (extras : Extras) (records : List Record) (n : ℕ) (board : BoardValue) (m : Move)
+    → AreLinked p records n board
+    → refusal_in p (viewed puzzle params next_params extras (moves_of records) n) m ≡ option_or (first_state_refusal (n + 1) m) (option_or (refusal_of p board m) (full_refusal (n + 1)))
 refusal_viewed p puzzle params next_params extras records n board m h =
     ap (λ (b : BoardValue). option_or (first_state_refusal (n + 1) m) (option_or (refusal_of p b m) (full_refusal (n + 1))))
     (shown_viewed p puzzle params next_params extras records n board h)
@@ -43,7 +45,8 @@ pub record Allowed (p : Puzzle) (position : ℕ) (board : BoardValue) (m : Move)
   pub on_board : refusal_of p board m ≡ None
   pub room : position ≢ most_states
 
-allowed_parts : (p : Puzzle) (position : ℕ) (board : BoardValue) (m : Move) → first_state_refusal position m ≡ None → refusal_of p board m ≡ None → full_refusal position ≡ None → Allowed p position board m
+allowed_parts : (p : Puzzle) (position : ℕ) (board : BoardValue) (m : Move) → first_state_refusal position m ≡ None
+    → refusal_of p board m ≡ None → full_refusal position ≡ None → Allowed p position board m
 allowed_parts p position board m restart allowed room = record {
   restart = λ first. elim (is_restart m) as (λ t. cond t (restart_refusal position) None ≡ None → t ≡ false) [
     | true ↦ λ e. let test : (position == 1) ≡ true = eq-eqb position 1 first in
@@ -61,7 +64,9 @@ allowed_in p h m allowed =
     let second = or_none (refusal_of p (shown p h) m) (full_refusal h.position) first.1 in
     allowed_parts p h.position (shown p h) m first.0 second.0 second.1
 
-pub allowed_viewed : {P : Type 0} (p : Puzzle) (puzzle : P) (params next_params : Params) (extras : Extras) (records : List Record) (n : ℕ) (board : BoardValue) (m : Move) → AreLinked p records n board → refusal_in p (viewed puzzle params next_params extras (moves_of records) n) m ≡ None → Allowed p (n + 1) board m
+pub allowed_viewed : {P : Type 0} (p : Puzzle) (puzzle : P) (params next_params : Params) (extras : Extras) (records : List Record) (n : ℕ) (board : BoardValue) (m : Move)
+    → AreLinked p records n board → refusal_in p (viewed puzzle params next_params extras (moves_of records) n) m ≡ None
+    → Allowed p (n + 1) board m
 allowed_viewed p puzzle params next_params extras records n board m h allowed =
     subst (λ (b : BoardValue). Allowed p (n + 1) b m) (shown_viewed p puzzle params next_params extras records n board h)
     (allowed_in p (viewed puzzle params next_params extras (moves_of records) n) m allowed)
@@ -72,12 +77,16 @@ accepted None a b e = (refl, cc)
 accepted (Some fault) a b e = cc
 
 -- the refusal in a session, from the refusals of its parts
-pub refusal_by_parts : {P : Type 0} (p : Puzzle) (puzzle : P) (params next_params : Params) (extras : Extras) (records : List Record) (n : ℕ) (board : BoardValue) (m : Move) (first second third : Option PlayFault) → AreLinked p records n board → first_state_refusal (n + 1) m ≡ first → refusal_of p board m ≡ second → full_refusal (n + 1) ≡ third → refusal_in p (viewed puzzle params next_params extras (moves_of records) n) m ≡ option_or first (option_or second third)
+pub refusal_by_parts : {P : Type 0} (p : Puzzle) (puzzle : P) (params next_params : Params) (extras : Extras) (records : List Record) (n : ℕ) (board : BoardValue) (m : Move) (first second third : Option PlayFault)
+    → AreLinked p records n board → first_state_refusal (n + 1) m ≡ first → refusal_of p board m ≡ second → full_refusal (n + 1) ≡ third
+    → refusal_in p (viewed puzzle params next_params extras (moves_of records) n) m ≡ option_or first (option_or second third)
 refusal_by_parts p puzzle params next_params extras records n board m first second third h a b c =
     rw (refusal_viewed p puzzle params next_params extras records n board m h, a, b, c) refl
 
 -- a further record keeps the links
-pub linked_move : (p : Puzzle) (records : List Record) (n : ℕ) (board : BoardValue) (m : Move) (change : ChangeValue) → AreLinked p records n board → Allowed p (n + 1) board m → FitsBoard board change → board_after board change ≡ moved p board m → AreLinked p (take n records ++ record { made = m; change = change } ∷ []) n board
+pub linked_move : (p : Puzzle) (records : List Record) (n : ℕ) (board : BoardValue) (m : Move) (change : ChangeValue)
+    → AreLinked p records n board → Allowed p (n + 1) board m → FitsBoard board change → board_after board change ≡ moved p board m
+    → AreLinked p (take n records ++ record { made = m; change = change } ∷ []) n board
 linked_move p records n board m change h allowed fits board_is =
     let few = h.few in
     let inside = h.inside in
@@ -85,7 +94,10 @@ linked_move p records n board m change h allowed fits board_is =
     linked_new p records n board (record { made = m; change = change }) (moved p board m) h
     (record { stepped = step_allowed p board m allowed.on_board; fits = fits; ahead = board_is }) (omega arith) (λ zero. allowed.restart (omega arith))
 
-pub played_viewed : {P : Type 0} (p : Puzzle) (puzzle : P) (params next_params : Params) (extras : Extras) (records new : List Record) (n : ℕ) (m : Move) (change : ChangeValue) → refusal_in p (viewed puzzle params next_params extras (moves_of records) n) m ≡ None → new ≡ take n records ++ record { made = m; change = change } ∷ [] → played p (viewed puzzle params next_params extras (moves_of records) n) m ≡ Ok (at_position (viewed puzzle params next_params extras (moves_of new) n) (n + 1 + 1))
+pub played_viewed : {P : Type 0} (p : Puzzle) (puzzle : P) (params next_params : Params) (extras : Extras) (records new : List Record) (n : ℕ) (m : Move) (change : ChangeValue)
+    → refusal_in p (viewed puzzle params next_params extras (moves_of records) n) m ≡ None
+    → new ≡ take n records ++ record { made = m; change = change } ∷ []
+    → played p (viewed puzzle params next_params extras (moves_of records) n) m ≡ Ok (at_position (viewed puzzle params next_params extras (moves_of new) n) (n + 1 + 1))
 played_viewed {P} p puzzle params next_params extras records new n m change allowed is =
     let h : History P = viewed puzzle params next_params extras (moves_of records) n in
     let front : past h ≡ moves_of (take n records) = past_viewed puzzle params next_params extras (moves_of records) n ∙ take-map (λ (r : Record). r.made) n records in
@@ -94,8 +106,10 @@ played_viewed {P} p puzzle params next_params extras records new n m change allo
     played_allowed p h m allowed ∙ ap (λ ms. Ok (at_position (viewed puzzle params next_params extras ms n) (n + 1 + 1))) moves
 
 -- a solution is a move that only a full history refuses
-pub solved_as_played : {P : Type 0} (p : Puzzle) (h : History P) (g : GridValue) → IsOnlySolution p g → played p h (Solve g) ≡ unless_refused (full_refusal h.position) (with_move h (Solve g))
+pub solved_as_played : {P : Type 0} (p : Puzzle) (h : History P) (g : GridValue) → IsOnlySolution p g
+    → played p h (Solve g) ≡ unless_refused (full_refusal h.position) (with_move h (Solve g))
 solved_as_played p h g only = rw ((Decides-solves_test p g only.solves.is_grid).1 only.solves) refl
 
-pub solve_refused : {P : Type 0} (p : Puzzle) (h : History P) (g : GridValue) (fault : PlayFault) → IsOnlySolution p g → IsRefusal (played p h (Solve g)) fault → IsSolveRefusal p h fault
+pub solve_refused : {P : Type 0} (p : Puzzle) (h : History P) (g : GridValue) (fault : PlayFault) → IsOnlySolution p g
+    → IsRefusal (played p h (Solve g)) fault → IsSolveRefusal p h fault
 solve_refused p h g fault only is = (played p h (Solve g), inr (inr (g, only, solved_as_played p h g only)), is)

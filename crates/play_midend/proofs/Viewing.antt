@@ -24,24 +24,29 @@ viewed puzzle params next_params extras moves count = record {
   position = count + 1;
 }
 
-pub past_viewed : {P : Type 0} (puzzle : P) (params next_params : Params) (extras : Extras) (ms : List Move) (n : ℕ) → past (viewed puzzle params next_params extras ms n) ≡ take n ms
+pub past_viewed : {P : Type 0} (puzzle : P) (params next_params : Params) (extras : Extras) (ms : List Move) (n : ℕ)
+    → past (viewed puzzle params next_params extras ms n) ≡ take n ms
 past_viewed puzzle params next_params extras ms n = let e : n + 1 - 1 ≡ n = omega arith in ap (λ k. take k ms) e
 
-pub undone_viewed : {P : Type 0} (puzzle : P) (params next_params : Params) (extras : Extras) (ms ns : List Move) (n : ℕ) → n ≢ 0 → ns ≡ ms → undone (viewed puzzle params next_params extras ms n) ≡ Ok (viewed puzzle params next_params extras ns (n - 1))
+pub undone_viewed : {P : Type 0} (puzzle : P) (params next_params : Params) (extras : Extras) (ms ns : List Move) (n : ℕ) → n ≢ 0 → ns ≡ ms
+    → undone (viewed puzzle params next_params extras ms n) ≡ Ok (viewed puzzle params next_params extras ns (n - 1))
 undone_viewed puzzle params next_params extras ms ns n some same =
     let test : (n + 1 == 1) ≡ false = apart_eqb (n + 1) 1 (λ e. some (omega arith)) in
     let e : n + 1 - 1 ≡ n - 1 + 1 = omega arith in
     rw (test, same, e) refl
 
-pub forward_viewed : {P : Type 0} (puzzle : P) (params next_params : Params) (extras : Extras) (ms ns : List Move) (n : ℕ) → ns ≡ ms → viewed puzzle params next_params extras ns (n + 1) ≡ at_position (viewed puzzle params next_params extras ms n) (n + 1 + 1)
+pub forward_viewed : {P : Type 0} (puzzle : P) (params next_params : Params) (extras : Extras) (ms ns : List Move) (n : ℕ) → ns ≡ ms
+    → viewed puzzle params next_params extras ns (n + 1) ≡ at_position (viewed puzzle params next_params extras ms n) (n + 1 + 1)
 forward_viewed puzzle params next_params extras ms ns n same = rw same refl
 
 -- a session whose records are linked
-pub shown_viewed : {P : Type 0} (p : Puzzle) (puzzle : P) (params next_params : Params) (extras : Extras) (records : List Record) (n : ℕ) (board : BoardValue) → AreLinked p records n board → shown p (viewed puzzle params next_params extras (moves_of records) n) ≡ board
+pub shown_viewed : {P : Type 0} (p : Puzzle) (puzzle : P) (params next_params : Params) (extras : Extras) (records : List Record) (n : ℕ) (board : BoardValue)
+    → AreLinked p records n board → shown p (viewed puzzle params next_params extras (moves_of records) n) ≡ board
 shown_viewed p puzzle params next_params extras records n board h =
     ap (λ ms. replay_from p (start_of p) ms) (past_viewed puzzle params next_params extras (moves_of records) n) ∙ shown_linked p records n board h
 
-pub valid_viewed : {P : Type 0} (p : Puzzle) (puzzle : P) (params next_params : Params) (extras : Extras) (records : List Record) (n : ℕ) (board : BoardValue) → params.size ≡ p.size → AreLinked p records n board → IsValid p (viewed puzzle params next_params extras (moves_of records) n)
+pub valid_viewed : {P : Type 0} (p : Puzzle) (puzzle : P) (params next_params : Params) (extras : Extras) (records : List Record) (n : ℕ) (board : BoardValue)
+    → params.size ≡ p.size → AreLinked p records n board → IsValid p (viewed puzzle params next_params extras (moves_of records) n)
 valid_viewed p puzzle params next_params extras records n board size h =
     let long = length-map records (λ (r : Record). r.made) in
     let few = h.few in

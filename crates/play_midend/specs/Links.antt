@@ -1,4 +1,4 @@
--- What a session keeps beside each move: the change that takes it back while it is past, or makes it again while it is later.
+-- What stands beside each move of a session: the change that takes it back while it is past, or makes it again while it is later.
 use Rattle.std.specs.Prelude.{◌≡◌, ℕ, ◌+◌, ◌≤◌, false, List, [], ◌∷◌, length, take, drop, map, Ok}
 use Rattle.latin_board.specs.Boards.{BoardValue}
 use Rattle.latin_board.specs.Changes.{FitsBoard, board_after}
@@ -8,6 +8,7 @@ use Rattle.play_midend.specs.declared.session.Record.{Record}
 use Rattle.play_midend.specs.Steps.{step, start_of, begins_with_restart}
 use Rattle.play_midend.specs.Histories.{most_states}
 
+-- the moves of a list of records
 abbrev pub moves_of : List Record → List Move
 moves_of records = map (λ r. r.made) records
 
