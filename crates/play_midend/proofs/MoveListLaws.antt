@@ -126,7 +126,8 @@ pub legal_list_played : {P : Type 0} (p : Puzzle) (puzzle : P) (params next_para
 legal_list_played p puzzle params next_params extras ms legal few =
     played_along p (started puzzle params next_params extras) [] ms legal.playable (omega arith) (λ none. legal.no_restart_first)
 
-pub accepted_list_legal : {P : Type 0} (p : Puzzle) (puzzle : P) (params next_params : Params) (extras : Extras) (ms : List Move) (last : History P)
+pub accepted_list_legal : {P : Type 0} (p : Puzzle) (puzzle : P) (params next_params : Params) (extras : Extras) (ms : List Move)
+    (last : History P)
     → played_all p (started puzzle params next_params extras) ms ≡ Ok last
     → IsLegal p ms × (length ms + 1 ≤ most_states) × (last ≡ with_moves (started puzzle params next_params extras) ms)
 accepted_list_legal p puzzle params next_params extras ms last is =

@@ -53,7 +53,8 @@ storable_called {P} puzzle of_game letters h new call s is =
     }
 
 -- calls in turn
-storable_answered : {P : Type 0} (puzzle : P → Puzzle) (of_game : P → Type 0) (letters : List ℕ) (h new : History P) (call : Call) (answer : Result (Unit {0}) PlayFault)
+storable_answered : {P : Type 0} (puzzle : P → Puzzle) (of_game : P → Type 0) (letters : List ℕ) (h new : History P) (call : Call)
+    (answer : Result (Unit {0}) PlayFault)
     → IsStorable puzzle of_game letters h → Answered (puzzle h.puzzle) h call answer new → IsStorable puzzle of_game letters new
 storable_answered puzzle of_game letters h new call (Ok u) s is = storable_called puzzle of_game letters h new call s is
 storable_answered {P} puzzle of_game letters h new call (Err fault) s is = subst (λ (k : History P). IsStorable puzzle of_game letters k) (sym is.0) s
@@ -63,7 +64,8 @@ same_puzzle_answered : {P : Type 0} (p : Puzzle) (h new : History P) (call : Cal
 same_puzzle_answered p h new call (Ok u) is = let same = same_game_called p h new call is in same.puzzle
 same_puzzle_answered {P} p h new call (Err fault) is = subst (λ (k : History P). k.puzzle ≡ h.puzzle) (sym is.0) refl
 
-storable_run : {P : Type 0} (puzzle : P → Puzzle) (of_game : P → Type 0) (letters : List ℕ) (h new : History P) (calls : List (Call × Result (Unit {0}) PlayFault))
+storable_run : {P : Type 0} (puzzle : P → Puzzle) (of_game : P → Type 0) (letters : List ℕ) (h new : History P)
+    (calls : List (Call × Result (Unit {0}) PlayFault))
     → IsStorable puzzle of_game letters h → AnsweredInTurn (puzzle h.puzzle) h calls new → IsStorable puzzle of_game letters new
 storable_run {P} puzzle of_game letters h new [] s run = subst (λ (k : History P). IsStorable puzzle of_game letters k) (sym run) s
 storable_run {P} puzzle of_game letters h new (c ∷ calls) s run =

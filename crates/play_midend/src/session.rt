@@ -44,20 +44,14 @@ pub struct Session<P: Game> {
 }
 
 impl<P: Game> Model for Session<P> {
-    ghost use Rattle.std.specs.Prelude.{◌≡◌, ◌+◌};
+    ghost use Rattle.std.specs.Prelude.{◌≡◌};
     ghost use Rattle.play_midend.specs.Histories.{History};
-    ghost use Rattle.play_midend.specs.Links.{moves_of, AreLinked};
 
     ghost Value = { History P };
 
-    ghost view = { λ s. record {
-      puzzle = s.puzzle;
-      params = s.params;
-      next_params = s.next_params;
-      extras = s.extras;
-      moves = moves_of s.records.items;
-      position = s.past + 1;
-    } };
+    ghost use Rattle.play_midend.specs.Links.{viewed, AreLinked};
+
+    ghost view = { viewed };
 
     ghost invariant = { λ s. (s.params.size ≡ (P.puzzle s.puzzle).size)
         × AreLinked (P.puzzle s.puzzle) s.records.items s.past s.board };

@@ -17,4 +17,4 @@ pub returns : goal.returns
 returns g c =
     let s = c.self.inside in
     let moves = moves_of-set s.records.items s.past c.index_mut.result.now c.exchange.new.link c.index_mut.ensures.value c.exchange.ensures.made in
-    rw (← c.self.view_is) (forward_viewed s.puzzle s.params s.next_params s.extras _ _ s.past moves)
+    rw (← c.self.view_is) (forward_viewed s _ moves)

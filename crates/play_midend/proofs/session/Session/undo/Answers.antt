@@ -22,4 +22,4 @@ pub returns-clause-ok : goal.returns-clause-ok
 returns-clause-ok g c =
     let s = c.self.inside in
     let moves = moves_of-set s.records.items (s.past - 1) c.index_mut.result.now c.exchange.new.link c.index_mut.ensures.value c.exchange.ensures.made in
-    rw (← c.self.view_is) (undone_viewed s.puzzle s.params s.next_params s.extras _ _ s.past c.if-self-eq0.false moves)
+    rw (← c.self.view_is) (undone_viewed s _ c.if-self-eq0.false moves)
