@@ -1,5 +1,5 @@
 -- Where a text is cut: its parts, a cut at a known separator, and the pieces between separators.
-use Rattle.std.proofs.Common.{◌≡◌, ◌≢◌, ◌∙◌, ℕ, ◌<◌, true, false, List, [], ◌∷◌, ◌++◌, length, Some, None, ◌==◌, cond, refl, ap, arith, length-append}
+use Rattle.std.proofs.Common.{◌≡◌, ◌≢◌, ◌∙◌, ℕ, ◌<◌, true, false, List, [], ◌∷◌, ◌++◌, length, Some, None, ◌==◌, cond, refl, ap, arith}
 use Rattle.std.specs.List.{AllByRecursion, join_with_byte, slice_split, onto_first}
 use Rattle.std.proofs.lemmas.Bool.Decides.{nat_tests}
 use borrow.Author.Tests.{eqb-true, eqb-false, apart_eqb}
@@ -32,10 +32,6 @@ cut_whole c (b ∷ bs) =
       | false ↦ λ none. ap (λ xs. b ∷ xs) (cut_whole c bs none)
     ]
 
-pub behind_shorter : (c : ℕ) (bs rest : List ℕ) → behind c bs ≡ Some rest → length rest < length bs
-behind_shorter c bs rest found =
-    omega (arith, ap length (cut_parts c bs rest found), length-append (before c bs) (c ∷ rest))
-
 same_self : (c : ℕ) → (c == c) ≡ true
 same_self c = grind (arith, nat_tests)
 
@@ -56,7 +52,8 @@ behind_none_in c [] lacks = refl
 behind_none_in c (x ∷ xs) lacks = rw (apart_eqb x c lacks.0) (behind_none_in c xs lacks.1)
 
 -- the pieces between separators: the first ends at the first separator
-pub pieces_more : (c : ℕ) (bs rest : List ℕ) → behind c bs ≡ Some rest → slice_split (λ b. b == c) bs ≡ before c bs ∷ slice_split (λ b. b == c) rest
+pub pieces_more : (c : ℕ) (bs rest : List ℕ) → behind c bs ≡ Some rest
+    → slice_split (λ b. b == c) bs ≡ before c bs ∷ slice_split (λ b. b == c) rest
 pieces_more c [] rest = λ found. cc
 pieces_more c (b ∷ bs) rest =
     elim (b == c) as (λ t. cond t (Some bs) (behind c bs) ≡ Some rest → cond t ([] ∷ slice_split (λ x. x == c) bs) (onto_first b (slice_split (λ x. x == c) bs)) ≡ cond t [] (b ∷ before c bs) ∷ slice_split (λ x. x == c) rest) [
@@ -83,7 +80,8 @@ lacks_join c d (x ∷ y ∷ xs) other lacks =
     lacks_append c x (d ∷ join_with_byte d (y ∷ xs)) lacks.0 (other, lacks_join c d (y ∷ xs) other lacks.1)
 
 -- pieces that are joined by the separator, and have none in them, are the pieces of the whole
-pub pieces_join : (c : ℕ) (pieces : List (List ℕ)) → 0 < length pieces → AllByRecursion (Lacks c) pieces → slice_split (λ b. b == c) (join_with_byte c pieces) ≡ pieces
+pub pieces_join : (c : ℕ) (pieces : List (List ℕ)) → 0 < length pieces → AllByRecursion (Lacks c) pieces
+    → slice_split (λ b. b == c) (join_with_byte c pieces) ≡ pieces
 pieces_join c [] some lacks = absurd (omega arith)
 pieces_join c (x ∷ []) some lacks = pieces_last c x (behind_none_in c x lacks.0)
 pieces_join c (x ∷ y ∷ xs) some lacks =

@@ -39,25 +39,26 @@ no-place c (b ∷ bs) =
     ] refl
 
 -- what `position` answers
-place_found : (c : ℕ) (bs : List ℕ) (i : ℕ) → Some i ≡ position (λ b. b == c) bs → (place c bs ≡ i) × (place c bs < length bs)
-place_found c bs i found = grind (arith, nat_tests)
+position_found : (c : ℕ) (bs : List ℕ) (i : ℕ) → Some i ≡ position (λ b. b == c) bs → (place c bs ≡ i) × (place c bs < length bs)
+position_found c bs i found = grind (arith, nat_tests)
 
-place_missing : (c : ℕ) (bs : List ℕ) → None ≡ position (λ b. b == c) bs → length bs ≤ place c bs
-place_missing c bs missing = grind (arith, nat_tests)
+position_missing : (c : ℕ) (bs : List ℕ) → None ≡ position (λ b. b == c) bs → length bs ≤ place c bs
+position_missing c bs missing = grind (arith, nat_tests)
 
-pub before_place : (c : ℕ) (bs : List ℕ) (i : ℕ) → Some i ≡ position (λ b. b == c) bs → take i bs ≡ before c bs
-before_place c bs i found = ap (λ n. take n bs) (sym (place_found c bs i found).0) ∙ take-place c bs
+pub before_found : (c : ℕ) (bs : List ℕ) (i : ℕ) → Some i ≡ position (λ b. b == c) bs → take i bs ≡ before c bs
+before_found c bs i found = ap (λ n. take n bs) (sym (position_found c bs i found).0) ∙ take-place c bs
 
-pub behind_place : (c : ℕ) (bs : List ℕ) (i : ℕ) → Some i ≡ position (λ b. b == c) bs → Some (take (length bs - (i + 1)) (drop (i + 1) bs)) ≡ behind c bs
-behind_place c bs i found =
-    let p = place_found c bs i found in
+pub behind_found : (c : ℕ) (bs : List ℕ) (i : ℕ) → Some i ≡ position (λ b. b == c) bs
+    → Some (take (length bs - (i + 1)) (drop (i + 1) bs)) ≡ behind c bs
+behind_found c bs i found =
+    let p = position_found c bs i found in
     let whole : take (length bs - (i + 1)) (drop (i + 1) bs) ≡ drop (suc (place c bs)) bs = grind (arith, common_steps) in
     ap Some whole ∙ drop-place c bs p.1
 
-pub before_none : (c : ℕ) (bs : List ℕ) → None ≡ position (λ b. b == c) bs → bs ≡ before c bs
-before_none c bs missing =
-    let all : take (place c bs) bs ≡ bs = take_all (place c bs) bs (place_missing c bs missing) in
+pub before_missing : (c : ℕ) (bs : List ℕ) → None ≡ position (λ b. b == c) bs → bs ≡ before c bs
+before_missing c bs missing =
+    let all : take (place c bs) bs ≡ bs = take_all (place c bs) bs (position_missing c bs missing) in
     sym all ∙ take-place c bs
 
-pub behind_none : (c : ℕ) (bs : List ℕ) → None ≡ position (λ b. b == c) bs → None ≡ behind c bs
-behind_none c bs missing = no-place c bs (place_missing c bs missing)
+pub behind_missing : (c : ℕ) (bs : List ℕ) → None ≡ position (λ b. b == c) bs → None ≡ behind c bs
+behind_missing c bs missing = no-place c bs (position_missing c bs missing)

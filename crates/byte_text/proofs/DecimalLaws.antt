@@ -5,19 +5,19 @@ use Rattle.std.proofs.lemmas.Str.Parse.{IsNumeralModel, numerals_by_fold}
 use Rattle.std.proofs.lemmas.Fmt.{decimal-digits_value, digits_decimal, digits_value-decimal, decimal_nonempty, first_decimal, decimal_digit}
 use borrow.Author.Tests.{eqb-true, eqb-false, leb-true, le-leb, apart_eqb}
 use Rattle.byte_text.specs.Cuts.{Lacks}
-use Rattle.byte_text.specs.Decimals.{is_digit, begins_digit, digit_onto, number_from, has_leading_zero, decimal_value}
+use Rattle.byte_text.specs.Decimals.{is_digit, digit_onto, number_from, has_leading_zero, decimal_value}
 
 -- all bytes are digits, and the number that they stand for behind n
 abbrev all_digits : List ℕ → Bool
 all_digits [] = true
 all_digits (b ∷ bs) = is_digit b && all_digits bs
 
-abbrev value_behind : ℕ → List ℕ → ℕ
-value_behind n [] = n
-value_behind n (b ∷ bs) = value_behind (n * 10 + (b - 48)) bs
+abbrev value_onto : ℕ → List ℕ → ℕ
+value_onto n [] = n
+value_onto n (b ∷ bs) = value_onto (n * 10 + (b - 48)) bs
 
-own : IsNumeralModel (λ ds. all_digits ds ≡ true) (value_behind 0)
-own = numerals_by_fold _ (search rules) value_behind (search rules)
+own : IsNumeralModel (λ ds. all_digits ds ≡ true) (value_onto 0)
+own = numerals_by_fold _ (search rules) value_onto (search rules)
 
 -- one more digit
 digit_onto_taken : (greatest n b m : ℕ) → digit_onto greatest n b ≡ Some m → (is_digit b ≡ true) × (m ≡ n * 10 + (b - 48)) × (m ≤ greatest)
@@ -30,26 +30,28 @@ digit_onto_taken greatest n b m =
       | false ↦ λ read. cc
     ]
 
-digit_onto_again : (greatest n b : ℕ) → is_digit b ≡ true → n * 10 + (b - 48) ≤ greatest → digit_onto greatest n b ≡ Some (n * 10 + (b - 48))
+digit_onto_again : (greatest n b : ℕ) → is_digit b ≡ true → n * 10 + (b - 48) ≤ greatest
+    → digit_onto greatest n b ≡ Some (n * 10 + (b - 48))
 digit_onto_again greatest n b digit within = rw (digit, le-leb _ _ within) refl
 
 -- what was read are digits that stand for the number
-from_taken : (greatest n m : ℕ) (bs : List ℕ) → n ≤ greatest → number_from greatest n bs ≡ Some m → (all_digits bs ≡ true) × (value_behind n bs ≡ m) × (m ≤ greatest)
+from_taken : (greatest n m : ℕ) (bs : List ℕ) → n ≤ greatest → number_from greatest n bs ≡ Some m
+    → (all_digits bs ≡ true) × (value_onto n bs ≡ m) × (m ≤ greatest)
 from_taken greatest n m [] = λ within read. let e : n ≡ m = cc in (refl, e, omega arith)
 from_taken greatest n m (b ∷ bs) =
-    elim (digit_onto greatest n b) as (λ o. digit_onto greatest n b ≡ o → n ≤ greatest → option_and_then (λ k. number_from greatest k bs) o ≡ Some m → (all_digits (b ∷ bs) ≡ true) × (value_behind n (b ∷ bs) ≡ m) × (m ≤ greatest)) [
+    elim (digit_onto greatest n b) as (λ o. digit_onto greatest n b ≡ o → n ≤ greatest → option_and_then (λ k. number_from greatest k bs) o ≡ Some m → (all_digits (b ∷ bs) ≡ true) × (value_onto n (b ∷ bs) ≡ m) × (m ≤ greatest)) [
       | None ↦ λ is within read. cc
       | Some k ↦ λ is within read.
           let one = digit_onto_taken greatest n b k is in
           let more = from_taken greatest k m bs one.2 read in
           let digits : (is_digit b && all_digits bs) ≡ true = rw (one.0, more.0) refl in
-          let value : value_behind (n * 10 + (b - 48)) bs ≡ m = ap (λ x. value_behind x bs) (sym one.1) ∙ more.1 in
+          let value : value_onto (n * 10 + (b - 48)) bs ≡ m = ap (λ x. value_onto x bs) (sym one.1) ∙ more.1 in
           (digits, value, more.2)
     ] refl
 
-value_behind_ge : (n : ℕ) (bs : List ℕ) → n ≤ value_behind n bs
-value_behind_ge n [] = omega arith
-value_behind_ge n (b ∷ bs) = omega (arith, value_behind_ge (n * 10 + (b - 48)) bs)
+value_onto_ge : (n : ℕ) (bs : List ℕ) → n ≤ value_onto n bs
+value_onto_ge n [] = omega arith
+value_onto_ge n (b ∷ bs) = omega (arith, value_onto_ge (n * 10 + (b - 48)) bs)
 
 all_digits_first : (b : ℕ) (bs : List ℕ) → all_digits (b ∷ bs) ≡ true → (is_digit b ≡ true) × (all_digits bs ≡ true)
 all_digits_first b bs =
@@ -58,22 +60,19 @@ all_digits_first b bs =
       | false ↦ λ digits. cc
     ]
 
-all_begin : (bs : List ℕ) → 0 < length bs → all_digits bs ≡ true → begins_digit bs ≡ true
-all_begin [] some digits = absurd (omega arith)
-all_begin (b ∷ bs) some digits = (all_digits_first b bs digits).0
-
-all_lack : (c : ℕ) (bs : List ℕ) → is_digit c ≡ false → all_digits bs ≡ true → Lacks c bs
-all_lack c [] other digits = tt
-all_lack c (b ∷ bs) other digits =
+digits_lack : (c : ℕ) (bs : List ℕ) → is_digit c ≡ false → all_digits bs ≡ true → Lacks c bs
+digits_lack c [] other digits = tt
+digits_lack c (b ∷ bs) other digits =
     let parts = all_digits_first b bs digits in
-    (λ same. let digit : is_digit c ≡ true = ap is_digit (sym same) ∙ parts.0 in cc, all_lack c bs other parts.1)
+    (λ same. let digit : is_digit c ≡ true = ap is_digit (sym same) ∙ parts.0 in cc, digits_lack c bs other parts.1)
 
 -- digits are read, up to the greatest number
-from_again : (greatest n : ℕ) (bs : List ℕ) → all_digits bs ≡ true → value_behind n bs ≤ greatest → number_from greatest n bs ≡ Some (value_behind n bs)
+from_again : (greatest n : ℕ) (bs : List ℕ) → all_digits bs ≡ true → value_onto n bs ≤ greatest
+    → number_from greatest n bs ≡ Some (value_onto n bs)
 from_again greatest n [] digits within = refl
 from_again greatest n (b ∷ bs) digits within =
     let parts = all_digits_first b bs digits in
-    let fits : n * 10 + (b - 48) ≤ greatest = omega (arith, value_behind_ge (n * 10 + (b - 48)) bs, within) in
+    let fits : n * 10 + (b - 48) ≤ greatest = omega (arith, value_onto_ge (n * 10 + (b - 48)) bs, within) in
     rw (digit_onto_again greatest n b parts.0 fits) (from_again greatest (n * 10 + (b - 48)) bs parts.1 within)
 
 -- a zero in front stands alone
@@ -98,7 +97,8 @@ decimal_no_leading_zero m fits =
     ] refl
 
 -- what is read is written so
-pub number_taken : (greatest m : ℕ) (bs : List ℕ) → greatest < 2 ^ 64 → decimal_value greatest bs ≡ Some m → (bs ≡ decimal m) × (m ≤ greatest)
+pub number_taken : (greatest m : ℕ) (bs : List ℕ) → greatest < 2 ^ 64 → decimal_value greatest bs ≡ Some m
+    → (bs ≡ decimal m) × (m ≤ greatest)
 unfolding decimal_value
 number_taken greatest m [] = λ fits read. cc
 number_taken greatest m (b ∷ bs) =
@@ -106,13 +106,14 @@ number_taken greatest m (b ∷ bs) =
       | true ↦ λ zero fits read. cc
       | false ↦ λ none fits read.
           let taken = from_taken greatest 0 m (b ∷ bs) (omega arith) read in
-          let value : value_behind 0 (b ∷ bs) ≡ m = taken.1 in
-          let below : value_behind 0 (b ∷ bs) < 2 ^ 64 = rw value (omega (arith, taken.2)) in
+          let value : value_onto 0 (b ∷ bs) ≡ m = taken.1 in
+          let below : value_onto 0 (b ∷ bs) < 2 ^ 64 = rw value (omega (arith, taken.2)) in
           let written = decimal-digits_value own (b ∷ bs) taken.0 (omega arith) (single_zero (b ∷ bs) none) below in
           (sym written ∙ ap decimal value, taken.2)
     ] refl
 
-number_of_digits : (greatest : ℕ) (bs : List ℕ) → 0 < length bs → has_leading_zero bs ≡ false → decimal_value greatest bs ≡ number_from greatest 0 bs
+number_of_digits : (greatest : ℕ) (bs : List ℕ) → 0 < length bs → has_leading_zero bs ≡ false
+    → decimal_value greatest bs ≡ number_from greatest 0 bs
 unfolding decimal_value
 number_of_digits greatest [] some none = absurd (omega arith)
 number_of_digits greatest (b ∷ bs) some none = rw none refl
@@ -125,14 +126,12 @@ number_again greatest m within fits =
     let read = from_again greatest 0 (decimal m) (digits_decimal own m below) (rw value within) in
     number_of_digits greatest (decimal m) (decimal_nonempty m below) (decimal_no_leading_zero m below) ∙ read ∙ ap Some value
 
--- a decimal begins with a digit, and has no other bytes
-pub begins_digit_decimal : (m : ℕ) → m < 2 ^ 64 → begins_digit (decimal m) ≡ true
-begins_digit_decimal m fits = all_begin (decimal m) (decimal_nonempty m fits) (digits_decimal own m fits)
-
+-- a decimal has no other bytes than digits
 pub lacks_decimal : (c m : ℕ) → m < 2 ^ 64 → is_digit c ≡ false → Lacks c (decimal m)
-lacks_decimal c m fits other = all_lack c (decimal m) other (digits_decimal own m fits)
+lacks_decimal c m fits other = digits_lack c (decimal m) other (digits_decimal own m fits)
 
 -- the same of an answer
-pub number_found : (greatest : ℕ) (bs : List ℕ) (answer : Option ℕ) → greatest < 2 ^ 64 → answer ≡ decimal_value greatest bs → IfSome answer (λ m. (bs ≡ decimal m) × (m ≤ greatest))
+pub number_found : (greatest : ℕ) (bs : List ℕ) (answer : Option ℕ) → greatest < 2 ^ 64 → answer ≡ decimal_value greatest bs
+    → IfSome answer (λ m. (bs ≡ decimal m) × (m ≤ greatest))
 number_found greatest bs None fits is = tt
 number_found greatest bs (Some m) fits is = number_taken greatest m bs fits (sym is)

@@ -3,7 +3,8 @@ use Rattle.std.proofs.Common.{◌≡◌, Result, Ok, Err, ap, refl}
 use Rattle.byte_text.specs.Reading.{◌>>=◌}
 
 -- where the whole succeeds, so did the first step, and the rest on its value
-pub bind_taken : {A B E : Type 0} (step : Result A E) (rest : A → Result B E) (whole : B) → step >>= rest ≡ Ok whole → (value : A) × (step ≡ Ok value) × (rest value ≡ Ok whole)
+pub bind_taken : {A B E : Type 0} (step : Result A E) (rest : A → Result B E) (whole : B) → step >>= rest ≡ Ok whole
+    → (value : A) × (step ≡ Ok value) × (rest value ≡ Ok whole)
 bind_taken (Ok a) rest whole is = (a, refl, is)
 bind_taken (Err e) rest whole is = cc
 

@@ -7,13 +7,16 @@ use Rattle.std.proofs.lemmas.List.Sums.{sum_by-cons}
 use Rattle.latin_board.specs.Squares.{times_in}
 
 -- one place more of a list that is made by places
-times_in_more : (f : ℕ → ℕ) (v k : ℕ) → times_in v (map f (range_with_len 0 (k + 1))) ≡ times_in v (map f (range_with_len 0 k)) + cond (eqb (f k) v) 1 0
+times_in_more : (f : ℕ → ℕ) (v k : ℕ)
+    → times_in v (map f (range_with_len 0 (k + 1))) ≡ times_in v (map f (range_with_len 0 k)) + cond (eqb (f k) v) 1 0
 times_in_more f v k = sum_by-map-range_with_len_more (λ x. cond (eqb x v) 1 0) f 0 k k (omega arith)
 
-pub times_in_more_yes : (f : ℕ → ℕ) (v k times : ℕ) → times ≡ times_in v (map f (range_with_len 0 k)) → f k ≡ v → times + 1 ≡ times_in v (map f (range_with_len 0 (k + 1)))
+pub times_in_more_yes : (f : ℕ → ℕ) (v k times : ℕ) → times ≡ times_in v (map f (range_with_len 0 k)) → f k ≡ v
+    → times + 1 ≡ times_in v (map f (range_with_len 0 (k + 1)))
 times_in_more_yes f v k times so_far here = rw (times_in_more f v k, eq-eqb (f k) v here) (omega arith)
 
-pub times_in_more_no : (f : ℕ → ℕ) (v k times : ℕ) → times ≡ times_in v (map f (range_with_len 0 k)) → (f k ≡ v → ⊥) → times ≡ times_in v (map f (range_with_len 0 (k + 1)))
+pub times_in_more_no : (f : ℕ → ℕ) (v k times : ℕ) → times ≡ times_in v (map f (range_with_len 0 k)) → (f k ≡ v → ⊥)
+    → times ≡ times_in v (map f (range_with_len 0 (k + 1)))
 times_in_more_no f v k times so_far here = rw (times_in_more f v k, ne_eqb (f k) v here) (omega arith)
 
 times_in_head : (v x : ℕ) (xs : List ℕ) → x ≡ v → times_in v (x ∷ xs) ≡ 1 + times_in v xs

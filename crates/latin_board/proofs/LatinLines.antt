@@ -3,7 +3,7 @@ use Rattle.std.proofs.Common.{◌≡◌, ◌≢◌, ℕ, ◌+◌, ◌-◌, ◌*�
 use Rattle.std.proofs.lemmas.Bool.{cases_lt, cases_order, lt-ltb, le-ltb}
 use Rattle.std.proofs.lemmas.List.FromFn.{length-map-range_with_len, get_or-map-range_with_len}
 use Rattle.std.proofs.lemmas.Map.Steps.{le-length_from_below}
-use Rattle.std.proofs.lemmas.Nat.{mul-add-lt, same_from_place, div-mul-add, mod-mul-add, div-add-mod', div_below, mod_below}
+use Rattle.std.proofs.lemmas.Nat.{mul-add-lt, div-add-mod', div_below, mod_below}
 use Rattle.latin_board.specs.Squares.{GridValue, IsGrid, IsFull, IsLatin, HasEachOnce, number_at, row_of, column_of}
 use Rattle.latin_board.specs.Lines.{line_cell, line_of, ArePeers, IsOnLine}
 use Rattle.latin_board.proofs.Counts.{twice_at_least, place_of_counted, among_at}
@@ -50,13 +50,10 @@ pub get_or-line_of : (g : GridValue) (line k : ℕ) → k < g.size → get_or (l
 get_or-line_of g line k within =
     get_or-map-range_with_len (λ k. number_at g (line_cell g.size line k)) 0 g.size k k 0 within (omega arith)
 
--- a square by its row, and by its column
+-- a square by its row
 pub line_cell_of_row : (w cell : ℕ) → cell < w * w → line_cell w (cell / w) (cell % w) ≡ cell
 line_cell_of_row w cell inside =
     line_cell-row w (cell / w) (cell % w) (div_below cell w w (some_width w cell inside) inside) ∙ div-add-mod' cell w
-
-pub line_cell_of_column : (w cell : ℕ) → line_cell w (w + cell % w) (cell / w) ≡ cell
-line_cell_of_column w cell = line_cell-column w (cell % w) (cell / w) ∙ div-add-mod' cell w
 
 -- ---- a Latin square by its lines
 
@@ -76,7 +73,8 @@ latin_from_lines g lines = record {
 }
 
 -- each number from 1 to the width stands somewhere in each line
-pub value_at : (g : GridValue) → IsLatin g → (line v : ℕ) → line < 2 * g.size → 1 ≤ v → v ≤ g.size → (k : ℕ) × (k < g.size) × (number_at g (line_cell g.size line k) ≡ v)
+pub value_at : (g : GridValue) → IsLatin g → (line v : ℕ) → line < 2 * g.size → 1 ≤ v → v ≤ g.size
+    → (k : ℕ) × (k < g.size) × (number_at g (line_cell g.size line k) ≡ v)
 value_at g latin line v below low high =
     let found = place_of_counted v (line_of g line) (omega (arith, latin_line g latin line below v low high)) in
     let within : found.0 < g.size = omega (arith, found.1, length-line_of g line) in
@@ -113,7 +111,8 @@ latin_full g latin = record {
 
 -- ---- two squares of a line differ
 
-pub line_differs : (g : GridValue) → IsGrid g → IsLatin g → (line i j : ℕ) → line < 2 * g.size → i < g.size → j < g.size → i ≢ j → number_at g (line_cell g.size line i) ≢ number_at g (line_cell g.size line j)
+pub line_differs : (g : GridValue) → IsGrid g → IsLatin g → (line i j : ℕ) → line < 2 * g.size → i < g.size → j < g.size → i ≢ j
+    → number_at g (line_cell g.size line i) ≢ number_at g (line_cell g.size line j)
 line_differs g valid latin line i j below first second apart = λ same.
     let v = number_at g (line_cell g.size line i) in
     let low : 1 ≤ v = line_full g latin line i below first in
@@ -167,30 +166,6 @@ peers_on_line w a b peers =
     elim peers.shared [
       | inl rows ↦ (a / w, a % w, b % w, peers_on_row w a b some peers rows)
       | inr columns ↦ (w + a % w, a / w, b / w, peers_on_column w a b some peers columns)
-    ]
-
-row_peers : (w row i j : ℕ) → row < w → i < w → j < w → i ≢ j → ArePeers w (row * w + i) (row * w + j)
-row_peers w row i j low first second apart = record {
-  first = mul-add-lt row w i w low first;
-  second = mul-add-lt row w j w low second;
-  apart = λ same. apart (same_from_place row i row j w first second same).1;
-  shared = inl (div-mul-add row w i first ∙ sym (div-mul-add row w j second));
-}
-
-column_peers : (w column i j : ℕ) → column < w → i < w → j < w → i ≢ j → ArePeers w (i * w + column) (j * w + column)
-column_peers w column i j low first second apart = record {
-  first = mul-add-lt i w column w first low;
-  second = mul-add-lt j w column w second low;
-  apart = λ same. apart (same_from_place i column j column w low low same).0;
-  shared = inr (mod-mul-add i w column low ∙ sym (mod-mul-add j w column low));
-}
-
--- two places of a line are peers
-pub line_peers : (w line i j : ℕ) → line < 2 * w → i < w → j < w → i ≢ j → ArePeers w (line_cell w line i) (line_cell w line j)
-line_peers w line i j below first second apart =
-    elim (cases_lt line w) [
-      | inl row ↦ rw (lt-ltb line w row) (row_peers w line i j row first second apart)
-      | inr column ↦ rw (le-ltb line w column) (column_peers w (line - w) i j (omega arith) first second apart)
     ]
 
 pub peers_differ : (g : GridValue) → IsGrid g → IsLatin g → (a b : ℕ) → ArePeers g.size a b → number_at g a ≢ number_at g b

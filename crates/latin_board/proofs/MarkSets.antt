@@ -19,15 +19,16 @@ has_mark-full_marks w n =
       ]
     ]
 
-one_more : (b : ℕ) → b < 2 → eqb ((b + 1) % 2) 1 ≡ not (eqb b 1)
-one_more zero h = refl
-one_more (suc zero) h = refl
-one_more (suc (suc b)) h = absurd (omega arith)
+-- a bit of the flipped set, where the one that is flipped is here, and where it is not
+one_flipped : (b : ℕ) → b < 2 → eqb ((b + 1) % 2) 1 ≡ not (eqb b 1)
+one_flipped zero h = refl
+one_flipped (suc zero) h = refl
+one_flipped (suc (suc b)) h = absurd (omega arith)
 
-none_more : (b : ℕ) → b < 2 → eqb ((b + 0) % 2) 1 ≡ eqb b 1
-none_more zero h = refl
-none_more (suc zero) h = refl
-none_more (suc (suc b)) h = absurd (omega arith)
+none_flipped : (b : ℕ) → b < 2 → eqb ((b + 0) % 2) 1 ≡ eqb b 1
+none_flipped zero h = refl
+none_flipped (suc zero) h = refl
+none_flipped (suc (suc b)) h = absurd (omega arith)
 
 -- only the number that is flipped changes
 pub has_mark-flip_mark : (marks n k : ℕ) → has_mark (flip_mark marks n) k ≡ cond (eqb k n) (not (has_mark marks k)) (has_mark marks k)
@@ -35,9 +36,9 @@ has_mark-flip_mark marks n k =
     elim (cases_eq k n) [
       | inl same ↦
           let bit : bit_at (2 ^ n) k ≡ 1 = rw same (bit_at-pow_same n) in
-          rw (bit_at_xor marks (2 ^ n) k, bit, eq-eqb k n same) (one_more (bit_at marks k) (bit_at-lt marks k))
+          rw (bit_at_xor marks (2 ^ n) k, bit, eq-eqb k n same) (one_flipped (bit_at marks k) (bit_at-lt marks k))
       | inr other ↦
-          rw (bit_at_xor marks (2 ^ n) k, bit_at-pow_other n k other, ne_eqb k n other) (none_more (bit_at marks k) (bit_at-lt marks k))
+          rw (bit_at_xor marks (2 ^ n) k, bit_at-pow_other n k other, ne_eqb k n other) (none_flipped (bit_at marks k) (bit_at-lt marks k))
     ]
 
 same_bit : (a b : ℕ) → a < 2 → b < 2 → eqb a 1 ≡ eqb b 1 → a ≡ b

@@ -7,7 +7,8 @@ pub number_within : (g : GridValue) → IsGrid g → (cell : ℕ) → cell < g.s
 number_within g valid cell inside = valid.within cell 0 (omega (arith, valid.count))
 
 -- grids of one size with the same number at each square are one
-pub same_numbers : (g h : GridValue) → IsGrid g → IsGrid h → g.size ≡ h.size → ((cell : ℕ) → cell < g.size * g.size → number_at g cell ≡ number_at h cell) → g ≡ h
+pub same_numbers : (g h : GridValue) → IsGrid g → IsGrid h → g.size ≡ h.size
+    → ((cell : ℕ) → cell < g.size * g.size → number_at g cell ≡ number_at h cell) → g ≡ h
 same_numbers g h g_valid h_valid size each =
     let squares = ap (λ w. w * w) size in
     let numbers = ext_get_or 0 g.numbers h.numbers (g_valid.count ∙ squares ∙ sym h_valid.count) (λ cell inside. each cell (omega (arith, g_valid.count))) in

@@ -1,12 +1,13 @@
 //! Grids of numbers, and the Latin rule.
 
-ghost use Rattle.std.specs.Prelude.{◌≡◌, ℕ, ◌+◌, ◌*◌, ◌<◌, ◌≤◌, ◌↔◌, IsTrue, slice_set, replicate};
+ghost use Rattle.std.specs.Prelude.{◌≡◌, ℕ, ◌*◌, ◌<◌, ◌≤◌, ◌↔◌, IsTrue, slice_set, replicate};
 ghost use Rattle.std.specs.Bool.{OnTrue};
 ghost use Rattle.std.specs.Cmp.{decided, partial_equiv_from_equiv};
 ghost use Rattle.latin_board.specs.Squares.{blank_grid, number_at, times_in, HasEachOnce, IsGrid, IsFull, IsLatin, latin_test};
-ghost use Rattle.latin_board.specs.Lines.{line_cell, line_of};
+ghost use Rattle.latin_board.specs.Lines.{line_of};
 ghost use Rattle.latin_board.specs.Sameness.{same_grid, same_grid_decides};
 
+use crate::lines::line_cell;
 use crate::size::Size;
 use std::marker::Model;
 
@@ -146,23 +147,6 @@ fn no_numbers() -> [u8; CELLS]
     ensures { result ≡ replicate CELLS 0 }
 {
     [0; CELLS]
-}
-
-// The square at a place of a line: the rows from the top are the first lines, the columns from the left the others.
-fn line_cell(size: Size, line: u8, place: u8) -> usize
-    requires line { line < 2 * size }
-    requires place { place < size }
-    ensures value { result ≡ line_cell size line place }
-    ensures inside { result < size * size }
-{
-    let width = size.get() as usize;
-    let line = line as usize;
-    let place = place as usize;
-    if line < width {
-        line * width + place
-    } else {
-        place * width + (line - width)
-    }
 }
 
 /// Two grids are equal where their sizes and all their numbers are.

@@ -108,6 +108,18 @@ fn grids(rt: HostRuntime) {
 }
 
 #[test]
+fn lines(rt: HostRuntime) {
+    let size = Size::new(3).expect(&rt, "a size");
+    let cells = [0, 1, 2, 3, 4, 5, 6, 7, 8, 0, 3, 6, 1, 4, 7, 2, 5, 8];
+    for line in 0u8..6 {
+        for place in 0u8..3 {
+            let cell = cells[line as usize * 3 + place as usize];
+            assert_eq!(rt; line_cell(size, line, place), cell);
+        }
+    }
+}
+
+#[test]
 fn edges(rt: HostRuntime) {
     let size = Size::new(3).expect(&rt, "a size");
     let places = [

@@ -13,61 +13,71 @@ use Rattle.latin_board.specs.Changes.{OneSquare, board_after}
 use Rattle.play_midend.specs.Steps.{marks_of_all, all_marked, filled, givens_of}
 
 -- of n places those before i hold what f says
-pub record IsFilled (f : ℕ → ℕ) (n i : ℕ) (xs : List ℕ) : Type 0 where
+pub record PlacesHold (f : ℕ → ℕ) (n i : ℕ) (xs : List ℕ) : Type 0 where
   pub long : length xs ≡ n
   pub each : (k : ℕ) → k < i → get_or xs k 0 ≡ f k
 
-pub filled_more : (f : ℕ → ℕ) (n i x : ℕ) (xs : List ℕ) → IsFilled f n i xs → i < n → x ≡ f i → IsFilled f n (i + 1) (set xs i x)
-filled_more f n i x xs h inside is = record {
+pub places_more : (f : ℕ → ℕ) (n i x : ℕ) (xs : List ℕ) → PlacesHold f n i xs → i < n → x ≡ f i → PlacesHold f n (i + 1) (set xs i x)
+places_more f n i x xs h inside is = record {
   long = length-set xs i x ∙ h.long;
   each = rw is (fill_by_more f xs i 0 (omega (arith, h.long)) h.each);
 }
 
-pub filled_all : (f : ℕ → ℕ) (n i : ℕ) (xs : List ℕ) → IsFilled f n i xs → n ≤ i → xs ≡ map f (range_with_len 0 n)
-filled_all f n i xs h all = fill_by_all f xs n 0 h.long (λ k less. h.each k (omega arith))
+pub places_all : (f : ℕ → ℕ) (n i : ℕ) (xs : List ℕ) → PlacesHold f n i xs → n ≤ i → xs ≡ map f (range_with_len 0 n)
+places_all f n i xs h all = fill_by_all f xs n 0 h.long (λ k less. h.each k (omega arith))
 
-filled_same : (n i : ℕ) (ys xs : List ℕ) → IsFilled (λ k. slice_index ys k) n i xs → n ≤ i → length ys ≡ n → xs ≡ ys
-filled_same n i ys xs h all long = same_number_lists xs ys (h.long ∙ sym long) (λ k less. h.each k (omega (arith, h.long)))
+places_same : (n i : ℕ) (ys xs : List ℕ) → PlacesHold (λ k. slice_index ys k) n i xs → n ≤ i → length ys ≡ n → xs ≡ ys
+places_same n i ys xs h all long = same_number_lists xs ys (h.long ∙ sym long) (λ k less. h.each k (omega (arith, h.long)))
 
-filled_alike : (n i x : ℕ) (xs : List ℕ) → IsFilled (λ _. x) n i xs → n ≤ i → xs ≡ replicate n x
-filled_alike n i x xs h all =
+places_alike : (n i x : ℕ) (xs : List ℕ) → PlacesHold (λ _. x) n i xs → n ≤ i → xs ≡ replicate n x
+places_alike n i x xs h all =
     same_number_lists xs (replicate n x) (h.long ∙ sym (length-replicate n x)) (λ k less.
     let inside : k < n = omega (arith, h.long) in
     h.each k (omega arith) ∙ sym (get_or-replicate n k x 0 inside))
 
 -- the givens of a puzzle, once all are written
-pub givens_all : (p : Puzzle) (grid : GridValue) (w i : ℕ) → grid.size ≡ w → w ≡ p.size → IsFilled p.given (w * w) i grid.numbers → w * w ≤ i → grid ≡ givens_of p
+pub givens_all : (p : Puzzle) (grid : GridValue) (w i : ℕ) → grid.size ≡ w → w ≡ p.size → PlacesHold p.given (w * w) i grid.numbers
+    → w * w ≤ i → grid ≡ givens_of p
 givens_all p grid w i size same h all =
     let numbers : grid.numbers ≡ map p.given (range_with_len 0 (p.size * p.size)) =
-    filled_all p.given (w * w) i grid.numbers h all ∙ ap (λ v. map p.given (range_with_len 0 (v * v))) same in
+    places_all p.given (w * w) i grid.numbers h all ∙ ap (λ v. map p.given (range_with_len 0 (v * v))) same in
     λ k. record { size = (size ∙ same) k; numbers = numbers k }
 
 -- the marks of all squares before i
 pub record HasMarks (board next : BoardValue) (i : ℕ) : Type 0 where
   pub rest : next ≡ record board { marks = next.marks }
-  pub marks : IsFilled (marks_of_all board) (board.size * board.size) i next.marks
+  pub marks : PlacesHold (marks_of_all board) (board.size * board.size) i next.marks
 
 -- the numbers of all squares before i
 pub record HasNumbers (board next : BoardValue) (grid : GridValue) (i : ℕ) : Type 0 where
   pub size : next.size ≡ board.size
   pub done : next.done ≡ board.done
-  pub numbers : IsFilled (number_at grid) (board.size * board.size) i next.numbers
-  pub marks : IsFilled (λ _. no_marks) (board.size * board.size) i next.marks
+  pub numbers : PlacesHold (number_at grid) (board.size * board.size) i next.numbers
+  pub marks : PlacesHold (λ _. no_marks) (board.size * board.size) i next.marks
   pub completed : 0 < i → next.completed ≡ true
   pub cheated : 0 < i → next.cheated ≡ true
 
 pub marks_all : (board next : BoardValue) (i : ℕ) → HasMarks board next i → board.size * board.size ≤ i → next ≡ all_marked board
 marks_all board next i h all =
-    h.rest ∙ ap (λ ms. record board { marks = ms }) (filled_all (marks_of_all board) (board.size * board.size) i next.marks h.marks all)
+    h.rest ∙ ap (λ ms. record board { marks = ms }) (places_all (marks_of_all board) (board.size * board.size) i next.marks h.marks all)
 
--- a square written with its own number keeps all numbers
-pub marks_more : (board next : BoardValue) (i marks : ℕ) → HasMarks board next i → i < board.size * board.size → marks ≡ marks_of_all board i → HasMarks board (board_after next (OneSquare (record { cell = i; number = number_at (grid_of board) i; marks = marks; completed = board.completed; cheated = board.cheated }))) (i + 1)
-marks_more board next i marks h inside is =
+-- a square that is written with its own number and its marks
+pub marks_more : (board next new : BoardValue) (i marks : ℕ) → HasMarks board next i → i < board.size * board.size
+    → marks ≡ marks_of_all board i
+    → new ≡ board_after next (OneSquare (record {
+      cell = i;
+      number = number_at (grid_of board) i;
+      marks = marks;
+      completed = board.completed;
+      cheated = board.cheated;
+    }))
+    → HasMarks board new (i + 1)
+marks_more board next new i marks h inside is written =
     let numbers : slice_set next.numbers i (number_at (grid_of board) i) ≡ board.numbers =
     ap (λ (b : BoardValue). slice_set b.numbers i (number_at (grid_of board) i)) h.rest ∙ set-get_or board.numbers i 0 in
     let size : next.size ≡ board.size = ap (λ (b : BoardValue). b.size) h.rest in
     let done : next.done ≡ board.done = ap (λ (b : BoardValue). b.done) h.rest in
-    record {
+    rw written (record {
       rest = λ k. record {
         size = size k;
         numbers = numbers k;
@@ -76,19 +86,16 @@ marks_more board next i marks h inside is =
         cheated = board.cheated;
         done = done k;
       };
-      marks = filled_more (marks_of_all board) (board.size * board.size) i marks next.marks h.marks inside is;
-    }
+      marks = places_more (marks_of_all board) (board.size * board.size) i marks next.marks h.marks inside is;
+    })
 
--- the marks that the loop writes, by the branch
-pub marks_written : (board next new : BoardValue) (i marks : ℕ) → HasMarks board next i → i < board.size * board.size → marks ≡ marks_of_all board i → new ≡ board_after next (OneSquare (record { cell = i; number = number_at (grid_of board) i; marks = marks; completed = board.completed; cheated = board.cheated })) → HasMarks board new (i + 1)
-marks_written board next new i marks h inside is written = rw written (marks_more board next i marks h inside is)
-
-pub numbers_all : (board next : BoardValue) (grid : GridValue) (i : ℕ) → HasNumbers board next grid i → IsGrid grid → grid.size ≡ board.size → 0 < i → board.size * board.size ≤ i → next ≡ filled board grid
+pub numbers_all : (board next : BoardValue) (grid : GridValue) (i : ℕ) → HasNumbers board next grid i → IsGrid grid → grid.size ≡ board.size
+    → 0 < i → board.size * board.size ≤ i → next ≡ filled board grid
 numbers_all board next grid i h valid size some all =
     let n = board.size * board.size in
     let long : length grid.numbers ≡ n = valid.count ∙ ap (λ w. w * w) size in
-    let numbers = filled_same n i grid.numbers next.numbers h.numbers all long in
-    let marks = filled_alike n i no_marks next.marks h.marks all in
+    let numbers = places_same n i grid.numbers next.numbers h.numbers all long in
+    let marks = places_alike n i no_marks next.marks h.marks all in
     let completed = h.completed some in
     let cheated = h.cheated some in
     λ k. record {

@@ -10,4 +10,3 @@ pub mod Playing
 pub mod SessionLaws
 pub mod MoveListLaws
 pub mod StorableLaws
-pub mod Solving

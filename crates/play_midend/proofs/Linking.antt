@@ -1,7 +1,6 @@
 -- The records of a session and its board stay linked when the board is exchanged with the record before or behind it.
-use Rattle.std.proofs.Common.{◌≡◌, ◌≢◌, ℕ, zero, suc, ◌+◌, ◌-◌, ◌<◌, ◌≤◌, false, List, [], ◌∷◌, ◌++◌, length, get_or, set, take, drop, Ok, refl, sym, ap, ◌∙◌, subst, arith, add-one, drop-cons}
-use Rattle.std.proofs.lemmas.List.{length-set, length-append, take-set, drop-set, drop-set-lt, map-append, length-take-le, get_or-set_same, take-map, take-append-drop}
-use Rattle.std.proofs.lemmas.Grind.{common_steps}
+use Rattle.std.proofs.Common.{◌≡◌, ◌≢◌, ℕ, suc, ◌+◌, ◌-◌, ◌<◌, ◌≤◌, false, List, [], ◌∷◌, ◌++◌, length, get_or, set, take, drop, Ok, refl, sym, ap, ◌∙◌, subst, arith, add-one, drop-cons}
+use Rattle.std.proofs.lemmas.List.{length-set, length-append, length-map, take_at, drop_at, take-set, drop-set, drop-set-lt, map-append, length-take-le, get_or-set_same, take-map, take-append-drop}
 use Rattle.std.proofs.Math.Seq.{take-suc, map-set_same}
 use Rattle.latin_board.specs.Boards.{BoardValue}
 use Rattle.latin_board.specs.Changes.{ChangeValue, OneSquare, WholeBoard, FitsBoard, board_after}
@@ -11,7 +10,7 @@ use Rattle.play_midend.specs.declared.session.Record.{Record}
 use Rattle.play_midend.specs.Steps.{step, start_of, replay_from, ArePlayable, IsLegal, is_restart, begins_with_restart}
 use Rattle.play_midend.specs.Histories.{most_states}
 use Rattle.play_midend.specs.Links.{moves_of, IsBack, IsAhead, ArePast, AreLater, AreLinked}
-use Rattle.play_midend.proofs.Replaying.{after_step, ArePlayable-append}
+use Rattle.play_midend.proofs.Replaying.{after_step, ArePlayable-append, restart_first-take, restart_first-push}
 
 -- the exchange keeps the size
 pub size_after : (b : BoardValue) (change : ChangeValue) → FitsBoard b change → (board_after b change).size ≡ b.size
@@ -24,35 +23,43 @@ pub record LastBack (p : Puzzle) (first : BoardValue) (rs : List Record) (r : Re
   pub past : ArePast p first rs before
   pub is_back : IsBack p before r now
 
-past_last : (p : Puzzle) (first : BoardValue) (rs : List Record) (r : Record) (now : BoardValue) → ArePast p first (rs ++ r ∷ []) now → LastBack p first rs r now
+past_last : (p : Puzzle) (first : BoardValue) (rs : List Record) (r : Record) (now : BoardValue) → ArePast p first (rs ++ r ∷ []) now
+    → LastBack p first rs r now
 past_last p first [] r now h = record { before = first; past = refl; is_back = subst (λ (b : BoardValue). IsBack p first r b) (sym h.2) h.1 }
 past_last p first (q ∷ rs) r now h =
     let more = past_last p h.0 rs r now h.2 in
     record { before = more.before; past = (h.0, h.1, more.past); is_back = more.is_back }
 
-past_more : (p : Puzzle) (first : BoardValue) (rs : List Record) (r : Record) (before now : BoardValue) → ArePast p first rs before → IsBack p before r now → ArePast p first (rs ++ r ∷ []) now
+past_more : (p : Puzzle) (first : BoardValue) (rs : List Record) (r : Record) (before now : BoardValue) → ArePast p first rs before
+    → IsBack p before r now → ArePast p first (rs ++ r ∷ []) now
 past_more p first [] r before now h back = (now, subst (λ (b : BoardValue). IsBack p b r now) h back, refl)
 past_more p first (q ∷ rs) r before now h back = (h.0, h.1, past_more p h.0 rs r before now h.2 back)
 
 -- the records round a place
-take_there : (records : List Record) (n : ℕ) (r : Record) → n < length records → r ≡ get_or records n r → take (n + 1) records ≡ take n records ++ r ∷ []
+take_there : (records : List Record) (n : ℕ) (r : Record) → n < length records → r ≡ get_or records n r
+    → take (n + 1) records ≡ take n records ++ r ∷ []
 take_there records n r inside is =
     rw add-one (take-suc records n r inside ∙ ap (λ x. take n records ++ x ∷ []) (sym is))
 
-drop_there : (records : List Record) (n : ℕ) (r : Record) → n < length records → r ≡ get_or records n r → drop n records ≡ r ∷ drop (n + 1) records
+drop_there : (records : List Record) (n : ℕ) (r : Record) → n < length records → r ≡ get_or records n r
+    → drop n records ≡ r ∷ drop (n + 1) records
 drop_there records n r inside is =
     rw add-one (drop-cons records n r inside ∙ ap (λ x. x ∷ drop (suc n) records) (sym is))
 
-pub moves_of-set : (records : List Record) (n : ℕ) (r q : Record) → r ≡ get_or records n r → q.made ≡ r.made → moves_of (set records n q) ≡ moves_of records
+pub moves_of-set : (records : List Record) (n : ℕ) (r q : Record) → r ≡ get_or records n r → q.made ≡ r.made
+    → moves_of (set records n q) ≡ moves_of records
 moves_of-set records n r q is made = map-set_same (λ (k : Record). k.made) records n q r (made ∙ ap (λ (k : Record). k.made) is)
 
 -- the record that stands before the position
-pub last_back : (p : Puzzle) (records : List Record) (n : ℕ) (board : BoardValue) (r : Record) → AreLinked p records (n + 1) board → r ≡ get_or records n r → LastBack p (start_of p) (take n records) r board
+pub last_back : (p : Puzzle) (records : List Record) (n : ℕ) (board : BoardValue) (r : Record) → AreLinked p records (n + 1) board
+    → r ≡ get_or records n r → LastBack p (start_of p) (take n records) r board
 last_back p records n board r h is =
     past_last p (start_of p) (take n records) r board
     (subst (λ (rs : List Record). ArePast p (start_of p) rs board) (take_there records n r (let i = h.inside in omega arith) is) h.past)
 
-pub linked_back : (p : Puzzle) (records : List Record) (n : ℕ) (board : BoardValue) (r q : Record) (new : BoardValue) → AreLinked p records (n + 1) board → r ≡ get_or records n r → new ≡ board_after board r.change → q.made ≡ r.made → FitsBoard new q.change → board_after new q.change ≡ board → AreLinked p (set records n q) n new
+pub linked_back : (p : Puzzle) (records : List Record) (n : ℕ) (board : BoardValue) (r q : Record) (new : BoardValue)
+    → AreLinked p records (n + 1) board → r ≡ get_or records n r → new ≡ board_after board r.change → q.made ≡ r.made
+    → FitsBoard new q.change → board_after new q.change ≡ board → AreLinked p (set records n q) n new
 linked_back p records n board r q new h is at made fits back =
     let last = last_back p records n board r h is in
     let inside : n < length records = let i = h.inside in omega arith in
@@ -76,12 +83,15 @@ pub record FirstAhead (p : Puzzle) (now : BoardValue) (r : Record) (rs : List Re
   pub is_ahead : IsAhead p now r next
   pub later : AreLater p next rs
 
-pub first_ahead : (p : Puzzle) (records : List Record) (n : ℕ) (board : BoardValue) (r : Record) → AreLinked p records n board → n < length records → r ≡ get_or records n r → FirstAhead p board r (drop (n + 1) records)
+pub first_ahead : (p : Puzzle) (records : List Record) (n : ℕ) (board : BoardValue) (r : Record) → AreLinked p records n board
+    → n < length records → r ≡ get_or records n r → FirstAhead p board r (drop (n + 1) records)
 first_ahead p records n board r h inside is =
     let later : AreLater p board (r ∷ drop (n + 1) records) = subst (λ (rs : List Record). AreLater p board rs) (drop_there records n r inside is) h.later in
     record { next = later.0; is_ahead = later.1; later = later.2 }
 
-pub linked_ahead : (p : Puzzle) (records : List Record) (n : ℕ) (board : BoardValue) (r q : Record) (new : BoardValue) → AreLinked p records n board → n < length records → r ≡ get_or records n r → new ≡ board_after board r.change → q.made ≡ r.made → FitsBoard new q.change → board_after new q.change ≡ board → AreLinked p (set records n q) (n + 1) new
+pub linked_ahead : (p : Puzzle) (records : List Record) (n : ℕ) (board : BoardValue) (r q : Record) (new : BoardValue)
+    → AreLinked p records n board → n < length records → r ≡ get_or records n r → new ≡ board_after board r.change → q.made ≡ r.made
+    → FitsBoard new q.change → board_after new q.change ≡ board → AreLinked p (set records n q) (n + 1) new
 linked_ahead p records n board r q new h inside is at made fits back =
     let first = first_ahead p records n board r h inside is in
     let e : new ≡ first.next = at ∙ first.is_ahead.ahead in
@@ -102,41 +112,41 @@ linked_ahead p records n board r q new h inside is at made fits back =
     }
 
 -- a new record behind the past ones
-pub linked_new : (p : Puzzle) (records : List Record) (n : ℕ) (board : BoardValue) (r : Record) (next : BoardValue) → AreLinked p records n board → IsAhead p board r next → n + 2 ≤ most_states → (n ≡ 0 → is_restart r.made ≡ false) → AreLinked p (take n records ++ r ∷ []) n board
+pub linked_new : (p : Puzzle) (records : List Record) (n : ℕ) (board : BoardValue) (r : Record) (next : BoardValue)
+    → AreLinked p records n board → IsAhead p board r next → n + 2 ≤ most_states → (n ≡ 0 → is_restart r.made ≡ false)
+    → AreLinked p (take n records ++ r ∷ []) n board
 linked_new p records n board r next h ahead room restart =
     let inside = h.inside in
     let front : length (take n records) ≡ n = length-take-le n records inside in
     let long : length (take n records ++ r ∷ []) ≡ n + 1 = length-append (take n records) (r ∷ []) ∙ ap (λ k. k + 1) front in
+    let made : Record → Move = λ k. k.made in
+    let moves : moves_of (take n records ++ r ∷ []) ≡ moves_of (take n records) ++ r.made ∷ [] = map-append made (take n records) (r ∷ []) in
+    let first : begins_with_restart (moves_of (take n records)) ≡ false =
+    ap begins_with_restart (sym (take-map made n records)) ∙ restart_first-take n (moves_of records) h.no_restart_first in
+    let count : length (moves_of (take n records)) ≡ n = length-map (take n records) made ∙ front in
     record {
       size = h.size;
       inside = rw long (omega arith);
       few = rw long (omega arith);
-      no_restart_first = not_first p records n r h restart;
-      past = subst (λ (rs : List Record). ArePast p (start_of p) rs board) (sym (take_front (take n records) (r ∷ []) n front)) h.past;
-      later = subst (λ (rs : List Record). AreLater p board rs) (sym (drop_front (take n records) (r ∷ []) n front)) (next, ahead, tt);
+      no_restart_first = ap begins_with_restart moves
+          ∙ restart_first-push (moves_of (take n records)) r.made first (λ none. restart (omega arith));
+      past = subst (λ (rs : List Record). ArePast p (start_of p) rs board) (sym (take_at (take n records) (r ∷ []) n front)) h.past;
+      later = subst (λ (rs : List Record). AreLater p board rs) (sym (drop_at (take n records) (r ∷ []) n front)) (next, ahead, tt);
     }
-  where
-    take_front : (xs ys : List Record) (k : ℕ) → length xs ≡ k → take k (xs ++ ys) ≡ xs
-    take_front xs ys k e = grind (arith, common_steps)
-
-    drop_front : (xs ys : List Record) (k : ℕ) → length xs ≡ k → drop k (xs ++ ys) ≡ ys
-    drop_front xs ys k e = grind (arith, common_steps)
-
-    not_first : (p : Puzzle) (records : List Record) (n : ℕ) (r : Record) {board : BoardValue} → AreLinked p records n board → (n ≡ 0 → is_restart r.made ≡ false) → begins_with_restart (moves_of (take n records ++ r ∷ [])) ≡ false
-    not_first p records zero r h restart = restart refl
-    not_first p [] (suc n) r h restart = let i = h.inside in absurd (omega arith)
-    not_first p (q ∷ rs) (suc n) r h restart = h.no_restart_first
 
 -- what links say of replay
-pub replay_past : (p : Puzzle) (first : BoardValue) (rs : List Record) (now : BoardValue) → ArePast p first rs now → replay_from p first (moves_of rs) ≡ now
+pub replay_past : (p : Puzzle) (first : BoardValue) (rs : List Record) (now : BoardValue) → ArePast p first rs now
+    → replay_from p first (moves_of rs) ≡ now
 replay_past p first [] now h = sym h
 replay_past p first (r ∷ rs) now h =
     ap (λ (b : BoardValue). replay_from p b (moves_of rs)) (after_step p first r.made h.0 h.1.stepped) ∙ replay_past p h.0 rs now h.2
 
-pub shown_linked : (p : Puzzle) (records : List Record) (n : ℕ) (board : BoardValue) → AreLinked p records n board → replay_from p (start_of p) (take n (moves_of records)) ≡ board
+pub shown_linked : (p : Puzzle) (records : List Record) (n : ℕ) (board : BoardValue) → AreLinked p records n board
+    → replay_from p (start_of p) (take n (moves_of records)) ≡ board
 shown_linked p records n board h = rw (take-map (λ (r : Record). r.made) n records) (replay_past p (start_of p) (take n records) board h.past)
 
-past_playable : (p : Puzzle) (first : BoardValue) (rs : List Record) (now : BoardValue) → ArePast p first rs now → ArePlayable p first (moves_of rs)
+past_playable : (p : Puzzle) (first : BoardValue) (rs : List Record) (now : BoardValue) → ArePast p first rs now
+    → ArePlayable p first (moves_of rs)
 past_playable p first [] now h = tt
 past_playable p first (r ∷ rs) now h =
     (rw h.1.stepped refl, subst (λ (b : BoardValue). ArePlayable p b (moves_of rs)) (sym (after_step p first r.made h.0 h.1.stepped)) (past_playable p h.0 rs now h.2))
@@ -146,7 +156,8 @@ later_playable p now [] h = tt
 later_playable p now (r ∷ rs) h =
     (rw h.1.stepped refl, subst (λ (b : BoardValue). ArePlayable p b (moves_of rs)) (sym (after_step p now r.made h.0 h.1.stepped)) (later_playable p h.0 rs h.2))
 
-pub legal_linked : (p : Puzzle) (records : List Record) (n : ℕ) (board : BoardValue) → AreLinked p records n board → IsLegal p (moves_of records)
+pub legal_linked : (p : Puzzle) (records : List Record) (n : ℕ) (board : BoardValue) → AreLinked p records n board
+    → IsLegal p (moves_of records)
 legal_linked p records n board h =
     let whole : moves_of (take n records) ++ moves_of (drop n records) ≡ moves_of records =
     sym (map-append (λ r. r.made) (take n records) (drop n records)) ∙ ap moves_of (take-append-drop n records) in
@@ -159,5 +170,6 @@ legal_linked p records n board h =
     }
 
 -- one less than a position, and back
-pub with_one_less : (p : Puzzle) (records : List Record) (n : ℕ) (board : BoardValue) → AreLinked p records n board → n ≢ 0 → AreLinked p records ((n - 1) + 1) board
+pub with_one_less : (p : Puzzle) (records : List Record) (n : ℕ) (board : BoardValue) → AreLinked p records n board → n ≢ 0
+    → AreLinked p records ((n - 1) + 1) board
 with_one_less p records n board h some = let e : n ≡ (n - 1) + 1 = omega arith in subst (λ k. AreLinked p records k board) e h

@@ -10,7 +10,8 @@ use Rattle.play_midend.specs.Steps.{refusal_of, unless_refused, moved, step, Mak
 pub step_allowed : (p : Puzzle) (b : BoardValue) (m : Move) → refusal_of p b m ≡ None → step p b m ≡ Ok (moved p b m)
 step_allowed p b m allowed = ap (λ o. unless_refused o (moved p b m)) allowed
 
-pub makes : (p : Puzzle) (b : BoardValue) (m : Move) (change : ChangeValue) → IsBoard b → refusal_of p b m ≡ None → FitsBoard b change → board_after b change ≡ moved p b m → Makes p b m change
+pub makes : (p : Puzzle) (b : BoardValue) (m : Move) (change : ChangeValue) → IsBoard b → refusal_of p b m ≡ None → FitsBoard b change
+    → board_after b change ≡ moved p b m → Makes p b m change
 makes p b m change valid allowed fits board = record {
   fits = fits;
   made = rw board (step_allowed p b m allowed);

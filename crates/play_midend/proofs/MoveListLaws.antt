@@ -1,4 +1,4 @@
--- A list of moves that is played along from a new session, and steps back.
+-- A list of moves that is played along from a new session, and undos in turn.
 use Rattle.std.proofs.Common.{◌≡◌, ◌≢◌, ℕ, zero, suc, ◌+◌, ◌-◌, ◌≤◌, true, false, ◌==◌, cond, List, [], ◌∷◌, ◌++◌, length, Option, Some, None, Result, Ok, Err, IsOk, refl, sym, ap, ◌∙◌, subst, arith}
 use Rattle.std.proofs.lemmas.List.{append-nil, append_assoc, length-append, take_all}
 use borrow.Author.Tests.{apart_eqb}
@@ -22,20 +22,10 @@ record AcceptedThen {A B : Type 0} (f : A → Result B PlayFault) (r : Result A 
   pub first : r ≡ Ok mid
   pub rest : f mid ≡ Ok b
 
-accepted_then : {A B : Type 0} (f : A → Result B PlayFault) (r : Result A PlayFault) (b : B) → result_and_then f r ≡ Ok b → AcceptedThen f r b
+accepted_then : {A B : Type 0} (f : A → Result B PlayFault) (r : Result A PlayFault) (b : B) → result_and_then f r ≡ Ok b
+    → AcceptedThen f r b
 accepted_then f (Ok a) b is = record { mid = a; first = refl; rest = is }
 accepted_then f (Err fault) b is = cc
-
--- lists in two parts
-onward : {P : Type 0} (f g : History P → Result (History P) PlayFault) (r : Result (History P) PlayFault) (after : History P → Result (History P) PlayFault) → ((h : History P) → f h ≡ result_and_then after (g h)) → result_and_then f r ≡ result_and_then after (result_and_then g r)
-onward f g (Ok h) after same = same h
-onward f g (Err fault) after same = refl
-
-pub played_all-append : {P : Type 0} (p : Puzzle) (h : History P) (ks ms : List Move) → played_all p h (ks ++ ms) ≡ result_and_then (λ mid. played_all p mid ms) (played_all p h ks)
-played_all-append p h [] ms = refl
-played_all-append {P} p h (k ∷ ks) ms =
-    onward (λ (next : History P). played_all p next (ks ++ ms)) (λ (next : History P). played_all p next ks) (played p h k)
-    (λ (mid : History P). played_all p mid ms) (λ (next : History P). played_all-append p next ks ms)
 
 -- the moves of a session at its last position are its past
 past_all : {P : Type 0} (h : History P) (ks : List Move) → past (with_moves h ks) ≡ ks
@@ -71,7 +61,8 @@ not_refused None a h = refl
 not_refused (Some fault) a h = cc
 
 -- a move behind the last
-pub played_last : {P : Type 0} (p : Puzzle) (h : History P) (ks : List Move) (m : Move) → IsOk (step p (replay p ks) m) → length ks + 2 ≤ most_states → (length ks ≡ 0 → is_restart m ≡ false) → played p (with_moves h ks) m ≡ Ok (with_moves h (ks ++ m ∷ []))
+pub played_last : {P : Type 0} (p : Puzzle) (h : History P) (ks : List Move) (m : Move) → IsOk (step p (replay p ks) m)
+    → length ks + 2 ≤ most_states → (length ks ≡ 0 → is_restart m ≡ false) → played p (with_moves h ks) m ≡ Ok (with_moves h (ks ++ m ∷ []))
 played_last {P} p h ks m stepped room restart =
     let on_board : refusal_of p (shown p (with_moves h ks)) m ≡ None = rw (shown_all p h ks) (not_refused (refusal_of p (replay p ks) m) (moved p (replay p ks) m) stepped) in
     let first = restart_allowed (length ks + 1) m (λ one. restart (omega arith)) in
@@ -80,7 +71,9 @@ played_last {P} p h ks m stepped room restart =
     played_allowed p (with_moves h ks) m none ∙ ap (λ k. let r : Result (History P) PlayFault = Ok k in r) (with_move_last h ks m)
 
 -- moves that can be made in turn are accepted
-played_along : {P : Type 0} (p : Puzzle) (h : History P) (ks ms : List Move) → ArePlayable p (replay p ks) ms → length ks + length ms + 1 ≤ most_states → (length ks ≡ 0 → begins_with_restart ms ≡ false) → played_all p (with_moves h ks) ms ≡ Ok (with_moves h (ks ++ ms))
+played_along : {P : Type 0} (p : Puzzle) (h : History P) (ks ms : List Move) → ArePlayable p (replay p ks) ms
+    → length ks + length ms + 1 ≤ most_states → (length ks ≡ 0 → begins_with_restart ms ≡ false)
+    → played_all p (with_moves h ks) ms ≡ Ok (with_moves h (ks ++ ms))
 played_along {P} p h ks [] playable room restart = ap (λ ms. let r : Result (History P) PlayFault = Ok (with_moves h ms) in r) (sym (append-nil ks))
 played_along {P} p h ks (m ∷ ms) playable room restart =
     let one = played_last p h ks m playable.0 (omega arith) restart in
@@ -98,7 +91,8 @@ record AcceptedAlong {P : Type 0} (p : Puzzle) (h : History P) (ks ms : List Mov
   pub few : length (ks ++ ms) + 1 ≤ most_states
   pub last_is : last ≡ with_moves h (ks ++ ms)
 
-accepted_along : {P : Type 0} (p : Puzzle) (h : History P) (ks ms : List Move) (last : History P) → length ks + 1 ≤ most_states → played_all p (with_moves h ks) ms ≡ Ok last → AcceptedAlong p h ks ms last
+accepted_along : {P : Type 0} (p : Puzzle) (h : History P) (ks ms : List Move) (last : History P) → length ks + 1 ≤ most_states
+    → played_all p (with_moves h ks) ms ≡ Ok last → AcceptedAlong p h ks ms last
 accepted_along p h ks [] last room is =
     let e : with_moves h ks ≡ last = cc in
     record {
@@ -126,11 +120,16 @@ accepted_along {P} p h ks (m ∷ ms) last room is =
     }
 
 -- from a new session
-pub legal_list_played : {P : Type 0} (p : Puzzle) (puzzle : P) (params next_params : Params) (extras : Extras) (ms : List Move) → IsLegal p ms → length ms + 1 ≤ most_states → played_all p (started puzzle params next_params extras) ms ≡ Ok (with_moves (started puzzle params next_params extras) ms)
+pub legal_list_played : {P : Type 0} (p : Puzzle) (puzzle : P) (params next_params : Params) (extras : Extras) (ms : List Move)
+    → IsLegal p ms → length ms + 1 ≤ most_states
+    → played_all p (started puzzle params next_params extras) ms ≡ Ok (with_moves (started puzzle params next_params extras) ms)
 legal_list_played p puzzle params next_params extras ms legal few =
     played_along p (started puzzle params next_params extras) [] ms legal.playable (omega arith) (λ none. legal.no_restart_first)
 
-pub accepted_list_legal : {P : Type 0} (p : Puzzle) (puzzle : P) (params next_params : Params) (extras : Extras) (ms : List Move) (last : History P) → played_all p (started puzzle params next_params extras) ms ≡ Ok last → IsLegal p ms × (length ms + 1 ≤ most_states) × (last ≡ with_moves (started puzzle params next_params extras) ms)
+pub accepted_list_legal : {P : Type 0} (p : Puzzle) (puzzle : P) (params next_params : Params) (extras : Extras) (ms : List Move)
+    (last : History P)
+    → played_all p (started puzzle params next_params extras) ms ≡ Ok last
+    → IsLegal p ms × (length ms + 1 ≤ most_states) × (last ≡ with_moves (started puzzle params next_params extras) ms)
 accepted_list_legal p puzzle params next_params extras ms last is =
     let all = accepted_along p (started puzzle params next_params extras) [] ms last (omega arith) is in
     (record { playable = all.playable; no_restart_first = all.restart refl }, all.few, all.last_is)
@@ -141,14 +140,16 @@ legal_lists_play puzzle first params next_params extras ms legal few = legal_lis
 pub accepted_lists_are_legal : {P : Type 0} (puzzle : P → Puzzle) → AcceptedListsAreLegal puzzle
 accepted_lists_are_legal puzzle first params next_params extras ms last is = accepted_list_legal (puzzle first) first params next_params extras ms last is
 
--- steps back
-pub undone_once : {P : Type 0} (h : History P) (position : ℕ) → 1 ≤ position → undone (at_position h (position + 1)) ≡ Ok (at_position h position)
+-- undos
+pub undone_once : {P : Type 0} (h : History P) (position : ℕ) → 1 ≤ position
+    → undone (at_position h (position + 1)) ≡ Ok (at_position h position)
 undone_once {P} h position low =
     let test : (position + 1 == 1) ≡ false = apart_eqb (position + 1) 1 (λ e. absurd (omega arith)) in
     let back : position + 1 - 1 ≡ position = omega arith in
     rw test (ap (λ k. let r : Result (History P) PlayFault = Ok (at_position h k) in r) back)
 
-pub undone_to : {P : Type 0} (h : History P) (n position : ℕ) → 1 ≤ position → undone_times n (at_position h (position + n)) ≡ Ok (at_position h position)
+pub undone_to : {P : Type 0} (h : History P) (n position : ℕ) → 1 ≤ position
+    → undone_times n (at_position h (position + n)) ≡ Ok (at_position h position)
 undone_to {P} h zero position low =
     let e : position + zero ≡ position = omega arith in
     ap (λ k. let r : Result (History P) PlayFault = Ok (at_position h k) in r) e
@@ -163,7 +164,7 @@ pub undo_leads_back : (P : Type 0) → UndoLeadsBack P
 undo_leads_back P h n position low at =
     subst (λ k. undone_times n (at_position h k) ≡ Ok (at_position h position)) (sym at) (undone_to h n position low)
 
--- each valid session is its moves played from the start, and steps back
+-- each valid session is its moves played from the start, and undos
 pub histories_are_reached : {P : Type 0} (puzzle : P → Puzzle) → HistoriesAreReached puzzle
 histories_are_reached {P} puzzle h v =
     let low = v.first in

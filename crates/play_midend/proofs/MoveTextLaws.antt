@@ -11,8 +11,8 @@ use Rattle.byte_text.proofs.DecimalLaws.{number_taken, number_again, lacks_decim
 use Rattle.play_midend.specs.declared.moves.Move.{Move}
 use Rattle.play_midend.specs.declared.moves.Move.TheVariants.{Real, Pencil, MarkAll, Solve, Restart, Done}
 use Rattle.play_midend.specs.declared.fault.PlayFault.{PlayFault}
-use Rattle.play_midend.specs.MoveTexts.{three_text, coordinate_text, move_text, AreBytes, IsCoordinate, IsWritable, IsMoveText, move_fault, all_three, three_behind, three_at, coordinate_at, both, two_at, solution_at, nothing_more, move_by, move_at}
-use Rattle.play_midend.proofs.SolutionTexts.{solution_taken, solution_again}
+use Rattle.play_midend.specs.MoveTexts.{three_text, coordinate_text, move_text, AreBytes, IsCoordinate, IsWritable, IsMoveText, move_fault, all_three, three_from, three_at, coordinate_at, both, two_at, solution_at, mark_all_at, move_by, move_at}
+use Rattle.play_midend.proofs.SolutionTexts.{solution_digits_taken, solution_digits_again}
 use Rattle.byte_text.specs.Bytes.{capital_r, capital_p, capital_m, capital_s, capital_d, comma}
 
 -- three numbers
@@ -26,7 +26,9 @@ all_three_taken None y n t e = cc
 all_three_taken (Some x) None n t e = cc
 all_three_taken (Some x) (Some y) None t e = cc
 
-three_parts : (text rest last : List ℕ) (t : ℕ × ℕ × ℕ) → behind comma text ≡ Some rest → behind comma rest ≡ Some last → all_three (decimal_value 255 (before comma text)) (decimal_value 255 (before comma rest)) (decimal_value 255 last) ≡ Some t → IsThree text t
+three_parts : (text rest last : List ℕ) (t : ℕ × ℕ × ℕ) → behind comma text ≡ Some rest → behind comma rest ≡ Some last
+    → all_three (decimal_value 255 (before comma text)) (decimal_value 255 (before comma rest)) (decimal_value 255 last) ≡ Some t
+    → IsThree text t
 three_parts text rest last t cut more read =
     let each = all_three_taken _ _ _ t read in
     let x = number_taken 255 t.0 (before comma text) (omega arith) each.0 in
@@ -41,7 +43,7 @@ three_parts text rest last t cut more read =
 
 three_taken : (text : List ℕ) (t : ℕ × ℕ × ℕ) → three_at text ≡ Some t → IsThree text t
 three_taken text t =
-    elim (behind comma text) as (λ o. behind comma text ≡ o → option_and_then (λ rest. three_behind (decimal_value 255 (before comma text)) rest) o ≡ Some t → IsThree text t) [
+    elim (behind comma text) as (λ o. behind comma text ≡ o → option_and_then (λ rest. three_from (decimal_value 255 (before comma text)) rest) o ≡ Some t → IsThree text t) [
       | None ↦ λ cut read. cc
       | Some rest ↦ λ cut. elim (behind comma rest) as (λ o. behind comma rest ≡ o → option_and_then (λ last. all_three (decimal_value 255 (before comma text)) (decimal_value 255 (before comma rest)) (decimal_value 255 last)) o ≡ Some t → IsThree text t) [
         | None ↦ λ more read. cc
@@ -57,7 +59,7 @@ three_again x y n h =
     rw (behind_at comma (decimal x) rest (lacks x h.x_is), before_at comma (decimal x) rest (lacks x h.x_is), behind_at comma (decimal y) (decimal n) (lacks y h.y_is), before_at comma (decimal y) (decimal n) (lacks y h.y_is), back x h.x_is, back y h.y_is, back n h.n_is) refl
 
 -- the numbers of a done mark's place
-minus_one : coordinate_text (negsuc zero) ≡ codes "-1"
+pub minus_one : coordinate_text (negsuc zero) ≡ codes "-1"
 minus_one = ap (λ ds. 45 ∷ ds) (decimal_digit 1 (omega arith))
 
 coordinate_taken : (text : List ℕ) (z : ℤ) → coordinate_at text ≡ Some z → IsCoordinate z × (text ≡ coordinate_text z)
@@ -121,45 +123,46 @@ two_again x y hx hy =
     rw (behind_at comma (coordinate_text x) (coordinate_text y) a.0, before_at comma (coordinate_text x) (coordinate_text y) a.0, a.1, b.1) refl
 
 -- the moves of each letter
-abbrev Reads : Option Move → ℕ → List ℕ → Move → Type 0
-Reads read b bs m = read ≡ Some m → IsMoveText m (b ∷ bs)
+abbrev ReadsMove : Option Move → ℕ → List ℕ → Move → Type 0
+ReadsMove read b bs m = read ≡ Some m → IsMoveText m (b ∷ bs)
 
-entry_taken : (make : ℕ × ℕ × ℕ → Move) (b : ℕ) (bs : List ℕ) (m : Move) → ((t : ℕ × ℕ × ℕ) → three_at bs ≡ Some t → IsMoveText (make t) (b ∷ bs)) → Reads (option_map make (three_at bs)) b bs m
-entry_taken make b bs m text =
-    elim (three_at bs) as (λ o. three_at bs ≡ o → Reads (option_map make o) b bs m) [
+numbers_taken : (make : ℕ × ℕ × ℕ → Move) (b : ℕ) (bs : List ℕ) (m : Move)
+    → ((t : ℕ × ℕ × ℕ) → three_at bs ≡ Some t → IsMoveText (make t) (b ∷ bs)) → ReadsMove (option_map make (three_at bs)) b bs m
+numbers_taken make b bs m text =
+    elim (three_at bs) as (λ o. three_at bs ≡ o → ReadsMove (option_map make o) b bs m) [
       | None ↦ λ is read. cc
       | Some t ↦ λ is read. let e : make t ≡ m = cc in subst (λ (k : Move). IsMoveText k (b ∷ bs)) e (text t is)
     ] refl
 
-real_taken : (bs : List ℕ) (m : Move) → Reads (option_map (λ t. Real t.0 t.1 t.2) (three_at bs)) capital_r bs m
+real_taken : (bs : List ℕ) (m : Move) → ReadsMove (option_map (λ t. Real t.0 t.1 t.2) (three_at bs)) capital_r bs m
 real_taken bs m =
-    entry_taken (λ t. Real t.0 t.1 t.2) capital_r bs m
+    numbers_taken (λ t. Real t.0 t.1 t.2) capital_r bs m
     (λ t is. let h = three_taken bs t is in record { writable = h.0; spelled = ap (λ xs. capital_r ∷ xs) h.1 })
 
-pencil_taken : (bs : List ℕ) (m : Move) → Reads (option_map (λ t. Pencil t.0 t.1 t.2) (three_at bs)) capital_p bs m
+pencil_taken : (bs : List ℕ) (m : Move) → ReadsMove (option_map (λ t. Pencil t.0 t.1 t.2) (three_at bs)) capital_p bs m
 pencil_taken bs m =
-    entry_taken (λ t. Pencil t.0 t.1 t.2) capital_p bs m
+    numbers_taken (λ t. Pencil t.0 t.1 t.2) capital_p bs m
     (λ t is. let h = three_taken bs t is in record { writable = h.0; spelled = ap (λ xs. capital_p ∷ xs) h.1 })
 
-mark_all_taken : (bs : List ℕ) (m : Move) → Reads (nothing_more bs) capital_m bs m
+mark_all_taken : (bs : List ℕ) (m : Move) → ReadsMove (mark_all_at bs) capital_m bs m
 mark_all_taken [] m read =
     let e : MarkAll ≡ m = cc in
     subst (λ (k : Move). IsMoveText k (capital_m ∷ [])) e (record { writable = tt; spelled = refl })
 mark_all_taken (b ∷ bs) m read = cc
 
-solve_taken : (bs : List ℕ) (m : Move) → Reads (option_map Solve (solution_at bs)) capital_s bs m
+solve_taken : (bs : List ℕ) (m : Move) → ReadsMove (option_map Solve (solution_at bs)) capital_s bs m
 solve_taken bs m =
-    elim (solution_at bs) as (λ o. solution_at bs ≡ o → Reads (option_map Solve o) capital_s bs m) [
+    elim (solution_at bs) as (λ o. solution_at bs ≡ o → ReadsMove (option_map Solve o) capital_s bs m) [
       | None ↦ λ is read. cc
       | Some g ↦ λ is read.
-          let h = solution_taken bs g is in
+          let h = solution_digits_taken bs g is in
           let e : Solve g ≡ m = cc in
           subst (λ (k : Move). IsMoveText k (capital_s ∷ bs)) e (record { writable = h.0; spelled = ap (λ xs. capital_s ∷ xs) h.1 })
     ] refl
 
-done_taken : (bs : List ℕ) (m : Move) → Reads (option_map (λ t. Done t.0 t.1) (two_at bs)) capital_d bs m
+done_taken : (bs : List ℕ) (m : Move) → ReadsMove (option_map (λ t. Done t.0 t.1) (two_at bs)) capital_d bs m
 done_taken bs m =
-    elim (two_at bs) as (λ o. two_at bs ≡ o → Reads (option_map (λ t. Done t.0 t.1) o) capital_d bs m) [
+    elim (two_at bs) as (λ o. two_at bs ≡ o → ReadsMove (option_map (λ t. Done t.0 t.1) o) capital_d bs m) [
       | None ↦ λ is read. cc
       | Some t ↦ λ is read.
           let h = two_taken bs t is in
@@ -167,36 +170,30 @@ done_taken bs m =
           subst (λ (k : Move). IsMoveText k (capital_d ∷ bs)) e (record { writable = (h.0, h.1); spelled = ap (λ xs. capital_d ∷ xs) h.2 })
     ] refl
 
--- what is read of a first byte is read of any byte that is equal
-by_byte : (read : Option Move) (b k : ℕ) (bs : List ℕ) (m : Move) → Reads read k bs m → (b == k) ≡ true → Reads read b bs m
-by_byte read b k bs m h is = subst (λ (x : ℕ). Reads read x bs m) (sym (eqb-true b k is)) h
+-- one letter's row of the table: its move, or what the rows behind it give
+letter_taken : (b k : ℕ) (bs : List ℕ) (m : Move) (here later : Option Move) → ReadsMove here k bs m → ReadsMove later b bs m
+    → ReadsMove (cond (b == k) here later) b bs m
+letter_taken b k bs m here later this others =
+    elim (b == k) as (λ t. (b == k) ≡ t → ReadsMove (cond t here later) b bs m) [
+      | true ↦ λ same read. subst (λ (x : ℕ). ReadsMove here x bs m) (sym (eqb-true b k same)) this read
+      | false ↦ λ other read. others read
+    ] refl
 
 -- what is read of a text is the move that it spells
 pub move_taken : (text : List ℕ) (m : Move) → move_by text ≡ Some m → IsMoveText m text
 move_taken [] m = λ read. cc
 move_taken (b ∷ bs) m =
-    elim (b == capital_r) as (λ t. (b == capital_r) ≡ t → Reads (cond t (option_map (λ t. Real t.0 t.1 t.2) (three_at bs)) (cond (b == capital_p) (option_map (λ t. Pencil t.0 t.1 t.2) (three_at bs)) (cond (b == capital_m) (nothing_more bs) (cond (b == capital_s) (option_map Solve (solution_at bs)) (cond (b == capital_d) (option_map (λ t. Done t.0 t.1) (two_at bs)) None))))) b bs m) [
-      | true ↦ by_byte (option_map (λ t. Real t.0 t.1 t.2) (three_at bs)) b capital_r bs m (real_taken bs m)
-      | false ↦ λ _. elim (b == capital_p) as (λ t. (b == capital_p) ≡ t → Reads (cond t (option_map (λ t. Pencil t.0 t.1 t.2) (three_at bs)) (cond (b == capital_m) (nothing_more bs) (cond (b == capital_s) (option_map Solve (solution_at bs)) (cond (b == capital_d) (option_map (λ t. Done t.0 t.1) (two_at bs)) None)))) b bs m) [
-        | true ↦ by_byte (option_map (λ t. Pencil t.0 t.1 t.2) (three_at bs)) b capital_p bs m (pencil_taken bs m)
-        | false ↦ λ _. elim (b == capital_m) as (λ t. (b == capital_m) ≡ t → Reads (cond t (nothing_more bs) (cond (b == capital_s) (option_map Solve (solution_at bs)) (cond (b == capital_d) (option_map (λ t. Done t.0 t.1) (two_at bs)) None))) b bs m) [
-          | true ↦ by_byte (nothing_more bs) b capital_m bs m (mark_all_taken bs m)
-          | false ↦ λ _. elim (b == capital_s) as (λ t. (b == capital_s) ≡ t → Reads (cond t (option_map Solve (solution_at bs)) (cond (b == capital_d) (option_map (λ t. Done t.0 t.1) (two_at bs)) None)) b bs m) [
-            | true ↦ by_byte (option_map Solve (solution_at bs)) b capital_s bs m (solve_taken bs m)
-            | false ↦ λ _. elim (b == capital_d) as (λ t. (b == capital_d) ≡ t → Reads (cond t (option_map (λ t. Done t.0 t.1) (two_at bs)) None) b bs m) [
-              | true ↦ by_byte (option_map (λ t. Done t.0 t.1) (two_at bs)) b capital_d bs m (done_taken bs m)
-              | false ↦ λ _ read. cc
-            ] refl
-          ] refl
-        ] refl
-      ] refl
-    ] refl
+    letter_taken b capital_r bs m _ _ (real_taken bs m)
+    (letter_taken b capital_p bs m _ _ (pencil_taken bs m)
+    (letter_taken b capital_m bs m _ _ (mark_all_taken bs m)
+    (letter_taken b capital_s bs m _ _ (solve_taken bs m)
+    (letter_taken b capital_d bs m _ _ (done_taken bs m) (λ read. cc)))))
 
 spelled_again : (m : Move) → IsWritable m → move_by (move_text m) ≡ Some m
 spelled_again (Real x y n) h = rw (three_again x y n h) refl
 spelled_again (Pencil x y n) h = rw (three_again x y n h) refl
 spelled_again MarkAll h = refl
-spelled_again (Solve g) h = rw (solution_again g h) refl
+spelled_again (Solve g) h = rw (solution_digits_again g h) refl
 spelled_again Restart h = absurd h
 spelled_again (Done x y) h = rw (two_again x y h.0 h.1) refl
 

@@ -6,24 +6,23 @@ use borrow.Author.Tests.{eq-eqb}
 use Rattle.latin_board.specs.Boards.{BoardValue}
 use Rattle.latin_board.specs.Changes.{ChangeValue, FitsBoard, board_after}
 use Rattle.trail_solver.specs.Puzzles.{Puzzle}
-use Rattle.clue_rules.specs.declared.params.Params.{Params}
-use Rattle.play_midend.specs.declared.extras.Extras.{Extras}
 use Rattle.play_midend.specs.declared.moves.Move.{Move}
 use Rattle.play_midend.specs.declared.moves.Move.TheVariants.{Solve}
 use Rattle.play_midend.specs.declared.session.Record.{Record}
+use Rattle.play_midend.specs.declared.session.Session.TheInside.{Inside}
 use Rattle.play_midend.specs.declared.fault.PlayFault.{PlayFault}
 use Rattle.play_midend.specs.declared.fault.PlayFault.TheVariants.{HistoryFull, NothingToRestart}
 use Rattle.play_midend.specs.Steps.{is_restart, refusal_of, unless_refused, moved}
 use Rattle.play_midend.specs.Histories.{History, most_states, past, shown, first_state_refusal, restart_refusal, full_refusal, refusal_in, with_move, played, IsOnlySolution, IsRefusal, IsSolveRefusal, at_position}
-use Rattle.play_midend.specs.Links.{moves_of, AreLinked}
+use Rattle.play_midend.specs.Links.{moves_of, viewed, AreLinked}
 use Rattle.trail_solver.proofs.SolutionTests.{Decides-solves_test}
 use Rattle.latin_board.specs.Squares.{GridValue}
 use Rattle.play_midend.proofs.Making.{step_allowed}
 use Rattle.play_midend.proofs.Linking.{linked_new}
-use Rattle.play_midend.proofs.Viewing.{viewed, past_viewed, shown_viewed}
+use Rattle.play_midend.proofs.Viewing.{past_viewed, shown_viewed}
 
 -- which refusals are none
-or_none : (a b : Option PlayFault) → option_or a b ≡ None → (a ≡ None) × (b ≡ None)
+pub or_none : (a b : Option PlayFault) → option_or a b ≡ None → (a ≡ None) × (b ≡ None)
 or_none None b h = (refl, h)
 or_none (Some x) b h = cc
 
@@ -32,10 +31,12 @@ pub played_allowed : {P : Type 0} (p : Puzzle) (h : History P) (m : Move) → re
 played_allowed p h m allowed = ap (λ o. unless_refused o (with_move h m)) allowed
 
 -- the refusal at a state, over the fields of a session
-pub refusal_viewed : {P : Type 0} (p : Puzzle) (puzzle : P) (params next_params : Params) (extras : Extras) (records : List Record) (n : ℕ) (board : BoardValue) (m : Move) → AreLinked p records n board → refusal_in p (viewed puzzle params next_params extras (moves_of records) n) m ≡ option_or (first_state_refusal (n + 1) m) (option_or (refusal_of p board m) (full_refusal (n + 1)))
-refusal_viewed p puzzle params next_params extras records n board m h =
-    ap (λ (b : BoardValue). option_or (first_state_refusal (n + 1) m) (option_or (refusal_of p b m) (full_refusal (n + 1))))
-    (shown_viewed p puzzle params next_params extras records n board h)
+refusal_viewed : {P : Type 0} (p : Puzzle) (s : Inside P) (m : Move) → AreLinked p s.records.items s.past s.board
+    → refusal_in p (viewed s) m
+    ≡ option_or (first_state_refusal (s.past + 1) m) (option_or (refusal_of p s.board m) (full_refusal (s.past + 1)))
+refusal_viewed p s m h =
+    ap (λ (b : BoardValue). option_or (first_state_refusal (s.past + 1) m) (option_or (refusal_of p b m) (full_refusal (s.past + 1))))
+    (shown_viewed p s h)
 
 -- what an accepted move knows
 pub record Allowed (p : Puzzle) (position : ℕ) (board : BoardValue) (m : Move) : Type 0 where
@@ -43,7 +44,8 @@ pub record Allowed (p : Puzzle) (position : ℕ) (board : BoardValue) (m : Move)
   pub on_board : refusal_of p board m ≡ None
   pub room : position ≢ most_states
 
-allowed_parts : (p : Puzzle) (position : ℕ) (board : BoardValue) (m : Move) → first_state_refusal position m ≡ None → refusal_of p board m ≡ None → full_refusal position ≡ None → Allowed p position board m
+allowed_parts : (p : Puzzle) (position : ℕ) (board : BoardValue) (m : Move) → first_state_refusal position m ≡ None
+    → refusal_of p board m ≡ None → full_refusal position ≡ None → Allowed p position board m
 allowed_parts p position board m restart allowed room = record {
   restart = λ first. elim (is_restart m) as (λ t. cond t (restart_refusal position) None ≡ None → t ≡ false) [
     | true ↦ λ e. let test : (position == 1) ≡ true = eq-eqb position 1 first in
@@ -61,10 +63,10 @@ allowed_in p h m allowed =
     let second = or_none (refusal_of p (shown p h) m) (full_refusal h.position) first.1 in
     allowed_parts p h.position (shown p h) m first.0 second.0 second.1
 
-pub allowed_viewed : {P : Type 0} (p : Puzzle) (puzzle : P) (params next_params : Params) (extras : Extras) (records : List Record) (n : ℕ) (board : BoardValue) (m : Move) → AreLinked p records n board → refusal_in p (viewed puzzle params next_params extras (moves_of records) n) m ≡ None → Allowed p (n + 1) board m
-allowed_viewed p puzzle params next_params extras records n board m h allowed =
-    subst (λ (b : BoardValue). Allowed p (n + 1) b m) (shown_viewed p puzzle params next_params extras records n board h)
-    (allowed_in p (viewed puzzle params next_params extras (moves_of records) n) m allowed)
+pub allowed_viewed : {P : Type 0} (p : Puzzle) (s : Inside P) (m : Move) → AreLinked p s.records.items s.past s.board
+    → refusal_in p (viewed s) m ≡ None → Allowed p (s.past + 1) s.board m
+allowed_viewed p s m h allowed =
+    subst (λ (b : BoardValue). Allowed p (s.past + 1) b m) (shown_viewed p s h) (allowed_in p (viewed s) m allowed)
 
 -- a call that is accepted is not refused
 pub accepted : {A : Type 0} (refusal : Option PlayFault) (a b : A) → unless_refused refusal a ≡ Ok b → (refusal ≡ None) × (a ≡ b)
@@ -72,30 +74,39 @@ accepted None a b e = (refl, cc)
 accepted (Some fault) a b e = cc
 
 -- the refusal in a session, from the refusals of its parts
-pub refusal_by_parts : {P : Type 0} (p : Puzzle) (puzzle : P) (params next_params : Params) (extras : Extras) (records : List Record) (n : ℕ) (board : BoardValue) (m : Move) (first second third : Option PlayFault) → AreLinked p records n board → first_state_refusal (n + 1) m ≡ first → refusal_of p board m ≡ second → full_refusal (n + 1) ≡ third → refusal_in p (viewed puzzle params next_params extras (moves_of records) n) m ≡ option_or first (option_or second third)
-refusal_by_parts p puzzle params next_params extras records n board m first second third h a b c =
-    rw (refusal_viewed p puzzle params next_params extras records n board m h, a, b, c) refl
+pub refusal_by_parts : {P : Type 0} (p : Puzzle) (s : Inside P) (m : Move) (first second third : Option PlayFault)
+    → AreLinked p s.records.items s.past s.board → first_state_refusal (s.past + 1) m ≡ first → refusal_of p s.board m ≡ second
+    → full_refusal (s.past + 1) ≡ third → refusal_in p (viewed s) m ≡ option_or first (option_or second third)
+refusal_by_parts p s m first second third h a b c = rw (refusal_viewed p s m h, a, b, c) refl
 
 -- a further record keeps the links
-pub linked_move : (p : Puzzle) (records : List Record) (n : ℕ) (board : BoardValue) (m : Move) (change : ChangeValue) → AreLinked p records n board → Allowed p (n + 1) board m → FitsBoard board change → board_after board change ≡ moved p board m → AreLinked p (take n records ++ record { made = m; change = change } ∷ []) n board
-linked_move p records n board m change h allowed fits board_is =
+pub linked_move : {P : Type 0} (p : Puzzle) (s : Inside P) (m : Move) (change : ChangeValue) → AreLinked p s.records.items s.past s.board
+    → Allowed p (s.past + 1) s.board m → FitsBoard s.board change → board_after s.board change ≡ moved p s.board m
+    → AreLinked p (take s.past s.records.items ++ record { made = m; change = change } ∷ []) s.past s.board
+linked_move p s m change h allowed fits board_is =
     let few = h.few in
     let inside = h.inside in
-    let room : n + 1 ≢ most_states = allowed.room in
-    linked_new p records n board (record { made = m; change = change }) (moved p board m) h
-    (record { stepped = step_allowed p board m allowed.on_board; fits = fits; ahead = board_is }) (omega arith) (λ zero. allowed.restart (omega arith))
+    let room : s.past + 1 ≢ most_states = allowed.room in
+    linked_new p s.records.items s.past s.board (record { made = m; change = change }) (moved p s.board m) h
+    (record { stepped = step_allowed p s.board m allowed.on_board; fits = fits; ahead = board_is }) (omega arith)
+    (λ zero. allowed.restart (omega arith))
 
-pub played_viewed : {P : Type 0} (p : Puzzle) (puzzle : P) (params next_params : Params) (extras : Extras) (records new : List Record) (n : ℕ) (m : Move) (change : ChangeValue) → refusal_in p (viewed puzzle params next_params extras (moves_of records) n) m ≡ None → new ≡ take n records ++ record { made = m; change = change } ∷ [] → played p (viewed puzzle params next_params extras (moves_of records) n) m ≡ Ok (at_position (viewed puzzle params next_params extras (moves_of new) n) (n + 1 + 1))
-played_viewed {P} p puzzle params next_params extras records new n m change allowed is =
-    let h : History P = viewed puzzle params next_params extras (moves_of records) n in
-    let front : past h ≡ moves_of (take n records) = past_viewed puzzle params next_params extras (moves_of records) n ∙ take-map (λ (r : Record). r.made) n records in
-    let moves : past h ++ m ∷ [] ≡ moves_of new =
-    ap (λ ms. ms ++ m ∷ []) front ∙ sym (map-append (λ (r : Record). r.made) (take n records) (record { made = m; change = change } ∷ [])) ∙ ap moves_of (sym is) in
-    played_allowed p h m allowed ∙ ap (λ ms. Ok (at_position (viewed puzzle params next_params extras ms n) (n + 1 + 1))) moves
+pub played_viewed : {P : Type 0} (p : Puzzle) (s : Inside P) (new : List Record) (m : Move) (change : ChangeValue)
+    → refusal_in p (viewed s) m ≡ None → new ≡ take s.past s.records.items ++ record { made = m; change = change } ∷ []
+    → played p (viewed s) m ≡ Ok (at_position (record (viewed s) { moves = moves_of new }) (s.past + 1 + 1))
+played_viewed {P} p s new m change allowed is =
+    let made : Record → Move = λ r. r.made in
+    let front : past (viewed s) ≡ moves_of (take s.past s.records.items) = past_viewed s ∙ take-map made s.past s.records.items in
+    let last : List Record = record { made = m; change = change } ∷ [] in
+    let moves : past (viewed s) ++ m ∷ [] ≡ moves_of new =
+    ap (λ ms. ms ++ m ∷ []) front ∙ sym (map-append made (take s.past s.records.items) last) ∙ ap moves_of (sym is) in
+    played_allowed p (viewed s) m allowed ∙ ap (λ ms. Ok (at_position (record (viewed s) { moves = ms }) (s.past + 1 + 1))) moves
 
 -- a solution is a move that only a full history refuses
-pub solved_as_played : {P : Type 0} (p : Puzzle) (h : History P) (g : GridValue) → IsOnlySolution p g → played p h (Solve g) ≡ unless_refused (full_refusal h.position) (with_move h (Solve g))
+pub solved_as_played : {P : Type 0} (p : Puzzle) (h : History P) (g : GridValue) → IsOnlySolution p g
+    → played p h (Solve g) ≡ unless_refused (full_refusal h.position) (with_move h (Solve g))
 solved_as_played p h g only = rw ((Decides-solves_test p g only.solves.is_grid).1 only.solves) refl
 
-pub solve_refused : {P : Type 0} (p : Puzzle) (h : History P) (g : GridValue) (fault : PlayFault) → IsOnlySolution p g → IsRefusal (played p h (Solve g)) fault → IsSolveRefusal p h fault
+pub solve_refused : {P : Type 0} (p : Puzzle) (h : History P) (g : GridValue) (fault : PlayFault) → IsOnlySolution p g
+    → IsRefusal (played p h (Solve g)) fault → IsSolveRefusal p h fault
 solve_refused p h g fault only is = (played p h (Solve g), inr (inr (g, only, solved_as_played p h g only)), is)

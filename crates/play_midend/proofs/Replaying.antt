@@ -1,20 +1,22 @@
--- Replay along a list of moves that is cut in two.
-use Rattle.std.proofs.Common.{◌≡◌, ℕ, zero, suc, false, List, [], ◌∷◌, ◌++◌, take, Ok, refl, ap}
+-- Replay along a list of moves that is cut in two, and with which move such a list begins.
+use Rattle.std.proofs.Common.{◌≡◌, ℕ, zero, suc, false, List, [], ◌∷◌, ◌++◌, length, take, Ok, refl, ap}
 use Rattle.std.specs.Result.{result_unwrap_or}
 use Rattle.latin_board.specs.Boards.{BoardValue}
 use Rattle.trail_solver.specs.Puzzles.{Puzzle}
 use Rattle.play_midend.specs.declared.moves.Move.{Move}
-use Rattle.play_midend.specs.Steps.{step, after_move, replay_from, ArePlayable, begins_with_restart}
+use Rattle.play_midend.specs.Steps.{step, after_move, replay_from, ArePlayable, is_restart, begins_with_restart}
 
 -- the board after a move that makes it
 pub after_step : (p : Puzzle) (b : BoardValue) (m : Move) (c : BoardValue) → step p b m ≡ Ok c → after_move p b m ≡ c
 after_step p b m c stepped = ap (λ r. result_unwrap_or r b) stepped
 
-pub replay_from-append : (p : Puzzle) (b : BoardValue) (ms ns : List Move) → replay_from p b (ms ++ ns) ≡ replay_from p (replay_from p b ms) ns
+pub replay_from-append : (p : Puzzle) (b : BoardValue) (ms ns : List Move)
+    → replay_from p b (ms ++ ns) ≡ replay_from p (replay_from p b ms) ns
 replay_from-append p b [] ns = refl
 replay_from-append p b (m ∷ ms) ns = replay_from-append p (after_move p b m) ms ns
 
-pub ArePlayable-append : (p : Puzzle) (b : BoardValue) (ms ns : List Move) → ArePlayable p b ms → ArePlayable p (replay_from p b ms) ns → ArePlayable p b (ms ++ ns)
+pub ArePlayable-append : (p : Puzzle) (b : BoardValue) (ms ns : List Move) → ArePlayable p b ms → ArePlayable p (replay_from p b ms) ns
+    → ArePlayable p b (ms ++ ns)
 ArePlayable-append p b [] ns h more = more
 ArePlayable-append p b (m ∷ ms) ns h more = (h.0, ArePlayable-append p (after_move p b m) ms ns h.1 more)
 
@@ -27,3 +29,9 @@ pub restart_first-take : (n : ℕ) (ms : List Move) → begins_with_restart ms �
 restart_first-take zero ms h = refl
 restart_first-take (suc n) [] h = refl
 restart_first-take (suc n) (m ∷ ms) h = h
+
+-- a move behind a list of moves
+pub restart_first-push : (ms : List Move) (m : Move) → begins_with_restart ms ≡ false → (length ms ≡ 0 → is_restart m ≡ false)
+    → begins_with_restart (ms ++ m ∷ []) ≡ false
+restart_first-push [] m h restart = restart refl
+restart_first-push (k ∷ ms) m h restart = h

@@ -1,30 +1,25 @@
 -- The laws of a session's calls.
 use Rattle.std.proofs.Common.{◌≡◌, ◌≢◌, ℕ, ◌+◌, ◌-◌, ◌≤◌, true, false, ◌==◌, cond, List, [], ◌∷◌, ◌++◌, length, take, Result, Ok, Err, refl, sym, ap, ◌∙◌, subst, arith, inl, inr}
 use Rattle.std.specs.Result.{IsOkAnd}
-use Rattle.std.proofs.lemmas.List.{length-take-le, length-append}
-use Rattle.std.proofs.lemmas.Grind.{common_steps}
+use Rattle.std.proofs.lemmas.List.{length-take-le, length-append, take_at}
 use borrow.Author.Tests.{eqb-false, apart_eqb}
 use Rattle.trail_solver.specs.Puzzles.{Puzzle}
 use Rattle.play_midend.specs.declared.moves.Move.{Move}
 use Rattle.play_midend.specs.declared.moves.Move.TheVariants.{Solve, Restart}
 use Rattle.play_midend.specs.declared.fault.PlayFault.{PlayFault}
 use Rattle.play_midend.specs.declared.fault.PlayFault.TheVariants.{NothingToUndo, NothingToRedo}
-use Rattle.play_midend.specs.Steps.{start_of, is_restart, begins_with_restart, replay_from}
+use Rattle.play_midend.specs.Steps.{start_of, replay_from}
 use Rattle.play_midend.specs.Histories.{History, IsValid, past, shown, refusal_in, with_move, at_position, played, SolveGives, undone, redone}
 use Rattle.play_midend.specs.Laws.{Call, Play, FromStart, ToSolution, Undo, Redo, CallGives, Answered, AnsweredInTurn, RunsStayValid, IsSameBack, UndoTakesBack, UndoTakesRestartBack, UndoTakesSolveBack, RedoTakesUndoBack}
 use Rattle.play_midend.proofs.Making.{step_allowed}
-use Rattle.play_midend.proofs.Replaying.{ArePlayable-append, ArePlayable-take, restart_first-take}
+use Rattle.play_midend.proofs.Replaying.{ArePlayable-append, ArePlayable-take, restart_first-take, restart_first-push}
 use Rattle.play_midend.proofs.Playing.{Allowed, allowed_in, accepted, solved_as_played}
-
--- a move behind the past
-not_first : (ms : List Move) (m : Move) → begins_with_restart ms ≡ false → (length ms ≡ 0 → is_restart m ≡ false) → begins_with_restart (ms ++ m ∷ []) ≡ false
-not_first [] m h restart = restart refl
-not_first (k ∷ ms) m h restart = h
 
 length-past : {P : Type 0} (p : Puzzle) (h : History P) → IsValid p h → length (past h) ≡ h.position - 1
 length-past p h v = let first = v.first in let last = v.last in length-take-le (h.position - 1) h.moves (omega arith)
 
-valid_with_move : {P : Type 0} (p : Puzzle) (h : History P) (m : Move) → IsValid p h → Allowed p h.position (shown p h) m → IsValid p (with_move h m)
+valid_with_move : {P : Type 0} (p : Puzzle) (h : History P) (m : Move) → IsValid p h → Allowed p h.position (shown p h) m
+    → IsValid p (with_move h m)
 valid_with_move p h m v allowed =
     let first = v.first in
     let last = v.last in
@@ -38,7 +33,7 @@ valid_with_move p h m v allowed =
         playable = ArePlayable-append p (start_of p) (past h) (m ∷ [])
             (ArePlayable-take p (start_of p) (h.position - 1) h.moves v.legal.playable)
             (rw (step_allowed p (shown p h) m allowed.on_board) refl, tt);
-        no_restart_first = not_first (past h) m (restart_first-take (h.position - 1) h.moves v.legal.no_restart_first)
+        no_restart_first = restart_first-push (past h) m (restart_first-take (h.position - 1) h.moves v.legal.no_restart_first)
             (λ none. allowed.restart (omega (arith, front)));
       };
       few = omega (arith, long);
@@ -51,31 +46,40 @@ valid_played {P} p h new m v is =
     let a = accepted (refusal_in p h m) (with_move h m) new is in
     subst (λ (k : History P). IsValid p k) a.1 (valid_with_move p h m v (allowed_in p h m a.0))
 
-valid_at : {P : Type 0} (p : Puzzle) (h : History P) (position : ℕ) → IsValid p h → 1 ≤ position → position ≤ length h.moves + 1 → IsValid p (at_position h position)
+valid_at : {P : Type 0} (p : Puzzle) (h : History P) (position : ℕ) → IsValid p h → 1 ≤ position → position ≤ length h.moves + 1
+    → IsValid p (at_position h position)
 valid_at p h position v first last = record { size = v.size; legal = v.legal; few = v.few; first = first; last = last }
 
-valid_undone : {P : Type 0} (p : Puzzle) (h new : History P) → IsValid p h → undone h ≡ Ok new → IsValid p new
-valid_undone {P} p h new v =
-    elim (h.position == 1) as (λ t. (h.position == 1) ≡ t → cond t (Err NothingToUndo) (Ok (at_position h (h.position - 1))) ≡ Ok new → IsValid p new) [
+-- an accepted undo or redo shows the state beside the one that was shown
+pub undone_is : {P : Type 0} (h new : History P) → undone h ≡ Ok new → (h.position ≢ 1) × (at_position h (h.position - 1) ≡ new)
+undone_is h new =
+    elim (h.position == 1) as (λ t. (h.position == 1) ≡ t → cond t (Err NothingToUndo) (Ok (at_position h (h.position - 1))) ≡ Ok new → (h.position ≢ 1) × (at_position h (h.position - 1) ≡ new)) [
       | true ↦ λ first is. cc
-      | false ↦ λ first is.
-          let other = eqb-false h.position 1 first in
-          let low = v.first in
-          let high = v.last in
-          let e : at_position h (h.position - 1) ≡ new = cc in
-          subst (λ (k : History P). IsValid p k) e (valid_at p h (h.position - 1) v (omega arith) (omega arith))
+      | false ↦ λ later is. (eqb-false h.position 1 later, cc)
     ] refl
 
-valid_redone : {P : Type 0} (p : Puzzle) (h new : History P) → IsValid p h → redone h ≡ Ok new → IsValid p new
-valid_redone {P} p h new v =
-    elim (h.position == length h.moves + 1) as (λ t. (h.position == length h.moves + 1) ≡ t → cond t (Err NothingToRedo) (Ok (at_position h (h.position + 1))) ≡ Ok new → IsValid p new) [
+pub redone_is : {P : Type 0} (h new : History P) → redone h ≡ Ok new
+    → (h.position ≢ length h.moves + 1) × (at_position h (h.position + 1) ≡ new)
+redone_is h new =
+    elim (h.position == length h.moves + 1) as (λ t. (h.position == length h.moves + 1) ≡ t → cond t (Err NothingToRedo) (Ok (at_position h (h.position + 1))) ≡ Ok new → (h.position ≢ length h.moves + 1) × (at_position h (h.position + 1) ≡ new)) [
       | true ↦ λ last is. cc
-      | false ↦ λ last is.
-          let other = eqb-false h.position (length h.moves + 1) last in
-          let high = v.last in
-          let e : at_position h (h.position + 1) ≡ new = cc in
-          subst (λ (k : History P). IsValid p k) e (valid_at p h (h.position + 1) v (omega arith) (omega arith))
+      | false ↦ λ before is. (eqb-false h.position (length h.moves + 1) before, cc)
     ] refl
+
+valid_undone : {P : Type 0} (p : Puzzle) (h new : History P) → IsValid p h → undone h ≡ Ok new → IsValid p new
+valid_undone {P} p h new v is =
+    let u = undone_is h new is in
+    let low = v.first in
+    let high = v.last in
+    let later = u.0 in
+    subst (λ (k : History P). IsValid p k) u.1 (valid_at p h (h.position - 1) v (omega arith) (omega arith))
+
+valid_redone : {P : Type 0} (p : Puzzle) (h new : History P) → IsValid p h → redone h ≡ Ok new → IsValid p new
+valid_redone {P} p h new v is =
+    let r = redone_is h new is in
+    let high = v.last in
+    let before = r.0 in
+    subst (λ (k : History P). IsValid p k) r.1 (valid_at p h (h.position + 1) v (omega arith) (omega arith))
 
 valid_solved : {P : Type 0} (p : Puzzle) (h new : History P) → IsValid p h → SolveGives p h (Ok new) → IsValid p new
 valid_solved p h new v (inl none) = cc (none.1)
@@ -90,11 +94,13 @@ valid_called p h new ToSolution v is = valid_solved p h new v is
 valid_called p h new Undo v is = valid_undone p h new v (sym is)
 valid_called p h new Redo v is = valid_redone p h new v (sym is)
 
-valid_answered : {P : Type 0} (p : Puzzle) (h new : History P) (call : Call) (answer : Result (Unit {0}) PlayFault) → IsValid p h → Answered p h call answer new → IsValid p new
+valid_answered : {P : Type 0} (p : Puzzle) (h new : History P) (call : Call) (answer : Result (Unit {0}) PlayFault) → IsValid p h
+    → Answered p h call answer new → IsValid p new
 valid_answered p h new call (Ok u) v is = valid_called p h new call v is
 valid_answered {P} p h new call (Err fault) v is = subst (λ (k : History P). IsValid p k) (sym is.0) v
 
-valid_run : {P : Type 0} (p : Puzzle) (h new : History P) (calls : List (Call × Result (Unit {0}) PlayFault)) → IsValid p h → AnsweredInTurn p h calls new → IsValid p new
+valid_run : {P : Type 0} (p : Puzzle) (h new : History P) (calls : List (Call × Result (Unit {0}) PlayFault)) → IsValid p h
+    → AnsweredInTurn p h calls new → IsValid p new
 valid_run {P} p h new [] v run = subst (λ (k : History P). IsValid p k) (sym run) v
 valid_run p h new (c ∷ calls) v run = valid_run p run.0 new calls (valid_answered p h run.0 c.0 c.1 v run.1) run.2
 
@@ -102,13 +108,13 @@ pub runs_stay_valid : {P : Type 0} (puzzle : P → Puzzle) → RunsStayValid puz
 runs_stay_valid puzzle old new calls v run = valid_run (puzzle old.puzzle) old new calls v run
 
 -- an accepted move, undone
-taken_back : {P : Type 0} (p : Puzzle) (h : History P) (m : Move) → IsValid p h → IsOkAnd (undone (with_move h m)) (IsSameBack p h)
-taken_back {P} p h m v =
+move_taken_back : {P : Type 0} (p : Puzzle) (h : History P) (m : Move) → IsValid p h → IsOkAnd (undone (with_move h m)) (IsSameBack p h)
+move_taken_back {P} p h m v =
     let low = v.first in
     let later : History P = with_move h m in
     let test : (h.position + 1 == 1) ≡ false = apart_eqb (h.position + 1) 1 (λ e. absurd (omega arith)) in
     let front = length-past p h v in
-    let seam : take (h.position - 1) (past h ++ m ∷ []) ≡ past h = take_front (past h) (m ∷ []) (h.position - 1) front in
+    let seam : take (h.position - 1) (past h ++ m ∷ []) ≡ past h = take_at (past h) (m ∷ []) (h.position - 1) front in
     let back : h.position + 1 - 1 ≡ h.position = omega arith in
     let past_is : past (at_position later (h.position + 1 - 1)) ≡ past h = rw back seam in
     rw test (record {
@@ -120,15 +126,12 @@ taken_back {P} p h m v =
       position = back;
       board = ap (λ ms. replay_from p (start_of p) ms) past_is;
     })
-  where
-    take_front : (xs ys : List Move) (k : ℕ) → length xs ≡ k → take k (xs ++ ys) ≡ xs
-    take_front xs ys k e = grind (arith, common_steps)
 
 pub undo_takes_back : {P : Type 0} (puzzle : P → Puzzle) → UndoTakesBack puzzle
 undo_takes_back {P} puzzle old new m v is =
     let p = puzzle old.puzzle in
     let a = accepted (refusal_in p old m) (with_move old m) new is in
-    subst (λ (k : History P). IsOkAnd (undone k) (IsSameBack p old)) a.1 (taken_back p old m v)
+    subst (λ (k : History P). IsOkAnd (undone k) (IsSameBack p old)) a.1 (move_taken_back p old m v)
 
 pub undo_takes_restart_back : {P : Type 0} (puzzle : P → Puzzle) → UndoTakesRestartBack puzzle
 undo_takes_restart_back puzzle old new v is = undo_takes_back puzzle old new Restart v is
@@ -149,11 +152,6 @@ redone_back {P} p h v other =
     rw test (ap (λ k. let r : Result (History P) PlayFault = Ok (at_position h k) in r) again)
 
 pub redo_takes_undo_back : {P : Type 0} (puzzle : P → Puzzle) → RedoTakesUndoBack puzzle
-redo_takes_undo_back {P} puzzle old new v =
-    let p = puzzle old.puzzle in
-    elim (old.position == 1) as (λ t. (old.position == 1) ≡ t → cond t (Err NothingToUndo) (Ok (at_position old (old.position - 1))) ≡ Ok new → redone new ≡ Ok old) [
-      | true ↦ λ first is. cc
-      | false ↦ λ first is.
-          let e : at_position old (old.position - 1) ≡ new = cc in
-          subst (λ (k : History P). redone k ≡ Ok old) e (redone_back p old v (eqb-false old.position 1 first))
-    ] refl
+redo_takes_undo_back {P} puzzle old new v is =
+    let u = undone_is old new is in
+    subst (λ (k : History P). redone k ≡ Ok old) u.1 (redone_back (puzzle old.puzzle) old v u.0)

@@ -1,15 +1,16 @@
 -- The digits of a solution: what is read of them is the grid that they spell.
-use Rattle.std.proofs.Common.{◌≡◌, ℕ, ◌+◌, ◌-◌, ◌*◌, ◌<◌, ◌≤◌, true, false, ◌==◌, ◌&&◌, nat_le, cond, List, [], ◌∷◌, ◌++◌, length, map, slice_index, Option, Some, None, option_map, option_and_then, refl, sym, ap, ◌∙◌, subst, arith}
+use Rattle.std.proofs.Common.{◌≡◌, ℕ, ◌+◌, ◌-◌, ◌*◌, ◌<◌, ◌≤◌, true, false, ◌==◌, ◌&&◌, nat_le, cond, List, [], ◌∷◌, ◌++◌, length, map, slice_index, Option, Some, None, option_map, option_and_then, refl, sym, ap, ◌∙◌, subst, inl, inr, arith}
 use Rattle.std.specs.List.{AllByRecursion}
 use Rattle.std.proofs.lemmas.List.{length-map}
 use Rattle.std.proofs.lemmas.List.Elements.{All-from_recursion, All-from_get_or, recursion_from_All}
-use borrow.Author.Tests.{eqb-true, eqb-false, leb-true, le-leb}
+use Rattle.std.proofs.lemmas.Bool.{cases_eq}
+use borrow.Author.Tests.{eqb-true, leb-true, le-leb}
 use Rattle.latin_board.specs.Squares.{GridValue}
 use Rattle.play_midend.specs.MoveTexts.{digit_at, digits_at, size_by_count, solution_of, solution_at, IsFullGrid}
 
 -- what is read so far, in front of what more is read
-abbrev pub onto : List ℕ → Option (List ℕ) → Option (List ℕ)
-onto front more = option_map (λ ns. front ++ ns) more
+abbrev pub read_onto : List ℕ → Option (List ℕ) → Option (List ℕ)
+read_onto front more = option_map (λ ns. front ++ ns) more
 
 -- a number from 1 to w
 abbrev Within : ℕ → ℕ → Type 0
@@ -55,73 +56,52 @@ digits_again : (w : ℕ) (ns : List ℕ) → AllByRecursion (Within w) ns → di
 digits_again w [] h = refl
 digits_again w (n ∷ ns) h = rw (digit_again w n h.0, digits_again w ns h.1) refl
 
--- the sizes that a count of squares gives
-by_seven : (P : ℕ → Type 0) → P 3 → P 4 → P 5 → P 6 → P 7 → P 8 → P 9 → (w : ℕ) → 3 ≤ w → w ≤ 9 → P w
-by_seven P three four five six seven eight nine w low high =
-    let is : (n : ℕ) → n ≡ w → P n → P w = λ n e h. subst P e h in
-    elim (w == 3) as (λ t. (w == 3) ≡ t → P w) [
-      | true ↦ λ e. is 3 (sym (eqb-true _ _ e)) three
-      | false ↦ λ no3. elim (w == 4) as (λ t. (w == 4) ≡ t → P w) [
-        | true ↦ λ e. is 4 (sym (eqb-true _ _ e)) four
-        | false ↦ λ no4. elim (w == 5) as (λ t. (w == 5) ≡ t → P w) [
-          | true ↦ λ e. is 5 (sym (eqb-true _ _ e)) five
-          | false ↦ λ no5. elim (w == 6) as (λ t. (w == 6) ≡ t → P w) [
-            | true ↦ λ e. is 6 (sym (eqb-true _ _ e)) six
-            | false ↦ λ no6. elim (w == 7) as (λ t. (w == 7) ≡ t → P w) [
-              | true ↦ λ e. is 7 (sym (eqb-true _ _ e)) seven
-              | false ↦ λ no7. elim (w == 8) as (λ t. (w == 8) ≡ t → P w) [
-                | true ↦ λ e. is 8 (sym (eqb-true _ _ e)) eight
-                | false ↦ λ no8.
-                    let a = eqb-false _ _ no3 in
-                    let b = eqb-false _ _ no4 in
-                    let c = eqb-false _ _ no5 in
-                    let d = eqb-false _ _ no6 in
-                    let e = eqb-false _ _ no7 in
-                    let f = eqb-false _ _ no8 in
-                    is 9 (omega arith) nine
-              ] refl
-            ] refl
-          ] refl
-        ] refl
-      ] refl
-    ] refl
+-- the sizes that a count of squares gives, one after another
+from_size : (P : ℕ → Type 0) (n : ℕ) → P n → ((w : ℕ) → n + 1 ≤ w → w ≤ 9 → P w) → (w : ℕ) → n ≤ w → w ≤ 9 → P w
+from_size P n here later w low high =
+    elim (cases_eq w n) [
+      | inl is ↦ subst P (sym is) here
+      | inr other ↦ later w (omega arith) high
+    ]
 
-size_again : (w : ℕ) → 3 ≤ w → w ≤ 9 → size_by_count (w * w) ≡ Some w
-size_again w low high = by_seven (λ n. size_by_count (n * n) ≡ Some n) refl refl refl refl refl refl refl w low high
+square_size_again : (w : ℕ) → 3 ≤ w → w ≤ 9 → size_by_count (w * w) ≡ Some w
+square_size_again =
+    let P : ℕ → Type 0 = λ w. size_by_count (w * w) ≡ Some w in
+    from_size P 3 refl (from_size P 4 refl (from_size P 5 refl (from_size P 6 refl (from_size P 7 refl (from_size P 8 refl
+    (from_size P 9 refl (λ w low high. absurd (omega arith))))))))
 
 pub record IsSize (n w : ℕ) : Type 0 where
   pub smallest : 3 ≤ w
   pub largest : w ≤ 9
   pub count : n ≡ w * w
 
-size_taken : (n w : ℕ) → size_by_count n ≡ Some w → IsSize n w
-size_taken n w =
-    let is : (k v : ℕ) → IsSize k v → (n == k) ≡ true → Some v ≡ Some w → IsSize n w =
-    λ k v h t e. let a : v ≡ w = cc in let b = eqb-true _ _ t in subst (λ x. IsSize n x) a (subst (λ x. IsSize x v) (sym b) h) in
-    elim (n == 9) as (λ t. (n == 9) ≡ t → cond t (Some 3) (cond (n == 16) (Some 4) (cond (n == 25) (Some 5) (cond (n == 36) (Some 6) (cond (n == 49) (Some 7) (cond (n == 64) (Some 8) (cond (n == 81) (Some 9) None)))))) ≡ Some w → IsSize n w) [
-      | true ↦ is 9 3 (record { smallest = omega arith; largest = omega arith; count = refl })
-      | false ↦ λ _. elim (n == 16) as (λ t. (n == 16) ≡ t → cond t (Some 4) (cond (n == 25) (Some 5) (cond (n == 36) (Some 6) (cond (n == 49) (Some 7) (cond (n == 64) (Some 8) (cond (n == 81) (Some 9) None))))) ≡ Some w → IsSize n w) [
-        | true ↦ is 16 4 (record { smallest = omega arith; largest = omega arith; count = refl })
-        | false ↦ λ _. elim (n == 25) as (λ t. (n == 25) ≡ t → cond t (Some 5) (cond (n == 36) (Some 6) (cond (n == 49) (Some 7) (cond (n == 64) (Some 8) (cond (n == 81) (Some 9) None)))) ≡ Some w → IsSize n w) [
-          | true ↦ is 25 5 (record { smallest = omega arith; largest = omega arith; count = refl })
-          | false ↦ λ _. elim (n == 36) as (λ t. (n == 36) ≡ t → cond t (Some 6) (cond (n == 49) (Some 7) (cond (n == 64) (Some 8) (cond (n == 81) (Some 9) None))) ≡ Some w → IsSize n w) [
-            | true ↦ is 36 6 (record { smallest = omega arith; largest = omega arith; count = refl })
-            | false ↦ λ _. elim (n == 49) as (λ t. (n == 49) ≡ t → cond t (Some 7) (cond (n == 64) (Some 8) (cond (n == 81) (Some 9) None)) ≡ Some w → IsSize n w) [
-              | true ↦ is 49 7 (record { smallest = omega arith; largest = omega arith; count = refl })
-              | false ↦ λ _. elim (n == 64) as (λ t. (n == 64) ≡ t → cond t (Some 8) (cond (n == 81) (Some 9) None) ≡ Some w → IsSize n w) [
-                | true ↦ is 64 8 (record { smallest = omega arith; largest = omega arith; count = refl })
-                | false ↦ λ _. elim (n == 81) as (λ t. (n == 81) ≡ t → cond t (Some 9) None ≡ Some w → IsSize n w) [
-                  | true ↦ is 81 9 (record { smallest = omega arith; largest = omega arith; count = refl })
-                  | false ↦ λ _ read. cc
-                ] refl
-              ] refl
-            ] refl
-          ] refl
-        ] refl
-      ] refl
+-- one row of the table: its size, or what the rows behind it give
+row_taken : (n k v w : ℕ) (rest : Option ℕ) → IsSize k v → (rest ≡ Some w → IsSize n w) → cond (n == k) (Some v) rest ≡ Some w
+    → IsSize n w
+row_taken n k v w rest here later =
+    elim (n == k) as (λ t. (n == k) ≡ t → cond t (Some v) rest ≡ Some w → IsSize n w) [
+      | true ↦ λ same read.
+          let size : v ≡ w = cc in
+          let count = eqb-true n k same in
+          subst (λ x. IsSize n x) size (subst (λ x. IsSize x v) (sym count) here)
+      | false ↦ λ other read. later read
     ] refl
 
-full_grid : (text ns : List ℕ) (w : ℕ) → IsSize (length text) w → AllByRecursion (Within w) ns → text ≡ map (λ n. 48 + n) ns → IsFullGrid (record { size = w; numbers = ns })
+square_of : (w : ℕ) → 3 ≤ w → w ≤ 9 → IsSize (w * w) w
+square_of w low high = record { smallest = low; largest = high; count = refl }
+
+square_size_taken : (n w : ℕ) → size_by_count n ≡ Some w → IsSize n w
+square_size_taken n w =
+    row_taken n 9 3 w _ (square_of 3 (omega arith) (omega arith))
+    (row_taken n 16 4 w _ (square_of 4 (omega arith) (omega arith))
+    (row_taken n 25 5 w _ (square_of 5 (omega arith) (omega arith))
+    (row_taken n 36 6 w _ (square_of 6 (omega arith) (omega arith))
+    (row_taken n 49 7 w _ (square_of 7 (omega arith) (omega arith))
+    (row_taken n 64 8 w _ (square_of 8 (omega arith) (omega arith))
+    (row_taken n 81 9 w _ (square_of 9 (omega arith) (omega arith)) (λ read. cc)))))))
+
+full_grid : (text ns : List ℕ) (w : ℕ) → IsSize (length text) w → AllByRecursion (Within w) ns → text ≡ map (λ n. 48 + n) ns
+    → IsFullGrid (record { size = w; numbers = ns })
 full_grid text ns w size within is =
     let all = All-from_recursion (Within w) ns within in
     let long : length ns ≡ w * w = sym (length-map ns (λ n. 48 + n)) ∙ ap length (sym is) ∙ size.count in
@@ -130,8 +110,9 @@ full_grid text ns w size within is =
       full = record { each = λ cell inside. let h = all cell 0 (omega (arith, long)) in let low : 1 ≤ slice_index ns cell = h.0 in omega arith };
     }
 
-pub solution_taken : (text : List ℕ) (g : GridValue) → solution_at text ≡ Some g → IsFullGrid g × (text ≡ map (λ n. 48 + n) g.numbers)
-solution_taken text g =
+pub solution_digits_taken : (text : List ℕ) (g : GridValue) → solution_at text ≡ Some g
+    → IsFullGrid g × (text ≡ map (λ n. 48 + n) g.numbers)
+solution_digits_taken text g =
     elim (size_by_count (length text)) as (λ o. size_by_count (length text) ≡ o → option_and_then (λ w. solution_of text w) o ≡ Some g → IsFullGrid g × (text ≡ map (λ n. 48 + n) g.numbers)) [
       | None ↦ λ size read. cc
       | Some w ↦ λ size. elim (digits_at w text) as (λ o. digits_at w text ≡ o → option_map (λ ns. let r : GridValue = record { size = w; numbers = ns } in r) o ≡ Some g → IsFullGrid g × (text ≡ map (λ n. 48 + n) g.numbers)) [
@@ -139,15 +120,15 @@ solution_taken text g =
         | Some ns ↦ λ digits read.
             let taken = digits_taken w text ns digits in
             let e : record { size = w; numbers = ns } ≡ g = cc in
-            subst (λ (h : GridValue). IsFullGrid h × (text ≡ map (λ n. 48 + n) h.numbers)) e (full_grid text ns w (size_taken (length text) w size) taken.0 taken.1, taken.1)
+            subst (λ (h : GridValue). IsFullGrid h × (text ≡ map (λ n. 48 + n) h.numbers)) e (full_grid text ns w (square_size_taken (length text) w size) taken.0 taken.1, taken.1)
       ] refl
     ] refl
 
-pub solution_again : (g : GridValue) → IsFullGrid g → solution_at (map (λ n. 48 + n) g.numbers) ≡ Some g
-solution_again g h =
+pub solution_digits_again : (g : GridValue) → IsFullGrid g → solution_at (map (λ n. 48 + n) g.numbers) ≡ Some g
+solution_digits_again g h =
     let each : (k : ℕ) → k < length g.numbers → Within g.size (slice_index g.numbers k) =
     λ k less. (let low = h.full.each k (omega (arith, h.grid.count)) in omega arith, h.grid.within k 0 less) in
     let within = recursion_from_All (Within g.size) g.numbers (All-from_get_or (Within g.size) g.numbers 0 each) in
     let size : size_by_count (length (map (λ n. 48 + n) g.numbers)) ≡ Some g.size =
-    rw (length-map g.numbers (λ n. 48 + n), h.grid.count) (size_again g.size h.grid.smallest h.grid.largest) in
+    rw (length-map g.numbers (λ n. 48 + n), h.grid.count) (square_size_again g.size h.grid.smallest h.grid.largest) in
     rw (size, digits_again g.size g.numbers within) refl

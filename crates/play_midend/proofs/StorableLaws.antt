@@ -1,16 +1,15 @@
 -- A session that can be stored stays one.
-use Rattle.std.proofs.Common.{◌≡◌, ℕ, ◌+◌, ◌-◌, true, false, ◌==◌, cond, List, [], ◌∷◌, length, Result, Ok, Err, refl, sym, ◌∙◌, subst, arith, inl, inr}
+use Rattle.std.proofs.Common.{◌≡◌, ℕ, ◌+◌, ◌-◌, List, [], ◌∷◌, Result, Ok, Err, refl, sym, ◌∙◌, subst, arith, inl, inr}
 use Rattle.trail_solver.specs.Puzzles.{Puzzle}
 use Rattle.clue_rules.specs.declared.params.Params.{Params}
 use Rattle.clue_rules.specs.Parameters.{IsParams}
 use Rattle.play_midend.specs.declared.moves.Move.{Move}
 use Rattle.play_midend.specs.declared.moves.Move.TheVariants.{Solve, Restart}
 use Rattle.play_midend.specs.declared.fault.PlayFault.{PlayFault}
-use Rattle.play_midend.specs.declared.fault.PlayFault.TheVariants.{NothingToUndo, NothingToRedo}
-use Rattle.play_midend.specs.Histories.{History, IsValid, IsStorable, with_move, at_position, refusal_in, played, restarted, SolveGives, undone, redone}
+use Rattle.play_midend.specs.Histories.{History, IsValid, IsStorable, with_move, at_position, refusal_in, played, SolveGives}
 use Rattle.play_midend.specs.Laws.{Call, Play, FromStart, ToSolution, Undo, Redo, CallGives, Answered, AnsweredInTurn, StartsStorable, RunsStayStorable}
 use Rattle.play_midend.proofs.Playing.{accepted, solved_as_played}
-use Rattle.play_midend.proofs.SessionLaws.{valid_called}
+use Rattle.play_midend.proofs.SessionLaws.{valid_called, undone_is, redone_is}
 
 -- the puzzle, the parameters and the kept bytes stay
 pub record IsSameGame {P : Type 0} (old new : History P) : Type 0 where
@@ -28,20 +27,6 @@ same_game_at : {P : Type 0} (h new : History P) (position : ℕ) → at_position
 same_game_at {P} h new position e =
     subst (λ (k : History P). IsSameGame h k) e (record { puzzle = refl; params = refl; next_params = refl; extras = refl })
 
-same_game_undone : {P : Type 0} (h new : History P) → undone h ≡ Ok new → IsSameGame h new
-same_game_undone h new =
-    elim (h.position == 1) as (λ t. cond t (Err NothingToUndo) (Ok (at_position h (h.position - 1))) ≡ Ok new → IsSameGame h new) [
-      | true ↦ λ is. cc
-      | false ↦ λ is. same_game_at h new (h.position - 1) cc
-    ]
-
-same_game_redone : {P : Type 0} (h new : History P) → redone h ≡ Ok new → IsSameGame h new
-same_game_redone h new =
-    elim (h.position == length h.moves + 1) as (λ t. cond t (Err NothingToRedo) (Ok (at_position h (h.position + 1))) ≡ Ok new → IsSameGame h new) [
-      | true ↦ λ is. cc
-      | false ↦ λ is. same_game_at h new (h.position + 1) cc
-    ]
-
 pub same_game_solved : {P : Type 0} (p : Puzzle) (h new : History P) → SolveGives p h (Ok new) → IsSameGame h new
 same_game_solved p h new (inl none) = cc (none.1)
 same_game_solved p h new (inr (inl several)) = cc (several.1)
@@ -52,11 +37,12 @@ pub same_game_called : {P : Type 0} (p : Puzzle) (h new : History P) (call : Cal
 same_game_called p h new (Play m) is = same_game_played p h new m (sym is)
 same_game_called p h new FromStart is = same_game_played p h new Restart (sym is)
 same_game_called p h new ToSolution is = same_game_solved p h new is
-same_game_called p h new Undo is = same_game_undone h new (sym is)
-same_game_called p h new Redo is = same_game_redone h new (sym is)
+same_game_called p h new Undo is = same_game_at h new (h.position - 1) (undone_is h new (sym is)).1
+same_game_called p h new Redo is = same_game_at h new (h.position + 1) (redone_is h new (sym is)).1
 
 -- what a call that is accepted leaves of a storable session
-pub storable_called : {P : Type 0} (puzzle : P → Puzzle) (of_game : P → Type 0) (letters : List ℕ) (h new : History P) (call : Call) → IsStorable puzzle of_game letters h → CallGives (puzzle h.puzzle) h call (Ok new) → IsStorable puzzle of_game letters new
+pub storable_called : {P : Type 0} (puzzle : P → Puzzle) (of_game : P → Type 0) (letters : List ℕ) (h new : History P) (call : Call)
+    → IsStorable puzzle of_game letters h → CallGives (puzzle h.puzzle) h call (Ok new) → IsStorable puzzle of_game letters new
 storable_called {P} puzzle of_game letters h new call s is =
     let same = same_game_called (puzzle h.puzzle) h new call is in
     record {
@@ -66,38 +52,29 @@ storable_called {P} puzzle of_game letters h new call s is =
       next_params_are = subst (λ (q : Params). IsParams letters q) (sym same.next_params) s.next_params_are;
     }
 
-pub storable_played : {P : Type 0} (puzzle : P → Puzzle) (of_game : P → Type 0) (letters : List ℕ) (h new : History P) (m : Move) → IsStorable puzzle of_game letters h → played (puzzle h.puzzle) h m ≡ Ok new → IsStorable puzzle of_game letters new
-storable_played puzzle of_game letters h new m s is = storable_called puzzle of_game letters h new (Play m) s (sym is)
-
-pub storable_restarted : {P : Type 0} (puzzle : P → Puzzle) (of_game : P → Type 0) (letters : List ℕ) (h new : History P) → IsStorable puzzle of_game letters h → restarted h ≡ Ok new → IsStorable puzzle of_game letters new
-storable_restarted puzzle of_game letters h new s is = storable_called puzzle of_game letters h new FromStart s (sym is)
-
-pub storable_solved : {P : Type 0} (puzzle : P → Puzzle) (of_game : P → Type 0) (letters : List ℕ) (h new : History P) → IsStorable puzzle of_game letters h → SolveGives (puzzle h.puzzle) h (Ok new) → IsStorable puzzle of_game letters new
-storable_solved puzzle of_game letters h new s is = storable_called puzzle of_game letters h new ToSolution s is
-
-pub storable_undone : {P : Type 0} (puzzle : P → Puzzle) (of_game : P → Type 0) (letters : List ℕ) (h new : History P) → IsStorable puzzle of_game letters h → undone h ≡ Ok new → IsStorable puzzle of_game letters new
-storable_undone puzzle of_game letters h new s is = storable_called puzzle of_game letters h new Undo s (sym is)
-
-pub storable_redone : {P : Type 0} (puzzle : P → Puzzle) (of_game : P → Type 0) (letters : List ℕ) (h new : History P) → IsStorable puzzle of_game letters h → redone h ≡ Ok new → IsStorable puzzle of_game letters new
-storable_redone puzzle of_game letters h new s is = storable_called puzzle of_game letters h new Redo s (sym is)
-
 -- calls in turn
-storable_answered : {P : Type 0} (puzzle : P → Puzzle) (of_game : P → Type 0) (letters : List ℕ) (h new : History P) (call : Call) (answer : Result (Unit {0}) PlayFault) → IsStorable puzzle of_game letters h → Answered (puzzle h.puzzle) h call answer new → IsStorable puzzle of_game letters new
+storable_answered : {P : Type 0} (puzzle : P → Puzzle) (of_game : P → Type 0) (letters : List ℕ) (h new : History P) (call : Call)
+    (answer : Result (Unit {0}) PlayFault)
+    → IsStorable puzzle of_game letters h → Answered (puzzle h.puzzle) h call answer new → IsStorable puzzle of_game letters new
 storable_answered puzzle of_game letters h new call (Ok u) s is = storable_called puzzle of_game letters h new call s is
 storable_answered {P} puzzle of_game letters h new call (Err fault) s is = subst (λ (k : History P). IsStorable puzzle of_game letters k) (sym is.0) s
 
-same_puzzle_answered : {P : Type 0} (p : Puzzle) (h new : History P) (call : Call) (answer : Result (Unit {0}) PlayFault) → Answered p h call answer new → new.puzzle ≡ h.puzzle
+same_puzzle_answered : {P : Type 0} (p : Puzzle) (h new : History P) (call : Call) (answer : Result (Unit {0}) PlayFault)
+    → Answered p h call answer new → new.puzzle ≡ h.puzzle
 same_puzzle_answered p h new call (Ok u) is = let same = same_game_called p h new call is in same.puzzle
 same_puzzle_answered {P} p h new call (Err fault) is = subst (λ (k : History P). k.puzzle ≡ h.puzzle) (sym is.0) refl
 
-storable_run : {P : Type 0} (puzzle : P → Puzzle) (of_game : P → Type 0) (letters : List ℕ) (h new : History P) (calls : List (Call × Result (Unit {0}) PlayFault)) → IsStorable puzzle of_game letters h → AnsweredInTurn (puzzle h.puzzle) h calls new → IsStorable puzzle of_game letters new
+storable_run : {P : Type 0} (puzzle : P → Puzzle) (of_game : P → Type 0) (letters : List ℕ) (h new : History P)
+    (calls : List (Call × Result (Unit {0}) PlayFault))
+    → IsStorable puzzle of_game letters h → AnsweredInTurn (puzzle h.puzzle) h calls new → IsStorable puzzle of_game letters new
 storable_run {P} puzzle of_game letters h new [] s run = subst (λ (k : History P). IsStorable puzzle of_game letters k) (sym run) s
 storable_run {P} puzzle of_game letters h new (c ∷ calls) s run =
     let first = storable_answered puzzle of_game letters h run.0 c.0 c.1 s run.1 in
     let same = same_puzzle_answered (puzzle h.puzzle) h run.0 c.0 c.1 run.1 in
     storable_run puzzle of_game letters run.0 new calls first (subst (λ (q : P). AnsweredInTurn (puzzle q) run.0 calls new) (sym same) run.2)
 
-pub runs_stay_storable : {P : Type 0} (puzzle : P → Puzzle) (of_game : P → Type 0) (letters : List ℕ) → RunsStayStorable puzzle of_game letters
+pub runs_stay_storable : {P : Type 0} (puzzle : P → Puzzle) (of_game : P → Type 0) (letters : List ℕ)
+    → RunsStayStorable puzzle of_game letters
 runs_stay_storable puzzle of_game letters old new calls s run = storable_run puzzle of_game letters old new calls s run
 
 -- a new session

@@ -115,13 +115,13 @@ AcceptedListsAreLegal {P} puzzle =
     played_all (puzzle first) new ms ≡ Ok last
     → IsLegal (puzzle first) ms × (length ms + 1 ≤ most_states) × (last ≡ with_moves new ms)
 
--- so many steps back show the state with that position
+-- so many undos show the state with that position
 abbrev pub UndoLeadsBack : Type 0 → Type 0
 UndoLeadsBack P =
     (h : History P) (n position : ℕ) → 1 ≤ position → h.position ≡ position + n
     → undone_times n h ≡ Ok (at_position h position)
 
--- each valid session is its moves, played along from a new one, and then steps back
+-- each valid session is its moves, played along from a new one, and then undos
 abbrev pub HistoriesAreReached : {P : Type 0} → (P → Puzzle) → Type 0
 HistoriesAreReached {P} puzzle =
     (h : History P) → let p = puzzle h.puzzle in

@@ -1,15 +1,28 @@
--- What a session keeps beside each move: the change that takes it back while it is past, or makes it again while it is later.
+-- What stands beside each move of a session: the change that takes it back while it is past, or makes it again while it is later.
 use Rattle.std.specs.Prelude.{◌≡◌, ℕ, ◌+◌, ◌≤◌, false, List, [], ◌∷◌, length, take, drop, map, Ok}
 use Rattle.latin_board.specs.Boards.{BoardValue}
 use Rattle.latin_board.specs.Changes.{FitsBoard, board_after}
 use Rattle.trail_solver.specs.Puzzles.{Puzzle}
 use Rattle.play_midend.specs.declared.moves.Move.{Move}
 use Rattle.play_midend.specs.declared.session.Record.{Record}
+use Rattle.play_midend.specs.declared.session.Session.TheInside.{Inside}
 use Rattle.play_midend.specs.Steps.{step, start_of, begins_with_restart}
-use Rattle.play_midend.specs.Histories.{most_states}
+use Rattle.play_midend.specs.Histories.{History, most_states}
 
+-- the moves of a list of records
 abbrev pub moves_of : List Record → List Move
 moves_of records = map (λ r. r.made) records
+
+-- what contracts see of a session's fields
+abbrev pub viewed : {P : Type 0} → Inside P → History P
+viewed s = record {
+  puzzle = s.puzzle;
+  params = s.params;
+  next_params = s.next_params;
+  extras = s.extras;
+  moves = moves_of s.records.items;
+  position = s.past + 1;
+}
 
 -- a past record, exchanged with the board that follows its move, gives the board before it
 pub record IsBack (p : Puzzle) (before : BoardValue) (r : Record) (now : BoardValue) : Type 0 where

@@ -1,4 +1,4 @@
--- A list of moves that is played along from a session, and steps back.
+-- A list of moves that is played along from a session, and undos in turn.
 use Rattle.std.specs.Prelude.{ℕ, zero, suc, ◌+◌, List, [], ◌∷◌, length, Result, Ok, Err}
 use Rattle.trail_solver.specs.Puzzles.{Puzzle}
 use Rattle.play_midend.specs.declared.moves.Move.{Move}
@@ -20,7 +20,7 @@ played_all p h (m ∷ ms) = result_and_then (λ next. played_all p next ms) (pla
 abbrev pub with_moves : {P : Type 0} → History P → List Move → History P
 with_moves h ms = record h { moves = ms; position = length ms + 1 }
 
--- so many steps back
+-- so many undos
 abbrev pub undone_times : {P : Type 0} → ℕ → History P → Result (History P) PlayFault
 undone_times zero h = Ok h
 undone_times (suc n) h = result_and_then (λ before. undone_times n before) (undone h)

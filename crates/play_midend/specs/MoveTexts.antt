@@ -67,12 +67,12 @@ abbrev pub all_three : Option ℕ → Option ℕ → Option ℕ → Option (ℕ 
 all_three (Some x) (Some y) (Some n) = Some (x, y, n)
 all_three _ _ _ = None
 
-abbrev pub three_behind : Option ℕ → List ℕ → Option (ℕ × ℕ × ℕ)
-three_behind x rest =
+abbrev pub three_from : Option ℕ → List ℕ → Option (ℕ × ℕ × ℕ)
+three_from x rest =
     option_and_then (λ last. all_three x (decimal_value 255 (before comma rest)) (decimal_value 255 last)) (behind comma rest)
 
 abbrev pub three_at : List ℕ → Option (ℕ × ℕ × ℕ)
-three_at text = option_and_then (λ rest. three_behind (decimal_value 255 (before comma text)) rest) (behind comma text)
+three_at text = option_and_then (λ rest. three_from (decimal_value 255 (before comma text)) rest) (behind comma text)
 
 abbrev pub coordinate_at : List ℕ → Option ℤ
 coordinate_at text = if bytes_eq text (codes "-1") then Some (negsuc zero) else option_map pos (decimal_value 127 text)
@@ -104,9 +104,10 @@ solution_of text w = option_map (λ ns. record { size = w; numbers = ns }) (digi
 abbrev pub solution_at : List ℕ → Option GridValue
 solution_at text = option_and_then (λ w. solution_of text w) (size_by_count (length text))
 
-abbrev pub nothing_more : List ℕ → Option Move
-nothing_more [] = Some MarkAll
-nothing_more (b ∷ bs) = None
+-- nothing stands behind the letter
+abbrev pub mark_all_at : List ℕ → Option Move
+mark_all_at [] = Some MarkAll
+mark_all_at (b ∷ bs) = None
 
 -- the move that a text spells, by its first byte
 abbrev pub move_by : List ℕ → Option Move
@@ -114,7 +115,7 @@ move_by [] = None
 move_by (b ∷ bs) =
     if b == capital_r then option_map (λ t. Real t.0 t.1 t.2) (three_at bs)
     else (if b == capital_p then option_map (λ t. Pencil t.0 t.1 t.2) (three_at bs)
-    else (if b == capital_m then nothing_more bs
+    else (if b == capital_m then mark_all_at bs
     else (if b == capital_s then option_map Solve (solution_at bs)
     else (if b == capital_d then option_map (λ t. Done t.0 t.1) (two_at bs) else None))))
 

@@ -1,7 +1,7 @@
 //! The mid-end of Latin square puzzles: moves and their texts, and a session with undo, redo and restart.
 //!
 //! It knows no game: all that differs between games goes through `Game`. A session owns its history, which is the list of
-//! the moves, and shows one board. Each move is kept beside the one change that takes it back or makes it again.
+//! the moves, and shows one board. Beside each move stands the one change that takes it back or makes it again.
 //!
 //! ```
 //! let mut session = Session::new(alloc, params, params, puzzle, extras)?;

@@ -29,7 +29,7 @@ struct Record {
 /// It does what the mid-end of the collection does (its developer guide): a move drops the states behind the position, undo
 /// and redo go along them, and a restart is a move of its own.
 ///
-/// Contracts see a session as a `History`: puzzle, parameters, kept bytes, moves and position. It keeps one board and beside
+/// Contracts see a session as a `History`: puzzle, parameters, kept bytes, moves and position. It has one board and beside
 /// each move one change, so that `undo` and `redo` are one exchange each and take no memory.
 #[derive(Drop)]
 pub struct Session<P: Game> {
@@ -44,20 +44,14 @@ pub struct Session<P: Game> {
 }
 
 impl<P: Game> Model for Session<P> {
-    ghost use Rattle.std.specs.Prelude.{◌≡◌, ◌+◌};
+    ghost use Rattle.std.specs.Prelude.{◌≡◌};
     ghost use Rattle.play_midend.specs.Histories.{History};
-    ghost use Rattle.play_midend.specs.Links.{moves_of, AreLinked};
 
     ghost Value = { History P };
 
-    ghost view = { λ s. record {
-      puzzle = s.puzzle;
-      params = s.params;
-      next_params = s.next_params;
-      extras = s.extras;
-      moves = moves_of s.records.items;
-      position = s.past + 1;
-    } };
+    ghost use Rattle.play_midend.specs.Links.{viewed, AreLinked};
+
+    ghost view = { viewed };
 
     ghost invariant = { λ s. (s.params.size ≡ (P.puzzle s.puzzle).size)
         × AreLinked (P.puzzle s.puzzle) s.records.items s.past s.board };
@@ -105,14 +99,14 @@ fn put(records: &mut Vec<Record>, past: usize, last: Record) -> Result<(), Alloc
 
 // Exchanges what a record's change holds with what the board holds there: so a past move is taken back, and a later one made
 // again. A second exchange restores both.
-fn exchange(board: &mut Board, kept: &mut Record)
-    requires { FitsBoard board.old kept.old.change }
-    ensures board { board.new ≡ board_after board.old kept.old.change }
-    ensures made { kept.new.made ≡ kept.old.made }
-    ensures fits { FitsBoard board.new kept.new.change }
-    ensures restores { board_after board.new kept.new.change ≡ board.old }
+fn exchange(board: &mut Board, link: &mut Record)
+    requires { FitsBoard board.old link.old.change }
+    ensures board { board.new ≡ board_after board.old link.old.change }
+    ensures made { link.new.made ≡ link.old.made }
+    ensures fits { FitsBoard board.new link.new.change }
+    ensures restores { board_after board.new link.new.change ≡ board.old }
 {
-    board.swap(&mut kept.change);
+    board.swap(&mut link.change);
 }
 
 impl<P: Game> Session<P> {

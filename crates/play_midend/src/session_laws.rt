@@ -27,6 +27,6 @@ pub fn laws<P: Game>()
 pub fn move_list_laws<P: Game>()
     ensures legal_accepted { LegalListsPlay P.puzzle }
     ensures accepted_legal { AcceptedListsAreLegal P.puzzle }
-    ensures steps_back { UndoLeadsBack P }
+    ensures undo_leads_back { UndoLeadsBack P }
     ensures all_reached { HistoriesAreReached P.puzzle }
 {}

@@ -13,6 +13,14 @@ use latin_board::{Board, Change, Grid, Marks, OutOfMemory, edge_place};
 use std::alloc::Global;
 use trail_solver::{Rules, solves};
 
+// The square at column x and row y of a grid of this width.
+fn cell_of(width: u8, x: u8, y: u8) -> usize
+    requires { width ≤ 9 }
+    ensures { result ≡ cell_of width x y }
+{
+    y as usize * width as usize + x as usize
+}
+
 // The square of a number or a mark, or the first refusal of it.
 fn entry_cell<P: Game>(puzzle: &P, x: u8, y: u8, n: u8) -> Result<usize, PlayFault>
     ensures { MatchResult result
@@ -28,7 +36,7 @@ fn entry_cell<P: Game>(puzzle: &P, x: u8, y: u8, n: u8) -> Result<usize, PlayFau
     if n > width {
         return Err(PlayFault::OffRange);
     }
-    let cell = y as usize * width as usize + x as usize;
+    let cell = cell_of(width, x, y);
     if puzzle.given(cell) != 0 {
         return Err(PlayFault::GivenSquare);
     }
@@ -219,17 +227,15 @@ pub(crate) fn change_for<P: Game>(
         board_after board.now change ≡ moved (P.puzzle puzzle.now) board.now m.now) }
     ensures in_place { takes_memory m.now ≡ false → IsOk result }
 {
-    let width = puzzle.size().get() as usize;
+    let width = puzzle.size().get();
     let next = match *m {
         Move::Real { x, y, n } => {
-            return Ok(number_change(puzzle, board, y as usize * width + x as usize, n));
+            return Ok(number_change(puzzle, board, cell_of(width, x, y), n));
         }
         Move::Pencil { x, y, n: 0 } => {
-            return Ok(number_change(puzzle, board, y as usize * width + x as usize, 0));
+            return Ok(number_change(puzzle, board, cell_of(width, x, y), 0));
         }
-        Move::Pencil { x, y, n } => {
-            return Ok(mark_change(board, y as usize * width + x as usize, n));
-        }
+        Move::Pencil { x, y, n } => return Ok(mark_change(board, cell_of(width, x, y), n)),
         Move::MarkAll => with_all_marks(board),
         Move::Solve(grid) => with_solution(board, &grid),
         Move::Restart => start(puzzle),

@@ -52,12 +52,8 @@ impl<R: Read> Source for FromRead<R> {
         if self.failed {
             return Err(DeviceFault::DeviceFault);
         }
-        match self.reader.read(buffer) {
-            Ok(count) => Ok(count),
-            Err(_) => {
-                self.failed = true;
-                Err(DeviceFault::DeviceFault)
-            }
-        }
+        let answer = self.reader.read(buffer);
+        self.failed = answer.is_err();
+        answer.map_err(|_| DeviceFault::DeviceFault)
     }
 }

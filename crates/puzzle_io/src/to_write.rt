@@ -53,16 +53,12 @@ impl<W: Write> Sink for ToWrite<W> {
         if self.failed {
             return Err(DeviceFault::DeviceFault);
         }
-        match self.writer.write(bytes) {
-            Ok(count) => {
-                self.failed = count == 0 && !bytes.is_empty();
-                Ok(count)
-            }
-            Err(_) => {
-                self.failed = true;
-                Err(DeviceFault::DeviceFault)
-            }
-        }
+        let answer = self.writer.write(bytes);
+        self.failed = match &answer {
+            Ok(count) => *count == 0 && !bytes.is_empty(),
+            Err(_) => true,
+        };
+        answer.map_err(|_| DeviceFault::DeviceFault)
     }
 
     fn flush(&mut self) -> Result<(), DeviceFault>
@@ -75,12 +71,8 @@ impl<W: Write> Sink for ToWrite<W> {
         if self.failed {
             return Err(DeviceFault::DeviceFault);
         }
-        match self.writer.flush() {
-            Ok(()) => Ok(()),
-            Err(_) => {
-                self.failed = true;
-                Err(DeviceFault::DeviceFault)
-            }
-        }
+        let answer = self.writer.flush();
+        self.failed = answer.is_err();
+        answer.map_err(|_| DeviceFault::DeviceFault)
     }
 }

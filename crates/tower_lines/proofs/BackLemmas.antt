@@ -14,18 +14,21 @@ use Rattle.tower_lines.proofs.StartLemmas.{IsNextValue, start_front, start_next,
 
 -- the counts from which a start with the mask can go on with k + 1 and show the clue
 pub record IsBackBy (sets : List ℕ) (clue mask k counts : ℕ) : Type 0 where
-  pub only : (p : List ℕ) → IsStart sets p → IsMask mask p → (c : ℕ) → has_bit counts c ≡ true → (s : List ℕ) × IsEnd sets clue c p ((k + 1) ∷ s)
+  pub only : (p : List ℕ) → IsStart sets p → IsMask mask p → (c : ℕ) → has_bit counts c ≡ true
+      → (s : List ℕ) × IsEnd sets clue c p ((k + 1) ∷ s)
   pub all : (p s : List ℕ) → IsMask mask p → IsEnd sets clue (seen p) p ((k + 1) ∷ s) → has_bit counts (seen p) ≡ true
 
 -- the same for every next value that isn't left, and those of these values that a filling has
 pub record IsBackBut (sets : List ℕ) (clue mask left counts passed : ℕ) : Type 0 where
   pub next : (k : ℕ) → has_bit left k ≡ true → IsNext sets mask k
   pub only : (p : List ℕ) → IsStart sets p → IsMask mask p → (c : ℕ) → has_bit counts c ≡ true → (s : List ℕ) × IsEnd sets clue c p s
-  pub all : (p s : List ℕ) (k : ℕ) → has_bit left k ≡ false → IsMask mask p → IsEnd sets clue (seen p) p ((k + 1) ∷ s) → has_bit counts (seen p) ≡ true
+  pub all : (p s : List ℕ) (k : ℕ) → has_bit left k ≡ false → IsMask mask p → IsEnd sets clue (seen p) p ((k + 1) ∷ s)
+      → has_bit counts (seen p) ≡ true
   pub passed_only : (k : ℕ) → has_bit passed k ≡ true → IsPassed sets clue mask (k + 1)
   pub passed_all : (k : ℕ) → has_bit left k ≡ false → IsPassed sets clue mask (k + 1) → has_bit passed k ≡ true
 
-pub back_step : {sets : List ℕ} {clue mask k after counts : ℕ} (value : ℕ) → mask < 2 ^ length sets → IsNext sets mask k → value ≡ 2 ^ k → AreBackCounts sets clue (mask + value) after
+pub back_step : {sets : List ℕ} {clue mask k after counts : ℕ} (value : ℕ) → mask < 2 ^ length sets → IsNext sets mask k → value ≡ 2 ^ k
+    → AreBackCounts sets clue (mask + value) after
     → ((c : ℕ) → has_bit counts c ≡ has_bit after (c + cond (ltb mask value) 1 0)) → IsBackBy sets clue mask k counts
 back_step {sets} {clue} {mask} {k} {after} {counts} value inside next is table lowered =
     let a = added_with mask k (mask + 2 ^ k) next.fresh refl in
@@ -65,7 +68,8 @@ back_step {sets} {clue} {mask} {k} {after} {counts} value inside next is table l
     }
 
 -- a line without squares left
-pub back_full : {sets : List ℕ} {clue mask counts : ℕ} → count_ones mask ≡ length sets → counts ≡ 2 ^ clue → AreBackCounts sets clue mask counts
+pub back_full : {sets : List ℕ} {clue mask counts : ℕ} → count_ones mask ≡ length sets → counts ≡ 2 ^ clue
+    → AreBackCounts sets clue mask counts
 back_full {sets} {clue} {mask} {counts} full is = record {
   only = λ p start used c e.
       let same = mark-pow clue c (rw is at e) in
@@ -96,7 +100,8 @@ back_none {sets} {clue} {mask} {left} bits = record {
 }
 
 -- the starts that show a count, and the counts from which the clue can be shown, meet in a filling
-pub passed_from_shared : {sets : List ℕ} {clue mask k reached counts : ℕ} → AreFrontCounts sets clue mask reached → IsBackBy sets clue mask k counts → IsShared reached counts → IsPassed sets clue mask (k + 1)
+pub passed_from_shared : {sets : List ℕ} {clue mask k reached counts : ℕ} → AreFrontCounts sets clue mask reached
+    → IsBackBy sets clue mask k counts → IsShared reached counts → IsPassed sets clue mask (k + 1)
 passed_from_shared {sets} {clue} {mask} {k} front back shared =
     let f = front.only shared.0 shared.1 in
     let b = back.only f.0 f.1 f.2 shared.0 shared.2 in
@@ -111,7 +116,8 @@ passed_from_shared {sets} {clue} {mask} {k} front back shared =
       };
     }
 
-pub shared_from_passed : {sets : List ℕ} {clue mask k reached counts : ℕ} → AreFrontCounts sets clue mask reached → IsBackBy sets clue mask k counts → IsPassed sets clue mask (k + 1) → IsShared reached counts
+pub shared_from_passed : {sets : List ℕ} {clue mask k reached counts : ℕ} → AreFrontCounts sets clue mask reached
+    → IsBackBy sets clue mask k counts → IsPassed sets clue mask (k + 1) → IsShared reached counts
 shared_from_passed {sets} {clue} {mask} {k} front back h =
     let f = h.filling in (
       seen h.before,
@@ -123,7 +129,8 @@ shared_from_passed {sets} {clue} {mask} {k} front back h =
       },
     )
 
-pub back_more : {sets : List ℕ} {clue mask left counts passed k more rest reached : ℕ} (value shared : ℕ) → has_bit left k ≡ true → value ≡ 2 ^ k → rest + value ≡ left
+pub back_more : {sets : List ℕ} {clue mask left counts passed k more rest reached : ℕ} (value shared : ℕ) → has_bit left k ≡ true
+    → value ≡ 2 ^ k → rest + value ≡ left
     → IsBackBut sets clue mask left counts passed → AreFrontCounts sets clue mask reached → IsBackBy sets clue mask k more
     → ((j : ℕ) → (has_bit shared j ≡ true) ↔ ((has_bit value j ≡ true) × IsShared reached more))
     → IsBackBut sets clue mask rest (bit_or counts more) (bit_or passed shared)
@@ -150,7 +157,8 @@ back_more {sets} {clue} {mask} {left} {counts} {passed} {k} {more} {rest} {reach
       ];
     }
 
-pub back_all : {sets : List ℕ} {clue mask counts passed : ℕ} → count_ones mask < length sets → IsBackBut sets clue mask 0 counts passed → AreBackCounts sets clue mask counts
+pub back_all : {sets : List ℕ} {clue mask counts passed : ℕ} → count_ones mask < length sets → IsBackBut sets clue mask 0 counts passed
+    → AreBackCounts sets clue mask counts
 back_all {sets} {clue} {mask} {counts} {passed} room back = record {
   only = back.only;
   all = λ p s used end. each p s used end;
@@ -166,14 +174,17 @@ back_all {sets} {clue} {mask} {counts} {passed} room back = record {
         let P : ℕ → Type 0 = λ i. IsEnd sets clue (seen p) p (i ∷ s) in
         back.all p s (v - 1) (mark-zero (v - 1)) used (subst P e end)
 
-pub passed_small : {sets : List ℕ} {clue mask counts passed : ℕ} → IsBackBut sets clue mask 0 counts passed → passed < 2 ^ length sets
-passed_small {sets} {clue} {mask} {counts} {passed} back =
+pub passed_values_small : {sets : List ℕ} {clue mask counts passed : ℕ} → IsBackBut sets clue mask 0 counts passed
+    → passed < 2 ^ length sets
+passed_values_small {sets} {clue} {mask} {counts} {passed} back =
     below_from_marks passed (length sets) (λ j l. false_from_ne_true (has_bit passed j) (λ e.
     let h = back.passed_only j e in
     absurd (omega (arith, (next_in h.before j h.after h.filling.start h.used).small))))
 
 -- one more entry of the table, from above
-pub backs_more : {sets : List ℕ} {clue mask counts : ℕ} (back : List ℕ) → ((m : ℕ) → mask < m → m < 2 ^ length sets → AreBackCounts sets clue m (get_or back m 0)) → mask < length back → AreBackCounts sets clue mask counts
+pub backs_more : {sets : List ℕ} {clue mask counts : ℕ} (back : List ℕ)
+    → ((m : ℕ) → mask < m → m < 2 ^ length sets → AreBackCounts sets clue m (get_or back m 0)) → mask < length back
+    → AreBackCounts sets clue mask counts
     → (m : ℕ) → mask ≤ m → m < 2 ^ length sets → AreBackCounts sets clue m (get_or (set back mask counts) m 0)
 backs_more {sets} {clue} {mask} {counts} back above inside here m from l =
     elim (cases_eq m mask) [

@@ -24,7 +24,8 @@ pub record AreDoneBut (sets : List ℕ) (clue mask left : ℕ) (front : List ℕ
 
 -- what is done under other words
 so_far_same : {sets : List ℕ} {clue mask counts : ℕ} {Done New : ℕ → ℕ → Type 0}
-    → ((q : List ℕ) (k rest : ℕ) → IsMask rest q → New rest k → IsStart sets (q ++ (k + 1) ∷ []) → seen (q ++ (k + 1) ∷ []) ≤ clue → Done rest k)
+    → ((q : List ℕ) (k rest : ℕ) → IsMask rest q → New rest k → IsStart sets (q ++ (k + 1) ∷ [])
+    → seen (q ++ (k + 1) ∷ []) ≤ clue → Done rest k)
     → AreCountsSoFar sets clue mask counts Done → AreCountsSoFar sets clue mask counts New
 so_far_same {sets} {clue} {mask} {counts} {Done} {New} to h = record {
   only = h.only;
@@ -33,7 +34,8 @@ so_far_same {sets} {clue} {mask} {counts} {Done} {New} to h = record {
 }
 
 -- a mask is right once all masks below it are done
-pub front_done : {sets : List ℕ} {clue mask from counts : ℕ} → mask ≤ from → AreCountsSoFar sets clue mask counts (λ rest k. rest < from) → AreFrontCounts sets clue mask counts
+pub front_done : {sets : List ℕ} {clue mask from counts : ℕ} → mask ≤ from → AreCountsSoFar sets clue mask counts (λ rest k. rest < from)
+    → AreFrontCounts sets clue mask counts
 front_done {sets} {clue} {mask} {from} {counts} below h = record {
   only = h.only;
   all = λ p start used few. each p start used few;
@@ -65,9 +67,11 @@ front_done {sets} {clue} {mask} {from} {counts} below h = record {
 -- what the starts with the mask show with the value k + 1
 pub record AreCountsBy (sets : List ℕ) (clue mask k counts : ℕ) : Type 0 where
   pub only : (c : ℕ) → has_bit counts c ≡ true → (p : List ℕ) × IsStart sets p × IsMask (mask + 2 ^ k) p × (seen p ≡ c)
-  pub all : (q : List ℕ) → IsMask mask q → IsStart sets (q ++ (k + 1) ∷ []) → seen (q ++ (k + 1) ∷ []) ≤ clue → has_bit counts (seen (q ++ (k + 1) ∷ [])) ≡ true
+  pub all : (q : List ℕ) → IsMask mask q → IsStart sets (q ++ (k + 1) ∷ []) → seen (q ++ (k + 1) ∷ []) ≤ clue
+      → has_bit counts (seen (q ++ (k + 1) ∷ [])) ≡ true
 
-pub front_step : {sets : List ℕ} {clue mask k counts more : ℕ} (value : ℕ) → mask < 2 ^ length sets → IsNext sets mask k → value ≡ 2 ^ k → AreFrontCounts sets clue mask counts
+pub front_step : {sets : List ℕ} {clue mask k counts more : ℕ} (value : ℕ) → mask < 2 ^ length sets → IsNext sets mask k → value ≡ 2 ^ k
+    → AreFrontCounts sets clue mask counts
     → ((c : ℕ) → has_bit more c ≡ true → (b : ℕ) × (b + cond (ltb mask value) 1 0 ≡ c) × (has_bit counts b ≡ true))
     → ((b : ℕ) → b + cond (ltb mask value) 1 0 ≤ clue → has_bit counts b ≡ true → has_bit more (b + cond (ltb mask value) 1 0) ≡ true)
     → AreCountsBy sets clue mask k more
@@ -100,7 +104,8 @@ front_step {sets} {clue} {mask} {k} {counts} {more} value inside next is front o
 
 -- the entry of the mask with the value
 counts_here : {sets : List ℕ} {clue mask left counts k more : ℕ} (next : ℕ) → has_bit left k ≡ true → next + 2 ^ k ≡ left
-    → AreCountsSoFar sets clue (mask + 2 ^ k) counts (IsDone mask left) → AreCountsBy sets clue mask k more → AreCountsSoFar sets clue (mask + 2 ^ k) (bit_or counts more) (IsDone mask next)
+    → AreCountsSoFar sets clue (mask + 2 ^ k) counts (IsDone mask left) → AreCountsBy sets clue mask k more
+    → AreCountsSoFar sets clue (mask + 2 ^ k) (bit_or counts more) (IsDone mask next)
 counts_here {sets} {clue} {mask} {left} {counts} {k} {more} next used sum h by =
     let a = added_without next k left used sum in
     record {
@@ -156,7 +161,8 @@ no_entry {sets} {clue} mask some = record {
   all = λ q k rest used done start m few. absurd (omega arith);
 }
 
-pub table_start : {sets : List ℕ} {clue : ℕ} (front : List ℕ) → ((m : ℕ) → get_or front m 0 ≡ 0) → 0 < length front → AreDoneBelow sets clue 0 (set front 0 1)
+pub table_start : {sets : List ℕ} {clue : ℕ} (front : List ℕ) → ((m : ℕ) → get_or front m 0 ≡ 0) → 0 < length front
+    → AreDoneBelow sets clue 0 (set front 0 1)
 table_start {sets} {clue} front zero inside = record {
   each = λ m small. elim (cases_eq m 0) [
     | inl same ↦ rw same (rw (get_or-set_same front 0 1 0 inside) first_entry)
@@ -165,7 +171,8 @@ table_start {sets} {clue} front zero inside = record {
 }
 
 -- at a mask
-pub table_at : {sets : List ℕ} {clue mask left : ℕ} (front : List ℕ) → AreNextValues sets mask left → AreDoneBelow sets clue mask front → AreDoneBut sets clue mask left front
+pub table_at : {sets : List ℕ} {clue mask left : ℕ} (front : List ℕ) → AreNextValues sets mask left → AreDoneBelow sets clue mask front
+    → AreDoneBut sets clue mask left front
 table_at {sets} {clue} {mask} {left} front bits h = record {
   each = λ m small. so_far_same (λ q k rest used done start few. elim done [
     | inl l ↦ l
@@ -174,7 +181,8 @@ table_at {sets} {clue} {mask} {left} front bits h = record {
 }
 
 -- one value more
-pub table_more : {sets : List ℕ} {clue mask left k more : ℕ} (next value : ℕ) (front : List ℕ) → has_bit left k ≡ true → value ≡ 2 ^ k → next + value ≡ left → mask + value < length front
+pub table_more : {sets : List ℕ} {clue mask left k more : ℕ} (next value : ℕ) (front : List ℕ) → has_bit left k ≡ true → value ≡ 2 ^ k
+    → next + value ≡ left → mask + value < length front
     → AreCountsBy sets clue mask k more → AreDoneBut sets clue mask left front
     → AreDoneBut sets clue mask next (set front (mask + value) (bit_or (get_or front (mask + value) 0) more))
 table_more {sets} {clue} {mask} {left} {k} {more} next value front used is sum inside by h =
@@ -191,7 +199,8 @@ table_more {sets} {clue} {mask} {left} {k} {more} next value front used is sum i
     }
 
 -- behind a mask
-pub table_next : {sets : List ℕ} {clue mask : ℕ} (front : List ℕ) → AreDoneBut sets clue mask 0 front → AreDoneBelow sets clue (mask + 1) front
+pub table_next : {sets : List ℕ} {clue mask : ℕ} (front : List ℕ) → AreDoneBut sets clue mask 0 front
+    → AreDoneBelow sets clue (mask + 1) front
 table_next {sets} {clue} {mask} front h = record {
   each = λ m small. so_far_same (λ q k rest used done start few. elim (cases_lt rest mask) [
     | inl l ↦ inl l
@@ -200,7 +209,8 @@ table_next {sets} {clue} {mask} front h = record {
 }
 
 -- past a mask whose starts have nothing next
-pub table_past : {sets : List ℕ} {clue mask : ℕ} (front : List ℕ) → ((q : List ℕ) (k : ℕ) → IsMask mask q → IsStart sets (q ++ (k + 1) ∷ []) → seen (q ++ (k + 1) ∷ []) ≤ clue → ⊥)
+pub table_past : {sets : List ℕ} {clue mask : ℕ} (front : List ℕ)
+    → ((q : List ℕ) (k : ℕ) → IsMask mask q → IsStart sets (q ++ (k + 1) ∷ []) → seen (q ++ (k + 1) ∷ []) ≤ clue → ⊥)
     → AreDoneBelow sets clue mask front → AreDoneBelow sets clue (mask + 1) front
 table_past {sets} {clue} {mask} front none h = record {
   each = λ m small. so_far_same (λ q k rest used done start few. elim (cases_lt rest mask) [
@@ -209,11 +219,13 @@ table_past {sets} {clue} {mask} front none h = record {
   ]) (h.each m small);
 }
 
-pub none_unreached : {sets : List ℕ} {clue mask : ℕ} → AreFrontCounts sets clue mask 0 → (q : List ℕ) (k : ℕ) → IsMask mask q → IsStart sets (q ++ (k + 1) ∷ []) → seen (q ++ (k + 1) ∷ []) ≤ clue → ⊥
+pub none_unreached : {sets : List ℕ} {clue mask : ℕ} → AreFrontCounts sets clue mask 0 → (q : List ℕ) (k : ℕ) → IsMask mask q
+    → IsStart sets (q ++ (k + 1) ∷ []) → seen (q ++ (k + 1) ∷ []) ≤ clue → ⊥
 none_unreached {sets} {clue} {mask} front q k used start few =
     both_ways (has_bit 0 (seen q)) (mark-zero (seen q)) (front.all q (start_front q ((k + 1) ∷ []) start) used (omega (arith, seen-append q ((k + 1) ∷ []))))
 
-pub none_full : {sets : List ℕ} {clue mask : ℕ} → count_ones mask ≡ length sets → (q : List ℕ) (k : ℕ) → IsMask mask q → IsStart sets (q ++ (k + 1) ∷ []) → seen (q ++ (k + 1) ∷ []) ≤ clue → ⊥
+pub none_full : {sets : List ℕ} {clue mask : ℕ} → count_ones mask ≡ length sets → (q : List ℕ) (k : ℕ) → IsMask mask q
+    → IsStart sets (q ++ (k + 1) ∷ []) → seen (q ++ (k + 1) ∷ []) ≤ clue → ⊥
 none_full {sets} {clue} {mask} full q k used start few =
     let n = mask-ones q (start_front q ((k + 1) ∷ []) start) used in
     absurd (omega (arith, (start_next q (k + 1) [] start).room))

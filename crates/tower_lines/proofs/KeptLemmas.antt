@@ -11,7 +11,8 @@ use Rattle.tower_lines.proofs.MaskLemmas.{mask_of, mask-ones, mask_small}
 use Rattle.tower_lines.proofs.SeenLemmas.{seen-append}
 use Rattle.tower_lines.proofs.StartLemmas.{start_front, start_next}
 
-supported_from_passed : {sets : List ℕ} {clue mask value : ℕ} → IsPassed sets clue mask value → IsSupported sets clue (count_ones mask) value
+supported_from_passed : {sets : List ℕ} {clue mask value : ℕ} → IsPassed sets clue mask value
+    → IsSupported sets clue (count_ones mask) value
 supported_from_passed {sets} {clue} {mask} {value} h =
     let n = mask-ones h.before (start_front h.before (value ∷ h.after) h.filling.start) h.used in
     record {
@@ -21,7 +22,8 @@ supported_from_passed {sets} {clue} {mask} {value} h =
       here = get_or_at h.before value h.after 0 (count_ones mask) (sym n);
     }
 
-passed_from_supported : {sets : List ℕ} {clue place value : ℕ} → IsSupported sets clue place value → (mask : ℕ) × (count_ones mask ≡ place) × IsPassed sets clue mask value
+passed_from_supported : {sets : List ℕ} {clue place value : ℕ} → IsSupported sets clue place value
+    → (mask : ℕ) × (count_ones mask ≡ place) × IsPassed sets clue mask value
 passed_from_supported {sets} {clue} {place} {value} h =
     let inside : place < length h.line = omega (arith, h.inside, h.filling.whole) in
     let rest : drop place h.line ≡ value ∷ drop (place + 1) h.line = drop_more h.line place 0 inside ∙ ap (λ x. x ∷ drop (place + 1) h.line) h.here in
@@ -34,18 +36,20 @@ passed_from_supported {sets} {clue} {place} {value} h =
       record { before = take place h.line; after = drop (place + 1) h.line; used = m.used; filling = filling },
     )
 
-passed_small : {sets : List ℕ} {clue mask value : ℕ} → IsPassed sets clue mask value → mask < 2 ^ length sets
-passed_small {sets} {clue} {mask} {value} h = mask_small h.before (start_front h.before (value ∷ h.after) h.filling.start) h.used
+passed_mask_small : {sets : List ℕ} {clue mask value : ℕ} → IsPassed sets clue mask value → mask < 2 ^ length sets
+passed_mask_small {sets} {clue} {mask} {value} h = mask_small h.before (start_front h.before (value ∷ h.after) h.filling.start) h.used
 
-pub kept_none : {sets : List ℕ} {clue : ℕ} (kept : List ℕ) → ((place : ℕ) → get_or kept place 0 ≡ 0) → AreKeptValues sets clue (2 ^ length sets) kept
-kept_none {sets} {clue} kept none = record {
+pub kept_values_none : {sets : List ℕ} {clue : ℕ} (kept : List ℕ) → ((place : ℕ) → get_or kept place 0 ≡ 0)
+    → AreKeptValues sets clue (2 ^ length sets) kept
+kept_values_none {sets} {clue} kept none = record {
   only = λ place value e. absurd (both_ways (has_bit 0 value) (mark-zero value) (rw (none place) at e));
-  all = λ mask value from h. absurd (omega (arith, passed_small h));
+  all = λ mask value from h. absurd (omega (arith, passed_mask_small h));
 }
 
 -- a mask whose starts have no value next
-pub kept_same : {sets kept : List ℕ} {clue mask : ℕ} → ((value : ℕ) → IsPassed sets clue mask value → ⊥) → AreKeptValues sets clue (mask + 1) kept → AreKeptValues sets clue mask kept
-kept_same {sets} {kept} {clue} {mask} none h = record {
+pub kept_values_same : {sets kept : List ℕ} {clue mask : ℕ} → ((value : ℕ) → IsPassed sets clue mask value → ⊥)
+    → AreKeptValues sets clue (mask + 1) kept → AreKeptValues sets clue mask kept
+kept_values_same {sets} {kept} {clue} {mask} none h = record {
   only = h.only;
   all = λ m value from p. elim (cases_eq m mask) [
     | inl same ↦ absurd (none value (let P : ℕ → Type 0 = λ i. IsPassed sets clue i value in subst P same p))
@@ -63,17 +67,19 @@ unpassed_unreached {sets} {clue} {mask} front value h =
     both_ways (has_bit 0 (seen h.before)) (mark-zero (seen h.before))
     (front.all h.before (start_front h.before (value ∷ h.after) h.filling.start) h.used (omega (arith, seen-append h.before (value ∷ h.after), h.filling.shown)))
 
-passed_all : {sets : List ℕ} {clue mask counts passed : ℕ} → IsBackBut sets clue mask 0 counts passed → (value : ℕ) → IsPassed sets clue mask value → (k : ℕ) × (value ≡ k + 1) × (has_bit passed k ≡ true)
+passed_all : {sets : List ℕ} {clue mask counts passed : ℕ} → IsBackBut sets clue mask 0 counts passed → (value : ℕ)
+    → IsPassed sets clue mask value → (k : ℕ) × (value ≡ k + 1) × (has_bit passed k ≡ true)
 passed_all {sets} {clue} {mask} {counts} {passed} back value h =
     let low = (start_next h.before value h.after h.filling.start).low in
     let e : value ≡ (value - 1) + 1 = omega arith in
     let P : ℕ → Type 0 = λ i. IsPassed sets clue mask i in
     (value - 1, e, back.passed_all (value - 1) (mark-zero (value - 1)) (subst P e h))
 
-pub kept_more : {sets kept : List ℕ} {clue mask counts passed place : ℕ} (values : ℕ) → place ≡ count_ones mask → place < length kept → IsBackBut sets clue mask 0 counts passed
+pub kept_values_more : {sets kept : List ℕ} {clue mask counts passed place : ℕ} (values : ℕ) → place ≡ count_ones mask → place < length kept
+    → IsBackBut sets clue mask 0 counts passed
     → ((value : ℕ) → (has_bit values value ≡ true) ↔ ((k : ℕ) × (value ≡ k + 1) × (has_bit passed k ≡ true)))
     → AreKeptValues sets clue (mask + 1) kept → AreKeptValues sets clue mask (set kept place (bit_or (get_or kept place 0) values))
-kept_more {sets} {kept} {clue} {mask} {counts} {passed} {place} values at inside back is h =
+kept_values_more {sets} {kept} {clue} {mask} {counts} {passed} {place} values at inside back is h =
     let more = set kept place (bit_or (get_or kept place 0) values) in
     let here : get_or more place 0 ≡ bit_or (get_or kept place 0) values = get_or-set_same kept place _ 0 inside in
     let other = λ (j : ℕ) (ne : j ≢ place). get_or-set_other kept place j (bit_or (get_or kept place 0) values) 0 ne in
@@ -100,8 +106,9 @@ kept_more {sets} {kept} {clue} {mask} {counts} {passed} {place} values at inside
       ];
     }
 
-pub kept_all : {sets kept : List ℕ} {clue : ℕ} → AreKeptValues sets clue 0 kept → (place value : ℕ) → (has_bit (get_or kept place 0) value ≡ true) ↔ IsSupported sets clue place value
-kept_all {sets} {kept} {clue} h place value = (
+pub kept_values_all : {sets kept : List ℕ} {clue : ℕ} → AreKeptValues sets clue 0 kept → (place value : ℕ)
+    → (has_bit (get_or kept place 0) value ≡ true) ↔ IsSupported sets clue place value
+kept_values_all {sets} {kept} {clue} h place value = (
   h.only place value,
   λ s. (let r = passed_from_supported s in
       let e = h.all r.0 value (omega arith) r.2 in rw r.1 at e),

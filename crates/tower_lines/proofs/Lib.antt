@@ -1,3 +1,4 @@
+-- Lemmas on bits and masks, and on what both passes over the masks of a line find.
 pub mod BackLemmas
 pub mod FrontLemmas
 pub mod KeptLemmas

@@ -83,8 +83,8 @@ pub record IsAdded (m k n : ℕ) : Type 0 where
   pub from : m ≡ (above * 2) * 2 ^ k + below
   pub to : n ≡ (above * 2 + 1) * 2 ^ k + below
 
-one_more : (a p r : ℕ) → (a * 2) * p + r + p ≡ (a * 2 + 1) * p + r
-one_more a p r = omega arith
+odd_multiple : (a p r : ℕ) → (a * 2) * p + r + p ≡ (a * 2 + 1) * p + r
+odd_multiple a p r = omega arith
 
 pub added_with : (m k n : ℕ) → has_bit m k ≡ false → n ≡ m + 2 ^ k → IsAdded m k n
 added_with m k n e h =
@@ -97,7 +97,7 @@ added_with m k n e h =
       below = m % 2 ^ k;
       small = mod_below m (2 ^ k) (pow_pos k);
       from = sym parts;
-      to = h ∙ ap (λ x. x + 2 ^ k) (sym parts) ∙ one_more (q / 2) (2 ^ k) (m % 2 ^ k);
+      to = h ∙ ap (λ x. x + 2 ^ k) (sym parts) ∙ odd_multiple (q / 2) (2 ^ k) (m % 2 ^ k);
     }
 
 pub added_without : (m k n : ℕ) → has_bit n k ≡ true → m + 2 ^ k ≡ n → IsAdded m k n
@@ -106,7 +106,7 @@ added_without m k n e h =
     let odd : q % 2 ≡ 1 = bit-from_mark n k e in
     let half : q / 2 * 2 + 1 ≡ q = omega (arith, div-add-mod' q 2) in
     let parts : (q / 2 * 2 + 1) * 2 ^ k + n % 2 ^ k ≡ n = rw half (shr_split n k) in
-    let more : (q / 2 * 2) * 2 ^ k + n % 2 ^ k + 2 ^ k ≡ m + 2 ^ k = one_more (q / 2) (2 ^ k) (n % 2 ^ k) ∙ parts ∙ sym h in
+    let more : (q / 2 * 2) * 2 ^ k + n % 2 ^ k + 2 ^ k ≡ m + 2 ^ k = odd_multiple (q / 2) (2 ^ k) (n % 2 ^ k) ∙ parts ∙ sym h in
     record {
       above = q / 2;
       below = n % 2 ^ k;
@@ -164,7 +164,7 @@ added_below {m} {k} {n} h w small inside =
 
 pub added_above : {m k n : ℕ} → IsAdded m k n → m < n
 added_above {m} {k} {n} h =
-    let p = pow_pos k in let e = one_more h.above (2 ^ k) h.below in
+    let p = pow_pos k in let e = odd_multiple h.above (2 ^ k) h.below in
     omega (arith, h.from, h.to)
 
 -- the power of two of a mark is no more than the number
@@ -252,12 +252,9 @@ mark-candidates m value h = (
 )
 
 -- the set n without those marks, from 1 to w
-pub mark-next : (n m w k : ℕ) → m < 2 ^ w → has_bit (bit_and (n / 2) (bit_xor (2 ^ w - 1) m)) k ≡ (has_bit n (k + 1) && (ltb k w && not (has_bit m k)))
+pub mark-next : (n m w k : ℕ) → m < 2 ^ w
+    → has_bit (bit_and (n / 2) (bit_xor (2 ^ w - 1) m)) k ≡ (has_bit n (k + 1) && (ltb k w && not (has_bit m k)))
 mark-next n m w k h = rw mark-and (rw (mark-half n k, mark-others w m k h) refl)
-
--- the set n with those marks
-pub mark-last : (n m k : ℕ) → has_bit (bit_and (n / 2) m) k ≡ (has_bit n (k + 1) && has_bit m k)
-mark-last n m k = rw mark-and (rw (mark-half n k) refl)
 
 -- an odd multiple of a power of two, and the number before it
 and_before : (a p k : ℕ) → p ≡ 2 ^ k → bit_and ((a * 2 + 1) * p) ((a * 2 + 1) * p - 1) ≡ (a * 2) * p
@@ -287,16 +284,17 @@ lowest_value n p h =
     let e = rw whole at (and_before a (2 ^ k) k refl) in
     record {
       bit = k;
-      is = omega (arith, one_more a (2 ^ k) 0);
+      is = omega (arith, odd_multiple a (2 ^ k) 0);
       used = mark-from_bit n k t.1;
     }
 
 -- the counts up to the clue
-pub up_to_only : (m n c : ℕ) → has_bit (bit_and m n) c ≡ true → has_bit m c ≡ true
-up_to_only m n c e = (and_parts _ _ (sym (mark-and m n c) ∙ e)).0
+pub counts_up_to_only : (m n c : ℕ) → has_bit (bit_and m n) c ≡ true → has_bit m c ≡ true
+counts_up_to_only m n c e = (and_parts _ _ (sym (mark-and m n c) ∙ e)).0
 
-pub up_to_all : (m clue c : ℕ) → clue ≤ 9 → c ≤ clue → has_bit m c ≡ true → has_bit (bit_and m (1 * 2 ^ (clue + 1) % 65536 - 1)) c ≡ true
-up_to_all m clue c most few e =
+pub counts_up_to_all : (m clue c : ℕ) → clue ≤ 9 → c ≤ clue → has_bit m c ≡ true
+    → has_bit (bit_and m (1 * 2 ^ (clue + 1) % 65536 - 1)) c ≡ true
+counts_up_to_all m clue c most few e =
     let small : clue + 1 < 16 = omega arith in
     let is : 1 * 2 ^ (clue + 1) % 65536 ≡ 2 ^ (clue + 1) = one_shl (clue + 1) 16 small in
     mark-and m (1 * 2 ^ (clue + 1) % 65536 - 1) c ∙ and_from _ _ e (rw is (mark-from_bit (2 ^ (clue + 1) - 1) c (bit_at_mask_inside 0 (clue + 1) c (omega arith) (omega arith))))

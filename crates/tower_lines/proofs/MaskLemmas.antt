@@ -1,7 +1,8 @@
 -- Masks of lists: one value more or less, the one mask of a list, the mask that each start has.
-use Rattle.std.proofs.Common.{◌≡◌, ◌≢◌, ℕ, ◌+◌, ◌-◌, ◌^◌, ◌<◌, ◌≤◌, inl, inr, Bool, true, false, ◌&&◌, ◌||◌, eqb, ltb, cond, List, [], ◌∷◌, ◌++◌, length, refl, sym, ap, ◌∙◌, arith, append_assoc, count_ones}
+use Rattle.std.proofs.Common.{◌≡◌, ◌≢◌, ℕ, ◌+◌, ◌-◌, ◌^◌, ◌<◌, ◌≤◌, inl, inr, true, false, ◌||◌, eqb, ltb, cond, List, [], ◌∷◌, ◌++◌, length, refl, sym, ap, ◌∙◌, arith, append_assoc, count_ones}
 use Rattle.std.specs.List.{list_all}
 use Rattle.std.proofs.lemmas.Bool.{eqb-true, eq-eqb, ne_eqb, lt-ltb, le-ltb, cases_eq, cases_lt, cases_Bool, false≢true, both_ways}
+use Rattle.std.proofs.Math.Bool.{or-true, or-false, and-false}
 use Rattle.std.proofs.Math.Nat.{pow-le-pow_right}
 use Rattle.std.proofs.lemmas.Nat.{pow_pos, ones_le_self}
 use Rattle.std.proofs.lemmas.List.{append-nil, length_push}
@@ -9,56 +10,27 @@ use Rattle.std.proofs.lemmas.List.Folds.{list_any-append}
 use Rattle.tower_lines.specs.TowersSeen.{seen, seen_after}
 use Rattle.tower_lines.specs.LineFillings.{has_bit, IsStart}
 use Rattle.tower_lines.specs.LineMasks.{is_in, IsMask}
-use Rattle.tower_lines.proofs.MarkLemmas.{IsAdded, added_with, added_lacks, added_has, added_other, added_ones, added_below, mark-zero, below_from_mark, below_from_marks, same_from_marks}
+use Rattle.tower_lines.proofs.MarkLemmas.{IsAdded, added_with, added_has, added_other, added_ones, added_below, mark-zero, below_from_mark, below_from_marks, same_from_marks}
 use Rattle.tower_lines.proofs.SeenLemmas.{seen-append}
 use Rattle.tower_lines.proofs.StartLemmas.{start_next}
 
-or_true : (b : Bool) → (b || true) ≡ true
-or_true true = refl
-or_true false = refl
-
-or_false : (b : Bool) → (b || false) ≡ b
-or_false true = refl
-or_false false = refl
-
-and_false : (b : Bool) → (b && false) ≡ false
-and_false true = refl
-and_false false = refl
-
 is_in-push : (p : List ℕ) (x y : ℕ) → is_in y (p ++ x ∷ []) ≡ (is_in y p || eqb x y)
-is_in-push p x y = list_any-append (λ z. eqb z y) p (x ∷ []) ∙ ap (λ b. is_in y p || b) (or_false (eqb x y))
+is_in-push p x y = list_any-append (λ z. eqb z y) p (x ∷ []) ∙ ap (λ b. is_in y p || b) (or-false (eqb x y))
 
 pub is_in-push_same : (p : List ℕ) (k : ℕ) → is_in (k + 1) (p ++ (k + 1) ∷ []) ≡ true
-is_in-push_same p k = is_in-push p (k + 1) (k + 1) ∙ ap (λ b. is_in (k + 1) p || b) (eq-eqb (k + 1) (k + 1) refl) ∙ or_true (is_in (k + 1) p)
+is_in-push_same p k = is_in-push p (k + 1) (k + 1) ∙ ap (λ b. is_in (k + 1) p || b) (eq-eqb (k + 1) (k + 1) refl) ∙ or-true (is_in (k + 1) p)
 
 is_in-push_other : (p : List ℕ) (k j : ℕ) → j ≢ k → is_in (j + 1) (p ++ (k + 1) ∷ []) ≡ is_in (j + 1) p
-is_in-push_other p k j ne = is_in-push p (k + 1) (j + 1) ∙ ap (λ b. is_in (j + 1) p || b) (ne_eqb (k + 1) (j + 1) (λ e. ne (omega arith))) ∙ or_false (is_in (j + 1) p)
+is_in-push_other p k j ne = is_in-push p (k + 1) (j + 1) ∙ ap (λ b. is_in (j + 1) p || b) (ne_eqb (k + 1) (j + 1) (λ e. ne (omega arith))) ∙ or-false (is_in (j + 1) p)
 
 pub mask_none : IsMask 0 []
 mask_none = record { bits = λ k. mark-zero k }
-
--- only the empty list has the mask 0
-pub nil_from_mask : {sets : List ℕ} (p : List ℕ) → IsStart sets p → IsMask 0 p → p ≡ []
-nil_from_mask [] h m = refl
-nil_from_mask (x ∷ p) h m =
-    let low = (h.values 0 (omega arith)).0 in
-    let e : x ≡ (x - 1) + 1 = omega arith in
-    let used : is_in (x - 1 + 1) (x ∷ p) ≡ true = ap (λ b. b || is_in (x - 1 + 1) p) (eq-eqb x (x - 1 + 1) e) in
-    absurd (both_ways (has_bit 0 (x - 1)) (mark-zero (x - 1)) (m.bits (x - 1) ∙ used))
 
 pub mask_more : {m k n : ℕ} (p : List ℕ) → IsMask m p → IsAdded m k n → IsMask n (p ++ (k + 1) ∷ [])
 mask_more {m} {k} {n} p h a = record {
   bits = λ j. elim (cases_eq j k) [
     | inl same ↦ rw same (added_has a ∙ sym (is_in-push_same p k))
     | inr other ↦ added_other a j other ∙ h.bits j ∙ sym (is_in-push_other p k j other)
-  ];
-}
-
-pub mask_less : {m k n : ℕ} (p : List ℕ) → IsMask n (p ++ (k + 1) ∷ []) → is_in (k + 1) p ≡ false → IsAdded m k n → IsMask m p
-mask_less {m} {k} {n} p h fresh a = record {
-  bits = λ j. elim (cases_eq j k) [
-    | inl same ↦ rw same (added_lacks a ∙ sym fresh)
-    | inr other ↦ sym (added_other a j other) ∙ h.bits j ∙ is_in-push_other p k j other
   ];
 }
 
@@ -113,7 +85,7 @@ all_below (x ∷ p) k h =
           let l = h (x - 1) (ap (λ b. b || is_in (x - 1 + 1) p) (eq-eqb x (x - 1 + 1) e)) in omega arith)
       | inr none ↦ omega arith
     ]) in
-    rw here (all_below p k (λ j e. h j (rw e (or_true (eqb x (j + 1))))))
+    rw here (all_below p k (λ j e. h j (rw e (or-true (eqb x (j + 1))))))
 
 -- and a value not below k + 1
 some_above : (p : List ℕ) (k j : ℕ) → k ≤ j → is_in (j + 1) p ≡ true → list_all (λ y. ltb y (k + 1)) p ≡ false
@@ -121,7 +93,7 @@ some_above [] k j l e = absurd (false≢true e)
 some_above (x ∷ p) k j l e =
     elim (cases_Bool (eqb x (j + 1))) [
       | inl here ↦ (let same = eqb-true x (j + 1) here in rw (le-ltb x (k + 1) (omega arith)) refl)
-      | inr other ↦ rw (some_above p k j l (rw other at e)) (and_false (ltb x (k + 1)))
+      | inr other ↦ rw (some_above p k j l (rw other at e)) (and-false (ltb x (k + 1)))
     ]
 
 -- a value is greater than all of a list where its power of two is greater than the list's mask

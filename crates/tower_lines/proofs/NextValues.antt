@@ -14,7 +14,8 @@ pub record IsNext (sets : List ℕ) (mask k : ℕ) : Type 0 where
   pub candidate : has_bit (get_or sets (count_ones mask) 0) (k + 1) ≡ true
 
 -- a value that comes next in some line
-pub next_in : {sets : List ℕ} {mask : ℕ} (p : List ℕ) (k : ℕ) (s : List ℕ) → IsStart sets (p ++ (k + 1) ∷ s) → IsMask mask p → IsNext sets mask k
+pub next_in : {sets : List ℕ} {mask : ℕ} (p : List ℕ) (k : ℕ) (s : List ℕ) → IsStart sets (p ++ (k + 1) ∷ s) → IsMask mask p
+    → IsNext sets mask k
 next_in {sets} {mask} p k s start used =
     let next = start_next p (k + 1) s start in
     let n : count_ones mask ≡ length p = mask-ones p (start_front p ((k + 1) ∷ s) start) used in
@@ -25,7 +26,8 @@ next_in {sets} {mask} p k s start used =
     }
 
 -- the mask with a next value is a place of the table
-pub next_in_table : {sets : List ℕ} {mask k : ℕ} (value : ℕ) → length sets ≤ 9 → mask < 2 ^ length sets → IsNext sets mask k → value ≡ 2 ^ k → mask + value < 512
+pub next_in_table : {sets : List ℕ} {mask k : ℕ} (value : ℕ) → length sets ≤ 9 → mask < 2 ^ length sets → IsNext sets mask k → value ≡ 2 ^ k
+    → mask + value < 512
 next_in_table {sets} {mask} {k} value short inside next is =
     let a = added_with mask k (mask + value) next.fresh (ap (λ n. mask + n) is) in
     mask_in_table (length sets) (mask + value) short (added_below a (length sets) inside next.small)
@@ -40,13 +42,15 @@ next_from_bit {sets} {mask} {left} h k e =
     let rest = and_parts _ _ parts.1 in
     record { fresh = not-true _ rest.1; small = ltb-true _ _ rest.0; candidate = parts.0 }
 
-pub bit_from_start : {sets : List ℕ} {mask left : ℕ} → AreNextValues sets mask left → (p : List ℕ) (k : ℕ) (s : List ℕ) → IsStart sets (p ++ (k + 1) ∷ s) → IsMask mask p → has_bit left k ≡ true
+pub bit_from_start : {sets : List ℕ} {mask left : ℕ} → AreNextValues sets mask left → (p : List ℕ) (k : ℕ) (s : List ℕ)
+    → IsStart sets (p ++ (k + 1) ∷ s) → IsMask mask p → has_bit left k ≡ true
 bit_from_start {sets} {mask} {left} h p k s start used =
     let next = next_in p k s start used in
     h.bits k ∙ and_from _ _ next.candidate (and_from _ _ (lt-ltb k (length sets) next.small) (not_from_false _ next.fresh))
 
 -- the values that are left when one went are next values still
-pub next_rest : {sets : List ℕ} {mask left : ℕ} (k rest : ℕ) → has_bit left k ≡ true → rest + 2 ^ k ≡ left → ((j : ℕ) → has_bit left j ≡ true → IsNext sets mask j) → (j : ℕ) → has_bit rest j ≡ true → IsNext sets mask j
+pub next_rest : {sets : List ℕ} {mask left : ℕ} (k rest : ℕ) → has_bit left k ≡ true → rest + 2 ^ k ≡ left
+    → ((j : ℕ) → has_bit left j ≡ true → IsNext sets mask j) → (j : ℕ) → has_bit rest j ≡ true → IsNext sets mask j
 next_rest {sets} {mask} {left} k rest used sum next j e =
     let a = added_without rest k left used sum in
     next j (elim (cases_eq j k) [

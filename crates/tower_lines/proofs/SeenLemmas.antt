@@ -39,9 +39,6 @@ seen-push p x = seen-append p (x ∷ []) ∙ omega arith
 pub record IsLeastSeen (p : List ℕ) (least : ℕ) : Type 0 where
   pub taller : (x : ℕ) → list_all (λ y. ltb y x) p ≡ leb least x
 
-pub least_seen_none : IsLeastSeen [] 0
-least_seen_none = record { taller = λ x. grind (arith, nat_tests) }
-
 pub least_seen_more : (p : List ℕ) (least height : ℕ) → IsLeastSeen p least → least ≤ height → IsLeastSeen (p ++ height ∷ []) (height + 1)
 least_seen_more p least height h l = record {
   taller = λ x. list_all-append (λ y. ltb y x) p (height ∷ []) ∙ rw (h.taller x) (grind (arith, nat_tests));

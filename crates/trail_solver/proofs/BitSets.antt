@@ -15,7 +15,8 @@ flipped-is : (m value : ℕ) → value < 16 → flipped m value ≡ flip_mark m 
 flipped-is m value small = ap (λ (k : ℕ). bit_xor m k) (one_shl value 16 small)
 
 -- one square's set with one bit turned over
-pub flips_bit : (old : List ℕ) (cell value : ℕ) → cell < length old → value < 16 → FlipsBit old (set old cell (flipped (get_or old cell 0) value)) cell value
+pub flips_bit : (old : List ℕ) (cell value : ℕ) → cell < length old → value < 16
+    → FlipsBit old (set old cell (flipped (get_or old cell 0) value)) cell value
 flips_bit old cell value inside small = record {
   places = length-set old cell (flipped (get_or old cell 0) value);
   bits = λ c v. elim (cases_eq c cell) [

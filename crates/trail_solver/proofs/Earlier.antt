@@ -25,7 +25,8 @@ prefix_trans ps qs rs h k = record {
 }
 
 -- the pairs of a front are in the whole list
-pub has_pair-prefix : (ps qs : List (ℕ × ℕ)) (cell value : ℕ) → IsPrefix ps qs → has_pair ps cell value ≡ true → has_pair qs cell value ≡ true
+pub has_pair-prefix : (ps qs : List (ℕ × ℕ)) (cell value : ℕ) → IsPrefix ps qs → has_pair ps cell value ≡ true
+    → has_pair qs cell value ≡ true
 has_pair-prefix ps qs cell value h k =
     let whole : ps ++ drop (length ps) qs ≡ qs = ap (λ (xs : List (ℕ × ℕ)). xs ++ drop (length ps) qs) (sym h.is) ∙ take-append-drop (length ps) qs in
     ap (λ (xs : List (ℕ × ℕ)). has_pair xs cell value) (sym whole)
@@ -55,7 +56,8 @@ was_left a b cell value h k =
     true_from_ne_false (may_be a cell value) (λ e. both_ways (may_be b cell value) (stays_gone a b cell value h e) k)
 
 -- a square that had one candidate still has that one, if it has one
-pub only_later : (a b : CandidatesValue) (cell value other : ℕ) → IsEarlier a b → IsOnly a cell value → 1 ≤ other → other ≤ b.size → may_be b cell other ≡ true → IsOnly b cell value
+pub only_later : (a b : CandidatesValue) (cell value other : ℕ) → IsEarlier a b → IsOnly a cell value → 1 ≤ other → other ≤ b.size
+    → may_be b cell other ≡ true → IsOnly b cell value
 only_later a b cell value other h o low high left =
     let first : other ≡ value = o.alone other low (omega (arith, h.size)) (was_left a b cell other h left) in
     let P : ℕ → Type 0 = λ v. may_be b cell v ≡ true in

@@ -1,8 +1,8 @@
 -- The grid of settled candidates, and the solutions among candidates.
 use Rattle.std.proofs.Common.{◌≡◌, ℕ, ◌+◌, ◌*◌, ◌<◌, List, length, get_or, set, sym, ap, ◌∙◌, subst, inl, inr, arith, length-set}
 use Rattle.std.proofs.lemmas.Bool.{cases_eq}
-use Rattle.std.proofs.lemmas.List.{get_or-set_same, get_or-set_other, get_or_default, length-replicate}
-use Rattle.latin_board.specs.Squares.{GridValue, blank_grid, number_at}
+use Rattle.std.proofs.lemmas.List.{get_or-set_same, get_or-set_other, get_or_default}
+use Rattle.latin_board.specs.Squares.{GridValue, number_at}
 use Rattle.latin_board.proofs.LatinLines.{latin_full}
 use Rattle.latin_board.proofs.Numbers.{number_within, same_numbers}
 use Rattle.trail_solver.specs.Pairs.{IsPair}
@@ -16,15 +16,9 @@ pub record FilledSoFar (c : CandidatesValue) (g : GridValue) (k : ℕ) : Type 0 
   pub count : length g.numbers ≡ c.size * c.size
   pub each : (cell : ℕ) → cell < k → IsOnly c cell (number_at g cell)
 
-pub filled_none : (c : CandidatesValue) (g : GridValue) (size : ℕ) → g ≡ blank_grid size → size ≡ c.size → FilledSoFar c g 0
-filled_none c g size e s = record {
-  same_size = ap (λ (h : GridValue). h.size) e ∙ s;
-  count = ap (λ (h : GridValue). length h.numbers) e ∙ length-replicate (size * size) 0 ∙ ap (λ (n : ℕ). n * n) s;
-  each = λ cell less. absurd (omega arith);
-}
-
-pub filled_more : (c : CandidatesValue) (g new : GridValue) (k value : ℕ) → FilledSoFar c g k → k < c.size * c.size → IsOnly c k value → new.size ≡ g.size → new.numbers ≡ set g.numbers k value → FilledSoFar c new (k + 1)
-filled_more c g new k value h inside only size numbers = record {
+pub FilledSoFar-more : (c : CandidatesValue) (g new : GridValue) (k value : ℕ) → FilledSoFar c g k → k < c.size * c.size → IsOnly c k value
+    → new.size ≡ g.size → new.numbers ≡ set g.numbers k value → FilledSoFar c new (k + 1)
+FilledSoFar-more c g new k value h inside only size numbers = record {
   same_size = size ∙ h.same_size;
   count = ap length numbers ∙ length-set g.numbers k value ∙ h.count;
   each = λ cell less. elim (cases_eq cell k) [
@@ -41,8 +35,9 @@ filled_more c g new k value h inside only size numbers = record {
   ];
 }
 
-pub filled_all : (c : CandidatesValue) (g : GridValue) (k : ℕ) → IsCandidates c → FilledSoFar c g k → k ≡ c.size * c.size → IsFilled c g
-filled_all c g k valid h e = record {
+pub FilledSoFar-all : (c : CandidatesValue) (g : GridValue) (k : ℕ) → IsCandidates c → FilledSoFar c g k → k ≡ c.size * c.size
+    → IsFilled c g
+FilledSoFar-all c g k valid h e = record {
   is_grid = record {
     smallest = omega (arith, valid.smallest, h.same_size);
     largest = omega (arith, valid.largest, h.same_size);

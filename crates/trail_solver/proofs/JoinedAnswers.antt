@@ -6,12 +6,14 @@ use Rattle.trail_solver.specs.declared.answer.Answer.TheVariants.{None, One, Sev
 use Rattle.trail_solver.specs.Answers.{Fits, Adds}
 
 -- the same solutions, told otherwise
-pub fits_same : (A B : GridValue → Type 0) (answer : Answer) → ((g : GridValue) → A g → B g) → ((g : GridValue) → B g → A g) → Fits A answer → Fits B answer
+pub fits_same : (A B : GridValue → Type 0) (answer : Answer) → ((g : GridValue) → A g → B g) → ((g : GridValue) → B g → A g) → Fits A answer
+    → Fits B answer
 fits_same A B None to from f = λ g b. f g (from g b)
 fits_same A B (One g) to from f = (to g f.0, λ h b. f.1 h (from h b))
 fits_same A B (Several g h) to from f = (to g f.0, to h f.1, f.2)
 
-pub adds_same : (A B : GridValue → Type 0) (found answer : Answer) → ((g : GridValue) → A g → B g) → ((g : GridValue) → B g → A g) → Adds A found answer → Adds B found answer
+pub adds_same : (A B : GridValue → Type 0) (found answer : Answer) → ((g : GridValue) → A g → B g) → ((g : GridValue) → B g → A g)
+    → Adds A found answer → Adds B found answer
 adds_same A B None answer to from f = fits_same A B answer to from f
 adds_same A B (One g) None to from f = f
 adds_same A B (One g) (One k) to from f = (f.0, λ h b. f.1 h (from h b))
@@ -25,13 +27,15 @@ adds_nothing A (One g) n = (refl, λ h a. absurd (n h a))
 adds_nothing A (Several g h) n = refl
 
 -- two solutions are enough, however many are still to join
-pub adds_several : (A B : GridValue → Type 0) (found : Answer) (k h : GridValue) → ((g : GridValue) → A g → B g) → Adds A found (Several k h) → Adds B found (Several k h)
+pub adds_several : (A B : GridValue → Type 0) (found : Answer) (k h : GridValue) → ((g : GridValue) → A g → B g)
+    → Adds A found (Several k h) → Adds B found (Several k h)
 adds_several A B None k h to f = (to k f.0, to h f.1, f.2)
 adds_several A B (One g) k h to f = (f.0, to h f.1, f.2)
 adds_several A B (Several g i) k h to f = f
 
 -- what joins after what joined before
-pub adds_then : (A B C : GridValue → Type 0) (a b c : Answer) → ((g : GridValue) → A g → C g) → ((g : GridValue) → B g → C g) → ((g : GridValue) → C g → A g ⊎ B g) → Adds A a b → Adds B b c → Adds C a c
+pub adds_then : (A B C : GridValue → Type 0) (a b c : Answer) → ((g : GridValue) → A g → C g) → ((g : GridValue) → B g → C g)
+    → ((g : GridValue) → C g → A g ⊎ B g) → Adds A a b → Adds B b c → Adds C a c
 adds_then A B C None None None ac bc split f h = λ g m. ⊎_elim (f g) (h g) (split g m)
 adds_then A B C None None (One k) ac bc split f h = (bc k h.0, λ g m. ⊎_elim (λ l. absurd (f g l)) (h.1 g) (split g m))
 adds_then A B C None None (Several k l) ac bc split f h = (bc k h.0, bc l h.1, h.2)

@@ -1,11 +1,13 @@
+-- Lemmas on trails and candidates, and on the steps of the search and of the listing.
 pub mod Trails
 pub mod BitSets
-pub mod KeptFields
+pub mod AgreeingSets
 pub mod OneBit
 pub mod Earlier
 pub mod SolutionTests
 pub mod OneKept
 pub mod FilledGrids
+pub mod AmongCandidates
 pub mod JoinedAnswers
 pub mod SearchSteps
 pub mod SettledSquares

@@ -1,5 +1,5 @@
 -- Lists of solutions as more of them join.
-use Rattle.std.proofs.Common.{◌≡◌, ℕ, ◌+◌, ◌-◌, ◌<◌, ◌≤◌, ◌⊎◌, List, [], ◌∷◌, ◌++◌, length, get_or, AllPairs, Contains, refl, sym, ap, ◌∙◌, subst, inl, inr, ⊎_elim, length-append, append_assoc, append-nil, arith}
+use Rattle.std.proofs.Common.{◌≡◌, ℕ, ◌+◌, ◌-◌, ◌<◌, ◌⊎◌, List, [], ◌∷◌, ◌++◌, length, get_or, AllPairs, Contains, refl, sym, ap, ◌∙◌, subst, inl, inr, ⊎_elim, length-append, append_assoc, append-nil, arith}
 use Rattle.std.proofs.lemmas.Bool.{cases_lt}
 use Rattle.std.proofs.lemmas.List.{get_or_append_left, get_or-append_right}
 use Rattle.std.proofs.lemmas.List.Elements.{All-append, All-weaker, All-cons, All-nil, All-contains, Contains-get_or, Contains-append_left, Contains-append_right, Contains-push}
@@ -7,7 +7,8 @@ use Rattle.latin_board.specs.Squares.{GridValue}
 use Rattle.trail_solver.specs.Listings.{IsBelow, AreFirst, Lists}
 
 -- pairs of two lists end to end
-all_pairs_append : {X : Type 0} (R : X → X → Type 0) (xs ys : List X) → AllPairs R xs → AllPairs R ys → ((x y : X) → Contains xs x → Contains ys y → R x y) → AllPairs R (xs ++ ys)
+all_pairs_append : {X : Type 0} (R : X → X → Type 0) (xs ys : List X) → AllPairs R xs → AllPairs R ys
+    → ((x y : X) → Contains xs x → Contains ys y → R x y) → AllPairs R (xs ++ ys)
 all_pairs_append {X} R xs ys h k cross i j d less inside =
     let n : length (xs ++ ys) ≡ length xs + length ys = length-append xs ys in
     ⊎_elim
@@ -33,16 +34,16 @@ all_pairs_append {X} R xs ys h k cross i j d less inside =
 -- ---- the first of the solutions
 
 -- none, where there is none or no room
-pub first_none : (A : GridValue → Type 0) (limit : ℕ) → ((g : GridValue) → A g → ⊥) → AreFirst A limit []
-first_none A limit n = record {
+pub AreFirst-none : (A : GridValue → Type 0) (limit : ℕ) → ((g : GridValue) → A g → ⊥) → AreFirst A limit []
+AreFirst-none A limit n = record {
   few = omega arith;
   solutions = All-nil A;
   rising = λ i j d less inside. absurd (omega arith);
   others = λ g a. absurd (n g a);
 }
 
-pub first_full : (A : GridValue → Type 0) (limit : ℕ) → limit ≡ 0 → AreFirst A limit []
-first_full A limit e = record {
+pub AreFirst-full : (A : GridValue → Type 0) (limit : ℕ) → limit ≡ 0 → AreFirst A limit []
+AreFirst-full A limit e = record {
   few = omega arith;
   solutions = All-nil A;
   rising = λ i j d less inside. absurd (omega arith);
@@ -50,8 +51,9 @@ first_full A limit e = record {
 }
 
 -- the only one
-pub first_only : (A : GridValue → Type 0) (limit : ℕ) (g : GridValue) → A g → ((h : GridValue) → A h → h ≡ g) → 0 < limit → AreFirst A limit (g ∷ [])
-first_only A limit g a only room = record {
+pub AreFirst-only : (A : GridValue → Type 0) (limit : ℕ) (g : GridValue) → A g → ((h : GridValue) → A h → h ≡ g) → 0 < limit
+    → AreFirst A limit (g ∷ [])
+AreFirst-only A limit g a only room = record {
   few = omega arith;
   solutions = All-cons A g [] a (All-nil A);
   rising = λ i j d less inside. absurd (omega arith);
@@ -59,8 +61,9 @@ first_only A limit g a only room = record {
 }
 
 -- the same solutions, told otherwise
-pub first_same : (A B : GridValue → Type 0) (limit : ℕ) (xs : List GridValue) → ((g : GridValue) → A g → B g) → ((g : GridValue) → B g → A g) → AreFirst A limit xs → AreFirst B limit xs
-first_same A B limit xs to from f = record {
+pub AreFirst-same : (A B : GridValue → Type 0) (limit : ℕ) (xs : List GridValue) → ((g : GridValue) → A g → B g)
+    → ((g : GridValue) → B g → A g) → AreFirst A limit xs → AreFirst B limit xs
+AreFirst-same A B limit xs to from f = record {
   few = f.few;
   solutions = All-weaker A B to xs f.solutions;
   rising = f.rising;
@@ -68,8 +71,10 @@ first_same A B limit xs to from f = record {
 }
 
 -- those of A, and then those of B, all of which are greater
-pub first_then : (A B C : GridValue → Type 0) (limit : ℕ) (xs ys : List GridValue) → ((g : GridValue) → A g → C g) → ((g : GridValue) → B g → C g) → ((g : GridValue) → C g → A g ⊎ B g) → ((f g : GridValue) → A f → B g → IsBelow f g) → AreFirst A limit xs → AreFirst B (limit - length xs) ys → AreFirst C limit (xs ++ ys)
-first_then A B C limit xs ys ac bc split below f h =
+pub AreFirst-then : (A B C : GridValue → Type 0) (limit : ℕ) (xs ys : List GridValue) → ((g : GridValue) → A g → C g)
+    → ((g : GridValue) → B g → C g) → ((g : GridValue) → C g → A g ⊎ B g) → ((f g : GridValue) → A f → B g → IsBelow f g)
+    → AreFirst A limit xs → AreFirst B (limit - length xs) ys → AreFirst C limit (xs ++ ys)
+AreFirst-then A B C limit xs ys ac bc split below f h =
     let n : length (xs ++ ys) ≡ length xs + length ys = length-append xs ys in
     let few = f.few in
     let few' = h.few in
@@ -100,10 +105,13 @@ first_then A B C limit xs ys ac bc split below f h =
 pub lists_nothing : (A : GridValue → Type 0) (limit : ℕ) (xs : List GridValue) → AreFirst A (limit - length xs) [] → Lists A limit xs xs
 lists_nothing A limit xs f = record { more = []; whole = sym (append-nil xs); first = f }
 
-pub lists_same : (A B : GridValue → Type 0) (limit : ℕ) (xs ys : List GridValue) → ((g : GridValue) → A g → B g) → ((g : GridValue) → B g → A g) → Lists A limit xs ys → Lists B limit xs ys
-lists_same A B limit xs ys to from f = record { more = f.more; whole = f.whole; first = first_same A B (limit - length xs) f.more to from f.first }
+pub lists_same : (A B : GridValue → Type 0) (limit : ℕ) (xs ys : List GridValue) → ((g : GridValue) → A g → B g)
+    → ((g : GridValue) → B g → A g) → Lists A limit xs ys → Lists B limit xs ys
+lists_same A B limit xs ys to from f = record { more = f.more; whole = f.whole; first = AreFirst-same A B (limit - length xs) f.more to from f.first }
 
-pub lists_then : (A B C : GridValue → Type 0) (limit : ℕ) (xs ys zs : List GridValue) → ((g : GridValue) → A g → C g) → ((g : GridValue) → B g → C g) → ((g : GridValue) → C g → A g ⊎ B g) → ((f g : GridValue) → A f → B g → IsBelow f g) → Lists A limit xs ys → Lists B limit ys zs → Lists C limit xs zs
+pub lists_then : (A B C : GridValue → Type 0) (limit : ℕ) (xs ys zs : List GridValue) → ((g : GridValue) → A g → C g)
+    → ((g : GridValue) → B g → C g) → ((g : GridValue) → C g → A g ⊎ B g) → ((f g : GridValue) → A f → B g → IsBelow f g)
+    → Lists A limit xs ys → Lists B limit ys zs → Lists C limit xs zs
 lists_then A B C limit xs ys zs ac bc split below f h =
     let n : length (xs ++ f.more) ≡ length xs + length f.more = length-append xs f.more in
     let m : length ys ≡ length xs + length f.more = ap length f.whole ∙ n in
@@ -112,22 +120,5 @@ lists_then A B C limit xs ys zs ac bc split below f h =
     record {
       more = f.more ++ h.more;
       whole = h.whole ∙ ap (λ (ws : List GridValue). ws ++ h.more) f.whole ∙ append_assoc xs f.more h.more;
-      first = first_then A B C (limit - length xs) f.more h.more ac bc split below f.first (subst P e h.first);
+      first = AreFirst-then A B C (limit - length xs) f.more h.more ac bc split below f.first (subst P e h.first);
     }
-
--- the list doesn't pass its limit
-pub lists_few : (A : GridValue → Type 0) (limit : ℕ) (xs ys : List GridValue) → length xs ≤ limit → Lists A limit xs ys → length ys ≤ limit
-lists_few A limit xs ys few f =
-    let n : length (xs ++ f.more) ≡ length xs + length f.more = length-append xs f.more in
-    let m : length ys ≡ length xs + length f.more = ap length f.whole ∙ n in
-    let k = f.first.few in
-    omega arith
-
--- a list from the start
-pub lists_all : (A : GridValue → Type 0) (limit : ℕ) (xs ys : List GridValue) → xs ≡ [] → Lists A limit xs ys → AreFirst A limit ys
-lists_all A limit xs ys e f =
-    let whole : ys ≡ f.more = f.whole ∙ ap (λ (ws : List GridValue). ws ++ f.more) e in
-    let n : limit - length xs ≡ limit = let z : length xs ≡ 0 = ap length e in omega arith in
-    let P : ℕ → Type 0 = λ k. AreFirst A k f.more in
-    let Q : List GridValue → Type 0 = λ ws. AreFirst A limit ws in
-    subst Q (sym whole) (subst P n f.first)

@@ -1,64 +1,71 @@
 -- The steps of a listing: what each does to the solutions that are to be listed.
-use Rattle.std.proofs.Common.{◌≡◌, ℕ, ◌+◌, ◌-◌, ◌*◌, ◌<◌, true, false, List, [], ◌∷◌, ◌++◌, length, sym, ◌∙◌, subst, inl, inr, ⊎_elim, arith}
-use Rattle.std.proofs.lemmas.Bool.{both_ways, cases_order}
+use Rattle.std.proofs.Common.{◌≡◌, ℕ, ◌+◌, ◌-◌, ◌*◌, ◌<◌, false, List, [], ◌∷◌, ◌++◌, length, sym, ◌∙◌, inl, inr, ⊎_elim, arith}
+use Rattle.std.proofs.lemmas.Bool.{cases_order}
 use Rattle.latin_board.specs.Squares.{GridValue, number_at}
 use Rattle.trail_solver.specs.Candidates.{CandidatesValue, IsEarlier, IsWithin, may_be}
 use Rattle.trail_solver.specs.Squares.{IsFilled, IsFirstOpen, KeepsOnly}
 use Rattle.trail_solver.specs.Puzzles.{Puzzle, Solves, IsAmong, IsAmongAt, IsAmongBelow}
 use Rattle.trail_solver.specs.Listings.{IsBelow, Lists}
-use Rattle.trail_solver.proofs.Earlier.{within_earlier}
+use Rattle.trail_solver.proofs.AmongCandidates.{among_earlier, among_narrowed, at_from_kept, kept_from_at, none_at_gone, none_where_filled}
 use Rattle.trail_solver.proofs.FilledGrids.{solution_pair, only_filled, filled_within}
-use Rattle.trail_solver.proofs.ListedSolutions.{first_none, first_full, first_only, lists_nothing, lists_same, lists_then}
-use Rattle.trail_solver.proofs.OneKept.{within_kept, value_kept}
+use Rattle.trail_solver.proofs.ListedSolutions.{AreFirst-none, AreFirst-full, AreFirst-only, lists_nothing, lists_same, lists_then}
 
-pub narrowed_lists : (p : Puzzle) (old new : CandidatesValue) (limit : ℕ) (xs ys : List GridValue) → IsEarlier old new → ((h : GridValue) → Solves p h → IsWithin old h → IsWithin new h) → Lists (IsAmong p new) limit xs ys → Lists (IsAmong p old) limit xs ys
+pub narrowed_lists : (p : Puzzle) (old new : CandidatesValue) (limit : ℕ) (xs ys : List GridValue) → IsEarlier old new
+    → ((h : GridValue) → Solves p h → IsWithin old h → IsWithin new h) → Lists (IsAmong p new) limit xs ys
+    → Lists (IsAmong p old) limit xs ys
 narrowed_lists p old new limit xs ys less keeps f =
-    lists_same (IsAmong p new) (IsAmong p old) limit xs ys (λ h s. (s.0, within_earlier old new h less s.1)) (λ h s. (s.0, keeps h s.0 s.1)) f
+    lists_same (IsAmong p new) (IsAmong p old) limit xs ys (among_earlier p old new less) (among_narrowed p old new keeps) f
 
-pub refuted_lists : (p : Puzzle) (c : CandidatesValue) (limit : ℕ) (xs : List GridValue) → ((h : GridValue) → Solves p h → IsWithin c h → ⊥) → Lists (IsAmong p c) limit xs xs
-refuted_lists p c limit xs n = lists_nothing (IsAmong p c) limit xs (first_none (IsAmong p c) (limit - length xs) (λ h s. n h s.0 s.1))
+pub refuted_lists : (p : Puzzle) (c : CandidatesValue) (limit : ℕ) (xs : List GridValue) → ((h : GridValue) → Solves p h → IsWithin c h → ⊥)
+    → Lists (IsAmong p c) limit xs xs
+refuted_lists p c limit xs n = lists_nothing (IsAmong p c) limit xs (AreFirst-none (IsAmong p c) (limit - length xs) (λ h s. n h s.0 s.1))
 
 -- the only one
-pub only_lists : (A : GridValue → Type 0) (g : GridValue) (limit : ℕ) (xs ys : List GridValue) → A g → ((h : GridValue) → A h → h ≡ g) → length xs < limit → ys ≡ xs ++ g ∷ [] → Lists A limit xs ys
+pub only_lists : (A : GridValue → Type 0) (g : GridValue) (limit : ℕ) (xs ys : List GridValue) → A g → ((h : GridValue) → A h → h ≡ g)
+    → length xs < limit → ys ≡ xs ++ g ∷ [] → Lists A limit xs ys
 only_lists A g limit xs ys a only room e = record {
   more = g ∷ [];
   whole = e;
-  first = first_only A (limit - length xs) g a only (omega arith);
+  first = AreFirst-only A (limit - length xs) g a only (omega arith);
 }
 
-pub leaf_lists : (p : Puzzle) (c : CandidatesValue) (g : GridValue) (limit : ℕ) (xs ys : List GridValue) → c.size ≡ p.size → IsFilled c g → Solves p g → length xs < limit → ys ≡ xs ++ g ∷ [] → Lists (IsAmong p c) limit xs ys
+pub leaf_lists : (p : Puzzle) (c : CandidatesValue) (g : GridValue) (limit : ℕ) (xs ys : List GridValue) → c.size ≡ p.size → IsFilled c g
+    → Solves p g → length xs < limit → ys ≡ xs ++ g ∷ [] → Lists (IsAmong p c) limit xs ys
 leaf_lists p c g limit xs ys size filled s room e =
     only_lists (IsAmong p c) g limit xs ys (s, filled_within c g filled) (λ h m. only_filled p c g h size filled m.0 m.1) room e
 
-pub leaf_lists_none : (p : Puzzle) (c : CandidatesValue) (g : GridValue) (limit : ℕ) (xs : List GridValue) → c.size ≡ p.size → IsFilled c g → (Solves p g → ⊥) → Lists (IsAmong p c) limit xs xs
+pub leaf_lists_none : (p : Puzzle) (c : CandidatesValue) (g : GridValue) (limit : ℕ) (xs : List GridValue) → c.size ≡ p.size → IsFilled c g
+    → (Solves p g → ⊥) → Lists (IsAmong p c) limit xs xs
 leaf_lists_none p c g limit xs size filled n =
-    let P : GridValue → Type 0 = λ h. Solves p h in
-    refuted_lists p c limit xs (λ h s w. n (subst P (only_filled p c g h size filled s w) s))
+    refuted_lists p c limit xs (λ h s w. none_where_filled p c g size filled n h (s, w))
 
-pub guess_lists : (p : Puzzle) (old kept : CandidatesValue) (cell value limit : ℕ) (xs ys : List GridValue) → old.size ≡ p.size → KeepsOnly old kept cell value → cell < old.size * old.size → Lists (IsAmong p kept) limit xs ys → Lists (IsAmongAt p old cell value) limit xs ys
+pub guess_lists : (p : Puzzle) (old kept : CandidatesValue) (cell value limit : ℕ) (xs ys : List GridValue) → old.size ≡ p.size
+    → KeepsOnly old kept cell value → cell < old.size * old.size → Lists (IsAmong p kept) limit xs ys
+    → Lists (IsAmongAt p old cell value) limit xs ys
 guess_lists p old kept cell value limit xs ys size k inside f =
     lists_same (IsAmong p kept) (IsAmongAt p old cell value) limit xs ys
-    (λ h s. (s.0, (within_earlier old kept h k.less s.1, value_kept old kept cell value h k (solution_pair p h old.size cell s.0 size inside) s.1)))
-    (λ h s. (s.0, within_kept old kept cell value h k s.1.0 s.1.1)) f
+    (at_from_kept p old kept cell value size k inside) (kept_from_at p old kept cell value k) f
 
-pub guess_lists_none : (p : Puzzle) (c : CandidatesValue) (cell value limit : ℕ) (xs : List GridValue) → cell < c.size * c.size → may_be c cell value ≡ false → Lists (IsAmongAt p c cell value) limit xs xs
+pub guess_lists_none : (p : Puzzle) (c : CandidatesValue) (cell value limit : ℕ) (xs : List GridValue) → cell < c.size * c.size
+    → may_be c cell value ≡ false → Lists (IsAmongAt p c cell value) limit xs xs
 guess_lists_none p c cell value limit xs inside gone =
-    lists_nothing (IsAmongAt p c cell value) limit xs (first_none (IsAmongAt p c cell value) (limit - length xs) (λ h s.
-    let P : ℕ → Type 0 = λ v. may_be c cell v ≡ true in
-    both_ways (may_be c cell value) gone (subst P s.1.1 (s.1.0.each cell inside))))
+    lists_nothing (IsAmongAt p c cell value) limit xs
+    (AreFirst-none (IsAmongAt p c cell value) (limit - length xs) (none_at_gone p c cell value inside gone))
 
 pub full_lists : (A : GridValue → Type 0) (limit : ℕ) (xs : List GridValue) → length xs ≡ limit → Lists A limit xs xs
-full_lists A limit xs full = lists_nothing A limit xs (first_full A (limit - length xs) (omega arith))
+full_lists A limit xs full = lists_nothing A limit xs (AreFirst-full A (limit - length xs) (omega arith))
 
 -- ---- the values of the first open square, from 1 up
 
-pub value_lists_none : (p : Puzzle) (c : CandidatesValue) (cell limit : ℕ) (xs : List GridValue) → c.size ≡ p.size → cell < c.size * c.size → Lists (IsAmongBelow p c cell 1) limit xs xs
+pub value_lists_none : (p : Puzzle) (c : CandidatesValue) (cell limit : ℕ) (xs : List GridValue) → c.size ≡ p.size → cell < c.size * c.size
+    → Lists (IsAmongBelow p c cell 1) limit xs xs
 value_lists_none p c cell limit xs size inside =
-    lists_nothing (IsAmongBelow p c cell 1) limit xs (first_none (IsAmongBelow p c cell 1) (limit - length xs) (λ h s.
+    lists_nothing (IsAmongBelow p c cell 1) limit xs (AreFirst-none (IsAmongBelow p c cell 1) (limit - length xs) (λ h s.
     let low = (solution_pair p h c.size cell s.0 size inside).low in omega (arith, s.1.1)))
 
 -- two solutions with a smaller and a greater number in the first open square
-below_at_first : (p : Puzzle) (c : CandidatesValue) (cell v : ℕ) (f g : GridValue) → c.size ≡ p.size → IsFirstOpen c cell → IsAmongBelow p c cell v f → IsAmongAt p c cell v g → IsBelow f g
+below_at_first : (p : Puzzle) (c : CandidatesValue) (cell v : ℕ) (f g : GridValue) → c.size ≡ p.size → IsFirstOpen c cell
+    → IsAmongBelow p c cell v f → IsAmongAt p c cell v g → IsBelow f g
 below_at_first p c cell v f g size first a b = record {
   place = cell;
   same = λ k less.
@@ -70,7 +77,9 @@ below_at_first p c cell v f g size first a b = record {
   less = omega (arith, a.1.1, b.1.1);
 }
 
-pub value_lists_more : (p : Puzzle) (c : CandidatesValue) (cell v limit : ℕ) (xs ys zs : List GridValue) → c.size ≡ p.size → IsFirstOpen c cell → Lists (IsAmongBelow p c cell v) limit xs ys → Lists (IsAmongAt p c cell v) limit ys zs → Lists (IsAmongBelow p c cell (v + 1)) limit xs zs
+pub value_lists_more : (p : Puzzle) (c : CandidatesValue) (cell v limit : ℕ) (xs ys zs : List GridValue) → c.size ≡ p.size
+    → IsFirstOpen c cell → Lists (IsAmongBelow p c cell v) limit xs ys → Lists (IsAmongAt p c cell v) limit ys zs
+    → Lists (IsAmongBelow p c cell (v + 1)) limit xs zs
 value_lists_more p c cell v limit xs ys zs size first =
     lists_then (IsAmongBelow p c cell v) (IsAmongAt p c cell v) (IsAmongBelow p c cell (v + 1)) limit xs ys zs
     (λ h s. (s.0, (s.1.0, omega (arith, s.1.1))))
@@ -78,7 +87,8 @@ value_lists_more p c cell v limit xs ys zs size first =
     (λ h s. ⊎_elim (λ e. inr (s.0, (s.1.0, e))) (λ o. ⊎_elim (λ l. inl (s.0, (s.1.0, l))) (λ l. absurd (omega (arith, s.1.1))) o) (cases_order (number_at h cell) v))
     (λ f g a b. below_at_first p c cell v f g size first a b)
 
-pub value_lists_all : (p : Puzzle) (c : CandidatesValue) (cell v limit : ℕ) (xs ys : List GridValue) → c.size ≡ p.size → cell < c.size * c.size → c.size < v → Lists (IsAmongBelow p c cell v) limit xs ys → Lists (IsAmong p c) limit xs ys
+pub value_lists_all : (p : Puzzle) (c : CandidatesValue) (cell v limit : ℕ) (xs ys : List GridValue) → c.size ≡ p.size
+    → cell < c.size * c.size → c.size < v → Lists (IsAmongBelow p c cell v) limit xs ys → Lists (IsAmong p c) limit xs ys
 value_lists_all p c cell v limit xs ys size inside all =
     lists_same (IsAmongBelow p c cell v) (IsAmong p c) limit xs ys
     (λ h s. (s.0, s.1.0))

@@ -1,13 +1,12 @@
 -- A set of one value: it is the bit of its lowest value.
-use Rattle.std.proofs.Common.{◌≡◌, ◌≢◌, ℕ, ◌*◌, ◌%◌, ◌^◌, ◌<◌, ◌↔◌, eqb, true, false, sym, ap, ◌∙◌, subst, inl, inr, eq-eqb, w16, arith}
+use Rattle.std.proofs.Common.{◌≡◌, ◌≢◌, ℕ, ◌*◌, ◌%◌, ◌^◌, ◌<◌, eqb, true, false, sym, ap, ◌∙◌, subst, inl, inr, eq-eqb, w16, arith}
 use Rattle.std.specs.Int.{trailing_zeros}
 use Rattle.std.proofs.lemmas.Bool.{cases_eq, false_from_ne_true, both_ways}
 use Rattle.std.proofs.lemmas.Nat.{one_shl}
 use Rattle.std.proofs.lemmas.Nat.Bits.{bit_at-pow_same, bit_at-pow_other, bit_at-trailing_zeros}
 use Rattle.latin_board.specs.Marks.{has_mark}
 use Rattle.latin_board.proofs.MarkSets.{has_mark-no_marks, same_marks}
-use Rattle.trail_solver.specs.Pairs.{IsPair}
-use Rattle.trail_solver.specs.Candidates.{CandidatesValue, IsOnly, may_be}
+use Rattle.trail_solver.specs.Candidates.{CandidatesValue, IsSetOf, IsOnly, may_be}
 use Rattle.trail_solver.specs.Squares.{IsBranch, IsDead, IsOpen}
 
 has_mark-pow_same : (k : ℕ) → has_mark (2 ^ k) k ≡ true
@@ -15,10 +14,6 @@ has_mark-pow_same k = eq-eqb _ 1 (bit_at-pow_same k)
 
 has_mark-pow_other : (k v : ℕ) → v ≢ k → has_mark (2 ^ k) v ≡ false
 has_mark-pow_other k v n = ap (λ b. eqb b 1) (bit_at-pow_other k v n)
-
--- the set is that of the cell's candidates
-abbrev IsSetOf : CandidatesValue → ℕ → ℕ → Type 0
-IsSetOf c cell set = (v : ℕ) → (has_mark set v ≡ true) ↔ (IsPair c.size cell v × (may_be c cell v ≡ true))
 
 -- the lowest value of a set that isn't empty
 abbrev lowest : ℕ → ℕ
@@ -32,7 +27,8 @@ pub lowest_small : (set : ℕ) → set ≢ 0 → set < 65536 → lowest set < 16
 lowest_small set n small = let some : 0 < set = omega arith in (bit_at-trailing_zeros w16 set some small).0
 
 -- a set that is one bit
-pub only_from_bit : (c : CandidatesValue) (cell set : ℕ) → cell < c.size * c.size → IsSetOf c cell set → set ≢ 0 → set < 65536 → set ≡ 1 * 2 ^ lowest set % 65536 → IsOnly c cell (lowest set)
+pub only_from_bit : (c : CandidatesValue) (cell set : ℕ) → cell < c.size * c.size → IsSetOf c cell set → set ≢ 0 → set < 65536
+    → set ≡ 1 * 2 ^ lowest set % 65536 → IsOnly c cell (lowest set)
 only_from_bit c cell set inside h n small e =
     let is : set ≡ 2 ^ lowest set = e ∙ one_shl (lowest set) 16 (lowest_small set n small) in
     let here = (h (lowest set)).0 (lowest_is_in set n small) in
@@ -50,7 +46,8 @@ only_from_bit c cell set inside h n small e =
     }
 
 -- a set that isn't one bit
-pub none_only : (c : CandidatesValue) (cell set : ℕ) → cell < c.size * c.size → IsSetOf c cell set → set ≢ 0 → set < 65536 → set ≢ 1 * 2 ^ lowest set % 65536 → (v : ℕ) → IsOnly c cell v → ⊥
+pub none_only : (c : CandidatesValue) (cell set : ℕ) → cell < c.size * c.size → IsSetOf c cell set → set ≢ 0 → set < 65536
+    → set ≢ 1 * 2 ^ lowest set % 65536 → (v : ℕ) → IsOnly c cell v → ⊥
 none_only c cell set inside h n small ne v only =
     let bit = one_shl (lowest set) 16 (lowest_small set n small) in
     let alone : (k : ℕ) → has_mark set k ≡ true → k ≡ v = λ k m. let p = (h k).0 m in only.alone k p.0.low p.0.high p.1 in
@@ -64,7 +61,8 @@ none_only c cell set inside h n small ne v only =
     ∙ sym bit)
 
 -- the branch at the lowest value of an open square
-pub lowest_branch : (c : CandidatesValue) (cell set : ℕ) → IsOpen c cell → IsSetOf c cell set → set ≢ 0 → set < 65536 → IsBranch c cell (lowest set)
+pub lowest_branch : (c : CandidatesValue) (cell set : ℕ) → IsOpen c cell → IsSetOf c cell set → set ≢ 0 → set < 65536
+    → IsBranch c cell (lowest set)
 lowest_branch c cell set unsettled h n small =
     let here = (h (lowest set)).0 (lowest_is_in set n small) in record { pair = here.0; left = here.1; unsettled = unsettled }
 

@@ -1,16 +1,17 @@
 -- A square's other values go, one after another.
-use Rattle.std.proofs.Common.{◌≡◌, ◌≢◌, ℕ, ◌+◌, ◌*◌, ◌<◌, ◌≤◌, true, false, not, ◌||◌, ◌⊎◌, List, length, refl, sym, ap, ◌∙◌, subst, inl, inr, ⊎_elim, arith}
-use Rattle.std.proofs.lemmas.Bool.{cases_eq, cases_lt, cases_Bool, both_ways, false_from_ne_true, or_right, cond_both}
-use Rattle.std.proofs.lemmas.List.{take_all}
+use Rattle.std.proofs.Common.{◌≡◌, ◌≢◌, ℕ, ◌*◌, ◌<◌, ◌≤◌, true, false, not, ◌||◌, ◌⊎◌, List, refl, sym, ap, ◌∙◌, subst, inl, inr, ⊎_elim}
+use Rattle.std.proofs.lemmas.Bool.{cases_eq, cases_Bool, both_ways, false_from_ne_true, or_right, cond_both}
+use Rattle.std.proofs.Math.Bool.{or-false}
 use Rattle.latin_board.specs.Squares.{GridValue, number_at}
 use Rattle.trail_solver.specs.Pairs.{IsPair, IsPrefix, has_pair, with_pair}
 use Rattle.trail_solver.specs.Candidates.{CandidatesValue, IsEarlier, IsWithin, may_be}
-use Rattle.trail_solver.specs.Squares.{IsOpen, KeepsOnly}
-use Rattle.trail_solver.proofs.Trails.{or_false, same_pair, pair_from_test, test_from_pair, has_pair-push}
-use Rattle.trail_solver.proofs.Earlier.{earlier_refl, earlier_trans, prefix_with_pair, stays_gone}
+use Rattle.trail_solver.specs.Squares.{KeepsOnly}
+use Rattle.trail_solver.proofs.Trails.{same_pair, pair_from_test, test_from_pair, has_pair-push}
+use Rattle.trail_solver.proofs.Earlier.{prefix_with_pair}
 
 -- a pair is gone where it was gone, or is the one that went
-pub has_pair-with_pair : (ps : List (ℕ × ℕ)) (cell value c v : ℕ) → has_pair (with_pair ps cell value) c v ≡ (has_pair ps c v || same_pair c v (cell, value))
+pub has_pair-with_pair : (ps : List (ℕ × ℕ)) (cell value c v : ℕ)
+    → has_pair (with_pair ps cell value) c v ≡ (has_pair ps c v || same_pair c v (cell, value))
 has_pair-with_pair ps cell value c v =
     cond_both (has_pair ps cell value) ps _ (λ (qs : List (ℕ × ℕ)). has_pair qs c v ≡ (has_pair ps c v || same_pair c v (cell, value)))
     (λ there. elim (cases_Bool (same_pair c v (cell, value))) [
@@ -20,7 +21,7 @@ has_pair-with_pair ps cell value c v =
           let Q : ℕ → Type 0 = λ k. has_pair ps cell k ≡ true in
           let here : has_pair ps c v ≡ true = subst P (sym p.0) (subst Q (sym p.1) there) in
           here ∙ sym (or_right (has_pair ps c v) (same_pair c v (cell, value)) same)
-      | inr other ↦ sym (ap (λ b. has_pair ps c v || b) other ∙ or_false (has_pair ps c v))
+      | inr other ↦ sym (ap (λ b. has_pair ps c v || b) other ∙ or-false (has_pair ps c v))
     ])
     (λ _. has_pair-push ps (cell, value) c v)
 
@@ -29,7 +30,8 @@ pub record Removes (old new : CandidatesValue) (cell value : ℕ) : Type 0 where
   pub size : new.size ≡ old.size
   pub trail : new.trail ≡ with_pair old.trail cell value
 
-pub may_be-removed : (old new : CandidatesValue) (cell value c v : ℕ) → Removes old new cell value → may_be new c v ≡ not (has_pair old.trail c v || same_pair c v (cell, value))
+pub may_be-removed : (old new : CandidatesValue) (cell value c v : ℕ) → Removes old new cell value
+    → may_be new c v ≡ not (has_pair old.trail c v || same_pair c v (cell, value))
 may_be-removed old new cell value c v r =
     ap (λ (ps : List (ℕ × ℕ)). not (has_pair ps c v)) r.trail ∙ ap not (has_pair-with_pair old.trail cell value c v)
 
@@ -46,11 +48,12 @@ gone_removed old new cell value r =
     ∙ ap not (or_right (has_pair old.trail cell value) (same_pair cell value (cell, value)) (test_from_pair cell cell value value refl refl))
 
 -- and no other went
-pub rest_removed : (old new : CandidatesValue) (cell value c v : ℕ) → Removes old new cell value → (c ≢ cell) ⊎ (v ≢ value) → may_be new c v ≡ may_be old c v
+pub rest_removed : (old new : CandidatesValue) (cell value c v : ℕ) → Removes old new cell value → (c ≢ cell) ⊎ (v ≢ value)
+    → may_be new c v ≡ may_be old c v
 rest_removed old new cell value c v r h =
     let other : same_pair c v (cell, value) ≡ false =
     false_from_ne_true (same_pair c v (cell, value)) (λ e. let p = pair_from_test c cell v value e in ⊎_elim (λ n. n p.0) (λ n. n p.1) h) in
-    may_be-removed old new cell value c v r ∙ ap (λ b. not (has_pair old.trail c v || b)) other ∙ ap not (or_false (has_pair old.trail c v))
+    may_be-removed old new cell value c v r ∙ ap (λ b. not (has_pair old.trail c v || b)) other ∙ ap not (or-false (has_pair old.trail c v))
 
 -- now is first with the values below k gone from the cell, but for the one
 pub record KeptSoFar (first now : CandidatesValue) (cell value k : ℕ) : Type 0 where
@@ -58,64 +61,18 @@ pub record KeptSoFar (first now : CandidatesValue) (cell value k : ℕ) : Type 0
   pub others : (v : ℕ) → 1 ≤ v → v < k → v ≢ value → may_be now cell v ≡ false
   pub rest : (c v : ℕ) → (c ≢ cell) ⊎ (v ≡ value) → may_be now c v ≡ may_be first c v
 
-pub kept_none : (first : CandidatesValue) (cell value : ℕ) → KeptSoFar first first cell value 1
-kept_none first cell value = record {
-  less = earlier_refl first;
-  others = λ v low high n. absurd (omega arith);
-  rest = λ c v h. refl;
-}
-
-pub kept_skip : (first now : CandidatesValue) (cell value k : ℕ) → KeptSoFar first now cell value k → k ≡ value → KeptSoFar first now cell value (k + 1)
-kept_skip first now cell value k h e = record {
-  less = h.less;
-  others = λ v low high n. h.others v low (omega arith) n;
-  rest = h.rest;
-}
-
-pub kept_more : (first now new : CandidatesValue) (cell value k : ℕ) → KeptSoFar first now cell value k → k ≢ value → Removes now new cell k → KeptSoFar first new cell value (k + 1)
-kept_more first now new cell value k h n r = record {
-  less = earlier_trans first now new h.less (removed_earlier now new cell k r);
-  others = λ v low high other. elim (cases_eq v k) [
-    | inl e ↦ let P : ℕ → Type 0 = λ j. may_be new cell j ≡ false in subst P (sym e) (gone_removed now new cell k r)
-    | inr ne ↦ stays_gone now new cell v (removed_earlier now new cell k r) (h.others v low (omega arith) other)
-  ];
-  rest = λ c v apart.
-      rest_removed now new cell k c v r (⊎_elim (λ m. inl m) (λ e. inr (λ f. n (sym f ∙ e))) apart) ∙ h.rest c v apart;
-}
-
-pub kept_all : (first now : CandidatesValue) (cell value k : ℕ) → KeptSoFar first now cell value k → first.size < k → KeepsOnly first now cell value
-kept_all first now cell value k h all = record {
-  less = h.less;
-  others = λ v pair n. h.others v pair.low (omega (arith, pair.high)) n;
-  rest = h.rest;
-}
-
 -- a grid that has the value there is still within
-pub within_kept : (old new : CandidatesValue) (cell value : ℕ) (g : GridValue) → KeepsOnly old new cell value → IsWithin old g → number_at g cell ≡ value → IsWithin new g
-within_kept old new cell value g k w e = record {
+pub within_one_kept : (old new : CandidatesValue) (cell value : ℕ) (g : GridValue) → KeepsOnly old new cell value → IsWithin old g
+    → number_at g cell ≡ value → IsWithin new g
+within_one_kept old new cell value g k w e = record {
   each = λ c inside.
       let inside' : c < old.size * old.size = subst (λ (n : ℕ). c < n * n) k.less.size inside in
       k.rest c (number_at g c) (⊎_elim (λ same. inr (ap (number_at g) same ∙ e)) (λ n. inl n) (cases_eq c cell)) ∙ w.each c inside';
 }
 
 -- and a grid within has the value there
-pub value_kept : (old new : CandidatesValue) (cell value : ℕ) (g : GridValue) → KeepsOnly old new cell value → IsPair old.size cell (number_at g cell) → IsWithin new g → number_at g cell ≡ value
-value_kept old new cell value g k pair w =
+pub value_one_kept : (old new : CandidatesValue) (cell value : ℕ) (g : GridValue) → KeepsOnly old new cell value
+    → IsPair old.size cell (number_at g cell) → IsWithin new g → number_at g cell ≡ value
+value_one_kept old new cell value g k pair w =
     let inside : cell < new.size * new.size = subst (λ (n : ℕ). cell < n * n) (sym k.less.size) pair.inside in
     ⊎_elim (λ e. e) (λ n. absurd (both_ways (may_be new cell (number_at g cell)) (k.others (number_at g cell) pair n) (w.each cell inside))) (cases_eq (number_at g cell) value)
-
--- where the cell was open, something went
-pub kept_longer : (old new : CandidatesValue) (cell value : ℕ) → KeepsOnly old new cell value → IsOpen old cell → IsPair old.size cell value → may_be old cell value ≡ true → length old.trail < length new.trail
-kept_longer old new cell value k is_open pair left =
-    ⊎_elim (λ l. l) (λ short.
-    let same : old.trail ≡ new.trail = sym k.less.adds.is ∙ take_all (length old.trail) new.trail short in
-    absurd (is_open.unsettled value (record {
-      low = pair.low;
-      high = pair.high;
-      left = left;
-      alone = λ other low high there. ⊎_elim (λ e. e) (λ n.
-          let P : List (ℕ × ℕ) → Type 0 = λ ps. not (has_pair ps cell other) ≡ true in
-          absurd (both_ways (may_be new cell other) (k.others other (record { inside = pair.inside; low = low; high = high }) n) (subst P same there)))
-          (cases_eq other value);
-    })))
-    (cases_lt (length old.trail) (length new.trail))

@@ -1,5 +1,5 @@
 -- The steps of a search: what each does to the solutions that are to join.
-use Rattle.std.proofs.Common.{◌≡◌, ◌≢◌, ℕ, ◌*◌, ◌<◌, true, false, sym, ap, ◌∙◌, subst, inl, inr, ⊎_elim}
+use Rattle.std.proofs.Common.{◌≡◌, ◌≢◌, ℕ, ◌*◌, ◌<◌, sym, ap, ◌∙◌, subst, inl, inr, ⊎_elim}
 use Rattle.std.proofs.lemmas.Bool.{both_ways, cases_eq}
 use Rattle.latin_board.specs.Squares.{GridValue, number_at}
 use Rattle.trail_solver.specs.Candidates.{CandidatesValue, IsEarlier, IsWithin, may_be}
@@ -8,45 +8,44 @@ use Rattle.trail_solver.specs.Puzzles.{Puzzle, Solves, IsAmong, IsAmongAt}
 use Rattle.trail_solver.specs.declared.answer.Answer.{Answer}
 use Rattle.trail_solver.specs.declared.answer.Answer.TheVariants.{Several}
 use Rattle.trail_solver.specs.Answers.{Adds}
-use Rattle.trail_solver.proofs.Earlier.{within_earlier}
+use Rattle.trail_solver.proofs.AmongCandidates.{among_earlier, among_narrowed, at_from_kept, kept_from_at, none_where_filled}
 use Rattle.trail_solver.proofs.FilledGrids.{solution_pair, only_filled, filled_within}
 use Rattle.trail_solver.proofs.JoinedAnswers.{adds_same, adds_nothing, adds_several, adds_then}
-use Rattle.trail_solver.proofs.OneKept.{Removes, within_kept, value_kept, removed_earlier, rest_removed}
+use Rattle.trail_solver.proofs.OneKept.{Removes, removed_earlier, rest_removed}
 
 -- narrowing loses no solution, and no other comes
-pub narrowed_adds : (p : Puzzle) (old new : CandidatesValue) (found answer : Answer) → IsEarlier old new → ((h : GridValue) → Solves p h → IsWithin old h → IsWithin new h) → Adds (IsAmong p new) found answer → Adds (IsAmong p old) found answer
+pub narrowed_adds : (p : Puzzle) (old new : CandidatesValue) (found answer : Answer) → IsEarlier old new
+    → ((h : GridValue) → Solves p h → IsWithin old h → IsWithin new h) → Adds (IsAmong p new) found answer
+    → Adds (IsAmong p old) found answer
 narrowed_adds p old new found answer less keeps a =
-    adds_same (IsAmong p new) (IsAmong p old) found answer (λ h s. (s.0, within_earlier old new h less s.1)) (λ h s. (s.0, keeps h s.0 s.1)) a
+    adds_same (IsAmong p new) (IsAmong p old) found answer (among_earlier p old new less) (among_narrowed p old new keeps) a
 
 -- and where it fails, there was none
-pub refuted_adds : (p : Puzzle) (c : CandidatesValue) (found : Answer) → ((h : GridValue) → Solves p h → IsWithin c h → ⊥) → Adds (IsAmong p c) found found
+pub refuted_adds : (p : Puzzle) (c : CandidatesValue) (found : Answer) → ((h : GridValue) → Solves p h → IsWithin c h → ⊥)
+    → Adds (IsAmong p c) found found
 refuted_adds p c found n = adds_nothing (IsAmong p c) found (λ h s. n h s.0 s.1)
 
 -- ---- where all squares are settled
 
-pub leaf_adds : (p : Puzzle) (c : CandidatesValue) (g : GridValue) (found answer : Answer) → c.size ≡ p.size → IsFilled c g → Solves p g → Adds (λ h. h ≡ g) found answer → Adds (IsAmong p c) found answer
+pub leaf_adds : (p : Puzzle) (c : CandidatesValue) (g : GridValue) (found answer : Answer) → c.size ≡ p.size → IsFilled c g → Solves p g
+    → Adds (λ h. h ≡ g) found answer → Adds (IsAmong p c) found answer
 leaf_adds p c g found answer size filled s a =
     let P : GridValue → Type 0 = IsAmong p c in
     adds_same (λ h. h ≡ g) (IsAmong p c) found answer (λ h e. subst P (sym e) (s, filled_within c g filled)) (λ h m. only_filled p c g h size filled m.0 m.1) a
 
-pub leaf_none : (p : Puzzle) (c : CandidatesValue) (g : GridValue) (found : Answer) → c.size ≡ p.size → IsFilled c g → (Solves p g → ⊥) → Adds (IsAmong p c) found found
+pub leaf_none : (p : Puzzle) (c : CandidatesValue) (g : GridValue) (found : Answer) → c.size ≡ p.size → IsFilled c g → (Solves p g → ⊥)
+    → Adds (IsAmong p c) found found
 leaf_none p c g found size filled n =
-    let P : GridValue → Type 0 = λ h. Solves p h in
-    adds_nothing (IsAmong p c) found (λ h m. n (subst P (only_filled p c g h size filled m.0 m.1) m.0))
+    adds_nothing (IsAmong p c) found (none_where_filled p c g size filled n)
 
 -- ---- a guess
 
-pub guess_adds : (p : Puzzle) (old kept : CandidatesValue) (cell value : ℕ) (found answer : Answer) → old.size ≡ p.size → KeepsOnly old kept cell value → cell < old.size * old.size → Adds (IsAmong p kept) found answer → Adds (IsAmongAt p old cell value) found answer
+pub guess_adds : (p : Puzzle) (old kept : CandidatesValue) (cell value : ℕ) (found answer : Answer) → old.size ≡ p.size
+    → KeepsOnly old kept cell value → cell < old.size * old.size → Adds (IsAmong p kept) found answer
+    → Adds (IsAmongAt p old cell value) found answer
 guess_adds p old kept cell value found answer size k inside a =
     adds_same (IsAmong p kept) (IsAmongAt p old cell value) found answer
-    (λ h s. (s.0, (within_earlier old kept h k.less s.1, value_kept old kept cell value h k (solution_pair p h old.size cell s.0 size inside) s.1)))
-    (λ h s. (s.0, within_kept old kept cell value h k s.1.0 s.1.1)) a
-
-pub guess_none : (p : Puzzle) (c : CandidatesValue) (cell value : ℕ) (found : Answer) → cell < c.size * c.size → may_be c cell value ≡ false → Adds (IsAmongAt p c cell value) found found
-guess_none p c cell value found inside gone =
-    adds_nothing (IsAmongAt p c cell value) found (λ h s.
-    let P : ℕ → Type 0 = λ v. may_be c cell v ≡ true in
-    both_ways (may_be c cell value) gone (subst P s.1.1 (s.1.0.each cell inside)))
+    (at_from_kept p old kept cell value size k inside) (kept_from_at p old kept cell value k) a
 
 -- ---- a value of a square, and then not
 
@@ -54,11 +53,9 @@ guess_none p c cell value found inside gone =
 pub record IsLeft (Whole : GridValue → Type 0) (first : Answer) (Part : GridValue → Type 0) (found : Answer) : Type 0 where
   pub joins : (answer : Answer) → Adds Part found answer → Adds Whole first answer
 
-pub left_whole : (A : GridValue → Type 0) (found : Answer) → IsLeft A found A found
-left_whole A found = record { joins = λ answer a. a }
-
 -- a grid within what is left when a value went from a square is one that doesn't have the value there
-pub within_removed : (old new : CandidatesValue) (cell value : ℕ) (g : GridValue) → Removes old new cell value → IsWithin old g → number_at g cell ≢ value → IsWithin new g
+pub within_removed : (old new : CandidatesValue) (cell value : ℕ) (g : GridValue) → Removes old new cell value → IsWithin old g
+    → number_at g cell ≢ value → IsWithin new g
 within_removed old new cell value g r w n = record {
   each = λ c inside.
       let inside' : c < old.size * old.size = subst (λ (k : ℕ). c < k * k) r.size inside in
@@ -66,30 +63,37 @@ within_removed old new cell value g r w n = record {
 }
 
 -- narrowing
-pub left_narrowed : (p : Puzzle) (Whole : GridValue → Type 0) (first found : Answer) (old new : CandidatesValue) → IsLeft Whole first (IsAmong p old) found → IsEarlier old new → ((h : GridValue) → Solves p h → IsWithin old h → IsWithin new h) → IsLeft Whole first (IsAmong p new) found
+pub left_narrowed : (p : Puzzle) (Whole : GridValue → Type 0) (first found : Answer) (old new : CandidatesValue)
+    → IsLeft Whole first (IsAmong p old) found → IsEarlier old new → ((h : GridValue) → Solves p h → IsWithin old h → IsWithin new h)
+    → IsLeft Whole first (IsAmong p new) found
 left_narrowed p Whole first found old new l less keeps = record {
   joins = λ answer a. l.joins answer (narrowed_adds p old new found answer less keeps a);
 }
 
 -- both sides of a branch
-pub left_branched : (p : Puzzle) (Whole : GridValue → Type 0) (first found more : Answer) (old new : CandidatesValue) (cell value : ℕ) → IsLeft Whole first (IsAmong p old) found → Adds (IsAmongAt p old cell value) found more → Removes old new cell value → IsLeft Whole first (IsAmong p new) more
+pub left_branched : (p : Puzzle) (Whole : GridValue → Type 0) (first found more : Answer) (old new : CandidatesValue) (cell value : ℕ)
+    → IsLeft Whole first (IsAmong p old) found → Adds (IsAmongAt p old cell value) found more → Removes old new cell value
+    → IsLeft Whole first (IsAmong p new) more
 left_branched p Whole first found more old new cell value l a r = record {
   joins = λ answer b. l.joins answer (adds_then (IsAmongAt p old cell value) (IsAmong p new) (IsAmong p old) found more answer
       (λ h s. (s.0, s.1.0))
-      (λ h s. (s.0, within_earlier old new h (removed_earlier old new cell value r) s.1))
+      (among_earlier p old new (removed_earlier old new cell value r))
       (λ h s. ⊎_elim (λ e. inl (s.0, (s.1, e))) (λ n. inr (s.0, within_removed old new cell value h r s.1 n)) (cases_eq (number_at h cell) value))
       a b);
 }
 
 -- one side is enough where it has two solutions
-pub left_several : (p : Puzzle) (Whole : GridValue → Type 0) (first found more : Answer) (old : CandidatesValue) (cell value : ℕ) (k h : GridValue) → IsLeft Whole first (IsAmong p old) found → Adds (IsAmongAt p old cell value) found more → more ≡ Several k h → Adds Whole first more
+pub left_several : (p : Puzzle) (Whole : GridValue → Type 0) (first found more : Answer) (old : CandidatesValue) (cell value : ℕ)
+    (k h : GridValue)
+    → IsLeft Whole first (IsAmong p old) found → Adds (IsAmongAt p old cell value) found more → more ≡ Several k h → Adds Whole first more
 left_several p Whole first found more old cell value k h l a e =
     let P : Answer → Type 0 = λ x. Adds (IsAmongAt p old cell value) found x in
     let Q : Answer → Type 0 = λ x. Adds (IsAmong p old) found x in
     l.joins more (subst Q (sym e) (adds_several (IsAmongAt p old cell value) (IsAmong p old) found k h (λ g s. (s.0, s.1.0)) (subst P e a)))
 
 -- no solution is left
-pub left_none : (Whole : GridValue → Type 0) (first : Answer) (Part : GridValue → Type 0) (found : Answer) → IsLeft Whole first Part found → ((h : GridValue) → Part h → ⊥) → Adds Whole first found
+pub left_none : (Whole : GridValue → Type 0) (first : Answer) (Part : GridValue → Type 0) (found : Answer) → IsLeft Whole first Part found
+    → ((h : GridValue) → Part h → ⊥) → Adds Whole first found
 left_none Whole first Part found l n = l.joins found (adds_nothing Part found n)
 
 -- a square without candidates

@@ -36,7 +36,8 @@ Decides-solves_test p g grid =
     (λ h. h, λ h. h))
 
 -- the test of a solution, where the sizes are equal and the grid is Latin
-pub solves_test-is : (p : Puzzle) (g : GridValue) (b : Bool) → g.size ≡ p.size → latin_test g ≡ true → Decides b (HoldsGivens p g) → (b && p.meets g) ≡ solves_test p g
+pub solves_test-is : (p : Puzzle) (g : GridValue) (b : Bool) → g.size ≡ p.size → latin_test g ≡ true → Decides b (HoldsGivens p g)
+    → (b && p.meets g) ≡ solves_test p g
 solves_test-is p g b size latin givens =
     let same : b ≡ givens_test p g = same_from_decides b (givens_test p g) givens (Decides-givens_test p g) in
     rw (same, eq-eqb g.size p.size size, latin) refl

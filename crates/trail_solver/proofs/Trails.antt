@@ -2,15 +2,12 @@
 use Rattle.std.proofs.Common.{◌≡◌, ℕ, ◌+◌, ◌-◌, ◌*◌, ◌<◌, ◌≤◌, eqb, Bool, true, false, ◌&&◌, ◌||◌, List, [], ◌∷◌, ◌++◌, length, map, refl, sym, ap, ◌∙◌, ⊎_elim, arith, eq-eqb, eqb-true, ne_eqb}
 use Rattle.std.specs.List.{list_any, AllByRecursion, IsDistinct}
 use Rattle.std.proofs.lemmas.Bool.{and_parts, and_from, or_parts, or_from, or_left, or_right, or_cases, false_from_ne_true, both_ways}
+use Rattle.std.proofs.Math.Bool.{or-false}
 use Rattle.std.proofs.lemmas.Map.Keys.{IsDistinct-cons}
 use Rattle.std.proofs.lemmas.Map.Steps.{length-le_from_distinct_below}
 use Rattle.std.proofs.lemmas.Nat.{mul-add-lt, same_from_place}
 use Rattle.std.proofs.lemmas.List.{length-map}
 use Rattle.trail_solver.specs.Pairs.{IsPair, AreApart, has_pair}
-
-pub or_false : (b : Bool) → (b || false) ≡ b
-or_false true = refl
-or_false false = refl
 
 -- the test of two pairs for equality
 abbrev pub same_pair : ℕ → ℕ → ℕ × ℕ → Bool
@@ -23,12 +20,13 @@ pair_from_test a b c d h =
 pub test_from_pair : (a b c d : ℕ) → a ≡ b → c ≡ d → (eqb a b && eqb c d) ≡ true
 test_from_pair a b c d h k = and_from (eqb a b) (eqb c d) (eq-eqb a b h) (eq-eqb c d k)
 
-turned : (a b c d : ℕ) → (eqb a b && eqb c d) ≡ false → (eqb b a && eqb d c) ≡ false
-turned a b c d h =
+no_pair_turned : (a b c d : ℕ) → (eqb a b && eqb c d) ≡ false → (eqb b a && eqb d c) ≡ false
+no_pair_turned a b c d h =
     false_from_ne_true (eqb b a && eqb d c) (λ e. let p = pair_from_test b a d c e in both_ways (eqb a b && eqb c d) h (test_from_pair a b c d (sym p.0) (sym p.1)))
 
-pub has_pair-push : (ps : List (ℕ × ℕ)) (p : ℕ × ℕ) (cell value : ℕ) → has_pair (ps ++ p ∷ []) cell value ≡ (has_pair ps cell value || same_pair cell value p)
-has_pair-push [] p cell value = or_false (same_pair cell value p)
+pub has_pair-push : (ps : List (ℕ × ℕ)) (p : ℕ × ℕ) (cell value : ℕ)
+    → has_pair (ps ++ p ∷ []) cell value ≡ (has_pair ps cell value || same_pair cell value p)
+has_pair-push [] p cell value = or-false (same_pair cell value p)
 has_pair-push (q ∷ qs) p cell value =
     ap (λ b. same_pair cell value q || b) (has_pair-push qs p cell value) ∙ or_assoc (same_pair cell value q) (has_pair qs cell value) (same_pair cell value p)
   where
@@ -41,7 +39,7 @@ pub apart_push : (ps : List (ℕ × ℕ)) (p : ℕ × ℕ) → AreApart ps → h
 apart_push [] p a n = (refl, tt)
 apart_push (q ∷ qs) p a n =
     let parts = or_parts (same_pair p.0 p.1 q) (has_pair qs p.0 p.1) n in
-    (has_pair-push qs p q.0 q.1 ∙ or_from (has_pair qs q.0 q.1) (same_pair q.0 q.1 p) a.0 (turned p.0 q.0 p.1 q.1 parts.0), apart_push qs p a.1 parts.1)
+    (has_pair-push qs p q.0 q.1 ∙ or_from (has_pair qs q.0 q.1) (same_pair q.0 q.1 p) a.0 (no_pair_turned p.0 q.0 p.1 q.1 parts.0), apart_push qs p a.1 parts.1)
 
 -- the last pair of a list without repeats isn't in front of itself
 pub apart_front : (ps : List (ℕ × ℕ)) (p : ℕ × ℕ) → AreApart (ps ++ p ∷ []) → AreApart ps × (has_pair ps p.0 p.1 ≡ false)
@@ -49,11 +47,11 @@ apart_front [] p a = (tt, refl)
 apart_front (q ∷ qs) p a =
     let rest = apart_front qs p a.1 in
     let parts = or_parts (has_pair qs q.0 q.1) (same_pair q.0 q.1 p) (sym (has_pair-push qs p q.0 q.1) ∙ a.0) in
-    ((parts.0, rest.0), or_from (same_pair p.0 p.1 q) (has_pair qs p.0 p.1) (turned q.0 p.0 q.1 p.1 parts.1) rest.1)
+    ((parts.0, rest.0), or_from (same_pair p.0 p.1 q) (has_pair qs p.0 p.1) (no_pair_turned q.0 p.0 q.1 p.1 parts.1) rest.1)
 
 -- a number for each pair of the size, below w * w * w
-abbrev place : ℕ → ℕ × ℕ → ℕ
-place w p = p.0 * w + (p.1 - 1)
+abbrev pair_number : ℕ → ℕ × ℕ → ℕ
+pair_number w p = p.0 * w + (p.1 - 1)
 
 abbrev AreOf : ℕ → List (ℕ × ℕ) → Type 0
 AreOf w ps = (cell value : ℕ) → has_pair ps cell value ≡ true → IsPair w cell value
@@ -65,39 +63,40 @@ first_of_list w p ps h =
 rest_of_list : (w : ℕ) (p : ℕ × ℕ) (ps : List (ℕ × ℕ)) → AreOf w (p ∷ ps) → AreOf w ps
 rest_of_list w p ps h cell value k = h cell value (or_right (same_pair cell value p) (has_pair ps cell value) k)
 
-other_places : (w : ℕ) (p : ℕ × ℕ) (ps : List (ℕ × ℕ)) → IsPair w p.0 p.1 → AreOf w ps → has_pair ps p.0 p.1 ≡ false → AllByRecursion (λ y. eqb (place w p) y ≡ false) (map (place w) ps)
-other_places w p [] i h n = tt
-other_places w p (q ∷ qs) i h n =
+other_pair_numbers : (w : ℕ) (p : ℕ × ℕ) (ps : List (ℕ × ℕ)) → IsPair w p.0 p.1 → AreOf w ps → has_pair ps p.0 p.1 ≡ false
+    → AllByRecursion (λ y. eqb (pair_number w p) y ≡ false) (map (pair_number w) ps)
+other_pair_numbers w p [] i h n = tt
+other_pair_numbers w p (q ∷ qs) i h n =
     let parts = or_parts (same_pair p.0 p.1 q) (has_pair qs p.0 p.1) n in
     let j = first_of_list w q qs h in (
-      ne_eqb (place w p) (place w q) (λ e.
+      ne_eqb (pair_number w p) (pair_number w q) (λ e.
           let low : p.1 - 1 < w = omega (arith, i.low, i.high) in
           let low' : q.1 - 1 < w = omega (arith, j.low, j.high) in
           let s = same_from_place p.0 (p.1 - 1) q.0 (q.1 - 1) w low low' e in
           let v : p.1 ≡ q.1 = omega (arith, s.1, i.low, j.low) in
           both_ways (same_pair p.0 p.1 q) parts.0 (test_from_pair p.0 q.0 p.1 q.1 s.0 v)),
-      other_places w p qs i (rest_of_list w q qs h) parts.1,
+      other_pair_numbers w p qs i (rest_of_list w q qs h) parts.1,
     )
 
 distinct_nil : IsDistinct eqb []
 unfolding IsDistinct
 distinct_nil = tt
 
-places_apart : (w : ℕ) (ps : List (ℕ × ℕ)) → AreOf w ps → AreApart ps → IsDistinct eqb (map (place w) ps)
-places_apart w [] h a = distinct_nil
-places_apart w (p ∷ ps) h a =
-    IsDistinct-cons eqb (place w p) (map (place w) ps) (other_places w p ps (first_of_list w p ps h) (rest_of_list w p ps h) a.0) (places_apart w ps (rest_of_list w p ps h) a.1)
+pair_numbers_apart : (w : ℕ) (ps : List (ℕ × ℕ)) → AreOf w ps → AreApart ps → IsDistinct eqb (map (pair_number w) ps)
+pair_numbers_apart w [] h a = distinct_nil
+pair_numbers_apart w (p ∷ ps) h a =
+    IsDistinct-cons eqb (pair_number w p) (map (pair_number w) ps) (other_pair_numbers w p ps (first_of_list w p ps h) (rest_of_list w p ps h) a.0) (pair_numbers_apart w ps (rest_of_list w p ps h) a.1)
 
-places_below : (w : ℕ) (ps : List (ℕ × ℕ)) → AreOf w ps → (q : ℕ) → list_any (eqb q) (map (place w) ps) ≡ true → q < w * w * w
-places_below w [] h q e = absurd (both_ways false refl e)
-places_below w (p ∷ ps) h q e =
+pair_numbers_below : (w : ℕ) (ps : List (ℕ × ℕ)) → AreOf w ps → (q : ℕ) → list_any (eqb q) (map (pair_number w) ps) ≡ true → q < w * w * w
+pair_numbers_below w [] h q e = absurd (both_ways false refl e)
+pair_numbers_below w (p ∷ ps) h q e =
     let i = first_of_list w p ps h in
     let low : p.1 - 1 < w = omega (arith, i.low, i.high) in
     let here = mul-add-lt p.0 w (p.1 - 1) (w * w) i.inside low in
-    ⊎_elim (λ s. let is = eqb-true q (place w p) s in grind (arith, is, here)) (λ s. places_below w ps (rest_of_list w p ps h) q s) (or_cases (eqb q (place w p)) (list_any (eqb q) (map (place w) ps)) e)
+    ⊎_elim (λ s. let is = eqb-true q (pair_number w p) s in grind (arith, is, here)) (λ s. pair_numbers_below w ps (rest_of_list w p ps h) q s) (or_cases (eqb q (pair_number w p)) (list_any (eqb q) (map (pair_number w) ps)) e)
 
 -- a list of the size's pairs without repeats is at most as long as there are pairs
 pub length-le_from_apart : (w : ℕ) (ps : List (ℕ × ℕ)) → AreOf w ps → AreApart ps → length ps ≤ w * w * w
 length-le_from_apart w ps h a =
-    let n = length-le_from_distinct_below (map (place w) ps) (w * w * w) (places_apart w ps h a) (places_below w ps h) in
+    let n = length-le_from_distinct_below (map (pair_number w) ps) (w * w * w) (pair_numbers_apart w ps h a) (pair_numbers_below w ps h) in
     rw length-map at n

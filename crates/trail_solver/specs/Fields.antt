@@ -7,7 +7,8 @@ use Rattle.trail_solver.specs.Pairs.{IsPair, AreApart, has_pair}
 abbrev pub is_left : ℕ → List (ℕ × ℕ) → ℕ → ℕ → Bool
 is_left size trail cell value = (nat_le 1 value && nat_le value size) && not (has_pair trail cell value)
 
-pub record IsKept (size : ℕ) (sets : List ℕ) (trail : List (ℕ × ℕ)) : Type 0 where
+-- each set has the values that are left in its square, and the trail is a list of the size's pairs without repeats
+pub record AgreesWithTrail (size : ℕ) (sets : List ℕ) (trail : List (ℕ × ℕ)) : Type 0 where
   pub smallest : 3 ≤ size
   pub largest : size ≤ 9
   pub places : length sets ≡ 81

@@ -1,3 +1,4 @@
+-- Pairs and candidates, what the fields keep, squares in a search, puzzles and their solutions, answers and listings.
 pub mod Pairs
 pub mod Candidates
 pub mod Fields

@@ -1,8 +1,7 @@
 //! Candidates: which values each square may still have, with the trail of what was removed.
-ghost use Rattle.std.specs.Prelude.{◌≡◌, ℕ, ◌+◌, ◌-◌, ◌*◌, ◌<◌, ◌≤◌, ◌↔◌, true, List, [], length, take, MatchOption};
-ghost use Rattle.latin_board.specs.Marks.{has_mark};
+ghost use Rattle.std.specs.Prelude.{◌≡◌, ℕ, ◌+◌, ◌-◌, ◌*◌, ◌<◌, ◌≤◌, true, List, [], length, take, MatchOption};
 ghost use Rattle.trail_solver.specs.Pairs.{IsPair, with_pair};
-ghost use Rattle.trail_solver.specs.Candidates.{CandidatesValue, IsCandidates, IsOnly, IsEarlier, may_be};
+ghost use Rattle.trail_solver.specs.Candidates.{CandidatesValue, IsCandidates, IsSetOf, IsOnly, IsEarlier, may_be};
 ghost use Rattle.trail_solver.specs.Fields.{FlipsBit};
 
 use arrayvec::ArrayVec;
@@ -51,13 +50,13 @@ pub struct Candidates {
 
 impl Model for Candidates {
     ghost use Rattle.trail_solver.specs.Candidates.{CandidatesValue};
-    ghost use Rattle.trail_solver.specs.Fields.{IsKept};
+    ghost use Rattle.trail_solver.specs.Fields.{AgreesWithTrail};
 
     ghost Value = { CandidatesValue };
 
     ghost view = { λ c. record { size = c.size; trail = c.trail.items } };
 
-    ghost invariant = { λ c. IsKept c.size c.sets c.trail.items };
+    ghost invariant = { λ c. AgreesWithTrail c.size c.sets c.trail.items };
 }
 
 impl Candidates {
@@ -94,8 +93,7 @@ impl Candidates {
     /// The candidates of the cell, a square of the grid, as a bit set: bit v is set where v is one.
     pub fn values(&self, cell: usize) -> u16
         requires { cell < self.now.size * self.now.size }
-        ensures { (v : ℕ) → (has_mark result v ≡ true)
-            ↔ (IsPair self.now.size cell v × (may_be self.now cell v ≡ true)) }
+        ensures { IsSetOf self.now cell result }
     {
         let sets = &self.sets;
         sets[cell]
@@ -133,7 +131,8 @@ impl Candidates {
 
     // The cell of the pair that was removed last, if any was.
     pub(crate) fn last_cell(&self) -> Option<u8>
-        ensures { MatchOption result (self.now.trail ≡ []) (λ cell. cell < self.now.size * self.now.size) }
+        ensures { MatchOption result (self.now.trail ≡ [])
+            (λ cell. cell < self.now.size * self.now.size) }
     {
         let (cell, _) = self.trail.last()?;
         Some(*cell)

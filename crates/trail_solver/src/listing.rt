@@ -113,8 +113,8 @@ fn list_guess<P: Rules>(
     requires pair { IsPair candidates.old.size cell value }
     requires few { length listed.old.items ≤ limit }
     ensures same { candidates.new ≡ candidates.old }
-    ensures lists { OnOk result
-        (Lists (IsAmongAt (P.puzzle p.now) candidates.old cell value) limit listed.old.items listed.new.items) }
+    ensures lists { OnOk result (Lists (IsAmongAt (P.puzzle p.now) candidates.old cell value)
+        limit listed.old.items listed.new.items) }
 {
     if listed.len() == limit as usize {
         return Ok(());

@@ -1,13 +1,12 @@
 //! Where a search had best branch: at a square with few candidates, or at a value with few places in a row or column,
 //! and rather in lines where the search failed before. This is a rule of thumb, and no answer rests on it.
 
-ghost use Rattle.std.specs.Prelude.{◌≡◌, ◌+◌, ◌*◌, ◌<◌};
-ghost use Rattle.latin_board.specs.Lines.{line_cell};
+ghost use Rattle.std.specs.Prelude.{◌*◌, ◌<◌};
 
 use crate::candidates::Candidates;
 use crate::failures::Failures;
 use crate::tally::Tally;
-use latin_board::Size;
+use latin_board::line_cell;
 
 /// What a square or a value weighs in whose lines nothing failed: a few failures don't make much of it.
 const WEIGHT: u32 = 4;
@@ -82,6 +81,7 @@ fn best_value(
 ) -> Option<Proposal>
     requires { line < 2 * candidates.now.size }
 {
+    // `size` tells that the width is at most 9, so that each line has its failures.
     let _size = candidates.size();
     let weight = WEIGHT + 2 * failures.of_line(line);
     let Some((value, ways)) = tally_of(candidates, line).fewest() else {
@@ -131,21 +131,4 @@ fn first_place(candidates: &Candidates, line: u8, value: u8) -> Option<usize>
         }
     }
     None
-}
-
-// The square at a place of a line.
-fn line_cell(size: Size, line: u8, place: u8) -> usize
-    requires line { line < 2 * size }
-    requires place { place < size }
-    ensures value { result ≡ line_cell size line place }
-    ensures inside { result < size * size }
-{
-    let width = size.get() as usize;
-    let line = line as usize;
-    let place = place as usize;
-    if line < width {
-        line * width + place
-    } else {
-        place * width + (line - width)
-    }
 }

@@ -69,6 +69,7 @@ pub trait Rules: Copy {
         ensures refutes { OnFalse result ((g : GridValue) → Solves (puzzle self.now) g
             → IsWithin candidates.old g → ⊥) }
     {
+        // All squares are looked at, whichever of them lost a candidate.
         let _cell = cell;
         self.narrow(candidates)
     }
@@ -117,7 +118,8 @@ pub trait Rules: Copy {
         → cut (cut p first) second ≡ cut p (λ i. first i && second i) };
 
     ghost cut_agrees: { (p : Self) (a b : ℕ → Bool) → valid p
-        → ((i : ℕ) → i < items_of (puzzle p).size → has p i ≡ true → a i ≡ b i) → cut p a ≡ cut p b };
+        → ((i : ℕ) → i < items_of (puzzle p).size → has p i ≡ true → a i ≡ b i)
+        → cut p a ≡ cut p b };
 
     // A cut loses no solution.
     ghost cut_solved: { (p : Self) (keep : ℕ → Bool) (g : GridValue) → valid p
@@ -126,7 +128,8 @@ pub trait Rules: Copy {
     // The full puzzle of a Latin square has its size, its numbers as givens and every item, and the square solves it.
     ghost full_valid: { (g : GridValue) → IsGrid g → IsLatin g → valid (full_of g) };
 
-    ghost full_size: { (g : GridValue) → IsGrid g → IsLatin g → (puzzle (full_of g)).size ≡ g.size };
+    ghost full_size: { (g : GridValue) → IsGrid g → IsLatin g
+        → (puzzle (full_of g)).size ≡ g.size };
 
     ghost full_given: { (g : GridValue) (cell : ℕ) → IsGrid g → IsLatin g → cell < g.size * g.size
         → (puzzle (full_of g)).given cell ≡ number_at g cell };

@@ -46,13 +46,15 @@ impl Rules for Plain {
 
     ghost cut_size = { λ p keep h. refl };
 
-    ghost cut_has = { λ p keep i h less. let first : 0 ≡ i = Prim.omega arith in ap (λ (k : ℕ). p.marked && keep k) first };
+    ghost cut_has = { λ p keep i h less.
+        let first : 0 ≡ i = Prim.omega arith in ap (λ (k : ℕ). p.marked && keep k) first };
 
     ghost cut_all = { λ p h. ap (λ (m : Bool). record p { marked = m })
         (elim p.marked as (λ m. (m && true) ≡ m) [ true ↦ refl | false ↦ refl ]) };
 
     ghost cut_cut = { λ p first second h. ap (λ (m : Bool). record p { marked = m })
-        (elim p.marked as (λ m. ((m && first 0) && second 0) ≡ (m && (first 0 && second 0))) [ true ↦ refl | false ↦ refl ]) };
+        (elim p.marked as (λ m. ((m && first 0) && second 0) ≡ (m && (first 0 && second 0)))
+        [ true ↦ refl | false ↦ refl ]) };
 
     ghost cut_agrees = { λ p a b h same. ap (λ (m : Bool). record p { marked = m })
         (elim p.marked as (λ m. (m ≡ true → a 0 ≡ b 0) → (m && a 0) ≡ (m && b 0))
@@ -68,7 +70,13 @@ impl Rules for Plain {
 
     ghost full_has = { λ g i h l less. refl };
 
-    ghost full_solved = { λ g h l. record { is_grid = h; same_size = refl; latin = l; givens = λ cell inside some. refl; clues = refl } };
+    ghost full_solved = { λ g h l. record {
+      is_grid = h;
+      same_size = refl;
+      latin = l;
+      givens = λ cell inside some. refl;
+      clues = refl;
+    } };
 
     fn size(&self) -> Size {
         self.givens.size()

@@ -7,8 +7,8 @@ returns-clause-legal_accepted g c = legal_lists_play g.P.Rules.puzzle
 pub returns-clause-accepted_legal : goal.returns-clause-accepted_legal
 returns-clause-accepted_legal g c = accepted_lists_are_legal g.P.Rules.puzzle
 
-pub returns-clause-steps_back : goal.returns-clause-steps_back
-returns-clause-steps_back g c = undo_leads_back _
+pub returns-clause-undo_leads_back : goal.returns-clause-undo_leads_back
+returns-clause-undo_leads_back g c = undo_leads_back _
 
 pub returns-clause-all_reached : goal.returns-clause-all_reached
 returns-clause-all_reached g c = histories_are_reached g.P.Rules.puzzle

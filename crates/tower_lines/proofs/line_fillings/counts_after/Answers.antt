@@ -1,7 +1,7 @@
 use Rattle.std.proofs.Common.{◌+◌, ◌<◌, length, refl, ap, arith, count_ones}
 use Rattle.std.proofs.lemmas.Nat.{ones-le, one_shl}
-use Rattle.tower_lines.proofs.BackLemmas.{back_full, back_unreached, back_none, back_step, back_more, back_all, passed_small}
-use Rattle.tower_lines.proofs.KeptLemmas.{kept_same, kept_more, unpassed_full, unpassed_unreached}
+use Rattle.tower_lines.proofs.BackLemmas.{back_full, back_unreached, back_none, back_step, back_more, back_all, passed_values_small}
+use Rattle.tower_lines.proofs.KeptLemmas.{kept_values_same, kept_values_more, unpassed_full, unpassed_unreached}
 use Rattle.tower_lines.proofs.MarkLemmas.{added_with, added_above, added_below, pow_most}
 use Rattle.tower_lines.proofs.MaskLemmas.{mask_in_table}
 use Rattle.tower_lines.proofs.NextValues.{next_in_table}
@@ -11,7 +11,7 @@ pub returns-then-place-sets-clause-back : goal.returns-then-place-sets-clause-ba
 returns-then-place-sets-clause-back c = back_full c.if-place-sets.true (one_shl c.args.clue 16 (omega (arith, c.requires.clue)))
 
 pub returns-then-place-sets-clause-kept : goal.returns-then-place-sets-clause-kept
-returns-then-place-sets-clause-kept c = kept_same (unpassed_full c.if-place-sets.true) c.requires.kept
+returns-then-place-sets-clause-kept c = kept_values_same (unpassed_full c.if-place-sets.true) c.requires.kept
 
 pub bounds-front-mask : goal.bounds-front-mask
 bounds-front-mask c = mask_in_table (length c.args.sets.now) c.args.mask c.requires.short c.requires.inside
@@ -21,7 +21,7 @@ returns-then-reached-eq0-clause-back c = back_unreached (rw c.if-reached-eq0.tru
 
 pub returns-then-reached-eq0-clause-kept : goal.returns-then-reached-eq0-clause-kept
 returns-then-reached-eq0-clause-kept c =
-    kept_same (unpassed_unreached (rw c.if-reached-eq0.true at (c.requires.front c.args.mask c.requires.inside))) c.requires.kept
+    kept_values_same (unpassed_unreached (rw c.if-reached-eq0.true at (c.requires.front c.args.mask c.requires.inside))) c.requires.kept
 
 pub bounds-sets-place : goal.bounds-sets-place
 bounds-sets-place c = omega (arith, ones-le (length c.args.sets.now) c.args.mask c.requires.inside)
@@ -60,7 +60,7 @@ loop-left-preserved c =
 
 pub candidates_of-requires : goal.candidates_of-requires
 candidates_of-requires c =
-    mask_in_table (length c.args.sets.now) c.loop-left.passed c.requires.short (passed_small (rw c.loop-left-test.false at c.loop-left.invariant))
+    mask_in_table (length c.args.sets.now) c.loop-left.passed c.requires.short (passed_values_small (rw c.loop-left-test.false at c.loop-left.invariant))
 
 pub bounds-kept-place : goal.bounds-kept-place
 bounds-kept-place c = omega (arith, ones-le (length c.args.sets.now) c.args.mask c.requires.inside)
@@ -76,4 +76,4 @@ returns-clause-back c =
 pub returns-clause-kept : goal.returns-clause-kept
 returns-clause-kept c =
     let most = ones-le (length c.args.sets.now) c.args.mask c.requires.inside in
-    kept_more _ refl (omega (arith, c.told-kept)) (rw c.loop-left-test.false at c.loop-left.invariant) c.candidates_of.ensures c.requires.kept
+    kept_values_more _ refl (omega (arith, c.told-kept)) (rw c.loop-left-test.false at c.loop-left.invariant) c.candidates_of.ensures c.requires.kept

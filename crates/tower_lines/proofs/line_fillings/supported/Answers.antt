@@ -2,7 +2,7 @@ use Rattle.std.proofs.Common.{◌≡◌, ◌-◌, length, ◌∙◌, arith, rule
 use Rattle.std.proofs.lemmas.Nat.{one_shl}
 use Rattle.std.proofs.lemmas.List.{length-set}
 use Rattle.tower_lines.proofs.BackLemmas.{backs_more}
-use Rattle.tower_lines.proofs.KeptLemmas.{kept_none, kept_all, get_or-zeros}
+use Rattle.tower_lines.proofs.KeptLemmas.{kept_values_none, kept_values_all, get_or-zeros}
 use Rattle.tower_lines.proofs.MaskLemmas.{mask_in_table}
 use Rattle.tower_lines.proofs.line_fillings.supported.Goals as goal
 
@@ -12,7 +12,7 @@ loop-mask-init c =
     record {
       back = λ m from l. absurd (omega arith);
       long = search rules;
-      kept = rw all (kept_none _ (get_or-zeros 9));
+      kept = rw all (kept_values_none _ (get_or-zeros 9));
     }
 
 pub bounds-back-mask : goal.bounds-back-mask
@@ -32,4 +32,4 @@ loop-mask-preserved c =
     }
 
 pub returns : goal.returns
-returns c = let done : c.loop-mask.mask ≡ 0 = omega arith in kept_all (rw done at c.loop-mask.invariant.kept)
+returns c = let done : c.loop-mask.mask ≡ 0 = omega arith in kept_values_all (rw done at c.loop-mask.invariant.kept)

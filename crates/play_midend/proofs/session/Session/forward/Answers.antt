@@ -11,10 +11,10 @@ invariant_of-self g c =
     let p = g.P.Rules.puzzle s.puzzle in
     let later = rw (← c.self.view_is) at c.requires in
     let inside : s.past < length s.records.items = omega (arith, later, length-map s.records.items (λ (r : Record). r.made)) in
-    (c.self.invariant.0, linked_ahead p s.records.items s.past s.board c.index_mut.result.now c.exchange.new.kept c.exchange.new.board c.self.invariant.1 inside c.index_mut.ensures.value c.exchange.ensures.board c.exchange.ensures.made c.exchange.ensures.fits c.exchange.ensures.restores)
+    (c.self.invariant.0, linked_ahead p s.records.items s.past s.board c.index_mut.result.now c.exchange.new.link c.exchange.new.board c.self.invariant.1 inside c.index_mut.ensures.value c.exchange.ensures.board c.exchange.ensures.made c.exchange.ensures.fits c.exchange.ensures.restores)
 
 pub returns : goal.returns
 returns g c =
     let s = c.self.inside in
-    let moves = moves_of-set s.records.items s.past c.index_mut.result.now c.exchange.new.kept c.index_mut.ensures.value c.exchange.ensures.made in
-    rw (← c.self.view_is) (forward_viewed s.puzzle s.params s.next_params s.extras _ _ s.past moves)
+    let moves = moves_of-set s.records.items s.past c.index_mut.result.now c.exchange.new.link c.index_mut.ensures.value c.exchange.ensures.made in
+    rw (← c.self.view_is) (forward_viewed s _ moves)

@@ -16,10 +16,10 @@ invariant_of-self g c =
     let s = c.self.inside in
     let p = g.P.Rules.puzzle s.puzzle in
     let linked = with_one_less p s.records.items s.past s.board c.self.invariant.1 c.if-self-eq0.false in
-    (c.self.invariant.0, linked_back p s.records.items (s.past - 1) s.board c.index_mut.result.now c.exchange.new.kept c.exchange.new.board linked c.index_mut.ensures.value c.exchange.ensures.board c.exchange.ensures.made c.exchange.ensures.fits c.exchange.ensures.restores)
+    (c.self.invariant.0, linked_back p s.records.items (s.past - 1) s.board c.index_mut.result.now c.exchange.new.link c.exchange.new.board linked c.index_mut.ensures.value c.exchange.ensures.board c.exchange.ensures.made c.exchange.ensures.fits c.exchange.ensures.restores)
 
 pub returns-clause-ok : goal.returns-clause-ok
 returns-clause-ok g c =
     let s = c.self.inside in
-    let moves = moves_of-set s.records.items (s.past - 1) c.index_mut.result.now c.exchange.new.kept c.index_mut.ensures.value c.exchange.ensures.made in
-    rw (← c.self.view_is) (undone_viewed s.puzzle s.params s.next_params s.extras _ _ s.past c.if-self-eq0.false moves)
+    let moves = moves_of-set s.records.items (s.past - 1) c.index_mut.result.now c.exchange.new.link c.index_mut.ensures.value c.exchange.ensures.made in
+    rw (← c.self.view_is) (undone_viewed s _ c.if-self-eq0.false moves)

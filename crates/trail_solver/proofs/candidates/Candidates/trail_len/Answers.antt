@@ -1,4 +1,4 @@
-use Rattle.trail_solver.proofs.KeptFields.{trail_fits}
+use Rattle.trail_solver.proofs.AgreeingSets.{trail_fits}
 use Rattle.trail_solver.proofs.candidates.Candidates.trail_len.Goals as goal
 
 pub returns-clause-bound : goal.returns-clause-bound
