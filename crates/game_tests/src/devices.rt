@@ -53,6 +53,24 @@ fn a_line_that_a_fault_cuts_has_no_reply(rt: HostRuntime) -> Result<(), Fail> {
     Ok(())
 }
 
+// A line that is too long is no exception: it is answered once its LF was read.
+#[test]
+fn a_long_line_that_a_fault_cuts_has_no_reply(rt: HostRuntime) -> Result<(), Fail> {
+    let table: [(&[u8], &[u8]); 2] = [(b"", b""), (b"\n", b"refused: LongLine\n")];
+    for (line_end, written) in table {
+        let mut input = vec![in rt.alloc(); b'x'; 1_025]?;
+        input.extend_from_slice(line_end)?;
+        let fails = Pace {
+            piece: 512,
+            fails_at: 4,
+        };
+        let played = play::<Towers>(&rt, rt.alloc(), &input, fails, EASY, 512)?;
+        assert_eq!(rt; played.end, End::ReadFault);
+        assert_eq!(rt; played.written.as_slice(), written);
+    }
+    Ok(())
+}
+
 // The move was made, and half of its reply was written.
 #[test]
 fn a_sink_is_full_behind_four_bytes(rt: HostRuntime) -> Result<(), Fail> {

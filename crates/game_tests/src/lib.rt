@@ -8,6 +8,8 @@ mod devices;
 #[cfg(test)]
 mod done_clues;
 #[cfg(test)]
+mod flushes;
+#[cfg(test)]
 mod histories;
 #[cfg(test)]
 mod ids;

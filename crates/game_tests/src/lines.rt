@@ -116,3 +116,18 @@ fn long_lines(rt: HostRuntime) -> Result<(), Fail> {
     }
     Ok(())
 }
+
+// The last line needs no LF, and its length is measured all the same.
+#[test]
+fn long_last_lines(rt: HostRuntime) -> Result<(), Fail> {
+    let table: [(usize, &[u8]); 3] = [
+        (1_024, b"refused: BadCommand\n"),
+        (1_025, b"refused: LongLine\n"),
+        (5_000, b"refused: LongLine\n"),
+    ];
+    for (length, reply) in table {
+        let input = vec![in rt.alloc(); b'x'; length]?;
+        compare::<Towers>(&rt, rt.alloc(), &input, reply)?;
+    }
+    Ok(())
+}

@@ -184,6 +184,3 @@ fn send<W: Sink>(sink: &mut W, bytes: &[u8]) -> Result<(), DeviceFault>
     }
     sink.flush()
 }
-
-#[cfg(test)]
-mod tests;
