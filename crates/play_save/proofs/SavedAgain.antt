@@ -52,14 +52,18 @@ at_place k value other before later is =
     by_values [] none all = record { first = none; same = cc }
     by_values (v ∷ vs) some all = let rest = append_none vs (other ∷ values_of k later) (cc) in let more = rest.1 in cc
 
--- a value that stands alone, before a place or behind it
-before_place : (k : Key) (value : List ℕ) (before later : List KeyedRecord) → values_of k (before ++ later) ≡ value ∷ []
-    → (values_of k before ≡ []) ⊎ ((values_of k before ≡ value ∷ []) × (values_of k later ≡ []))
+-- a value that stands alone stands behind a place, or before it and not behind
+abbrev OnOneSide : Key → List ℕ → List KeyedRecord → List KeyedRecord → Type 0
+OnOneSide k value before later =
+    (values_of k before ≡ []) ⊎ ((values_of k before ≡ value ∷ []) × (values_of k later ≡ []))
+
+before_place : (k : Key) (value : List ℕ) (before later : List KeyedRecord)
+    → values_of k (before ++ later) ≡ value ∷ [] → OnOneSide k value before later
 before_place k value before later is =
     by_values (values_of k before) refl (sym (values_of-append k before later) ∙ is)
   where
-    by_values : (values : List (List ℕ)) → values_of k before ≡ values → values ++ values_of k later ≡ value ∷ []
-        → (values_of k before ≡ []) ⊎ ((values_of k before ≡ value ∷ []) × (values_of k later ≡ []))
+    by_values : (values : List (List ℕ)) → values_of k before ≡ values
+        → values ++ values_of k later ≡ value ∷ [] → OnOneSide k value before later
     by_values [] none all = inl none
     by_values (v ∷ vs) some all =
         let rest = append_none vs (values_of k later) (cc) in
@@ -82,10 +86,11 @@ never_at k other before later is =
     let here = none.1 in
     cc
 
+-- the same bytes by their test
 same_bytes : (xs ys : List ℕ) → xs ≡ ys → bytes_eq xs ys ≡ true
 same_bytes xs ys e = (bytes_eq-Decides xs ys).1 e
 
--- no record of a save has a fault
+-- no state record of a save has a fault
 abbrev AreFaultless : List KeyedState → Type 0
 AreFaultless ss = AllByRecursion (λ s. state_fault s.key s.value ≡ None) ss
 
@@ -97,6 +102,7 @@ all_faultless game p (m ∷ ms) [] have = absurd have
 all_faultless game p (m ∷ ms) (s ∷ ss) have =
     (state_faultless game p s.key s.value m have.0, all_faultless game p ms ss have.1)
 
+-- a record that stands for the first time has the fault of its value
 once_fresh : {A : Type 0} (values : List A) (fault : Option LoadFault)
     → values ≡ [] → once (is_some (first_of values)) fault ≡ fault
 once_fresh values fault none = rw none refl
@@ -105,20 +111,22 @@ once_unread : {A B : Type 0} (f : A → B) (values : List A) (fault : Option Loa
     → values ≡ [] → once (is_some (option_map f (first_of values))) fault ≡ fault
 once_unread f values fault none = rw none refl
 
-goes_together : (goes : ℕ → ℕ → Bool) (n m : ℕ) (other : Option (Option ℕ)) → goes n m ≡ true
-    → (other ≡ None) ⊎ (other ≡ Some (Some m)) → count_fault goes (Some n) other ≡ None
+-- a count that goes together with the other one, where that was met
+abbrev IsMetAs : ℕ → Option (Option ℕ) → Type 0
+IsMetAs n count = (count ≡ None) ⊎ (count ≡ Some (Some n))
+
+goes_together : (goes : ℕ → ℕ → Bool) (n m : ℕ) (other : Option (Option ℕ))
+    → goes n m ≡ true → IsMetAs m other → count_fault goes (Some n) other ≡ None
 goes_together goes n m other together (inl none) = rw none refl
 goes_together goes n m other together (inr some) = rw (some, together) refl
 
+-- the count before a place is that of the save, if any
 read_before : (k : Key) (n : ℕ) (before later : List KeyedRecord)
     → count_at (decimal n) ≡ Some n → values_of k (before ++ later) ≡ decimal n ∷ []
-    → (option_map count_at (first_of (values_of k before)) ≡ None)
-    ⊎ (option_map count_at (first_of (values_of k before)) ≡ Some (Some n))
+    → IsMetAs n (option_map count_at (first_of (values_of k before)))
 read_before k n before later good is = by_case (before_place k (decimal n) before later is)
   where
-    by_case : (values_of k before ≡ []) ⊎ ((values_of k before ≡ decimal n ∷ []) × (values_of k later ≡ []))
-        → (option_map count_at (first_of (values_of k before)) ≡ None)
-        ⊎ (option_map count_at (first_of (values_of k before)) ≡ Some (Some n))
+    by_case : OnOneSide k (decimal n) before later → IsMetAs n (option_map count_at (first_of (values_of k before)))
     by_case (inl none) = inl (rw none refl)
     by_case (inr some) = inr (rw (some.0, good) refl)
 
@@ -154,8 +162,7 @@ met_before c v k value before later header is none =
         of_state (State i) other = cc
         of_state j other = refl
 
-    by_case : (values_of c before ≡ [])
-        ⊎ ((values_of c before ≡ v ∷ []) × (values_of c (one (State k) value ++ later) ≡ []))
+    by_case : OnOneSide c v before (one (State k) value ++ later)
         → is_some (option_map count_at (first_of (values_of c before))) ≡ true
     by_case (inr some) = rw some.0 refl
     by_case (inl empty) =
@@ -163,6 +170,7 @@ met_before c v k value before later header is none =
         values_of-append c before (one (State k) value ++ later) ∙ rw (empty, here) refl in
         cc
 
+-- no record of a save has a fault behind those before it
 faultless_at : {P : Type 0} (game : SavedGame P) (h : History P) (before later : List KeyedRecord) (k : Key) (value : List ℕ)
     → AreSaved game h (before ++ (one k value ++ later))
     → (is_state k ≡ true → (values_of StateCount later ≡ []) × (values_of Position later ≡ []))
@@ -222,7 +230,7 @@ faultless_at game h before later (State k) value s counts fine =
     let both : behind_counts (met game before) (state_fault k value) ≡ state_fault k value = rw (count, place) refl in
     both ∙ fine.0
 
--- before the last record the save isn't complete
+-- a list of records, unless it is empty, ends as a save does
 abbrev EndsIfAny : List KeyedRecord → Type 0
 EndsIfAny [] = Unit {0}
 EndsIfAny (r ∷ rs) = EndsWithState (r ∷ rs)
@@ -231,7 +239,7 @@ ends_later : (r : KeyedRecord) (rs : List KeyedRecord) → EndsWithState (r ∷ 
 ends_later r [] ends = tt
 ends_later r (k ∷ rs) ends = ends
 
--- a list that ends with a state record or a count has one
+-- a list that ends with a state record or a count, and has no count, has a state
 pub has_state_or_count : (rs : List KeyedRecord)
     → EndsWithState rs → values_of StateCount rs ≡ [] → values_of Position rs ≡ [] → 0 < length (states_in rs)
 has_state_or_count [] ends no_count no_position = absurd ends
@@ -254,6 +262,7 @@ has_state_or_count (r ∷ k ∷ rs) ends no_count no_position =
     longer_states (State c) ss = omega arith
     longer_states c ss = omega arith
 
+-- before the last record the save isn't complete
 undone_at : {P : Type 0} (game : SavedGame P) (h : History P) (before later : List KeyedRecord)
     → AreSaved game h (before ++ later) → EndsWithState later → is_complete (met game before) ≡ false
 undone_at game h before later s ends =
@@ -264,11 +273,8 @@ undone_at game h before later s ends =
     no_position (Some (Some m)) n = refl
     no_position o n = refl
 
-    by_case : (values_of StateCount before ≡ [])
-        ⊎ ((values_of StateCount before ≡ decimal (length h.moves + 1) ∷ []) × (values_of StateCount later ≡ []))
-        → (values_of Position before ≡ [])
-        ⊎ ((values_of Position before ≡ decimal h.position ∷ []) × (values_of Position later ≡ []))
-        → is_complete (met game before) ≡ false
+    by_case : OnOneSide StateCount (decimal (length h.moves + 1)) before later
+        → OnOneSide Position (decimal h.position) before later → is_complete (met game before) ≡ false
     by_case (inl none) place = rw none refl
     by_case (inr some) (inl none) = rw none (no_position (met game before).count (length (states_in before)))
     by_case (inr some) (inr place) =

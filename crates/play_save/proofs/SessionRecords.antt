@@ -1,7 +1,7 @@
 -- The records that are written for a session: which value stands with which key, and where.
 use Rattle.std.proofs.Common.{◌≡◌, ℕ, ◌+◌, true, false, ◌==◌, List, [], ◌∷◌, ◌++◌, length, map, codes, Option, Some, None, cond, refl, ap, ◌∙◌}
 use Rattle.std.specs.Fmt.{decimal}
-use Rattle.std.proofs.lemmas.Bool.{cond_both}
+use Rattle.std.proofs.lemmas.Bool.{both_ways, cond_both}
 use Rattle.std.proofs.lemmas.List.{append-nil}
 use Rattle.clue_rules.specs.Parameters.{params_text}
 use Rattle.play_midend.specs.declared.moves.Move.{Move}
@@ -10,18 +10,13 @@ use Rattle.play_save.specs.declared.key.Key.{Key}
 use Rattle.play_save.specs.declared.key.Key.TheVariants.{FormatVersion, GameName, NextParams, CurrentParams, Seed, Desc, AuxInfo, Ui, Time, StateCount, Position, State}
 use Rattle.play_save.specs.Keys.{rank}
 use Rattle.play_save.specs.KeyedRecords.{KeyedRecord, KeyedState, values_of, onto_states, states_in, once_if_kept, is_state, CountsStandFirst, may_be_last, EndsWithState}
-use Rattle.play_save.specs.Written.{with_value, kept_record, state_value, state_record, body_records, state_records}
+use Rattle.play_save.specs.Written.{with_value, kept_record, state_value, state_record, game_records, body_records, state_records}
 use Rattle.play_save.proofs.RecordLists.{values_of-append, states_in-append, adds_no_state}
 use Rattle.play_save.proofs.WrittenRecords.{is_known, AreKnown}
 
 -- the records behind the first
-abbrev pub four : {P : Type 0} → List ℕ → History P → List KeyedRecord
-four title h =
-    with_value FormatVersion (codes "1") ∷ with_value GameName title ∷ with_value NextParams (params_text h.next_params)
-    ∷ with_value CurrentParams (params_text h.params) ∷ []
-
 abbrev pub tail_records : {P : Type 0} → List ℕ → List ℕ → History P → List KeyedRecord
-tail_records title desc h = four title h ++ (body_records desc h ++ state_records desc h)
+tail_records title desc h = game_records title h ++ (body_records desc h ++ state_records desc h)
 
 abbrev states_of : List ℕ → List Move → List KeyedRecord
 states_of desc ms = map (state_record desc) ms
@@ -98,11 +93,8 @@ front_first : (xs ys : List KeyedRecord) → states_in xs ≡ [] → CountsStand
 front_first [] ys none first = first
 front_first (x ∷ xs) ys none first =
     let parts = none_first x.key x.value (states_in xs) none in
-    ((λ state. absurd (never x.key parts.0 state)), front_first xs ys parts.1 first)
+    ((λ state. absurd (both_ways (is_state x.key) parts.0 state)), front_first xs ys parts.1 first)
   where
-    never : (k : Key) → is_state k ≡ false → is_state k ≡ true → ⊥
-    never k header state = cc
-
     none_first : (k : Key) (v : List ℕ) (ss : List KeyedState)
         → onto_states k v ss ≡ [] → (is_state k ≡ false) × (ss ≡ [])
     none_first (State k) v ss e = cc
@@ -118,7 +110,7 @@ pub counts_first_tail : {P : Type 0} (title desc : List ℕ) (h : History P)
 counts_first_tail title desc h =
     let states : CountsStandFirst (state_records desc h) =
     ((λ state. cc), ((λ state. cc), states_first desc h.moves)) in
-    front_first (four title h) (body_records desc h ++ state_records desc h) refl
+    front_first (game_records title h) (body_records desc h ++ state_records desc h) refl
     (front_first (body_records desc h) (state_records desc h) (states_body desc h) states)
 
 ends_behind : (xs ys : List KeyedRecord) → EndsWithState ys → EndsWithState (xs ++ ys)
@@ -134,7 +126,7 @@ ends_states r desc (m ∷ ms) last = ends_states (state_record desc m) desc ms r
 
 pub ends_tail : {P : Type 0} (title desc : List ℕ) (h : History P) → EndsWithState (tail_records title desc h)
 ends_tail title desc h =
-    ends_behind (four title h) (body_records desc h ++ state_records desc h)
+    ends_behind (game_records title h) (body_records desc h ++ state_records desc h)
     (ends_behind (body_records desc h) (state_records desc h)
     (ends_states (with_value Position (decimal h.position)) desc h.moves refl))
 
@@ -153,7 +145,7 @@ known_states desc (m ∷ ms) = (refl, known_states desc ms)
 
 pub known_tail : {P : Type 0} (title desc : List ℕ) (h : History P) → AreKnown (tail_records title desc h)
 known_tail title desc h =
-    known_append (four title h) (body_records desc h ++ state_records desc h) (refl, (refl, (refl, (refl, tt))))
+    known_append (game_records title h) (body_records desc h ++ state_records desc h) (refl, (refl, (refl, (refl, tt))))
     (known_append (body_records desc h) (state_records desc h)
     (known_append (kept_record Seed h.extras.seed) _ (known_kept Seed h.extras.seed refl) (
       refl,

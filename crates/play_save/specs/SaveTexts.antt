@@ -39,7 +39,7 @@ saved_game title letters puzzle of_game describes desc_at desc_of = record {
   desc_of = desc_of;
 }
 
--- the same, of what a game's rules and texts are
+-- the same, of what `Rules` and `Game` say of a type P: `saves_of P.Rules P.Game.own`
 abbrev pub saves_of : {P : Type 0} → RulesGhosts P → GameGhosts P → SavedGame P
 saves_of rules game =
     saved_game game.title game.letter_codes rules.puzzle rules.valid game.describes game.desc_at game.desc_of
@@ -48,7 +48,7 @@ saves_of rules game =
 abbrev pub collection : List ℕ
 collection = codes "Simon Tatham's Portable Puzzle Collection"
 
--- that record
+-- the record itself
 abbrev pub format_record : Entry
 format_record = record { key = codes "SAVEFILE"; value = collection }
 

@@ -14,7 +14,7 @@ use Rattle.play_save.specs.KeyedRecords.{KeyedRecord, KeyedState}
 use Rattle.play_save.specs.SaveTexts.{collection, is_solve}
 use Rattle.byte_text.specs.Bytes.{colon, line_feed}
 
--- a record as it is written
+-- a record as it is written, and several one behind the other
 unfoldable pub record_text : KeyedRecord → List ℕ
 record_text r = padded (key_name r.key) ++ (colon ∷ (decimal (length r.value) ++ (colon ∷ (r.value ++ (line_feed ∷ [])))))
 
@@ -22,6 +22,7 @@ abbrev pub records_text : List KeyedRecord → List ℕ
 records_text [] = []
 records_text (r ∷ rs) = record_text r ++ records_text rs
 
+-- a record by its key and its value
 abbrev pub with_value : Key → List ℕ → KeyedRecord
 with_value k value = record { key = k; value = value }
 
@@ -40,22 +41,29 @@ state_value desc m =
 abbrev pub state_record : List ℕ → Move → KeyedRecord
 state_record desc m = with_value (State (state_value desc m).key) (state_value desc m).value
 
--- the records in their order, of a game with this name
-abbrev pub head_records : {P : Type 0} → List ℕ → History P → List KeyedRecord
-head_records title h =
-    with_value SaveFile collection ∷ with_value FormatVersion (codes "1") ∷ with_value GameName title
-    ∷ with_value NextParams (params_text h.next_params) ∷ with_value CurrentParams (params_text h.params) ∷ []
+-- the version, the game's name and the parameters
+abbrev pub game_records : {P : Type 0} → List ℕ → History P → List KeyedRecord
+game_records title h =
+    with_value FormatVersion (codes "1") ∷ with_value GameName title ∷ with_value NextParams (params_text h.next_params)
+    ∷ with_value CurrentParams (params_text h.params) ∷ []
 
+-- the same behind the record that names the format
+abbrev pub head_records : {P : Type 0} → List ℕ → History P → List KeyedRecord
+head_records title h = with_value SaveFile collection ∷ game_records title h
+
+-- the description, and what is kept
 abbrev pub body_records : {P : Type 0} → List ℕ → History P → List KeyedRecord
 body_records desc h =
     kept_record Seed h.extras.seed ++ (with_value Desc desc ∷ (kept_record AuxInfo h.extras.auxinfo
     ++ (kept_record Ui h.extras.ui ++ kept_record Time h.extras.time)))
 
+-- the counts, and the states behind the first
 abbrev pub state_records : {P : Type 0} → List ℕ → History P → List KeyedRecord
 state_records desc h =
     with_value StateCount (decimal (length h.moves + 1)) ∷ with_value Position (decimal h.position)
     ∷ map (state_record desc) h.moves
 
+-- all of them in their order, of a game with this name
 abbrev pub session_records : {P : Type 0} → List ℕ → (P → List ℕ) → History P → List KeyedRecord
 session_records title desc_of h =
     head_records title h ++ (body_records (desc_of h.puzzle) h ++ state_records (desc_of h.puzzle) h)

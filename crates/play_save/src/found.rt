@@ -1,11 +1,11 @@
 //! What the records of a save file say, found one by one.
 
-ghost use Rattle.std.specs.Prelude.{◌≡◌, ℕ, ◌+◌, ◌≤◌, true, false, Some, None, Ok, Err, ok_or, OnOk, IfOk, IfErr, IsErr, length, bytes_eq, codes};
+ghost use Rattle.std.specs.Prelude.{◌≡◌, ℕ, ◌+◌, ◌≤◌, true, false, Some, None, Ok, Err, ok_or, OnOk, IfOk, IfErr, is_some, length, bytes_eq, codes};
 ghost use Rattle.std.specs.Result.{result_ok};
-ghost use Rattle.play_save.specs.declared.key.Key.TheVariants.{FormatVersion, GameName, NextParams, CurrentParams, Seed, Desc, AuxInfo, Ui, Time, StateCount, Position, State};
+ghost use Rattle.play_save.specs.declared.key.Key.TheVariants.{FormatVersion, GameName, NextParams, CurrentParams, StateCount, Position, State};
 ghost use Rattle.play_save.specs.SaveTexts.{saves_of};
 ghost use Rattle.play_save.specs.FirstFaults.{is_complete, count_at, once, text_fault, state_fault, saved_params_at, fault_unless};
-ghost use Rattle.play_save.specs.Taking.{met_of, nothing_met, Taken};
+ghost use Rattle.play_save.specs.Taking.{bytes_of, met_of, nothing_met, Taken};
 
 use crate::fault::LoadFault;
 use crate::key::{Key, StateKey};
@@ -50,6 +50,17 @@ fn once(met: bool) -> Result<(), LoadFault>
     if met {
         return Err(LoadFault::Repeated);
     }
+    Ok(())
+}
+
+// Bytes that may be met once, and are kept.
+fn keep<'a>(kept: &mut Option<&'a [u8]>, value: &'a [u8]) -> Result<(), LoadFault>
+    ensures ok { OnOk result ((bytes_of kept.old ≡ None) × (bytes_of kept.new ≡ Some value.now)) }
+    ensures err { IfErr result (λ fault.
+        (is_some (bytes_of kept.old) ≡ true) × (fault ≡ LoadFault.Repeated)) }
+{
+    once(kept.is_some())?;
+    *kept = Some(value);
     Ok(())
 }
 
@@ -127,11 +138,11 @@ impl<'a> Found<'a> {
             Key::GameName => self.take_name::<P>(value),
             Key::NextParams => self.take_next_params::<P>(value),
             Key::CurrentParams => self.take_params::<P>(value),
-            Key::Seed => self.take_seed::<P>(value),
-            Key::Desc => self.take_desc::<P>(value),
-            Key::AuxInfo => self.take_auxinfo::<P>(value),
-            Key::Ui => self.take_ui::<P>(value),
-            Key::Time => self.take_time::<P>(value),
+            Key::Seed => keep(&mut self.seed, value),
+            Key::Desc => keep(&mut self.desc, value),
+            Key::AuxInfo => keep(&mut self.auxinfo, value),
+            Key::Ui => keep(&mut self.ui, value),
+            Key::Time => keep(&mut self.time, value),
             Key::StateCount => self.take_count::<P>(value),
             Key::Position => self.take_position::<P>(value),
             Key::State(key) => self.take_state::<P>(key, value),
@@ -178,51 +189,6 @@ impl<'a> Found<'a> {
     {
         once(self.params.is_some())?;
         self.params = Some(params::<P>(value)?);
-        Ok(())
-    }
-
-    fn take_seed<P: Game>(&mut self, value: &'a [u8]) -> Result<(), LoadFault>
-        ensures { Taken (saves_of P.Rules P.Game.own)
-            (met_of self.old) Seed value.now result (met_of self.new) }
-    {
-        once(self.seed.is_some())?;
-        self.seed = Some(value);
-        Ok(())
-    }
-
-    fn take_desc<P: Game>(&mut self, value: &'a [u8]) -> Result<(), LoadFault>
-        ensures { Taken (saves_of P.Rules P.Game.own)
-            (met_of self.old) Desc value.now result (met_of self.new) }
-    {
-        once(self.desc.is_some())?;
-        self.desc = Some(value);
-        Ok(())
-    }
-
-    fn take_auxinfo<P: Game>(&mut self, value: &'a [u8]) -> Result<(), LoadFault>
-        ensures { Taken (saves_of P.Rules P.Game.own)
-            (met_of self.old) AuxInfo value.now result (met_of self.new) }
-    {
-        once(self.auxinfo.is_some())?;
-        self.auxinfo = Some(value);
-        Ok(())
-    }
-
-    fn take_ui<P: Game>(&mut self, value: &'a [u8]) -> Result<(), LoadFault>
-        ensures { Taken (saves_of P.Rules P.Game.own)
-            (met_of self.old) Ui value.now result (met_of self.new) }
-    {
-        once(self.ui.is_some())?;
-        self.ui = Some(value);
-        Ok(())
-    }
-
-    fn take_time<P: Game>(&mut self, value: &'a [u8]) -> Result<(), LoadFault>
-        ensures { Taken (saves_of P.Rules P.Game.own)
-            (met_of self.old) Time value.now result (met_of self.new) }
-    {
-        once(self.time.is_some())?;
-        self.time = Some(value);
         Ok(())
     }
 
