@@ -35,7 +35,8 @@ module _ {S : Type 0} (reply : ReplyRule S) (quit : Line → Bool) where
       → Goes reply quit More (ended_from part xs) old mid → now ≡ last_from part xs → Goes reply quit flow (ended_from now ys) mid new
       → Goes reply quit flow (ended_from part (xs ++ ys)) old new
   Goes-bytes flow part now xs ys old mid new p here q =
-      let next : Goes reply quit flow (ended_from (last_from part xs) ys) mid new = subst (λ l. Goes reply quit flow (ended_from l ys) mid new) here q in
+      let next : Goes reply quit flow (ended_from (last_from part xs) ys) mid new =
+      subst (λ l. Goes reply quit flow (ended_from l ys) mid new) here q in
       subst (λ l. Goes reply quit flow l old new) (sym (ended_from-append part xs ys))
       (Goes-after reply quit flow (ended_from part xs) (ended_from (last_from part xs) ys) old mid new p next)
 
@@ -58,7 +59,8 @@ module _ {S : Type 0} (reply : ReplyRule S) (quit : Line → Bool) where
   pub Goes-stopped : (flow : Flow) (part : Line) (piece : List ℕ) (n : ℕ) (old new : Progress S) → (flow ≡ More → ⊥)
       → Goes reply quit flow (ended_from part (take n piece)) old new → Goes reply quit flow (ended_from part piece) old new
   Goes-stopped flow part piece n old new stops q =
-      let behind = more_behind flow (ended_from part (take n piece)) (ended_from (last_from part (take n piece)) (drop n piece)) old new stops q in
+      let behind =
+      more_behind flow (ended_from part (take n piece)) (ended_from (last_from part (take n piece)) (drop n piece)) old new stops q in
       let whole : ended_from part (take n piece) ++ ended_from (last_from part (take n piece)) (drop n piece) ≡ ended_from part piece =
       sym (ended_from-append part (take n piece) (drop n piece)) ∙ ap (ended_from part) (take-append-drop n piece) in
       subst (λ l. Goes reply quit flow l old new) whole behind
@@ -71,7 +73,8 @@ module _ {S : Type 0} (reply : ReplyRule S) (quit : Line → Bool) where
       → Goes reply quit flow (as_line now ∷ []) mid new
       → Goes reply quit flow (all_lines read) old new
   all_read flow read now old mid new p here q =
-      let last : Goes reply quit flow (as_line (last_from (Some []) read) ∷ []) mid new = subst (λ l. Goes reply quit flow (as_line l ∷ []) mid new) here q in
+      let last : Goes reply quit flow (as_line (last_from (Some []) read) ∷ []) mid new =
+      subst (λ l. Goes reply quit flow (as_line l ∷ []) mid new) here q in
       subst (λ l. Goes reply quit flow l old new) (sym (all_lines-by-parts read))
       (Goes-after reply quit flow (ended_from (Some []) read) (as_line (last_from (Some []) read) ∷ []) old mid new p last)
 
@@ -113,7 +116,8 @@ module _ {S : Type 0} {reply : ReplyRule S} {quit : Line → Bool} {old now : Po
       read = so_far.read;
       consumed = Consumes-kept old.to_come now.to_come new.to_come so_far.read so_far.consumed keeps;
       counted = so_far.counted;
-      answered = subst (λ (p : Progress S). Goes reply quit More (ended_from (Some []) so_far.read) (progress_of old) p) same so_far.answered;
+      answered =
+          subst (λ (p : Progress S). Goes reply quit More (ended_from (Some []) so_far.read) (progress_of old) p) same so_far.answered;
       rest = so_far.rest;
     }
 
@@ -122,14 +126,14 @@ module _ {S : Type 0} {reply : ReplyRule S} {quit : Line → Bool} {old now : Po
     module _ (few : count < longest_input) (n : ℕ) (piece : List ℕ) (none : n ≡ 0)
         (consumed : Consumes now.to_come new.to_come (take n piece)) (at_end : IsAtEnd new.to_come) (works : new.read_failed ≡ false) where
       were_all : WereRead old new so_far.read × AreAll new so_far.read
-      were_all = (
-        (Consumes-none old.to_come now.to_come new.to_come so_far.read piece n none so_far.consumed consumed, omega (arith, so_far.counted)),
-        (at_end, omega (arith, so_far.counted)),
-      )
+      were_all =
+          let same = Consumes-none old.to_come now.to_come new.to_come so_far.read piece n none so_far.consumed consumed in
+          ((same, omega (arith, so_far.counted)), (at_end, omega (arith, so_far.counted)))
 
       all_gone : (flow : Flow) → Goes reply quit flow (as_line part ∷ []) (progress_of now) (progress_of new)
           → Goes reply quit flow (all_lines so_far.read) (progress_of old) (progress_of new)
-      all_gone flow goes = all_read reply quit flow so_far.read part (progress_of old) (progress_of now) (progress_of new) so_far.answered so_far.rest goes
+      all_gone flow goes =
+          all_read reply quit flow so_far.read part (progress_of old) (progress_of now) (progress_of new) so_far.answered so_far.rest goes
 
       -- it was answered or is quit
       pub Finished-at-end : (flow : Flow) → (flow ≡ Unsent → ⊥)

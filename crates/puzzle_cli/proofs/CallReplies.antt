@@ -1,12 +1,12 @@
 -- Each reply is a step of the session's own calls, or leaves the session.
-use Rattle.std.proofs.Common.{◌≡◌, ◌≢◌, ◌⊎◌, ℕ, ◌==◌, if◌then◌else◌, true, false, List, codes, Option, Some, None, unwrap_or, Result, Ok, Err, IsOk, ◌-◌, ◌+◌, length, refl, sym, ap, ◌∙◌, subst, inl, inr}
+use Rattle.std.proofs.Common.{◌≡◌, ◌≢◌, ◌⊎◌, ℕ, true, List, codes, Option, Some, None, unwrap_or, Result, Ok, Err, IsOk, refl, sym, ap, ◌∙◌, subst, inl, inr}
 use Rattle.play_midend.specs.declared.fault.PlayFault.{PlayFault}
-use Rattle.play_midend.specs.declared.fault.PlayFault.TheVariants.{OutOfMemory, NothingToUndo, NothingToRedo}
+use Rattle.play_midend.specs.declared.fault.PlayFault.TheVariants.{OutOfMemory}
 use Rattle.play_midend.specs.declared.moves.Move.{Move}
 use Rattle.play_midend.specs.declared.moves.Move.TheVariants.{Solve as Filling}
 use Rattle.play_midend.specs.Faults.{play_fault_name}
 use Rattle.play_midend.specs.MoveTexts.{IsMoveText}
-use Rattle.play_midend.specs.Histories.{at_position, History, IsRefusal, played, restarted, SolveGives, undone, redone}
+use Rattle.play_midend.specs.Histories.{History, IsRefusal, played, restarted, SolveGives, undone, redone}
 use Rattle.play_midend.specs.Laws.{Call, Play, FromStart, ToSolution, CallGives, may_want_memory}
 use Rattle.play_midend.specs.Laws.{Undo as ToUndo, Redo as ToRedo}
 use Rattle.puzzle_cli.specs.declared.command.Command.TheVariants.{Ask}
@@ -27,7 +27,7 @@ use Rattle.puzzle_cli.proofs.CommandLaws.{read_once}
 use Rattle.puzzle_cli.proofs.RepliesOnce.{move_read_once, outcome_parts, said_or_refused, refusal_parts}
 use Rattle.byte_text.specs.Reading.{◌>>=◌}
 use Rattle.std.specs.Bool.{MatchBool}
-use Rattle.puzzle_cli.proofs.SparedMemory.{played_spares, restarted_spares, solved_spares, exact_refusal}
+use Rattle.puzzle_cli.proofs.SparedMemory.{played_spares, restarted_spares, undone_spares, redone_spares, solved_spares, exact_refusal}
 
 -- ---- a reply by its reading
 
@@ -66,7 +66,8 @@ module _ {P : Type 0} (f : GameFacts P) (h : History P) where
 
   -- an exact refusal is one, whether the call takes memory or not
   refused_so : (call : Call) (fault : PlayFault) → fault ≢ OutOfMemory
-      → (let exact : Result (History P) PlayFault = Err fault in MatchBool (may_want_memory call) (IsRefusal exact fault) (exact ≡ Err fault))
+      → (let exact : Result (History P) PlayFault = Err fault in
+      MatchBool (may_want_memory call) (IsRefusal exact fault) (exact ≡ Err fault))
   refused_so ToUndo fault n = refl
   refused_so ToRedo fault n = refl
   refused_so call fault n = exact_refusal (History P) fault n
@@ -75,7 +76,8 @@ module _ {P : Type 0} (f : GameFacts P) (h : History P) where
       → CallGives (f.rules.puzzle h.puzzle) h call (Err fault)
       → fault ≢ OutOfMemory → IsRefused call fault bytes → new ≡ Some h → AnswersCall f h call bytes new
   refused_call call fault bytes new gives spares told stays =
-      subst (λ (s : Option (History P)). AnswersCall f h call bytes s) (sym stays) (Err fault, (refl, (Err fault, gives, refused_so call fault spares)), told)
+      subst (λ (s : Option (History P)). AnswersCall f h call bytes s) (sym stays)
+      (Err fault, (refl, (Err fault, gives, refused_so call fault spares)), told)
 
   called : (call : Call) (exact : Result (History P) PlayFault) (bytes : List ℕ) (new : Option (History P)) → SaysOk call
       → CallGives (f.rules.puzzle h.puzzle) h call exact → (exact ≢ Err OutOfMemory)
@@ -114,13 +116,15 @@ module _ {P : Type 0} (f : GameFacts P) (h : History P) where
       called (Play m) exact bytes new tt is (λ e. played_spares (f.rules.puzzle h.puzzle) h m (sym is ∙ e)) (inl out)
   play_answered text m bytes new spelled (inl (inr (refusal, (exact, plays, out), name, stays))) =
       let is = move_called text m exact spelled plays in
-      called (Play m) exact bytes new tt is (λ e. played_spares (f.rules.puzzle h.puzzle) h m (sym is ∙ e)) (inr (refusal, out, name, stays))
+      called (Play m) exact bytes new tt is (λ e. played_spares (f.rules.puzzle h.puzzle) h m (sym is ∙ e))
+      (inr (refusal, out, name, stays))
   play_answered text m bytes new spelled (inr ((k, plays), name, stays)) =
       lacking (Play m) k bytes new refl (move_called text m (Ok k) spelled plays) name stays
 
   -- solving
   spared : (fault : PlayFault) → SolveGives (f.rules.puzzle h.puzzle) h (Err fault) → fault ≢ OutOfMemory
-  spared fault gives is = solved_spares (f.rules.puzzle h.puzzle) h (subst (λ (e : PlayFault). SolveGives (f.rules.puzzle h.puzzle) h (Err e)) is gives)
+  spared fault gives is =
+      solved_spares (f.rules.puzzle h.puzzle) h (subst (λ (e : PlayFault). SolveGives (f.rules.puzzle h.puzzle) h (Err e)) is gives)
 
   unsolved : (fault : PlayFault) (sentence : Option (List ℕ)) → solve_sentence fault ≡ sentence
       → (bytes : List ℕ) (new : Option (History P))
@@ -135,38 +139,36 @@ module _ {P : Type 0} (f : GameFacts P) (h : History P) where
   unsolved fault None is bytes new gives (inl e) =
       absurd (said_or_refused bytes new (OfPlay fault) (sym (ap (λ (s : Option (List ℕ)). sentence_outcome h s fault) (sym is) ∙ e)))
   unsolved fault None is bytes new gives (inr (refusal, e, name, stays)) =
-      let called : OfPlay fault ≡ refusal = refusal_parts P (OfPlay fault) refusal (ap (λ (s : Option (List ℕ)). sentence_outcome h s fault) (sym is) ∙ e) in
+      let called : OfPlay fault ≡ refusal =
+      refusal_parts P (OfPlay fault) refusal (ap (λ (s : Option (List ℕ)). sentence_outcome h s fault) (sym is) ∙ e) in
       refused_call ToSolution fault bytes new gives (spared fault gives)
-      (name ∙ ap (λ (r : Refusal). refusal_line (refusal_name r)) (sym called) ∙ ap (λ (s : Option (List ℕ)). unwrap_or s (refusal_line (play_fault_name fault))) (sym is)) stays
+      (name ∙ ap (λ (r : Refusal). refusal_line (refusal_name r)) (sym called)
+      ∙ ap (λ (s : Option (List ℕ)). unwrap_or s (refusal_line (play_fault_name fault))) (sym is)) stays
 
   solved : (exact : Result (History P) PlayFault) (bytes : List ℕ) (new : Option (History P)) → SolveGives (f.rules.puzzle h.puzzle) h exact
       → Writes (SolveSays h exact) (Some h) bytes new → AnswersCall f h ToSolution bytes new
   solved (Ok k) bytes new gives (inl (g, with, e)) =
       let parts = outcome_parts (move_line (Filling g)) bytes (Some k) new e in
       subst (λ (s : Option (History P)). AnswersCall f h ToSolution bytes s) parts.1 (Ok tt, gives, (g, sym parts.0))
-  solved (Ok k) bytes new gives (inr (refusal, (g, with, e), name, stays)) = absurd (said_or_refused (move_line (Filling g)) (Some k) refusal e)
+  solved (Ok k) bytes new gives (inr (refusal, (g, with, e), name, stays)) =
+      absurd (said_or_refused (move_line (Filling g)) (Some k) refusal e)
   solved (Err fault) bytes new gives out = unsolved fault (solve_sentence fault) refl bytes new gives out
 
   solve_answered : (bytes : List ℕ) (new : Option (History P)) → ReadSays f (Some h) (Ok (Some (Ask (Plain Solve)))) bytes new
       → AnswersCall f h ToSolution bytes new
   solve_answered bytes new (inl (inl (exact, gives, says))) = solved exact bytes new gives (inl says)
-  solve_answered bytes new (inl (inr (refusal, (exact, gives, says), name, stays))) = solved exact bytes new gives (inr (refusal, says, name, stays))
+  solve_answered bytes new (inl (inr (refusal, (exact, gives, says), name, stays))) =
+      solved exact bytes new gives (inr (refusal, says, name, stays))
   solve_answered bytes new (inr ((k, gives), name, stays)) = lacking ToSolution k bytes new refl gives name stays
-
-  undone_spares : undone h ≢ Err OutOfMemory
-  undone_spares = elim (h.position == 1) as (λ t. (if t then Err NothingToUndo else Ok (at_position h (h.position - 1))) ≢ Err OutOfMemory) [ true ↦ λ e. cc | false ↦ λ e. cc ]
-
-  redone_spares : redone h ≢ Err OutOfMemory
-  redone_spares = elim (h.position == length h.moves + 1) as (λ t. (if t then Err NothingToRedo else Ok (at_position h (h.position + 1))) ≢ Err OutOfMemory) [ true ↦ λ e. cc | false ↦ λ e. cc ]
 
   undo_answered : (bytes : List ℕ) (new : Option (History P)) → ReadSays f (Some h) (Ok (Some (Ask (Plain Undo)))) bytes new
       → AnswersCall f h ToUndo bytes new
-  undo_answered bytes new (inl out) = called ToUndo (undone h) bytes new tt refl undone_spares out
+  undo_answered bytes new (inl out) = called ToUndo (undone h) bytes new tt refl (undone_spares h) out
   undo_answered bytes new (inr lacks) = absurd lacks.0
 
   redo_answered : (bytes : List ℕ) (new : Option (History P)) → ReadSays f (Some h) (Ok (Some (Ask (Plain Redo)))) bytes new
       → AnswersCall f h ToRedo bytes new
-  redo_answered bytes new (inl out) = called ToRedo (redone h) bytes new tt refl redone_spares out
+  redo_answered bytes new (inl out) = called ToRedo (redone h) bytes new tt refl (redone_spares h) out
   redo_answered bytes new (inr lacks) = absurd lacks.0
 
   restart_lacks : (exact : Result (History P) PlayFault) → restarted h ≡ exact → IsOk exact → (bytes : List ℕ) (new : Option (History P))
@@ -186,7 +188,8 @@ module _ {P : Type 0} (f : GameFacts P) (h : History P) where
   answered (Solutions n) call bytes new never says = absurd never
   answered (Plain Undo) call bytes new is says = subst (λ (c : Call). AnswersCall f h c bytes new) (sym is) (undo_answered bytes new says)
   answered (Plain Redo) call bytes new is says = subst (λ (c : Call). AnswersCall f h c bytes new) (sym is) (redo_answered bytes new says)
-  answered (Plain Restart) call bytes new is says = subst (λ (c : Call). AnswersCall f h c bytes new) (sym is) (restart_answered bytes new says)
+  answered (Plain Restart) call bytes new is says =
+      subst (λ (c : Call). AnswersCall f h c bytes new) (sym is) (restart_answered bytes new says)
   answered (Plain Solve) call bytes new is says = subst (λ (c : Call). AnswersCall f h c bytes new) (sym is) (solve_answered bytes new says)
   answered (Plain word) call bytes new never says = absurd never
 

@@ -27,7 +27,8 @@ taken line a c h is = subst (λ (x : Command (List ℕ)). IsLineOf x line) is h
 entry_taken : {A : Type 0} (rows : List (List ℕ × A)) (line : List ℕ) (a : A) → entry_at rows line ≡ Some a → IsEntry rows line a
 entry_taken [] line a h = cc
 entry_taken {A} (row ∷ rows) line a h =
-    elim (bytes_eq line row.0) as (λ t. bytes_eq line row.0 ≡ t → cond t (Some row.1) (entry_at rows line) ≡ Some a → IsEntry (row ∷ rows) line a) [
+    elim (bytes_eq line row.0) as (λ t. bytes_eq line row.0 ≡ t → cond t (Some row.1) (entry_at rows line) ≡ Some a
+    → IsEntry (row ∷ rows) line a) [
       | true ↦ λ same e. let is : a ≡ row.1 = cc in inl ((bytes_eq-Decides line row.0).0 same, is)
       | false ↦ λ _ e. inr (entry_taken rows line a e)
     ] refl h
@@ -48,7 +49,8 @@ lacked (row ∷ rows) line a l (inl h) =
     let no : cond (bytes_eq line row.0) false (lacks rows line) ≡ true = l in
     let no' : false ≡ true = rw same at no in cc
 lacked (row ∷ rows) line a l (inr h) =
-    elim (bytes_eq line row.0) as (λ t. cond t false (lacks rows line) ≡ true → ⊥) [ true ↦ λ e. cc | false ↦ λ e. lacked rows line a e h ] l
+    elim (bytes_eq line row.0) as (λ t. cond t false (lacks rows line) ≡ true → ⊥)
+    [ true ↦ λ e. cc | false ↦ λ e. lacked rows line a e h ] l
 
 entry_again : {A : Type 0} (rows : List (List ℕ × A)) (line : List ℕ) (a : A) → differ rows ≡ true → IsEntry rows line a
     → entry_at rows line ≡ Some a
@@ -57,7 +59,8 @@ entry_again (row ∷ rows) line a d (inl h) =
     let same : bytes_eq line row.0 ≡ true = (bytes_eq-Decides line row.0).1 h.0 in
     rw same (ap Some (sym h.1))
 entry_again {A} (row ∷ rows) line a d (inr h) =
-    elim (lacks rows row.0) as (λ t. lacks rows row.0 ≡ t → cond t (differ rows) false ≡ true → cond (bytes_eq line row.0) (Some row.1) (entry_at rows line) ≡ Some a) [
+    elim (lacks rows row.0) as (λ t. lacks rows row.0 ≡ t → cond t (differ rows) false ≡ true
+    → cond (bytes_eq line row.0) (Some row.1) (entry_at rows line) ≡ Some a) [
       | true ↦ λ alone e.
           elim (bytes_eq line row.0) as (λ t. bytes_eq line row.0 ≡ t → cond t (Some row.1) (entry_at rows line) ≡ Some a) [
             | true ↦ λ same. let here : line ≡ row.0 = (bytes_eq-Decides line row.0).0 same in
@@ -92,7 +95,8 @@ front_taken : (front line : List ℕ) (make : List ℕ → Command (List ℕ)) (
     → ((text : List ℕ) → IsLineOf (make text) (front ++ text))
     → option_map make (rest_behind front line) ≡ Some c → IsLineOf c line
 front_taken front line make c w h =
-    fronted front line (λ text. Some (make text)) c (λ text e. let is : make text ≡ c = cc in taken (front ++ text) (make text) c (w text) is)
+    fronted front line (λ text. Some (make text)) c
+    (λ text e. let is : make text ≡ c = cc in taken (front ++ text) (make text) c (w text) is)
     (sym (mapped make (rest_behind front line)) ∙ h)
 
 -- ---- how many solutions are to be listed

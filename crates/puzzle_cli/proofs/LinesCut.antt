@@ -37,7 +37,8 @@ lines_of ps = map (λ segment. as_line (unless_long segment)) ps
 join-segments : (bytes : List ℕ) → join [] (segments bytes) ≡ segments bytes
 join-segments [] = refl
 join-segments (b ∷ bs) =
-    elim (b == 10) as (λ t. join [] (if t then [] ∷ segments bs else onto b (segments bs)) ≡ (if t then [] ∷ segments bs else onto b (segments bs)))
+    elim (b == 10) as (λ t. join [] (if t then [] ∷ segments bs else onto b (segments bs))
+    ≡ (if t then [] ∷ segments bs else onto b (segments bs)))
     [ true ↦ refl | false ↦ elim (segments bs) as (λ ps. join [] (onto b ps) ≡ onto b ps) [ [] ↦ refl | p ∷ ps ↦ refl ] ]
 
 join-onto : (front : List ℕ) (b : ℕ) (ps : List (List ℕ)) → join front (onto b ps) ≡ join (front ++ b ∷ []) ps
@@ -70,4 +71,5 @@ front-push lines line =
 
 pub ended_lines-by-parts : (bytes : List ℕ) → ended_lines bytes ≡ ended_from (Some []) bytes
 ended_lines-by-parts bytes =
-    ap (λ l. take (length l - 1) l) (all_lines-by-parts bytes) ∙ front-push (ended_from (Some []) bytes) (as_line (last_from (Some []) bytes))
+    ap (λ l. take (length l - 1) l) (all_lines-by-parts bytes)
+    ∙ front-push (ended_from (Some []) bytes) (as_line (last_from (Some []) bytes))

@@ -14,7 +14,8 @@ module _ (quit : Line → Bool) where
   pub has_quit-append : (xs ys : List Line) → has_quit quit xs ≡ false → has_quit quit (xs ++ ys) ≡ has_quit quit ys
   has_quit-append [] ys h = refl
   has_quit-append (x ∷ xs) ys h =
-      elim (quit x) as (λ t. (if t then true else has_quit quit xs) ≡ false → (if t then true else has_quit quit (xs ++ ys)) ≡ has_quit quit ys)
+      elim (quit x) as (λ t. (if t then true else has_quit quit xs) ≡ false
+      → (if t then true else has_quit quit (xs ++ ys)) ≡ has_quit quit ys)
       [ true ↦ λ e. cc | false ↦ λ e. has_quit-append xs ys e ] h
 
   pub has_quit-more : (xs ys : List Line) → has_quit quit xs ≡ true → has_quit quit (xs ++ ys) ≡ true
@@ -32,13 +33,15 @@ module _ (quit : Line → Bool) where
   pub before_quit-append : (xs ys : List Line) → has_quit quit xs ≡ false → before_quit quit (xs ++ ys) ≡ xs ++ before_quit quit ys
   before_quit-append [] ys h = refl
   before_quit-append (x ∷ xs) ys h =
-      elim (quit x) as (λ t. (if t then true else has_quit quit xs) ≡ false → (if t then [] else x ∷ before_quit quit (xs ++ ys)) ≡ x ∷ (xs ++ before_quit quit ys))
+      elim (quit x) as (λ t. (if t then true else has_quit quit xs) ≡ false
+      → (if t then [] else x ∷ before_quit quit (xs ++ ys)) ≡ x ∷ (xs ++ before_quit quit ys))
       [ true ↦ λ e. cc | false ↦ λ e. ap (λ l. x ∷ l) (before_quit-append xs ys e) ] h
 
   pub before_quit-more : (xs ys : List Line) → has_quit quit xs ≡ true → before_quit quit (xs ++ ys) ≡ before_quit quit xs
   before_quit-more [] ys h = cc
   before_quit-more (x ∷ xs) ys h =
-      elim (quit x) as (λ t. (if t then true else has_quit quit xs) ≡ true → (if t then [] else x ∷ before_quit quit (xs ++ ys)) ≡ (if t then [] else x ∷ before_quit quit xs))
+      elim (quit x) as (λ t. (if t then true else has_quit quit xs) ≡ true
+      → (if t then [] else x ∷ before_quit quit (xs ++ ys)) ≡ (if t then [] else x ∷ before_quit quit xs))
       [ true ↦ λ e. refl | false ↦ λ e. ap (λ l. x ∷ l) (before_quit-more xs ys e) ] h
 
 -- ---- one list of lines after another

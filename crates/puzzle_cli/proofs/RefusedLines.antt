@@ -51,7 +51,8 @@ module _ {P : Type 0} (f : GameFacts P) (h : History P) (text : List ℕ) where
       → IsRefusal (played (f.rules.puzzle h.puzzle) h m) fault
       → Explains (RequestGives f h (Make text)) (RequestTakesMemory f h (Make text)) refusal
   move_refused m refusal fault refused spelled why =
-      subst (λ (r : Refusal). Explains (RequestGives f h (Make text)) (RequestTakesMemory f h (Make text)) r) (sym refused) (by_fault m fault spelled why)
+      subst (λ (r : Refusal). Explains (RequestGives f h (Make text)) (RequestTakesMemory f h (Make text)) r) (sym refused)
+      (by_fault m fault spelled why)
 
 -- a line that is no command's
 pub unread : {P : Type 0} (f : GameFacts P) (old : Option (History P)) (line : Line) (fault : LineFault) (refusal : Refusal)

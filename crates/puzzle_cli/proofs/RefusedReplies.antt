@@ -33,7 +33,8 @@ module _ {P : Type 0} (f : GameFacts P) (bytes name : List ℕ) (new : Option (H
   sentence_stays h fault None e = absurd (said_or_refused bytes new (OfPlay fault) (sym e))
 
   solve_refused : (h : History P) (exact : Result (History P) PlayFault) → SolveSays h exact (Ok (bytes, new)) → new ≡ Some h
-  solve_refused h (Ok k) (g, with, e) = absurd (not_solution bytes name g (sym (outcome_parts (move_line (Filling g)) bytes (Some k) new e).0) named)
+  solve_refused h (Ok k) (g, with, e) =
+      absurd (not_solution bytes name g (sym (outcome_parts (move_line (Filling g)) bytes (Some k) new e).0) named)
   solve_refused h (Err fault) e = sentence_stays h fault (solve_sentence fault) e
 
   request_refused : (h : History P) (request : Request (List ℕ)) → RequestGives f h request (Ok (bytes, new)) → new ≡ Some h

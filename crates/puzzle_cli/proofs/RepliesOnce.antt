@@ -42,7 +42,8 @@ use Rattle.puzzle_cli.proofs.ListedOnce.{first_once}
 -- ---- moves
 
 pub move_read_once : (text : List ℕ) (one other : Result Move PlayFault) → IsMoveRead text one → IsMoveRead text other → one ≡ other
-move_read_once text (Ok m) (Ok k) h l = let a : move_by text ≡ Some m = move_again text m h in let b : move_by text ≡ Some k = move_again text k l in cc
+move_read_once text (Ok m) (Ok k) h l =
+    let a : move_by text ≡ Some m = move_again text m h in let b : move_by text ≡ Some k = move_again text k l in cc
 move_read_once text (Ok m) (Err e) h l = absurd (l.0 m h)
 move_read_once text (Err e) (Ok m) h l = absurd (h.0 m l)
 move_read_once text (Err e) (Err d) h l = ap Err (h.1 ∙ sym l.1)
@@ -72,9 +73,11 @@ module _ {P : Type 0} (p : Puzzle) (h : History P) where
   solves_once one other (inl a) (inr (inr b)) = absurd (a.0 b.0 b.1.solves)
   solves_once one other (inr (inl a)) (inl b) = absurd (b.0 a.0.one a.0.one_solves)
   solves_once one other (inr (inl a)) (inr (inl b)) = a.1 ∙ sym b.1
-  solves_once one other (inr (inl a)) (inr (inr b)) = absurd (a.0.differ (b.1.only a.0.one a.0.one_solves ∙ sym (b.1.only a.0.other a.0.other_solves)))
+  solves_once one other (inr (inl a)) (inr (inr b)) =
+      absurd (a.0.differ (b.1.only a.0.one a.0.one_solves ∙ sym (b.1.only a.0.other a.0.other_solves)))
   solves_once one other (inr (inr a)) (inl b) = absurd (b.0 a.0 a.1.solves)
-  solves_once one other (inr (inr a)) (inr (inl b)) = absurd (b.0.differ (a.1.only b.0.one b.0.one_solves ∙ sym (a.1.only b.0.other b.0.other_solves)))
+  solves_once one other (inr (inr a)) (inr (inl b)) =
+      absurd (b.0.differ (a.1.only b.0.one b.0.one_solves ∙ sym (a.1.only b.0.other b.0.other_solves)))
   solves_once one other (inr (inr a)) (inr (inr b)) =
       a.2 ∙ ap (λ (g : GridValue). unless_refused (full_refusal h.position) (with_move h (Filling g))) (b.1.only a.0 a.1.solves) ∙ sym b.2
 
@@ -165,10 +168,15 @@ module _ {P : Type 0} (f : GameFacts P) (laws : ItemLaws f.rules) (ids : IdsAreR
   writes_once : (old : Option (History P)) (read : Reading (List ℕ)) (a b : List ℕ) (m n : Option (History P))
       → Writes (ReadGives f old read) old a m → Writes (ReadGives f old read) old b n → (a ≡ b) × (m ≡ n)
   writes_once old read a b m n (inl x) (inl y) = outcome_parts a b m n (gives_once old read (Ok (a, m)) (Ok (b, n)) x y)
-  writes_once old read a b m n (inl x) (inr (refusal, y, z, w)) = absurd (said_or_refused a m refusal (gives_once old read (Ok (a, m)) (Err refusal) x y))
-  writes_once old read a b m n (inr (refusal, x, z, w)) (inl y) = absurd (said_or_refused b n refusal (gives_once old read (Ok (b, n)) (Err refusal) y x))
-  writes_once old read a b m n (inr (r, x, name, stays)) (inr (s, y, called, rests)) =
-      (name ∙ ap (λ (q : Refusal). refusal_line (refusal_name q)) (refusal_parts P r s (gives_once old read (Err r) (Err s) x y)) ∙ sym called, stays ∙ sym rests)
+  writes_once old read a b m n (inl x) (inr (refusal, y, z, w)) =
+      absurd (said_or_refused a m refusal (gives_once old read (Ok (a, m)) (Err refusal) x y))
+  writes_once old read a b m n (inr (refusal, x, z, w)) (inl y) =
+      absurd (said_or_refused b n refusal (gives_once old read (Ok (b, n)) (Err refusal) y x))
+  writes_once old read a b m n (inr (r, x, name, stays)) (inr (s, y, called, rests)) = (
+    name ∙ ap (λ (q : Refusal). refusal_line (refusal_name q))
+        (refusal_parts P r s (gives_once old read (Err r) (Err s) x y)) ∙ sym called,
+    stays ∙ sym rests,
+  )
 
   reply_once : (old : Option (History P)) (line : Line) (a b : List ℕ) (m n : Option (History P))
       → AmpleReply f old line a m → AmpleReply f old line b n → (a ≡ b) × (m ≡ n)
@@ -181,6 +189,7 @@ module _ {P : Type 0} (f : GameFacts P) (laws : ItemLaws f.rules) (ids : IdsAreR
   output_once [] old m n a b (none, stays) (nothing, rests) = (none ∙ sym nothing, stays ∙ sym rests)
   output_once (line ∷ lines) old m n a b (x, mid, rest, said, whole, runs) (y, then, more, told, all, goes) =
       let once = reply_once old line x y mid then said told in
-      let goes_on : RepliesInTurn (AmpleReply f) lines mid more n = subst (λ (s : Option (History P)). RepliesInTurn (AmpleReply f) lines s more n) (sym once.1) goes in
+      let goes_on : RepliesInTurn (AmpleReply f) lines mid more n =
+      subst (λ (s : Option (History P)). RepliesInTurn (AmpleReply f) lines s more n) (sym once.1) goes in
       let later = output_once lines mid m n rest more runs goes_on in
       (whole ∙ ap (λ l. l ++ rest) once.0 ∙ ap (λ l. y ++ l) later.0 ∙ sym all, later.1)

@@ -1,4 +1,4 @@
--- Pieces with a byte between each two, with one piece more.
+-- Symbols with a byte between each two, and one symbol more.
 use Rattle.std.proofs.Common.{◌≡◌, ℕ, zero, suc, ◌+◌, ◌<◌, List, [], ◌∷◌, ◌++◌, map, take, length, get_or, refl, ap, sym, ◌∙◌, arith, ◌≤◌, append_assoc, append-nil, add-one, take-suc}
 use Rattle.std.specs.List.{join_with_byte}
 use Rattle.std.proofs.lemmas.List.{map-append}

@@ -1,16 +1,16 @@
 -- No call of a session is exactly refused for want of memory.
-use Rattle.std.proofs.Common.{◌≡◌, ◌≢◌, ℕ, ◌==◌, ◌&&◌, ◌||◌, nat_lt, not, if◌then◌else◌, Bool, true, false, Option, Some, None, Err, refl, sym, inl, inr}
+use Rattle.std.proofs.Common.{◌≡◌, ◌≢◌, ℕ, ◌==◌, ◌&&◌, ◌||◌, nat_lt, not, if◌then◌else◌, Bool, true, false, Option, Some, None, Result, Ok, Err, ◌+◌, ◌-◌, length, refl, sym, inl, inr}
 use Rattle.std.specs.Option.{option_or}
 use Rattle.latin_board.specs.Boards.{BoardValue}
 use Rattle.trail_solver.specs.Puzzles.{Puzzle, solves_test}
 use Rattle.play_midend.specs.declared.fault.PlayFault.{PlayFault}
-use Rattle.play_midend.specs.declared.fault.PlayFault.TheVariants.{OffGrid, OffRange, GivenSquare, FilledSquare, BadSolution, HistoryFull, OutOfMemory, NothingToRestart}
+use Rattle.play_midend.specs.declared.fault.PlayFault.TheVariants.{OffGrid, OffRange, GivenSquare, FilledSquare, BadSolution, HistoryFull, OutOfMemory, NothingToRestart, NothingToUndo, NothingToRedo}
 use Rattle.play_midend.specs.declared.moves.Move.{Move}
 use Rattle.play_midend.specs.declared.moves.Move.TheVariants.{Real, Pencil, MarkAll, Solve as Filling, Restart as Back, Done as Marking}
 use Rattle.latin_board.specs.Squares.{number_at}
 use Rattle.latin_board.specs.Boards.{grid_of}
 use Rattle.play_midend.specs.Steps.{entry_refusal, mark_refusal, refusal_of, has_clue, cell_of, is_restart, unless_refused}
-use Rattle.play_midend.specs.Histories.{most_states, shown, with_move, refusal_in, restart_refusal, full_refusal, History, IsRefusal, played, restarted, SolveGives}
+use Rattle.play_midend.specs.Histories.{at_position, undone, redone, most_states, shown, with_move, refusal_in, restart_refusal, full_refusal, History, IsRefusal, played, restarted, SolveGives}
 
 -- ---- no call of a session is exactly refused for want of memory
 
@@ -53,7 +53,8 @@ refusal_spares (Some fault) a spares = λ e. let is : Some fault ≡ Some OutOfM
 pub played_spares : {P : Type 0} (p : Puzzle) (h : History P) (m : Move) → played p h m ≢ Err OutOfMemory
 played_spares p h m =
     refusal_spares (refusal_in p h m) (with_move h m)
-    (either_spares (if is_restart m then restart_refusal h.position else None) (option_or (refusal_of p (shown p h) m) (full_refusal h.position))
+    (either_spares (if is_restart m then restart_refusal h.position else None)
+    (option_or (refusal_of p (shown p h) m) (full_refusal h.position))
     (if_spares (is_restart m) (restart_refusal h.position) None (restart_spares h.position) (λ e. cc))
     (either_spares (refusal_of p (shown p h) m) (full_refusal h.position) (move_spares p (shown p h) m) (full_spares h.position)))
 
@@ -61,6 +62,17 @@ pub restarted_spares : {P : Type 0} (h : History P) → restarted h ≢ Err OutO
 restarted_spares h =
     refusal_spares (option_or (restart_refusal h.position) (full_refusal h.position)) (with_move h Back)
     (either_spares (restart_refusal h.position) (full_refusal h.position) (restart_spares h.position) (full_spares h.position))
+
+test_spares : {A : Type 0} (test : Bool) (fault : PlayFault) (a : A) → fault ≢ OutOfMemory
+    → (let exact : Result A PlayFault = if test then Err fault else Ok a in exact ≢ Err OutOfMemory)
+test_spares true fault a spares = λ e. let is : fault ≡ OutOfMemory = cc in spares is
+test_spares false fault a spares = λ e. cc
+
+pub undone_spares : {P : Type 0} (h : History P) → undone h ≢ Err OutOfMemory
+undone_spares h = test_spares (h.position == 1) NothingToUndo (at_position h (h.position - 1)) (λ e. cc)
+
+pub redone_spares : {P : Type 0} (h : History P) → redone h ≢ Err OutOfMemory
+redone_spares h = test_spares (h.position == length h.moves + 1) NothingToRedo (at_position h (h.position + 1)) (λ e. cc)
 
 pub solved_spares : {P : Type 0} (p : Puzzle) (h : History P) → SolveGives p h (Err OutOfMemory) → ⊥
 solved_spares p h (inl a) = let e = a.1 in cc

@@ -98,13 +98,15 @@ module _ {P : Type 0} (f : GameFacts P) (laws : ItemLaws f.rules) (bytes : List 
       → IdBegins f read (Ok k) → IsStorable f.rules.puzzle f.rules.valid f.letters k
   begins_storable text k (Ok (Described params puzzle)) (letters, (desc, spelled, (describes, valid, size))) e =
       new_storable params puzzle k letters valid (sym size) cc
-  begins_storable text k (Ok (Seeded params seed)) (letters, within, spelled) (made, gives, e) = generated_storable params seed k made letters gives e
+  begins_storable text k (Ok (Seeded params seed)) (letters, within, spelled) (made, gives, e) =
+      generated_storable params seed k made letters gives e
   begins_storable text k (Err fault) is e = cc
 
   begun_storable : (text : List ℕ) (exact : Result (History P) StartFault) → TextBegins f text exact
       → begun exact ≡ Ok (bytes, new) → IsNoneOrStorable f new
   begun_storable text (Ok k) (read, is, e) said =
-      subst (λ (o : Option (History P)). IsNoneOrStorable f o) (outcome_parts ok_line bytes (Some k) new said).1 (begins_storable text k read is e)
+      subst (λ (o : Option (History P)). IsNoneOrStorable f o) (outcome_parts ok_line bytes (Some k) new said).1
+      (begins_storable text k read is e)
   begun_storable text (Err fault) begins said = absurd (said_or_refused bytes new (OfStart fault) (sym said))
 
   read_storable : (old : Option (History P)) (read : Reading (List ℕ)) → IsNoneOrStorable f old
@@ -118,5 +120,6 @@ module _ {P : Type 0} (f : GameFacts P) (laws : ItemLaws f.rules) (bytes : List 
 
 pub replies_stay_storable : {P : Type 0} (f : GameFacts P) → ItemLaws f.rules → RepliesStayStorable f
 replies_stay_storable f laws old new line bytes s (inl (read, is, inl gives)) = read_storable f laws bytes new old read s gives
-replies_stay_storable f laws old new line bytes s (inl (read, is, inr (refusal, gives, called, stays))) = kept_storable f laws bytes new old stays s
+replies_stay_storable f laws old new line bytes s (inl (read, is, inr (refusal, gives, called, stays))) =
+    kept_storable f laws bytes new old stays s
 replies_stay_storable f laws old new line bytes s (inr (read, is, takes, called, stays)) = kept_storable f laws bytes new old stays s

@@ -3,7 +3,6 @@ use Rattle.std.specs.Prelude.{ℕ, List, [], ◌++◌, codes}
 use Rattle.std.specs.Fmt.{decimal}
 use Rattle.clue_rules.specs.IdFaults.{id_fault_name}
 use Rattle.puzzle_gen.specs.GenFaults.{gen_fault_name}
-use Rattle.play_save.specs.declared.fault.LoadFault.{LoadFault}
 use Rattle.play_save.specs.declared.fault.LoadFault.TheVariants.{BadState}
 use Rattle.play_save.specs.Faults.{load_fault_name}
 use Rattle.puzzle_cli.specs.declared.start_fault.StartFault.{StartFault}
@@ -29,13 +28,11 @@ start_fault_status (Load fault) = 3
 start_fault_status OutOfMemory = 1
 
 -- the index of the state record that is meant, where one is
-abbrev pub load_fault_index : LoadFault → List ℕ
-load_fault_index (BadState index) = codes " " ++ decimal index
-load_fault_index _ = []
+abbrev pub state_index_text : StartFault → List ℕ
+state_index_text (Load (BadState index)) = codes " " ++ decimal index
+state_index_text _ = []
 
 -- the line on standard error, without its LF
 abbrev pub start_fault_line : StartFault → List ℕ
-start_fault_line (Id fault) = codes "refused: " ++ id_fault_name fault
-start_fault_line (Gen fault) = codes "refused: " ++ gen_fault_name fault
-start_fault_line (Load fault) = codes "refused: " ++ load_fault_name fault ++ load_fault_index fault
 start_fault_line OutOfMemory = codes "out of memory"
+start_fault_line fault = codes "refused: " ++ start_fault_name fault ++ state_index_text fault

@@ -56,7 +56,8 @@ number_in : (w row column : ℕ) (rows columns symbols : List ℕ) → row < w �
 number_in w row column rows columns symbols low left =
     get_or-map-range_with_len (seeded_number w rows columns symbols) 0 (w * w) (row * w + column) (row * w + column) 0
     (mul-add-lt row w column w low left) (omega arith)
-    ∙ ap (λ (r : ℕ). get_or symbols ((get_or rows r 0 + get_or columns ((row * w + column) % w) 0) % w) 0 + 1) (div-mul-add row w column left)
+    ∙ ap (λ (r : ℕ). get_or symbols ((get_or rows r 0 + get_or columns ((row * w + column) % w) 0) % w) 0 + 1)
+    (div-mul-add row w column left)
     ∙ ap (λ (c : ℕ). get_or symbols ((get_or rows row 0 + get_or columns c 0) % w) 0 + 1) (mod-mul-add row w column left)
 
 pub latin_combined : (w : ℕ) (rows columns symbols : List ℕ) → 0 < w → IsOrder w rows → IsOrder w columns → IsOrder w symbols

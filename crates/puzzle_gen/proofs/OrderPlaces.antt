@@ -103,5 +103,13 @@ pub length_range_made : (n : ℕ) (xs : List ℕ) → xs ≡ range_with_len 0 n 
 length_range_made n xs made = ap length made ∙ length-range_with_len 0 n
 
 -- a list that is written over as a whole
-pub refill_whole : (xs ws : List ℕ) → length ws ≡ length xs → refill (length xs) xs ws ≡ ws
+refill_whole : (xs ws : List ℕ) → length ws ≡ length xs → refill (length xs) xs ws ≡ ws
 refill_whole xs ws same = rw (← same) (take-append_seam ws (drop (length ws) xs))
+
+-- the first n numbers, put into an order through a reference to them
+pub refilled : (n : ℕ) (first lent order : List ℕ) → first ≡ range_with_len 0 n → lent ≡ first → IsOrder (length lent) order
+    → (length lent ≡ n) × (refill (length first) first order ≡ order) × IsOrder n (refill (length first) first order)
+refilled n first lent order made same is =
+    let count = ap length same ∙ length_range_made n first made in
+    let whole = refill_whole first order (is.count ∙ ap length same) in
+    (count, whole, subst (IsOrder n) (sym whole) (subst (λ (k : ℕ). IsOrder k order) count is))

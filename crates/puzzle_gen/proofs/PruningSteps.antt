@@ -195,7 +195,8 @@ pruned_goes {P} f g order k i p q cuts is_order small here so_far single gone =
             )
         | inr earlier ↦
             let is_earlier : place_in j order < k = omega arith in
-            let other : j ≢ i = λ same. (let e : place_in j order ≡ place_in i order = ap (λ (m : ℕ). place_in m order) same in omega arith) in
+            let other : j ≢ i =
+            λ same. (let e : place_in j order ≡ place_in i order = ap (λ (m : ℕ). place_in m order) same in omega arith) in
             let Kept : Bool → Type 0 = λ b. IsTrue b ↔ HasTwo (f.puzzle (rest_puzzle f g order p j)) in
             let Rest : P → Type 0 = λ r. IsTrue (f.has q j) ↔ HasTwo (f.puzzle r) in
             subst Rest (sym (same_rest j small_j (omega arith)))

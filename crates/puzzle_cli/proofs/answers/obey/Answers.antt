@@ -8,4 +8,5 @@ pub returns-in_err-read_command-clause-why : goal.returns-in_err-read_command-cl
 returns-in_err-read_command-clause-why g c =
     let f = facts_of g.P.Rules g.P.Game g.P.Draw in
     let e = err_from_is_err_and c.from_residual.result c.from_residual.ensures.1 in
-    rw e.1 (unread f c.args.session.now (option_copied c.args.line) c.in_err-read_command.field-0.0 e.0 c.in_err-read_command.ensures.read e.2)
+    rw e.1 (unread f c.args.session.now (option_copied c.args.line) c.in_err-read_command.field-0.0 e.0
+    c.in_err-read_command.ensures.read e.2)

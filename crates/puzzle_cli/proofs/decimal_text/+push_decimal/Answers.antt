@@ -9,7 +9,9 @@ push_decimal-requires t c = (omega arith, omega (arith, length_step c.args.n (om
 pub push_digit-requires-clause-room : goal.push_digit-requires-clause-room
 push_digit-requires-clause-room t c =
     elim c.if-n-ge10.branch [
-      | then-n-ge10 w ↦ rw w.text-is (omega (arith, length_step c.args.n (omega arith) (omega arith), ap length w.push_decimal.ensures, length-append {A = ℕ}))
+      | then-n-ge10 w ↦
+          let digits = length_step c.args.n (omega arith) (omega arith) in
+          rw w.text-is (omega (arith, digits, ap length w.push_decimal.ensures, length-append {A = ℕ}))
       | else-n-ge10 w ↦ rw w.text-is (omega (arith, length_digit c.args.n (omega arith)))
     ]
 

@@ -9,10 +9,16 @@ use Rattle.byte_text.specs.Bytes.{digit}
 pub loop-n-preserved : goal.loop-n-preserved
 loop-n-preserved c =
     elim c.if-has.branch [
-      | then-has w ↦ let has : has_mark c.args.marks c.loop-n.n ≡ true = cc in
-          (filter_kept digit (has_mark c.args.marks) _ _ 1 (c.loop-n.n - 1) _ _ (omega arith) (omega arith) has c.loop-n.invariant.0 (cc), rw w.digits-is (omega arith))
-      | else-has w ↦ let lacks : has_mark c.args.marks c.loop-n.n ≡ false = cc in
-          (filter_dropped digit (has_mark c.args.marks) _ _ 1 (c.loop-n.n - 1) _ _ (omega arith) (omega arith) lacks c.loop-n.invariant.0 (cc), rw w.digits-is (omega arith))
+      | then-has w ↦ let has : has_mark c.args.marks c.loop-n.n ≡ true = cc in (
+        filter_kept digit (has_mark c.args.marks) _ _ 1 (c.loop-n.n - 1) _ _ (omega arith)
+            (omega arith) has c.loop-n.invariant.0 (cc),
+        rw w.digits-is (omega arith),
+      )
+      | else-has w ↦ let lacks : has_mark c.args.marks c.loop-n.n ≡ false = cc in (
+        filter_dropped digit (has_mark c.args.marks) _ _ 1 (c.loop-n.n - 1) _ _ (omega arith)
+            (omega arith) lacks c.loop-n.invariant.0 (cc),
+        rw w.digits-is (omega arith),
+      )
     ]
 
 pub returns : goal.returns

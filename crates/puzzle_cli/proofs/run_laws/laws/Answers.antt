@@ -1,5 +1,3 @@
-use Rattle.std.proofs.Common.{ℕ, List}
-use Rattle.clue_rules.specs.declared.game_id.GameId.{GameId}
 use Rattle.clue_rules.specs.Parameters.{has_adjacent}
 use Rattle.clue_rules.specs.GameIds.{describes_at}
 use Rattle.clue_rules.proofs.GameIdLemmas.{id_again, game_reads}
@@ -23,8 +21,9 @@ returns-clause-one_output g c =
     let D = g.row.P.Denot in
     let is_desc = describes_at f.rules.puzzle f.rules.valid f.describes in
     let reads = game_reads D f.rules.puzzle f.rules.valid f.describes f.desc_at g.met.P.Game.desc_taken g.met.P.Game.desc_again in
-    let again = λ (text : List ℕ) (id : GameId D). id_again D f.letters (has_adjacent f.title) f.desc_at is_desc text id g.met.P.Game.plain_letters reads in
-    output_once f (laws_of g.met.P.Rules) (ids_once f again)
+    let ids = ids_once f (λ text id. id_again D f.letters (has_adjacent f.title) f.desc_at is_desc text id
+    g.met.P.Game.plain_letters reads) in
+    output_once f (laws_of g.met.P.Rules) ids
 
 pub returns-clause-stays_storable : goal.returns-clause-stays_storable
 returns-clause-stays_storable g c = replies_stay_storable (facts_of g.P.Rules g.P.Game g.P.Draw) (laws_of g.met.P.Rules)

@@ -6,8 +6,12 @@ use Rattle.puzzle_cli.proofs.symbols.push_spaced_line.Goals.{then-i-gt0+in_ok-pu
 pub loop-i-preserved : goal.loop-i-preserved
 loop-i-preserved c =
     elim c.if-i-gt0.branch [
-      | then-i-gt0+in_ok-push w ↦ joined_more 32 c.args.symbols.now c.loop-i.i c.args.text.now.items c.loop-i.text.items _ (omega arith) (omega arith) c.loop-i.invariant
-          (c.in_ok-push-2.ensures.items ∙ rw w.text-is (ap (λ front. front ++ get_or c.args.symbols.now c.loop-i.i 0 ∷ []) w.in_ok-push.ensures.items))
-      | else-i-gt0 w ↦ joined_first 32 c.args.symbols.now c.loop-i.i c.args.text.now.items c.loop-i.text.items _ (omega arith) (omega arith) c.loop-i.invariant
-          (c.in_ok-push-2.ensures.items ∙ rw w.text-is)
+      | then-i-gt0+in_ok-push w ↦
+          joined_more 32 c.args.symbols.now c.loop-i.i c.args.text.now.items c.loop-i.text.items _ (omega arith) (omega arith)
+          c.loop-i.invariant
+          (c.in_ok-push-2.ensures.items
+          ∙ rw w.text-is (ap (λ front. front ++ get_or c.args.symbols.now c.loop-i.i 0 ∷ []) w.in_ok-push.ensures.items))
+      | else-i-gt0 w ↦
+          joined_first 32 c.args.symbols.now c.loop-i.i c.args.text.now.items c.loop-i.text.items _ (omega arith) (omega arith)
+          c.loop-i.invariant (c.in_ok-push-2.ensures.items ∙ rw w.text-is)
     ]

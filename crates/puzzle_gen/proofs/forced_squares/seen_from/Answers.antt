@@ -11,4 +11,5 @@ loop-k-preserved c =
     seen_more found cell c.get-in-loop-k.result (slice_set c.loop-k.seen c.get.result true)
     (seen_more found cell c.get.result c.loop-k.seen c.loop-k.invariant
     (row_read found cell c.loop-k.k c.get-width.result c.get.result width c.requires.inside left c.requires.blank c.get.ensures.value))
-    (column_read found cell c.loop-k.k c.get-width.result c.get-in-loop-k.result width c.requires.inside left c.requires.blank c.get-in-loop-k.ensures.value)
+    (column_read found cell c.loop-k.k c.get-width.result c.get-in-loop-k.result width
+    c.requires.inside left c.requires.blank c.get-in-loop-k.ensures.value)

@@ -18,7 +18,8 @@ returns-clause-pruned g c =
       | inl stays ↦
           let To : g.row.P.Denot → Type 0 = λ p. IsPrunedTo g.P.Rules square order (c.args.k + 1) p in
           subst To (sym stays.0)
-          (pruned_stays g.P.Rules square order c.args.k item c.args.puzzle c.requires.cuts c.requires.order small here c.requires.so_far stays.1)
+          (pruned_stays g.P.Rules square order c.args.k item c.args.puzzle c.requires.cuts c.requires.order small here
+          c.requires.so_far stays.1)
       | inr goes ↦
           pruned_goes g.P.Rules square order c.args.k item c.args.puzzle c.tried.result c.requires.cuts c.requires.order small here
           c.requires.so_far goes.1 goes.0
@@ -27,7 +28,9 @@ returns-clause-pruned g c =
 pub returns-clause-valid : goal.returns-clause-valid
 returns-clause-valid g c = elim c.tried.ensures [
   | inl stays ↦ subst g.P.Rules.valid (sym stays.0) c.size-size.ensures.valid
-  | inr goes ↦ subst g.P.Rules.valid (sym goes.0) (g.met.P.Rules.cut_valid c.args.puzzle (all_but c.item_at.result) c.size-size.ensures.valid)
+  | inr goes ↦
+      subst g.P.Rules.valid (sym goes.0)
+      (g.met.P.Rules.cut_valid c.args.puzzle (all_but c.item_at.result) c.size-size.ensures.valid)
 ]
 
 pub returns-clause-size : goal.returns-clause-size

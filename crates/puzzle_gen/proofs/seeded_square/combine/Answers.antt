@@ -14,4 +14,5 @@ pub returns-clause-latin : goal.returns-clause-latin
 returns-clause-latin c =
     let some : 0 < c.args.size = omega arith in
     subst IsLatin (sym (returns-clause-value c))
-    (latin_combined c.args.size c.args.rows.now c.args.columns.now c.args.symbols.now some c.requires.rows c.requires.columns c.requires.symbols)
+    (latin_combined c.args.size c.args.rows.now c.args.columns.now c.args.symbols.now
+    some c.requires.rows c.requires.columns c.requires.symbols)
