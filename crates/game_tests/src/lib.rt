@@ -1,31 +1,11 @@
 //! Tests that cross crates: games as tables of lines and replies, played over devices in memory.
+//!
+//! Each file of `tests` has one subject, and each test there is a game, line by line. A new one is a row more, or a test more:
+//!
+//! ```
+//! check_small_game(&rt, rt.alloc(), &[("move R0,0,1", "ok"), ("undo", "ok"), ("undo", "refused: NothingToUndo")])
+//! ```
 #![tactic(auto)]
 
 #[cfg(test)]
-mod calls;
-#[cfg(test)]
-mod devices;
-#[cfg(test)]
-mod done_clues;
-#[cfg(test)]
-mod flushes;
-#[cfg(test)]
-mod histories;
-#[cfg(test)]
-mod ids;
-#[cfg(test)]
-mod lines;
-#[cfg(test)]
-mod moves;
-#[cfg(test)]
-mod pictures;
-#[cfg(test)]
-mod saving;
-#[cfg(test)]
-mod script;
-#[cfg(test)]
-mod sessions;
-#[cfg(test)]
-mod solving;
-#[cfg(test)]
-mod starts;
+mod tests;

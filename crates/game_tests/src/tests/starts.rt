@@ -21,19 +21,6 @@ MOVE    :6:R0,0,1
 MOVE    :6:R1,0,2
 ";
 
-// The same, where the second move is off the grid.
-const BAD_SECOND_MOVE: &str = "SAVEFILE:41:Simon Tatham's Portable Puzzle Collection
-VERSION :1:1
-GAME    :6:Towers
-PARAMS  :1:3
-CPARAMS :1:3
-DESC    :13:3//////3/////
-NSTATES :1:3
-STATEPOS:1:2
-MOVE    :6:R0,0,1
-MOVE    :6:R9,0,2
-";
-
 const KEPT_BYTES: &str = "SAVEFILE:41:Simon Tatham's Portable Puzzle Collection\r
 VERSION :1:1\r
 GAME    :6:Towers\r
@@ -196,8 +183,9 @@ fn check_start<P: Draw>(
 }
 
 #[test]
-fn starts_that_are_refused(rt: HostRuntime) {
+fn starts_that_are_refused(rt: HostRuntime) -> Result<(), Fail> {
     let alloc = rt.alloc();
+    let off_the_grid = SAVED.replace(alloc, "R1,0,2", "R9,0,2")?;
     check_start::<Towers>(
         &rt,
         alloc,
@@ -229,11 +217,12 @@ fn starts_that_are_refused(rt: HostRuntime) {
         &rt,
         alloc,
         None,
-        Some(BAD_SECOND_MOVE),
+        Some(off_the_grid.as_str()),
         3,
         "BadState",
         "refused: BadState 2",
     );
+    Ok(())
 }
 
 #[test]

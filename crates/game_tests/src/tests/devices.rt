@@ -1,23 +1,12 @@
 //! Reads, writes and flushes that fail, and full sinks.
 
-use crate::script::{EASY, Pace, Played, check_status, input_of, output_of, play};
+use super::script::{EASY, FIRST_RUN, Pace, Played, Transcript, check_status, failing_at, play};
 use clue_rules::Towers;
 use puzzle_cli::End;
 use std::process::Abort;
 use std::test::Fail;
 
-const FIRST_RUN: [(&str, &str); 5] = [
-    ("new 3:3//////3/////", "ok"),
-    ("move R0,0,1", "ok"),
-    ("undo", "ok"),
-    (
-        "show",
-        "+ 3 - - +\n3 . . . -\n- . . . -\n- . . . -\n+ - - - +",
-    ),
-    ("undo", "refused: NothingToUndo"),
-];
-
-// The status behind each of those lines.
+// The status behind each line of the first run.
 const STATUSES: [&str; 5] = [
     "playing 1/1",
     "playing 2/2",
@@ -36,11 +25,7 @@ fn compare(rt: &impl Abort, played: &Played<Towers>, end: End, written: &[u8], s
 fn a_line_that_a_fault_cuts_has_no_reply(rt: HostRuntime) -> Result<(), Fail> {
     let alloc = rt.alloc();
     let input = b"new 3:3//////3/////\nund";
-    let fails = Pace {
-        piece: 512,
-        fails_at: 2,
-    };
-    let played = play::<Towers>(&rt, alloc, input, fails, EASY, 512)?;
+    let played = play::<Towers>(&rt, alloc, input, failing_at(2), EASY, 512)?;
     compare(&rt, &played, End::ReadFault, b"ok\n", "playing 1/1");
     let played = play::<Towers>(&rt, alloc, input, EASY, EASY, 512)?;
     compare(
@@ -60,11 +45,7 @@ fn a_long_line_that_a_fault_cuts_has_no_reply(rt: HostRuntime) -> Result<(), Fai
     for (line_end, written) in table {
         let mut input = vec![in rt.alloc(); b'x'; 1_025]?;
         input.extend_from_slice(line_end)?;
-        let fails = Pace {
-            piece: 512,
-            fails_at: 4,
-        };
-        let played = play::<Towers>(&rt, rt.alloc(), &input, fails, EASY, 512)?;
+        let played = play::<Towers>(&rt, rt.alloc(), &input, failing_at(4), EASY, 512)?;
         assert_eq!(rt; played.end, End::ReadFault);
         assert_eq!(rt; played.written.as_slice(), written);
     }
@@ -75,8 +56,8 @@ fn a_long_line_that_a_fault_cuts_has_no_reply(rt: HostRuntime) -> Result<(), Fai
 #[test]
 fn a_sink_is_full_behind_four_bytes(rt: HostRuntime) -> Result<(), Fail> {
     let alloc = rt.alloc();
-    let input = input_of(alloc, &FIRST_RUN)?;
-    let played = play::<Towers>(&rt, alloc, &input, EASY, EASY, 4)?;
+    let whole = Transcript::of(alloc, &FIRST_RUN)?;
+    let played = play::<Towers>(&rt, alloc, &whole.input, EASY, EASY, 4)?;
     compare(&rt, &played, End::WriteFault, b"ok\no", "playing 2/2");
     Ok(())
 }
@@ -84,34 +65,22 @@ fn a_sink_is_full_behind_four_bytes(rt: HostRuntime) -> Result<(), Fail> {
 #[test]
 fn each_write_and_each_flush_fails_in_turn(rt: HostRuntime) -> Result<(), Fail> {
     let alloc = rt.alloc();
-    let input = input_of(alloc, &FIRST_RUN)?;
-    let mut before = Vec::new(alloc);
+    let whole = Transcript::of(alloc, &FIRST_RUN)?;
+    let mut before = Transcript::of(alloc, &[])?;
     let mut call = 0u64;
-    for ((_, reply), status) in FIRST_RUN.iter().zip(&STATUSES) {
+    for (row, status) in FIRST_RUN.iter().zip(&STATUSES) {
         call = call.wrapping_add(1);
-        let writes = Pace {
-            piece: 512,
-            fails_at: call,
-        };
-        let played = play::<Towers>(&rt, alloc, &input, EASY, writes, 512)?;
-        compare(&rt, &played, End::WriteFault, &before, status);
+        let played = play::<Towers>(&rt, alloc, &whole.input, EASY, failing_at(call), 512)?;
+        compare(&rt, &played, End::WriteFault, &before.output, status);
 
-        before.extend_from_slice(reply.as_bytes())?;
-        before.push(b'\n')?;
+        before.add(&[*row])?;
         call = call.wrapping_add(1);
-        let flushes = Pace {
-            piece: 512,
-            fails_at: call,
-        };
-        let played = play::<Towers>(&rt, alloc, &input, EASY, flushes, 512)?;
-        compare(&rt, &played, End::WriteFault, &before, status);
+        let played = play::<Towers>(&rt, alloc, &whole.input, EASY, failing_at(call), 512)?;
+        compare(&rt, &played, End::WriteFault, &before.output, status);
     }
-    let late = Pace {
-        piece: 512,
-        fails_at: call.wrapping_add(1),
-    };
-    let played = play::<Towers>(&rt, alloc, &input, EASY, late, 512)?;
-    compare(&rt, &played, End::Finished, &before, "playing 1/2");
+    let late = failing_at(call.wrapping_add(1));
+    let played = play::<Towers>(&rt, alloc, &whole.input, EASY, late, 512)?;
+    compare(&rt, &played, End::Finished, &before.output, "playing 1/2");
     Ok(())
 }
 
@@ -119,27 +88,29 @@ fn each_write_and_each_flush_fails_in_turn(rt: HostRuntime) -> Result<(), Fail> 
 #[test]
 fn each_read_fails_in_turn(rt: HostRuntime) -> Result<(), Fail> {
     let alloc = rt.alloc();
-    let input = input_of(alloc, &FIRST_RUN)?;
-    let mut before = Vec::new(alloc);
-    let mut replies = FIRST_RUN.iter();
+    let whole = Transcript::of(alloc, &FIRST_RUN)?;
+    let mut before = Transcript::of(alloc, &[])?;
+    let mut rows = FIRST_RUN.iter();
     let mut call = 0u64;
-    for byte in &input {
+    for byte in &whole.input {
         call = call.wrapping_add(1);
         let reads = Pace {
             piece: 1,
             fails_at: call,
         };
-        let played = play::<Towers>(&rt, alloc, &input, reads, EASY, 512)?;
+        let played = play::<Towers>(&rt, alloc, &whole.input, reads, EASY, 512)?;
         assert_eq!(rt; played.end, End::ReadFault, "read {call}");
-        assert_eq!(rt; played.written.as_slice(), before.as_slice(), "read {call}");
+        assert_eq!(rt;
+            played.written.as_slice(),
+            before.output.as_slice(),
+            "read {call}"
+        );
         if *byte == b'\n'
-            && let Some((_, reply)) = replies.next()
+            && let Some(row) = rows.next()
         {
-            before.extend_from_slice(reply.as_bytes())?;
-            before.push(b'\n')?;
+            before.add(&[*row])?;
         }
     }
-    let output = output_of(alloc, &FIRST_RUN)?;
-    assert_eq!(rt; before.as_slice(), output.as_slice());
+    assert_eq!(rt; before.output.as_slice(), whole.output.as_slice());
     Ok(())
 }

@@ -1,6 +1,6 @@
 //! The save text of a game that is played, later states included.
 
-use crate::script::check;
+use super::script::check;
 use clue_rules::{Towers, Unequal};
 use std::test::Fail;
 

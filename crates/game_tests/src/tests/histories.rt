@@ -1,25 +1,38 @@
 //! Moves, undo, redo and restart, and what the board shows of them.
 
-use crate::script::{EASY, SMALL_GAME, check, check_small_game, input_of, output_of, play};
+use super::script::{
+    EASY, FIRST_RUN, SMALL_GAME, SMALL_SOLVED, SMALL_START, Transcript, check, check_small_game,
+    compare, play,
+};
 use clue_rules::Towers;
 use puzzle_cli::End;
+use std::alloc::Global;
+use std::process::Abort;
 use std::test::Fail;
 
-const START: &str = "+ 3 - - +\n3 . . . -\n- . . . -\n- . . . -\n+ - - - +";
+// All numbers of the small game's solution but the last.
+const ALL_BUT_ONE: [(&str, &str); 8] = [
+    ("move R0,0,1", "ok"),
+    ("move R1,0,2", "ok"),
+    ("move R2,0,3", "ok"),
+    ("move R0,1,2", "ok"),
+    ("move R1,1,3", "ok"),
+    ("move R2,1,1", "ok"),
+    ("move R0,2,3", "ok"),
+    ("move R1,2,1", "ok"),
+];
+
+// Plays a script where one number is left to write.
+fn check_before_last(rt: &impl Abort, alloc: Global, script: &[(&str, &str)]) -> Result<(), Fail> {
+    let mut whole = Transcript::of(alloc, &[SMALL_GAME])?;
+    whole.add(&ALL_BUT_ONE)?;
+    whole.add(script)?;
+    compare::<Towers>(rt, alloc, &whole.input, &whole.output)
+}
 
 #[test]
 fn first_run(rt: HostRuntime) -> Result<(), Fail> {
-    check::<Towers>(
-        &rt,
-        rt.alloc(),
-        &[
-            ("new 3:3//////3/////", "ok"),
-            ("move R0,0,1", "ok"),
-            ("undo", "ok"),
-            ("show", START),
-            ("undo", "refused: NothingToUndo"),
-        ],
-    )
+    check::<Towers>(&rt, rt.alloc(), &FIRST_RUN)
 }
 
 #[test]
@@ -45,18 +58,10 @@ fn marks(rt: HostRuntime) -> Result<(), Fail> {
 // The flag stays, and an emptied square takes marks again.
 #[test]
 fn marks_of_a_completed_board(rt: HostRuntime) -> Result<(), Fail> {
-    check_small_game(
+    check_before_last(
         &rt,
         rt.alloc(),
         &[
-            ("move R0,0,1", "ok"),
-            ("move R1,0,2", "ok"),
-            ("move R2,0,3", "ok"),
-            ("move R0,1,2", "ok"),
-            ("move R1,1,3", "ok"),
-            ("move R2,1,1", "ok"),
-            ("move R0,2,3", "ok"),
-            ("move R1,2,1", "ok"),
             ("move P2,2,3", "ok"),
             ("marks", "2,2:3"),
             ("move R2,2,2", "ok"),
@@ -98,26 +103,26 @@ fn refused_keeps_redo(rt: HostRuntime) -> Result<(), Fail> {
 }
 
 #[test]
-fn completion_is_sticky_and_restart_is_a_move(rt: HostRuntime) -> Result<(), Fail> {
+fn restart_needs_a_move(rt: HostRuntime) -> Result<(), Fail> {
     check_small_game(
         &rt,
         rt.alloc(),
         &[
             ("restart", "refused: NothingToRestart"),
-            ("move R0,0,1", "ok"),
-            ("move R1,0,2", "ok"),
-            ("move R2,0,3", "ok"),
-            ("move R0,1,2", "ok"),
-            ("move R1,1,3", "ok"),
-            ("move R2,1,1", "ok"),
-            ("move R0,2,3", "ok"),
-            ("move R1,2,1", "ok"),
+            ("status", "playing 1/1"),
+        ],
+    )
+}
+
+#[test]
+fn completion_is_sticky_and_restart_is_a_move(rt: HostRuntime) -> Result<(), Fail> {
+    check_before_last(
+        &rt,
+        rt.alloc(),
+        &[
             ("move R2,2,2", "ok"),
             ("status", "solved 10/10"),
-            (
-                "show",
-                "+ 3 - - +\n3 1 2 3 -\n- 2 3 1 -\n- 3 1 2 -\n+ - - - +",
-            ),
+            ("show", SMALL_SOLVED),
             ("undo", "ok"),
             ("status", "playing 9/10"),
             ("redo", "ok"),
@@ -126,7 +131,7 @@ fn completion_is_sticky_and_restart_is_a_move(rt: HostRuntime) -> Result<(), Fai
             ("status", "solved 11/11"),
             ("restart", "ok"),
             ("status", "playing 12/12"),
-            ("show", START),
+            ("show", SMALL_START),
             ("undo", "ok"),
             ("status", "solved 11/12"),
         ],
@@ -175,13 +180,11 @@ fn help_is_shown_before_completion(rt: HostRuntime) -> Result<(), Fail> {
 #[test]
 fn long_history(rt: HostRuntime) -> Result<(), Fail> {
     let alloc = rt.alloc();
-    let mut input = input_of(alloc, &[SMALL_GAME])?;
-    let mut output = output_of(alloc, &[SMALL_GAME])?;
+    let mut whole = Transcript::of(alloc, &[SMALL_GAME])?;
     for _ in 0..99_999 {
-        input.extend_from_slice(b"move P0,0,1\n")?;
-        output.extend_from_slice(b"ok\n")?;
+        whole.add(&[("move P0,0,1", "ok")])?;
     }
-    let end = [
+    whole.add(&[
         ("status", "playing 100000/100000"),
         ("marks", "0,0:1"),
         ("move P0,0,1", "refused: HistoryFull"),
@@ -191,11 +194,9 @@ fn long_history(rt: HostRuntime) -> Result<(), Fail> {
         ("undo", "ok"),
         ("move M", "ok"),
         ("status", "playing 100000/100000"),
-    ];
-    input.extend_from_slice(&input_of(alloc, &end)?)?;
-    output.extend_from_slice(&output_of(alloc, &end)?)?;
-    let played = play::<Towers>(&rt, alloc, &input, EASY, EASY, output.len())?;
+    ])?;
+    let played = play::<Towers>(&rt, alloc, &whole.input, EASY, EASY, whole.output.len())?;
     assert_eq!(rt; played.end, End::Finished);
-    assert_eq!(rt; played.written.as_slice(), output.as_slice());
+    assert_eq!(rt; played.written.as_slice(), whole.output.as_slice());
     Ok(())
 }

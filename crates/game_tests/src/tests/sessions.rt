@@ -1,6 +1,6 @@
 //! The session that a run begins with, and the one that it hands back.
 
-use crate::script::{EASY, SMALL_GAME, check_status, input_of, output_of, play, play_on};
+use super::script::{EASY, SMALL_GAME, Transcript, check_status, play, play_on};
 use clue_rules::Towers;
 use puzzle_cli::End;
 use std::test::Fail;
@@ -21,7 +21,7 @@ fn an_empty_input_hands_back_nothing(rt: HostRuntime) -> Result<(), Fail> {
 #[test]
 fn a_run_begins_with_a_session(rt: HostRuntime) -> Result<(), Fail> {
     let alloc = rt.alloc();
-    let first = input_of(
+    let first = Transcript::of(
         alloc,
         &[
             SMALL_GAME,
@@ -30,7 +30,7 @@ fn a_run_begins_with_a_session(rt: HostRuntime) -> Result<(), Fail> {
             ("undo", ""),
         ],
     )?;
-    let played = play::<Towers>(&rt, alloc, &first, EASY, EASY, 512)?;
+    let played = play::<Towers>(&rt, alloc, &first.input, EASY, EASY, 512)?;
     check_status(&rt, &played.session, "playing 2/3");
 
     let script = [
@@ -47,11 +47,10 @@ fn a_run_begins_with_a_session(rt: HostRuntime) -> Result<(), Fail> {
         ("quit", ""),
         ("redo", ""),
     ];
-    let second = input_of(alloc, &script)?;
-    let output = output_of(alloc, &script)?;
-    let played = play_on(&rt, alloc, played.session, &second, EASY, EASY, 512)?;
+    let second = Transcript::of(alloc, &script)?;
+    let played = play_on(&rt, alloc, played.session, &second.input, EASY, EASY, 512)?;
     assert_eq!(rt; played.end, End::Finished);
-    assert_eq!(rt; played.written.as_slice(), output.as_slice());
+    assert_eq!(rt; played.written.as_slice(), second.output.as_slice());
     check_status(&rt, &played.session, "playing 1/3");
 
     let played = play_on(&rt, alloc, played.session, b"", EASY, EASY, 512)?;

@@ -1,6 +1,6 @@
 //! Each refusal of a move by its printed name.
 
-use crate::script::{check, check_small_game};
+use super::script::{SMALL_SOLVED, check, check_small_game};
 use clue_rules::Towers;
 use std::test::Fail;
 
@@ -70,10 +70,7 @@ fn solutions_as_moves(rt: HostRuntime) -> Result<(), Fail> {
             ("move S12323131", "refused: BadMove"),
             ("move S", "refused: BadMove"),
             ("move S123231312", "ok"),
-            (
-                "show",
-                "+ 3 - - +\n3 1 2 3 -\n- 2 3 1 -\n- 3 1 2 -\n+ - - - +",
-            ),
+            ("show", SMALL_SOLVED),
         ],
     )
 }

@@ -1,6 +1,6 @@
 //! The commands for the solutions of the starting puzzle.
 
-use crate::script::{check, check_small_game};
+use super::script::{SMALL_SOLVED, check, check_small_game};
 use clue_rules::{Towers, Unequal};
 use std::test::Fail;
 
@@ -18,10 +18,7 @@ fn solve_is_a_move(rt: HostRuntime) -> Result<(), Fail> {
             ("move R0,0,3", "ok"),
             ("solve", "S123231312"),
             ("status", "helped 3/3"),
-            (
-                "show",
-                "+ 3 - - +\n3 1 2 3 -\n- 2 3 1 -\n- 3 1 2 -\n+ - - - +",
-            ),
+            ("show", SMALL_SOLVED),
             ("undo", "ok"),
             ("status", "playing 2/3"),
             (

@@ -11,6 +11,21 @@ use std::test::Fail;
 /// The first line of most games: a Towers puzzle of size 3 with one solution, 123 231 312.
 pub(crate) const SMALL_GAME: (&str, &str) = ("new 3:3//////3/////", "ok");
 
+/// The picture of that puzzle at its start.
+pub(crate) const SMALL_START: &str = "+ 3 - - +\n3 . . . -\n- . . . -\n- . . . -\n+ - - - +";
+
+/// And of its solution.
+pub(crate) const SMALL_SOLVED: &str = "+ 3 - - +\n3 1 2 3 -\n- 2 3 1 -\n- 3 1 2 -\n+ - - - +";
+
+/// A first run of that game.
+pub(crate) const FIRST_RUN: [(&str, &str); 5] = [
+    SMALL_GAME,
+    ("move R0,0,1", "ok"),
+    ("undo", "ok"),
+    ("show", SMALL_START),
+    ("undo", "refused: NothingToUndo"),
+];
+
 /// How a device over memory works: at most so many bytes in a call, and which call fails, or 0 for none.
 #[derive(Clone, Copy)]
 pub(crate) struct Pace {
@@ -24,6 +39,14 @@ pub(crate) const EASY: Pace = Pace {
     fails_at: 0,
 };
 
+/// A device that fails at a call.
+pub(crate) fn failing_at(call: u64) -> Pace {
+    Pace {
+        fails_at: call,
+        ..EASY
+    }
+}
+
 /// What a run left.
 #[derive(Drop)]
 pub(crate) struct Played<P: Draw> {
@@ -32,26 +55,36 @@ pub(crate) struct Played<P: Draw> {
     pub written: Vec<u8>,
 }
 
-/// The input of a script: each line with its LF.
-pub(crate) fn input_of(alloc: Global, script: &[(&str, &str)]) -> Result<Vec<u8>, AllocError> {
-    let mut input = Vec::new(alloc);
-    for (line, _) in script {
-        input.extend_from_slice(line.as_bytes())?;
-        input.push(b'\n')?;
-    }
-    Ok(input)
+/// What a run is given, and what it must write.
+#[derive(Drop)]
+pub(crate) struct Transcript {
+    pub input: Vec<u8>,
+    pub output: Vec<u8>,
 }
 
-/// The output of a script: each reply with its LF. An empty one is no reply.
-pub(crate) fn output_of(alloc: Global, script: &[(&str, &str)]) -> Result<Vec<u8>, AllocError> {
-    let mut output = Vec::new(alloc);
-    for (_, reply) in script {
-        if !reply.is_empty() {
-            output.extend_from_slice(reply.as_bytes())?;
-            output.push(b'\n')?;
-        }
+impl Transcript {
+    /// Each line of a script, and each reply, with its LF.
+    pub(crate) fn of(alloc: Global, script: &[(&str, &str)]) -> Result<Transcript, AllocError> {
+        let mut transcript = Transcript {
+            input: Vec::new(alloc),
+            output: Vec::new(alloc),
+        };
+        transcript.add(script)?;
+        Ok(transcript)
     }
-    Ok(output)
+
+    /// Goes on with a script. An empty reply is none.
+    pub(crate) fn add(&mut self, script: &[(&str, &str)]) -> Result<(), AllocError> {
+        for (line, reply) in script {
+            self.input.extend_from_slice(line.as_bytes())?;
+            self.input.push(b'\n')?;
+            if !reply.is_empty() {
+                self.output.extend_from_slice(reply.as_bytes())?;
+                self.output.push(b'\n')?;
+            }
+        }
+        Ok(())
+    }
 }
 
 /// Runs the input from no session on, over a sink with room for so many bytes.
@@ -110,9 +143,8 @@ pub(crate) fn check<P: Draw>(
     alloc: Global,
     script: &[(&str, &str)],
 ) -> Result<(), Fail> {
-    let input = input_of(alloc, script)?;
-    let output = output_of(alloc, script)?;
-    compare::<P>(rt, alloc, &input, &output)
+    let whole = Transcript::of(alloc, script)?;
+    compare::<P>(rt, alloc, &whole.input, &whole.output)
 }
 
 /// Plays a script behind the line that begins the small game.
@@ -121,11 +153,9 @@ pub(crate) fn check_small_game(
     alloc: Global,
     script: &[(&str, &str)],
 ) -> Result<(), Fail> {
-    let mut input = input_of(alloc, &[SMALL_GAME])?;
-    input.extend_from_slice(&input_of(alloc, script)?)?;
-    let mut output = output_of(alloc, &[SMALL_GAME])?;
-    output.extend_from_slice(&output_of(alloc, script)?)?;
-    compare::<Towers>(rt, alloc, &input, &output)
+    let mut whole = Transcript::of(alloc, &[SMALL_GAME])?;
+    whole.add(script)?;
+    compare::<Towers>(rt, alloc, &whole.input, &whole.output)
 }
 
 /// Compares the status of the session that is left.

@@ -1,6 +1,6 @@
 //! Lines and words: what is a command, and what comes without a session.
 
-use crate::script::{SMALL_GAME, check, compare, input_of, output_of};
+use super::script::{SMALL_GAME, Transcript, check, compare};
 use clue_rules::Towers;
 use std::test::Fail;
 
@@ -97,22 +97,21 @@ fn quit_ends_the_run(rt: HostRuntime) -> Result<(), Fail> {
 fn long_lines(rt: HostRuntime) -> Result<(), Fail> {
     let alloc = rt.alloc();
     let table = [
-        (1_024, "\n", "refused: BadCommand\nplaying 1/1\n"),
-        (1_025, "\n", "refused: LongLine\nplaying 1/1\n"),
-        (1_023, "\r\n", "refused: BadCommand\nplaying 1/1\n"),
-        (1_024, "\r\n", "refused: LongLine\nplaying 1/1\n"),
-        (9_000, "\n", "refused: LongLine\nplaying 1/1\n"),
+        (1_024, "\n", "refused: BadCommand\n"),
+        (1_025, "\n", "refused: LongLine\n"),
+        (1_023, "\r\n", "refused: BadCommand\n"),
+        (1_024, "\r\n", "refused: LongLine\n"),
+        (9_000, "\n", "refused: LongLine\n"),
     ];
-    for (length, end, replies) in table {
-        let mut input = input_of(alloc, &[SMALL_GAME])?;
+    for (length, end, reply) in table {
+        let mut whole = Transcript::of(alloc, &[SMALL_GAME])?;
         for _ in 0..length {
-            input.push(b'x')?;
+            whole.input.push(b'x')?;
         }
-        input.extend_from_slice(end.as_bytes())?;
-        input.extend_from_slice(b"status\n")?;
-        let mut output = output_of(alloc, &[SMALL_GAME])?;
-        output.extend_from_slice(replies.as_bytes())?;
-        compare::<Towers>(&rt, alloc, &input, &output)?;
+        whole.input.extend_from_slice(end.as_bytes())?;
+        whole.output.extend_from_slice(reply.as_bytes())?;
+        whole.add(&[("status", "playing 1/1")])?;
+        compare::<Towers>(&rt, alloc, &whole.input, &whole.output)?;
     }
     Ok(())
 }

@@ -1,6 +1,6 @@
 //! Done marks of edge clues.
 
-use crate::script::{check, check_small_game};
+use super::script::{check, check_small_game};
 use clue_rules::{Towers, Unequal};
 use std::test::Fail;
 

@@ -1,6 +1,6 @@
 //! The pictures of both games.
 
-use crate::script::check;
+use super::script::check;
 use clue_rules::{Towers, Unequal};
 use std::test::Fail;
 

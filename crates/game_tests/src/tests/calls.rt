@@ -2,7 +2,7 @@
 
 ghost use Rattle.std.specs.Prelude.{◌≡◌};
 
-use crate::script::{EASY, input_of, play};
+use super::script::{EASY, Transcript, play};
 use clue_rules::Towers;
 use latin_board::Board;
 use play_midend::Session;
@@ -15,7 +15,7 @@ const PICTURE: &str = "+ 3 - - +\n3 . . . -\n- . 2 . -\n- . . . -\n+ - - - +\n";
 
 // The session behind a few moves of a Towers puzzle.
 fn session(rt: &impl Abort, alloc: Global) -> Result<Session<Towers>, Fail> {
-    let input = input_of(
+    let script = Transcript::of(
         alloc,
         &[
             ("new 3:3//////3/////", ""),
@@ -25,7 +25,7 @@ fn session(rt: &impl Abort, alloc: Global) -> Result<Session<Towers>, Fail> {
             ("move D-1,0", ""),
         ],
     )?;
-    let played = play::<Towers>(rt, alloc, &input, EASY, EASY, 512)?;
+    let played = play::<Towers>(rt, alloc, &script.input, EASY, EASY, 512)?;
     Ok(played.session.expect(rt, "a session"))
 }
 

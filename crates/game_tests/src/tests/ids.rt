@@ -1,6 +1,6 @@
 //! Game IDs: those that begin a game and their written form, and each refusal by its printed name.
 
-use crate::script::check;
+use super::script::check;
 use clue_rules::{Towers, Unequal};
 use std::test::Fail;
 
