@@ -12,6 +12,8 @@ mod narrowing;
 #[cfg(test)]
 mod parameters;
 #[cfg(test)]
+mod seeded_games;
+#[cfg(test)]
 mod towers_puzzles;
 #[cfg(test)]
 mod towers_texts;
