@@ -2,3 +2,22 @@
 //!
 //! They stand apart from the crates, since a crate that has tests is proved twice: once by itself, and once with them.
 #![tactic(auto)]
+
+#[cfg(test)]
+mod faults;
+#[cfg(test)]
+mod game_ids;
+#[cfg(test)]
+mod narrowing;
+#[cfg(test)]
+mod parameters;
+#[cfg(test)]
+mod seeded_games;
+#[cfg(test)]
+mod towers_puzzles;
+#[cfg(test)]
+mod towers_texts;
+#[cfg(test)]
+mod unequal_puzzles;
+#[cfg(test)]
+mod worked;

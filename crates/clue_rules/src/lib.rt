@@ -20,8 +20,6 @@ mod game_id;
 mod id_fault;
 mod lines;
 mod params;
-#[cfg(test)]
-mod tests;
 mod towers;
 mod unequal;
 

@@ -20,8 +20,6 @@ mod lines;
 mod pieces;
 mod rules;
 mod sign;
-#[cfg(test)]
-mod tests;
 
 use crate::game::Game;
 use latin_board::Grid;

@@ -21,6 +21,3 @@ mod seeded_square;
 pub use gen_fault::GenFault;
 pub use generator::generate;
 pub use seeded_square::square;
-
-#[cfg(test)]
-mod tests;

@@ -2,9 +2,9 @@
 
 ghost use Rattle.std.specs.Prelude.{◌≡◌, IfOk};
 
-use crate::{GenFault, generate, square};
 use clue_rules::{Game, Params, Towers, Unequal};
 use latin_board::Size;
+use puzzle_gen::{GenFault, generate, square};
 use std::process::Abort;
 use std::test::Fail;
 use trail_solver::{Answer, solve};

@@ -1,17 +1,10 @@
 //! Narrowing and solving, in both games, at worked puzzles.
 
-use crate::game::Game;
-use crate::id_fault::IdFault;
-use crate::towers::Towers;
-use crate::unequal::Unequal;
-use latin_board::Size;
+use crate::worked::{has_no_solution, puzzle};
+use clue_rules::{Game, Towers, Unequal};
+use std::process::Abort;
 use std::test::Fail;
 use trail_solver::{Answer, Candidates, Rules, solve};
-
-fn puzzle<P: Game>(width: u8, text: &str) -> Result<P, IdFault> {
-    let size = Size::new(width).ok_or(IdFault::BadSize)?;
-    P::read_desc(size, text.as_bytes())
-}
 
 // The only candidate of a square of width 3 after 18 calls of `narrow` on all candidates.
 fn left<P: Rules>(puzzle: &P, cell: usize) -> Option<u8> {
@@ -28,10 +21,6 @@ fn left<P: Rules>(puzzle: &P, cell: usize) -> Option<u8> {
     }
 }
 
-fn has_no_solution<P: Rules>(puzzle: &P) -> bool {
-    matches!(solve(puzzle), Answer::None)
-}
-
 fn has_several_solutions<P: Rules>(puzzle: &P) -> bool {
     matches!(solve(puzzle), Answer::Several(_, _))
 }
@@ -39,24 +28,27 @@ fn has_several_solutions<P: Rules>(puzzle: &P) -> bool {
 // The numbers of the only solution of the worked puzzles.
 const WORKED: [u8; 9] = [1, 2, 3, 2, 3, 1, 3, 1, 2];
 
-#[test]
-fn towers_are_narrowed_to_the_solution(rt: HostRuntime) -> Result<(), Fail> {
-    let worked: Towers = puzzle(3, "3//////3/////")?;
-    let given: Towers = puzzle(3, "///////////,1c3c2")?;
+fn is_narrowed_to_the_solution<P: Game>(rt: &impl Abort, text: &str) -> Result<(), Fail> {
+    let worked: P = puzzle(3, text)?;
     for cell in 0..9 {
-        assert_eq!(rt; left(&worked, cell), Some(WORKED[cell]));
-        assert_eq!(rt; left(&given, cell), Some(WORKED[cell]));
+        assert_eq!(rt;
+            left(&worked, cell),
+            Some(WORKED[cell]),
+            "{text}, square {cell}"
+        );
     }
     Ok(())
 }
 
 #[test]
+fn towers_are_narrowed_to_the_solution(rt: HostRuntime) -> Result<(), Fail> {
+    is_narrowed_to_the_solution::<Towers>(&rt, "3//////3/////")?;
+    is_narrowed_to_the_solution::<Towers>(&rt, "///////////,1c3c2")
+}
+
+#[test]
 fn signs_are_narrowed_to_the_solution(rt: HostRuntime) -> Result<(), Fail> {
-    let worked: Unequal = puzzle(3, "0,0L,0L,0U,0,0,0U,0,0,")?;
-    for cell in 0..9 {
-        assert_eq!(rt; left(&worked, cell), Some(WORKED[cell]));
-    }
-    Ok(())
+    is_narrowed_to_the_solution::<Unequal>(&rt, "0,0L,0L,0U,0,0,0U,0,0,")
 }
 
 // Two clues want the greatest number at the top of their columns. Without `narrow` the solver would not end.

@@ -1,64 +1,17 @@
 //! Descriptions, rules and items of Unequal at worked puzzles.
 
-use super::Unequal;
-use crate::game::Game;
-use crate::id_fault::IdFault;
-use latin_board::{Grid, Size};
+use crate::worked::{
+    full_of, has, has_no_solution, holds, only_solution, rewritten, square, without,
+};
+use clue_rules::{Game, IdFault, Unequal};
+use latin_board::Size;
 use std::alloc::{AllocError, Global};
 use std::test::Fail;
-use trail_solver::{Answer, Rules, solve};
+use trail_solver::Rules;
 
-// The puzzle of width 3 that a text describes, read as any game reads it.
-fn read<G: Game>(text: &str) -> Result<G, IdFault> {
-    let size = Size::new(3).ok_or(IdFault::BadSize)?;
-    G::read_desc(size, text.as_bytes())
-}
-
-// The text that is written for the puzzle that a text describes.
-fn rewritten<G: Game>(alloc: Global, text: &str) -> Result<Vec<u8>, IdFault> {
-    let puzzle: G = read(text)?;
-    puzzle.write_desc(alloc)
-}
-
+// The puzzle of width 3 that a text describes.
 fn puzzle(text: &str) -> Result<Unequal, IdFault> {
-    read(text)
-}
-
-// The grid that is given whole.
-fn grid(text: &str) -> Result<Grid, IdFault> {
-    Ok(puzzle(text)?.givens)
-}
-
-fn is_only_solution(puzzle: &Unequal, grid: &Grid) -> bool {
-    match solve(puzzle) {
-        Answer::One(found) => found == *grid,
-        _ => false,
-    }
-}
-
-fn has_no_solution(puzzle: &Unequal) -> bool {
-    match solve(puzzle) {
-        Answer::None => true,
-        _ => false,
-    }
-}
-
-// Whether a Latin square meets the puzzle's signs.
-fn holds(puzzle: &Unequal, grid: &Grid) -> bool {
-    grid.size().get() == puzzle.size().get() && grid.is_latin() && puzzle.holds(grid)
-}
-
-fn has(puzzle: &Unequal, i: usize) -> bool {
-    i < Unequal::item_count(puzzle.size()) && puzzle.has_item(i)
-}
-
-// The puzzle without an item.
-fn without(puzzle: &Unequal, i: usize) -> Unequal {
-    let mut rest = *puzzle;
-    if i < Unequal::item_count(puzzle.size()) {
-        rest.drop_item(i);
-    }
-    rest
+    crate::worked::puzzle(3, text)
 }
 
 // The pairs of a puzzle of width 3, as 10 times the greater square and the smaller.
@@ -86,7 +39,7 @@ fn reads_and_writes(rt: HostRuntime) {
         ("1,1,0,0,0,0,0,0,0,", "1,1,0,0,0,0,0,0,0,"),
     ];
     for (text, wanted) in rows {
-        let written = rewritten::<Unequal>(rt.alloc(), text).expect(&rt, text);
+        let written = rewritten::<Unequal>(rt.alloc(), 3, text).expect(&rt, text);
         assert_eq!(rt; written.as_slice(), wanted.as_bytes(), "{text}");
     }
 }
@@ -136,16 +89,14 @@ fn tells_the_greater_squares(rt: HostRuntime) -> Result<(), Fail> {
 
 #[test]
 fn holds_and_solves(rt: HostRuntime) -> Result<(), Fail> {
-    let rising = grid("1,2,3,2,3,1,3,1,2")?;
-    let other = grid("1,3,2,2,1,3,3,2,1")?;
+    let rising = square::<Unequal>("1,2,3,2,3,1,3,1,2")?;
+    let other = square::<Unequal>("1,3,2,2,1,3,3,2,1")?;
     let signs = puzzle("0,0L,0L,0U,0,0,0U,0,0,")?;
     assert!(rt; holds(&signs, &rising));
     assert!(rt; !holds(&signs, &other));
-    let plain = puzzle("0,0,0,0,0,0,0,0,0,")?;
-    assert!(rt; holds(&plain, &other));
-    assert!(rt; is_only_solution(&signs, &rising));
-    let clash = puzzle("1,1,0,0,0,0,0,0,0,")?;
-    assert!(rt; has_no_solution(&clash));
+    assert!(rt; holds(&puzzle("0,0,0,0,0,0,0,0,0,")?, &other));
+    assert!(rt; only_solution(&signs) == Some(rising));
+    assert!(rt; has_no_solution(&puzzle("1,1,0,0,0,0,0,0,0,")?));
     Ok(())
 }
 
@@ -153,9 +104,8 @@ fn holds_and_solves(rt: HostRuntime) -> Result<(), Fail> {
 fn has_numbered_items(rt: HostRuntime) -> Result<(), Fail> {
     assert_eq!(rt; Unequal::item_count(Size::new(3).ok_or("size")?), 21);
     assert_eq!(rt; Unequal::item_count(Size::new(9).ok_or("size")?), 225);
-    let square = grid("1,2,3,2,3,1,3,1,2")?;
-    assert!(rt; square.is_latin());
-    let full = Unequal::full(&square);
+    let square = square::<Unequal>("1,2,3,2,3,1,3,1,2")?;
+    let full: Unequal = full_of(&square).ok_or("Latin")?;
     for i in 0..21 {
         assert!(rt; has(&full, i), "{i}");
     }
@@ -185,9 +135,14 @@ fn is_a_game(rt: HostRuntime) -> Result<(), Fail> {
     assert_eq!(rt; Unequal::name(), "Unequal");
     assert_eq!(rt; Unequal::letters(), "tekxr");
     let first = puzzle("0,0L,0L,0U,0,0,0U,0,0,")?;
-    assert!(rt; first.same(&puzzle("0,0LL,0L,0U,0,0,0U,0,0")?));
-    assert!(rt; !first.same(&puzzle("0,0L,0L,0U,0,0,0,0,0,")?));
-    assert!(rt; !first.same(&puzzle("1,0L,0L,0U,0,0,0U,0,0,")?));
+    let rows = [
+        ("0,0LL,0L,0U,0,0,0U,0,0", true),
+        ("0,0L,0L,0U,0,0,0,0,0,", false),
+        ("1,0L,0L,0U,0,0,0U,0,0,", false),
+    ];
+    for (text, wanted) in rows {
+        assert_eq!(rt; first.same(&puzzle(text)?), wanted, "{text}");
+    }
     assert!(rt; !first.clue_at(0, -1));
     Ok(())
 }
