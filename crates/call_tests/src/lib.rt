@@ -2,3 +2,6 @@
 //!
 //! They stand apart from the crates, since a crate that has tests is proved twice: once by itself, and once with them.
 #![tactic(auto)]
+
+#[cfg(test)]
+mod sessions;
