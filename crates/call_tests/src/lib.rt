@@ -14,6 +14,8 @@ mod parameters;
 #[cfg(test)]
 mod seeded_games;
 #[cfg(test)]
+mod sessions;
+#[cfg(test)]
 mod towers_puzzles;
 #[cfg(test)]
 mod towers_texts;

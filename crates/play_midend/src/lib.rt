@@ -28,6 +28,3 @@ pub use session::Session;
 pub use session_laws::{laws, move_list_laws};
 pub use step::change_of;
 pub use texts::{read_move, write_move};
-
-#[cfg(test)]
-mod tests;

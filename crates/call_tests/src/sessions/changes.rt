@@ -3,8 +3,8 @@
 ghost use Rattle.std.specs.Prelude.{◌≡◌, IfOk};
 
 use super::{PUZZLE, puzzle};
-use crate::{Move, PlayFault, change_of, read_move};
 use latin_board::{Board, Change, Grid, Marks, Size};
+use play_midend::{Move, PlayFault, change_of, read_move};
 use std::test::Fail;
 
 // A board with numbers, marks and a done mark.

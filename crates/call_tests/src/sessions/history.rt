@@ -1,7 +1,7 @@
 //! The longest history, undone and made again.
 
 use super::{PUZZLE, begun, has_marks, plays, puzzle};
-use crate::Move;
+use play_midend::Move;
 use std::test::Fail;
 
 // The move with a number, from 1, of a long history.

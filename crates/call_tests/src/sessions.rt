@@ -6,9 +6,9 @@ mod calls;
 mod changes;
 mod history;
 
-use crate::{Extras, Session, read_move};
 use clue_rules::{Game, Params, Towers};
 use latin_board::{Board, Size};
+use play_midend::{Extras, Session, read_move};
 use std::alloc::{AllocError, Global};
 use std::process::Abort;
 use std::test::Fail;

@@ -1,10 +1,10 @@
 //! Each public call once, and the readers of a session. Whole games are played by the crate of the game tests.
 
 use super::{PUZZLE, begun, plays, puzzle};
-use crate::{
+use clue_rules::{Params, Towers};
+use play_midend::{
     Extras, KeptBytes, Move, PlayFault, Session, laws, move_list_laws, read_move, write_move,
 };
-use clue_rules::{Params, Towers};
 use std::test::Fail;
 use trail_solver::Rules;
 
