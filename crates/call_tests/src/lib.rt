@@ -16,6 +16,10 @@ mod seeded_games;
 #[cfg(test)]
 mod sessions;
 #[cfg(test)]
+mod texts;
+#[cfg(test)]
+mod towers_lines;
+#[cfg(test)]
 mod towers_puzzles;
 #[cfg(test)]
 mod towers_texts;

@@ -1,6 +1,6 @@
-//! Tests of the values that a clued line leaves.
+//! One line of Towers: the towers that are seen, and the values that a clue leaves.
 
-use super::*;
+use tower_lines::{seen, supported};
 
 // The sets of a line of w squares, each with every number from 1 to w.
 const THREE: [u16; 3] = [0b1110; 3];
@@ -72,4 +72,15 @@ fn nine_squares(rt: HostRuntime) {
         ]
     );
     assert_eq!(rt; supported(&[], 0), [0; 9]);
+}
+
+#[test]
+fn worked_lines(rt: HostRuntime) {
+    assert_eq!(rt; seen(&[1, 2, 3]), 3);
+    assert_eq!(rt; seen(&[3, 1, 2]), 1);
+    assert_eq!(rt; seen(&[2, 1, 3]), 2);
+    assert_eq!(rt; seen(&[1, 2, 3, 4, 5, 6, 7, 8, 9]), 9);
+    assert_eq!(rt; seen(&[2, 2, 1, 2]), 1);
+    assert_eq!(rt; seen(&[0, 255]), 2);
+    assert_eq!(rt; seen(&[]), 0);
 }
