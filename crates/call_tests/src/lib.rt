@@ -4,4 +4,6 @@
 #![tactic(auto)]
 
 #[cfg(test)]
+mod candidates;
+#[cfg(test)]
 mod sessions;
