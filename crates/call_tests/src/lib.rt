@@ -6,4 +6,6 @@
 #[cfg(test)]
 mod candidates;
 #[cfg(test)]
+mod devices;
+#[cfg(test)]
 mod sessions;
