@@ -4,6 +4,8 @@
 #![tactic(auto)]
 
 #[cfg(test)]
+mod boards;
+#[cfg(test)]
 mod candidates;
 #[cfg(test)]
 mod devices;
