@@ -14,6 +14,3 @@ mod pieces;
 
 pub use decimal::{begins_with_digit, number};
 pub use pieces::cut;
-
-#[cfg(test)]
-mod tests;

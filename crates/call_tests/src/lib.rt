@@ -11,3 +11,5 @@ mod candidates;
 mod devices;
 #[cfg(test)]
 mod sessions;
+#[cfg(test)]
+mod texts;

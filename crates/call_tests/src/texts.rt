@@ -1,6 +1,6 @@
 //! Cuts and numbers at worked values.
 
-use super::*;
+use byte_text::{begins_with_digit, cut, number};
 
 #[test]
 fn cuts_at_the_first_separator(rt: HostRuntime) {
