@@ -13,3 +13,5 @@ mod devices;
 mod sessions;
 #[cfg(test)]
 mod texts;
+#[cfg(test)]
+mod towers_lines;

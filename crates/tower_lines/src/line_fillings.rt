@@ -112,6 +112,3 @@ fn counts_after(
     kept[place] |= candidates_of(passed);
     counts
 }
-
-#[cfg(test)]
-mod tests;

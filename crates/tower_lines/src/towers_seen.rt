@@ -21,19 +21,3 @@ pub fn seen(line: &[u8]) -> usize
     }
     count
 }
-
-#[cfg(test)]
-mod tests {
-    use super::*;
-
-    #[test]
-    fn worked_lines(rt: HostRuntime) {
-        assert_eq!(rt; seen(&[1, 2, 3]), 3);
-        assert_eq!(rt; seen(&[3, 1, 2]), 1);
-        assert_eq!(rt; seen(&[2, 1, 3]), 2);
-        assert_eq!(rt; seen(&[1, 2, 3, 4, 5, 6, 7, 8, 9]), 9);
-        assert_eq!(rt; seen(&[2, 2, 1, 2]), 1);
-        assert_eq!(rt; seen(&[0, 255]), 2);
-        assert_eq!(rt; seen(&[]), 0);
-    }
-}
