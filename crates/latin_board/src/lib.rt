@@ -33,6 +33,3 @@ pub use lines::line_cell;
 pub use marks::Marks;
 pub use out_of_memory::OutOfMemory;
 pub use size::Size;
-
-#[cfg(test)]
-mod tests;

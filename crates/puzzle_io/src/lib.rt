@@ -19,8 +19,6 @@ mod from_read;
 mod memory_sink;
 mod memory_source;
 mod pace;
-#[cfg(test)]
-mod tests;
 mod to_write;
 
 pub use device::{DeviceFault, Sink, Source};

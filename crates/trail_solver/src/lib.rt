@@ -30,6 +30,3 @@ pub use candidates::{Candidates, Mark};
 pub use listing::solutions;
 pub use rules::{Rules, solves};
 pub use solver::solve;
-
-#[cfg(test)]
-mod tests;

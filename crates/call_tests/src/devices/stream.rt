@@ -2,7 +2,7 @@
 
 ghost use Rattle.std.specs.Prelude.{◌≤◌, IfOk};
 
-use crate::{DeviceFault, FromRead, Sink, Source, ToWrite};
+use puzzle_io::{DeviceFault, FromRead, Sink, Source, ToWrite};
 use std::io;
 use std::io::{ErrorKind, Read, Write};
 use std::test::Fail;

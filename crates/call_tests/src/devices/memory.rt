@@ -1,6 +1,6 @@
 //! The devices over memory: pieces, room, and a failure at each call in turn.
 
-use crate::{DeviceFault, MemorySink, MemorySource, Sink, Source};
+use puzzle_io::{DeviceFault, MemorySink, MemorySource, Sink, Source};
 use std::process::Abort;
 use std::test::Fail;
 

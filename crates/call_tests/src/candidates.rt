@@ -1,9 +1,10 @@
-//! Tests over a small puzzle of their own.
+//! Candidates with their trail, and solving, over a small puzzle of the tests' own.
+
 ghost use Rattle.std.specs.Prelude.{◌≡◌, IfOk};
 
-use crate::{Answer, Candidates, Rules, solutions, solve, solves};
 use latin_board::{Grid, Size};
 use std::test::Fail;
+use trail_solver::{Answer, Candidates, Rules, solutions, solve, solves};
 
 // Givens that no item stands for, and one item that asks nothing. A hopeless puzzle has no solution, and narrowing says so.
 #[derive(Clone, Copy)]

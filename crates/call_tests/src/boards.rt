@@ -1,6 +1,6 @@
 //! Grids, boards, marks and changes at worked values.
 
-use crate::*;
+use latin_board::{Board, Change, Grid, Marks, OutOfMemory, Size, edge_place, edge_xy, line_cell};
 use std::process::Abort;
 use std::test::Fail;
 
