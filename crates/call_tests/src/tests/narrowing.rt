@@ -1,6 +1,6 @@
 //! Narrowing and solving, in both games, at worked puzzles.
 
-use crate::worked::{has_no_solution, puzzle};
+use super::worked::{has_no_solution, puzzle};
 use clue_rules::{Game, Towers, Unequal};
 use std::process::Abort;
 use std::test::Fail;

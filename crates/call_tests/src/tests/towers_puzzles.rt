@@ -1,13 +1,13 @@
 //! Clues, rules and items of Towers at worked puzzles.
 
-use crate::worked::{full_of, has, holds, square, without};
+use super::worked::{full_of, has, holds, square, without};
 use clue_rules::{Game, IdFault, Towers};
 use std::test::Fail;
 use trail_solver::Rules;
 
 // The puzzle of width 3 that a text describes.
 fn puzzle(text: &str) -> Result<Towers, IdFault> {
-    crate::worked::puzzle(3, text)
+    super::worked::puzzle(3, text)
 }
 
 fn clue(puzzle: &Towers, place: u8) -> u8 {

@@ -1,6 +1,6 @@
 //! Descriptions, rules and items of Unequal at worked puzzles.
 
-use crate::worked::{
+use super::worked::{
     full_of, has, has_no_solution, holds, only_solution, rewritten, square, without,
 };
 use clue_rules::{Game, IdFault, Unequal};
@@ -11,7 +11,7 @@ use trail_solver::Rules;
 
 // The puzzle of width 3 that a text describes.
 fn puzzle(text: &str) -> Result<Unequal, IdFault> {
-    crate::worked::puzzle(3, text)
+    super::worked::puzzle(3, text)
 }
 
 // The pairs of a puzzle of width 3, as 10 times the greater square and the smaller.

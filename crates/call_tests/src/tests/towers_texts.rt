@@ -1,6 +1,6 @@
 //! Descriptions of Towers: what is written for each, and each refusal.
 
-use crate::worked::rewritten;
+use super::worked::rewritten;
 use clue_rules::{IdFault, Towers};
 
 #[test]

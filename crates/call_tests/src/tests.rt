@@ -1,0 +1,17 @@
+//! A file for each of the lower crates, and `worked`, what the two games share.
+
+mod boards;
+mod candidates;
+mod devices;
+mod faults;
+mod game_ids;
+mod narrowing;
+mod parameters;
+mod seeded_games;
+mod sessions;
+mod texts;
+mod towers_lines;
+mod towers_puzzles;
+mod towers_texts;
+mod unequal_puzzles;
+mod worked;
