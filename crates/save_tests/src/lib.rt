@@ -2,12 +2,4 @@
 #![tactic(auto)]
 
 #[cfg(test)]
-mod counts_and_keys;
-#[cfg(test)]
-mod faults;
-#[cfg(test)]
-mod records;
-#[cfg(test)]
-mod sample;
-#[cfg(test)]
-mod sessions;
+mod tests;

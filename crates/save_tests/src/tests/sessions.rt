@@ -1,6 +1,6 @@
 //! Sessions that are saved and loaded, prefixes of a save, and bytes that are kept.
 
-use crate::sample::{SAMPLE, answer, check, text_of};
+use super::sample::{SAMPLE, answer, check, text_of};
 use clue_rules::{Game, Params, Towers};
 use latin_board::Size;
 use play_midend::{Extras, Session, read_move};

@@ -1,6 +1,6 @@
 //! Edits of the sample that load: other spellings, other orders, and what is ignored.
 
-use crate::sample::{SAMPLE, answer, check, check_edits, edited, text_of};
+use super::sample::{SAMPLE, answer, check, check_edits, edited, text_of};
 use clue_rules::Towers;
 use std::test::Fail;
 

@@ -1,6 +1,6 @@
 //! Each refusal, as an edit of the sample.
 
-use crate::sample::{SAMPLE, answer, check, check_edits, edited, text_of};
+use super::sample::{SAMPLE, answer, check, check_edits, edited, text_of};
 use clue_rules::{Towers, Unequal};
 use play_save::LoadFault;
 use std::test::Fail;

@@ -1,0 +1,7 @@
+//! The subjects, and the sample that they share.
+
+mod counts_and_keys;
+mod faults;
+mod records;
+mod sample;
+mod sessions;
