@@ -76,6 +76,15 @@ fn each_read_fails_in_turn(rt: HostRuntime) -> Result<(), Fail> {
     Ok(())
 }
 
+// A full sink takes nothing, and only a write of some bytes fails.
+fn check_full(rt: &impl Abort, sink: &mut MemorySink, rest: &[u8]) {
+    assert_eq!(rt; sink.write(b""), Ok(0));
+    assert_eq!(rt; sink.flush(), Ok(()));
+    assert_eq!(rt; sink.write(rest), Err(DeviceFault::DeviceFault));
+    assert_eq!(rt; sink.write(b""), Err(DeviceFault::DeviceFault));
+    assert_eq!(rt; sink.flush(), Err(DeviceFault::DeviceFault));
+}
+
 #[test]
 fn writes_in_pieces_until_full(rt: HostRuntime) -> Result<(), Fail> {
     let table: [(usize, &[usize]); 4] = [
@@ -97,13 +106,7 @@ fn writes_in_pieces_until_full(rt: HostRuntime) -> Result<(), Fail> {
             rest = &rest[count..];
         }
         assert_eq!(rt; sink.taken(), b"vwxyz".as_slice());
-
-        // A full sink takes nothing, and only a write of some bytes fails.
-        assert_eq!(rt; sink.write(b""), Ok(0));
-        assert_eq!(rt; sink.flush(), Ok(()));
-        assert_eq!(rt; sink.write(rest), Err(DeviceFault::DeviceFault));
-        assert_eq!(rt; sink.write(b""), Err(DeviceFault::DeviceFault));
-        assert_eq!(rt; sink.flush(), Err(DeviceFault::DeviceFault));
+        check_full(&rt, &mut sink, rest);
         assert_eq!(rt; sink.taken(), b"vwxyz".as_slice());
     }
     Ok(())

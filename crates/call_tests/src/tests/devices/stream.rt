@@ -102,6 +102,7 @@ fn a_read_that_failed_is_the_last(rt: HostRuntime) {
 
 #[test]
 fn a_write_or_flush_that_failed_is_the_last(rt: HostRuntime) {
+    let fault = Err(DeviceFault::DeviceFault);
     let table: [(
         &[Option<usize>],
         usize,
@@ -109,24 +110,9 @@ fn a_write_or_flush_that_failed_is_the_last(rt: HostRuntime) {
         bool,
     ); 4] = [
         (&[Some(3), Some(0), Some(1)], 3, [Ok(3), Ok(1)], true),
-        (
-            &[None, Some(0), Some(1)],
-            1,
-            [Err(DeviceFault::DeviceFault), Err(DeviceFault::DeviceFault)],
-            false,
-        ),
-        (
-            &[Some(3), None, Some(1)],
-            2,
-            [Ok(3), Err(DeviceFault::DeviceFault)],
-            false,
-        ),
-        (
-            &[Some(0), Some(0), Some(1)],
-            1,
-            [Ok(0), Err(DeviceFault::DeviceFault)],
-            false,
-        ),
+        (&[None, Some(0), Some(1)], 1, [fault, fault], false),
+        (&[Some(3), None, Some(1)], 2, [Ok(3), fault], false),
+        (&[Some(0), Some(0), Some(1)], 1, [Ok(0), fault], false),
     ];
     for error in [ErrorKind::Interrupted, ErrorKind::Other] {
         for (answers, calls, writes, flushes) in table {

@@ -1,7 +1,10 @@
 //! The longest history, undone and made again.
 
 use super::{PUZZLE, begun, has_marks, plays, puzzle};
-use play_midend::Move;
+use clue_rules::Towers;
+use play_midend::{Move, Session};
+use std::alloc::Global;
+use std::process::Abort;
 use std::test::Fail;
 
 // The move with a number, from 1, of a long history.
@@ -13,11 +16,13 @@ fn long_move(i: usize) -> Move {
     }
 }
 
-#[test]
-fn long_history(rt: HostRuntime) -> Result<(), Fail> {
-    let mut session = begun(rt.alloc(), puzzle(3, PUZZLE)?)?;
-    // The marks of each state, made by a replay that knows nothing of boards.
-    let mut states = Vec::with_capacity(rt.alloc(), 100_000)?;
+// Plays moves until the history is full, and gives the marks of each state, made by a replay that knows nothing of boards.
+fn play_all(
+    rt: &impl Abort,
+    alloc: Global,
+    session: &mut Session<Towers>,
+) -> Result<Vec<[u16; 9]>, Fail> {
+    let mut states = Vec::with_capacity(alloc, 100_000)?;
     let mut marks = [0u16; 9];
     states.push(marks)?;
     for i in 1..100_000usize {
@@ -30,19 +35,14 @@ fn long_history(rt: HostRuntime) -> Result<(), Fail> {
         session.play(long_move(i))?;
         assert!(rt; has_marks(session.board(), &marks), "state {i} made");
     }
-    plays(
-        &rt,
-        rt.alloc(),
-        &mut session,
-        &[
-            ("P0,0,1", "HistoryFull", "playing 100000/100000"),
-            ("restart", "HistoryFull", "playing 100000/100000"),
-            ("S123231312", "HistoryFull", "playing 100000/100000"),
-            ("solve", "HistoryFull", "playing 100000/100000"),
-            ("S132213321", "BadSolution", "playing 100000/100000"),
-            ("R9,0,1", "OffGrid", "playing 100000/100000"),
-        ],
-    )?;
+    Ok(states)
+}
+
+fn undo_all(
+    rt: &impl Abort,
+    session: &mut Session<Towers>,
+    states: &[[u16; 9]],
+) -> Result<(), Fail> {
     for marks in states.iter().rev().skip(1) {
         session.undo()?;
         assert!(rt;
@@ -51,6 +51,14 @@ fn long_history(rt: HostRuntime) -> Result<(), Fail> {
             session.position()
         );
     }
+    Ok(())
+}
+
+fn redo_all(
+    rt: &impl Abort,
+    session: &mut Session<Towers>,
+    states: &[[u16; 9]],
+) -> Result<(), Fail> {
     for marks in states.iter().skip(1) {
         session.redo()?;
         assert!(rt;
@@ -59,14 +67,29 @@ fn long_history(rt: HostRuntime) -> Result<(), Fail> {
             session.position()
         );
     }
-    plays(
-        &rt,
-        rt.alloc(),
-        &mut session,
-        &[
-            ("undo", "ok", "playing 99999/100000"),
-            ("M", "ok", "playing 100000/100000"),
-        ],
-    )?;
+    Ok(())
+}
+
+#[test]
+fn long_history(rt: HostRuntime) -> Result<(), Fail> {
+    let alloc = rt.alloc();
+    let mut session = begun(alloc, puzzle(3, PUZZLE)?)?;
+    let states = play_all(&rt, alloc, &mut session)?;
+    let full = [
+        ("P0,0,1", "HistoryFull", "playing 100000/100000"),
+        ("restart", "HistoryFull", "playing 100000/100000"),
+        ("S123231312", "HistoryFull", "playing 100000/100000"),
+        ("solve", "HistoryFull", "playing 100000/100000"),
+        ("S132213321", "BadSolution", "playing 100000/100000"),
+        ("R9,0,1", "OffGrid", "playing 100000/100000"),
+    ];
+    plays(&rt, alloc, &mut session, &full)?;
+    undo_all(&rt, &mut session, &states)?;
+    redo_all(&rt, &mut session, &states)?;
+    let last = [
+        ("undo", "ok", "playing 99999/100000"),
+        ("M", "ok", "playing 100000/100000"),
+    ];
+    plays(&rt, alloc, &mut session, &last)?;
     Ok(())
 }
