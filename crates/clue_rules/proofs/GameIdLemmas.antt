@@ -1,7 +1,6 @@
 -- Game IDs: what is read has the grammar, what has the grammar is read, and reading spares memory.
 use Rattle.std.specs.Prelude.{◌≡◌, ℕ, ◌≤◌, Bool, false, ◌==◌, ◌||◌, List, [], ◌∷◌, Option, Some, None, Result, Ok, Err}
 use Rattle.byte_text.specs.Decimals.{decimal_value}
-use Rattle.byte_text.specs.Reading.{Gives}
 use Rattle.clue_rules.specs.declared.id_fault.IdFault.{IdFault}
 use Rattle.clue_rules.specs.declared.id_fault.IdFault.TheVariants.{ForeignSeed, BadSize, BadLetter, AdjacentMode, BadParams}
 use Rattle.clue_rules.specs.declared.game_id.GameId.{GameId}
@@ -9,13 +8,12 @@ use Rattle.clue_rules.specs.declared.game_id.GameId.TheVariants.{Described, Seed
 use Rattle.clue_rules.specs.declared.params.Params.{Params}
 use Rattle.trail_solver.specs.Puzzles.{Puzzle}
 use Rattle.clue_rules.specs.Parameters.{params_at, IsParams, letter_part, params_text, IsParamText, if_no_more, letter_at, behind_size, is_size}
-use Rattle.clue_rules.specs.GameIds.{is_separator, params_part, from_separator, seeded, behind_params, id_parts_at, with_description, id_at, id_map, LacksSeparators, describes_at, IsIdText, IsAnyText, largest_seed}
+use Rattle.clue_rules.specs.GameIds.{is_separator, params_part, from_separator, seeded, behind_params, id_parts_at, with_description, id_at, LacksSeparators, describes_at, IsIdText, IsAnyText, largest_seed}
 use Rattle.std.proofs.Common.{◌≡◌, IfOk, ◌≢◌, ℕ, ◌+◌, ◌^◌, ◌<◌, ◌≤◌, Bool, true, false, ◌==◌, ◌||◌, List, [], ◌∷◌, ◌++◌, Option, Some, None, IfSome, Result, Ok, Err, refl, sym, ap, ◌∙◌, subst, arith, inl, inr, ◌-◌, ◌&&◌, if◌then◌else◌}
 use Rattle.std.specs.List.{AllByRecursion, Contains, list_any}
 use Rattle.std.specs.Fmt.{decimal}
 use Rattle.std.proofs.lemmas.List.Elements.{All-contains}
 use Rattle.std.proofs.lemmas.Bool.{or_cases, eqb-true, eqb-false, ne_eqb}
-use denote.Bor.{Bor}
 use Rattle.byte_text.proofs.DecimalLaws.{number_taken, number_again}
 use Rattle.byte_text.proofs.ReadingLaws.{bind_taken, bind_again}
 use Rattle.clue_rules.proofs.ParameterLemmas.{params_taken, params_again}
@@ -197,19 +195,6 @@ pub id_found : (D : Type 0) (letters : List ℕ) (has_adjacent : Bool) (desc_at 
     → IfOk answer (λ id. IsIdText letters IsDesc id text)
 id_found D letters has_adjacent desc_at IsDesc text (Ok id) reads is = id_taken D letters has_adjacent desc_at IsDesc text id reads (sym is)
 id_found D letters has_adjacent desc_at IsDesc text (Err e) reads is = tt
-
-pub id_parts_found : (letters : List ℕ) (has_adjacent : Bool) (text : List ℕ) (answer : Result (GameId (Bor (List ℕ))) IdFault)
-    → Gives (λ id. id_map (λ r. r.now) id) answer (id_parts_at letters has_adjacent text)
-    → IfOk answer (λ id. IsIdText letters IsAnyText (id_map (λ r. r.now) id) text)
-id_parts_found letters has_adjacent text (Ok id) gives = id_parts_taken letters has_adjacent text (id_map (λ r. r.now) id) gives
-id_parts_found letters has_adjacent text (Err e) gives = tt
-
-pub id_parts_only : (letters : List ℕ) (has_adjacent : Bool) (text : List ℕ) (answer : Result (GameId (Bor (List ℕ))) IdFault)
-    (id : GameId (List ℕ))
-    → Gives (λ v. id_map (λ r. r.now) v) answer (id_parts_at letters has_adjacent text) → LacksSeparators letters
-    → IsIdText letters IsAnyText id text → Gives (λ v. id_map (λ r. r.now) v) answer (Ok id)
-id_parts_only letters has_adjacent text (Ok v) id gives lacks h = sym (id_parts_again letters has_adjacent text id lacks h) ∙ gives
-id_parts_only letters has_adjacent text (Err e) id gives lacks h = sym (id_parts_again letters has_adjacent text id lacks h) ∙ gives
 
 -- what a game owes of its descriptions makes its reading one of the grammar
 pub game_reads : (D : Type 0) (puzzle : D → Puzzle) (valid : D → Type 0) (describes : List ℕ → D → Type 0)

@@ -14,18 +14,6 @@ use Rattle.clue_rules.proofs.RangeLemmas.{below_one_more}
 
 -- ---- one set more
 
-pub tally_none : (sets : List ℕ) (t : Tally) → t.once ≡ 0 → t.twice ≡ 0 → t.singles ≡ 0 → IsTally sets 0 t
-tally_none sets t once twice singles =
-    let none : (m v : ℕ) → m ≡ 0 → has_mark m v ≡ true → ⊥ =
-    λ m v e h. let P : ℕ → Type 0 = λ n. has_mark n v ≡ true in both_ways (has_mark 0 v) (mark-zero v) (subst P e h) in
-    record {
-      once = λ v. (λ h. absurd (none t.once v once h), λ h. absurd (omega (arith, h.1)));
-      twice = λ v. (λ h. absurd (none t.twice v twice h), λ h. absurd (omega (arith, h.3)));
-      singles = λ v. (λ h. absurd (none t.singles v singles h), λ h. absurd (omega (arith, h.1)));
-      some = λ k low. absurd (omega arith);
-      apart = λ i j v before low one two. absurd (omega arith);
-    }
-
 pub tally_more : (sets : List ℕ) (n : ℕ) (t u : Tally) → IsTally sets n t → IsCounted t (slice_index sets n) u → IsTally sets (n + 1) u
 tally_more sets n t u h more =
     let At : ℕ → ℕ → Type 0 = λ k v. has_mark (slice_index sets k) v ≡ true in
@@ -200,12 +188,6 @@ free_from t set free v f e =
 free_to : (t : Tally) (set free v : ℕ) → IsFree t set free → has_mark set v ≡ true → has_mark t.singles v ≡ false → has_mark free v ≡ true
 free_to t set free v f has none = f.is v ∙ and_from _ _ has (ap not none)
 
-pub kept_single : (t : Tally) (set value : ℕ) → IsSingle set value → IsKeptOf t set set
-kept_single t set value single = record {
-  only = λ v e. (e, inl (record { has = e; alone = λ u h. single.alone u h ∙ sym (single.alone v e) }));
-  all = λ v has stays. has;
-}
-
 pub kept_free : (t : Tally) (set forced free : ℕ) → ((v : ℕ) → IsSingle set v → ⊥) → IsForced t set forced → IsFree t set free
     → forced ≡ 0 → IsKeptOf t set free
 kept_free t set forced free many f r none = record {
@@ -283,9 +265,6 @@ singles_none set many = record {
     λ single. absurd (many v single),
   );
 }
-
-pub clash_empty : (t : Tally) (set : ℕ) → set ≡ 0 → IsClash t set
-clash_empty t set none = inl (λ v. ap (λ m. has_mark m v) none ∙ mark-zero v)
 
 pub clash_twice : (t : Tally) (set single : ℕ) → IsSinglesOf set single → single < 2 ^ 16 → bit_and t.singles single ≢ 0 → IsClash t set
 clash_twice t set single s small shared =

@@ -5,7 +5,7 @@ use Rattle.std.proofs.Math.Nat.{mul-le-mul_left}
 use Rattle.latin_board.specs.Squares.{GridValue}
 use Rattle.trail_solver.specs.Pairs.{IsPair}
 use Rattle.trail_solver.specs.Candidates.{CandidatesValue, IsEarlier, may_be}
-use Rattle.trail_solver.proofs.Earlier.{earlier_refl, earlier_trans, prefix_length, stays_gone}
+use Rattle.trail_solver.proofs.Earlier.{earlier_trans, prefix_length, stays_gone}
 use Rattle.clue_rules.specs.Inner.Narrowing.{LacksStruck, Narrows, NoneStruck, StruckBelow, IsStruckByLines}
 use Rattle.clue_rules.specs.Struck.{IsLatinStruck}
 use Rattle.clue_rules.proofs.RangeLemmas.{below_cases}
@@ -44,14 +44,6 @@ narrows_by {r = r} f h = record {
   struck = on_true r (lacks_by f) h.struck;
 }
 
-pub narrows_nothing : (S : GridValue → Type 0) (c : CandidatesValue) → Narrows S NoneStruck c c true
-narrows_nothing S c = record {
-  less = earlier_refl c;
-  keeps = λ g s size w. w;
-  refutes = tt;
-  struck = record { each = λ first e cell v pair none. absurd none };
-}
-
 -- two steps
 pub narrows_then : {S : GridValue → Type 0} {T U V : CandidatesValue → ℕ → ℕ → Type 0} {a b c : CandidatesValue} {r : Bool}
     → ((first : CandidatesValue) (cell v : ℕ) → V first cell v → T first cell v ⊎ U first cell v) → Narrows S T a b true
@@ -67,21 +59,6 @@ narrows_then {a = a} {b = b} {c = c} {r = r} f one two = record {
     ];
   }) two.struck;
 }
-
--- a step, and then one that finds that nothing is left
-pub narrows_stop : {S : GridValue → Type 0} {T U V : CandidatesValue → ℕ → ℕ → Type 0} {a b c : CandidatesValue}
-    → Narrows S T a b true → Narrows S U b c false → Narrows S V a c false
-narrows_stop {a = a} {b = b} {c = c} one two = record {
-  less = earlier_trans a b c one.less two.less;
-  keeps = λ g s size w. two.keeps g s (size ∙ sym one.less.size) (one.keeps g s size w);
-  refutes = λ g s size w. two.refutes g s (size ∙ sym one.less.size) (one.keeps g s size w);
-  struck = tt;
-}
-
--- a row of steps
-pub below_none : (S : GridValue → Type 0) (T : ℕ → CandidatesValue → ℕ → ℕ → Type 0) (c : CandidatesValue)
-    → Narrows S (StruckBelow T 0) c c true
-below_none S T c = narrows_by (λ first e cell v pair s. absurd (omega (arith, s.1))) (narrows_nothing S c)
 
 pub below_more : {S : GridValue → Type 0} {T : ℕ → CandidatesValue → ℕ → ℕ → Type 0} {n : ℕ} {a b c : CandidatesValue}
     → Narrows S (StruckBelow T n) a b true → Narrows S (T n) b c true → Narrows S (StruckBelow T (n + 1)) a c true
@@ -102,15 +79,6 @@ lines_narrow {T = T} {b = b} f latin rule rest =
     let P : ℕ → Type 0 = λ n. StruckBelow T (2 * n) first cell v in
     subst P (sym e.size) s) rule in
     narrows_then (λ first cell v s. inl s) (narrows_then (λ first cell v s. s) (narrows_for f latin) every) rest
-
-pub lines_refuted : {S R : GridValue → Type 0} {T U : CandidatesValue → ℕ → ℕ → Type 0} {a b : CandidatesValue}
-    → ((g : GridValue) → S g → R g) → Narrows R T a b false → Narrows S U a b false
-lines_refuted f h = record {
-  less = h.less;
-  keeps = λ g s size w. h.keeps g (f g s) size w;
-  refutes = λ g s size w. h.refutes g (f g s) size w;
-  struck = tt;
-}
 
 -- ---- how long it can go on
 

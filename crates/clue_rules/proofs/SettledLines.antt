@@ -1,15 +1,13 @@
 -- A line whose squares have one candidate each: its only filling.
-use Rattle.std.proofs.Common.{◌≡◌, ◌≢◌, ℕ, ◌+◌, ◌<◌, ◌≤◌, true, List, length, set, take, sym, ap, ◌∙◌, subst, inl, inr, arith, bit_and, bit_or, w16, slice_index}
+use Rattle.std.proofs.Common.{◌≡◌, ◌≢◌, ℕ, ◌+◌, ◌<◌, true, List, length, set, sym, ap, ◌∙◌, subst, inl, inr, arith, bit_and, bit_or, w16, slice_index}
 use Rattle.std.specs.Int.{trailing_zeros}
 use Rattle.std.proofs.Math.ListN.{length-set}
 use Rattle.std.proofs.lemmas.Bool.{cases_eq, both_ways, and_from, or_left, or_right}
-use Rattle.std.proofs.lemmas.List.{get_or-set_same, get_or-set_other, get_or-take, length-take-le}
+use Rattle.std.proofs.lemmas.List.{get_or-set_same, get_or-set_other}
 use Rattle.std.proofs.lemmas.Nat.Bits.{bit_at-trailing_zeros}
 use Rattle.latin_board.specs.Marks.{has_mark}
-use Rattle.tower_lines.specs.TowersSeen.{seen}
 use Rattle.tower_lines.proofs.MarkLemmas.{mark-and, mark-or, mark-zero, mark-from_bit}
-use Rattle.clue_rules.specs.Inner.LineTallies.{IsSingle, HoldValuesTo}
-use Rattle.clue_rules.specs.Inner.TowersLines.{AreSupported}
+use Rattle.clue_rules.specs.Inner.LineTallies.{IsSingle}
 use Rattle.clue_rules.proofs.FilledLemmas.{entries_more}
 
 -- the lowest value of a set
@@ -23,14 +21,6 @@ pub record IsSettled (sets : List ℕ) (n used : ℕ) (line : List ℕ) : Type 0
   pub single : (k : ℕ) → k < n → IsSingle (slice_index sets k) (slice_index line k)
   pub in_used : (k : ℕ) → k < n → has_mark used (slice_index line k) ≡ true
   pub apart : (i j : ℕ) → i < j → j < n → slice_index line i ≢ slice_index line j
-
-pub settled_none : (sets line : List ℕ) (used : ℕ) → length line ≡ 9 → IsSettled sets 0 used line
-settled_none sets line used count = record {
-  count = count;
-  single = λ k low. absurd (omega arith);
-  in_used = λ k low. absurd (omega arith);
-  apart = λ i j before low. absurd (omega arith);
-}
 
 pub settled_more : (sets line : List ℕ) (n used v : ℕ) → IsSettled sets n used line → n < 9 → IsSingle (slice_index sets n) v
     → bit_and used (slice_index sets n) ≡ 0 → IsSettled sets (n + 1) (bit_or used (slice_index sets n)) (set line n v)
@@ -55,38 +45,6 @@ settled_more sets line n used v h inside single fresh =
             new i (omega arith) (sym i_there ∙ same ∙ j_here)
         | inr other ↦ h.apart i j before (omega arith) (sym (there i (λ e. omega arith)) ∙ same ∙ there j other)
       ];
-    }
-
--- the line is then the only filling, and has each value of the sets
-pub settled_supported : (sets line : List ℕ) (w used clue : ℕ) → IsSettled sets w used line → w ≤ 9 → length sets ≡ 9
-    → HoldValuesTo w sets → seen (take w line) ≡ clue → AreSupported w clue sets sets
-settled_supported sets line w used clue h small count range shown k v inside has =
-    let sets_long : length (take w sets) ≡ w = length-take-le w sets (omega arith) in
-    let line_long : length (take w line) ≡ w = length-take-le w line (omega (arith, h.count)) in
-    let at : (j : ℕ) → j < w → slice_index (take w line) j ≡ slice_index line j = λ j low. get_or-take w line j 0 low in
-    let own : (j : ℕ) → j < w → has_mark (slice_index sets j) (slice_index (take w line) j) ≡ true =
-    λ j low. let P : ℕ → Type 0 = λ u. has_mark (slice_index sets j) u ≡ true in subst P (sym (at j low)) (h.single j low).has in
-    record {
-      line = take w line;
-      filling = record {
-        start = record {
-          room = omega arith;
-          values = λ j low.
-              let in_line : j < w = omega arith in
-              let r = range j (slice_index (take w line) j) in_line (own j in_line) in
-              (r.0, omega (arith, r.1));
-          candidates = λ j low.
-              let in_line : j < w = omega arith in
-              let P : ℕ → Type 0 = λ m. has_mark m (slice_index (take w line) j) ≡ true in
-              subst P (sym (get_or-take w sets j 0 in_line)) (own j in_line);
-          apart = λ i j before low same.
-              h.apart i j before (omega arith) (sym (at i (omega arith)) ∙ same ∙ at j (omega arith));
-        };
-        whole = line_long ∙ sym sets_long;
-        shown = shown;
-      };
-      inside = omega arith;
-      here = at k inside ∙ sym ((h.single k inside).alone v has);
     }
 
 pub single_lowest : (set v : ℕ) → set < 65536 → IsSingle set v → IsSingle set (trailing_zeros w16 set)

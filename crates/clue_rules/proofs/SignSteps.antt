@@ -16,10 +16,10 @@ use Rattle.clue_rules.specs.Laws.SignPlaces.{between_at}
 use Rattle.clue_rules.proofs.SignLemmas.{signs_held}
 use Rattle.clue_rules.specs.Struck.{IsUnequalStruck}
 use Rattle.clue_rules.specs.Inner.UnequalLines.{AreEnds, IsStruckAt, IsStruckAlong, line_sign, HoldsGreater, AreInside, IsLesserStruck, IsGreaterStruck, IsEndStruck}
-use Rattle.clue_rules.specs.declared.unequal.sign.Sign.TheVariants.{Absent, FirstGreater, SecondGreater}
+use Rattle.clue_rules.specs.declared.unequal.sign.Sign.TheVariants.{FirstGreater, SecondGreater}
 use Rattle.clue_rules.proofs.KeptCandidates.{within_kept}
 use Rattle.clue_rules.proofs.LineSteps.{grid_pair, in_set}
-use Rattle.clue_rules.proofs.Narrowings.{narrows_by, narrows_for, narrows_nothing}
+use Rattle.clue_rules.proofs.Narrowings.{narrows_by, narrows_for}
 use Rattle.clue_rules.specs.Laws.SignSides.{Side, First, Second, other_side, square_at, greater_at, greater_by, greater_from_sign, IsGreaterBy}
 use Rattle.clue_rules.specs.declared.unequal.lines.Ends.{Ends}
 
@@ -148,15 +148,6 @@ sign_narrows v sign ends old new left small inside are h =
     ))
     (narrows_by (λ first e cell value pair s.
     subst (λ (x : Ends). IsEndStruck x first cell value) (same_ends v sign s.ends ends s.are are) s.struck) h)
-
-pub no_sign_narrows : (v : UnequalValue) (sign : ℕ) (c : CandidatesValue) → sign_at v sign ≡ Absent
-    → Narrows (Solves (unequal_puzzle v)) (IsStruckAt v sign) c c true
-no_sign_narrows v sign c none =
-    narrows_by (λ first e cell value pair s. elim s.are.is [
-      | inl one ↦ let clash : FirstGreater ≡ Absent = sym one.0 ∙ none in cc
-      | inr two ↦ let clash : SecondGreater ≡ Absent = sym two.0 ∙ none in cc
-    ])
-    (narrows_nothing (Solves (unequal_puzzle v)) c)
 
 -- ---- all that a puzzle strikes
 

@@ -101,19 +101,6 @@ mark-taken m n k was =
     and_true true = refl
     and_true false = refl
 
-pub mark-none_taken : (m n k : ℕ) → has_mark m n ≡ false → has_mark m k ≡ (has_mark m k && not (k == n))
-mark-none_taken m n k was =
-    elim (cases_eq k n) [
-      | inl same ↦
-          let P : ℕ → Type 0 = λ j. has_mark m j ≡ false in
-          rw (subst P (sym same) was) refl
-      | inr other ↦ rw (ne_eqb k n other) (and_true (has_mark m k))
-    ]
-  where
-    and_true : (b : Bool) → b ≡ (b && true)
-    and_true true = refl
-    and_true false = refl
-
 -- ---- the test of a single value
 
 pub single_test : (set : ℕ) → set ≢ 0 → set < 2 ^ 16
@@ -159,12 +146,6 @@ below_top set k v low high = (
     | inl below ↦ (mark-ones k v).1 below
     | inr above ↦ absurd (both_ways (has_mark set h.0) (mark-above set (k + 1) h.0 (omega (arith, pow_next k)) (omega (arith, h.1))) h.2)
   ],
-)
-
-pub none_in_zero : (v : ℕ) {P : ℕ → Type 0} → (has_mark 0 v ≡ true) ↔ ((u : ℕ) × P u × (has_mark 0 u ≡ true))
-none_in_zero v = (
-  λ e. absurd (both_ways (has_mark 0 v) (mark-zero v) e),
-  λ h. absurd (both_ways (has_mark 0 h.0) (mark-zero h.0) h.2),
 )
 
 pub above_bottom : (set all rest kept k v : ℕ) → set ≢ 0 → set < 2 ^ 16 → k ≡ trailing_zeros w16 set → v < 16

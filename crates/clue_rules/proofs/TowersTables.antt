@@ -3,7 +3,7 @@ use Rattle.std.proofs.Common.{◌≡◌, ℕ, zero, ◌+◌, ◌*◌, ◌<◌, �
 use Rattle.latin_board.specs.Squares.{GridValue, IsGrid}
 use Rattle.tower_lines.specs.TowersSeen.{seen}
 use Rattle.clue_rules.specs.Inner.TowersFields.{KeepsTowers, towers_value}
-use Rattle.clue_rules.specs.Towers.{cut_towers, full_towers}
+use Rattle.clue_rules.specs.Towers.{cut_towers}
 use Rattle.clue_rules.specs.Views.{view_of}
 use Rattle.clue_rules.specs.Laws.TowersItems.{full_valid}
 use Rattle.clue_rules.proofs.FilledLemmas.{IsFilledBy}
@@ -18,9 +18,6 @@ full_kept g clues is_grid h = record {
   padded = h.filled;
   within = let P : List ℕ → Type 0 = λ xs. All (λ clue. clue ≤ g.size) xs in rw h.front ((full_valid g is_grid).clues_within);
 }
-
-pub full_is : (g : GridValue) (clues : List ℕ) → HasClues g (4 * g.size) clues → towers_value clues g ≡ full_towers g
-full_is g clues h = rw h.front refl
 
 pub clue_dropped : (givens : GridValue) (clues : List ℕ) (i : ℕ) → i < 4 * givens.size
     → towers_value (set clues i 0) givens ≡ cut_towers (towers_value clues givens) (λ j. not (j == i))

@@ -21,7 +21,7 @@ use Rattle.clue_rules.specs.Inner.TowersLines.{IsStruckAlong, IsStruckAt, ShowsC
 use Rattle.clue_rules.specs.Views.{view_of, view_cell, view_line, view_index, front_place}
 use Rattle.clue_rules.specs.Towers.{clue_of}
 use Rattle.clue_rules.proofs.LineSteps.{along_narrows, grid_pair, in_set}
-use Rattle.clue_rules.proofs.Narrowings.{narrows_by, narrows_for, narrows_nothing, narrows_then}
+use Rattle.clue_rules.proofs.Narrowings.{narrows_by, narrows_for, narrows_then}
 use Rattle.clue_rules.proofs.ViewLines.{view_of-numbers}
 use Rattle.clue_rules.specs.Laws.Edges.{edge_cases}
 use Rattle.clue_rules.proofs.KeptCandidates.{along_whole}
@@ -174,11 +174,6 @@ view_kept c place clue sets inside is small supported =
     (along_whole place sets sets c is (λ k low. refl))
 
 -- ---- a clue of a puzzle, and the clues at both ends of a line
-
-pub no_clue_narrows : (v : TowersValue) (place : ℕ) (c : CandidatesValue) → clue_of v place ≡ 0
-    → Narrows (Solves (towers_puzzle v)) (IsStruckAt v place) c c true
-no_clue_narrows v place c none =
-    narrows_by (λ first e cell value pair s. absurd (omega (arith, s.0))) (narrows_nothing (Solves (towers_puzzle v)) c)
 
 pub clue_narrows : (v : TowersValue) (place clue : ℕ) (old new : CandidatesValue) (left : Bool) → old.size ≡ v.size
     → place < 4 * old.size → clue ≡ clue_of v place → clue ≢ 0

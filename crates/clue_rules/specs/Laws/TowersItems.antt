@@ -9,6 +9,7 @@ use Rattle.std.proofs.lemmas.List.Elements.{All-map}
 use Rattle.std.proofs.lemmas.List.FromFn.{length-map-range_with_len, get_or-map-range_with_len}
 use Rattle.latin_board.specs.Squares.{GridValue, IsGrid, IsLatin, number_at, row_of, column_of}
 use Rattle.latin_board.proofs.LatinTest.{all_in_range}
+use Rattle.latin_board.proofs.Numbers.{number_within}
 use Rattle.tower_lines.specs.TowersSeen.{seen}
 use Rattle.tower_lines.proofs.SeenLemmas.{seen_most, seen_some}
 use Rattle.trail_solver.specs.Puzzles.{Solves}
@@ -40,7 +41,7 @@ pub valid_size : (v : TowersValue) → IsTowers v → (3 ≤ v.size) × (v.size 
 valid_size v h = (h.givens.smallest, h.givens.largest)
 
 pub valid_given : (v : TowersValue) (cell : ℕ) → IsTowers v → cell < v.size * v.size → slice_index v.givens cell ≤ v.size
-valid_given v cell h inside = h.givens.within cell 0 (rw h.givens.count inside)
+valid_given v cell h inside = number_within (given_grid v) h.givens cell inside
 
 -- ---- cuts
 

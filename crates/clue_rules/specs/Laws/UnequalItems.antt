@@ -6,6 +6,7 @@ use Rattle.std.proofs.lemmas.List.FromFn.{length-map-range_with_len, get_or-map-
 use Rattle.latin_board.specs.Squares.{GridValue, IsGrid, IsLatin, number_at}
 use Rattle.latin_board.specs.Lines.{ArePeers}
 use Rattle.latin_board.proofs.LatinLines.{peers_differ}
+use Rattle.latin_board.proofs.Numbers.{number_within}
 use Rattle.trail_solver.specs.Puzzles.{Solves}
 use Rattle.clue_rules.specs.declared.unequal.sign.Sign.{Sign}
 use Rattle.clue_rules.specs.declared.unequal.sign.Sign.TheVariants.{Absent, FirstGreater, SecondGreater}
@@ -20,7 +21,7 @@ pub valid_size : (v : UnequalValue) → IsUnequal v → (3 ≤ v.size) × (v.siz
 valid_size v h = (h.givens.smallest, h.givens.largest)
 
 pub valid_given : (v : UnequalValue) (cell : ℕ) → IsUnequal v → cell < v.size * v.size → slice_index v.givens cell ≤ v.size
-valid_given v cell h inside = h.givens.within cell 0 (rw h.givens.count inside)
+valid_given v cell h inside = number_within (given_grid v) h.givens cell inside
 
 -- cuts
 
