@@ -6,7 +6,7 @@
 //!
 //! ```text
 //! $ echo 'towers 3' | gen_bench
-//! Towers   size 3  items  2.2  mean    31.5  slowest    76.0
+//! Towers   size 3  items  2.2  mean     9.3  slowest    20.0
 //! ```
 #![tactic(auto)]
 

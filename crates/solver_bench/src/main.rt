@@ -7,7 +7,7 @@
 //!
 //! ```text
 //! $ echo 'towers small 3:3//////3/////' | solver_bench
-//! towers small     puzzles   1  unique   1  mean     2.4  slowest     2.4
+//! towers small     puzzles   1  unique   1  mean     0.7  slowest     0.7
 //! ```
 #![tactic(auto)]
 
