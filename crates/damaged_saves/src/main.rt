@@ -3,6 +3,14 @@
 //! session.
 //!
 //! It writes how many texts there were and how many were answered wrongly, and then which answers came.
+//!
+//! ```text
+//! $ damaged_saves
+//! 63398 texts, 0 wrong
+//! loads
+//! NotASave
+//! ..
+//! ```
 #![tactic(auto)]
 
 mod damage;

@@ -3,6 +3,11 @@
 //!
 //! A line is a game and a size, with a space between; a line that begins with # is skipped. Each puzzle is generated some
 //! times in a row, and the mean of these is its time.
+//!
+//! ```text
+//! $ echo 'towers 3' | gen_bench
+//! Towers   size 3  items  2.2  mean     9.3  slowest    20.0
+//! ```
 #![tactic(auto)]
 
 use clue_rules::{Game, Params, Towers, Unequal};

@@ -4,6 +4,12 @@
 //! `ok` or the name of the refusal; then `same` or `changed`, as the session is behind the call; then what the call made, as
 //! text. Where memory is refused before the call, it writes `fixture` alone; where it is refused behind the call, for the text,
 //! it writes `afterwards` alone.
+//!
+//! ```text
+//! $ refused_memory towers restart
+//! ok
+//! changed
+//! ```
 #![tactic(auto)]
 
 mod call;

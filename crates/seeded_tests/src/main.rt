@@ -3,6 +3,12 @@
 //!
 //! Each line comes back with its answer behind it: a square's numbers in reading order, or a game's ID. A line that begins
 //! with # comes back as it is, and one that asks for nothing comes back with a question mark.
+//!
+//! ```text
+//! $ printf 'square 3 0\ntowers 5 0\n' | seeded_tests
+//! square 3 0 132213321
+//! towers 5 0 5:////////2///2////////,c2b1a4h2a3a3c
+//! ```
 #![tactic(auto)]
 
 use clue_rules::{Game, Params, Towers, Unequal};

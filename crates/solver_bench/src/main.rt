@@ -4,6 +4,11 @@
 //!
 //! A line is a game, a class if there is one, and a game ID, with a space between; a line that begins with # is skipped.
 //! Each puzzle is solved some times in a row, and the fastest of these counts, since others may work on the machine.
+//!
+//! ```text
+//! $ echo 'towers small 3:3//////3/////' | solver_bench
+//! towers small     puzzles   1  unique   1  mean     0.7  slowest     0.7
+//! ```
 #![tactic(auto)]
 
 use clue_rules::{Game, GameId, Towers, Unequal, read_id};

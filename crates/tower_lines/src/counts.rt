@@ -22,7 +22,7 @@ fn up_to(counts: u16, clue: u8) -> u16
     counts & ((1 << (clue + 1)) - 1)
 }
 
-/// Each count, one more where a tower comes next, as far as the clue isn't passed.
+/// Each count, one more where a tower comes next, up to the clue.
 pub fn raised_up_to(counts: u16, tower: bool, clue: u8) -> u16
     requires { clue ≤ 9 }
     ensures only { (c : ℕ) → has_bit result c ≡ true

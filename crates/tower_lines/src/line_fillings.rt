@@ -30,8 +30,8 @@ pub fn supported(sets: &[u16], clue: u8) -> [u16; 9]
     kept
 }
 
-/// For each mask, the counts of towers seen along the starts that use just its values, as far as
-/// they don't pass the clue.
+/// For each mask, the counts of towers seen along the starts that use just its values, up to the
+/// clue.
 fn counts_before(sets: &[u16], clue: u8) -> [u16; 512]
     requires short { length sets.now ≤ 9 }
     requires clue { clue ≤ 9 }

@@ -50,7 +50,7 @@ guess_adds p old kept cell value found answer size k inside a =
 -- ---- a value of a square, and then not
 
 -- what joins of the part to what was found joins of the whole to what was found first
-pub record IsLeft (Whole : GridValue → Type 0) (first : Answer) (Part : GridValue → Type 0) (found : Answer) : Type 0 where
+pub record IsRest (Whole : GridValue → Type 0) (first : Answer) (Part : GridValue → Type 0) (found : Answer) : Type 0 where
   pub joins : (answer : Answer) → Adds Part found answer → Adds Whole first answer
 
 -- a grid within what is left when a value went from a square is one that doesn't have the value there
@@ -63,18 +63,18 @@ within_removed old new cell value g r w n = record {
 }
 
 -- narrowing
-pub left_narrowed : (p : Puzzle) (Whole : GridValue → Type 0) (first found : Answer) (old new : CandidatesValue)
-    → IsLeft Whole first (IsAmong p old) found → IsEarlier old new → ((h : GridValue) → Solves p h → IsWithin old h → IsWithin new h)
-    → IsLeft Whole first (IsAmong p new) found
-left_narrowed p Whole first found old new l less keeps = record {
+pub rest_narrowed : (p : Puzzle) (Whole : GridValue → Type 0) (first found : Answer) (old new : CandidatesValue)
+    → IsRest Whole first (IsAmong p old) found → IsEarlier old new → ((h : GridValue) → Solves p h → IsWithin old h → IsWithin new h)
+    → IsRest Whole first (IsAmong p new) found
+rest_narrowed p Whole first found old new l less keeps = record {
   joins = λ answer a. l.joins answer (narrowed_adds p old new found answer less keeps a);
 }
 
 -- both sides of a branch
-pub left_branched : (p : Puzzle) (Whole : GridValue → Type 0) (first found more : Answer) (old new : CandidatesValue) (cell value : ℕ)
-    → IsLeft Whole first (IsAmong p old) found → Adds (IsAmongAt p old cell value) found more → Removes old new cell value
-    → IsLeft Whole first (IsAmong p new) more
-left_branched p Whole first found more old new cell value l a r = record {
+pub rest_branched : (p : Puzzle) (Whole : GridValue → Type 0) (first found more : Answer) (old new : CandidatesValue) (cell value : ℕ)
+    → IsRest Whole first (IsAmong p old) found → Adds (IsAmongAt p old cell value) found more → Removes old new cell value
+    → IsRest Whole first (IsAmong p new) more
+rest_branched p Whole first found more old new cell value l a r = record {
   joins = λ answer b. l.joins answer (adds_then (IsAmongAt p old cell value) (IsAmong p new) (IsAmong p old) found more answer
       (λ h s. (s.0, s.1.0))
       (among_earlier p old new (removed_earlier old new cell value r))
@@ -83,18 +83,18 @@ left_branched p Whole first found more old new cell value l a r = record {
 }
 
 -- one side is enough where it has two solutions
-pub left_several : (p : Puzzle) (Whole : GridValue → Type 0) (first found more : Answer) (old : CandidatesValue) (cell value : ℕ)
+pub rest_several : (p : Puzzle) (Whole : GridValue → Type 0) (first found more : Answer) (old : CandidatesValue) (cell value : ℕ)
     (k h : GridValue)
-    → IsLeft Whole first (IsAmong p old) found → Adds (IsAmongAt p old cell value) found more → more ≡ Several k h → Adds Whole first more
-left_several p Whole first found more old cell value k h l a e =
+    → IsRest Whole first (IsAmong p old) found → Adds (IsAmongAt p old cell value) found more → more ≡ Several k h → Adds Whole first more
+rest_several p Whole first found more old cell value k h l a e =
     let P : Answer → Type 0 = λ x. Adds (IsAmongAt p old cell value) found x in
     let Q : Answer → Type 0 = λ x. Adds (IsAmong p old) found x in
     l.joins more (subst Q (sym e) (adds_several (IsAmongAt p old cell value) (IsAmong p old) found k h (λ g s. (s.0, s.1.0)) (subst P e a)))
 
 -- no solution is left
-pub left_none : (Whole : GridValue → Type 0) (first : Answer) (Part : GridValue → Type 0) (found : Answer) → IsLeft Whole first Part found
+pub rest_none : (Whole : GridValue → Type 0) (first : Answer) (Part : GridValue → Type 0) (found : Answer) → IsRest Whole first Part found
     → ((h : GridValue) → Part h → ⊥) → Adds Whole first found
-left_none Whole first Part found l n = l.joins found (adds_nothing Part found n)
+rest_none Whole first Part found l n = l.joins found (adds_nothing Part found n)
 
 -- a square without candidates
 pub dead_none : (p : Puzzle) (c : CandidatesValue) (cell : ℕ) → c.size ≡ p.size → IsDead c cell → (h : GridValue) → IsAmong p c h → ⊥

@@ -1,7 +1,7 @@
 use Rattle.std.proofs.Common.{◌+◌, ◌-◌, ◌*◌, ◌≤◌, length}
 use Rattle.trail_solver.specs.Candidates.{IsEarlier}
 use Rattle.trail_solver.specs.Puzzles.{IsAmong}
-use Rattle.trail_solver.proofs.SearchSteps.{IsLeft}
+use Rattle.trail_solver.proofs.SearchSteps.{IsRest}
 use Rattle.trail_solver.proofs.solver.+search.Given as goal
 
 abbrev pub decreases-guess : goal.decreases-guess
@@ -18,5 +18,5 @@ abbrev pub invariant-search-loop-candidates : goal.invariant-search-loop-candida
 invariant-search-loop-candidates g l = record {
   less : IsEarlier l.initial.candidates l.candidates;
   longer : length l.initial.candidates.trail ≤ length l.candidates.trail;
-  rest : IsLeft (IsAmong (g.P.Rules.puzzle l.p) l.initial.candidates) l.initial.found (IsAmong (g.P.Rules.puzzle l.p) l.candidates) l.found;
+  rest : IsRest (IsAmong (g.P.Rules.puzzle l.p) l.initial.candidates) l.initial.found (IsAmong (g.P.Rules.puzzle l.p) l.candidates) l.found;
 }
