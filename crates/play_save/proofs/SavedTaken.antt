@@ -1,5 +1,5 @@
 -- What is read as a session is a save of it.
-use Rattle.std.proofs.Common.{◌≡◌, ℕ, ◌+◌, ◌<◌, true, false, ◌&&◌, nat_lt, List, [], ◌∷◌, ◌++◌, length, codes, bytes_eq, Option, Some, None, option_map, is_some, Result, Ok, Err, ok_or, refl, sym, ap, ◌∙◌, subst, arith}
+use Rattle.std.proofs.Common.{◌≡◌, ℕ, ◌+◌, ◌<◌, true, false, ◌&&◌, nat_lt, List, [], ◌∷◌, ◌++◌, length, codes, bytes_eq, Option, Some, None, option_map, is_some, Result, Ok, ok_or, refl, sym, ap, ◌∙◌, subst, arith}
 use Rattle.std.specs.Result.{result_ok}
 use Rattle.std.specs.Fmt.{decimal}
 use Rattle.std.proofs.lemmas.Slice.Eq.{bytes_eq-Decides}
@@ -64,29 +64,19 @@ never game rs k fault single header refused right = by_values (values_of k rs) r
         cc
 
 -- the values that have to stand
-version_is : {P : Type 0} (game : SavedGame P) (rs : List KeyedRecord)
-    → AreRight game [] rs → is_some (first_of (values_of FormatVersion rs)) ≡ true
-    → values_of FormatVersion rs ≡ codes "1" ∷ []
-version_is game rs right some =
-    let first = is_some_taken (first_of (values_of FormatVersion rs)) some in
-    let at = alone_at game rs FormatVersion first.0 refl refl right first.1 in
-    let good = once_taken _ (fault_unless (bytes_eq first.0 (codes "1")) Version) at.faultless in
-    let same = (bytes_eq-Decides first.0 (codes "1")).0 (fault_unless_taken _ Version good.1) in
-    at.alone ∙ ap (λ v. v ∷ []) same
-
-name_is : {P : Type 0} (game : SavedGame P) (rs : List KeyedRecord)
-    → AreRight game [] rs → is_some (first_of (values_of GameName rs)) ≡ true → values_of GameName rs ≡ game.title ∷ []
-name_is game rs right some =
-    let first = is_some_taken (first_of (values_of GameName rs)) some in
-    let at = alone_at game rs GameName first.0 refl refl right first.1 in
-    let good = once_taken _ (fault_unless (bytes_eq first.0 game.title) WrongGame) at.faultless in
-    let same = (bytes_eq-Decides first.0 game.title).0 (fault_unless_taken _ WrongGame good.1) in
-    at.alone ∙ ap (λ v. v ∷ []) same
+stands_as : {P : Type 0} (game : SavedGame P) (rs : List KeyedRecord) (k : Key) (value : List ℕ) (fault : LoadFault)
+    → is_once k ≡ true → is_state k ≡ false
+    → ((m : Met) (v : List ℕ) → fault_by game m k v ≡ None → fault_unless (bytes_eq v value) fault ≡ None)
+    → AreRight game [] rs → is_some (first_of (values_of k rs)) ≡ true → values_of k rs ≡ value ∷ []
+stands_as game rs k value fault single header only right some =
+    let first = is_some_taken (first_of (values_of k rs)) some in
+    let at = alone_at game rs k first.0 single header right first.1 in
+    let good = fault_unless_taken (bytes_eq first.0 value) fault (only (met game ([] ++ at.front)) first.0 at.faultless) in
+    at.alone ∙ ap (λ v. v ∷ []) ((bytes_eq-Decides first.0 value).0 good)
 
 needed_params_taken : (o : Option (Result Params IdFault)) (p : Params) → needed_params o ≡ Ok p → o ≡ Some (Ok p)
-needed_params_taken None p is = cc
 needed_params_taken (Some (Ok q)) p is = cc
-needed_params_taken (Some (Err e)) p is = cc
+needed_params_taken o p is = cc
 
 params_are : {P : Type 0} (game : SavedGame P) (rs : List KeyedRecord) (k : Key) (p : Params)
     → is_once k ≡ true → is_state k ≡ false → AreRight game [] rs
@@ -245,8 +235,8 @@ saved_taken {P} game rs h owes right is =
     let here : counts.p ≡ parts.position = (let a = counts.position_is in let b = parts.position_is in cc) in
     let made : AreSaved game (at_position (with_moves start played.moves) parts.position) rs = record {
       no_second_head = never game rs SaveFile Repeated refl refl (λ n v. refl) right;
-      version = version_is game rs right parts.version;
-      name = name_is game rs right parts.name;
+      version = stands_as game rs FormatVersion _ Version refl refl (λ n v none. (once_taken n.version _ none).1) right parts.version;
+      name = stands_as game rs GameName _ WrongGame refl refl (λ n v none. (once_taken n.name _ none).1) right parts.name;
       next_params = next;
       params = now;
       desc = (parts.desc, desc_at.alone, described);
