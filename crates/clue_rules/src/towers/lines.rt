@@ -9,12 +9,11 @@ ghost use Rattle.tower_lines.specs.TowersSeen.{seen};
 ghost use Rattle.trail_solver.specs.Candidates.{CandidatesValue};
 ghost use Rattle.trail_solver.specs.Puzzles.{Solves};
 ghost use Rattle.clue_rules.specs.Inner.Narrowing.{IsSquare, Narrows};
-ghost use Rattle.clue_rules.specs.Towers.{towers_puzzle};
+ghost use Rattle.clue_rules.specs.Towers.{towers_puzzle, clue_of};
 ghost use Rattle.clue_rules.specs.Struck.{IsViewStruck};
 ghost use Rattle.clue_rules.specs.Inner.TowersLines.{IsStruckAlong, IsStruckAt, ShowsClue, AreSupported};
 ghost use Rattle.clue_rules.specs.Inner.LineTallies.{HoldValuesTo};
 ghost use Rattle.clue_rules.specs.Views.{view_of};
-ghost use Rattle.clue_rules.specs.Towers.{clue_of};
 
 use crate::lines::changed::ChangedLines;
 use crate::lines::narrowing::LineRules;

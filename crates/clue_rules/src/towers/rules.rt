@@ -8,10 +8,8 @@ ghost use Rattle.clue_rules.specs.Views.{view_of};
 ghost use Rattle.trail_solver.specs.Candidates.{IsEarlier, IsWithin, may_be};
 ghost use Rattle.trail_solver.specs.Pairs.{IsPair};
 ghost use Rattle.trail_solver.specs.Puzzles.{Solves};
-ghost use Rattle.clue_rules.specs.Towers.{TowersValue, IsTowers, given_grid};
-ghost use Rattle.clue_rules.specs.Towers.{clue_of, holds_clue, holds_clues, HoldsClues};
+ghost use Rattle.clue_rules.specs.Towers.{TowersValue, IsTowers, given_grid, clue_of, holds_clue, holds_clues, HoldsClues, towers_puzzle, towers_items, has_towers, cut_towers, full_towers};
 ghost use Rattle.clue_rules.specs.Struck.{IsTowersStruck, KeepsSolutions, HasNoSolutionWithin, NoneLeft};
-ghost use Rattle.clue_rules.specs.Towers.{towers_puzzle, towers_items, has_towers, cut_towers, full_towers};
 
 use crate::lines::given_squares::keep_givens;
 use crate::lines::narrowing::{narrow_by_lines, narrow_by_lines_of};
@@ -75,8 +73,7 @@ impl Towers {
 
 impl Rules for Towers {
     ghost use Rattle.std.specs.Prelude.{refl};
-    ghost use Rattle.clue_rules.specs.Towers.{IsTowers};
-    ghost use Rattle.clue_rules.specs.Towers.{towers_puzzle, towers_items, has_towers, cut_towers, full_towers};
+    ghost use Rattle.clue_rules.specs.Towers.{IsTowers, towers_puzzle, towers_items, has_towers, cut_towers, full_towers};
     ghost use Rattle.clue_rules.specs.Laws.TowersItems as laws;
 
     ghost puzzle = { towers_puzzle };

@@ -5,8 +5,7 @@ ghost use Rattle.latin_board.specs.Squares.{GridValue, number_at};
 ghost use Rattle.trail_solver.specs.Puzzles.{Solves};
 ghost use Rattle.clue_rules.specs.declared.unequal.sign.Sign.TheVariants.{Absent};
 ghost use Rattle.clue_rules.specs.Inner.Narrowing.{IsSquare, Narrows};
-ghost use Rattle.clue_rules.specs.Unequal.{sign_at, sign_count};
-ghost use Rattle.clue_rules.specs.Unequal.{unequal_puzzle};
+ghost use Rattle.clue_rules.specs.Unequal.{sign_at, sign_count, unequal_puzzle};
 ghost use Rattle.clue_rules.specs.Inner.UnequalLines.{AreEnds, IsStruckAt, IsStruckAlong, line_sign};
 
 use crate::lines::changed::ChangedLines;
