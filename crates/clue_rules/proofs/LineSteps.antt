@@ -130,7 +130,7 @@ pub line_struck : (c : CandidatesValue) (line place : ℕ) (sets kept : List ℕ
     → (cell v : ℕ) → IsLineStruck line first cell v
     → (k : ℕ) × (k < c.size) × (view_cell c.size place k ≡ cell) × (has_mark (slice_index kept k) v ≡ false)
 line_struck c line place sets kept t a is whole keeps first e cell v struck =
-    let k = struck.place in
+    let k = struck.index in
     let inside : k < c.size = omega (arith, struck.inside, e.size) in
     let here : view_cell c.size place k ≡ cell = a.cells k ∙ ap (λ (w : ℕ). line_cell w line k) e.size ∙ struck.here in (
       k,
@@ -160,7 +160,7 @@ peer_line c cell v struck =
       found.0,
       on.line_is,
       record {
-        place = found.2;
+        index = found.2;
         inside = on.second;
         here = on.second_cell;
         why = inl (record { by = found.1; inside = on.first; apart = on.apart; only = subst P (sym on.first_cell) struck.only });
@@ -172,7 +172,7 @@ place_line c cell v struck = (
   struck.line,
   struck.line_is,
   record {
-    place = struck.index;
+    index = struck.index;
     inside = struck.one.inside;
     here = struck.here;
     why = inr (record { other = struck.other; low = struck.low; high = struck.high; apart = struck.apart; one = struck.one });

@@ -10,8 +10,7 @@ use Rattle.trail_solver.specs.Candidates.{CandidatesValue, IsEarlier, IsWithin, 
 use Rattle.trail_solver.specs.Puzzles.{Solves}
 use Rattle.trail_solver.proofs.Earlier.{was_left}
 use Rattle.clue_rules.specs.Inner.Narrowing.{IsStruckByLines, KeepsOf, Narrows, StruckBelow, IsSetOf}
-use Rattle.clue_rules.specs.Unequal.{UnequalValue, IsBetween, IsGreater, sign_count, sign_at, first_side, second_side}
-use Rattle.clue_rules.specs.Unequal.{unequal_puzzle}
+use Rattle.clue_rules.specs.Unequal.{UnequalValue, IsBetween, IsGreater, sign_count, sign_at, first_side, second_side, unequal_puzzle}
 use Rattle.clue_rules.specs.Laws.SignPlaces.{between_at}
 use Rattle.clue_rules.proofs.SignLemmas.{signs_held}
 use Rattle.clue_rules.specs.Struck.{IsUnequalStruck}

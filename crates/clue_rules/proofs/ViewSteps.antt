@@ -14,12 +14,10 @@ use Rattle.trail_solver.specs.Puzzles.{Solves}
 use Rattle.trail_solver.proofs.Earlier.{was_left}
 use Rattle.clue_rules.specs.Inner.Narrowing.{AreSetsOf, IsSquare, IsStruckByLines, KeepsAlong, Narrows}
 use Rattle.clue_rules.specs.Laws.TowersItems.{length-view_of, clues_decide}
-use Rattle.clue_rules.specs.Towers.{towers_puzzle}
-use Rattle.clue_rules.specs.Towers.{TowersValue}
+use Rattle.clue_rules.specs.Towers.{towers_puzzle, TowersValue, clue_of}
 use Rattle.clue_rules.specs.Struck.{IsViewFilling, IsViewStruck, IsTowersStruck}
 use Rattle.clue_rules.specs.Inner.TowersLines.{IsStruckAlong, IsStruckAt, ShowsClue, AreSupported, KeepSupported}
 use Rattle.clue_rules.specs.Views.{view_of, view_cell, view_line, view_index, front_place}
-use Rattle.clue_rules.specs.Towers.{clue_of}
 use Rattle.clue_rules.proofs.LineSteps.{along_narrows, grid_pair, in_set}
 use Rattle.clue_rules.proofs.Narrowings.{narrows_by, narrows_for, narrows_then}
 use Rattle.clue_rules.proofs.ViewLines.{view_of-numbers}

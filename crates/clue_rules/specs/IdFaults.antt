@@ -21,7 +21,7 @@ id_fault_number OffGrid = 12
 id_fault_number Contradiction = 13
 id_fault_number OutOfMemory = 14
 
--- its name, as a program prints it
+-- a fault's name, as a program prints it
 abbrev pub id_fault_name : IdFault → List ℕ
 id_fault_name BadSize = codes "BadSize"
 id_fault_name BadLetter = codes "BadLetter"

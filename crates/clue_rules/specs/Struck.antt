@@ -46,7 +46,7 @@ pub record IsViewFilling (c : CandidatesValue) (place clue : ℕ) (line : List �
   pub apart : (i j : ℕ) → i < j → j < c.size → slice_index line i ≢ slice_index line j
   pub shown : seen line ≡ clue
 
--- no such line has the value in its k-th square
+-- no such line of squares from the place has the value in its k-th square
 pub record HasNoFilling (c : CandidatesValue) (place clue k value : ℕ) : Type 0 where
   pub none : (line : List ℕ) → IsViewFilling c place clue line → slice_index line k ≢ value
 

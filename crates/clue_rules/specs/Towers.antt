@@ -1,4 +1,7 @@
--- Towers puzzles: clues and givens, the grids that meet the clues, and the items.
+-- Towers puzzles: clues and givens, the grids that hold the clues, and the items.
+--
+-- A clue stands before its line, at an edge place. The places are numbered in description order: the columns from above, the
+-- columns from below, the rows from the left, the rows from the right.
 use Rattle.std.specs.Prelude.{◌≡◌, ℕ, ◌*◌, ◌≤◌, List, length, All, ◌+◌, ◌-◌, ◌<◌, Bool, ◌==◌, ◌||◌, nat_lt, if◌then◌else◌, slice_index, zero, map}
 use Rattle.std.specs.List.{range_with_len, list_all}
 use Rattle.latin_board.specs.Squares.{GridValue, IsGrid}
@@ -31,7 +34,7 @@ clue_of v place = slice_index v.clues place
 pub record HoldsClues (v : TowersValue) (g : GridValue) : Type 0 where
   pub each : (place : ℕ) → place < 4 * v.size → 0 < clue_of v place → seen (view_of g place) ≡ clue_of v place
 
--- the clue at a place is met, or there is none
+-- from the place as many towers are seen as its clue says, or it has none
 abbrev pub holds_clue : TowersValue → GridValue → ℕ → Bool
 holds_clue v g place = (clue_of v place == 0) || (seen (view_of g place) == clue_of v place)
 

@@ -113,7 +113,7 @@ squares_of b = if is_blank_letter b then replicate (blanks_of b) 0 else (if is_d
 unfoldable pub givens_at : ℕ → List ℕ → Result (List ℕ) IdFault
 givens_at w part = if is_square_part w part then exactly (w * w) (flat_map squares_of part) else Err BadSquares
 
--- the same of a description that may lack that part: without it no square is given
+-- the givens of a description that may lack that part: without it no square is given
 abbrev pub givens_behind : ℕ → Option (List ℕ) → Result (List ℕ) IdFault
 givens_behind w None = Ok (replicate (w * w) 0)
 givens_behind w (Some part) = givens_at w part

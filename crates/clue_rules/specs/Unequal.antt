@@ -34,7 +34,7 @@ pub record IsUnequal (v : UnequalValue) : Type 0 where
   pub givens : IsGrid (given_grid v)
   pub signs : length v.signs ≡ sign_count v.size
 
--- the sign stands in a row, between its squares in the columns c and c + 1
+-- the sign stands in a row, between its squares in a column and the next one
 pub record IsAcross (w sign first second : ℕ) : Type 0 where
   pub row : ℕ
   pub column : ℕ
@@ -44,7 +44,7 @@ pub record IsAcross (w sign first second : ℕ) : Type 0 where
   pub first_is : first ≡ row * w + column
   pub second_is : second ≡ row * w + (column + 1)
 
--- the sign stands in a column, between its squares in the rows r and r + 1
+-- the sign stands in a column, between its squares in a row and the next one
 pub record IsDown (w sign first second : ℕ) : Type 0 where
   pub row : ℕ
   pub column : ℕ
@@ -78,7 +78,7 @@ abbrev pub first_side : ℕ → ℕ → ℕ
 first_side w sign =
     if nat_lt sign (pairs_across w) then sign / (w - 1) * w + sign % (w - 1) else sign - pairs_across w
 
--- the square on its second side, the right or the lower one
+-- the square on a sign's second side, the right or the lower one
 abbrev pub second_side : ℕ → ℕ → ℕ
 second_side w sign = if nat_lt sign (pairs_across w) then first_side w sign + 1 else first_side w sign + w
 
@@ -112,7 +112,7 @@ says_first FirstGreater = true
 says_first Absent = false
 says_first SecondGreater = false
 
--- the sign says that the square on its second side does
+-- the sign says that the square on its second side holds the greater number
 abbrev pub says_second : Sign → Bool
 says_second SecondGreater = true
 says_second Absent = false

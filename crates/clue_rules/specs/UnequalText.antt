@@ -15,7 +15,7 @@ use Rattle.clue_rules.specs.declared.unequal.sign.Sign.TheVariants.{Absent, Firs
 use Rattle.clue_rules.specs.IdFaults.{exactly}
 use Rattle.byte_text.specs.Bytes.{comma, digit_zero, capital_u, capital_r, capital_d, capital_l}
 
--- the letters U, R, D, L
+-- the letter of a direction: U, R, D or L
 abbrev pub letter_of : Direction → ℕ
 letter_of Up = capital_u
 letter_of Right = capital_r
@@ -34,7 +34,7 @@ pub record Piece : Type 0 where
   pub number : ℕ
   pub greater : List Direction
 
--- its text: the digit of the number, and a letter for each direction
+-- the text of a piece: the digit of its number, and a letter for each direction
 abbrev pub piece_text : Piece → List ℕ
 piece_text p = (digit_zero + p.number) ∷ map letter_of p.greater
 
@@ -77,7 +77,7 @@ piece_of v cell = record {
   greater = filter (is_greater_towards v cell) directions;
 }
 
--- the text of that piece, which a comma ends
+-- the text of the piece in which a square is written, which a comma ends
 abbrev pub piece_written : UnequalValue → ℕ → List ℕ
 piece_written v cell = piece_text (piece_of v cell) ++ comma ∷ []
 
@@ -102,7 +102,7 @@ number_in w [] = None
 number_in w (b ∷ bs) =
     if nat_le digit_zero b && nat_le b (digit_zero + w) && not (begins_digit bs) then Some (b - digit_zero) else None
 
--- the piece begins with such a digit
+-- the piece begins with one digit from 0 to w
 abbrev pub has_number : ℕ → List ℕ → Bool
 has_number w piece = is_some (number_in w piece)
 
@@ -138,7 +138,7 @@ says pieces cell d = list_any (λ b. b == letter_of d) (drop 1 (piece_at pieces 
 abbrev pub forth : ℕ → ℕ → Direction
 forth w sign = if nat_lt sign (pairs_across w) then Right else Down
 
--- the direction back
+-- the direction from the square on a sign's second side to that on its first side
 abbrev pub back : ℕ → ℕ → Direction
 back w sign = if nat_lt sign (pairs_across w) then Left else Up
 
@@ -146,7 +146,7 @@ back w sign = if nat_lt sign (pairs_across w) then Left else Up
 abbrev pub first_says : ℕ → List (List ℕ) → ℕ → Bool
 first_says w pieces sign = says pieces (first_side w sign) (forth w sign)
 
--- a letter says that the square on its second side is
+-- a letter says that the square on a sign's second side is the greater one
 abbrev pub second_says : ℕ → List (List ℕ) → ℕ → Bool
 second_says w pieces sign = says pieces (second_side w sign) (back w sign)
 
@@ -156,7 +156,7 @@ said_sign true second = FirstGreater
 said_sign false true = SecondGreater
 said_sign false false = Absent
 
--- a letter at the square a says that it is greater than b
+-- `Says` as a test of the bytes of pieces
 abbrev pub says_greater : ℕ → List (List ℕ) → ℕ → ℕ → Bool
 says_greater w pieces a b =
     list_any (λ d. says pieces a d && option_map_or (λ c. c == b) (neighbour w a d) false) directions
@@ -175,11 +175,11 @@ grid_in w pieces = record { size = w; numbers = map (λ piece. unwrap_or (number
 abbrev pub puzzle_in : ℕ → List (List ℕ) → UnequalValue
 puzzle_in w pieces = record {
   size = w;
-  signs = map (λ i. said_sign (first_says w pieces i) (second_says w pieces i)) (range_with_len 0 (sign_count w));
+  signs = map (λ sign. said_sign (first_says w pieces sign) (second_says w pieces sign)) (range_with_len 0 (sign_count w));
   givens = (grid_in w pieces).numbers;
 }
 
--- that puzzle, or the first of the faults that lie in the pieces
+-- the puzzle that pieces describe, or the first of the faults that lie in them
 abbrev pub puzzle_at : ℕ → List (List ℕ) → Result UnequalValue IdFault
 puzzle_at w pieces =
     if not (list_all (has_number w) pieces) then Err BadSquares
@@ -188,6 +188,6 @@ puzzle_at w pieces =
     else (if contradicts w pieces then Err Contradiction
     else Ok (puzzle_in w pieces))))
 
--- the value of a description for the width, or its first fault
+-- the puzzle that a description says at a width, or its first fault
 unfoldable pub unequal_at : ℕ → List ℕ → Result UnequalValue IdFault
 unequal_at w text = exactly (w * w) (pieces_of text) >>= puzzle_at w

@@ -16,11 +16,11 @@ view_of g place =
     by_edge g.size place (column_of g place) (reverse (column_of g (place - g.size)))
     (row_of g (place - 2 * g.size)) (reverse (row_of g (place - 3 * g.size)))
 
--- the same line among the rows and columns
+-- the line of a place among the rows and columns
 abbrev pub view_line : ℕ → ℕ → ℕ
 view_line w place = by_edge w place (w + place) place (place - 2 * w) (place - 3 * w)
 
--- where in that line the k-th square from the place is
+-- where in its line the k-th square from a place is
 abbrev pub view_index : ℕ → ℕ → ℕ → ℕ
 view_index w place k = by_edge w place k (w - 1 - k) k (w - 1 - k)
 

@@ -1,5 +1,5 @@
 //! What the mid-end and the programs know of a game.
-ghost use Rattle.std.specs.Prelude.{◌≡◌, ℕ, ◌*◌, ◌≤◌, Bool, false, List, Result, Ok, IsTrue, ◌↔◌, IfOk, IfErr};
+ghost use Rattle.std.specs.Prelude.{◌≡◌, ℕ, ◌≤◌, false, List, Result, Ok, IsTrue, ◌↔◌, IfOk, IfErr};
 ghost use Rattle.std.specs.Option.{option_map_or};
 ghost use Rattle.latin_board.specs.Edges.{edge_place};
 ghost use Rattle.clue_rules.specs.declared.id_fault.IdFault.{IdFault};

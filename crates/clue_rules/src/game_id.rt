@@ -1,12 +1,11 @@
 //! Game IDs: parameters with the description of a puzzle, or with a seed for one.
 
-ghost use Rattle.std.specs.Prelude.{◌≡◌, List, ℕ, Ok, Err, IfOk, Result};
+ghost use Rattle.std.specs.Prelude.{◌≡◌, Ok, Err, IfOk, Result};
 ghost use Rattle.byte_text.specs.Reading.{Gives};
 ghost use Rattle.clue_rules.specs.declared.game_id.GameId.{GameId};
-ghost use Rattle.clue_rules.specs.GameIds.{IsIdText, IsAnyText};
+ghost use Rattle.clue_rules.specs.GameIds.{IsIdText, id_at, describes_at, is_separator, params_part, from_separator, id_parts_at, id_map};
 ghost use Rattle.clue_rules.specs.Parameters.{has_adjacent};
 ghost use Rattle.clue_rules.specs.IdFaults.{SparesMemory};
-ghost use Rattle.clue_rules.specs.GameIds.{id_at, describes_at, is_separator, params_part, from_separator, id_parts_at, id_map, LacksSeparators};
 
 use crate::game::Game;
 use crate::id_fault::IdFault;

@@ -1,8 +1,7 @@
 //! The parameters of a game: a size, and a difficulty letter or none.
 
 ghost use Rattle.std.specs.Prelude.{◌≡◌, List, ℕ, Contains, Result, Ok, Err, IfOk, IfSome};
-ghost use Rattle.clue_rules.specs.Parameters.{IsParamText};
-ghost use Rattle.clue_rules.specs.Parameters.{has_adjacent, letter_at, behind_size, params_at};
+ghost use Rattle.clue_rules.specs.Parameters.{IsParamText, has_adjacent, letter_at, behind_size, params_at};
 
 use crate::game::Game;
 use crate::id_fault::IdFault;

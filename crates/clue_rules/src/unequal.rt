@@ -1,16 +1,9 @@
 //! The puzzles of Unequal: a Latin square with signs between neighbours that say which of the two is the greater.
 
-ghost use Rattle.std.specs.Prelude.{◌≡◌, ℕ, ◌*◌, ◌<◌, ◌↔◌, false, IsTrue};
-ghost use Rattle.std.specs.Bool.{OnFalse, OnTrue};
+ghost use Rattle.std.specs.Prelude.{◌≡◌, ◌*◌, ◌<◌, ◌↔◌, IsTrue};
 ghost use Rattle.std.specs.Cmp.{decided, partial_equiv_from_equiv};
-ghost use Rattle.latin_board.specs.Squares.{GridValue, IsGrid, IsFull, IsLatin, number_at};
-ghost use Rattle.trail_solver.specs.Pairs.{IsPair};
-ghost use Rattle.trail_solver.specs.Candidates.{IsEarlier, IsWithin, may_be};
-ghost use Rattle.trail_solver.specs.Puzzles.{Solves};
-ghost use Rattle.clue_rules.specs.Unequal.{IsUnequal, given_grid, IsGreater, AreNeighbours, is_greater, holds_signs, HoldsSigns, holds_sign, sign_count, sign_at, sign_of_pair, first_side, second_side};
-ghost use Rattle.clue_rules.specs.Unequal.{unequal_puzzle, full_unequal};
-ghost use Rattle.clue_rules.specs.Inner.UnequalFields.{HoldsPlaces};
-ghost use Rattle.clue_rules.specs.Struck.{IsUnequalStruck};
+ghost use Rattle.latin_board.specs.Squares.{IsGrid};
+ghost use Rattle.clue_rules.specs.Unequal.{IsUnequal, given_grid, IsGreater, is_greater, sign_count, sign_of_pair};
 ghost use Rattle.clue_rules.specs.Laws.UnequalSameness.{same_unequal, same_unequal_decides};
 
 mod description;

@@ -72,23 +72,23 @@ pub record IsKeptOf (t : Tally) (set kept : ℕ) : Type 0 where
   pub all : (v : ℕ) → has_mark set v ≡ true → MayStay t set v → has_mark kept v ≡ true
 
 -- another square of the line has the value as its only one
-pub record IsTaken (c : CandidatesValue) (line place value : ℕ) : Type 0 where
+pub record IsTaken (c : CandidatesValue) (line index value : ℕ) : Type 0 where
   pub by : ℕ
   pub inside : by < c.size
-  pub apart : by ≢ place
+  pub apart : by ≢ index
   pub only : IsOnly c (line_cell c.size line by) value
 
 -- the square is the one place of another value in the line
-pub record IsDisplaced (c : CandidatesValue) (line place value : ℕ) : Type 0 where
+pub record IsDisplaced (c : CandidatesValue) (line index value : ℕ) : Type 0 where
   pub other : ℕ
   pub low : 1 ≤ other
   pub high : other ≤ c.size
   pub apart : value ≢ other
-  pub one : IsOnePlace c line other place
+  pub one : IsOnePlace c line other index
 
 -- the pairs that one row or column rules out
 pub record IsLineStruck (line : ℕ) (c : CandidatesValue) (cell value : ℕ) : Type 0 where
-  pub place : ℕ
-  pub inside : place < c.size
-  pub here : line_cell c.size line place ≡ cell
-  pub why : IsTaken c line place value ⊎ IsDisplaced c line place value
+  pub index : ℕ
+  pub inside : index < c.size
+  pub here : line_cell c.size line index ≡ cell
+  pub why : IsTaken c line index value ⊎ IsDisplaced c line index value

@@ -48,12 +48,12 @@ pub record KeepsOf (old new : CandidatesValue) (cell kept : ℕ) : Type 0 where
 abbrev pub IsSetOf : CandidatesValue → ℕ → ℕ → Type 0
 IsSetOf c cell set = (v : ℕ) → (has_mark set v ≡ true) ↔ (IsPair c.size cell v × (may_be c cell v ≡ true))
 
--- the first n sets are those of the squares from a place
+-- the first n sets are those of the first n squares from a place
 pub record AreSetsTo (c : CandidatesValue) (place n : ℕ) (sets : List ℕ) : Type 0 where
   pub count : length sets ≡ 9
   pub each : (k : ℕ) → k < n → IsSetOf c (view_cell c.size place k) (slice_index sets k)
 
--- the sets are those of all squares from a place
+-- the sets are those of all the squares from a place
 abbrev pub AreSetsOf : CandidatesValue → ℕ → List ℕ → Type 0
 AreSetsOf c place sets = AreSetsTo c place c.size sets
 

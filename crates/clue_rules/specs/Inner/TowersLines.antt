@@ -1,15 +1,13 @@
 -- What the clues of Towers rule out along one line.
-use Rattle.std.specs.Prelude.{◌≡◌, ℕ, ◌*◌, ◌<◌}
+use Rattle.std.specs.Prelude.{◌≡◌, ℕ, ◌*◌, ◌<◌, true, List, take, slice_index}
 use Rattle.trail_solver.specs.Candidates.{CandidatesValue}
 use Rattle.clue_rules.specs.Struck.{IsViewStruck}
 use Rattle.clue_rules.specs.Towers.{TowersValue, clue_of}
-use Rattle.clue_rules.specs.Views.{view_line}
-use Rattle.std.specs.Prelude.{true, List, take, slice_index}
+use Rattle.clue_rules.specs.Views.{view_line, view_of}
 use Rattle.latin_board.specs.Marks.{has_mark}
 use Rattle.latin_board.specs.Squares.{GridValue}
 use Rattle.tower_lines.specs.TowersSeen.{seen}
 use Rattle.tower_lines.specs.LineFillings.{IsSupported}
-use Rattle.clue_rules.specs.Views.{view_of}
 use Rattle.clue_rules.specs.Inner.Narrowing.{IsSquare}
 
 -- what the clue at one end of a line rules out

@@ -2,11 +2,10 @@
 use Rattle.std.specs.Prelude.{◌≡◌, ℕ, ◌+◌, ◌-◌, ◌*◌, ◌<◌, ◌⊎◌, nat_lt, if◌then◌else◌}
 use Rattle.trail_solver.specs.Candidates.{CandidatesValue}
 use Rattle.clue_rules.specs.declared.unequal.sign.Sign.TheVariants.{FirstGreater, SecondGreater}
-use Rattle.clue_rules.specs.Inner.Narrowing.{StruckBelow}
+use Rattle.clue_rules.specs.Inner.Narrowing.{StruckBelow, IsSquare}
 use Rattle.clue_rules.specs.Struck.{HasNoneAbove, HasNoneBelow}
 use Rattle.clue_rules.specs.Unequal.{UnequalValue, pairs_across, sign_at, first_side, second_side}
 use Rattle.latin_board.specs.Squares.{GridValue, number_at}
-use Rattle.clue_rules.specs.Inner.Narrowing.{IsSquare}
 use Rattle.clue_rules.specs.declared.unequal.lines.Ends.{Ends}
 
 -- both ends are squares of the grid

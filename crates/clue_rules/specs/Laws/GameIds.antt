@@ -1,4 +1,4 @@
--- Game IDs: what is read has the grammar, and what has the grammar is read.
+-- No letter of a game ends the parameters of a game ID.
 use Rattle.std.proofs.Common.{◌≡◌, codes, false, refl}
 use Rattle.std.proofs.lemmas.List.Elements.{All-from_recursion}
 use Rattle.clue_rules.specs.GameIds.{is_separator, LacksSeparators}

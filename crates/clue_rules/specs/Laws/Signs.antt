@@ -1,4 +1,4 @@
--- Which square is greater than which: at most one of two, as the test says, and as a grid holds it.
+-- Which square is greater than which, as the test `is_greater` says it.
 use Rattle.std.proofs.Common.{◌≡◌, ℕ, ◌+◌, ◌-◌, ◌*◌, ◌/◌, ◌%◌, ◌<◌, ◌≤◌, true, nat_lt, ◌&&◌, Some, None, refl, inl, inr, arith, ◌==◌, if◌then◌else◌}
 use Rattle.std.specs.Option.{option_map_or}
 use Rattle.std.proofs.Math.Nat.{mod-lt}

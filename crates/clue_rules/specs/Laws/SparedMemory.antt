@@ -1,4 +1,4 @@
--- No reading answers want of memory.
+-- No reading is refused for want of memory.
 use Rattle.std.proofs.Common.{◌*◌, ℕ, Bool, true, false, nat_lt, not, List, length, Option, Some, None, Result, Ok, Err, if◌then◌else◌}
 use Rattle.std.specs.List.{range_with_len, list_all, flat_map}
 use Rattle.byte_text.specs.Cuts.{before, behind}

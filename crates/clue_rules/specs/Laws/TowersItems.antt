@@ -1,4 +1,4 @@
--- The laws of items: what a cut keeps, what two cuts make, and that the full puzzle of a Latin square is solved by it.
+-- The laws of Towers items: what a cut keeps, what two cuts make, and that the full puzzle of a Latin square is solved by it.
 use Rattle.std.proofs.Common.{◌≡◌, ℕ, zero, ◌+◌, ◌-◌, ◌*◌, ◌<◌, ◌≤◌, Bool, true, ◌&&◌, ◌||◌, [], length, refl, sym, ◌∙◌, inl, inr, arith, nat_lt, ◌==◌, slice_index, slice_index_or}
 use Rattle.std.specs.Bool.{Decides}
 use Rattle.std.specs.List.{range_with_len}

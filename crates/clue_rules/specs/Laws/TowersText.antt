@@ -1,4 +1,4 @@
--- Towers descriptions: what is read has the grammar, what has the grammar is read, and what is written has it.
+-- The laws of Towers descriptions: what is read describes the puzzle, what describes it is read, and what is written does.
 use Rattle.std.proofs.Common.{◌≡◌, ℕ, ◌*◌, ◌≤◌, true, false, ◌==◌, ◌||◌, not, List, [], ◌∷◌, ◌++◌, length, replicate, Option, Some, None, Result, Ok, inl, inr, refl, sym, ap, ◌∙◌, subst, arith, append-nil, if◌then◌else◌}
 use Rattle.std.specs.List.{AllByRecursion, list_any}
 use Rattle.std.proofs.lemmas.List.{length-replicate}

@@ -1,4 +1,4 @@
--- The laws of items: what a cut keeps, what two cuts make, and that the full puzzle of a Latin square is solved by it.
+-- The laws of Unequal items: what a cut keeps, what two cuts make, and that the full puzzle of a Latin square is solved by it.
 use Rattle.std.proofs.Common.{◌≡◌, ◌≢◌, ℕ, zero, ◌+◌, ◌*◌, ◌/◌, ◌%◌, ◌<◌, ◌≤◌, Bool, true, false, ◌&&◌, refl, sym, ◌∙◌, inl, inr, arith, if◌then◌else◌, slice_index}
 use Rattle.std.proofs.lemmas.Nat.{div-mul-add, mod-mul-add}
 use Rattle.std.proofs.lemmas.Bool.{lt-ltb, le-ltb, cases_lt}

@@ -1,8 +1,8 @@
 //! The given squares of a puzzle.
 
-ghost use Rattle.std.specs.Prelude.{◌≡◌, ℕ, ◌*◌, ◌<◌, ◌≤◌};
-ghost use Rattle.latin_board.specs.Squares.{GridValue, number_at};
-ghost use Rattle.trail_solver.specs.Candidates.{IsEarlier, IsWithin};
+ghost use Rattle.std.specs.Prelude.{◌≡◌, ◌*◌, ◌<◌};
+ghost use Rattle.latin_board.specs.Squares.{number_at};
+ghost use Rattle.trail_solver.specs.Candidates.{IsEarlier};
 ghost use Rattle.clue_rules.specs.Inner.Narrowing.{Agrees, KeepsEach};
 
 use crate::lines::view_candidates::strike_missing;

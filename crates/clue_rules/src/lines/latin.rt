@@ -1,11 +1,10 @@
 //! What the squares of a row or a column rule out among themselves.
 
-ghost use Rattle.std.specs.Prelude.{◌≡◌, ◌≢◌, ℕ, ◌+◌, ◌-◌, ◌*◌, ◌<◌, ◌≤◌, ◌&&◌, true, false, not, MatchOption, slice_index};
-ghost use Rattle.latin_board.specs.Lines.{line_cell};
+ghost use Rattle.std.specs.Prelude.{ℕ, ◌+◌, ◌-◌, ◌*◌, ◌<◌, ◌≤◌, ◌&&◌, true, false, MatchOption, slice_index};
 ghost use Rattle.clue_rules.specs.Inner.Narrowing.{IsSquare, Narrows, NoneStruck};
-ghost use Rattle.clue_rules.specs.Inner.LineTallies.{IsSingle, AreImpossible, IsWholeTally, IsTally, IsCounted, IsClash, IsKeptOf, IsLineStruck};
+ghost use Rattle.clue_rules.specs.Inner.LineTallies.{AreImpossible, IsWholeTally, IsCounted, IsClash, IsKeptOf, IsLineStruck};
 ghost use Rattle.clue_rules.specs.Struck.{IsLatinStruck};
-ghost use Rattle.clue_rules.specs.Views.{view_cell, front_place};
+ghost use Rattle.clue_rules.specs.Views.{front_place};
 
 use crate::lines::changed::ChangedLines;
 use crate::lines::value_sets::{is_single, without};
@@ -113,7 +112,7 @@ fn tally_of(sets: &[u16; LINE], width: usize) -> Option<Tally>
 }
 
 impl Tally {
-    ghost use Rattle.std.specs.Prelude.{◌≡◌, ℕ, ◌<◌, MatchOption, slice_index};
+    ghost use Rattle.std.specs.Prelude.{ℕ, ◌<◌, MatchOption, slice_index};
     ghost use Rattle.clue_rules.specs.Inner.LineTallies.{IsCounted, IsClash, IsKeptOf};
 
     // The tally with one set more, or none where the set is empty or its only value is alone in another set.

@@ -1,7 +1,7 @@
 //! What both games take from the candidates: what rows and columns rule out, and along each line what the game's own
 //! rule does, until neither finds more.
 
-ghost use Rattle.std.specs.Prelude.{◌≡◌, ℕ, ◌*◌, ◌<◌, ◌⊎◌};
+ghost use Rattle.std.specs.Prelude.{◌≡◌, ℕ, ◌*◌, ◌<◌};
 ghost use Rattle.latin_board.specs.Squares.{GridValue};
 ghost use Rattle.trail_solver.specs.Candidates.{CandidatesValue};
 ghost use Rattle.clue_rules.specs.Inner.Narrowing.{IsSquare, Narrows, NoneStruck, StruckBelow, IsStruckByLines};

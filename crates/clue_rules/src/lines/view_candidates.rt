@@ -1,8 +1,7 @@
 //! The candidates of the squares that an edge place looks along.
 
-ghost use Rattle.std.specs.Prelude.{◌≡◌, ℕ, ◌*◌, ◌<◌, ◌≤◌, ◌==◌, not, length, slice_index};
+ghost use Rattle.std.specs.Prelude.{◌≡◌, ℕ, ◌*◌, ◌<◌, ◌≤◌, ◌==◌, not, slice_index};
 ghost use Rattle.std.specs.Bool.{OnFalse, OnTrue};
-ghost use Rattle.trail_solver.specs.Pairs.{IsPair};
 ghost use Rattle.clue_rules.specs.Inner.Narrowing.{AreSetsOf, KeepsAlong, KeepsOf};
 ghost use Rattle.clue_rules.specs.Views.{view_cell};
 

@@ -10,9 +10,7 @@ ghost use Rattle.std.specs.List.{flat_map, list_any};
 ghost use Rattle.byte_text.specs.Reading.{Gives};
 ghost use Rattle.clue_rules.specs.IdFaults.{exactly};
 ghost use Rattle.clue_rules.specs.Inner.Filled.{IsFilledTo};
-ghost use Rattle.clue_rules.specs.Towers.{TowersValue};
-ghost use Rattle.clue_rules.specs.TowersText.{IsTowersText, clue_field, clue_part, given_written, blank_letters, squares_written, towers_text};
-ghost use Rattle.clue_rules.specs.TowersText.{fields, is_clue_field, clue_in, clues_in, clues_at, is_square_byte, is_square_part, squares_of, givens_at, towers_at};
+ghost use Rattle.clue_rules.specs.TowersText.{clue_field, clue_part, given_written, blank_letters, squares_written, towers_text, fields, is_clue_field, clue_in, clues_in, clues_at, is_square_byte, is_square_part, squares_of, givens_at, towers_at};
 
 use crate::id_fault::IdFault;
 use crate::towers::{PLACES, Towers};

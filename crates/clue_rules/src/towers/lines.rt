@@ -1,20 +1,14 @@
 //! What the clues of Towers rule out along a line.
 
-ghost use Rattle.std.specs.Prelude.{◌≡◌, ℕ, ◌+◌, ◌*◌, ◌<◌, ◌≤◌, true, take, slice_index};
+ghost use Rattle.std.specs.Prelude.{◌≡◌, ◌+◌, ◌*◌, ◌<◌, ◌≤◌, true};
 ghost use Rattle.std.specs.Bool.{OnTrue};
-ghost use Rattle.latin_board.specs.Marks.{has_mark};
-ghost use Rattle.latin_board.specs.Squares.{GridValue};
-ghost use Rattle.tower_lines.specs.LineFillings.{IsSupported};
 ghost use Rattle.tower_lines.specs.TowersSeen.{seen};
-ghost use Rattle.trail_solver.specs.Candidates.{CandidatesValue};
 ghost use Rattle.trail_solver.specs.Puzzles.{Solves};
-ghost use Rattle.clue_rules.specs.Inner.Narrowing.{IsSquare, Narrows};
+ghost use Rattle.clue_rules.specs.Inner.Narrowing.{Narrows};
 ghost use Rattle.clue_rules.specs.Towers.{towers_puzzle};
 ghost use Rattle.clue_rules.specs.Struck.{IsViewStruck};
 ghost use Rattle.clue_rules.specs.Inner.TowersLines.{IsStruckAlong, IsStruckAt, ShowsClue, AreSupported};
 ghost use Rattle.clue_rules.specs.Inner.LineTallies.{HoldValuesTo};
-ghost use Rattle.clue_rules.specs.Views.{view_of};
-ghost use Rattle.clue_rules.specs.Towers.{clue_of};
 
 use crate::lines::changed::ChangedLines;
 use crate::lines::narrowing::LineRules;

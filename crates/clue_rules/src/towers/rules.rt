@@ -1,17 +1,13 @@
 //! The rules of Towers: its clues, and what a solver and a generator know of a puzzle.
 
-ghost use Rattle.std.specs.Prelude.{◌≡◌, ℕ, ◌+◌, ◌-◌, ◌*◌, ◌<◌, ◌≤◌, ◌↔◌, ◌==◌, ◌&&◌, false, IsTrue, not, slice_index};
+ghost use Rattle.std.specs.Prelude.{◌≡◌, ◌+◌, ◌-◌, ◌*◌, ◌<◌, ◌≤◌, ◌↔◌, ◌==◌, ◌&&◌, IsTrue};
 ghost use Rattle.std.specs.Bool.{OnFalse, OnTrue};
-ghost use Rattle.latin_board.specs.Squares.{GridValue, IsGrid, IsFull, IsLatin};
+ghost use Rattle.latin_board.specs.Squares.{IsFull};
 ghost use Rattle.tower_lines.specs.TowersSeen.{seen};
 ghost use Rattle.clue_rules.specs.Views.{view_of};
-ghost use Rattle.trail_solver.specs.Candidates.{IsEarlier, IsWithin, may_be};
-ghost use Rattle.trail_solver.specs.Pairs.{IsPair};
-ghost use Rattle.trail_solver.specs.Puzzles.{Solves};
-ghost use Rattle.clue_rules.specs.Towers.{TowersValue, IsTowers, given_grid};
-ghost use Rattle.clue_rules.specs.Towers.{clue_of, holds_clue, holds_clues, HoldsClues};
+ghost use Rattle.trail_solver.specs.Candidates.{IsEarlier};
+ghost use Rattle.clue_rules.specs.Towers.{IsTowers, given_grid, clue_of, holds_clue, holds_clues, HoldsClues, towers_puzzle, towers_items, has_towers, cut_towers, full_towers};
 ghost use Rattle.clue_rules.specs.Struck.{IsTowersStruck, KeepsSolutions, HasNoSolutionWithin, NoneLeft};
-ghost use Rattle.clue_rules.specs.Towers.{towers_puzzle, towers_items, has_towers, cut_towers, full_towers};
 
 use crate::lines::given_squares::keep_givens;
 use crate::lines::narrowing::{narrow_by_lines, narrow_by_lines_of};
@@ -75,8 +71,7 @@ impl Towers {
 
 impl Rules for Towers {
     ghost use Rattle.std.specs.Prelude.{refl};
-    ghost use Rattle.clue_rules.specs.Towers.{IsTowers};
-    ghost use Rattle.clue_rules.specs.Towers.{towers_puzzle, towers_items, has_towers, cut_towers, full_towers};
+    ghost use Rattle.clue_rules.specs.Towers.{IsTowers, towers_puzzle, towers_items, has_towers, cut_towers, full_towers};
     ghost use Rattle.clue_rules.specs.Laws.TowersItems as laws;
 
     ghost puzzle = { towers_puzzle };

@@ -5,11 +5,10 @@
 
 ghost use Rattle.std.specs.Prelude.{◌≡◌, ◌*◌, ◌<◌, ◌++◌, [], ◌∷◌, true, false, length, IfSome, IfNone, Some, None, IfOk, IfErr, OnOk, Ok, if◌then◌else◌};
 ghost use Rattle.std.specs.List.{list_all, range_with_len};
-ghost use Rattle.clue_rules.specs.Unequal.{UnequalValue, sign_count};
+ghost use Rattle.clue_rules.specs.Unequal.{sign_count};
 ghost use Rattle.clue_rules.specs.Inner.UnequalFields.{HoldsPlaces};
-ghost use Rattle.clue_rules.specs.UnequalText.{IsUnequalText, letter_of, is_greater_towards, piece_written, unequal_text};
+ghost use Rattle.clue_rules.specs.UnequalText.{letter_of, is_greater_towards, piece_written, unequal_text, has_number, grid_in, has_letters, points_inside, piece_at, contradicts, puzzle_in, puzzle_at, unequal_at};
 ghost use Rattle.clue_rules.specs.Inner.UnequalPieces.{texts_of, sign_in};
-ghost use Rattle.clue_rules.specs.UnequalText.{has_number, grid_in, has_letters, points_inside, piece_at, contradicts, puzzle_in, puzzle_at, unequal_at};
 
 use super::direction::Direction;
 use super::pieces::{has_letters, number_in, pieces_of, points_inside, says};

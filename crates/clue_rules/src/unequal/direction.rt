@@ -1,8 +1,7 @@
 //! The four directions from a square to its neighbours, and the letters that stand for them.
 
 ghost use Rattle.std.specs.Prelude.{◌≡◌, ◌*◌, ◌<◌, IfSome};
-ghost use Rattle.clue_rules.specs.UnequalText.{letter_of, neighbour};
-ghost use Rattle.clue_rules.specs.UnequalText.{direction_of};
+ghost use Rattle.clue_rules.specs.UnequalText.{letter_of, neighbour, direction_of};
 
 use latin_board::Size;
 

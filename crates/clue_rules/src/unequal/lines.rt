@@ -1,12 +1,10 @@
 //! What the signs of Unequal rule out along a line.
 
-ghost use Rattle.std.specs.Prelude.{◌≡◌, ◌≢◌, ℕ, ◌+◌, ◌-◌, ◌*◌, ◌<◌, MatchOption};
-ghost use Rattle.latin_board.specs.Squares.{GridValue, number_at};
+ghost use Rattle.std.specs.Prelude.{◌≡◌, ◌+◌, ◌-◌, ◌*◌, ◌<◌, MatchOption};
 ghost use Rattle.trail_solver.specs.Puzzles.{Solves};
 ghost use Rattle.clue_rules.specs.declared.unequal.sign.Sign.TheVariants.{Absent};
-ghost use Rattle.clue_rules.specs.Inner.Narrowing.{IsSquare, Narrows};
-ghost use Rattle.clue_rules.specs.Unequal.{sign_at, sign_count};
-ghost use Rattle.clue_rules.specs.Unequal.{unequal_puzzle};
+ghost use Rattle.clue_rules.specs.Inner.Narrowing.{Narrows};
+ghost use Rattle.clue_rules.specs.Unequal.{sign_at, sign_count, unequal_puzzle};
 ghost use Rattle.clue_rules.specs.Inner.UnequalLines.{AreEnds, IsStruckAt, IsStruckAlong, line_sign};
 
 use crate::lines::changed::ChangedLines;

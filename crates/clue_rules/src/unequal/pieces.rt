@@ -5,9 +5,8 @@ ghost use Rattle.std.specs.Prelude.{◌≡◌, ◌*◌, ◌<◌, ◌≤◌, ◌=
 ghost use Rattle.std.specs.List.{list_all, list_any, slice_split};
 ghost use Rattle.byte_text.specs.Reading.{Gives};
 ghost use Rattle.clue_rules.specs.IdFaults.{exactly};
-ghost use Rattle.clue_rules.specs.UnequalText.{letter_of};
+ghost use Rattle.clue_rules.specs.UnequalText.{letter_of, pieces_of, number_in, has_letters, is_inside};
 ghost use Rattle.clue_rules.specs.Inner.UnequalPieces.{IsWithoutLastComma, texts_of};
-ghost use Rattle.clue_rules.specs.UnequalText.{pieces_of, number_in, has_letters, is_inside};
 
 use super::direction::Direction;
 use crate::id_fault::IdFault;

@@ -1,17 +1,12 @@
 //! The rules of Unequal: its signs, and what a solver and a generator know of a puzzle.
 
-ghost use Rattle.std.specs.Prelude.{◌≡◌, ℕ, ◌*◌, ◌<◌, ◌↔◌, false, IsTrue};
+ghost use Rattle.std.specs.Prelude.{◌≡◌, ℕ, ◌*◌, ◌<◌, ◌↔◌, IsTrue};
 ghost use Rattle.std.specs.Bool.{OnFalse, OnTrue};
-ghost use Rattle.std.specs.Cmp.{decided, partial_equiv_from_equiv};
-ghost use Rattle.latin_board.specs.Squares.{GridValue, IsGrid, IsFull, IsLatin, number_at};
-ghost use Rattle.trail_solver.specs.Pairs.{IsPair};
-ghost use Rattle.trail_solver.specs.Candidates.{IsEarlier, IsWithin, may_be};
-ghost use Rattle.trail_solver.specs.Puzzles.{Solves};
-ghost use Rattle.clue_rules.specs.Unequal.{IsUnequal, given_grid, IsGreater, AreNeighbours, is_greater, holds_signs, HoldsSigns, holds_sign_at, sign_count, sign_at, sign_of_pair, first_side, second_side};
-ghost use Rattle.clue_rules.specs.Unequal.{unequal_puzzle, full_unequal};
+ghost use Rattle.latin_board.specs.Squares.{IsFull, IsLatin, number_at};
+ghost use Rattle.trail_solver.specs.Candidates.{IsEarlier};
+ghost use Rattle.clue_rules.specs.Unequal.{IsUnequal, IsGreater, AreNeighbours, holds_signs, HoldsSigns, holds_sign_at, sign_count, unequal_puzzle, full_unequal};
 ghost use Rattle.clue_rules.specs.Inner.UnequalFields.{HoldsPlaces};
 ghost use Rattle.clue_rules.specs.Struck.{IsUnequalStruck, KeepsSolutions, HasNoSolutionWithin, NoneLeft};
-ghost use Rattle.clue_rules.specs.Laws.UnequalSameness.{same_unequal, same_unequal_decides};
 
 use crate::lines::given_squares::keep_givens;
 use crate::lines::narrowing::{narrow_by_lines, narrow_by_lines_of};
@@ -62,8 +57,7 @@ fn signs_of(grid: &Grid) -> [Sign; SIGNS]
 /// reading order.
 impl Rules for Unequal {
     ghost use Rattle.std.specs.Prelude.{refl};
-    ghost use Rattle.clue_rules.specs.Unequal.{IsUnequal};
-    ghost use Rattle.clue_rules.specs.Unequal.{unequal_puzzle, unequal_items, has_unequal, cut_unequal, full_unequal};
+    ghost use Rattle.clue_rules.specs.Unequal.{IsUnequal, unequal_puzzle, unequal_items, has_unequal, cut_unequal, full_unequal};
     ghost use Rattle.clue_rules.specs.Laws.UnequalItems as laws;
 
     ghost puzzle = { unequal_puzzle };

@@ -1,8 +1,7 @@
 //! What stands between neighbouring squares, and how those places are numbered.
 
 ghost use Rattle.std.specs.Prelude.{◌≡◌, ◌*◌, ◌<◌, ◌≤◌, IfSome};
-ghost use Rattle.clue_rules.specs.Unequal.{pairs_across, sign_count, first_side, second_side, sign_between};
-ghost use Rattle.clue_rules.specs.Unequal.{sign_of};
+ghost use Rattle.clue_rules.specs.Unequal.{pairs_across, sign_count, first_side, second_side, sign_between, sign_of};
 
 use latin_board::Size;
 use std::cmp::Ordering;

@@ -5,8 +5,7 @@ use Rattle.clue_rules.specs.GameIds.{describes_at}
 use Rattle.clue_rules.specs.declared.id_fault.IdFault.{IdFault}
 use Rattle.clue_rules.specs.declared.game_id.GameId.{GameId}
 use Rattle.clue_rules.specs.IdFaults.{SparesMemory}
-use Rattle.clue_rules.proofs.GameIdLemmas.{id_spares}
-use Rattle.clue_rules.proofs.GameIdLemmas.{id_found, id_again, game_reads}
+use Rattle.clue_rules.proofs.GameIdLemmas.{id_spares, id_found, id_again, game_reads}
 use Rattle.clue_rules.proofs.game_id.read_id.Goals as goal
 
 pub returns-clause-found : goal.returns-clause-found

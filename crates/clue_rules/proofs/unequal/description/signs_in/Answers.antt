@@ -1,7 +1,6 @@
 use Rattle.std.proofs.Common.{◌≡◌, ◌∙◌, true, refl, sym, arith}
 use Rattle.clue_rules.specs.Unequal.{sign_count}
-use Rattle.clue_rules.specs.Inner.UnequalPieces.{texts_of}
-use Rattle.clue_rules.specs.Inner.UnequalPieces.{signs_contradict}
+use Rattle.clue_rules.specs.Inner.UnequalPieces.{texts_of, signs_contradict}
 use Rattle.clue_rules.proofs.RangeLemmas.{none_more}
 use Rattle.clue_rules.specs.Laws.RangeTests.{range_some}
 use Rattle.clue_rules.specs.Laws.Contradiction.{contradicts_signs}

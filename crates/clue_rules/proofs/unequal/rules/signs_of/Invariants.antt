@@ -1,6 +1,5 @@
 use Rattle.latin_board.specs.Squares.{number_at}
-use Rattle.clue_rules.specs.Unequal.{first_side, second_side}
-use Rattle.clue_rules.specs.Unequal.{sign_of}
+use Rattle.clue_rules.specs.Unequal.{first_side, second_side, sign_of}
 use Rattle.clue_rules.proofs.FilledLemmas.{IsFilledBy}
 use Rattle.clue_rules.specs.declared.unequal.sign.Sign.TheVariants.{Absent}
 use Rattle.clue_rules.proofs.unequal.rules.signs_of.Given as goal
