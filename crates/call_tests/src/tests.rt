@@ -1,4 +1,4 @@
-//! A file for each of the lower crates, and `worked`, what the two games share.
+//! The subjects, from boards and texts up to sessions, and `worked`: what tests of both games share.
 
 mod boards;
 mod candidates;
