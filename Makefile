@@ -2,6 +2,7 @@
 # make play       a game on the terminal; GAME=towers (the default) or GAME=unequal, ID= an ID or a save file
 # make test       the gate: every proof from nothing, wrong bodies, tests, stored runs, and the program from outside and under fire
 # make test-faults the last part of it alone: memory, reads and writes that fail in turn
+# make test-saving how the program saves, wherever the file lies and whoever shares it
 # make test-tools the scripts around the program: the front, installing, and the texts for its users
 # make exchange   saves and IDs against the usual programs, of Debian's package sgt-puzzles; no part of the gate
 # make bench      how long the solver and the generator take, class by class, or the solver on the lines of IDS=file; no part of the gate
@@ -21,7 +22,7 @@ CRATE ?=
 FMT ?= $(RT) fmt
 PREFIX ?= /usr/local
 
-.PHONY: all play test test-faults test-tools exchange bench check try must-fail fmt install uninstall clean help crate
+.PHONY: all play test test-faults test-saving test-tools exchange bench check try must-fail fmt install uninstall clean help crate
 
 all:
 	@RT='$(RT)' tools/build
@@ -38,6 +39,9 @@ test:
 test-faults: all
 	@cd crates/refused_memory && $(RT) run < /dev/null > /dev/null
 	tools/test_faults build/puzzles crates/refused_memory/out/refused_memory
+
+test-saving: all
+	tools/test_saving build/puzzles
 
 test-tools: all
 	tools/test_texts

@@ -1,11 +1,15 @@
 /* A library to preload, by which one call of a program fails. tools/test_faults builds it and says what must come of it.
  *
  *   FAULT_CALL=NAME    which calls are counted: memory; input and output, the reads of descriptor 0 and the writes to 1;
- *                      read and write, those of other files; open, fsync, rename, close, stat, chmod, path (a path is made real)
+ *                      read and write, those of other files; open; create, an open that may make a file and doesn't ask that
+ *                      it be new; fsync, and folder, a folder's; rename, remove, close, stat, chmod, chown, link (a link is
+ *                      read), path (a path is made real), random
  *   FAULT_AT=N         the Nth of them fails, counted from 1; 0 or nothing: none
  *   FAULT_ON=1         and so does each behind it
- *   FAULT_ERROR=NAME   with EIO (as if nothing is given), EINTR or ENOSPC; ZERO: it answers 0; KILL: the program is killed there.
- *                      Memory always fails with ENOMEM
+ *   FAULT_ERROR=NAME   with this error of the list below, EIO where nothing is given; ZERO: it answers 0; KILL: the program is
+ *                      killed there; SWAP: nothing fails, but just before the call each new file of a save in the working folder
+ *                      is taken away, and a link of its name to FAULT_SWAP stands there. Memory always fails with ENOMEM
+ *   FAULT_ALSO=NAME:ERROR  each call of this name fails too; it is not counted, nor what comes behind it
  *   FAULT_PIECE=N      reads and writes move N bytes at most
  *   FAULT_COUNT=FILE   when the program ends, the number of these calls is written there, and behind it how many reads, writes,
  *                      opens, flushes to disk and renames came after the first that failed
@@ -14,6 +18,7 @@
  * where the program says what went wrong.
  */
 #define _GNU_SOURCE
+#include <dirent.h>
 #include <errno.h>
 #include <fcntl.h>
 #include <limits.h>
@@ -28,10 +33,25 @@
 #include <unistd.h>
 
 static uintptr_t program_start, program_end;
-static const char *counted_call = "";
+static const char *counted_call = "", *swap_target = "";
+static char also_call[32];
 static unsigned long fail_at, calls, later_calls;
-static int fail_on, has_failed, error_number = EIO, kills;
+static int fail_on, has_failed, error_number = EIO, also_number, kills, swaps;
 static size_t piece;
+
+static const struct {
+    const char *name;
+    int number;
+} errors[] = {
+    {"EIO", EIO},     {"EINTR", EINTR},   {"ENOSPC", ENOSPC}, {"EBUSY", EBUSY}, {"EPERM", EPERM},   {"EACCES", EACCES},
+    {"EXDEV", EXDEV}, {"EINVAL", EINVAL}, {"ENOSYS", ENOSYS}, {"EROFS", EROFS}, {"EMFILE", EMFILE}, {"ZERO", 0},
+};
+
+static int number_of(const char *name) {
+    for (size_t i = 0; i < sizeof errors / sizeof *errors; i++)
+        if (!strcmp(errors[i].name, name)) return errors[i].number;
+    return EIO;
+}
 
 /* The first object that the loader lists is the program. */
 static int find_program(struct dl_phdr_info *info, size_t size, void *data) {
@@ -52,11 +72,15 @@ __attribute__((constructor)) static void begin(void) {
     if ((text = getenv("FAULT_AT"))) fail_at = strtoul(text, NULL, 10);
     if ((text = getenv("FAULT_ON"))) fail_on = *text == '1';
     if ((text = getenv("FAULT_PIECE"))) piece = strtoul(text, NULL, 10);
+    if ((text = getenv("FAULT_SWAP"))) swap_target = text;
     if ((text = getenv("FAULT_ERROR"))) {
-        if (!strcmp(text, "EINTR")) error_number = EINTR;
-        if (!strcmp(text, "ENOSPC")) error_number = ENOSPC;
-        if (!strcmp(text, "ZERO")) error_number = 0;
+        error_number = number_of(text);
         kills = !strcmp(text, "KILL");
+        swaps = !strcmp(text, "SWAP");
+    }
+    if ((text = getenv("FAULT_ALSO")) && strchr(text, ':')) {
+        snprintf(also_call, sizeof also_call, "%.*s", (int)strcspn(text, ":"), text);
+        also_number = number_of(strchr(text, ':') + 1);
     }
 }
 
@@ -72,19 +96,37 @@ __attribute__((destructor)) static void end(void) {
     syscall(SYS_close, file);
 }
 
+/* What somebody may do who owns the folder: the new file's name is given to a link. */
+static void swap(void) {
+    DIR *folder = opendir(".");
+    struct dirent *entry;
+    while (folder && (entry = readdir(folder))) {
+        if (strncmp(entry->d_name, ".puzzles.", 9)) continue;
+        syscall(SYS_unlinkat, AT_FDCWD, entry->d_name, 0);
+        syscall(SYS_symlinkat, swap_target, AT_FDCWD, entry->d_name);
+    }
+    if (folder) closedir(folder);
+}
+
+static int fails_with(int number) {
+    errno = number;
+    return 1;
+}
+
 /* Whether this call of the program is to fail. */
 static int fails(const char *name) {
+    if (!strcmp(also_call, name)) return fails_with(also_number);
     if (strcmp(counted_call, name)) return 0;
     calls++;
     if (!fail_at || (fail_on ? calls < fail_at : calls != fail_at)) return 0;
     if (kills) kill(getpid(), SIGKILL);
+    if (swaps) return swap(), 0;
     has_failed = 1;
-    errno = error_number;
-    return 1;
+    return fails_with(error_number);
 }
 
-/* What a call that fails answers. */
-#define FAULT (error_number ? -1 : 0)
+/* What a read or write that fails answers. */
+#define FAULT (errno ? -1 : 0)
 
 static size_t short_count(size_t count) { return piece && count > piece ? piece : count; }
 
@@ -127,11 +169,13 @@ static int open_at(int folder, const char *path, int flags, va_list more) {
     return (int)syscall(SYS_openat, folder, path, flags, mode);
 }
 
+static const char *open_name(int flags) { return (flags & O_CREAT) && !(flags & O_EXCL) ? "create" : "open"; }
+
 #define OPEN(name, parameters, folder)                 \
     int name parameters {                              \
         va_list more;                                  \
         int file;                                      \
-        if (FAILS("open")) return -1;                  \
+        if (FAILS(open_name(flags))) return -1;        \
         va_start(more, flags);                         \
         file = open_at(folder, path, flags, more);     \
         va_end(more);                                  \
@@ -142,10 +186,36 @@ OPEN(open64, (const char *path, int flags, ...), AT_FDCWD)
 OPEN(openat, (int folder, const char *path, int flags, ...), folder)
 OPEN(openat64, (int folder, const char *path, int flags, ...), folder)
 
-int fsync(int file) { return FAILS("fsync") ? -1 : (int)syscall(SYS_fsync, file); }
-int fdatasync(int file) { return FAILS("fsync") ? -1 : (int)syscall(SYS_fdatasync, file); }
-int rename(const char *from, const char *to) { return FAILS("rename") ? -1 : (int)syscall(SYS_renameat2, AT_FDCWD, from, AT_FDCWD, to, 0); }
+static const char *flush_name(int file) {
+    struct stat found;
+    return !fstat(file, &found) && S_ISDIR(found.st_mode) ? "folder" : "fsync";
+}
+
+int fsync(int file) { return FAILS(flush_name(file)) ? -1 : (int)syscall(SYS_fsync, file); }
+int fdatasync(int file) { return FAILS(flush_name(file)) ? -1 : (int)syscall(SYS_fdatasync, file); }
+int rename(const char *from, const char *to) {
+    return FAILS("rename") ? -1 : (int)syscall(SYS_renameat2, AT_FDCWD, from, AT_FDCWD, to, 0);
+}
+int unlink(const char *path) { return QUIETLY_FAILS("remove") ? -1 : (int)syscall(SYS_unlinkat, AT_FDCWD, path, 0); }
+int chmod(const char *path, mode_t mode) {
+    return QUIETLY_FAILS("chmod") ? -1 : (int)syscall(SYS_fchmodat, AT_FDCWD, path, mode);
+}
 int fchmod(int file, mode_t mode) { return QUIETLY_FAILS("chmod") ? -1 : (int)syscall(SYS_fchmod, file, mode); }
+int chown(const char *path, uid_t owner, gid_t group) {
+    return QUIETLY_FAILS("chown") ? -1 : (int)syscall(SYS_fchownat, AT_FDCWD, path, owner, group, 0);
+}
+int lchown(const char *path, uid_t owner, gid_t group) {
+    return QUIETLY_FAILS("chown") ? -1 : (int)syscall(SYS_fchownat, AT_FDCWD, path, owner, group, AT_SYMLINK_NOFOLLOW);
+}
+int fchown(int file, uid_t owner, gid_t group) {
+    return QUIETLY_FAILS("chown") ? -1 : (int)syscall(SYS_fchown, file, owner, group);
+}
+ssize_t readlink(const char *path, char *room, size_t size) {
+    return QUIETLY_FAILS("link") ? -1 : syscall(SYS_readlinkat, AT_FDCWD, path, room, size);
+}
+int getentropy(void *room, size_t size) {
+    return QUIETLY_FAILS("random") ? -1 : syscall(SYS_getrandom, room, size, 0) == (long)size ? 0 : -1;
+}
 int statx(int folder, const char *path, int flags, unsigned int mask, struct statx *to) {
     return QUIETLY_FAILS("stat") ? -1 : (int)syscall(SYS_statx, folder, path, flags, mask, to);
 }

@@ -7,6 +7,7 @@ mod faults;
 mod game_ids;
 mod narrowing;
 mod parameters;
+mod saving;
 mod seeded_games;
 mod sessions;
 mod texts;

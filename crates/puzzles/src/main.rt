@@ -7,20 +7,21 @@
 
 mod fault;
 mod load_file;
-mod save_file;
 
 ghost use Rattle.std.specs.Prelude.{IfOk};
 ghost use Rattle.puzzle_cli.specs.CommandLine.{NotBoth};
 
 use crate::fault::Fault;
 use crate::load_file::read_file;
-use crate::save_file::write_file;
 use clue_rules::{Towers, Unequal};
 use play_midend::Session;
 use play_save::save;
 use puzzle_cli::{Args, CommandFault, Draw, End, GameName, begin, read_words, run};
 use puzzle_io::{FromRead, ToWrite};
+use safe_save::save_file;
+use std::fs::File;
 use std::process::ExitCode;
+use std::random::RandomSource;
 use std::rt::{Env, Files};
 use std::{env, io};
 
@@ -36,7 +37,9 @@ fn main(rt: HostRuntime) -> ExitCode {
 }
 
 // Reads the command line and plays the game that it names.
-fn play_named(rt: &(impl Env + Files + Input + Print + Eprint + AllocGlobal)) -> Result<(), Fault> {
+fn play_named(
+    rt: &(impl Env + Files<File = File> + RandomSource + Input + Print + Eprint + AllocGlobal),
+) -> Result<(), Fault> {
     let args = args(rt).map_err(Fault::Words)?;
     match args.game {
         GameName::Towers => play::<Towers>(rt, &args),
@@ -65,7 +68,10 @@ fn args(rt: &(impl Env + AllocGlobal)) -> Result<Args, CommandFault>
 }
 
 // Plays a game, from its first session to the file that the last one is saved to.
-fn play<P: Draw>(rt: &(impl Files + Input + Print + AllocGlobal), args: &Args) -> Result<(), Fault>
+fn play<P: Draw>(
+    rt: &(impl Files<File = File> + RandomSource + Input + Print + AllocGlobal),
+    args: &Args,
+) -> Result<(), Fault>
     requires { NotBoth args.now.id args.now.load }
 {
     let session = first_session::<P>(rt, args)?;
@@ -101,12 +107,12 @@ fn first_session<P: Draw>(
 
 // Saves a session to a file.
 fn keep<P: Draw>(
-    rt: &(impl Files + AllocGlobal),
+    rt: &(impl Files<File = File> + RandomSource + AllocGlobal),
     session: &Session<P>,
     path: &str,
 ) -> Result<(), Fault> {
     let text = save(rt.alloc(), session).map_err(|_| Fault::OutOfMemory)?;
-    write_file(rt, path, &text).map_err(|error| file_fault(&error, Fault::SaveFile))
+    save_file(rt, path, &text).map_err(|error| file_fault(&error, Fault::SaveFile))
 }
 
 // The fault of a file's error: want of memory is said as such.

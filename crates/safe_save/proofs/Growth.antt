@@ -1,0 +1,31 @@
+-- One change joins those that were made.
+use Rattle.std.proofs.Common.{◌≡◌, ◌≤◌, ◌+◌, ◌⊎◌, inl, inr, ⊎_elim, ℕ, List, [], ◌∷◌, ◌++◌, length, take, sym, ◌∙◌, ap, arith, length-append}
+use Rattle.std.proofs.lemmas.List.{take_all, take-append-le}
+use Rattle.std.proofs.lemmas.Bool.{cases_eq}
+use Rattle.safe_save.specs.Folder.{Image, Same}
+use Rattle.safe_save.specs.Changes.{image_of, HasStood, ChangesGoOn}
+use Rattle.safe_save.specs.declared.changes.Change.{Change}
+
+module _ (old : List Change) (change : Change) where
+  abbrev grown : List Change
+  grown = old ++ change ∷ []
+
+  size : length grown ≡ length old + 1
+  size = length-append old (change ∷ [])
+
+  front : (k : ℕ) (name : List ℕ) → k ≤ length old → image_of (take k grown) name ≡ image_of (take k old) name
+  front k name le = ap (λ all. image_of all name) (take-append-le k old (change ∷ []) le)
+
+  whole : (k : ℕ) (name : List ℕ) → k ≡ length old + 1 → image_of (take k grown) name ≡ image_of grown name
+  whole k name is = ap (λ all. image_of all name) (take_all k grown (omega (arith, size, is)))
+
+  -- what has stood since is the same, and what stands behind the change
+  pub grows : ChangesGoOn old grown
+  grows = record {
+    later = omega (arith, size);
+    nothing_else = λ t f le stood. elim (cases_eq stood.0 (length old + 1)) [
+      | inl last ↦ inr (λ name. stood.3 name ∙ whole stood.0 name last)
+      | inr earlier ↦ let within : stood.0 ≤ length old = omega (arith, stood.2, size, earlier) in inl (stood.0, stood.1, within, λ name. stood.3 name ∙ front stood.0 name within)
+    ];
+    keeps = λ t f le stood. (stood.0, stood.1, omega (arith, stood.2, size), λ name. stood.3 name ∙ sym (front stood.0 name stood.2));
+  }

@@ -1,0 +1,4 @@
+mod Crashes
+mod Growth
+mod Moments
+mod Touching

@@ -1,0 +1,123 @@
+//! The file that a path leads to, and how a save is put there.
+
+use crate::files::{FilesFolder, Standing, folder_of};
+use crate::saving::{SaveFault, save};
+use std::fs::{File, Files, Metadata, OpenOptions};
+use std::io::{ErrorKind, Write};
+use std::os::unix::fs::MetadataExt;
+use std::path::{Path, PathBuf};
+use std::random::RandomSource;
+use std::{fs, io};
+
+/// How many links in a row are followed, as many as the system follows.
+const MOST_LINKS: u32 = 40;
+
+/// How many names are tried for the new file.
+const MOST_NAMES: u32 = 100;
+
+/// The names of the descriptors that this process holds open.
+const DESCRIPTORS: &str = "/proc/self/fd";
+
+/// The bit of a descriptor's name that says that it is open for writing.
+const OPEN_TO_WRITE: u32 = 0o200;
+
+/// Makes these bytes the content of the file at the path.
+///
+/// A pipe, a device, and a file that is open here for writing are written after what went there before. Links at the end of the
+/// path stay. At an error what stood there stands there, or the whole save stands beside it, as `.puzzles.` and 16 hexadecimal
+/// digits and `.tmp`; or all is done, and a crash could bring back what stood there. `OutOfMemory` comes before any change.
+pub fn save_file<R>(rt: &R, path: &str, bytes: &[u8]) -> io::Result<()>
+where
+    R: Files<File = File> + RandomSource + AllocGlobal,
+{
+    let standing = match fs::metadata(rt, path) {
+        Ok(found) if found.is_file() && is_open(rt, &found)? => return append(rt, path, bytes),
+        Ok(found) if found.is_file() => Standing::File(found),
+        Ok(found) if found.is_dir() => Standing::Unclear,
+        Ok(_) => return append(rt, path, bytes),
+        Err(error) if error.kind() == ErrorKind::NotFound => Standing::Nothing,
+        Err(_) => Standing::Unclear,
+    };
+    match end_of_links(rt, path)? {
+        Some(target) => replace(rt, target.as_str(), bytes, standing),
+        None => replace(rt, path, bytes, Standing::Unclear),
+    }
+}
+
+// Whether one of the descriptors that this process may write to is of this file.
+fn is_open<R: Files + AllocGlobal>(rt: &R, target: &Metadata) -> io::Result<bool> {
+    let Ok(descriptors) = fs::read_dir(&rt, DESCRIPTORS) else {
+        return Ok(false);
+    };
+    for descriptor in descriptors {
+        let descriptor = descriptor?;
+        let path = descriptor.path();
+        let (Ok(link), Ok(file)) = (
+            fs::symlink_metadata(rt, path.as_str()),
+            fs::metadata(rt, path.as_str()),
+        ) else {
+            continue;
+        };
+        if link.mode() & OPEN_TO_WRITE != 0
+            && file.dev() == target.dev()
+            && file.ino() == target.ino()
+        {
+            return Ok(true);
+        }
+    }
+    Ok(false)
+}
+
+// Writes what stands at the path, after all that is there.
+fn append(rt: &impl Files, path: &str, bytes: &[u8]) -> io::Result<()> {
+    OpenOptions::new()
+        .append(true)
+        .open(rt, path)?
+        .write_all(bytes)
+}
+
+// Where the path leads past the links at its end; `None` where that can't be told, or where they have no end.
+fn end_of_links<R: Files + AllocGlobal>(rt: &R, path: &str) -> io::Result<Option<PathBuf>> {
+    let mut target = PathBuf::from_str(rt.alloc(), path)?;
+    for _ in 0..MOST_LINKS {
+        match fs::symlink_metadata(rt, target.as_str()) {
+            Ok(found) if found.is_symlink() => {}
+            Ok(_) => return Ok(Some(target)),
+            Err(error) if error.kind() == ErrorKind::NotFound => return Ok(Some(target)),
+            Err(_) => return Ok(None),
+        }
+        let link = match fs::read_link(rt, target.as_str()) {
+            Ok(link) => link,
+            Err(error) if error.kind() == ErrorKind::OutOfMemory => return Err(error),
+            Err(_) => return Ok(None),
+        };
+        target = Path::new(folder_of(target.as_str())).join(rt.alloc(), link.as_str())?;
+    }
+    Ok(None)
+}
+
+// Saves by a new file, under a name that nobody can know beforehand.
+fn replace<R>(rt: &R, path: &str, bytes: &[u8], standing: Standing) -> io::Result<()>
+where
+    R: Files<File = File> + RandomSource + AllocGlobal,
+{
+    let mut folder = FilesFolder::new(rt, standing);
+    for _ in 0..MOST_NAMES {
+        let beside = fresh_name(rt, path)?;
+        match save(&mut folder, path, beside.as_str(), bytes) {
+            Ok(()) => return Ok(()),
+            Err(SaveFault::Taken) => {}
+            Err(_) => return Err(io::Error::from(ErrorKind::Other)),
+        }
+    }
+    Err(io::Error::from(ErrorKind::AlreadyExists))
+}
+
+// A name in the folder of the path, with a random part.
+fn fresh_name<R: RandomSource + AllocGlobal>(rt: &R, path: &str) -> io::Result<String> {
+    let mut random = [0; 8];
+    rt.fill_bytes(&mut random)?;
+    let number = u64::from_be_bytes(random);
+    let folder = folder_of(path);
+    Ok(format!(in rt.alloc(); "{folder}/.puzzles.{number:016x}.tmp")?)
+}

@@ -1,0 +1,35 @@
+"""Runs a built program from outside and looks at what came of it. A script of tools/ imports what it needs from here.
+
+report   counts the cases that passed, failed and were skipped, and prints what there is to say of them
+room     a folder for a case, gone afterwards, and what is made and read in it
+program  one run: words, input, folder, user, limits, streams; and how it ended
+faults   the library tools/faults.c, by which a chosen call of the program fails
+mounts   a file that is mounted alone, and a disk that is soon full
+users    whom a program can be run as
+process  what the process of the test is made ready with
+
+Linux and Python 3.8 or later, with nothing beside its standard library.
+"""
+
+from harness.faults import FaultLibrary, Met
+from harness.process import begin
+from harness.program import Ended, run
+from harness.report import Case, Report, Skip
+from harness.room import Folder, Room
+from harness.users import User, is_root, need_root
+
+__all__ = [
+    'Case',
+    'Ended',
+    'FaultLibrary',
+    'Folder',
+    'Met',
+    'Report',
+    'Room',
+    'Skip',
+    'User',
+    'begin',
+    'is_root',
+    'need_root',
+    'run',
+]

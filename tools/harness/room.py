@@ -1,0 +1,115 @@
+"""Folders: one for a case that is gone afterwards, and what is made and read in a folder."""
+
+from __future__ import annotations
+
+import os
+import shutil
+import stat
+import tempfile
+from typing import BinaryIO, List, Optional, Tuple, Union
+
+Name = Union[str, bytes]
+Owner = Tuple[int, int]
+
+
+class Folder:
+    """An open folder. What lies in it is reached from there, however long or closed the way to it is."""
+
+    def __init__(self, place: Name, above: Optional[Folder] = None) -> None:
+        above_fd: Optional[int] = above.fd if above else None
+        self.fd: int = os.open(place, os.O_RDONLY | os.O_DIRECTORY, dir_fd=above_fd)
+        #: The way that led here. It may be too long to go, or closed by now.
+        self.path: str = os.path.join(above.path if above else '', os.fsdecode(place))
+
+    def close(self) -> None:
+        os.close(self.fd)
+
+    def __enter__(self) -> Folder:
+        return self
+
+    def __exit__(self, *_: object) -> None:
+        self.close()
+
+    def make_folder(self, name: Name, mode: int = 0o755, owner: Optional[Owner] = None) -> Folder:
+        """A new folder in this one, open. Its mode is this one, whatever the umask."""
+        os.mkdir(name, 0o700, dir_fd=self.fd)
+        made = Folder(name, self)
+        if owner:
+            os.fchown(made.fd, *owner)
+        os.fchmod(made.fd, mode)
+        return made
+
+    def put(self, name: Name, content: bytes = b'', mode: int = 0o644, owner: Optional[Owner] = None) -> None:
+        """Makes a file, or gives it this content. Its mode is this one, whatever the umask."""
+        fd = os.open(name, os.O_WRONLY | os.O_CREAT | os.O_TRUNC, 0o600, dir_fd=self.fd)
+        with os.fdopen(fd, 'wb') as file:
+            if owner:
+                os.fchown(fd, *owner)
+            os.fchmod(fd, mode)
+            file.write(content)
+
+    def link(self, name: Name, text: Name) -> None:
+        """Makes a symbolic link with this text."""
+        os.symlink(text, name, dir_fd=self.fd)
+
+    def remove(self, name: Name) -> None:
+        os.unlink(name, dir_fd=self.fd)
+
+    def names(self) -> List[str]:
+        """What lies here, in order."""
+        return sorted(os.listdir(self.fd))
+
+    def read(self, name: Name) -> Optional[bytes]:
+        """The content of a file, or nothing where there is none. A link is followed."""
+        try:
+            with self.reader(name) as file:
+                return file.read()
+        except (FileNotFoundError, NotADirectoryError):
+            return None
+
+    def reader(self, name: Name) -> BinaryIO:
+        """A file, open for reading. It stays that file when another one takes its name."""
+        return os.fdopen(os.open(name, os.O_RDONLY, dir_fd=self.fd), 'rb', buffering=0)
+
+    def status(self, name: Name) -> Optional[os.stat_result]:
+        """What is known of a file, or nothing where there is none. A link is followed."""
+        try:
+            return os.stat(name, dir_fd=self.fd)
+        except (FileNotFoundError, NotADirectoryError):
+            return None
+
+    def mode(self, name: Name) -> Optional[int]:
+        """The mode of a file, set-id bits too, or nothing where there is none."""
+        found = self.status(name)
+        return stat.S_IMODE(found.st_mode) if found else None
+
+    def link_text(self, name: Name) -> Optional[str]:
+        """The text of a symbolic link, or nothing where none stands."""
+        try:
+            return os.readlink(os.fsdecode(name), dir_fd=self.fd)
+        except OSError:
+            return None
+
+
+class Room(Folder):
+    """A new folder that every user may enter. When it is left it is gone, with all that is in it."""
+
+    def __init__(self) -> None:
+        super().__init__(tempfile.mkdtemp(prefix='room.'))
+        os.fchmod(self.fd, 0o755)
+
+    def __enter__(self) -> Room:
+        return self
+
+    def __exit__(self, *_: object) -> None:
+        self.close()
+        remove_tree(self.path)
+
+
+def remove_tree(path: str) -> None:
+    """Takes away a folder with all that is in it, folders that may not be entered too."""
+    for _, folders, _, fd in os.fwalk(path):
+        for name in folders:
+            if stat.S_ISDIR(os.lstat(name, dir_fd=fd).st_mode):
+                os.chmod(name, 0o700, dir_fd=fd)
+    shutil.rmtree(path)

@@ -1,0 +1,82 @@
+"""A small game, what its saves are, and the program that saves it."""
+
+from __future__ import annotations
+
+import os
+from typing import Any, ContextManager, List, Sequence, Union
+
+from harness import Case, Ended, FaultLibrary, Folder, Met, Report, Skip, run
+
+MOVES = [b'R0,0,1', b'R1,0,2', b'R2,0,3']
+
+def save_text(moves: int) -> bytes:
+    """The save of the game in which so many moves were made."""
+    count = moves + 1
+    head = (
+        b"SAVEFILE:41:Simon Tatham's Portable Puzzle Collection\nVERSION :1:1\nGAME    :6:Towers\n"
+        b'PARAMS  :1:3\nCPARAMS :1:3\nDESC    :13:3//////3/////\nNSTATES :1:%d\nSTATEPOS:1:%d\n' % (count, count)
+    )
+    return head + b''.join(b'MOVE    :6:%s\n' % move for move in MOVES[:moves])
+
+
+def replies(moves: int) -> bytes:
+    return b'ok\n' * moves
+
+
+class Tests:
+    """A program to be tested: its cases are counted in a report."""
+
+    def __init__(self, report: Report, program: str, faults: Union[FaultLibrary, Skip]) -> None:
+        self.report = report
+        self.program = program
+        self._faults = faults
+
+    def case(self, name: str) -> ContextManager[Case]:
+        return self.report.case(name)
+
+    def faults(self) -> FaultLibrary:
+        """The library by which calls fail. The case is skipped where there is none."""
+        if isinstance(self._faults, Skip):
+            raise self._faults
+        return self._faults
+
+    def met(self) -> Met:
+        """What the last run under faults met."""
+        return self.faults().met()
+
+    def save(self, folder: Folder, path: str, moves: int = 0, front: Sequence[str] = (), **how: Any) -> Ended:
+        """Plays the game and saves it. Words in front may start the program; what else there is goes to `run`."""
+        script = b''.join(b'move %s\n' % move for move in MOVES[:moves])
+        words = [*front, self.program, 'towers', '--id', '3:3//////3/////', '--save', path]
+        return run(words, folder, input=script, **how)
+
+
+def expect_saved(case: Case, ended: Ended, moves: int = 0) -> None:
+    """The run ended well and said what it had to say."""
+    case.same('standard error', ended.error, b'')
+    case.same('the status', ended.status, 0)
+    case.same('the output', ended.output, replies(moves))
+
+
+def expect_refused(case: Case, ended: Ended, moves: int = 0) -> None:
+    """The run ended with the word that the save can't be written."""
+    case.same('standard error', ended.error, b'cannot write the file\n')
+    case.same('the status', ended.status, 1)
+    case.same('the output', ended.output, replies(moves))
+
+
+def left_files(folder: Folder) -> List[str]:
+    """The paths of new files that a save left here, or in a folder below."""
+    found = [(way, name) for way, _, names, _ in os.fwalk('.', dir_fd=folder.fd) for name in names]
+    return [os.path.normpath(f'{way}/{name}') for way, name in found if name.startswith('.puzzles.')]
+
+
+def expect_whole_left(case: Case, folder: Folder, content: bytes) -> None:
+    """Where nothing could be done the whole save may be left, and nobody may run it."""
+    for name in left_files(folder):
+        case.same('what is left beside', folder.read(name), content)
+        case.expect((folder.mode(name) or 0) & 0o111 == 0, f'its mode is {folder.mode(name) or 0:o}')
+
+
+def expect_none_left(case: Case, folder: Folder) -> None:
+    case.same('what is left beside', left_files(folder), [])
