@@ -50,7 +50,12 @@ fn is_open<R: Files + AllocGlobal>(rt: &R, target: &Metadata) -> io::Result<bool
         return Ok(false);
     };
     for descriptor in descriptors {
-        let descriptor = descriptor?;
+        let descriptor = match descriptor {
+            Ok(descriptor) => descriptor,
+            Err(error) if error.kind() == ErrorKind::OutOfMemory => return Err(error),
+            // What can't be told is no reason not to save.
+            Err(_) => return Ok(false),
+        };
         let path = descriptor.path();
         let (Ok(link), Ok(file)) = (
             fs::symlink_metadata(rt, path.as_str()),
