@@ -1,6 +1,7 @@
--- What is known of the moves of a legal list: they fit what a text holds.
-use Rattle.std.proofs.Common.{◌≡◌, ℕ, zero, ◌≤◌, ℤ, pos, negsuc, true, false, ◌==◌, ◌&&◌, not, nat_lt, List, [], ◌∷◌, Option, Some, None, IsOk, cond, refl, arith}
-use Rattle.std.specs.Option.{option_or, option_map_or}
+-- A move that isn't refused fits what a text holds, and so do all moves of a legal list.
+use Rattle.std.proofs.Common.{◌≡◌, ℕ, zero, ◌≤◌, ℤ, pos, negsuc, Bool, true, false, ◌==◌, ◌&&◌, not, nat_lt, List, [], ◌∷◌, Option, Some, None, cond, refl, arith}
+use Rattle.std.specs.Option.{option_map_or}
+use Rattle.std.proofs.lemmas.Option.{cond_some}
 use Rattle.std.proofs.lemmas.Bool.{and_parts, not-false, eqb-true, ltb-true, ltb-false, cond_both}
 use Rattle.latin_board.specs.Boards.{BoardValue}
 use Rattle.latin_board.specs.Edges.{edge_place}
@@ -10,8 +11,8 @@ use Rattle.play_midend.specs.declared.moves.Move.TheVariants.{Real, Pencil, Mark
 use Rattle.play_midend.specs.declared.fault.PlayFault.{PlayFault}
 use Rattle.play_midend.specs.declared.fault.PlayFault.TheVariants.{OffGrid}
 use Rattle.play_midend.specs.MoveTexts.{AreBytes, IsCoordinate}
-use Rattle.play_midend.specs.Steps.{cell_of, entry_refusal, mark_refusal, refusal_of, moved, unless_refused, step, after_move, ArePlayable}
-use Rattle.play_save.proofs.OptionSteps.{where_taken, faultless_else, faultless_where}
+use Rattle.play_midend.specs.Steps.{cell_of, entry_refusal, mark_refusal, refusal_of, moved, after_move, ArePlayable}
+use Rattle.play_midend.proofs.Playing.{or_none, not_refused}
 
 -- the numbers are within what a text holds, and a solution has the puzzle's size
 abbrev pub FitsText : Puzzle → Move → Type 0
@@ -25,6 +26,16 @@ FitsText p (Done x y) = IsCoordinate x × IsCoordinate y
 abbrev pub AllFit : Puzzle → List Move → Type 0
 AllFit p [] = Unit {0}
 AllFit p (m ∷ ms) = FitsText p m × AllFit p ms
+
+-- a fault where a test holds, or where it fails
+faultless_else : (test : Bool) (fault : PlayFault) (o : Option PlayFault)
+    → cond test (Some fault) o ≡ None → (test ≡ false) × (o ≡ None)
+faultless_else true fault o none = cc
+faultless_else false fault o none = (refl, none)
+
+faultless_where : (test : Bool) (fault : PlayFault) → cond test None (Some fault) ≡ None → test ≡ true
+faultless_where true fault none = refl
+faultless_where false fault none = cc
 
 entry_fits : (p : Puzzle) (x y n : ℕ) → p.size ≤ 9 → entry_refusal p x y n ≡ None → AreBytes x y n
 entry_fits p x y n small none =
@@ -40,11 +51,11 @@ entry_fits p x y n small none =
 -- an edge place has coordinates that a text holds
 edge_fits : (w : ℕ) (x y : ℤ) (k : ℕ) → w ≤ 9 → edge_place w x y ≡ Some k → IsCoordinate x × IsCoordinate y
 edge_fits w (pos x) (negsuc zero) k small is =
-    let below = where_taken (nat_lt x w) _ k is in (omega (arith, ltb-true x w below.0), refl)
+    let below = cond_some (nat_lt x w) _ k is in (omega (arith, ltb-true x w below.0), refl)
 edge_fits w (pos x) (pos y) k small is =
     cond_both (nat_lt x w && (y == w)) _ _ (λ (o : Option ℕ). o ≡ Some k → (x ≤ 127) × (y ≤ 127))
     (λ below some. at_bottom (and_parts (nat_lt x w) (y == w) below))
-    (λ above some. at_right (and_parts (nat_lt y w) (x == w) (where_taken (nat_lt y w && (x == w)) _ k some).0)) is
+    (λ above some. at_right (and_parts (nat_lt y w) (x == w) (cond_some (nat_lt y w && (x == w)) _ k some).0)) is
   where
     at_bottom : (nat_lt x w ≡ true) × ((y == w) ≡ true) → (x ≤ 127) × (y ≤ 127)
     at_bottom parts = (omega (arith, ltb-true x w parts.0), omega (arith, eqb-true y w parts.1))
@@ -52,17 +63,13 @@ edge_fits w (pos x) (pos y) k small is =
     at_right : (nat_lt y w ≡ true) × ((x == w) ≡ true) → (x ≤ 127) × (y ≤ 127)
     at_right parts = (omega (arith, eqb-true x w parts.1), omega (arith, ltb-true y w parts.0))
 edge_fits w (negsuc zero) (pos y) k small is =
-    let below = where_taken (nat_lt y w) _ k is in (refl, omega (arith, ltb-true y w below.0))
+    let below = cond_some (nat_lt y w) _ k is in (refl, omega (arith, ltb-true y w below.0))
 edge_fits w x y k small is = cc
-
-or_none : (a b : Option PlayFault) → option_or a b ≡ None → a ≡ None
-or_none None b is = refl
-or_none (Some f) b is = cc
 
 pub move_fits : (p : Puzzle) (b : BoardValue) (m : Move) → p.size ≤ 9 → refusal_of p b m ≡ None → FitsText p m
 move_fits p b (Real x y n) small none = entry_fits p x y n small none
 move_fits p b (Pencil x y n) small none =
-    entry_fits p x y n small (or_none (entry_refusal p x y n) (mark_refusal b (cell_of p.size x y) n) none)
+    entry_fits p x y n small (or_none (entry_refusal p x y n) (mark_refusal b (cell_of p.size x y) n) none).0
 move_fits p b MarkAll small none = tt
 move_fits p b Restart small none = tt
 move_fits p b (Solve g) small none =
@@ -76,15 +83,8 @@ move_fits p b (Done x y) small none = by_place (edge_place p.size x y) refl none
     by_place None at no_fault = cc
     by_place (Some k) at no_fault = edge_fits p.size x y k small at
 
--- a move that isn't refused, and all moves of a legal list
-allowed : (p : Puzzle) (b : BoardValue) (m : Move) → IsOk (step p b m) → refusal_of p b m ≡ None
-allowed p b m is = by_refusal (refusal_of p b m) is
-  where
-    by_refusal : (o : Option PlayFault) → IsOk (unless_refused o (moved p b m)) → o ≡ None
-    by_refusal None good = refl
-    by_refusal (Some f) good = cc
-
+-- all moves of a legal list
 pub all_fit : (p : Puzzle) (b : BoardValue) (ms : List Move) → p.size ≤ 9 → ArePlayable p b ms → AllFit p ms
 all_fit p b [] small playable = tt
 all_fit p b (m ∷ ms) small playable =
-    (move_fits p b m small (allowed p b m playable.0), all_fit p (after_move p b m) ms small playable.1)
+    (move_fits p b m small (not_refused (refusal_of p b m) (moved p b m) playable.0), all_fit p (after_move p b m) ms small playable.1)
