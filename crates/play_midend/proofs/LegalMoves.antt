@@ -1,14 +1,11 @@
 -- A move that isn't refused fits what a text holds, and so do all moves of a legal list.
-use Rattle.std.proofs.Common.{◌≡◌, ℕ, zero, ◌≤◌, ℤ, pos, negsuc, Bool, true, false, ◌==◌, ◌&&◌, not, nat_lt, List, [], ◌∷◌, Option, Some, None, cond, refl, arith}
+use Rattle.std.proofs.Common.{◌≡◌, ℕ, zero, ◌≤◌, ℤ, pos, negsuc, true, false, List, [], ◌∷◌, Option, Some, None, cond, refl, arith}
 use Rattle.std.specs.Option.{option_map_or}
-use Rattle.std.proofs.lemmas.Option.{cond_some}
-use Rattle.std.proofs.lemmas.Bool.{and_parts, not-false, eqb-true, ltb-true, ltb-false, cond_both}
 use Rattle.latin_board.specs.Boards.{BoardValue}
 use Rattle.latin_board.specs.Edges.{edge_place}
 use Rattle.trail_solver.specs.Puzzles.{Puzzle, solves_test}
 use Rattle.play_midend.specs.declared.moves.Move.{Move}
 use Rattle.play_midend.specs.declared.moves.Move.TheVariants.{Real, Pencil, MarkAll, Solve, Restart, Done}
-use Rattle.play_midend.specs.declared.fault.PlayFault.{PlayFault}
 use Rattle.play_midend.specs.declared.fault.PlayFault.TheVariants.{OffGrid}
 use Rattle.play_midend.specs.MoveTexts.{AreBytes, IsCoordinate}
 use Rattle.play_midend.specs.Steps.{cell_of, entry_refusal, mark_refusal, refusal_of, moved, after_move, ArePlayable}
@@ -27,43 +24,14 @@ abbrev pub AllFit : Puzzle → List Move → Type 0
 AllFit p [] = Unit {0}
 AllFit p (m ∷ ms) = FitsText p m × AllFit p ms
 
--- a fault where a test holds, or where it fails
-faultless_else : (test : Bool) (fault : PlayFault) (o : Option PlayFault)
-    → cond test (Some fault) o ≡ None → (test ≡ false) × (o ≡ None)
-faultless_else true fault o none = cc
-faultless_else false fault o none = (refl, none)
-
-faultless_where : (test : Bool) (fault : PlayFault) → cond test None (Some fault) ≡ None → test ≡ true
-faultless_where true fault none = refl
-faultless_where false fault none = cc
-
 entry_fits : (p : Puzzle) (x y n : ℕ) → p.size ≤ 9 → entry_refusal p x y n ≡ None → AreBytes x y n
-entry_fits p x y n small none =
-    let inside = faultless_else (not (nat_lt x p.size && nat_lt y p.size)) _ _ none in
-    let both = and_parts (nat_lt x p.size) (nat_lt y p.size) (not-false _ inside.0) in
-    let within = faultless_else (nat_lt p.size n) _ _ inside.1 in
-    record {
-      x_is = omega (arith, ltb-true x p.size both.0);
-      y_is = omega (arith, ltb-true y p.size both.1);
-      n_is = omega (arith, ltb-false p.size n within.0);
-    }
+entry_fits p x y n small none = record { x_is = grind arith; y_is = grind arith; n_is = grind arith }
 
 -- an edge place has coordinates that a text holds
 edge_fits : (w : ℕ) (x y : ℤ) (k : ℕ) → w ≤ 9 → edge_place w x y ≡ Some k → IsCoordinate x × IsCoordinate y
-edge_fits w (pos x) (negsuc zero) k small is =
-    let below = cond_some (nat_lt x w) _ k is in (omega (arith, ltb-true x w below.0), refl)
-edge_fits w (pos x) (pos y) k small is =
-    cond_both (nat_lt x w && (y == w)) _ _ (λ (o : Option ℕ). o ≡ Some k → (x ≤ 127) × (y ≤ 127))
-    (λ below some. at_bottom (and_parts (nat_lt x w) (y == w) below))
-    (λ above some. at_right (and_parts (nat_lt y w) (x == w) (cond_some (nat_lt y w && (x == w)) _ k some).0)) is
-  where
-    at_bottom : (nat_lt x w ≡ true) × ((y == w) ≡ true) → (x ≤ 127) × (y ≤ 127)
-    at_bottom parts = (omega (arith, ltb-true x w parts.0), omega (arith, eqb-true y w parts.1))
-
-    at_right : (nat_lt y w ≡ true) × ((x == w) ≡ true) → (x ≤ 127) × (y ≤ 127)
-    at_right parts = (omega (arith, eqb-true x w parts.1), omega (arith, ltb-true y w parts.0))
-edge_fits w (negsuc zero) (pos y) k small is =
-    let below = cond_some (nat_lt y w) _ k is in (refl, omega (arith, ltb-true y w below.0))
+edge_fits w (pos x) (negsuc zero) k small is = (grind arith, refl)
+edge_fits w (pos x) (pos y) k small is = (grind arith, grind arith)
+edge_fits w (negsuc zero) (pos y) k small is = (refl, grind arith)
 edge_fits w x y k small is = cc
 
 pub move_fits : (p : Puzzle) (b : BoardValue) (m : Move) → p.size ≤ 9 → refusal_of p b m ≡ None → FitsText p m
@@ -72,9 +40,7 @@ move_fits p b (Pencil x y n) small none =
     entry_fits p x y n small (or_none (entry_refusal p x y n) (mark_refusal b (cell_of p.size x y) n) none).0
 move_fits p b MarkAll small none = tt
 move_fits p b Restart small none = tt
-move_fits p b (Solve g) small none =
-    let solves = faultless_where (solves_test p g) _ none in
-    (eqb-true g.size p.size (and_parts _ _ (and_parts _ _ (and_parts _ _ solves).0).0).0, solves)
+move_fits p b (Solve g) small none = (grind arith, grind arith)
 move_fits p b (Done x y) small none = by_place (edge_place p.size x y) refl none
   where
     by_place : (place : Option ℕ)
