@@ -10,3 +10,5 @@ pub mod Playing
 pub mod SessionLaws
 pub mod MoveListLaws
 pub mod StorableLaws
+pub mod LegalMoves
+pub mod SparedMemory

@@ -1,5 +1,5 @@
 -- A list of moves that is played along from a new session, and undos in turn.
-use Rattle.std.proofs.Common.{◌≡◌, ◌≢◌, ℕ, zero, suc, ◌+◌, ◌-◌, ◌≤◌, true, false, ◌==◌, cond, List, [], ◌∷◌, ◌++◌, length, Option, Some, None, Result, Ok, Err, IsOk, refl, sym, ap, ◌∙◌, subst, arith}
+use Rattle.std.proofs.Common.{◌≡◌, ◌≢◌, ℕ, zero, suc, ◌+◌, ◌-◌, ◌≤◌, true, false, ◌==◌, cond, List, [], ◌∷◌, ◌++◌, length, None, Result, Ok, Err, IsOk, refl, sym, ap, ◌∙◌, subst, arith}
 use Rattle.std.proofs.lemmas.List.{append-nil, append_assoc, length-append, take_all}
 use borrow.Author.Tests.{apart_eqb}
 use Rattle.latin_board.specs.Boards.{BoardValue}
@@ -8,13 +8,13 @@ use Rattle.clue_rules.specs.declared.params.Params.{Params}
 use Rattle.play_midend.specs.declared.extras.Extras.{Extras}
 use Rattle.play_midend.specs.declared.moves.Move.{Move}
 use Rattle.play_midend.specs.declared.fault.PlayFault.{PlayFault}
-use Rattle.play_midend.specs.Steps.{refusal_of, unless_refused, moved, step, start_of, replay, ArePlayable, IsLegal, is_restart, begins_with_restart}
+use Rattle.play_midend.specs.Steps.{refusal_of, moved, step, start_of, replay, ArePlayable, IsLegal, is_restart, begins_with_restart}
 use Rattle.play_midend.specs.Histories.{History, most_states, past, shown, started, with_move, at_position, first_state_refusal, restart_refusal, full_refusal, refusal_in, played, undone}
 use Rattle.play_midend.specs.MoveLists.{result_and_then, played_all, with_moves, undone_times}
 use Rattle.play_midend.specs.Laws.{LegalListsPlay, AcceptedListsAreLegal, UndoLeadsBack, HistoriesAreReached}
 use Rattle.play_midend.proofs.Making.{step_allowed}
 use Rattle.play_midend.proofs.Replaying.{replay_from-append}
-use Rattle.play_midend.proofs.Playing.{Allowed, allowed_in, accepted, played_allowed}
+use Rattle.play_midend.proofs.Playing.{Allowed, allowed_in, accepted, not_refused, played_allowed}
 
 -- what is accepted after an accepted call
 record AcceptedThen {A B : Type 0} (f : A → Result B PlayFault) (r : Result A PlayFault) (b : B) : Type 0 where
@@ -55,10 +55,6 @@ room_left : (position : ℕ) → position + 1 ≤ most_states → full_refusal p
 room_left position room =
     let test : (position == most_states) ≡ false = apart_eqb position most_states (λ full. absurd (omega arith)) in
     rw test refl
-
-not_refused : (o : Option PlayFault) {A : Type 0} (a : A) → IsOk (unless_refused o a) → o ≡ None
-not_refused None a h = refl
-not_refused (Some fault) a h = cc
 
 -- a move behind the last
 pub played_last : {P : Type 0} (p : Puzzle) (h : History P) (ks : List Move) (m : Move) → IsOk (step p (replay p ks) m)

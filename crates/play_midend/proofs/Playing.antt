@@ -1,5 +1,5 @@
 -- What refuses a move in a session, and what a move that isn't refused makes of it.
-use Rattle.std.proofs.Common.{◌≡◌, ◌≢◌, ℕ, ◌+◌, true, false, ◌==◌, cond, List, [], ◌∷◌, ◌++◌, take, Option, Some, None, Ok, refl, sym, ap, ◌∙◌, subst, arith, inr}
+use Rattle.std.proofs.Common.{◌≡◌, ◌≢◌, ℕ, ◌+◌, true, false, ◌==◌, cond, List, [], ◌∷◌, ◌++◌, take, Option, Some, None, Ok, IsOk, refl, sym, ap, ◌∙◌, subst, arith, inr}
 use Rattle.std.specs.Option.{option_or}
 use Rattle.std.proofs.lemmas.List.{take-map, map-append}
 use borrow.Author.Tests.{eq-eqb}
@@ -72,6 +72,10 @@ allowed_viewed p s m h allowed =
 pub accepted : {A : Type 0} (refusal : Option PlayFault) (a b : A) → unless_refused refusal a ≡ Ok b → (refusal ≡ None) × (a ≡ b)
 accepted None a b e = (refl, cc)
 accepted (Some fault) a b e = cc
+
+pub not_refused : (o : Option PlayFault) {A : Type 0} (a : A) → IsOk (unless_refused o a) → o ≡ None
+not_refused None a h = refl
+not_refused (Some fault) a h = cc
 
 -- the refusal in a session, from the refusals of its parts
 pub refusal_by_parts : {P : Type 0} (p : Puzzle) (s : Inside P) (m : Move) (first second third : Option PlayFault)

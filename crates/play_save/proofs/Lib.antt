@@ -14,6 +14,5 @@ pub mod SavedAgain
 pub mod LoadAnswers
 pub mod WrittenLists
 pub mod WrittenRecords
-pub mod LegalMoves
 pub mod SessionRecords
 pub mod SavedWritten

@@ -35,16 +35,6 @@ pub else_taken : {A : Type 0} (test : Bool) (o : Option A) (y : A)
 else_taken true o y is = cc
 else_taken false o y is = (refl, is)
 
--- a fault where a test holds, or where it fails
-pub faultless_else : {A : Type 0} (test : Bool) (fault : A) (o : Option A)
-    → cond test (Some fault) o ≡ None → (test ≡ false) × (o ≡ None)
-faultless_else true fault o none = cc
-faultless_else false fault o none = (refl, none)
-
-pub faultless_where : {A : Type 0} (test : Bool) (fault : A) → cond test None (Some fault) ≡ None → test ≡ true
-faultless_where true fault none = refl
-faultless_where false fault none = cc
-
 pub ok_else : {A E : Type 0} (test : Bool) (fault : E) (r : Result A E) (y : A)
     → cond test (Err fault) r ≡ Ok y → (test ≡ false) × (r ≡ Ok y)
 ok_else true fault r y is = cc

@@ -37,7 +37,7 @@ use Rattle.play_save.proofs.StatesPlayed.{text_again, have_length}
 use Rattle.play_save.proofs.SavedAgain.{has_state_or_count}
 use Rattle.play_save.proofs.WrittenRecords.{written_begins, AreToTheEnd, all_written, begins_prefix, all_begin}
 use Rattle.play_save.proofs.SessionRecords.{tail_records, values_tail, states_tail, counts_first_tail, ends_tail, known_tail}
-use Rattle.play_save.proofs.LegalMoves.{FitsText, AllFit, all_fit}
+use Rattle.play_midend.proofs.LegalMoves.{FitsText, AllFit, all_fit}
 
 -- a state record that is written has its move
 state_again : {P : Type 0} (game : SavedGame P) (p : P) (desc : List ℕ) (m : Move)

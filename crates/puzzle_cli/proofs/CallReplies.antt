@@ -27,7 +27,7 @@ use Rattle.puzzle_cli.proofs.CommandLaws.{read_once}
 use Rattle.puzzle_cli.proofs.RepliesOnce.{move_read_once, outcome_parts, said_or_refused, refusal_parts}
 use Rattle.byte_text.specs.Reading.{◌>>=◌}
 use Rattle.std.specs.Bool.{MatchBool}
-use Rattle.puzzle_cli.proofs.SparedMemory.{played_spares, restarted_spares, undone_spares, redone_spares, solved_spares, exact_refusal}
+use Rattle.play_midend.proofs.SparedMemory.{played_spares, restarted_spares, undone_spares, redone_spares, solved_spares, exact_refusal}
 
 -- ---- a reply by its reading
 

@@ -13,7 +13,6 @@ pub mod RefusedLines
 pub mod ListedOnce
 pub mod RepliesOnce
 pub mod ReplyTexts
-pub mod SparedMemory
 pub mod CallReplies
 pub mod RefusedReplies
 pub mod UndoReplies
