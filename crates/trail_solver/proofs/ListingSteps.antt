@@ -1,20 +1,24 @@
 -- The steps of a listing: what each does to the solutions that are to be listed.
-use Rattle.std.proofs.Common.{◌≡◌, ℕ, ◌+◌, ◌-◌, ◌*◌, ◌<◌, false, List, [], ◌∷◌, ◌++◌, length, sym, ◌∙◌, inl, inr, ⊎_elim, arith}
+use Rattle.std.proofs.Common.{◌≡◌, ℕ, ◌+◌, ◌-◌, ◌*◌, ◌<◌, false, List, [], ◌∷◌, ◌++◌, length, sym, ◌∙◌, subst, inl, inr, ⊎_elim, arith}
 use Rattle.std.proofs.lemmas.Bool.{cases_order}
 use Rattle.latin_board.specs.Squares.{GridValue, number_at}
-use Rattle.trail_solver.specs.Candidates.{CandidatesValue, IsEarlier, IsWithin, may_be}
+use Rattle.trail_solver.specs.Candidates.{CandidatesValue, IsWithin, may_be}
 use Rattle.trail_solver.specs.Squares.{IsFilled, IsFirstOpen, KeepsOnly}
 use Rattle.trail_solver.specs.Puzzles.{Puzzle, Solves, IsAmong, IsAmongAt, IsAmongBelow}
+use Rattle.trail_solver.specs.Searches.{SearchValue, IsFurther}
 use Rattle.trail_solver.specs.Listings.{IsBelow, Lists}
 use Rattle.trail_solver.proofs.AmongCandidates.{among_earlier, among_narrowed, at_from_kept, kept_from_at, none_at_gone, none_where_filled}
 use Rattle.trail_solver.proofs.FilledGrids.{solution_pair, only_filled, filled_within}
 use Rattle.trail_solver.proofs.ListedSolutions.{AreFirst-none, AreFirst-full, AreFirst-only, lists_nothing, lists_same, lists_then}
 
-pub narrowed_lists : (p : Puzzle) (old new : CandidatesValue) (limit : ℕ) (xs ys : List GridValue) → IsEarlier old new
-    → ((h : GridValue) → Solves p h → IsWithin old h → IsWithin new h) → Lists (IsAmong p new) limit xs ys
-    → Lists (IsAmong p old) limit xs ys
-narrowed_lists p old new limit xs ys less keeps f =
-    lists_same (IsAmong p new) (IsAmong p old) limit xs ys (among_earlier p old new less) (among_narrowed p old new keeps) f
+pub narrowed_lists : {P : Type 0} (puzzle : P → Puzzle) (old new : SearchValue P) (limit : ℕ) (xs ys : List GridValue) → IsFurther old new
+    → ((h : GridValue) → Solves (puzzle old.rules) h → IsWithin old.candidates h → IsWithin new.candidates h)
+    → Lists (IsAmong (puzzle new.rules) new.candidates) limit xs ys → Lists (IsAmong (puzzle old.rules) old.candidates) limit xs ys
+narrowed_lists {P} puzzle old new limit xs ys further keeps f =
+    let p = puzzle old.rules in
+    let Q : P → Type 0 = λ r. Lists (IsAmong (puzzle r) new.candidates) limit xs ys in
+    lists_same (IsAmong p new.candidates) (IsAmong p old.candidates) limit xs ys (among_earlier p old.candidates new.candidates further.less)
+    (among_narrowed p old.candidates new.candidates keeps) (subst Q further.rules f)
 
 pub refuted_lists : (p : Puzzle) (c : CandidatesValue) (limit : ℕ) (xs : List GridValue) → ((h : GridValue) → Solves p h → IsWithin c h → ⊥)
     → Lists (IsAmong p c) limit xs xs

@@ -1,29 +1,46 @@
 -- The steps of a search: what each does to the solutions that are to join.
-use Rattle.std.proofs.Common.{◌≡◌, ◌≢◌, ℕ, ◌*◌, ◌<◌, sym, ap, ◌∙◌, subst, inl, inr, ⊎_elim}
+use Rattle.std.proofs.Common.{◌≡◌, ◌≢◌, ℕ, ◌*◌, ◌<◌, ◌≤◌, length, refl, sym, ap, ◌∙◌, subst, inl, inr, ⊎_elim}
 use Rattle.std.proofs.lemmas.Bool.{both_ways, cases_eq}
 use Rattle.latin_board.specs.Squares.{GridValue, number_at}
-use Rattle.trail_solver.specs.Candidates.{CandidatesValue, IsEarlier, IsWithin, may_be}
+use Rattle.trail_solver.specs.Candidates.{CandidatesValue, IsWithin, may_be}
 use Rattle.trail_solver.specs.Squares.{IsDead, IsFilled, KeepsOnly}
 use Rattle.trail_solver.specs.Puzzles.{Puzzle, Solves, IsAmong, IsAmongAt}
+use Rattle.trail_solver.specs.Searches.{SearchValue, IsFurther}
 use Rattle.trail_solver.specs.declared.answer.Answer.{Answer}
 use Rattle.trail_solver.specs.declared.answer.Answer.TheVariants.{Several}
 use Rattle.trail_solver.specs.Answers.{Adds}
 use Rattle.trail_solver.proofs.AmongCandidates.{among_earlier, among_narrowed, at_from_kept, kept_from_at, none_where_filled}
+use Rattle.trail_solver.proofs.Earlier.{earlier_trans, prefix_length}
 use Rattle.trail_solver.proofs.FilledGrids.{solution_pair, only_filled, filled_within}
 use Rattle.trail_solver.proofs.JoinedAnswers.{adds_same, adds_nothing, adds_several, adds_then}
 use Rattle.trail_solver.proofs.OneKept.{Removes, removed_earlier, rest_removed}
 
 -- narrowing loses no solution, and no other comes
-pub narrowed_adds : (p : Puzzle) (old new : CandidatesValue) (found answer : Answer) → IsEarlier old new
-    → ((h : GridValue) → Solves p h → IsWithin old h → IsWithin new h) → Adds (IsAmong p new) found answer
-    → Adds (IsAmong p old) found answer
-narrowed_adds p old new found answer less keeps a =
-    adds_same (IsAmong p new) (IsAmong p old) found answer (among_earlier p old new less) (among_narrowed p old new keeps) a
+pub narrowed_adds : {P : Type 0} (puzzle : P → Puzzle) (old new : SearchValue P) (found answer : Answer) → IsFurther old new
+    → ((h : GridValue) → Solves (puzzle old.rules) h → IsWithin old.candidates h → IsWithin new.candidates h)
+    → Adds (IsAmong (puzzle new.rules) new.candidates) found answer → Adds (IsAmong (puzzle old.rules) old.candidates) found answer
+narrowed_adds {P} puzzle old new found answer further keeps a =
+    let p = puzzle old.rules in
+    let Q : P → Type 0 = λ r. Adds (IsAmong (puzzle r) new.candidates) found answer in
+    adds_same (IsAmong p new.candidates) (IsAmong p old.candidates) found answer
+    (among_earlier p old.candidates new.candidates further.less) (among_narrowed p old.candidates new.candidates keeps) (subst Q further.rules a)
 
 -- and where it fails, there was none
 pub refuted_adds : (p : Puzzle) (c : CandidatesValue) (found : Answer) → ((h : GridValue) → Solves p h → IsWithin c h → ⊥)
     → Adds (IsAmong p c) found found
 refuted_adds p c found n = adds_nothing (IsAmong p c) found (λ h s. n h s.0 s.1)
+
+-- further, and further again
+pub further_trans : {P : Type 0} (a b c : SearchValue P) → IsFurther a b → IsFurther b c → IsFurther a c
+further_trans a b c f h = record { rules = h.rules ∙ f.rules; less = earlier_trans a.candidates b.candidates c.candidates f.less h.less }
+
+-- with its candidates given back, a search is as it was
+pub given_back : {P : Type 0} (old last : SearchValue P) (back : CandidatesValue) → IsFurther old last → back ≡ old.candidates
+    → record { rules = last.rules; candidates = back } ≡ old
+given_back {P} old last back f e =
+    let Q : CandidatesValue → Type 0 = λ c. record { rules = last.rules; candidates = c } ≡ old in
+    let R : P → Type 0 = λ r. record { rules = r; candidates = old.candidates } ≡ old in
+    subst Q (sym e) (subst R (sym f.rules) refl)
 
 -- ---- where all squares are settled
 
@@ -62,14 +79,6 @@ within_removed old new cell value g r w n = record {
       rest_removed old new cell value c (number_at g c) r (⊎_elim (λ same. inr (λ e. n (ap (number_at g) (sym same) ∙ e))) (λ other. inl other) (cases_eq c cell)) ∙ w.each c inside';
 }
 
--- narrowing
-pub rest_narrowed : (p : Puzzle) (Whole : GridValue → Type 0) (first found : Answer) (old new : CandidatesValue)
-    → IsRest Whole first (IsAmong p old) found → IsEarlier old new → ((h : GridValue) → Solves p h → IsWithin old h → IsWithin new h)
-    → IsRest Whole first (IsAmong p new) found
-rest_narrowed p Whole first found old new l less keeps = record {
-  joins = λ answer a. l.joins answer (narrowed_adds p old new found answer less keeps a);
-}
-
 -- both sides of a branch
 pub rest_branched : (p : Puzzle) (Whole : GridValue → Type 0) (first found more : Answer) (old new : CandidatesValue) (cell value : ℕ)
     → IsRest Whole first (IsAmong p old) found → Adds (IsAmongAt p old cell value) found more → Removes old new cell value
@@ -100,3 +109,48 @@ rest_none Whole first Part found l n = l.joins found (adds_nothing Part found n)
 pub dead_none : (p : Puzzle) (c : CandidatesValue) (cell : ℕ) → c.size ≡ p.size → IsDead c cell → (h : GridValue) → IsAmong p c h → ⊥
 dead_none p c cell size dead h s =
     both_ways (may_be c cell (number_at h cell)) (dead.none (number_at h cell) (solution_pair p h c.size cell s.0 size dead.inside)) (s.1.each cell dead.inside)
+
+-- ---- a search under way
+
+-- how far a search got since its start
+pub record IsUnderWay {P : Type 0} (puzzle : P → Puzzle) (start now : SearchValue P) (first found : Answer) : Type 0 where
+  pub further : IsFurther start now
+  pub longer : length start.candidates.trail ≤ length now.candidates.trail
+  pub rest : IsRest (IsAmong (puzzle start.rules) start.candidates) first (IsAmong (puzzle now.rules) now.candidates) found
+
+-- further, by more pairs that are gone
+under_way_further : {P : Type 0} (puzzle : P → Puzzle) (start old new : SearchValue P) (first found more : Answer)
+    → IsUnderWay puzzle start old first found → IsFurther old new
+    → IsRest (IsAmong (puzzle start.rules) start.candidates) first (IsAmong (puzzle new.rules) new.candidates) more
+    → IsUnderWay puzzle start new first more
+under_way_further puzzle start old new first found more u f rest =
+    let further = further_trans start old new u.further f in
+    record {
+      further = further;
+      longer = prefix_length start.candidates.trail new.candidates.trail further.less.adds;
+      rest = rest;
+    }
+
+-- narrowing
+pub under_way_narrowed : {P : Type 0} (puzzle : P → Puzzle) (start old new : SearchValue P) (first found : Answer)
+    → IsUnderWay puzzle start old first found → IsFurther old new
+    → ((h : GridValue) → Solves (puzzle old.rules) h → IsWithin old.candidates h → IsWithin new.candidates h)
+    → IsUnderWay puzzle start new first found
+under_way_narrowed puzzle start old new first found u f keeps =
+    under_way_further puzzle start old new first found found u f (record {
+      joins = λ answer a. u.rest.joins answer (narrowed_adds puzzle old new found answer f keeps a);
+    })
+
+-- a value of a square was tried, and went
+pub under_way_branched : {P : Type 0} (puzzle : P → Puzzle) (start old now : SearchValue P) (next : CandidatesValue) (first found more : Answer)
+    (cell value : ℕ) → IsUnderWay puzzle start old first found
+    → Adds (IsAmongAt (puzzle old.rules) old.candidates cell value) found more → now ≡ old → Removes now.candidates next cell value
+    → IsUnderWay puzzle start (record { rules = now.rules; candidates = next }) first more
+under_way_branched {P} puzzle start old now next first found more cell value u a same r =
+    let Q : SearchValue P → Type 0 = λ s. IsUnderWay puzzle start s first found in
+    let R : SearchValue P → Type 0 = λ s. Adds (IsAmongAt (puzzle s.rules) s.candidates cell value) found more in
+    let u' = subst Q (sym same) u in
+    let p = puzzle now.rules in
+    under_way_further puzzle start now (record { rules = now.rules; candidates = next }) first found more u'
+    (record { rules = refl; less = removed_earlier now.candidates next cell value r })
+    (rest_branched p (IsAmong (puzzle start.rules) start.candidates) first found more now.candidates next cell value u'.rest (subst R (sym same) a) r)

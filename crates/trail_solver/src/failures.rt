@@ -1,4 +1,5 @@
-//! Where a search failed: how often in each row and column. No answer rests on it; it serves to choose well.
+//! Where a search failed: how often in each row and column. No answer rests on it: it is the weight in the rule of
+//! thumb by which a place to branch is proposed.
 
 ghost use Rattle.std.specs.Prelude.{◌<◌};
 

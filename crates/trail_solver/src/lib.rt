@@ -21,6 +21,7 @@ mod failures;
 mod listing;
 mod proposal;
 mod rules;
+mod search;
 mod solver;
 mod squares;
 mod tally;

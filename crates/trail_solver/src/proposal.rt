@@ -1,5 +1,7 @@
 //! Where a search had best branch: at a square with few candidates, or at a value with few places in a row or column,
-//! and rather in lines where the search failed before. This is a rule of thumb, and no answer rests on it.
+//! and rather in lines where the search failed before. This is a rule of thumb, and no answer rests on it: the weighted
+//! degree, dom/wdeg (Boussemart, Hemery, Lecoutre and Sais, 2004). It takes what has the least domain size, the ways to go
+//! on, over its weighted degree, the failures of its lines.
 
 ghost use Rattle.std.specs.Prelude.{◌*◌, ◌<◌};
 

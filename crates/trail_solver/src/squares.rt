@@ -1,13 +1,9 @@
-//! Squares of the candidates: the givens put in, one value kept, and the grid of settled squares.
+//! Squares of the candidates: one value kept, one taken away, and the grid of settled squares.
 ghost use Rattle.std.specs.Prelude.{◌≡◌, ◌<◌, ◌≤◌, length};
-ghost use Rattle.latin_board.specs.Squares.{GridValue};
 ghost use Rattle.trail_solver.specs.Pairs.{IsPair, with_pair};
-ghost use Rattle.trail_solver.specs.Candidates.{IsWithin};
 ghost use Rattle.trail_solver.specs.Squares.{AreSettled, IsBranch, IsFilled, KeepsOnly};
-ghost use Rattle.trail_solver.specs.Puzzles.{Solves};
 
 use crate::candidates::Candidates;
-use crate::rules::Rules;
 use latin_board::Grid;
 
 /// Takes all other values from a square's candidates.
@@ -38,23 +34,6 @@ pub(crate) fn take_away(candidates: &mut Candidates, cell: usize, value: u8)
     // What a trail's length can be is a clause of `trail_len`.
     let _size = candidates.size();
     let _bound = candidates.trail_len();
-}
-
-/// The candidates that the puzzle's givens leave.
-pub(crate) fn with_givens<P: Rules>(p: &P) -> Candidates
-    ensures size { result.size ≡ (P.puzzle p.now).size }
-    ensures keeps { (g : GridValue) → Solves (P.puzzle p.now) g → IsWithin result g }
-{
-    let size = p.size();
-    let width = size.get() as usize;
-    let mut candidates = Candidates::all(size);
-    for cell in 0..width * width {
-        let given = p.given(cell);
-        if given > 0 {
-            keep_only(&mut candidates, cell, given);
-        }
-    }
-    candidates
 }
 
 /// The grid of the candidates, where each square has just one.

@@ -37,16 +37,12 @@ impl Tally {
     /// either it or its columns have no more, so no value is missed for long.
     pub fn fewest(self) -> Option<(u8, u32)> {
         let pairs = self.two & !self.three;
-        if pairs != 0 {
-            return Some((pairs.trailing_zeros() as u8, 2));
-        }
         let triples = self.three & !self.four;
-        if triples != 0 {
-            return Some((triples.trailing_zeros() as u8, 3));
-        }
         let fours = self.four & !self.five;
-        if fours != 0 {
-            return Some((fours.trailing_zeros() as u8, 4));
+        for (values, places) in [(pairs, 2), (triples, 3), (fours, 4)] {
+            if values != 0 {
+                return Some((values.trailing_zeros() as u8, places));
+            }
         }
         None
     }

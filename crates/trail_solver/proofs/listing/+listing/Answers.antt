@@ -1,72 +1,92 @@
-use Rattle.std.proofs.Common.{◌≡◌, length, refl, sym, ◌∙◌, subst, arith}
+use Rattle.std.proofs.Common.{◌≡◌, ◌*◌, ◌<◌, false, length, refl, sym, ap, ◌∙◌, subst, arith}
 use Rattle.std.proofs.lemmas.Bool.{OnFalse_at}
 use Rattle.std.proofs.lemmas.Result.{on_ok_weaker}
+use Rattle.trail_solver.specs.Candidates.{may_be}
 use Rattle.trail_solver.specs.Puzzles.{IsAmong, IsAmongAt}
-use Rattle.trail_solver.specs.Candidates.{CandidatesValue}
+use Rattle.trail_solver.specs.Searches.{SearchValue, IsFurther}
 use Rattle.trail_solver.specs.Listings.{Lists}
+use Rattle.trail_solver.proofs.SearchSteps.{further_trans, given_back}
 use Rattle.trail_solver.proofs.ListingSteps.{narrowed_lists, refuted_lists, only_lists, guess_lists, guess_lists_none, full_lists, value_lists_none, value_lists_more, value_lists_all}
 use Rattle.trail_solver.proofs.listing.+listing.Goals as goal
-use Rattle.trail_solver.proofs.listing.+listing.Goals.{list_guess-then-narrow_from, list_guess-else-narrow_from}
+use Rattle.trail_solver.proofs.listing.+listing.Goals.{list_guess-then-propagate, list_guess-else-propagate}
 
 pub list-returns-in-None-clause-lists : goal.list-returns-in-None-clause-lists
 list-returns-in-None-clause-lists g t c =
-    refuted_lists (g.P.Rules.puzzle c.args.p.now) c.args.candidates.now c.args.limit c.args.listed.now.items (λ h s w. c.in-None.ensures.fits h (s, w))
+    let now = c.args.search.now in
+    refuted_lists (g.P.Rules.puzzle now.rules) now.candidates c.args.limit c.args.listed.now.items (λ h s w. c.in-None.ensures.fits h (s, w))
 
 pub list-returns-in_ok-push-in-One-clause-lists : goal.list-returns-in_ok-push-in-One-clause-lists
 list-returns-in_ok-push-in-One-clause-lists g t c =
+    let now = c.args.search.now in
     let fits = c.in-One.ensures.fits in
-    only_lists (IsAmong (g.P.Rules.puzzle c.args.p.now) c.args.candidates.now) c.in-One.grid c.args.limit c.args.listed.now.items c.push.new.self.items fits.0 fits.1 c.requires.room c.in_ok-push-in-One.ensures.items
-
-pub list-returns-in-Several-clause-lists : goal.list-returns-in-Several-clause-lists
-list-returns-in-Several-clause-lists g t c =
-    let p = g.P.Rules.puzzle c.args.p.now in
-    let xs = c.args.listed.now.items in
-    let ys = c.list_values.new.listed.items in
-    let P : CandidatesValue → Type 0 = λ k. Lists (IsAmong p k) c.args.limit xs ys in
-    on_ok_weaker c.list_values.result (λ (l : P c.answer_of.new.candidates). subst P c.answer_of.ensures.same l) c.list_values.ensures.lists
+    only_lists (IsAmong (g.P.Rules.puzzle now.rules) now.candidates) c.in-One.grid c.args.limit c.args.listed.now.items c.push.new.self.items fits.0 fits.1 c.requires c.in_ok-push-in-One.ensures.items
 
 pub list_values-loop-value-init : goal.list_values-loop-value-init
 list_values-loop-value-init g t c =
-    (refl, value_lists_none (g.P.Rules.puzzle c.args.p.now) c.args.candidates.now c.args.cell c.args.limit c.args.listed.now.items c.requires.size c.requires.first.is_open.inside)
+    let now = c.args.search.now in
+    let size : now.candidates.size ≡ (g.P.Rules.puzzle now.rules).size = rw (← c.search.view_is) c.search.invariant in
+    (refl, value_lists_none (g.P.Rules.puzzle now.rules) now.candidates c.args.cell c.args.limit c.args.listed.now.items size c.requires.first.is_open.inside)
 
 pub list_values-loop-value-preserved : goal.list_values-loop-value-preserved
 list_values-loop-value-preserved g t c =
-    let p = g.P.Rules.puzzle c.args.p.now in
-    let P : CandidatesValue → Type 0 = λ k. Lists (IsAmongAt p k c.args.cell c.loop-value.value) c.args.limit c.loop-value.listed.items c.list_guess.new.listed.items in
+    let puzzle = g.P.Rules.puzzle in
+    let now = c.args.search.now in
+    let size : now.candidates.size ≡ (puzzle now.rules).size = rw (← c.search.view_is) c.search.invariant in
+    let P : SearchValue _ → Type 0 = λ s. Lists (IsAmongAt (puzzle s.rules) s.candidates c.args.cell c.loop-value.value) c.args.limit c.loop-value.listed.items c.list_guess.new.listed.items in
     let here = subst P c.loop-value.invariant.0 c.in_ok-list_guess.ensures.lists in (
       c.list_guess.ensures.same ∙ c.loop-value.invariant.0,
-      value_lists_more p c.args.candidates.now c.args.cell c.loop-value.value c.args.limit c.args.listed.now.items c.loop-value.listed.items c.list_guess.new.listed.items c.requires.size c.requires.first c.loop-value.invariant.1 here,
+      value_lists_more (puzzle now.rules) now.candidates c.args.cell c.loop-value.value c.args.limit c.args.listed.now.items c.loop-value.listed.items c.list_guess.new.listed.items size c.requires.first c.loop-value.invariant.1 here,
     )
 
 pub list_values-returns-clause-lists : goal.list_values-returns-clause-lists
 list_values-returns-clause-lists g t c =
-    let p = g.P.Rules.puzzle c.args.p.now in
-    let width : c.get-width.result ≡ c.args.candidates.now.size = c.get-width.ensures.value ∙ c.size.ensures.value in
-    value_lists_all p c.args.candidates.now c.args.cell c.loop-value.value c.args.limit c.args.listed.now.items c.loop-value.listed.items c.requires.size c.requires.first.is_open.inside (omega arith) c.loop-value.invariant.1
+    let now = c.args.search.now in
+    let size : now.candidates.size ≡ (g.P.Rules.puzzle now.rules).size = rw (← c.search.view_is) c.search.invariant in
+    let width : c.get-width.result ≡ now.candidates.size = rw (← c.search.view_is) (c.get-width.ensures.value ∙ c.size.ensures.value) in
+    value_lists_all (g.P.Rules.puzzle now.rules) now.candidates c.args.cell c.loop-value.value c.args.limit c.args.listed.now.items c.loop-value.listed.items size c.requires.first.is_open.inside (omega arith) c.loop-value.invariant.1
 
 pub list_guess-returns-then-len-limit-clause-lists : goal.list_guess-returns-then-len-limit-clause-lists
 list_guess-returns-then-len-limit-clause-lists g t c =
     let full : length c.args.listed.now.items ≡ c.args.limit = omega arith in
-    full_lists (IsAmongAt (g.P.Rules.puzzle c.args.p.now) c.args.candidates.now c.args.cell c.args.value) c.args.limit c.args.listed.now.items full
+    full_lists (IsAmongAt (g.P.Rules.puzzle c.args.search.now.rules) c.args.search.now.candidates c.args.cell c.args.value) c.args.limit c.args.listed.now.items full
 
 pub list_guess-returns-then-not-may-clause-lists : goal.list_guess-returns-then-not-may-clause-lists
 list_guess-returns-then-not-may-clause-lists g t c =
-    guess_lists_none (g.P.Rules.puzzle c.args.p.now) c.args.candidates.now c.args.cell c.args.value c.args.limit c.args.listed.now.items c.requires.open_cell.inside (sym c.may.ensures ∙ c.if-not-may.true)
+    let now = c.args.search.now in
+    let gone : may_be c.search.inside.candidates c.args.cell c.args.value ≡ false = rw (← c.may.ensures) c.if-not-may.true in
+    guess_lists_none (g.P.Rules.puzzle now.rules) now.candidates c.args.cell c.args.value c.args.limit c.args.listed.now.items c.requires.open_cell.inside (rw (← c.search.view_is) gone)
+
+pub list_guess-returns-clause-same : goal.list_guess-returns-clause-same
+list_guess-returns-clause-same g t c =
+    let rules = c.search.inside.rules in
+    let old : SearchValue _ = record { rules = rules; candidates = c.search.inside.candidates } in
+    let kept : SearchValue _ = record { rules = rules; candidates = c.keep_only.new.candidates } in
+    let last : SearchValue _ = record { rules = c.search-2.inside.rules; candidates = c.search-2.inside.candidates } in
+    let tried = further_trans old kept c.propagate.new.self (record { rules = refl; less = c.keep_only.ensures.kept.less }) c.propagate.ensures.further in
+    let further : IsFurther old c.if-propagate.search = elim c.if-propagate.branch [
+      | list_guess-then-propagate w ↦ rw w.search-is (further_trans old c.propagate.new.self w.list-done.new.search tried w.list-done.ensures.further)
+      | list_guess-else-propagate w ↦ rw w.search-is tried
+    ] in
+    let P : SearchValue _ → Type 0 = λ s. IsFurther old s in
+    let all : IsFurther old last = subst P (sym c.search-2.view_is) further in
+    given_back old last c.give_back.new.self all (c.give_back.ensures.restores old.candidates all.less c.mark-mark.ensures) ∙ c.search.view_is
 
 pub list_guess-returns-clause-lists : goal.list_guess-returns-clause-lists
 list_guess-returns-clause-lists g t c =
-    let p = g.P.Rules.puzzle c.args.p.now in
-    let old = c.args.candidates.now in
+    let puzzle = g.P.Rules.puzzle in
+    let p = puzzle c.search.inside.rules in
+    let old = c.search.inside.candidates in
     let kept = c.keep_only.new.candidates in
-    let now = c.narrow_from.new.candidates in
+    let now = c.propagate.new.self in
     let xs = c.args.listed.now.items in
-    let inside = c.requires.open_cell.inside in
-    elim c.if-narrow_from.branch [
-      | list_guess-then-narrow_from w ↦ (let ys = w.list-done.new.listed.items in
-          rw (w.done-is, w.listed-is) (on_ok_weaker w.list-done.result (λ (l : Lists (IsAmong p now) c.args.limit xs ys).
-          guess_lists p old kept c.args.cell c.args.value c.args.limit xs ys c.requires.size c.keep_only.ensures.kept inside
-          (narrowed_lists p kept now c.args.limit xs ys c.narrow_from.ensures.less c.narrow_from.ensures.keeps l)) w.list-done.ensures.lists))
-      | list_guess-else-narrow_from w ↦ rw (w.done-is, w.listed-is)
-          (guess_lists p old kept c.args.cell c.args.value c.args.limit xs xs c.requires.size c.keep_only.ensures.kept inside
-          (refuted_lists p kept c.args.limit xs (OnFalse_at w.if-narrow_from.false c.narrow_from.ensures.refutes)))
-    ]
+    let size : old.size ≡ c.args.search.now.candidates.size = ap (λ (s : SearchValue _). s.candidates.size) c.search.view_is in
+    let inside : c.args.cell < old.size * old.size = rw size c.requires.open_cell.inside in
+    rw (← c.search.view_is) (elim c.if-propagate.branch [
+      | list_guess-then-propagate w ↦ (let ys = w.list-done.new.listed.items in
+          rw (w.done-is, w.listed-is) (on_ok_weaker w.list-done.result (λ (l : Lists (IsAmong (puzzle now.rules) now.candidates) c.args.limit xs ys).
+          guess_lists p old kept c.args.cell c.args.value c.args.limit xs ys c.search.invariant c.keep_only.ensures.kept inside
+          (narrowed_lists puzzle (record { rules = c.search.inside.rules; candidates = kept }) now c.args.limit xs ys c.propagate.ensures.further c.propagate.ensures.keeps l)) w.list-done.ensures.lists))
+      | list_guess-else-propagate w ↦ rw (w.done-is, w.listed-is)
+          (guess_lists p old kept c.args.cell c.args.value c.args.limit xs xs c.search.invariant c.keep_only.ensures.kept inside
+          (refuted_lists p kept c.args.limit xs (OnFalse_at w.if-propagate.false c.propagate.ensures.refutes)))
+    ])

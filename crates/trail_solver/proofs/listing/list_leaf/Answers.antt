@@ -4,8 +4,8 @@ use Rattle.trail_solver.proofs.listing.list_leaf.Goals as goal
 
 pub returns-in_ok-push : goal.returns-in_ok-push
 returns-in_ok-push g c =
-    leaf_lists (g.P.Rules.puzzle c.args.p.now) c.args.candidates.now c.filled-grid.result c.args.limit c.args.listed.now.items c.push.new.self.items c.requires.size c.filled-grid.ensures (c.solves.ensures.rule.0 c.if-solves.true) c.requires.room c.in_ok-push.ensures.items
+    rw (← c.search.view_is) (leaf_lists (g.P.Rules.puzzle c.search.inside.rules) c.search.inside.candidates c.filled-grid.result c.args.limit c.args.listed.now.items c.push.new.self.items c.search.invariant c.filled-grid.ensures (c.solves.ensures.rule.0 c.if-solves.true) c.requires.room c.in_ok-push.ensures.items)
 
 pub returns-else-solves : goal.returns-else-solves
 returns-else-solves g c =
-    leaf_lists_none (g.P.Rules.puzzle c.args.p.now) c.args.candidates.now c.filled-grid.result c.args.limit c.args.listed.now.items c.requires.size c.filled-grid.ensures (λ s. both_ways c.solves.result c.if-solves.false (c.solves.ensures.rule.1 s))
+    rw (← c.search.view_is) (leaf_lists_none (g.P.Rules.puzzle c.search.inside.rules) c.search.inside.candidates c.filled-grid.result c.args.limit c.args.listed.now.items c.search.invariant c.filled-grid.ensures (λ s. both_ways c.solves.result c.if-solves.false (c.solves.ensures.rule.1 s)))
