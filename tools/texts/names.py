@@ -66,6 +66,6 @@ def wrong_names(document: str, known: Known) -> Iterator[str]:
 def wrong_bodies() -> Iterator[str]:
     """Names in the table of wrong bodies that the crate, in whose rows they stand, hasn't among its own."""
     crate = ''
-    for row in re.findall(r'^\| (.*?) ?\| (.*?) \|', part(read('docs/PROMISES.md'), '| crate | name |', '^$'), re.MULTILINE)[1:]:
+    for row in re.findall(r'^\| (.*?) ?\| (.*?) \|', part(read('docs/PROMISES.md'), '| crate | name |', '^$'), re.MULTILINE):
         crate = row[0].strip('`') or crate
         yield from (f'{crate}: {name}' for name in lacking(row[1].split(', '), sources.wrong_bodies(crate)))
