@@ -13,7 +13,6 @@ use Rattle.trail_solver.specs.Puzzles.{Puzzle}
 use Rattle.trail_solver.proofs.SolutionTests.{Decides-solves_test}
 use Rattle.clue_rules.specs.declared.params.Params.{Params}
 use Rattle.clue_rules.specs.Parameters.{IsParams, letter_part, params_text}
-use Rattle.play_midend.specs.declared.extras.Extras.{Extras}
 use Rattle.play_midend.specs.declared.moves.Move.{Move}
 use Rattle.play_midend.specs.declared.moves.Move.TheVariants.{Solve, Restart}
 use Rattle.play_midend.specs.MoveTexts.{move_text, IsMoveText}
@@ -22,15 +21,16 @@ use Rattle.play_midend.specs.Histories.{History, IsValid, most_states, shown}
 use Rattle.play_save.specs.declared.fault.LoadFault.{LoadFault}
 use Rattle.play_save.specs.declared.fault.LoadFault.TheVariants.{OutOfMemory}
 use Rattle.play_save.specs.declared.key.Key.{Key}
-use Rattle.play_save.specs.declared.key.Key.TheVariants.{SaveFile, FormatVersion, GameName, NextParams, CurrentParams, Seed, Desc, PrivateDesc, AuxInfo, Ui, Time, StateCount, Position}
+use Rattle.play_save.specs.declared.key.Key.TheVariants.{SaveFile, FormatVersion, GameName, NextParams, CurrentParams, Desc, PrivateDesc, Kept, StateCount, Position}
 use Rattle.play_save.specs.Records.{BeginsWith}
+use Rattle.play_save.specs.Keys.{kept_at}
 use Rattle.play_save.specs.KeyedRecords.{KeyedRecord, values_of, states_in, once_if_kept, EndsWithState}
 use Rattle.play_save.specs.SaveTexts.{SavedGame, collection, format_record, longest_save, is_solve, IsStateOf, HaveStates, AreSaved, SaveText}
 use Rattle.play_save.specs.FirstFaults.{count_at}
 use Rattle.play_save.specs.Written.{with_value, state_value, record_text, records_text, save_of}
 use Rattle.play_save.specs.Laws.{HasGrid, WrittenIsSaved, WrittenSavesNoOther}
 use Rattle.play_save.proofs.RecordLaws.{record_again}
-use Rattle.play_save.proofs.RecordLists.{values_of-append, states_in-append}
+use Rattle.play_save.proofs.RecordLists.{same_extras, values_of-append, states_in-append}
 use Rattle.play_save.proofs.Counting.{count_again}
 use Rattle.play_save.proofs.GameTexts.{Owes}
 use Rattle.play_save.proofs.StatesPlayed.{text_again, have_length}
@@ -185,10 +185,7 @@ written_is_saved {P} game of_game owes h storable grids small =
         params = (params_text h.params, stands CurrentParams refl, record { params = storable.params_are; text_is = refl });
         desc = (desc, stands Desc refl, subst (λ w. game.Describes w h.puzzle desc) (sym valid.size) described);
         no_private_desc = stands PrivateDesc refl;
-        seed = stands Seed refl;
-        auxinfo = stands AuxInfo refl;
-        ui = stands Ui refl;
-        time = stands Time refl;
+        kept = λ k. stands (Kept k) refl;
         count = stands StateCount refl;
         position = stands Position refl;
         states = rw (states_tail title desc h) states;
@@ -266,13 +263,6 @@ same_history {P} a b puzzle params next extras moves position =
     let same : one ≡ other = cc in
     same
 
-same_extras : (a b : Extras) → a.seed ≡ b.seed → a.auxinfo ≡ b.auxinfo → a.ui ≡ b.ui → a.time ≡ b.time → a ≡ b
-same_extras a b seed auxinfo ui time =
-    let one : Extras = record a { seed = a.seed } in
-    let other : Extras = record b { seed = b.seed } in
-    let same : one ≡ other = cc in
-    same
-
 one_of : {A : Type 0} {a b : A} {values : List A} → values ≡ a ∷ [] → values ≡ b ∷ [] → a ≡ b
 one_of one other = cc
 
@@ -296,11 +286,8 @@ written_saves_no_other {P} game of_game owes h other valid of t =
     let own_desc = subst (λ d. game.Describes other.params.size other.puzzle d) (one_of s.desc.1 (stands Desc refl)) s.desc.2 in
     let described = subst (λ n. game.Describes n other.puzzle desc) width own_desc in
     let puzzle = same_described p.size h.puzzle other.puzzle desc (owes.own_text h.puzzle of) described in
-    let extras = same_extras other.extras h.extras
-    (same_kept other.extras.seed h.extras.seed (sym s.seed ∙ stands Seed refl))
-    (same_kept other.extras.auxinfo h.extras.auxinfo (sym s.auxinfo ∙ stands AuxInfo refl))
-    (same_kept other.extras.ui h.extras.ui (sym s.ui ∙ stands Ui refl))
-    (same_kept other.extras.time h.extras.time (sym s.time ∙ stands Time refl)) in
+    let extras = same_extras other.extras h.extras (λ k.
+    same_kept (kept_at other.extras k) (kept_at h.extras k) (sym (s.kept k) ∙ stands (Kept k) refl)) in
     let largest : p.size ≤ 9 = (let top = s.params.2.params.largest in omega (arith, width)) in
     let fits = all_fit p (start_of p) h.moves largest valid.legal.playable in
     let other_valid = subst (λ q. IsValid (game.puzzle q) other) puzzle s.valid in

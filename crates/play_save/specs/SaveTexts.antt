@@ -13,7 +13,9 @@ use Rattle.play_midend.specs.MoveTexts.{IsMoveText}
 use Rattle.play_midend.specs.Histories.{History, IsValid}
 use Rattle.play_save.specs.declared.key.StateKey.{StateKey}
 use Rattle.play_save.specs.declared.key.StateKey.TheVariants.{AnyMove, SolveMove, RestartMove}
-use Rattle.play_save.specs.declared.key.Key.TheVariants.{SaveFile, FormatVersion, GameName, NextParams, CurrentParams, Seed, Desc, PrivateDesc, AuxInfo, Ui, Time, StateCount, Position}
+use Rattle.play_save.specs.declared.key.KeptKey.{KeptKey}
+use Rattle.play_save.specs.declared.key.Key.TheVariants.{SaveFile, FormatVersion, GameName, NextParams, CurrentParams, Desc, PrivateDesc, Kept, StateCount, Position}
+use Rattle.play_save.specs.Keys.{kept_at}
 use Rattle.play_save.specs.Records.{Entry, BeginsWith}
 use Rattle.play_save.specs.KeyedRecords.{KeyedRecord, KeyedState, BeginsWithAll, values_of, states_in, StandsOnce, once_if_kept, CountsStandFirst, EndsWithState}
 
@@ -82,10 +84,7 @@ pub record AreSaved {P : Type 0} (game : SavedGame P) (h : History P) (rs : List
   pub params : StandsOnce CurrentParams (IsParamText game.letters h.params) rs
   pub desc : StandsOnce Desc (game.Describes h.params.size h.puzzle) rs
   pub no_private_desc : values_of PrivateDesc rs ≡ []
-  pub seed : values_of Seed rs ≡ once_if_kept h.extras.seed
-  pub auxinfo : values_of AuxInfo rs ≡ once_if_kept h.extras.auxinfo
-  pub ui : values_of Ui rs ≡ once_if_kept h.extras.ui
-  pub time : values_of Time rs ≡ once_if_kept h.extras.time
+  pub kept : (k : KeptKey) → values_of (Kept k) rs ≡ once_if_kept (kept_at h.extras k)
   pub count : values_of StateCount rs ≡ decimal (length h.moves + 1) ∷ []
   pub position : values_of Position rs ≡ decimal h.position ∷ []
   pub states : HaveStates game h.puzzle h.moves (states_in rs)

@@ -7,8 +7,10 @@ use Rattle.play_midend.specs.MoveTexts.{move_text}
 use Rattle.play_midend.specs.Steps.{is_restart}
 use Rattle.play_midend.specs.Histories.{History}
 use Rattle.play_save.specs.declared.key.StateKey.TheVariants.{AnyMove, SolveMove, RestartMove}
+use Rattle.play_save.specs.declared.key.KeptKey.{KeptKey}
+use Rattle.play_save.specs.declared.key.KeptKey.TheVariants.{Seed, AuxInfo, Ui, Time}
 use Rattle.play_save.specs.declared.key.Key.{Key}
-use Rattle.play_save.specs.declared.key.Key.TheVariants.{SaveFile, FormatVersion, GameName, NextParams, CurrentParams, Seed, Desc, AuxInfo, Ui, Time, StateCount, Position, State}
+use Rattle.play_save.specs.declared.key.Key.TheVariants.{SaveFile, FormatVersion, GameName, NextParams, CurrentParams, Desc, Kept, StateCount, Position, State}
 use Rattle.play_save.specs.Keys.{key_name, padded}
 use Rattle.play_save.specs.KeyedRecords.{KeyedRecord, KeyedState}
 use Rattle.play_save.specs.SaveTexts.{collection, is_solve}
@@ -27,9 +29,9 @@ abbrev pub with_value : Key → List ℕ → KeyedRecord
 with_value k value = record { key = k; value = value }
 
 -- bytes that are kept have a record
-abbrev pub kept_record : Key → Option (List ℕ) → List KeyedRecord
+abbrev pub kept_record : KeptKey → Option (List ℕ) → List KeyedRecord
 kept_record k None = []
-kept_record k (Some value) = with_value k value ∷ []
+kept_record k (Some value) = with_value (Kept k) value ∷ []
 
 -- the state of a move, with the description of the puzzle for a restart
 abbrev pub state_value : List ℕ → Move → KeyedState

@@ -14,6 +14,19 @@ pub(crate) enum StateKey {
     RestartMove,
 }
 
+/// A key whose value is kept as it is.
+#[derive(Clone, Copy, Debug, PartialEq, Eq)]
+pub(crate) enum KeptKey {
+    /// `SEED`, of the usual program's generator.
+    Seed,
+    /// `AUXINFO`, what the usual program's solver needs besides.
+    AuxInfo,
+    /// `UI`, of the usual program's user interface.
+    Ui,
+    /// `TIME`, that was played.
+    Time,
+}
+
 /// What a record is about.
 #[derive(Clone, Copy, Debug, PartialEq, Eq)]
 pub(crate) enum Key {
@@ -27,18 +40,12 @@ pub(crate) enum Key {
     NextParams,
     /// `CPARAMS`, the parameters of the current game.
     CurrentParams,
-    /// `SEED`, of the usual program's generator.
-    Seed,
     /// `DESC`, the description of the puzzle.
     Desc,
     /// `PRIVDESC`, a private description.
     PrivateDesc,
-    /// `AUXINFO`, what the usual program's solver needs besides.
-    AuxInfo,
-    /// `UI`, of the usual program's user interface.
-    Ui,
-    /// `TIME`, that was played.
-    Time,
+    /// One of those whose value is kept as it is.
+    Kept(KeptKey),
     /// `NSTATES`, how many states there are.
     StateCount,
     /// `STATEPOS`, the number of the state that is shown.
@@ -98,13 +105,13 @@ impl Key {
         ensures { result ≡ kept_key_of name.now }
     {
         if name == b"SEED".as_slice() {
-            Key::Seed
+            Key::Kept(KeptKey::Seed)
         } else if name == b"AUXINFO".as_slice() {
-            Key::AuxInfo
+            Key::Kept(KeptKey::AuxInfo)
         } else if name == b"UI".as_slice() {
-            Key::Ui
+            Key::Kept(KeptKey::Ui)
         } else if name == b"TIME".as_slice() {
-            Key::Time
+            Key::Kept(KeptKey::Time)
         } else {
             Key::Other
         }
@@ -120,12 +127,12 @@ impl Key {
             Key::GameName => b"GAME    ",
             Key::NextParams => b"PARAMS  ",
             Key::CurrentParams => b"CPARAMS ",
-            Key::Seed => b"SEED    ",
+            Key::Kept(KeptKey::Seed) => b"SEED    ",
             Key::Desc => b"DESC    ",
             Key::PrivateDesc => b"PRIVDESC",
-            Key::AuxInfo => b"AUXINFO ",
-            Key::Ui => b"UI      ",
-            Key::Time => b"TIME    ",
+            Key::Kept(KeptKey::AuxInfo) => b"AUXINFO ",
+            Key::Kept(KeptKey::Ui) => b"UI      ",
+            Key::Kept(KeptKey::Time) => b"TIME    ",
             Key::StateCount => b"NSTATES ",
             Key::Position => b"STATEPOS",
             Key::State(StateKey::AnyMove) => b"MOVE    ",
