@@ -4,25 +4,27 @@ use borrow.Author.Tests.{eqb-true, eq-eqb}
 use Rattle.play_midend.specs.declared.extras.Extras.{Extras}
 use Rattle.play_save.specs.declared.key.KeptKey.{KeptKey}
 use Rattle.play_save.specs.declared.key.KeptKey.TheVariants.{Seed, AuxInfo, Ui, Time}
+use Rattle.play_save.specs.declared.key.WhoseParams.TheVariants.{Next, Current}
 use Rattle.play_save.specs.declared.key.Key.{Key}
-use Rattle.play_save.specs.declared.key.Key.TheVariants.{SaveFile, FormatVersion, GameName, NextParams, CurrentParams, Desc, PrivateDesc, Kept, StateCount, Position, State, Other}
+use Rattle.play_save.specs.declared.key.Key.TheVariants.{SaveFile, FormatVersion, GameName, ParamsOf, Desc, PrivateDesc, Kept, StateCount, Position, State, Other}
 use Rattle.play_save.specs.Keys.{rank, kept_at, each_kept}
 use Rattle.play_save.specs.KeyedRecords.{KeyedRecord, KeyedState, values_of, onto_states, states_in, is_state}
 use Rattle.play_save.specs.FirstFaults.{first_of}
 use Rattle.play_save.proofs.OptionSteps.{else_taken}
 
--- A key is known by its number, unless it is one of the three of states. (Here and below the clause at `Kept Seed` makes the
--- last one be looked at for each of the other keys of kept values, and so computed.)
+-- A key is known by its number, unless it is one of the three of states. (Here and below the clauses at `ParamsOf Next` and
+-- `Kept Seed` make the last one be looked at for each of the other keys of their kinds, and so computed.)
 by_rank : ℕ → Option Key
 by_rank n =
     cond (n == 0) (Some SaveFile) (cond (n == 1) (Some FormatVersion) (cond (n == 2) (Some GameName)
-    (cond (n == 3) (Some NextParams) (cond (n == 4) (Some CurrentParams) (cond (n == 5) (Some (Kept Seed))
+    (cond (n == 3) (Some (ParamsOf Next)) (cond (n == 4) (Some (ParamsOf Current)) (cond (n == 5) (Some (Kept Seed))
     (cond (n == 6) (Some Desc) (cond (n == 7) (Some (Kept AuxInfo)) (cond (n == 8) (Some (Kept Ui)) (cond (n == 9) (Some (Kept Time))
     (cond (n == 10) (Some StateCount) (cond (n == 11) (Some Position) (cond (n == 13) (Some PrivateDesc)
     (cond (n == 14) (Some Other) None)))))))))))))
 
 by_own_rank : (k : Key) → by_rank (rank k) ≡ cond (is_state k) None (Some k)
 unfolding by_rank
+by_own_rank (ParamsOf Next) = refl
 by_own_rank (Kept Seed) = refl
 by_own_rank k = refl
 
@@ -39,6 +41,7 @@ own_rank k = eq-eqb (rank k) (rank k) refl
 
 pub no_state_rank : (k : Key) → is_state k ≡ false → (12 == rank k) ≡ false
 no_state_rank (State j) header = cc
+no_state_rank (ParamsOf Next) header = refl
 no_state_rank (Kept Seed) header = refl
 no_state_rank k header = refl
 

@@ -8,10 +8,12 @@ use Rattle.play_midend.specs.declared.moves.Move.{Move}
 use Rattle.play_midend.specs.Histories.{History}
 use Rattle.play_save.specs.declared.key.KeptKey.{KeptKey}
 use Rattle.play_save.specs.declared.key.KeptKey.TheVariants.{Seed, AuxInfo, Ui, Time}
+use Rattle.play_save.specs.declared.key.WhoseParams.TheVariants.{Next}
 use Rattle.play_save.specs.declared.key.Key.{Key}
-use Rattle.play_save.specs.declared.key.Key.TheVariants.{FormatVersion, GameName, NextParams, CurrentParams, Desc, Kept, StateCount, Position, State}
+use Rattle.play_save.specs.declared.key.Key.TheVariants.{FormatVersion, GameName, ParamsOf, Desc, Kept, StateCount, Position, State}
 use Rattle.play_save.specs.Keys.{rank, kept_at}
 use Rattle.play_save.specs.KeyedRecords.{KeyedRecord, KeyedState, values_of, onto_states, states_in, once_if_kept, is_state, CountsStandFirst, may_be_last, EndsWithState}
+use Rattle.play_save.specs.SaveTexts.{params_of}
 use Rattle.play_save.specs.Written.{with_value, kept_record, state_value, state_record, game_records, body_records, state_records}
 use Rattle.play_save.proofs.RecordLists.{values_of-append, states_in-append, no_state_rank}
 use Rattle.play_save.proofs.WrittenRecords.{AreKnown}
@@ -39,8 +41,7 @@ kept_values k j (Some v) = refl
 abbrev pub values_written : {P : Type 0} → List ℕ → List ℕ → History P → Key → List (List ℕ)
 values_written title desc h FormatVersion = codes "1" ∷ []
 values_written title desc h GameName = title ∷ []
-values_written title desc h NextParams = params_text h.next_params ∷ []
-values_written title desc h CurrentParams = params_text h.params ∷ []
+values_written title desc h (ParamsOf whose) = params_text (params_of h whose) ∷ []
 values_written title desc h Desc = desc ∷ []
 values_written title desc h (Kept k) = once_if_kept (kept_at h.extras k)
 values_written title desc h StateCount = decimal (length h.moves + 1) ∷ []
@@ -51,6 +52,8 @@ values_written title desc h k = []
 pub values_tail : {P : Type 0} (title desc : List ℕ) (h : History P) (k : Key)
     → is_state k ≡ false → values_of k (tail_records title desc h) ≡ values_written title desc h k
 values_tail title desc h (State k) no_state = cc
+values_tail title desc h (ParamsOf Next) no_state =
+    let states = states_none (ParamsOf Next) desc h.moves refl in simp (values_of-append, kept_values, states, append-nil)
 values_tail title desc h (Kept Seed) no_state =
     let states = states_none (Kept Seed) desc h.moves refl in simp (values_of-append, kept_values, states, append-nil)
 values_tail title desc h k no_state =

@@ -17,8 +17,10 @@ use Rattle.play_save.specs.declared.fault.LoadFault.{LoadFault}
 use Rattle.play_save.specs.declared.fault.LoadFault.TheVariants.{NotASave, Malformed, Version, WrongGame, Repeated, EarlyState, Unsupported, BadParams, BadDesc, BadCount, Missing, BadState, TooLarge}
 use Rattle.play_save.specs.declared.key.StateKey.{StateKey}
 use Rattle.play_save.specs.declared.key.StateKey.TheVariants.{AnyMove, SolveMove, RestartMove}
+use Rattle.play_save.specs.declared.key.WhoseParams.{WhoseParams}
+use Rattle.play_save.specs.declared.key.WhoseParams.TheVariants.{Next, Current}
 use Rattle.play_save.specs.declared.key.Key.{Key}
-use Rattle.play_save.specs.declared.key.Key.TheVariants.{SaveFile, FormatVersion, GameName, NextParams, CurrentParams, Desc, PrivateDesc, Kept, StateCount, Position, State, Other}
+use Rattle.play_save.specs.declared.key.Key.TheVariants.{SaveFile, FormatVersion, GameName, ParamsOf, Desc, PrivateDesc, Kept, StateCount, Position, State, Other}
 use Rattle.play_save.specs.Records.{Entry, record_at}
 use Rattle.play_save.specs.Keys.{kept_at, each_kept}
 use Rattle.play_save.specs.KeyedRecords.{KeyedRecord, keyed, KeyedState, values_of, states_in}
@@ -47,6 +49,11 @@ pub record Met : Type 0 where
   pub position : Option (Option ℕ)
   pub states : List KeyedState
 
+-- the parameters of a game that were met, and the first of some values
+abbrev pub params_met : Met → WhoseParams → Option (Result Params IdFault)
+params_met m Next = m.next_params
+params_met m Current = m.params
+
 abbrev pub first_of : {A : Type 0} → List A → Option A
 first_of [] = None
 first_of (v ∷ vs) = Some v
@@ -55,8 +62,8 @@ abbrev pub met : {P : Type 0} → SavedGame P → List KeyedRecord → Met
 met game rs = record {
   version = is_some (first_of (values_of FormatVersion rs));
   name = is_some (first_of (values_of GameName rs));
-  next_params = option_map (saved_params_at game) (first_of (values_of NextParams rs));
-  params = option_map (saved_params_at game) (first_of (values_of CurrentParams rs));
+  next_params = option_map (saved_params_at game) (first_of (values_of (ParamsOf Next) rs));
+  params = option_map (saved_params_at game) (first_of (values_of (ParamsOf Current) rs));
   desc = first_of (values_of Desc rs);
   kept = each_kept (λ k. first_of (values_of (Kept k) rs));
   count = option_map count_at (first_of (values_of StateCount rs));
@@ -102,8 +109,7 @@ abbrev pub fault_by : {P : Type 0} → SavedGame P → Met → Key → List ℕ 
 fault_by game m SaveFile value = Some Repeated
 fault_by game m FormatVersion value = once m.version (fault_unless (bytes_eq value (codes "1")) Version)
 fault_by game m GameName value = once m.name (fault_unless (bytes_eq value game.title) WrongGame)
-fault_by game m NextParams value = once (is_some m.next_params) (params_fault (saved_params_at game value))
-fault_by game m CurrentParams value = once (is_some m.params) (params_fault (saved_params_at game value))
+fault_by game m (ParamsOf whose) value = once (is_some (params_met m whose)) (params_fault (saved_params_at game value))
 fault_by game m Desc value = once (is_some m.desc) None
 fault_by game m PrivateDesc value = Some Unsupported
 fault_by game m (Kept k) value = once (is_some (kept_at m.kept k)) None

@@ -3,13 +3,19 @@ use Rattle.std.specs.Prelude.{ℕ, ◌-◌, if◌then◌else◌, List, [], ◌++
 use Rattle.play_midend.specs.declared.extras.Extras.{Extras}
 use Rattle.play_save.specs.declared.key.StateKey.{StateKey}
 use Rattle.play_save.specs.declared.key.StateKey.TheVariants.{AnyMove, SolveMove, RestartMove}
+use Rattle.play_save.specs.declared.key.WhoseParams.{WhoseParams}
+use Rattle.play_save.specs.declared.key.WhoseParams.TheVariants.{Next, Current}
 use Rattle.play_save.specs.declared.key.KeptKey.{KeptKey}
 use Rattle.play_save.specs.declared.key.KeptKey.TheVariants.{Seed, AuxInfo, Ui, Time}
 use Rattle.play_save.specs.declared.key.Key.{Key}
-use Rattle.play_save.specs.declared.key.Key.TheVariants.{SaveFile, FormatVersion, GameName, NextParams, CurrentParams, Desc, PrivateDesc, Kept, StateCount, Position, State, Other}
+use Rattle.play_save.specs.declared.key.Key.TheVariants.{SaveFile, FormatVersion, GameName, ParamsOf, Desc, PrivateDesc, Kept, StateCount, Position, State, Other}
 use Rattle.byte_text.specs.Bytes.{space}
 
 -- the keys in the order in which their records are written
+abbrev pub params_rank : WhoseParams → ℕ
+params_rank Next = 3
+params_rank Current = 4
+
 abbrev pub kept_rank : KeptKey → ℕ
 kept_rank Seed = 5
 kept_rank AuxInfo = 7
@@ -20,8 +26,7 @@ abbrev pub rank : Key → ℕ
 rank SaveFile = 0
 rank FormatVersion = 1
 rank GameName = 2
-rank NextParams = 3
-rank CurrentParams = 4
+rank (ParamsOf whose) = params_rank whose
 rank Desc = 6
 rank (Kept k) = kept_rank k
 rank StateCount = 10
@@ -36,6 +41,10 @@ state_name AnyMove = codes "MOVE"
 state_name SolveMove = codes "SOLVE"
 state_name RestartMove = codes "RESTART"
 
+abbrev pub params_name : WhoseParams → List ℕ
+params_name Next = codes "PARAMS"
+params_name Current = codes "CPARAMS"
+
 abbrev pub kept_name : KeptKey → List ℕ
 kept_name Seed = codes "SEED"
 kept_name AuxInfo = codes "AUXINFO"
@@ -46,8 +55,7 @@ abbrev pub key_name : Key → List ℕ
 key_name SaveFile = codes "SAVEFILE"
 key_name FormatVersion = codes "VERSION"
 key_name GameName = codes "GAME"
-key_name NextParams = codes "PARAMS"
-key_name CurrentParams = codes "CPARAMS"
+key_name (ParamsOf whose) = params_name whose
 key_name Desc = codes "DESC"
 key_name (Kept k) = kept_name k
 key_name StateCount = codes "NSTATES"
@@ -69,8 +77,8 @@ kept_key_of name =
 abbrev pub header_key_of : List ℕ → Key
 header_key_of name =
     if bytes_eq name (codes "SAVEFILE") then SaveFile else (if bytes_eq name (codes "VERSION") then FormatVersion
-    else (if bytes_eq name (codes "GAME") then GameName else (if bytes_eq name (codes "PARAMS") then NextParams
-    else (if bytes_eq name (codes "CPARAMS") then CurrentParams else (if bytes_eq name (codes "DESC") then Desc
+    else (if bytes_eq name (codes "GAME") then GameName else (if bytes_eq name (codes "PARAMS") then ParamsOf Next
+    else (if bytes_eq name (codes "CPARAMS") then ParamsOf Current else (if bytes_eq name (codes "DESC") then Desc
     else (if bytes_eq name (codes "PRIVDESC") then PrivateDesc else (if bytes_eq name (codes "NSTATES") then StateCount
     else (if bytes_eq name (codes "STATEPOS") then Position else kept_key_of name))))))))
 

@@ -1,6 +1,8 @@
 -- Records taken in turn: what was met after one more, and what the code keeps of it.
 use Rattle.std.specs.Prelude.{◌≡◌, ◌⊎◌, ℕ, ◌+◌, ◌≤◌, true, false, List, [], ◌∷◌, ◌++◌, length, map, Option, Some, None, option_map, Result, Ok, Err}
 use Rattle.std.specs.Borrow.{Bor}
+use Rattle.clue_rules.specs.declared.id_fault.IdFault.{IdFault}
+use Rattle.clue_rules.specs.declared.params.Params.{Params}
 use Rattle.play_midend.specs.declared.extras.Extras.{Extras}
 use Rattle.play_midend.specs.Histories.{most_states}
 use Rattle.play_save.specs.declared.fault.LoadFault.{LoadFault}
@@ -10,8 +12,9 @@ use Rattle.play_save.specs.declared.found.KeptValues.{KeptValues}
 use Rattle.play_save.specs.declared.found.Found.{Found}
 use Rattle.play_save.specs.declared.key.KeptKey.{KeptKey}
 use Rattle.play_save.specs.declared.key.KeptKey.TheVariants.{Seed, AuxInfo, Ui, Time}
+use Rattle.play_save.specs.declared.key.WhoseParams.TheVariants.{Next, Current}
 use Rattle.play_save.specs.declared.key.Key.{Key}
-use Rattle.play_save.specs.declared.key.Key.TheVariants.{FormatVersion, GameName, NextParams, CurrentParams, Desc, Kept, StateCount, Position, State}
+use Rattle.play_save.specs.declared.key.Key.TheVariants.{FormatVersion, GameName, ParamsOf, Desc, Kept, StateCount, Position, State}
 use Rattle.play_save.specs.Keys.{each_kept}
 use Rattle.play_save.specs.KeyedRecords.{KeyedState}
 use Rattle.play_save.specs.SaveTexts.{SavedGame}
@@ -24,6 +27,9 @@ state_of s = record { key = s.key; value = s.value.now }
 abbrev pub bytes_of : Option (Bor (List ℕ)) → Option (List ℕ)
 bytes_of kept = option_map (λ bytes. bytes.now) kept
 
+abbrev pub as_read : Option Params → Option (Result Params IdFault)
+as_read params = option_map Ok params
+
 abbrev pub kept_of : KeptValues → Extras
 kept_of v = record { seed = bytes_of v.seed; auxinfo = bytes_of v.auxinfo; ui = bytes_of v.ui; time = bytes_of v.time }
 
@@ -31,8 +37,8 @@ abbrev pub met_of : Found → Met
 met_of f = record {
   version = f.version;
   name = f.name;
-  next_params = option_map Ok f.next_params;
-  params = option_map Ok f.params;
+  next_params = as_read f.next_params;
+  params = as_read f.params;
   desc = bytes_of f.desc;
   kept = kept_of f.kept;
   count = option_map Some f.count;
@@ -70,8 +76,8 @@ with_kept extras Time value = record extras { time = Some value }
 abbrev pub added : {P : Type 0} → SavedGame P → Met → Key → List ℕ → Met
 added game m FormatVersion value = record m { version = true }
 added game m GameName value = record m { name = true }
-added game m NextParams value = record m { next_params = Some (saved_params_at game value) }
-added game m CurrentParams value = record m { params = Some (saved_params_at game value) }
+added game m (ParamsOf Next) value = record m { next_params = Some (saved_params_at game value) }
+added game m (ParamsOf Current) value = record m { params = Some (saved_params_at game value) }
 added game m Desc value = record m { desc = Some value }
 added game m (Kept k) value = record m { kept = with_kept m.kept k value }
 added game m StateCount value = record m { count = Some (count_at value) }

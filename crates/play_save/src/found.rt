@@ -2,14 +2,14 @@
 
 ghost use Rattle.std.specs.Prelude.{◌≡◌, ℕ, ◌+◌, ◌≤◌, true, false, Some, None, Ok, Err, ok_or, OnOk, IfOk, IfErr, is_some, length, bytes_eq, codes};
 ghost use Rattle.std.specs.Result.{result_ok};
-ghost use Rattle.play_save.specs.declared.key.Key.TheVariants.{FormatVersion, GameName, NextParams, CurrentParams, StateCount, Position, State};
+ghost use Rattle.play_save.specs.declared.key.Key.TheVariants.{FormatVersion, GameName, ParamsOf, StateCount, Position, State};
 ghost use Rattle.play_save.specs.Keys.{kept_at};
 ghost use Rattle.play_save.specs.SaveTexts.{saves_of};
-ghost use Rattle.play_save.specs.FirstFaults.{is_complete, count_at, once, text_fault, state_fault, saved_params_at, fault_unless};
-ghost use Rattle.play_save.specs.Taking.{bytes_of, kept_of, with_kept, met_of, nothing_met, Taken};
+ghost use Rattle.play_save.specs.FirstFaults.{is_complete, count_at, once, params_fault, text_fault, state_fault, saved_params_at, fault_unless};
+ghost use Rattle.play_save.specs.Taking.{as_read, bytes_of, kept_of, with_kept, met_of, nothing_met, Taken};
 
 use crate::fault::LoadFault;
-use crate::key::{KeptKey, Key, StateKey};
+use crate::key::{KeptKey, Key, StateKey, WhoseParams};
 use byte_text::number;
 use clue_rules::{Game, Params};
 use play_midend::{PlayFault, read_move};
@@ -88,6 +88,19 @@ fn params<P: Game>(value: &[u8]) -> Result<Params, LoadFault>
     Params::read::<P>(value).map_err(|_| LoadFault::BadParams)
 }
 
+// Parameters that may be met once.
+fn keep_params<P: Game>(met: &mut Option<Params>, value: &[u8]) -> Result<(), LoadFault>
+    ensures ok { let read = saved_params_at (saves_of P.Rules P.Game.own) value.now in
+        OnOk result ((once (is_some (as_read met.old)) (params_fault read) ≡ None)
+        × (as_read met.new ≡ Some read)) }
+    ensures err { let read = saved_params_at (saves_of P.Rules P.Game.own) value.now in
+        IfErr result (λ fault. once (is_some (as_read met.old)) (params_fault read) ≡ Some fault) }
+{
+    once(met.is_some())?;
+    *met = Some(params::<P>(value)?);
+    Ok(())
+}
+
 // Hints and spent signs are refused before their turn to be played has come.
 fn check_state(key: StateKey, value: &[u8]) -> Result<(), LoadFault>
     ensures ok { OnOk result (state_fault key value.now ≡ None) }
@@ -162,8 +175,7 @@ impl<'a> Found<'a> {
             Key::PrivateDesc => Err(LoadFault::Unsupported),
             Key::FormatVersion => self.take_version::<P>(value),
             Key::GameName => self.take_name::<P>(value),
-            Key::NextParams => self.take_next_params::<P>(value),
-            Key::CurrentParams => self.take_params::<P>(value),
+            Key::ParamsOf(whose) => self.take_params::<P>(whose, value),
             Key::Desc => keep(&mut self.desc, value),
             Key::Kept(key) => self.kept.take(key, value),
             Key::StateCount => self.take_count::<P>(value),
@@ -197,22 +209,14 @@ impl<'a> Found<'a> {
         Ok(())
     }
 
-    fn take_next_params<P: Game>(&mut self, value: &'a [u8]) -> Result<(), LoadFault>
+    fn take_params<P: Game>(&mut self, whose: WhoseParams, value: &'a [u8]) -> Result<(), LoadFault>
         ensures { Taken (saves_of P.Rules P.Game.own)
-            (met_of self.old) NextParams value.now result (met_of self.new) }
+            (met_of self.old) (ParamsOf whose) value.now result (met_of self.new) }
     {
-        once(self.next_params.is_some())?;
-        self.next_params = Some(params::<P>(value)?);
-        Ok(())
-    }
-
-    fn take_params<P: Game>(&mut self, value: &'a [u8]) -> Result<(), LoadFault>
-        ensures { Taken (saves_of P.Rules P.Game.own)
-            (met_of self.old) CurrentParams value.now result (met_of self.new) }
-    {
-        once(self.params.is_some())?;
-        self.params = Some(params::<P>(value)?);
-        Ok(())
+        match whose {
+            WhoseParams::Next => keep_params::<P>(&mut self.next_params, value),
+            WhoseParams::Current => keep_params::<P>(&mut self.params, value),
+        }
     }
 
     fn take_count<P: Game>(&mut self, value: &'a [u8]) -> Result<(), LoadFault>

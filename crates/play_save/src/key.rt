@@ -14,6 +14,15 @@ pub(crate) enum StateKey {
     RestartMove,
 }
 
+/// Which game the parameters are of.
+#[derive(Clone, Copy, Debug, PartialEq, Eq)]
+pub(crate) enum WhoseParams {
+    /// `PARAMS`, of the next game.
+    Next,
+    /// `CPARAMS`, of the current game.
+    Current,
+}
+
 /// A key whose value is kept as it is.
 #[derive(Clone, Copy, Debug, PartialEq, Eq)]
 pub(crate) enum KeptKey {
@@ -36,10 +45,8 @@ pub(crate) enum Key {
     FormatVersion,
     /// `GAME`, the game's name.
     GameName,
-    /// `PARAMS`, the parameters of the next game.
-    NextParams,
-    /// `CPARAMS`, the parameters of the current game.
-    CurrentParams,
+    /// The parameters of a game.
+    ParamsOf(WhoseParams),
     /// `DESC`, the description of the puzzle.
     Desc,
     /// `PRIVDESC`, a private description.
@@ -84,9 +91,9 @@ impl Key {
         } else if name == b"GAME".as_slice() {
             Key::GameName
         } else if name == b"PARAMS".as_slice() {
-            Key::NextParams
+            Key::ParamsOf(WhoseParams::Next)
         } else if name == b"CPARAMS".as_slice() {
-            Key::CurrentParams
+            Key::ParamsOf(WhoseParams::Current)
         } else if name == b"DESC".as_slice() {
             Key::Desc
         } else if name == b"PRIVDESC".as_slice() {
@@ -125,8 +132,8 @@ impl Key {
             Key::SaveFile => b"SAVEFILE",
             Key::FormatVersion => b"VERSION ",
             Key::GameName => b"GAME    ",
-            Key::NextParams => b"PARAMS  ",
-            Key::CurrentParams => b"CPARAMS ",
+            Key::ParamsOf(WhoseParams::Next) => b"PARAMS  ",
+            Key::ParamsOf(WhoseParams::Current) => b"CPARAMS ",
             Key::Kept(KeptKey::Seed) => b"SEED    ",
             Key::Desc => b"DESC    ",
             Key::PrivateDesc => b"PRIVDESC",

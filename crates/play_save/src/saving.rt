@@ -6,7 +6,7 @@ ghost use Rattle.play_midend.specs.Steps.{is_restart};
 ghost use Rattle.play_save.specs.Written.{with_value, record_text, records_text, kept_record, head_records, body_records, state_record, state_records, save_of};
 
 use crate::fault::LoadFault;
-use crate::key::{KeptKey, Key, StateKey};
+use crate::key::{KeptKey, Key, StateKey, WhoseParams};
 use crate::loading::{COLLECTION, is_solve};
 use clue_rules::Game;
 use play_midend::{Extras, KeptBytes, Move, Session, write_move};
@@ -59,12 +59,12 @@ fn put_head<P: Game>(text: &mut Vec<u8>, session: &Session<P>) -> Result<(), All
     put(text, Key::GameName, P::name().as_bytes())?;
     put(
         text,
-        Key::NextParams,
+        Key::ParamsOf(WhoseParams::Next),
         session.next_params().write().as_slice(),
     )?;
     put(
         text,
-        Key::CurrentParams,
+        Key::ParamsOf(WhoseParams::Current),
         session.params().write().as_slice(),
     )?;
     Ok(())
