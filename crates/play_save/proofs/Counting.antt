@@ -10,8 +10,9 @@ use Rattle.play_midend.specs.Histories.{most_states}
 use Rattle.play_save.specs.declared.fault.LoadFault.{LoadFault}
 use Rattle.play_save.specs.declared.fault.LoadFault.TheVariants.{BadCount}
 use Rattle.play_save.specs.declared.key.StateKey.{StateKey}
+use Rattle.play_save.specs.declared.key.WhoseParams.TheVariants.{Next}
 use Rattle.play_save.specs.declared.key.Key.{Key}
-use Rattle.play_save.specs.declared.key.Key.TheVariants.{StateCount, Position, State}
+use Rattle.play_save.specs.declared.key.Key.TheVariants.{ParamsOf, StateCount, Position, State}
 use Rattle.play_save.specs.KeyedRecords.{KeyedRecord}
 use Rattle.play_save.specs.SaveTexts.{SavedGame}
 use Rattle.play_save.specs.FirstFaults.{Met, met, positive, count_at, fault_unless, count_fault, behind_counts, state_fault, fault_by, is_complete, Listing, needed, met_in}
@@ -136,6 +137,7 @@ pub sound_added : {P : Type 0} (game : SavedGame P) (m : Met) (k : Key) (value :
 sound_added game m StateCount value s undone none = sound_count game m value s none
 sound_added game m Position value s undone none = sound_position game m value s none
 sound_added game m (State k) value s undone none = sound_state game m k value s undone none
+sound_added game m (ParamsOf Next) value s undone none = s
 sound_added game m k value s undone none = s
 
 -- along records that are right

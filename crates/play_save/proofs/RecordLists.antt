@@ -1,25 +1,31 @@
 -- Lists of records: the values of a key, and the state records, along a list that is put together.
 use Rattle.std.proofs.Common.{◌≡◌, ℕ, ◌<◌, Bool, true, false, ◌==◌, List, [], ◌∷◌, ◌++◌, length, Option, Some, None, is_some, cond, refl, sym, ap, ◌∙◌, arith, length-append}
 use borrow.Author.Tests.{eqb-true, eq-eqb}
+use Rattle.play_midend.specs.declared.extras.Extras.{Extras}
+use Rattle.play_save.specs.declared.key.KeptKey.{KeptKey}
+use Rattle.play_save.specs.declared.key.KeptKey.TheVariants.{Seed, AuxInfo, Ui, Time}
+use Rattle.play_save.specs.declared.key.WhoseParams.TheVariants.{Next, Current}
 use Rattle.play_save.specs.declared.key.Key.{Key}
-use Rattle.play_save.specs.declared.key.Key.TheVariants.{SaveFile, FormatVersion, GameName, NextParams, CurrentParams, Seed, Desc, PrivateDesc, AuxInfo, Ui, Time, StateCount, Position, State, Other}
-use Rattle.play_save.specs.Keys.{rank}
+use Rattle.play_save.specs.declared.key.Key.TheVariants.{SaveFile, FormatVersion, GameName, ParamsOf, Desc, PrivateDesc, Kept, StateCount, Position, State, Other}
+use Rattle.play_save.specs.Keys.{rank, kept_at, each_kept}
 use Rattle.play_save.specs.KeyedRecords.{KeyedRecord, KeyedState, values_of, onto_states, states_in, is_state}
 use Rattle.play_save.specs.FirstFaults.{first_of}
 use Rattle.play_save.proofs.OptionSteps.{else_taken}
 
--- a key is known by its number, unless it is one of the three of states
+-- A key is known by its number, unless it is one of the three of states. (Here and below the clauses at `ParamsOf Next` and
+-- `Kept Seed` make the last one be looked at for each of the other keys of their kinds, and so computed.)
 by_rank : ℕ → Option Key
 by_rank n =
     cond (n == 0) (Some SaveFile) (cond (n == 1) (Some FormatVersion) (cond (n == 2) (Some GameName)
-    (cond (n == 3) (Some NextParams) (cond (n == 4) (Some CurrentParams) (cond (n == 5) (Some Seed)
-    (cond (n == 6) (Some Desc) (cond (n == 7) (Some AuxInfo) (cond (n == 8) (Some Ui) (cond (n == 9) (Some Time)
+    (cond (n == 3) (Some (ParamsOf Next)) (cond (n == 4) (Some (ParamsOf Current)) (cond (n == 5) (Some (Kept Seed))
+    (cond (n == 6) (Some Desc) (cond (n == 7) (Some (Kept AuxInfo)) (cond (n == 8) (Some (Kept Ui)) (cond (n == 9) (Some (Kept Time))
     (cond (n == 10) (Some StateCount) (cond (n == 11) (Some Position) (cond (n == 13) (Some PrivateDesc)
     (cond (n == 14) (Some Other) None)))))))))))))
 
 by_own_rank : (k : Key) → by_rank (rank k) ≡ cond (is_state k) None (Some k)
 unfolding by_rank
-by_own_rank SaveFile = refl
+by_own_rank (ParamsOf Next) = refl
+by_own_rank (Kept Seed) = refl
 by_own_rank k = refl
 
 pub same_key : (a k : Key) → is_state k ≡ false → (rank a == rank k) ≡ true → a ≡ k
@@ -32,6 +38,28 @@ same_key a k other same =
 
 pub own_rank : (k : Key) → (rank k == rank k) ≡ true
 own_rank k = eq-eqb (rank k) (rank k) refl
+
+pub no_state_rank : (k : Key) → is_state k ≡ false → (12 == rank k) ≡ false
+no_state_rank (State j) header = cc
+no_state_rank (ParamsOf Next) header = refl
+no_state_rank (Kept Seed) header = refl
+no_state_rank k header = refl
+
+-- what is kept, by its keys
+pub kept_each : (value : KeptKey → Option (List ℕ)) (k : KeptKey) → kept_at (each_kept value) k ≡ value k
+kept_each value Seed = refl
+kept_each value k = refl
+
+pub same_extras : (a b : Extras) → ((k : KeptKey) → kept_at a k ≡ kept_at b k) → a ≡ b
+same_extras a b same =
+    let seed = same Seed in
+    let auxinfo = same AuxInfo in
+    let ui = same Ui in
+    let time = same Time in
+    let one : Extras = record a { seed = a.seed } in
+    let other : Extras = record b { seed = b.seed } in
+    let whole : one ≡ other = cc in
+    whole
 
 -- lists that are put together
 pub values_of-append : (k : Key) (xs ys : List KeyedRecord) → values_of k (xs ++ ys) ≡ values_of k xs ++ values_of k ys
@@ -64,12 +92,6 @@ pub stands_on : (k : Key) (rs : List KeyedRecord) (r : KeyedRecord)
     → 0 < length (values_of k rs) → 0 < length (values_of k (rs ++ r ∷ []))
 stands_on k rs r some =
     omega (arith, ap length (values_of-append k rs (r ∷ [])), length-append (values_of k rs) (values_of k (r ∷ [])))
-
--- a record of no state adds none
-pub adds_no_state : (k : Key) (value : List ℕ) (states : List KeyedState)
-    → is_state k ≡ false → onto_states k value states ≡ states
-adds_no_state (State k) value states other = cc
-adds_no_state k value states other = refl
 
 -- the first of some values
 pub first_some : {A : Type 0} (xs : List A) (x : A) → first_of xs ≡ Some x → (more : List A) × (xs ≡ x ∷ more)

@@ -17,15 +17,18 @@ use Rattle.play_midend.specs.MoveLists.{with_moves}
 use Rattle.play_midend.proofs.MoveListLaws.{legal_list_played}
 use Rattle.play_save.specs.declared.fault.LoadFault.{LoadFault}
 use Rattle.play_save.specs.declared.fault.LoadFault.TheVariants.{Version, WrongGame}
+use Rattle.play_save.specs.declared.key.WhoseParams.{WhoseParams}
+use Rattle.play_save.specs.declared.key.WhoseParams.TheVariants.{Next, Current}
 use Rattle.play_save.specs.declared.key.StateKey.{StateKey}
 use Rattle.play_save.specs.declared.key.Key.{Key}
-use Rattle.play_save.specs.declared.key.Key.TheVariants.{SaveFile, FormatVersion, GameName, NextParams, CurrentParams, Seed, Desc, PrivateDesc, AuxInfo, Ui, Time, StateCount, Position, State, Other}
+use Rattle.play_save.specs.declared.key.Key.TheVariants.{SaveFile, FormatVersion, GameName, ParamsOf, Desc, PrivateDesc, Kept, StateCount, Position, State, Other}
 use Rattle.play_save.specs.Records.{record_at}
+use Rattle.play_save.specs.Keys.{kept_at}
 use Rattle.play_save.specs.KeyedRecords.{KeyedRecord, KeyedState, values_of, states_in, onto_states, once_if_kept, is_state, CountsStandFirst, may_be_last, EndsWithState}
-use Rattle.play_save.specs.SaveTexts.{SavedGame, format_record, longest_save, HaveStates, AreSaved, SaveText}
-use Rattle.play_save.specs.FirstFaults.{saved_params_at, count_at, first_of, met, fault_unless, once, params_fault, count_fault, behind_counts, state_fault, fault_by, has_all, is_complete, records_of, needed, states_played, extras_in, session_of, behind_head, met_in, load_at}
+use Rattle.play_save.specs.SaveTexts.{SavedGame, params_of, format_record, longest_save, HaveStates, AreSaved, SaveText}
+use Rattle.play_save.specs.FirstFaults.{saved_params_at, count_at, first_of, met, params_met, fault_unless, once, params_fault, count_fault, behind_counts, state_fault, fault_by, has_all, is_complete, records_of, needed, states_played, session_of, behind_head, met_in, load_at}
 use Rattle.play_save.proofs.RecordLaws.{record_again}
-use Rattle.play_save.proofs.RecordLists.{values_of-append, states_in-append, append_none, own_rank}
+use Rattle.play_save.proofs.RecordLists.{values_of-append, states_in-append, append_none, own_rank, no_state_rank, kept_each, same_extras}
 use Rattle.play_save.proofs.Meeting.{one}
 use Rattle.play_save.proofs.RightLists.{AreRight, needed_again, records_again}
 use Rattle.play_save.proofs.Counting.{count_again}
@@ -156,11 +159,7 @@ met_before c v k value before later header is none =
     by_case (before_place c v before (one (State k) value ++ later) is)
   where
     here : values_of c (one (State k) value ++ later) ≡ []
-    here = values_of-append c (one (State k) value) later ∙ rw (none, of_state c header) refl
-      where
-        of_state : (j : Key) → is_state j ≡ false → values_of j (one (State k) value) ≡ []
-        of_state (State i) other = cc
-        of_state j other = refl
+    here = values_of-append c (one (State k) value) later ∙ rw (none, no_state_rank c header) refl
 
     by_case : OnOneSide c v before (one (State k) value ++ later)
         → is_some (option_map count_at (first_of (values_of c before))) ≡ true
@@ -169,6 +168,20 @@ met_before c v k value before later header is none =
         let nowhere : values_of c (before ++ (one (State k) value ++ later)) ≡ [] =
         values_of-append c before (one (State k) value ++ later) ∙ rw (empty, here) refl in
         cc
+
+-- the parameters that were met, and those of a save
+params_first : {P : Type 0} (game : SavedGame P) (rs : List KeyedRecord) (whose : WhoseParams)
+    → params_met (met game rs) whose ≡ option_map (saved_params_at game) (first_of (values_of (ParamsOf whose) rs))
+params_first game rs Next = refl
+params_first game rs Current = refl
+
+params_read : {P : Type 0} (game : SavedGame P) (rs : List KeyedRecord) (h : History P) (whose : WhoseParams)
+    → AreSaved game h rs → params_met (met game rs) whose ≡ Some (Ok (params_of h whose))
+params_read game rs h whose s =
+    let own = s.params whose in
+    params_first game rs whose
+    ∙ (ap (λ vs. option_map (saved_params_at game) (first_of vs)) own.1
+    ∙ ap Some (params_good game (params_of h whose) own.0 own.2))
 
 -- no record of a save has a fault behind those before it
 faultless_at : {P : Type 0} (game : SavedGame P) (h : History P) (before later : List KeyedRecord) (k : Key) (value : List ℕ)
@@ -188,24 +201,18 @@ faultless_at game h before later GameName value s counts fine =
     let at = at_place GameName game.title value before later s.name in
     once_fresh (values_of GameName before) _ at.first
     ∙ ap (λ t. fault_unless t WrongGame) (same_bytes value game.title at.same)
-faultless_at game h before later NextParams value s counts fine =
-    let at = at_place NextParams s.next_params.0 value before later s.next_params.1 in
-    let read = ap (saved_params_at game) at.same ∙ params_good game h.next_params s.next_params.0 s.next_params.2 in
-    once_unread (saved_params_at game) (values_of NextParams before) _ at.first ∙ ap params_fault read
-faultless_at game h before later CurrentParams value s counts fine =
-    let at = at_place CurrentParams s.params.0 value before later s.params.1 in
-    let read = ap (saved_params_at game) at.same ∙ params_good game h.params s.params.0 s.params.2 in
-    once_unread (saved_params_at game) (values_of CurrentParams before) _ at.first ∙ ap params_fault read
+faultless_at game h before later (ParamsOf whose) value s counts fine =
+    let own = s.params whose in
+    let at = at_place (ParamsOf whose) own.0 value before later own.1 in
+    let read = ap (saved_params_at game) at.same ∙ params_good game (params_of h whose) own.0 own.2 in
+    rw (params_first game before whose)
+    (once_unread (saved_params_at game) (values_of (ParamsOf whose) before) _ at.first ∙ ap params_fault read)
 faultless_at game h before later Desc value s counts fine =
     once_fresh (values_of Desc before) None (at_place Desc s.desc.0 value before later s.desc.1).first
-faultless_at game h before later Seed value s counts fine =
-    once_fresh (values_of Seed before) None (at_most Seed h.extras.seed value before later s.seed)
-faultless_at game h before later AuxInfo value s counts fine =
-    once_fresh (values_of AuxInfo before) None (at_most AuxInfo h.extras.auxinfo value before later s.auxinfo)
-faultless_at game h before later Ui value s counts fine =
-    once_fresh (values_of Ui before) None (at_most Ui h.extras.ui value before later s.ui)
-faultless_at game h before later Time value s counts fine =
-    once_fresh (values_of Time before) None (at_most Time h.extras.time value before later s.time)
+faultless_at game h before later (Kept k) value s counts fine =
+    rw (kept_each (λ j. first_of (values_of (Kept j) before)) k)
+    (once_fresh (values_of (Kept k) before) None
+    (at_most (Kept k) (kept_at h.extras k) value before later (s.kept k)))
 faultless_at game h before later StateCount value s counts fine =
     let r = ranges game _ h s in
     let goes : ℕ → ℕ → Bool = λ n p. nat_le p n in
@@ -324,13 +331,11 @@ first_kept None values is = ap first_of is
 first_kept (Some v) values is = ap first_of is
 
 extras_again : {P : Type 0} (game : SavedGame P) (rs : List KeyedRecord) (h : History P)
-    → AreSaved game h rs → extras_in (met game rs) ≡ h.extras
+    → AreSaved game h rs → (met game rs).kept ≡ h.extras
 extras_again game rs h s =
-    let seed = first_kept h.extras.seed (values_of Seed rs) s.seed in
-    let auxinfo = first_kept h.extras.auxinfo (values_of AuxInfo rs) s.auxinfo in
-    let ui = first_kept h.extras.ui (values_of Ui rs) s.ui in
-    let time = first_kept h.extras.time (values_of Time rs) s.time in
-    rw (seed, auxinfo, ui, time) refl
+    same_extras (met game rs).kept h.extras (λ k.
+    kept_each (λ j. first_of (values_of (Kept j) rs)) k
+    ∙ first_kept (kept_at h.extras k) (values_of (Kept k) rs) (s.kept k))
 
 pub session_again : {P : Type 0} (game : SavedGame P) (rs : List KeyedRecord) (h : History P)
     → IsGame game → AreSaved game h rs → session_of game (met game rs) ≡ Ok h
@@ -340,12 +345,8 @@ session_again {P} game rs h owes s =
     let r = ranges game rs h s in
     let version : m.version ≡ true = ap (λ vs. is_some (first_of vs)) s.version in
     let name : m.name ≡ true = ap (λ vs. is_some (first_of vs)) s.name in
-    let next : m.next_params ≡ Some (Ok h.next_params) =
-    ap (λ vs. option_map (saved_params_at game) (first_of vs)) s.next_params.1
-    ∙ ap Some (params_good game h.next_params s.next_params.0 s.next_params.2) in
-    let now : m.params ≡ Some (Ok h.params) =
-    ap (λ vs. option_map (saved_params_at game) (first_of vs)) s.params.1
-    ∙ ap Some (params_good game h.params s.params.0 s.params.2) in
+    let next : m.next_params ≡ Some (Ok h.next_params) = params_read game rs h Next s in
+    let now : m.params ≡ Some (Ok h.params) = params_read game rs h Current s in
     let desc : m.desc ≡ Some s.desc.0 = ap first_of s.desc.1 in
     let place : m.position ≡ Some (Some h.position) =
     ap (λ vs. option_map count_at (first_of vs)) s.position ∙ ap Some r.position_good in

@@ -15,16 +15,17 @@ use Rattle.play_midend.specs.MoveLists.{with_moves}
 use Rattle.play_midend.proofs.MoveListLaws.{accepted_list_legal}
 use Rattle.play_save.specs.declared.fault.LoadFault.{LoadFault}
 use Rattle.play_save.specs.declared.fault.LoadFault.TheVariants.{NotASave, Version, WrongGame, Repeated, Unsupported, BadDesc, Missing, TooLarge}
+use Rattle.play_save.specs.declared.key.WhoseParams.TheVariants.{Next, Current}
 use Rattle.play_save.specs.declared.key.Key.{Key}
-use Rattle.play_save.specs.declared.key.Key.TheVariants.{SaveFile, FormatVersion, GameName, NextParams, CurrentParams, Seed, Desc, PrivateDesc, AuxInfo, Ui, Time, StateCount, Position, State}
+use Rattle.play_save.specs.declared.key.Key.TheVariants.{SaveFile, FormatVersion, GameName, ParamsOf, Desc, PrivateDesc, Kept, StateCount, Position, State}
 use Rattle.play_save.specs.Records.{Entry, BeginsWith, record_at}
 use Rattle.play_save.specs.KeyedRecords.{KeyedRecord, values_of, states_in, StandsOnce, once_if_kept, is_state, CountsStandFirst, may_be_last, EndsWithState}
-use Rattle.play_save.specs.SaveTexts.{SavedGame, collection, format_record, longest_save, AreSaved, SaveText}
-use Rattle.play_save.specs.FirstFaults.{Met, saved_params_at, count_at, first_of, met, fault_unless, state_fault, fault_by, is_complete, records_of, unless, needed, states_played, needed_params, needed_count, extras_in, session_of, head_or_fault, behind_head, met_in, load_at}
+use Rattle.play_save.specs.SaveTexts.{SavedGame, params_of, collection, format_record, longest_save, AreSaved, SaveText}
+use Rattle.play_save.specs.FirstFaults.{Met, saved_params_at, count_at, first_of, met, fault_unless, state_fault, fault_by, is_complete, records_of, unless, needed, states_played, needed_params, needed_count, session_of, head_or_fault, behind_head, met_in, load_at}
 use Rattle.play_save.specs.Taking.{added}
 use Rattle.play_save.proofs.OptionSteps.{map_taken, ok_or_taken, result_taken, ok_else, ok_where}
 use Rattle.play_save.proofs.RecordLaws.{record_taken}
-use Rattle.play_save.proofs.RecordLists.{stands_on, first_some, is_some_taken}
+use Rattle.play_save.proofs.RecordLists.{kept_each, stands_on, first_some, is_some_taken}
 use Rattle.play_save.proofs.Meeting.{is_once, once_taken, met_added}
 use Rattle.play_save.proofs.RightLists.{AreRight, needed_taken, records_taken, none_again, StandsAlone, stands_at}
 use Rattle.play_save.proofs.Counting.{count_taken, fault_unless_taken, counts_met, counted, right_whole, sound_start}
@@ -132,6 +133,7 @@ completes : {P : Type 0} (game : SavedGame P) (m : Met) (k : Key) (value : List 
 completes game m StateCount value undone done = refl
 completes game m Position value undone done = refl
 completes game m (State k) value undone done = refl
+completes game m (ParamsOf Next) value undone done = cc
 completes game m k value undone done = cc
 
 right_ends : {P : Type 0} (game : SavedGame P) (before : List KeyedRecord) (r : KeyedRecord) (rs : List KeyedRecord)
@@ -172,7 +174,7 @@ record Parts {P : Type 0} (game : SavedGame P) (m : Met) (h : History P) : Type 
   puzzle : P
   described : game.desc_at params.size desc ≡ Ok puzzle
   last : History P
-  played_is : states_played game (started puzzle params next_params (extras_in m)) 1 m.states ≡ Ok last
+  played_is : states_played game (started puzzle params next_params m.kept) 1 m.states ≡ Ok last
   whole : at_position last position ≡ h
 
 parts_taken : {P : Type 0} (game : SavedGame P) (m : Met) (h : History P) → session_of game m ≡ Ok h → Parts game m h
@@ -185,7 +187,7 @@ parts_taken {P} game m h is =
     let desc = bind_taken (ok_or m.desc Missing) _ h now.2 in
     let place = bind_taken (needed_count m.position) _ h desc.2 in
     let puzzle = bind_taken (ok_or (result_ok (game.desc_at now.0.size desc.0)) BadDesc) _ h place.2 in
-    let last = bind_taken (states_played game (started puzzle.0 now.0 next.0 (extras_in m)) 1 m.states) _ h puzzle.2 in
+    let last = bind_taken (states_played game (started puzzle.0 now.0 next.0 m.kept) 1 m.states) _ h puzzle.2 in
     record {
       version = names.0;
       name = names.1;
@@ -211,8 +213,8 @@ saved_taken {P} game rs h owes right is =
     let parts = parts_taken game m h is in
     let whole = right_whole game [] rs (sound_start game) right in
     let counts = counted m whole in
-    let next = params_are game rs NextParams parts.next_params refl refl right parts.next_read in
-    let now = params_are game rs CurrentParams parts.params refl refl right parts.read in
+    let next = params_are game rs (ParamsOf Next) parts.next_params refl refl right parts.next_read in
+    let now = params_are game rs (ParamsOf Current) parts.params refl refl right parts.read in
     let desc_at = alone_at game rs Desc parts.desc refl refl right parts.desc_is in
     let described =
     owes.reads.taken parts.params.size parts.desc parts.puzzle now.2.params.smallest now.2.params.largest parts.described in
@@ -223,28 +225,30 @@ saved_taken {P} game rs h owes right is =
       smallest = rw size now.2.params.smallest;
       largest = rw size now.2.params.largest;
     } in
-    let start = started parts.puzzle parts.params parts.next_params (extras_in m) in
+    let start = started parts.puzzle parts.params parts.next_params m.kept in
     let played = states_taken game start parts.last 1 m.states owes own parts.played_is in
     let legal =
-    accepted_list_legal (game.puzzle parts.puzzle) parts.puzzle parts.params parts.next_params (extras_in m)
+    accepted_list_legal (game.puzzle parts.puzzle) parts.puzzle parts.params parts.next_params m.kept
     played.moves parts.last played.played_is in
     let long = have_length game parts.puzzle played.moves (states_in rs) played.have in
     let count : values_of StateCount rs ≡ decimal (length played.moves + 1) ∷ [] =
     count_stands game rs StateCount counts.n refl refl right counts.count_is
     ∙ ap (λ n. decimal n ∷ []) (omega (arith, counts.states, long)) in
     let here : counts.p ≡ parts.position = (let a = counts.position_is in let b = parts.position_is in cc) in
-    let made : AreSaved game (at_position (with_moves start played.moves) parts.position) rs = record {
+    let whole_h : History P = at_position (with_moves start played.moves) parts.position in
+    let made : AreSaved game whole_h rs = record {
       no_second_head = never game rs SaveFile Repeated refl refl (λ n v. refl) right;
       version = stands_as game rs FormatVersion _ Version refl refl (λ n v none. (once_taken n.version _ none).1) right parts.version;
       name = stands_as game rs GameName _ WrongGame refl refl (λ n v none. (once_taken n.name _ none).1) right parts.name;
-      next_params = next;
-      params = now;
+      params = λ whose. elim whose as (λ w. StandsOnce (ParamsOf w) (IsParamText game.letters (params_of whole_h w)) rs) [
+        | Next ↦ next
+        | Current ↦ now
+      ];
       desc = (parts.desc, desc_at.alone, described);
       no_private_desc = never game rs PrivateDesc Unsupported refl refl (λ n v. refl) right;
-      seed = kept_once game rs Seed refl refl right;
-      auxinfo = kept_once game rs AuxInfo refl refl right;
-      ui = kept_once game rs Ui refl refl right;
-      time = kept_once game rs Time refl refl right;
+      kept = λ k.
+          kept_once game rs (Kept k) refl refl right
+          ∙ ap once_if_kept (sym (kept_each (λ j. first_of (values_of (Kept j) rs)) k));
       count = count;
       position = count_stands game rs Position parts.position refl refl right parts.position_is;
       states = played.have;

@@ -13,7 +13,6 @@ use Rattle.trail_solver.specs.Puzzles.{Puzzle}
 use Rattle.trail_solver.proofs.SolutionTests.{Decides-solves_test}
 use Rattle.clue_rules.specs.declared.params.Params.{Params}
 use Rattle.clue_rules.specs.Parameters.{IsParams, letter_part, params_text}
-use Rattle.play_midend.specs.declared.extras.Extras.{Extras}
 use Rattle.play_midend.specs.declared.moves.Move.{Move}
 use Rattle.play_midend.specs.declared.moves.Move.TheVariants.{Solve, Restart}
 use Rattle.play_midend.specs.MoveTexts.{move_text, IsMoveText}
@@ -21,16 +20,19 @@ use Rattle.play_midend.specs.Steps.{start_of}
 use Rattle.play_midend.specs.Histories.{History, IsValid, most_states, shown}
 use Rattle.play_save.specs.declared.fault.LoadFault.{LoadFault}
 use Rattle.play_save.specs.declared.fault.LoadFault.TheVariants.{OutOfMemory}
+use Rattle.play_save.specs.declared.key.WhoseParams.{WhoseParams}
+use Rattle.play_save.specs.declared.key.WhoseParams.TheVariants.{Next, Current}
 use Rattle.play_save.specs.declared.key.Key.{Key}
-use Rattle.play_save.specs.declared.key.Key.TheVariants.{SaveFile, FormatVersion, GameName, NextParams, CurrentParams, Seed, Desc, PrivateDesc, AuxInfo, Ui, Time, StateCount, Position}
+use Rattle.play_save.specs.declared.key.Key.TheVariants.{SaveFile, FormatVersion, GameName, ParamsOf, Desc, PrivateDesc, Kept, StateCount, Position}
 use Rattle.play_save.specs.Records.{BeginsWith}
+use Rattle.play_save.specs.Keys.{kept_at}
 use Rattle.play_save.specs.KeyedRecords.{KeyedRecord, values_of, states_in, once_if_kept, EndsWithState}
-use Rattle.play_save.specs.SaveTexts.{SavedGame, collection, format_record, longest_save, is_solve, IsStateOf, HaveStates, AreSaved, SaveText}
+use Rattle.play_save.specs.SaveTexts.{SavedGame, params_of, collection, format_record, longest_save, is_solve, IsStateOf, HaveStates, AreSaved, SaveText}
 use Rattle.play_save.specs.FirstFaults.{count_at}
 use Rattle.play_save.specs.Written.{with_value, state_value, record_text, records_text, save_of}
 use Rattle.play_save.specs.Laws.{HasGrid, WrittenIsSaved, WrittenSavesNoOther}
 use Rattle.play_save.proofs.RecordLaws.{record_again}
-use Rattle.play_save.proofs.RecordLists.{values_of-append, states_in-append}
+use Rattle.play_save.proofs.RecordLists.{same_extras, values_of-append, states_in-append}
 use Rattle.play_save.proofs.Counting.{count_again}
 use Rattle.play_save.proofs.GameTexts.{Owes}
 use Rattle.play_save.proofs.StatesPlayed.{text_again, have_length}
@@ -171,6 +173,11 @@ written_is_saved {P} game of_game owes h storable grids small =
     let fits = all_fit p (start_of p) h.moves largest valid.legal.playable in
     let states = states_again game h.puzzle desc h.moves described fits (recursion_from_All HasGrid h.moves grids) in
     let stands = values_tail title desc h in
+    let params_are : (whose : WhoseParams) → IsParams game.letters (params_of h whose) =
+    λ whose. elim whose as (λ w. IsParams game.letters (params_of h w)) [
+      | Next ↦ storable.next_params_are
+      | Current ↦ storable.params_are
+    ] in
     record {
       small = small;
       behind_head = behind_first game h;
@@ -181,14 +188,14 @@ written_is_saved {P} game of_game owes h storable grids small =
         no_second_head = stands SaveFile refl;
         version = stands FormatVersion refl;
         name = stands GameName refl;
-        next_params = (params_text h.next_params, stands NextParams refl, record { params = storable.next_params_are; text_is = refl });
-        params = (params_text h.params, stands CurrentParams refl, record { params = storable.params_are; text_is = refl });
+        params = λ whose. (
+          params_text (params_of h whose),
+          stands (ParamsOf whose) refl,
+          record { params = params_are whose; text_is = refl },
+        );
         desc = (desc, stands Desc refl, subst (λ w. game.Describes w h.puzzle desc) (sym valid.size) described);
         no_private_desc = stands PrivateDesc refl;
-        seed = stands Seed refl;
-        auxinfo = stands AuxInfo refl;
-        ui = stands Ui refl;
-        time = stands Time refl;
+        kept = λ k. stands (Kept k) refl;
         count = stands StateCount refl;
         position = stands Position refl;
         states = rw (states_tail title desc h) states;
@@ -266,13 +273,6 @@ same_history {P} a b puzzle params next extras moves position =
     let same : one ≡ other = cc in
     same
 
-same_extras : (a b : Extras) → a.seed ≡ b.seed → a.auxinfo ≡ b.auxinfo → a.ui ≡ b.ui → a.time ≡ b.time → a ≡ b
-same_extras a b seed auxinfo ui time =
-    let one : Extras = record a { seed = a.seed } in
-    let other : Extras = record b { seed = b.seed } in
-    let same : one ≡ other = cc in
-    same
-
 one_of : {A : Type 0} {a b : A} {values : List A} → values ≡ a ∷ [] → values ≡ b ∷ [] → a ≡ b
 one_of one other = cc
 
@@ -290,18 +290,19 @@ written_saves_no_other {P} game of_game owes h other valid of t =
     let same = same_save game h other t.records front.later valid front.split t.saved in
     let s = same.saved in
     let stands = values_tail game.title desc h in
-    let next = same_params other.next_params h.next_params (sym s.next_params.2.text_is ∙ one_of s.next_params.1 (stands NextParams refl)) in
-    let params = same_params other.params h.params (sym s.params.2.text_is ∙ one_of s.params.1 (stands CurrentParams refl)) in
+    let same_of : (whose : WhoseParams) → params_of other whose ≡ params_of h whose = λ whose.
+    let own = s.params whose in
+    same_params (params_of other whose) (params_of h whose) (sym own.2.text_is ∙ one_of own.1 (stands (ParamsOf whose) refl)) in
+    let next = same_of Next in
+    let params = same_of Current in
+    let own = (s.params Current).2.params in
     let width : other.params.size ≡ p.size = ap (λ (q : Params). q.size) params ∙ valid.size in
     let own_desc = subst (λ d. game.Describes other.params.size other.puzzle d) (one_of s.desc.1 (stands Desc refl)) s.desc.2 in
     let described = subst (λ n. game.Describes n other.puzzle desc) width own_desc in
     let puzzle = same_described p.size h.puzzle other.puzzle desc (owes.own_text h.puzzle of) described in
-    let extras = same_extras other.extras h.extras
-    (same_kept other.extras.seed h.extras.seed (sym s.seed ∙ stands Seed refl))
-    (same_kept other.extras.auxinfo h.extras.auxinfo (sym s.auxinfo ∙ stands AuxInfo refl))
-    (same_kept other.extras.ui h.extras.ui (sym s.ui ∙ stands Ui refl))
-    (same_kept other.extras.time h.extras.time (sym s.time ∙ stands Time refl)) in
-    let largest : p.size ≤ 9 = (let top = s.params.2.params.largest in omega (arith, width)) in
+    let extras = same_extras other.extras h.extras (λ k.
+    same_kept (kept_at other.extras k) (kept_at h.extras k) (sym (s.kept k) ∙ stands (Kept k) refl)) in
+    let largest : p.size ≤ 9 = (let top = own.largest in omega (arith, width)) in
     let fits = all_fit p (start_of p) h.moves largest valid.legal.playable in
     let other_valid = subst (λ q. IsValid (game.puzzle q) other) puzzle s.valid in
     let other_fits = all_fit p (start_of p) other.moves largest other_valid.legal.playable in
@@ -311,8 +312,8 @@ written_saves_no_other {P} game of_game owes h other valid of t =
       record {
         session = valid;
         puzzle_is = of;
-        params_are = subst (λ q. IsParams game.letters q) params s.params.2.params;
-        next_params_are = subst (λ q. IsParams game.letters q) next s.next_params.2.params;
+        params_are = subst (λ q. IsParams game.letters q) params own;
+        next_params_are = subst (λ q. IsParams game.letters q) next (s.params Next).2.params;
       },
     )
   where

@@ -6,13 +6,17 @@ use Rattle.std.proofs.lemmas.List.{append-nil}
 use Rattle.clue_rules.specs.Parameters.{params_text}
 use Rattle.play_midend.specs.declared.moves.Move.{Move}
 use Rattle.play_midend.specs.Histories.{History}
+use Rattle.play_save.specs.declared.key.KeptKey.{KeptKey}
+use Rattle.play_save.specs.declared.key.KeptKey.TheVariants.{Seed, AuxInfo, Ui, Time}
+use Rattle.play_save.specs.declared.key.WhoseParams.TheVariants.{Next}
 use Rattle.play_save.specs.declared.key.Key.{Key}
-use Rattle.play_save.specs.declared.key.Key.TheVariants.{FormatVersion, GameName, NextParams, CurrentParams, Seed, Desc, AuxInfo, Ui, Time, StateCount, Position, State}
-use Rattle.play_save.specs.Keys.{rank}
+use Rattle.play_save.specs.declared.key.Key.TheVariants.{FormatVersion, GameName, ParamsOf, Desc, Kept, StateCount, Position, State}
+use Rattle.play_save.specs.Keys.{rank, kept_at}
 use Rattle.play_save.specs.KeyedRecords.{KeyedRecord, KeyedState, values_of, onto_states, states_in, once_if_kept, is_state, CountsStandFirst, may_be_last, EndsWithState}
+use Rattle.play_save.specs.SaveTexts.{params_of}
 use Rattle.play_save.specs.Written.{with_value, kept_record, state_value, state_record, game_records, body_records, state_records}
-use Rattle.play_save.proofs.RecordLists.{values_of-append, states_in-append, adds_no_state}
-use Rattle.play_save.proofs.WrittenRecords.{is_known, AreKnown}
+use Rattle.play_save.proofs.RecordLists.{values_of-append, states_in-append, no_state_rank}
+use Rattle.play_save.proofs.WrittenRecords.{AreKnown}
 
 -- the records behind the first
 abbrev pub tail_records : {P : Type 0} → List ℕ → List ℕ → History P → List KeyedRecord
@@ -24,30 +28,22 @@ states_of desc ms = map (state_record desc) ms
 -- a key of no state is no state record's
 states_none : (k : Key) (desc : List ℕ) (ms : List Move) → is_state k ≡ false → values_of k (states_of desc ms) ≡ []
 states_none k desc [] header = refl
-states_none k desc (m ∷ ms) header = rw (other k header) (states_none k desc ms header)
-  where
-    other : (j : Key) → is_state j ≡ false → (12 == rank j) ≡ false
-    other (State j) no_state = cc
-    other j no_state = refl
+states_none k desc (m ∷ ms) header = rw (no_state_rank k header) (states_none k desc ms header)
 
 -- bytes that are kept stand with their own key
-kept_values : (k j : Key) (kept : Option (List ℕ))
-    → values_of k (kept_record j kept) ≡ cond (rank j == rank k) (once_if_kept kept) []
+kept_values : (k : Key) (j : KeptKey) (kept : Option (List ℕ))
+    → values_of k (kept_record j kept) ≡ cond (rank (Kept j) == rank k) (once_if_kept kept) []
 kept_values k j None =
-    cond_both (rank j == rank k) [] [] (λ (values : List (List ℕ)). [] ≡ values) (λ is. refl) (λ is. refl)
+    cond_both (rank (Kept j) == rank k) [] [] (λ (values : List (List ℕ)). [] ≡ values) (λ is. refl) (λ is. refl)
 kept_values k j (Some v) = refl
 
 -- the values that are written with a key, state records apart
 abbrev pub values_written : {P : Type 0} → List ℕ → List ℕ → History P → Key → List (List ℕ)
 values_written title desc h FormatVersion = codes "1" ∷ []
 values_written title desc h GameName = title ∷ []
-values_written title desc h NextParams = params_text h.next_params ∷ []
-values_written title desc h CurrentParams = params_text h.params ∷ []
-values_written title desc h Seed = once_if_kept h.extras.seed
+values_written title desc h (ParamsOf whose) = params_text (params_of h whose) ∷ []
 values_written title desc h Desc = desc ∷ []
-values_written title desc h AuxInfo = once_if_kept h.extras.auxinfo
-values_written title desc h Ui = once_if_kept h.extras.ui
-values_written title desc h Time = once_if_kept h.extras.time
+values_written title desc h (Kept k) = once_if_kept (kept_at h.extras k)
 values_written title desc h StateCount = decimal (length h.moves + 1) ∷ []
 values_written title desc h Position = decimal h.position ∷ []
 values_written title desc h k = []
@@ -56,30 +52,24 @@ values_written title desc h k = []
 pub values_tail : {P : Type 0} (title desc : List ℕ) (h : History P) (k : Key)
     → is_state k ≡ false → values_of k (tail_records title desc h) ≡ values_written title desc h k
 values_tail title desc h (State k) no_state = cc
+values_tail title desc h (ParamsOf Next) no_state =
+    let states = states_none (ParamsOf Next) desc h.moves refl in simp (values_of-append, kept_values, states, append-nil)
+values_tail title desc h (Kept Seed) no_state =
+    let states = states_none (Kept Seed) desc h.moves refl in simp (values_of-append, kept_values, states, append-nil)
 values_tail title desc h k no_state =
-    let seed = kept_values k Seed h.extras.seed in
-    let auxinfo = kept_values k AuxInfo h.extras.auxinfo in
-    let ui = kept_values k Ui h.extras.ui in
-    let time = kept_values k Time h.extras.time in
-    let states = states_none k desc h.moves no_state in
-    simp (values_of-append, seed, auxinfo, ui, time, states, append-nil)
+    let states = states_none k desc h.moves no_state in simp (values_of-append, kept_values, states, append-nil)
 
 -- the state records
-states_none_kept : (j : Key) (kept : Option (List ℕ)) → is_state j ≡ false → states_in (kept_record j kept) ≡ []
-states_none_kept j None header = refl
-states_none_kept j (Some v) header = adds_no_state j v [] header
+states_none_kept : (j : KeptKey) (kept : Option (List ℕ)) → states_in (kept_record j kept) ≡ []
+states_none_kept j None = refl
+states_none_kept j (Some v) = refl
 
 states_map : (desc : List ℕ) (ms : List Move) → states_in (states_of desc ms) ≡ map (state_value desc) ms
 states_map desc [] = refl
 states_map desc (m ∷ ms) = ap (λ ss. state_value desc m ∷ ss) (states_map desc ms)
 
 states_body : {P : Type 0} (desc : List ℕ) (h : History P) → states_in (body_records desc h) ≡ []
-states_body desc h =
-    let seed = states_none_kept Seed h.extras.seed refl in
-    let auxinfo = states_none_kept AuxInfo h.extras.auxinfo refl in
-    let ui = states_none_kept Ui h.extras.ui refl in
-    let time = states_none_kept Time h.extras.time refl in
-    simp (states_in-append, seed, auxinfo, ui, time)
+states_body desc h = simp (states_in-append, states_none_kept)
 
 pub states_tail : {P : Type 0} (title desc : List ℕ) (h : History P)
     → states_in (tail_records title desc h) ≡ map (state_value desc) h.moves
@@ -135,9 +125,9 @@ known_append : (xs ys : List KeyedRecord) → AreKnown xs → AreKnown ys → Ar
 known_append [] ys known more = more
 known_append (x ∷ xs) ys known more = (known.0, known_append xs ys known.1 more)
 
-known_kept : (k : Key) (kept : Option (List ℕ)) → is_known k ≡ true → AreKnown (kept_record k kept)
-known_kept k None known = tt
-known_kept k (Some v) known = (known, tt)
+known_kept : (k : KeptKey) (kept : Option (List ℕ)) → AreKnown (kept_record k kept)
+known_kept k None = tt
+known_kept k (Some v) = (refl, tt)
 
 known_states : (desc : List ℕ) (ms : List Move) → AreKnown (states_of desc ms)
 known_states desc [] = tt
@@ -147,9 +137,9 @@ pub known_tail : {P : Type 0} (title desc : List ℕ) (h : History P) → AreKno
 known_tail title desc h =
     known_append (game_records title h) (body_records desc h ++ state_records desc h) (refl, (refl, (refl, (refl, tt))))
     (known_append (body_records desc h) (state_records desc h)
-    (known_append (kept_record Seed h.extras.seed) _ (known_kept Seed h.extras.seed refl) (
+    (known_append (kept_record Seed h.extras.seed) _ (known_kept Seed h.extras.seed) (
       refl,
-      known_append (kept_record AuxInfo h.extras.auxinfo) _ (known_kept AuxInfo h.extras.auxinfo refl)
-          (known_append (kept_record Ui h.extras.ui) _ (known_kept Ui h.extras.ui refl) (known_kept Time h.extras.time refl)),
+      known_append (kept_record AuxInfo h.extras.auxinfo) _ (known_kept AuxInfo h.extras.auxinfo)
+          (known_append (kept_record Ui h.extras.ui) _ (known_kept Ui h.extras.ui) (known_kept Time h.extras.time)),
     ))
     (refl, (refl, known_states desc h.moves)))

@@ -10,8 +10,10 @@ use Rattle.byte_text.specs.Cuts.{Lacks}
 use Rattle.byte_text.specs.Decimals.{has_leading_zero, number_from, decimal_value}
 use Rattle.byte_text.proofs.DecimalLaws.{number_again}
 use Rattle.play_save.specs.declared.key.StateKey.TheVariants.{AnyMove}
+use Rattle.play_save.specs.declared.key.KeptKey.TheVariants.{Seed}
+use Rattle.play_save.specs.declared.key.WhoseParams.TheVariants.{Next}
 use Rattle.play_save.specs.declared.key.Key.{Key}
-use Rattle.play_save.specs.declared.key.Key.TheVariants.{State, Other}
+use Rattle.play_save.specs.declared.key.Key.TheVariants.{ParamsOf, Kept, State, Other}
 use Rattle.play_save.specs.Records.{Entry, AreBreaks, begins_with_break, unpadded, length_at, BeginsWith}
 use Rattle.play_save.specs.Keys.{key_name, padded, key_of}
 use Rattle.play_save.specs.KeyedRecords.{KeyedRecord, keyed, BeginsWithAll}
@@ -50,6 +52,10 @@ is_key : (k : Key) → is_known k ≡ true → IsKey k
 unfolding free_of_colon key_of
 is_key Other known = cc
 is_key (State AnyMove) known =
+    record { eight = refl; colon_free = refl; no_break = refl; name_again = refl; key_again = refl }
+is_key (ParamsOf Next) known =
+    record { eight = refl; colon_free = refl; no_break = refl; name_again = refl; key_again = refl }
+is_key (Kept Seed) known =
     record { eight = refl; colon_free = refl; no_break = refl; name_again = refl; key_again = refl }
 is_key k known = record { eight = refl; colon_free = refl; no_break = refl; name_again = refl; key_again = refl }
 

@@ -17,9 +17,12 @@ use Rattle.play_save.specs.declared.fault.LoadFault.{LoadFault}
 use Rattle.play_save.specs.declared.fault.LoadFault.TheVariants.{NotASave, Malformed, Version, WrongGame, Repeated, EarlyState, Unsupported, BadParams, BadDesc, BadCount, Missing, BadState, TooLarge}
 use Rattle.play_save.specs.declared.key.StateKey.{StateKey}
 use Rattle.play_save.specs.declared.key.StateKey.TheVariants.{AnyMove, SolveMove, RestartMove}
+use Rattle.play_save.specs.declared.key.WhoseParams.{WhoseParams}
+use Rattle.play_save.specs.declared.key.WhoseParams.TheVariants.{Next, Current}
 use Rattle.play_save.specs.declared.key.Key.{Key}
-use Rattle.play_save.specs.declared.key.Key.TheVariants.{SaveFile, FormatVersion, GameName, NextParams, CurrentParams, Seed, Desc, PrivateDesc, AuxInfo, Ui, Time, StateCount, Position, State, Other}
+use Rattle.play_save.specs.declared.key.Key.TheVariants.{SaveFile, FormatVersion, GameName, ParamsOf, Desc, PrivateDesc, Kept, StateCount, Position, State, Other}
 use Rattle.play_save.specs.Records.{Entry, record_at}
+use Rattle.play_save.specs.Keys.{kept_at, each_kept}
 use Rattle.play_save.specs.KeyedRecords.{KeyedRecord, keyed, KeyedState, values_of, states_in}
 use Rattle.play_save.specs.SaveTexts.{SavedGame, collection, longest_save, is_solve}
 
@@ -40,14 +43,16 @@ pub record Met : Type 0 where
   pub name : Bool
   pub next_params : Option (Result Params IdFault)
   pub params : Option (Result Params IdFault)
-  pub seed : Option (List ℕ)
   pub desc : Option (List ℕ)
-  pub auxinfo : Option (List ℕ)
-  pub ui : Option (List ℕ)
-  pub time : Option (List ℕ)
+  pub kept : Extras
   pub count : Option (Option ℕ)
   pub position : Option (Option ℕ)
   pub states : List KeyedState
+
+-- the parameters of a game that were met, and the first of some values
+abbrev pub params_met : Met → WhoseParams → Option (Result Params IdFault)
+params_met m Next = m.next_params
+params_met m Current = m.params
 
 abbrev pub first_of : {A : Type 0} → List A → Option A
 first_of [] = None
@@ -57,13 +62,10 @@ abbrev pub met : {P : Type 0} → SavedGame P → List KeyedRecord → Met
 met game rs = record {
   version = is_some (first_of (values_of FormatVersion rs));
   name = is_some (first_of (values_of GameName rs));
-  next_params = option_map (saved_params_at game) (first_of (values_of NextParams rs));
-  params = option_map (saved_params_at game) (first_of (values_of CurrentParams rs));
-  seed = first_of (values_of Seed rs);
+  next_params = option_map (saved_params_at game) (first_of (values_of (ParamsOf Next) rs));
+  params = option_map (saved_params_at game) (first_of (values_of (ParamsOf Current) rs));
   desc = first_of (values_of Desc rs);
-  auxinfo = first_of (values_of AuxInfo rs);
-  ui = first_of (values_of Ui rs);
-  time = first_of (values_of Time rs);
+  kept = each_kept (λ k. first_of (values_of (Kept k) rs));
   count = option_map count_at (first_of (values_of StateCount rs));
   position = option_map count_at (first_of (values_of Position rs));
   states = states_in rs;
@@ -107,14 +109,10 @@ abbrev pub fault_by : {P : Type 0} → SavedGame P → Met → Key → List ℕ 
 fault_by game m SaveFile value = Some Repeated
 fault_by game m FormatVersion value = once m.version (fault_unless (bytes_eq value (codes "1")) Version)
 fault_by game m GameName value = once m.name (fault_unless (bytes_eq value game.title) WrongGame)
-fault_by game m NextParams value = once (is_some m.next_params) (params_fault (saved_params_at game value))
-fault_by game m CurrentParams value = once (is_some m.params) (params_fault (saved_params_at game value))
-fault_by game m Seed value = once (is_some m.seed) None
+fault_by game m (ParamsOf whose) value = once (is_some (params_met m whose)) (params_fault (saved_params_at game value))
 fault_by game m Desc value = once (is_some m.desc) None
 fault_by game m PrivateDesc value = Some Unsupported
-fault_by game m AuxInfo value = once (is_some m.auxinfo) None
-fault_by game m Ui value = once (is_some m.ui) None
-fault_by game m Time value = once (is_some m.time) None
+fault_by game m (Kept k) value = once (is_some (kept_at m.kept k)) None
 fault_by game m StateCount value =
     once (is_some m.count) (count_fault (λ n position. nat_le position n) (count_at value) m.position)
 fault_by game m Position value = once (is_some m.position) (count_fault nat_le (count_at value) m.count)
@@ -198,13 +196,10 @@ needed_count None = Err Missing
 needed_count (Some None) = Err BadCount
 needed_count (Some (Some n)) = Ok n
 
-abbrev pub extras_in : Met → Extras
-extras_in m = record { seed = m.seed; auxinfo = m.auxinfo; ui = m.ui; time = m.time }
-
 -- the session of a puzzle, or the first state record that is wrong
 abbrev pub session_with : {P : Type 0} → SavedGame P → Met → Params → Params → ℕ → P → Result (History P) LoadFault
 session_with game m params next_params position puzzle =
-    states_played game (started puzzle params next_params (extras_in m)) 1 m.states
+    states_played game (started puzzle params next_params m.kept) 1 m.states
     >>= λ last. Ok (at_position last position)
 
 abbrev pub session_at : {P : Type 0} → SavedGame P → Met → Params → Params → List ℕ → ℕ → Result (History P) LoadFault

@@ -1,23 +1,34 @@
 -- The keys of records: their names, and what each is about.
-use Rattle.std.specs.Prelude.{ℕ, ◌-◌, if◌then◌else◌, List, [], ◌++◌, length, replicate, codes, bytes_eq}
+use Rattle.std.specs.Prelude.{ℕ, ◌-◌, if◌then◌else◌, List, [], ◌++◌, length, replicate, codes, bytes_eq, Option}
+use Rattle.play_midend.specs.declared.extras.Extras.{Extras}
 use Rattle.play_save.specs.declared.key.StateKey.{StateKey}
 use Rattle.play_save.specs.declared.key.StateKey.TheVariants.{AnyMove, SolveMove, RestartMove}
+use Rattle.play_save.specs.declared.key.WhoseParams.{WhoseParams}
+use Rattle.play_save.specs.declared.key.WhoseParams.TheVariants.{Next, Current}
+use Rattle.play_save.specs.declared.key.KeptKey.{KeptKey}
+use Rattle.play_save.specs.declared.key.KeptKey.TheVariants.{Seed, AuxInfo, Ui, Time}
 use Rattle.play_save.specs.declared.key.Key.{Key}
-use Rattle.play_save.specs.declared.key.Key.TheVariants.{SaveFile, FormatVersion, GameName, NextParams, CurrentParams, Seed, Desc, PrivateDesc, AuxInfo, Ui, Time, StateCount, Position, State, Other}
+use Rattle.play_save.specs.declared.key.Key.TheVariants.{SaveFile, FormatVersion, GameName, ParamsOf, Desc, PrivateDesc, Kept, StateCount, Position, State, Other}
 use Rattle.byte_text.specs.Bytes.{space}
 
 -- the keys in the order in which their records are written
+abbrev pub params_rank : WhoseParams → ℕ
+params_rank Next = 3
+params_rank Current = 4
+
+abbrev pub kept_rank : KeptKey → ℕ
+kept_rank Seed = 5
+kept_rank AuxInfo = 7
+kept_rank Ui = 8
+kept_rank Time = 9
+
 abbrev pub rank : Key → ℕ
 rank SaveFile = 0
 rank FormatVersion = 1
 rank GameName = 2
-rank NextParams = 3
-rank CurrentParams = 4
-rank Seed = 5
+rank (ParamsOf whose) = params_rank whose
 rank Desc = 6
-rank AuxInfo = 7
-rank Ui = 8
-rank Time = 9
+rank (Kept k) = kept_rank k
 rank StateCount = 10
 rank Position = 11
 rank (State k) = 12
@@ -30,17 +41,23 @@ state_name AnyMove = codes "MOVE"
 state_name SolveMove = codes "SOLVE"
 state_name RestartMove = codes "RESTART"
 
+abbrev pub params_name : WhoseParams → List ℕ
+params_name Next = codes "PARAMS"
+params_name Current = codes "CPARAMS"
+
+abbrev pub kept_name : KeptKey → List ℕ
+kept_name Seed = codes "SEED"
+kept_name AuxInfo = codes "AUXINFO"
+kept_name Ui = codes "UI"
+kept_name Time = codes "TIME"
+
 abbrev pub key_name : Key → List ℕ
 key_name SaveFile = codes "SAVEFILE"
 key_name FormatVersion = codes "VERSION"
 key_name GameName = codes "GAME"
-key_name NextParams = codes "PARAMS"
-key_name CurrentParams = codes "CPARAMS"
-key_name Seed = codes "SEED"
+key_name (ParamsOf whose) = params_name whose
 key_name Desc = codes "DESC"
-key_name AuxInfo = codes "AUXINFO"
-key_name Ui = codes "UI"
-key_name Time = codes "TIME"
+key_name (Kept k) = kept_name k
 key_name StateCount = codes "NSTATES"
 key_name Position = codes "STATEPOS"
 key_name (State k) = state_name k
@@ -54,14 +71,14 @@ padded name = name ++ replicate (8 - length name) space
 -- what has the name
 abbrev pub kept_key_of : List ℕ → Key
 kept_key_of name =
-    if bytes_eq name (codes "SEED") then Seed else (if bytes_eq name (codes "AUXINFO") then AuxInfo
-    else (if bytes_eq name (codes "UI") then Ui else (if bytes_eq name (codes "TIME") then Time else Other)))
+    if bytes_eq name (codes "SEED") then Kept Seed else (if bytes_eq name (codes "AUXINFO") then Kept AuxInfo
+    else (if bytes_eq name (codes "UI") then Kept Ui else (if bytes_eq name (codes "TIME") then Kept Time else Other)))
 
 abbrev pub header_key_of : List ℕ → Key
 header_key_of name =
     if bytes_eq name (codes "SAVEFILE") then SaveFile else (if bytes_eq name (codes "VERSION") then FormatVersion
-    else (if bytes_eq name (codes "GAME") then GameName else (if bytes_eq name (codes "PARAMS") then NextParams
-    else (if bytes_eq name (codes "CPARAMS") then CurrentParams else (if bytes_eq name (codes "DESC") then Desc
+    else (if bytes_eq name (codes "GAME") then GameName else (if bytes_eq name (codes "PARAMS") then ParamsOf Next
+    else (if bytes_eq name (codes "CPARAMS") then ParamsOf Current else (if bytes_eq name (codes "DESC") then Desc
     else (if bytes_eq name (codes "PRIVDESC") then PrivateDesc else (if bytes_eq name (codes "NSTATES") then StateCount
     else (if bytes_eq name (codes "STATEPOS") then Position else kept_key_of name))))))))
 
@@ -69,3 +86,13 @@ unfoldable pub key_of : List ℕ → Key
 key_of name =
     if bytes_eq name (codes "MOVE") then State AnyMove else (if bytes_eq name (codes "SOLVE") then State SolveMove
     else (if bytes_eq name (codes "RESTART") then State RestartMove else header_key_of name))
+
+-- the value that is kept with a key, and all of them by their keys
+abbrev pub kept_at : Extras → KeptKey → Option (List ℕ)
+kept_at extras Seed = extras.seed
+kept_at extras AuxInfo = extras.auxinfo
+kept_at extras Ui = extras.ui
+kept_at extras Time = extras.time
+
+abbrev pub each_kept : (KeptKey → Option (List ℕ)) → Extras
+each_kept value = record { seed = value Seed; auxinfo = value AuxInfo; ui = value Ui; time = value Time }

@@ -5,6 +5,7 @@ use Rattle.trail_solver.specs.Puzzles.{Puzzle}
 use Rattle.trail_solver.specs.declared.rules.Rules.{Ghosts as RulesGhosts}
 use Rattle.clue_rules.specs.declared.game.Game.{Ghosts as GameGhosts}
 use Rattle.clue_rules.specs.declared.id_fault.IdFault.{IdFault}
+use Rattle.clue_rules.specs.declared.params.Params.{Params}
 use Rattle.clue_rules.specs.Parameters.{IsParamText}
 use Rattle.clue_rules.specs.GameIds.{describes_at}
 use Rattle.play_midend.specs.declared.moves.Move.{Move}
@@ -13,7 +14,11 @@ use Rattle.play_midend.specs.MoveTexts.{IsMoveText}
 use Rattle.play_midend.specs.Histories.{History, IsValid}
 use Rattle.play_save.specs.declared.key.StateKey.{StateKey}
 use Rattle.play_save.specs.declared.key.StateKey.TheVariants.{AnyMove, SolveMove, RestartMove}
-use Rattle.play_save.specs.declared.key.Key.TheVariants.{SaveFile, FormatVersion, GameName, NextParams, CurrentParams, Seed, Desc, PrivateDesc, AuxInfo, Ui, Time, StateCount, Position}
+use Rattle.play_save.specs.declared.key.KeptKey.{KeptKey}
+use Rattle.play_save.specs.declared.key.WhoseParams.{WhoseParams}
+use Rattle.play_save.specs.declared.key.WhoseParams.TheVariants.{Next, Current}
+use Rattle.play_save.specs.declared.key.Key.TheVariants.{SaveFile, FormatVersion, GameName, ParamsOf, Desc, PrivateDesc, Kept, StateCount, Position}
+use Rattle.play_save.specs.Keys.{kept_at}
 use Rattle.play_save.specs.Records.{Entry, BeginsWith}
 use Rattle.play_save.specs.KeyedRecords.{KeyedRecord, KeyedState, BeginsWithAll, values_of, states_in, StandsOnce, once_if_kept, CountsStandFirst, EndsWithState}
 
@@ -73,19 +78,20 @@ HaveStates game p [] (s ∷ ss) = ⊥
 HaveStates game p (m ∷ ms) [] = ⊥
 HaveStates game p (m ∷ ms) (s ∷ ss) = IsStateOf game p m s.key s.value × HaveStates game p ms ss
 
+-- the parameters of a game that a session names
+abbrev pub params_of : {P : Type 0} → History P → WhoseParams → Params
+params_of h Next = h.next_params
+params_of h Current = h.params
+
 -- the records behind the first, up to the last that is needed
 pub record AreSaved {P : Type 0} (game : SavedGame P) (h : History P) (rs : List KeyedRecord) : Type 0 where
   pub no_second_head : values_of SaveFile rs ≡ []
   pub version : values_of FormatVersion rs ≡ codes "1" ∷ []
   pub name : values_of GameName rs ≡ game.title ∷ []
-  pub next_params : StandsOnce NextParams (IsParamText game.letters h.next_params) rs
-  pub params : StandsOnce CurrentParams (IsParamText game.letters h.params) rs
+  pub params : (whose : WhoseParams) → StandsOnce (ParamsOf whose) (IsParamText game.letters (params_of h whose)) rs
   pub desc : StandsOnce Desc (game.Describes h.params.size h.puzzle) rs
   pub no_private_desc : values_of PrivateDesc rs ≡ []
-  pub seed : values_of Seed rs ≡ once_if_kept h.extras.seed
-  pub auxinfo : values_of AuxInfo rs ≡ once_if_kept h.extras.auxinfo
-  pub ui : values_of Ui rs ≡ once_if_kept h.extras.ui
-  pub time : values_of Time rs ≡ once_if_kept h.extras.time
+  pub kept : (k : KeptKey) → values_of (Kept k) rs ≡ once_if_kept (kept_at h.extras k)
   pub count : values_of StateCount rs ≡ decimal (length h.moves + 1) ∷ []
   pub position : values_of Position rs ≡ decimal h.position ∷ []
   pub states : HaveStates game h.puzzle h.moves (states_in rs)

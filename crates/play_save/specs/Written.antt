@@ -7,8 +7,11 @@ use Rattle.play_midend.specs.MoveTexts.{move_text}
 use Rattle.play_midend.specs.Steps.{is_restart}
 use Rattle.play_midend.specs.Histories.{History}
 use Rattle.play_save.specs.declared.key.StateKey.TheVariants.{AnyMove, SolveMove, RestartMove}
+use Rattle.play_save.specs.declared.key.KeptKey.{KeptKey}
+use Rattle.play_save.specs.declared.key.KeptKey.TheVariants.{Seed, AuxInfo, Ui, Time}
+use Rattle.play_save.specs.declared.key.WhoseParams.TheVariants.{Next, Current}
 use Rattle.play_save.specs.declared.key.Key.{Key}
-use Rattle.play_save.specs.declared.key.Key.TheVariants.{SaveFile, FormatVersion, GameName, NextParams, CurrentParams, Seed, Desc, AuxInfo, Ui, Time, StateCount, Position, State}
+use Rattle.play_save.specs.declared.key.Key.TheVariants.{SaveFile, FormatVersion, GameName, ParamsOf, Desc, Kept, StateCount, Position, State}
 use Rattle.play_save.specs.Keys.{key_name, padded}
 use Rattle.play_save.specs.KeyedRecords.{KeyedRecord, KeyedState}
 use Rattle.play_save.specs.SaveTexts.{collection, is_solve}
@@ -27,9 +30,9 @@ abbrev pub with_value : Key → List ℕ → KeyedRecord
 with_value k value = record { key = k; value = value }
 
 -- bytes that are kept have a record
-abbrev pub kept_record : Key → Option (List ℕ) → List KeyedRecord
+abbrev pub kept_record : KeptKey → Option (List ℕ) → List KeyedRecord
 kept_record k None = []
-kept_record k (Some value) = with_value k value ∷ []
+kept_record k (Some value) = with_value (Kept k) value ∷ []
 
 -- the state of a move, with the description of the puzzle for a restart
 abbrev pub state_value : List ℕ → Move → KeyedState
@@ -44,8 +47,8 @@ state_record desc m = with_value (State (state_value desc m).key) (state_value d
 -- the version, the game's name and the parameters
 abbrev pub game_records : {P : Type 0} → List ℕ → History P → List KeyedRecord
 game_records title h =
-    with_value FormatVersion (codes "1") ∷ with_value GameName title ∷ with_value NextParams (params_text h.next_params)
-    ∷ with_value CurrentParams (params_text h.params) ∷ []
+    with_value FormatVersion (codes "1") ∷ with_value GameName title ∷ with_value (ParamsOf Next) (params_text h.next_params)
+    ∷ with_value (ParamsOf Current) (params_text h.params) ∷ []
 
 -- the same behind the record that names the format
 abbrev pub head_records : {P : Type 0} → List ℕ → History P → List KeyedRecord

@@ -2,13 +2,14 @@
 
 ghost use Rattle.std.specs.Prelude.{◌≡◌, ℕ, ◌+◌, ◌≤◌, true, false, Some, None, Ok, Err, ok_or, OnOk, IfOk, IfErr, is_some, length, bytes_eq, codes};
 ghost use Rattle.std.specs.Result.{result_ok};
-ghost use Rattle.play_save.specs.declared.key.Key.TheVariants.{FormatVersion, GameName, NextParams, CurrentParams, StateCount, Position, State};
+ghost use Rattle.play_save.specs.declared.key.Key.TheVariants.{FormatVersion, GameName, ParamsOf, StateCount, Position, State};
+ghost use Rattle.play_save.specs.Keys.{kept_at};
 ghost use Rattle.play_save.specs.SaveTexts.{saves_of};
-ghost use Rattle.play_save.specs.FirstFaults.{is_complete, count_at, once, text_fault, state_fault, saved_params_at, fault_unless};
-ghost use Rattle.play_save.specs.Taking.{bytes_of, met_of, nothing_met, Taken};
+ghost use Rattle.play_save.specs.FirstFaults.{is_complete, count_at, once, params_fault, text_fault, state_fault, saved_params_at, fault_unless};
+ghost use Rattle.play_save.specs.Taking.{as_read, bytes_of, kept_of, with_kept, met_of, nothing_met, Taken};
 
 use crate::fault::LoadFault;
-use crate::key::{Key, StateKey};
+use crate::key::{KeptKey, Key, StateKey, WhoseParams};
 use byte_text::number;
 use clue_rules::{Game, Params};
 use play_midend::{PlayFault, read_move};
@@ -24,6 +25,15 @@ pub(crate) struct StateRecord<'a> {
     pub(crate) value: &'a [u8],
 }
 
+/// The values that are kept as they are.
+#[derive(Clone, Copy, Debug)]
+pub(crate) struct KeptValues<'a> {
+    pub(crate) seed: Option<&'a [u8]>,
+    pub(crate) auxinfo: Option<&'a [u8]>,
+    pub(crate) ui: Option<&'a [u8]>,
+    pub(crate) time: Option<&'a [u8]>,
+}
+
 /// What the records of a save file said so far.
 #[derive(Drop, Debug)]
 pub(crate) struct Found<'a> {
@@ -31,11 +41,8 @@ pub(crate) struct Found<'a> {
     pub(crate) name: bool,
     pub(crate) next_params: Option<Params>,
     pub(crate) params: Option<Params>,
-    pub(crate) seed: Option<&'a [u8]>,
     pub(crate) desc: Option<&'a [u8]>,
-    pub(crate) auxinfo: Option<&'a [u8]>,
-    pub(crate) ui: Option<&'a [u8]>,
-    pub(crate) time: Option<&'a [u8]>,
+    pub(crate) kept: KeptValues<'a>,
     pub(crate) count: Option<usize>,
     pub(crate) position: Option<usize>,
     // The state records are played once the puzzle is known, which may stand behind them.
@@ -81,6 +88,19 @@ fn params<P: Game>(value: &[u8]) -> Result<Params, LoadFault>
     Params::read::<P>(value).map_err(|_| LoadFault::BadParams)
 }
 
+// Parameters that may be met once.
+fn keep_params<P: Game>(met: &mut Option<Params>, value: &[u8]) -> Result<(), LoadFault>
+    ensures ok { let read = saved_params_at (saves_of P.Rules P.Game.own) value.now in
+        OnOk result ((once (is_some (as_read met.old)) (params_fault read) ≡ None)
+        × (as_read met.new ≡ Some read)) }
+    ensures err { let read = saved_params_at (saves_of P.Rules P.Game.own) value.now in
+        IfErr result (λ fault. once (is_some (as_read met.old)) (params_fault read) ≡ Some fault) }
+{
+    once(met.is_some())?;
+    *met = Some(params::<P>(value)?);
+    Ok(())
+}
+
 // Hints and spent signs are refused before their turn to be played has come.
 fn check_state(key: StateKey, value: &[u8]) -> Result<(), LoadFault>
     ensures ok { OnOk result (state_fault key value.now ≡ None) }
@@ -95,6 +115,23 @@ fn check_state(key: StateKey, value: &[u8]) -> Result<(), LoadFault>
     }
 }
 
+impl<'a> KeptValues<'a> {
+    // One more of them, that may be met once.
+    fn take(&mut self, key: KeptKey, value: &'a [u8]) -> Result<(), LoadFault>
+        ensures ok { OnOk result ((kept_at (kept_of self.old) key ≡ None)
+            × (kept_of self.new ≡ with_kept (kept_of self.old) key value.now)) }
+        ensures err { IfErr result (λ fault.
+            (is_some (kept_at (kept_of self.old) key) ≡ true) × (fault ≡ LoadFault.Repeated)) }
+    {
+        match key {
+            KeptKey::Seed => keep(&mut self.seed, value),
+            KeptKey::AuxInfo => keep(&mut self.auxinfo, value),
+            KeptKey::Ui => keep(&mut self.ui, value),
+            KeptKey::Time => keep(&mut self.time, value),
+        }
+    }
+}
+
 impl<'a> Found<'a> {
     /// Nothing yet.
     pub(crate) fn new(alloc: Global) -> Found<'a>
@@ -105,11 +142,13 @@ impl<'a> Found<'a> {
             name: false,
             next_params: None,
             params: None,
-            seed: None,
             desc: None,
-            auxinfo: None,
-            ui: None,
-            time: None,
+            kept: KeptValues {
+                seed: None,
+                auxinfo: None,
+                ui: None,
+                time: None,
+            },
             count: None,
             position: None,
             states: Vec::new(alloc),
@@ -136,13 +175,9 @@ impl<'a> Found<'a> {
             Key::PrivateDesc => Err(LoadFault::Unsupported),
             Key::FormatVersion => self.take_version::<P>(value),
             Key::GameName => self.take_name::<P>(value),
-            Key::NextParams => self.take_next_params::<P>(value),
-            Key::CurrentParams => self.take_params::<P>(value),
-            Key::Seed => keep(&mut self.seed, value),
+            Key::ParamsOf(whose) => self.take_params::<P>(whose, value),
             Key::Desc => keep(&mut self.desc, value),
-            Key::AuxInfo => keep(&mut self.auxinfo, value),
-            Key::Ui => keep(&mut self.ui, value),
-            Key::Time => keep(&mut self.time, value),
+            Key::Kept(key) => self.kept.take(key, value),
             Key::StateCount => self.take_count::<P>(value),
             Key::Position => self.take_position::<P>(value),
             Key::State(key) => self.take_state::<P>(key, value),
@@ -174,22 +209,14 @@ impl<'a> Found<'a> {
         Ok(())
     }
 
-    fn take_next_params<P: Game>(&mut self, value: &'a [u8]) -> Result<(), LoadFault>
+    fn take_params<P: Game>(&mut self, whose: WhoseParams, value: &'a [u8]) -> Result<(), LoadFault>
         ensures { Taken (saves_of P.Rules P.Game.own)
-            (met_of self.old) NextParams value.now result (met_of self.new) }
+            (met_of self.old) (ParamsOf whose) value.now result (met_of self.new) }
     {
-        once(self.next_params.is_some())?;
-        self.next_params = Some(params::<P>(value)?);
-        Ok(())
-    }
-
-    fn take_params<P: Game>(&mut self, value: &'a [u8]) -> Result<(), LoadFault>
-        ensures { Taken (saves_of P.Rules P.Game.own)
-            (met_of self.old) CurrentParams value.now result (met_of self.new) }
-    {
-        once(self.params.is_some())?;
-        self.params = Some(params::<P>(value)?);
-        Ok(())
+        match whose {
+            WhoseParams::Next => keep_params::<P>(&mut self.next_params, value),
+            WhoseParams::Current => keep_params::<P>(&mut self.params, value),
+        }
     }
 
     fn take_count<P: Game>(&mut self, value: &'a [u8]) -> Result<(), LoadFault>

@@ -14,6 +14,28 @@ pub(crate) enum StateKey {
     RestartMove,
 }
 
+/// Which game the parameters are of.
+#[derive(Clone, Copy, Debug, PartialEq, Eq)]
+pub(crate) enum WhoseParams {
+    /// `PARAMS`, of the next game.
+    Next,
+    /// `CPARAMS`, of the current game.
+    Current,
+}
+
+/// A key whose value is kept as it is.
+#[derive(Clone, Copy, Debug, PartialEq, Eq)]
+pub(crate) enum KeptKey {
+    /// `SEED`, of the usual program's generator.
+    Seed,
+    /// `AUXINFO`, what the usual program's solver needs besides.
+    AuxInfo,
+    /// `UI`, of the usual program's user interface.
+    Ui,
+    /// `TIME`, that was played.
+    Time,
+}
+
 /// What a record is about.
 #[derive(Clone, Copy, Debug, PartialEq, Eq)]
 pub(crate) enum Key {
@@ -23,22 +45,14 @@ pub(crate) enum Key {
     FormatVersion,
     /// `GAME`, the game's name.
     GameName,
-    /// `PARAMS`, the parameters of the next game.
-    NextParams,
-    /// `CPARAMS`, the parameters of the current game.
-    CurrentParams,
-    /// `SEED`, of the usual program's generator.
-    Seed,
+    /// The parameters of a game.
+    ParamsOf(WhoseParams),
     /// `DESC`, the description of the puzzle.
     Desc,
     /// `PRIVDESC`, a private description.
     PrivateDesc,
-    /// `AUXINFO`, what the usual program's solver needs besides.
-    AuxInfo,
-    /// `UI`, of the usual program's user interface.
-    Ui,
-    /// `TIME`, that was played.
-    Time,
+    /// One of those whose value is kept as it is.
+    Kept(KeptKey),
     /// `NSTATES`, how many states there are.
     StateCount,
     /// `STATEPOS`, the number of the state that is shown.
@@ -77,9 +91,9 @@ impl Key {
         } else if name == b"GAME".as_slice() {
             Key::GameName
         } else if name == b"PARAMS".as_slice() {
-            Key::NextParams
+            Key::ParamsOf(WhoseParams::Next)
         } else if name == b"CPARAMS".as_slice() {
-            Key::CurrentParams
+            Key::ParamsOf(WhoseParams::Current)
         } else if name == b"DESC".as_slice() {
             Key::Desc
         } else if name == b"PRIVDESC".as_slice() {
@@ -98,13 +112,13 @@ impl Key {
         ensures { result ≡ kept_key_of name.now }
     {
         if name == b"SEED".as_slice() {
-            Key::Seed
+            Key::Kept(KeptKey::Seed)
         } else if name == b"AUXINFO".as_slice() {
-            Key::AuxInfo
+            Key::Kept(KeptKey::AuxInfo)
         } else if name == b"UI".as_slice() {
-            Key::Ui
+            Key::Kept(KeptKey::Ui)
         } else if name == b"TIME".as_slice() {
-            Key::Time
+            Key::Kept(KeptKey::Time)
         } else {
             Key::Other
         }
@@ -118,14 +132,14 @@ impl Key {
             Key::SaveFile => b"SAVEFILE",
             Key::FormatVersion => b"VERSION ",
             Key::GameName => b"GAME    ",
-            Key::NextParams => b"PARAMS  ",
-            Key::CurrentParams => b"CPARAMS ",
-            Key::Seed => b"SEED    ",
+            Key::ParamsOf(WhoseParams::Next) => b"PARAMS  ",
+            Key::ParamsOf(WhoseParams::Current) => b"CPARAMS ",
+            Key::Kept(KeptKey::Seed) => b"SEED    ",
             Key::Desc => b"DESC    ",
             Key::PrivateDesc => b"PRIVDESC",
-            Key::AuxInfo => b"AUXINFO ",
-            Key::Ui => b"UI      ",
-            Key::Time => b"TIME    ",
+            Key::Kept(KeptKey::AuxInfo) => b"AUXINFO ",
+            Key::Kept(KeptKey::Ui) => b"UI      ",
+            Key::Kept(KeptKey::Time) => b"TIME    ",
             Key::StateCount => b"NSTATES ",
             Key::Position => b"STATEPOS",
             Key::State(StateKey::AnyMove) => b"MOVE    ",

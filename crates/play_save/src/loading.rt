@@ -6,11 +6,11 @@ ghost use Rattle.byte_text.specs.Reading.{Gives, GivesUnless};
 ghost use Rattle.play_midend.specs.Histories.{History, started, at_position};
 ghost use Rattle.play_save.specs.Records.{record_at};
 ghost use Rattle.play_save.specs.SaveTexts.{saves_of, is_solve, SaveText};
-ghost use Rattle.play_save.specs.FirstFaults.{behind_head, records_of, extras_in, met_in, state_move, state_played, states_played, session_of, load_at};
-ghost use Rattle.play_save.specs.Taking.{IsPlayable, bytes_of, met_of, state_of};
+ghost use Rattle.play_save.specs.FirstFaults.{behind_head, records_of, met_in, state_move, state_played, states_played, session_of, load_at};
+ghost use Rattle.play_save.specs.Taking.{IsPlayable, bytes_of, kept_of, met_of, state_of};
 
 use crate::fault::LoadFault;
-use crate::found::{Found, StateRecord};
+use crate::found::{Found, KeptValues, StateRecord};
 use crate::key::{Key, StateKey};
 use crate::record::next_record;
 use clue_rules::{Game, Params};
@@ -66,14 +66,14 @@ fn kept(alloc: Global, bytes: Option<&[u8]>) -> Result<Option<KeptBytes>, AllocE
     }
 }
 
-fn extras(alloc: Global, found: &Found) -> Result<Extras, AllocError>
-    ensures { IfOk result (λ extras. extras ≡ extras_in (met_of found.now)) }
+fn extras(alloc: Global, values: KeptValues) -> Result<Extras, AllocError>
+    ensures { IfOk result (λ extras. extras ≡ kept_of values.entry) }
 {
     Ok(Extras {
-        seed: kept(alloc, found.seed)?,
-        auxinfo: kept(alloc, found.auxinfo)?,
-        ui: kept(alloc, found.ui)?,
-        time: kept(alloc, found.time)?,
+        seed: kept(alloc, values.seed)?,
+        auxinfo: kept(alloc, values.auxinfo)?,
+        ui: kept(alloc, values.ui)?,
+        time: kept(alloc, values.time)?,
     })
 }
 
@@ -165,14 +165,14 @@ fn start<P: Game>(
     params: Params,
     next_params: Params,
     puzzle: P,
-    found: &Found,
+    values: KeptValues,
 ) -> Result<Session<P>, LoadFault>
     requires { params.size ≡ (P.puzzle puzzle).size }
     ensures ok { IfOk result (λ s.
-        s ≡ started puzzle params next_params (extras_in (met_of found.now))) }
+        s ≡ started puzzle params next_params (kept_of values.entry)) }
     ensures err { IfErr result (λ fault. fault ≡ LoadFault.OutOfMemory) }
 {
-    let extras = extras(alloc, found)?;
+    let extras = extras(alloc, values)?;
     match Session::new(alloc, params, next_params, puzzle, extras) {
         Ok(session) => Ok(session),
         Err(_) => Err(LoadFault::OutOfMemory),
@@ -194,7 +194,7 @@ fn session<P: Game>(alloc: Global, found: &Found) -> Result<Session<P>, LoadFaul
     let desc = found.desc.ok_or(LoadFault::Missing)?;
     let position = found.position.ok_or(LoadFault::Missing)?;
     let puzzle = read_puzzle::<P>(params.size, desc)?;
-    let mut session = start(alloc, params, next_params, puzzle, found)?;
+    let mut session = start(alloc, params, next_params, puzzle, found.kept)?;
     play_states(&mut session, &found.states)?;
     go_back(&mut session, position);
     Ok(session)

@@ -6,7 +6,7 @@ ghost use Rattle.play_midend.specs.Steps.{is_restart};
 ghost use Rattle.play_save.specs.Written.{with_value, record_text, records_text, kept_record, head_records, body_records, state_record, state_records, save_of};
 
 use crate::fault::LoadFault;
-use crate::key::{Key, StateKey};
+use crate::key::{KeptKey, Key, StateKey, WhoseParams};
 use crate::loading::{COLLECTION, is_solve};
 use clue_rules::Game;
 use play_midend::{Extras, KeptBytes, Move, Session, write_move};
@@ -40,12 +40,12 @@ fn put_count(text: &mut Vec<u8>, key: Key, count: usize) -> Result<(), AllocErro
 }
 
 // Writes bytes that are kept, where there are any.
-fn put_kept(text: &mut Vec<u8>, key: Key, kept: &Option<KeptBytes>) -> Result<(), AllocError>
+fn put_kept(text: &mut Vec<u8>, key: KeptKey, kept: &Option<KeptBytes>) -> Result<(), AllocError>
     ensures { OnOk result (text.new.items
         ≡ text.old.items ++ records_text (kept_record key kept.now)) }
 {
     if let Some(bytes) = kept {
-        put(text, key, bytes.as_slice())?;
+        put(text, Key::Kept(key), bytes.as_slice())?;
     }
     Ok(())
 }
@@ -59,12 +59,12 @@ fn put_head<P: Game>(text: &mut Vec<u8>, session: &Session<P>) -> Result<(), All
     put(text, Key::GameName, P::name().as_bytes())?;
     put(
         text,
-        Key::NextParams,
+        Key::ParamsOf(WhoseParams::Next),
         session.next_params().write().as_slice(),
     )?;
     put(
         text,
-        Key::CurrentParams,
+        Key::ParamsOf(WhoseParams::Current),
         session.params().write().as_slice(),
     )?;
     Ok(())
@@ -79,11 +79,11 @@ fn put_body<P: Game>(
         ≡ text.old.items ++ records_text (body_records desc.now session.now)) }
 {
     let extras = session.extras();
-    put_kept(text, Key::Seed, &extras.seed)?;
+    put_kept(text, KeptKey::Seed, &extras.seed)?;
     put(text, Key::Desc, desc)?;
-    put_kept(text, Key::AuxInfo, &extras.auxinfo)?;
-    put_kept(text, Key::Ui, &extras.ui)?;
-    put_kept(text, Key::Time, &extras.time)?;
+    put_kept(text, KeptKey::AuxInfo, &extras.auxinfo)?;
+    put_kept(text, KeptKey::Ui, &extras.ui)?;
+    put_kept(text, KeptKey::Time, &extras.time)?;
     Ok(())
 }
 
