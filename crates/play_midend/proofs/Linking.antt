@@ -8,7 +8,7 @@ use Rattle.trail_solver.specs.Puzzles.{Puzzle}
 use Rattle.play_midend.specs.declared.moves.Move.{Move}
 use Rattle.play_midend.specs.declared.session.Record.{Record}
 use Rattle.play_midend.specs.Steps.{step, start_of, replay_from, ArePlayable, IsLegal, is_restart, begins_with_restart}
-use Rattle.play_midend.specs.Histories.{most_states}
+use Rattle.play_midend.specs.declared.session.TheConstants.{MOST_STATES}
 use Rattle.play_midend.specs.Links.{moves_of, IsBack, IsAhead, ArePast, AreLater, AreLinked}
 use Rattle.play_midend.proofs.Replaying.{after_step, ArePlayable-append, restart_first-take, restart_first-push}
 
@@ -113,7 +113,7 @@ linked_ahead p records n board r q new h inside is at made fits back =
 
 -- a new record behind the past ones
 pub linked_new : (p : Puzzle) (records : List Record) (n : ℕ) (board : BoardValue) (r : Record) (next : BoardValue)
-    → AreLinked p records n board → IsAhead p board r next → n + 2 ≤ most_states → (n ≡ 0 → is_restart r.made ≡ false)
+    → AreLinked p records n board → IsAhead p board r next → n + 2 ≤ MOST_STATES → (n ≡ 0 → is_restart r.made ≡ false)
     → AreLinked p (take n records ++ r ∷ []) n board
 linked_new p records n board r next h ahead room restart =
     let inside = h.inside in

@@ -9,7 +9,8 @@ use Rattle.play_midend.specs.declared.extras.Extras.{Extras}
 use Rattle.play_midend.specs.declared.moves.Move.{Move}
 use Rattle.play_midend.specs.declared.fault.PlayFault.{PlayFault}
 use Rattle.play_midend.specs.Steps.{refusal_of, moved, step, start_of, replay, ArePlayable, IsLegal, is_restart, begins_with_restart}
-use Rattle.play_midend.specs.Histories.{History, most_states, past, shown, started, with_move, at_position, first_state_refusal, restart_refusal, full_refusal, refusal_in, played, undone}
+use Rattle.play_midend.specs.declared.session.TheConstants.{MOST_STATES}
+use Rattle.play_midend.specs.Histories.{History, past, shown, started, with_move, at_position, first_state_refusal, restart_refusal, full_refusal, refusal_in, played, undone}
 use Rattle.play_midend.specs.MoveLists.{result_and_then, played_all, with_moves, undone_times}
 use Rattle.play_midend.specs.Laws.{LegalListsPlay, AcceptedListsAreLegal, UndoLeadsBack, HistoriesAreReached}
 use Rattle.play_midend.proofs.Making.{step_allowed}
@@ -51,14 +52,14 @@ restart_allowed position m restart =
       | false ↦ λ is. refl
     ] refl
 
-room_left : (position : ℕ) → position + 1 ≤ most_states → full_refusal position ≡ None
+room_left : (position : ℕ) → position + 1 ≤ MOST_STATES → full_refusal position ≡ None
 room_left position room =
-    let test : (position == most_states) ≡ false = apart_eqb position most_states (λ full. absurd (omega arith)) in
+    let test : (position == MOST_STATES) ≡ false = apart_eqb position MOST_STATES (λ full. absurd (omega arith)) in
     rw test refl
 
 -- a move behind the last
 pub played_last : {P : Type 0} (p : Puzzle) (h : History P) (ks : List Move) (m : Move) → IsOk (step p (replay p ks) m)
-    → length ks + 2 ≤ most_states → (length ks ≡ 0 → is_restart m ≡ false) → played p (with_moves h ks) m ≡ Ok (with_moves h (ks ++ m ∷ []))
+    → length ks + 2 ≤ MOST_STATES → (length ks ≡ 0 → is_restart m ≡ false) → played p (with_moves h ks) m ≡ Ok (with_moves h (ks ++ m ∷ []))
 played_last {P} p h ks m stepped room restart =
     let on_board : refusal_of p (shown p (with_moves h ks)) m ≡ None = rw (shown_all p h ks) (not_refused (refusal_of p (replay p ks) m) (moved p (replay p ks) m) stepped) in
     let first = restart_allowed (length ks + 1) m (λ one. restart (omega arith)) in
@@ -68,7 +69,7 @@ played_last {P} p h ks m stepped room restart =
 
 -- moves that can be made in turn are accepted
 played_along : {P : Type 0} (p : Puzzle) (h : History P) (ks ms : List Move) → ArePlayable p (replay p ks) ms
-    → length ks + length ms + 1 ≤ most_states → (length ks ≡ 0 → begins_with_restart ms ≡ false)
+    → length ks + length ms + 1 ≤ MOST_STATES → (length ks ≡ 0 → begins_with_restart ms ≡ false)
     → played_all p (with_moves h ks) ms ≡ Ok (with_moves h (ks ++ ms))
 played_along {P} p h ks [] playable room restart = ap (λ ms. let r : Result (History P) PlayFault = Ok (with_moves h ms) in r) (sym (append-nil ks))
 played_along {P} p h ks (m ∷ ms) playable room restart =
@@ -84,10 +85,10 @@ played_along {P} p h ks (m ∷ ms) playable room restart =
 record AcceptedAlong {P : Type 0} (p : Puzzle) (h : History P) (ks ms : List Move) (last : History P) : Type 0 where
   pub playable : ArePlayable p (replay p ks) ms
   pub restart : length ks ≡ 0 → begins_with_restart ms ≡ false
-  pub few : length (ks ++ ms) + 1 ≤ most_states
+  pub few : length (ks ++ ms) + 1 ≤ MOST_STATES
   pub last_is : last ≡ with_moves h (ks ++ ms)
 
-accepted_along : {P : Type 0} (p : Puzzle) (h : History P) (ks ms : List Move) (last : History P) → length ks + 1 ≤ most_states
+accepted_along : {P : Type 0} (p : Puzzle) (h : History P) (ks ms : List Move) (last : History P) → length ks + 1 ≤ MOST_STATES
     → played_all p (with_moves h ks) ms ≡ Ok last → AcceptedAlong p h ks ms last
 accepted_along p h ks [] last room is =
     let e : with_moves h ks ≡ last = cc in
@@ -111,13 +112,13 @@ accepted_along {P} p h ks (m ∷ ms) last room is =
     record {
       playable = (stepped, subst (λ (b : BoardValue). ArePlayable p b ms) (replay_from-append p (start_of p) ks (m ∷ [])) more.playable);
       restart = λ none. allowed.restart (omega arith);
-      few = subst (λ (xs : List Move). length xs + 1 ≤ most_states) same more.few;
+      few = subst (λ (xs : List Move). length xs + 1 ≤ MOST_STATES) same more.few;
       last_is = more.last_is ∙ ap (λ xs. with_moves h xs) same;
     }
 
 -- from a new session
 pub legal_list_played : {P : Type 0} (p : Puzzle) (puzzle : P) (params next_params : Params) (extras : Extras) (ms : List Move)
-    → IsLegal p ms → length ms + 1 ≤ most_states
+    → IsLegal p ms → length ms + 1 ≤ MOST_STATES
     → played_all p (started puzzle params next_params extras) ms ≡ Ok (with_moves (started puzzle params next_params extras) ms)
 legal_list_played p puzzle params next_params extras ms legal few =
     played_along p (started puzzle params next_params extras) [] ms legal.playable (omega arith) (λ none. legal.no_restart_first)
@@ -125,7 +126,7 @@ legal_list_played p puzzle params next_params extras ms legal few =
 pub accepted_list_legal : {P : Type 0} (p : Puzzle) (puzzle : P) (params next_params : Params) (extras : Extras) (ms : List Move)
     (last : History P)
     → played_all p (started puzzle params next_params extras) ms ≡ Ok last
-    → IsLegal p ms × (length ms + 1 ≤ most_states) × (last ≡ with_moves (started puzzle params next_params extras) ms)
+    → IsLegal p ms × (length ms + 1 ≤ MOST_STATES) × (last ≡ with_moves (started puzzle params next_params extras) ms)
 accepted_list_legal p puzzle params next_params extras ms last is =
     let all = accepted_along p (started puzzle params next_params extras) [] ms last (omega arith) is in
     (record { playable = all.playable; no_restart_first = all.restart refl }, all.few, all.last_is)

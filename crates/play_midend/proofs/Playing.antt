@@ -13,7 +13,8 @@ use Rattle.play_midend.specs.declared.session.Session.TheInside.{Inside}
 use Rattle.play_midend.specs.declared.fault.PlayFault.{PlayFault}
 use Rattle.play_midend.specs.declared.fault.PlayFault.TheVariants.{HistoryFull, NothingToRestart}
 use Rattle.play_midend.specs.Steps.{is_restart, refusal_of, unless_refused, moved}
-use Rattle.play_midend.specs.Histories.{History, most_states, past, shown, first_state_refusal, restart_refusal, full_refusal, refusal_in, with_move, played, IsOnlySolution, IsRefusal, IsSolveRefusal, at_position}
+use Rattle.play_midend.specs.declared.session.TheConstants.{MOST_STATES}
+use Rattle.play_midend.specs.Histories.{History, past, shown, first_state_refusal, restart_refusal, full_refusal, refusal_in, with_move, played, IsOnlySolution, IsRefusal, IsSolveRefusal, at_position}
 use Rattle.play_midend.specs.Links.{moves_of, viewed, AreLinked}
 use Rattle.trail_solver.proofs.SolutionTests.{Decides-solves_test}
 use Rattle.latin_board.specs.Squares.{GridValue}
@@ -42,7 +43,7 @@ refusal_viewed p s m h =
 pub record Allowed (p : Puzzle) (position : ℕ) (board : BoardValue) (m : Move) : Type 0 where
   pub restart : position ≡ 1 → is_restart m ≡ false
   pub on_board : refusal_of p board m ≡ None
-  pub room : position ≢ most_states
+  pub room : position ≢ MOST_STATES
 
 allowed_parts : (p : Puzzle) (position : ℕ) (board : BoardValue) (m : Move) → first_state_refusal position m ≡ None
     → refusal_of p board m ≡ None → full_refusal position ≡ None → Allowed p position board m
@@ -53,7 +54,7 @@ allowed_parts p position board m restart allowed room = record {
     | false ↦ λ e. refl
   ] restart;
   on_board = allowed;
-  room = λ last. let test : (position == most_states) ≡ true = eq-eqb position most_states last in
+  room = λ last. let test : (position == MOST_STATES) ≡ true = eq-eqb position MOST_STATES last in
       let some : Some HistoryFull ≡ None = rw test at room in cc;
 }
 
@@ -90,7 +91,7 @@ pub linked_move : {P : Type 0} (p : Puzzle) (s : Inside P) (m : Move) (change : 
 linked_move p s m change h allowed fits board_is =
     let few = h.few in
     let inside = h.inside in
-    let room : s.past + 1 ≢ most_states = allowed.room in
+    let room : s.past + 1 ≢ MOST_STATES = allowed.room in
     linked_new p s.records.items s.past s.board (record { made = m; change = change }) (moved p s.board m) h
     (record { stepped = step_allowed p s.board m allowed.on_board; fits = fits; ahead = board_is }) (omega arith)
     (λ zero. allowed.restart (omega arith))

@@ -9,6 +9,7 @@ use Rattle.clue_rules.specs.Parameters.{IsParams}
 use Rattle.play_midend.specs.declared.extras.Extras.{Extras}
 use Rattle.play_midend.specs.declared.moves.Move.{Move}
 use Rattle.play_midend.specs.declared.moves.Move.TheVariants.{Solve, Restart}
+use Rattle.play_midend.specs.declared.session.TheConstants.{MOST_STATES}
 use Rattle.play_midend.specs.declared.fault.PlayFault.{PlayFault}
 use Rattle.play_midend.specs.declared.fault.PlayFault.TheVariants.{HistoryFull, OutOfMemory, NothingToUndo, NothingToRedo, NothingToRestart, NoSolution, SeveralSolutions}
 use Rattle.play_midend.specs.Steps.{is_restart, refusal_of, unless_refused, replay, IsLegal}
@@ -22,10 +23,6 @@ pub record History (P : Type 0) : Type 0 where
   pub moves : List Move
   pub position : ℕ
 
--- how many states a history may have, the first included
-abbrev pub most_states : ℕ
-most_states = 100000
-
 -- the moves that lead to the state that is shown, and its board
 abbrev pub past : {P : Type 0} → History P → List Move
 past h = take (h.position - 1) h.moves
@@ -36,7 +33,7 @@ shown p h = replay p (past h)
 pub record IsValid {P : Type 0} (p : Puzzle) (h : History P) : Type 0 where
   pub size : h.params.size ≡ p.size
   pub legal : IsLegal p h.moves
-  pub few : length h.moves + 1 ≤ most_states
+  pub few : length h.moves + 1 ≤ MOST_STATES
   pub first : 1 ≤ h.position
   pub last : h.position ≤ length h.moves + 1
 
@@ -74,7 +71,7 @@ abbrev pub first_state_refusal : ℕ → Move → Option PlayFault
 first_state_refusal position m = if is_restart m then restart_refusal position else None
 
 abbrev pub full_refusal : ℕ → Option PlayFault
-full_refusal position = if position == most_states then Some HistoryFull else None
+full_refusal position = if position == MOST_STATES then Some HistoryFull else None
 
 -- the first refusal of a move at the state that is shown, want of memory left aside
 abbrev pub refusal_in : {P : Type 0} → Puzzle → History P → Move → Option PlayFault

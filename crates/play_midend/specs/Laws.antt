@@ -9,7 +9,8 @@ use Rattle.play_midend.specs.declared.extras.Extras.{Extras}
 use Rattle.play_midend.specs.declared.moves.Move.{Move}
 use Rattle.play_midend.specs.declared.fault.PlayFault.{PlayFault}
 use Rattle.play_midend.specs.Steps.{IsLegal}
-use Rattle.play_midend.specs.Histories.{History, IsValid, IsStorable, most_states, past, shown, started, at_position, played, restarted, SolveGives, undone, redone, IsRefusal}
+use Rattle.play_midend.specs.declared.session.TheConstants.{MOST_STATES}
+use Rattle.play_midend.specs.Histories.{History, IsValid, IsStorable, past, shown, started, at_position, played, restarted, SolveGives, undone, redone, IsRefusal}
 use Rattle.play_midend.specs.MoveLists.{result_and_then, played_all, with_moves, undone_times}
 
 -- the calls that may change a session
@@ -103,7 +104,7 @@ RedoTakesUndoBack {P} puzzle =
 abbrev pub LegalListsPlay : {P : Type 0} → (P → Puzzle) → Type 0
 LegalListsPlay {P} puzzle =
     (first : P) (params next_params : Params) (extras : Extras) (ms : List Move) →
-    IsLegal (puzzle first) ms → length ms + 1 ≤ most_states
+    IsLegal (puzzle first) ms → length ms + 1 ≤ MOST_STATES
     → let new = started first params next_params extras in
     played_all (puzzle first) new ms ≡ Ok (with_moves new ms)
 
@@ -113,7 +114,7 @@ AcceptedListsAreLegal {P} puzzle =
     (first : P) (params next_params : Params) (extras : Extras) (ms : List Move) (last : History P) →
     let new = started first params next_params extras in
     played_all (puzzle first) new ms ≡ Ok last
-    → IsLegal (puzzle first) ms × (length ms + 1 ≤ most_states) × (last ≡ with_moves new ms)
+    → IsLegal (puzzle first) ms × (length ms + 1 ≤ MOST_STATES) × (last ≡ with_moves new ms)
 
 -- so many undos show the state with that position
 abbrev pub UndoLeadsBack : Type 0 → Type 0

@@ -7,7 +7,8 @@ use Rattle.play_midend.specs.declared.moves.Move.{Move}
 use Rattle.play_midend.specs.declared.session.Record.{Record}
 use Rattle.play_midend.specs.declared.session.Session.TheInside.{Inside}
 use Rattle.play_midend.specs.Steps.{step, start_of, begins_with_restart}
-use Rattle.play_midend.specs.Histories.{History, most_states}
+use Rattle.play_midend.specs.declared.session.TheConstants.{MOST_STATES}
+use Rattle.play_midend.specs.Histories.{History}
 
 -- the moves of a list of records
 abbrev pub moves_of : List Record → List Move
@@ -50,7 +51,7 @@ AreLater p now (r ∷ rs) = (next : BoardValue) × IsAhead p now r next × AreLa
 pub record AreLinked (p : Puzzle) (records : List Record) (count : ℕ) (board : BoardValue) : Type 0 where
   pub size : board.size ≡ p.size
   pub inside : count ≤ length records
-  pub few : length records + 1 ≤ most_states
+  pub few : length records + 1 ≤ MOST_STATES
   pub no_restart_first : begins_with_restart (moves_of records) ≡ false
   pub past : ArePast p (start_of p) (take count records) board
   pub later : AreLater p board (drop count records)

@@ -24,7 +24,7 @@ mod texts;
 pub use extras::{Extras, KeptBytes};
 pub use fault::PlayFault;
 pub use moves::Move;
-pub use session::Session;
+pub use session::{MOST_STATES, Session};
 pub use session_laws::{laws, move_list_laws};
 pub use step::change_of;
 pub use texts::{read_move, write_move};

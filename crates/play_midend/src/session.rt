@@ -2,6 +2,7 @@
 
 ghost use Rattle.std.specs.Prelude.{◌≡◌, ℕ, ◌+◌, ◌-◌, ◌≤◌, ◌<◌, ◌++◌, ◌∷◌, [], length, take, slice_get, false, Some, None, Ok, Err, IsOk, IfOk, IfErr, OnOk, OnErr};
 ghost use Rattle.latin_board.specs.Changes.{FitsBoard, board_after};
+ghost use Rattle.play_midend.specs.declared.session.TheConstants.{MOST_STATES};
 ghost use Rattle.play_midend.specs.Steps.{takes_memory};
 ghost use Rattle.play_midend.specs.Histories.{first_state_refusal, full_refusal};
 
@@ -16,7 +17,7 @@ use std::marker::Model;
 use trail_solver::{Answer, solve};
 
 /// How many states a history may have, the first included.
-const MOST_STATES: usize = 100_000;
+pub const MOST_STATES: usize = 100_000;
 
 // A move, and the change that takes it back while it is past, or makes it again while it is later.
 #[derive(Drop, Debug)]
@@ -59,7 +60,7 @@ impl<P: Game> Model for Session<P> {
 
 // A restart needs a move to take back.
 fn check_restart(past: usize, m: &Move) -> Result<(), PlayFault>
-    requires { past < 100000 }
+    requires { past < MOST_STATES }
     ensures ok { OnOk result (first_state_refusal (past + 1) m.now ≡ None) }
     ensures err { IfErr result (λ fault. first_state_refusal (past + 1) m.now ≡ Some fault) }
 {
@@ -71,7 +72,7 @@ fn check_restart(past: usize, m: &Move) -> Result<(), PlayFault>
 
 // A further state needs room in the history.
 fn check_room(past: usize) -> Result<(), PlayFault>
-    requires { past < 100000 }
+    requires { past < MOST_STATES }
     ensures ok { OnOk result (full_refusal (past + 1) ≡ None) }
     ensures err { IfErr result (λ fault. full_refusal (past + 1) ≡ Some fault) }
 {
@@ -143,7 +144,7 @@ impl<P: Game> Session<P> {
     /// Makes a move: the states behind the one that is shown go, and the new one is shown.
     ///
     /// Refused, the first that applies, with nothing changed: `NothingToRestart` for a restart at position 1; `OffGrid`,
-    /// `OffRange`, `GivenSquare`, `FilledSquare` and `BadSolution` as the board has it; `HistoryFull` at position 100,000;
+    /// `OffRange`, `GivenSquare`, `FilledSquare` and `BadSolution` as the board has it; `HistoryFull` at position `MOST_STATES`;
     /// `OutOfMemory`, which a number or a pencil mark in place of a later move never meets.
     pub fn play(&mut self, m: Move) -> Result<(), PlayFault>
         ensures ok { OnOk result (played (P.puzzle self.old.puzzle) self.old m ≡ Ok self.new) }
@@ -165,7 +166,7 @@ impl<P: Game> Session<P> {
     /// Makes a move that sets the board back to the start.
     ///
     /// Refused, the first that applies, with nothing changed: `NothingToRestart` at position 1, `HistoryFull` at position
-    /// 100,000, `OutOfMemory`.
+    /// `MOST_STATES`, `OutOfMemory`.
     pub fn restart(&mut self) -> Result<(), PlayFault>
         ensures ok { OnOk result (restarted self.old ≡ Ok self.new) }
         ensures err { OnErr result (self.new ≡ self.old) }
@@ -177,7 +178,7 @@ impl<P: Game> Session<P> {
     /// Fills in the only solution of the starting puzzle, whatever the board shows: a move as by `play`.
     ///
     /// Refused, the first that applies, with nothing changed: `NoSolution`, `SeveralSolutions`, `HistoryFull` at position
-    /// 100,000, `OutOfMemory`.
+    /// `MOST_STATES`, `OutOfMemory`.
     pub fn solve(&mut self) -> Result<(), PlayFault>
         ensures ok { OnOk result (SolveGives (P.puzzle self.old.puzzle) self.old (Ok self.new)) }
         ensures err { OnErr result (self.new ≡ self.old) }

@@ -22,7 +22,7 @@ pub fn laws<P: Game>()
 
 /// The laws of a list of moves that is played in turn from a new session of a game, as a saved game is loaded.
 ///
-/// Every move is accepted exactly where the list is legal and has at most 99,999 moves. The session then has these moves
+/// Every move is accepted exactly where the list is legal and leads to at most `MOST_STATES` states. The session then has these moves
 /// and is at its last position, from where `undo` leads back to each position. Every valid session can be reached so.
 pub fn move_list_laws<P: Game>()
     ensures legal_accepted { LegalListsPlay P.puzzle }

@@ -6,7 +6,7 @@ use borrow.Author.Tests.{leb-true, leb-false}
 use Rattle.byte_text.specs.Decimals.{decimal_value}
 use Rattle.byte_text.proofs.DecimalLaws.{number_taken, number_again}
 use Rattle.byte_text.proofs.ReadingLaws.{bind_taken}
-use Rattle.play_midend.specs.Histories.{most_states}
+use Rattle.play_midend.specs.declared.session.TheConstants.{MOST_STATES}
 use Rattle.play_save.specs.declared.fault.LoadFault.{LoadFault}
 use Rattle.play_save.specs.declared.fault.LoadFault.TheVariants.{BadCount}
 use Rattle.play_save.specs.declared.key.StateKey.{StateKey}
@@ -30,15 +30,15 @@ positive_again : (n : ℕ) → 1 ≤ n → positive n ≡ Some n
 positive_again zero some = absurd (omega arith)
 positive_again (suc n) some = refl
 
-pub count_taken : (value : List ℕ) (n : ℕ) → count_at value ≡ Some n → (value ≡ decimal n) × (1 ≤ n) × (n ≤ most_states)
+pub count_taken : (value : List ℕ) (n : ℕ) → count_at value ≡ Some n → (value ≡ decimal n) × (1 ≤ n) × (n ≤ MOST_STATES)
 count_taken value n is =
-    let read = and_then_taken positive (decimal_value most_states value) n is in
+    let read = and_then_taken positive (decimal_value MOST_STATES value) n is in
     let some = positive_taken read.0 n read.2 in
-    let number = number_taken most_states read.0 value (lit< tt) read.1 in
+    let number = number_taken MOST_STATES read.0 value (lit< tt) read.1 in
     (number.0 ∙ ap decimal some.0, some.1, omega (arith, number.1, some.0))
 
-pub count_again : (n : ℕ) → 1 ≤ n → n ≤ most_states → count_at (decimal n) ≡ Some n
-count_again n some few = rw (number_again most_states n few (lit< tt)) (positive_again n some)
+pub count_again : (n : ℕ) → 1 ≤ n → n ≤ MOST_STATES → count_at (decimal n) ≡ Some n
+count_again n some few = rw (number_again MOST_STATES n few (lit< tt)) (positive_again n some)
 
 pub fault_unless_taken : (test : Bool) (fault : LoadFault) → fault_unless test fault ≡ None → test ≡ true
 fault_unless_taken true fault none = refl
@@ -59,7 +59,7 @@ pub record Sound (count position : Option (Option ℕ)) (states : ℕ) : Type 0 
   pub count_read : count ≡ Some None → ⊥
   pub position_read : position ≡ Some None → ⊥
   pub early : count ≡ None → states ≡ 0
-  pub few : (n : ℕ) → count ≡ Some (Some n) → (states + 1 ≤ n) × (n ≤ most_states)
+  pub few : (n : ℕ) → count ≡ Some (Some n) → (states + 1 ≤ n) × (n ≤ MOST_STATES)
   pub first : (p : ℕ) → position ≡ Some (Some p) → 1 ≤ p
   pub inside : (n p : ℕ) → count ≡ Some (Some n) → position ≡ Some (Some p) → p ≤ n
 
@@ -172,7 +172,7 @@ pub record Counted (m : Met) : Type 0 where
   pub count_is : m.count ≡ Some (Some n)
   pub position_is : m.position ≡ Some (Some p)
   pub states : length m.states + 1 ≡ n
-  pub few : n ≤ most_states
+  pub few : n ≤ MOST_STATES
   pub first : 1 ≤ p
   pub inside : p ≤ n
 

@@ -17,7 +17,8 @@ use Rattle.play_midend.specs.declared.moves.Move.{Move}
 use Rattle.play_midend.specs.declared.moves.Move.TheVariants.{Solve, Restart}
 use Rattle.play_midend.specs.MoveTexts.{move_text, IsMoveText}
 use Rattle.play_midend.specs.Steps.{start_of}
-use Rattle.play_midend.specs.Histories.{History, IsValid, most_states, shown}
+use Rattle.play_midend.specs.declared.session.TheConstants.{MOST_STATES}
+use Rattle.play_midend.specs.Histories.{History, IsValid, shown}
 use Rattle.play_save.specs.declared.fault.LoadFault.{LoadFault}
 use Rattle.play_save.specs.declared.fault.LoadFault.TheVariants.{OutOfMemory}
 use Rattle.play_save.specs.declared.key.WhoseParams.{WhoseParams}
@@ -122,7 +123,7 @@ same_kept None None e = refl
 same_kept (Some a) (Some b) e = cc
 same_kept a b e = cc
 
-same_count : (m n : ℕ) → 1 ≤ m → m ≤ most_states → 1 ≤ n → n ≤ most_states → decimal m ≡ decimal n → m ≡ n
+same_count : (m n : ℕ) → 1 ≤ m → m ≤ MOST_STATES → 1 ≤ n → n ≤ MOST_STATES → decimal m ≡ decimal n → m ≡ n
 same_count m n m_first m_few n_first n_few text =
     let read_m = count_again m m_first m_few in
     let read_n = count_again n n_first n_few in

@@ -12,7 +12,8 @@ use Rattle.play_midend.specs.declared.moves.Move.TheVariants.{Restart}
 use Rattle.play_midend.specs.declared.fault.PlayFault.{PlayFault}
 use Rattle.play_midend.specs.declared.fault.PlayFault.TheVariants.{Unsupported as HintOrSign}
 use Rattle.play_midend.specs.MoveTexts.{move_at}
-use Rattle.play_midend.specs.Histories.{History, started, at_position, played, most_states}
+use Rattle.play_midend.specs.declared.session.TheConstants.{MOST_STATES}
+use Rattle.play_midend.specs.Histories.{History, started, at_position, played}
 use Rattle.play_save.specs.declared.fault.LoadFault.{LoadFault}
 use Rattle.play_save.specs.declared.fault.LoadFault.TheVariants.{NotASave, Malformed, Version, WrongGame, Repeated, EarlyState, Unsupported, BadParams, BadDesc, BadCount, Missing, BadState, TooLarge}
 use Rattle.play_save.specs.declared.key.StateKey.{StateKey}
@@ -26,7 +27,7 @@ use Rattle.play_save.specs.Keys.{kept_at, each_kept}
 use Rattle.play_save.specs.KeyedRecords.{KeyedRecord, keyed, KeyedState, values_of, states_in}
 use Rattle.play_save.specs.SaveTexts.{SavedGame, collection, longest_save, is_solve}
 
--- parameters of the game, and a count of states: decimal from 1 to 100,000
+-- parameters of the game, and a count of states: decimal from 1 to MOST_STATES
 abbrev pub saved_params_at : {P : Type 0} → SavedGame P → List ℕ → Result Params IdFault
 saved_params_at game value = params_at game.letters (has_adjacent game.title) value
 
@@ -35,7 +36,7 @@ positive zero = None
 positive (suc n) = Some (suc n)
 
 abbrev pub count_at : List ℕ → Option ℕ
-count_at value = option_and_then positive (decimal_value most_states value)
+count_at value = option_and_then positive (decimal_value MOST_STATES value)
 
 -- What some records say: for each key the first value, parameters and counts as they read.
 pub record Met : Type 0 where

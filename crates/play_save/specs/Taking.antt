@@ -4,7 +4,7 @@ use Rattle.std.specs.Borrow.{Bor}
 use Rattle.clue_rules.specs.declared.id_fault.IdFault.{IdFault}
 use Rattle.clue_rules.specs.declared.params.Params.{Params}
 use Rattle.play_midend.specs.declared.extras.Extras.{Extras}
-use Rattle.play_midend.specs.Histories.{most_states}
+use Rattle.play_midend.specs.declared.session.TheConstants.{MOST_STATES}
 use Rattle.play_save.specs.declared.fault.LoadFault.{LoadFault}
 use Rattle.play_save.specs.declared.fault.LoadFault.TheVariants.{OutOfMemory}
 use Rattle.play_save.specs.declared.found.StateRecord.{StateRecord}
@@ -46,9 +46,9 @@ met_of f = record {
   states = map state_of f.states.items;
 }
 
--- the records can be played and gone back along: there are fewer than 100,000 states behind the first, and the position is one of them
+-- the records can be played and gone back along: there are fewer than MOST_STATES states after the first, and the position is one of them
 pub record IsPlayable (m : Met) : Type 0 where
-  pub few : length m.states + 1 ≤ most_states
+  pub few : length m.states + 1 ≤ MOST_STATES
   pub inside : (position : ℕ) → m.position ≡ Some (Some position) → (1 ≤ position) × (position ≤ length m.states + 1)
 
 -- no record yet

@@ -36,7 +36,7 @@ pub enum LoadFault {
     /// The description can't be read at the size of the parameters.
     #[error("the description can't be read")]
     BadDesc,
-    /// A count that isn't a number from 1 to 100,000, or a position behind the last state.
+    /// A count that isn't a number from 1 to `MOST_STATES`, or a position behind the last state.
     #[error("a count of states is out of range")]
     BadCount,
     /// A record that is needed isn't there.

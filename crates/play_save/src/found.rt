@@ -12,11 +12,8 @@ use crate::fault::LoadFault;
 use crate::key::{KeptKey, Key, StateKey, WhoseParams};
 use byte_text::number;
 use clue_rules::{Game, Params};
-use play_midend::{PlayFault, read_move};
+use play_midend::{MOST_STATES, PlayFault, read_move};
 use std::alloc::Global;
-
-/// How many states a history may have, the first included.
-const MOST_STATES: u64 = 100_000;
 
 /// A state record.
 #[derive(Clone, Copy, Debug)]
@@ -71,11 +68,11 @@ fn keep<'a>(kept: &mut Option<&'a [u8]>, value: &'a [u8]) -> Result<(), LoadFaul
     Ok(())
 }
 
-// A count of states: a decimal number from 1 to 100,000.
+// A count of states: a decimal number from 1 to `MOST_STATES`.
 fn count(value: &[u8]) -> Result<usize, LoadFault>
     ensures { result ≡ ok_or (count_at value.now) LoadFault.BadCount }
 {
-    match number(value, MOST_STATES) {
+    match number(value, MOST_STATES as u64) {
         Some(0) | None => Err(LoadFault::BadCount),
         Some(n) => Ok(n as usize),
     }

@@ -3,6 +3,7 @@
 ghost use Rattle.std.specs.Prelude.{◌≡◌, ◌⊎◌, ℕ, ◌+◌, ◌-◌, ◌<◌, ◌≤◌, Some, None, Ok, Err, ok_or, IfOk, IfErr, OnOk, IfSome, length, map};
 ghost use Rattle.std.specs.Result.{result_ok};
 ghost use Rattle.byte_text.specs.Reading.{Gives, GivesUnless};
+ghost use Rattle.play_midend.specs.declared.session.TheConstants.{MOST_STATES};
 ghost use Rattle.play_midend.specs.Histories.{History, started, at_position};
 ghost use Rattle.play_save.specs.Records.{record_at};
 ghost use Rattle.play_save.specs.SaveTexts.{saves_of, is_solve, SaveText};
@@ -120,7 +121,7 @@ fn play_state<P: Game>(
 
 // Plays the state records in turn, up to the first that is wrong.
 fn play_states<P: Game>(session: &mut Session<P>, states: &[StateRecord]) -> Result<(), LoadFault>
-    requires { length states.now < 100000 }
+    requires { length states.now < MOST_STATES }
     ensures { GivesUnless LoadFault.OutOfMemory (λ _. session.new) result
         (states_played (saves_of P.Rules P.Game.own) session.old 1 (map state_of states.now)) }
 {

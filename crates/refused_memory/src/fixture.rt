@@ -1,6 +1,6 @@
 //! The sessions that the calls are made in.
 
-use play_midend::{Move, Session, read_move};
+use play_midend::{MOST_STATES, Move, Session, read_move};
 use puzzle_cli::{Draw, begin};
 use std::alloc::Global;
 
@@ -14,9 +14,6 @@ pub(crate) enum Start {
     /// As many moves were made as a session keeps.
     Full,
 }
-
-/// How many states a session keeps at most.
-const MOST_STATES: usize = 100_000;
 
 /// A session there, or `None` where memory was refused.
 pub(crate) fn session_at<P: Draw>(alloc: Global, id: &str, start: Start) -> Option<Session<P>> {
