@@ -1,30 +1,18 @@
 -- The steps of a listing: what each does to the solutions that are to be listed.
-use Rattle.std.proofs.Common.{◌≡◌, ℕ, ◌+◌, ◌-◌, ◌*◌, ◌<◌, false, List, [], ◌∷◌, ◌++◌, length, sym, ◌∙◌, subst, inl, inr, ⊎_elim, arith}
+use Rattle.std.proofs.Common.{◌≡◌, ℕ, ◌+◌, ◌-◌, ◌*◌, ◌<◌, false, List, [], ◌∷◌, ◌++◌, length, sym, ◌∙◌, inl, inr, ⊎_elim, arith}
 use Rattle.std.proofs.lemmas.Bool.{cases_order}
 use Rattle.latin_board.specs.Squares.{GridValue, number_at}
-use Rattle.trail_solver.specs.Candidates.{CandidatesValue, IsWithin, may_be}
-use Rattle.trail_solver.specs.Squares.{IsFilled, IsFirstOpen, KeepsOnly}
+use Rattle.trail_solver.specs.Candidates.{CandidatesValue, may_be}
+use Rattle.trail_solver.specs.Squares.{IsFilled, IsFirstOpen}
 use Rattle.trail_solver.specs.Puzzles.{Puzzle, Solves, IsAmong, IsAmongAt, IsAmongBelow}
-use Rattle.trail_solver.specs.Searches.{SearchValue, IsFurther}
 use Rattle.trail_solver.specs.Listings.{IsBelow, Lists}
-use Rattle.trail_solver.proofs.AmongCandidates.{among_earlier, among_narrowed, at_from_kept, kept_from_at, none_at_gone, none_where_filled}
+use Rattle.trail_solver.proofs.AmongCandidates.{none_at_gone, none_where_filled}
 use Rattle.trail_solver.proofs.FilledGrids.{solution_pair, only_filled, filled_within}
 use Rattle.trail_solver.proofs.ListedSolutions.{AreFirst-none, AreFirst-full, AreFirst-only, lists_nothing, lists_same, lists_then}
 
-pub narrowed_lists : {P : Type 0} (puzzle : P → Puzzle) (old new : SearchValue P) (limit : ℕ) (xs ys : List GridValue) → IsFurther old new
-    → ((h : GridValue) → Solves (puzzle old.rules) h → IsWithin old.candidates h → IsWithin new.candidates h)
-    → Lists (IsAmong (puzzle new.rules) new.candidates) limit xs ys → Lists (IsAmong (puzzle old.rules) old.candidates) limit xs ys
-narrowed_lists {P} puzzle old new limit xs ys further keeps f =
-    let p = puzzle old.rules in
-    let Q : P → Type 0 = λ r. Lists (IsAmong (puzzle r) new.candidates) limit xs ys in
-    lists_same (IsAmong p new.candidates) (IsAmong p old.candidates) limit xs ys (among_earlier p old.candidates new.candidates further.less)
-    (among_narrowed p old.candidates new.candidates keeps) (subst Q further.rules f)
+pub none_lists : (A : GridValue → Type 0) (limit : ℕ) (xs : List GridValue) → ((h : GridValue) → A h → ⊥) → Lists A limit xs xs
+none_lists A limit xs n = lists_nothing A limit xs (AreFirst-none A (limit - length xs) n)
 
-pub refuted_lists : (p : Puzzle) (c : CandidatesValue) (limit : ℕ) (xs : List GridValue) → ((h : GridValue) → Solves p h → IsWithin c h → ⊥)
-    → Lists (IsAmong p c) limit xs xs
-refuted_lists p c limit xs n = lists_nothing (IsAmong p c) limit xs (AreFirst-none (IsAmong p c) (limit - length xs) (λ h s. n h s.0 s.1))
-
--- the only one
 pub only_lists : (A : GridValue → Type 0) (g : GridValue) (limit : ℕ) (xs ys : List GridValue) → A g → ((h : GridValue) → A h → h ≡ g)
     → length xs < limit → ys ≡ xs ++ g ∷ [] → Lists A limit xs ys
 only_lists A g limit xs ys a only room e = record {
@@ -41,14 +29,7 @@ leaf_lists p c g limit xs ys size filled s room e =
 pub leaf_lists_none : (p : Puzzle) (c : CandidatesValue) (g : GridValue) (limit : ℕ) (xs : List GridValue) → c.size ≡ p.size → IsFilled c g
     → (Solves p g → ⊥) → Lists (IsAmong p c) limit xs xs
 leaf_lists_none p c g limit xs size filled n =
-    refuted_lists p c limit xs (λ h s w. none_where_filled p c g size filled n h (s, w))
-
-pub guess_lists : (p : Puzzle) (old kept : CandidatesValue) (cell value limit : ℕ) (xs ys : List GridValue) → old.size ≡ p.size
-    → KeepsOnly old kept cell value → cell < old.size * old.size → Lists (IsAmong p kept) limit xs ys
-    → Lists (IsAmongAt p old cell value) limit xs ys
-guess_lists p old kept cell value limit xs ys size k inside f =
-    lists_same (IsAmong p kept) (IsAmongAt p old cell value) limit xs ys
-    (at_from_kept p old kept cell value size k inside) (kept_from_at p old kept cell value k) f
+    none_lists (IsAmong p c) limit xs (none_where_filled p c g size filled n)
 
 pub guess_lists_none : (p : Puzzle) (c : CandidatesValue) (cell value limit : ℕ) (xs : List GridValue) → cell < c.size * c.size
     → may_be c cell value ≡ false → Lists (IsAmongAt p c cell value) limit xs xs

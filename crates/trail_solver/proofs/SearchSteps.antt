@@ -3,32 +3,17 @@ use Rattle.std.proofs.Common.{◌≡◌, ◌≢◌, ℕ, ◌*◌, ◌<◌, ◌�
 use Rattle.std.proofs.lemmas.Bool.{both_ways, cases_eq}
 use Rattle.latin_board.specs.Squares.{GridValue, number_at}
 use Rattle.trail_solver.specs.Candidates.{CandidatesValue, IsWithin, may_be}
-use Rattle.trail_solver.specs.Squares.{IsDead, IsFilled, KeepsOnly}
+use Rattle.trail_solver.specs.Squares.{IsDead, IsFilled}
 use Rattle.trail_solver.specs.Puzzles.{Puzzle, Solves, IsAmong, IsAmongAt}
-use Rattle.trail_solver.specs.Searches.{SearchValue, IsFurther}
+use Rattle.trail_solver.specs.Searches.{SearchValue, IsFurther, AreSame}
 use Rattle.trail_solver.specs.declared.answer.Answer.{Answer}
 use Rattle.trail_solver.specs.declared.answer.Answer.TheVariants.{Several}
 use Rattle.trail_solver.specs.Answers.{Adds}
-use Rattle.trail_solver.proofs.AmongCandidates.{among_earlier, among_narrowed, at_from_kept, kept_from_at, none_where_filled}
+use Rattle.trail_solver.proofs.AmongCandidates.{among_earlier, none_where_filled}
 use Rattle.trail_solver.proofs.Earlier.{earlier_trans, prefix_length}
 use Rattle.trail_solver.proofs.FilledGrids.{solution_pair, only_filled, filled_within}
 use Rattle.trail_solver.proofs.JoinedAnswers.{adds_same, adds_nothing, adds_several, adds_then}
 use Rattle.trail_solver.proofs.OneKept.{Removes, removed_earlier, rest_removed}
-
--- narrowing loses no solution, and no other comes
-pub narrowed_adds : {P : Type 0} (puzzle : P → Puzzle) (old new : SearchValue P) (found answer : Answer) → IsFurther old new
-    → ((h : GridValue) → Solves (puzzle old.rules) h → IsWithin old.candidates h → IsWithin new.candidates h)
-    → Adds (IsAmong (puzzle new.rules) new.candidates) found answer → Adds (IsAmong (puzzle old.rules) old.candidates) found answer
-narrowed_adds {P} puzzle old new found answer further keeps a =
-    let p = puzzle old.rules in
-    let Q : P → Type 0 = λ r. Adds (IsAmong (puzzle r) new.candidates) found answer in
-    adds_same (IsAmong p new.candidates) (IsAmong p old.candidates) found answer
-    (among_earlier p old.candidates new.candidates further.less) (among_narrowed p old.candidates new.candidates keeps) (subst Q further.rules a)
-
--- and where it fails, there was none
-pub refuted_adds : (p : Puzzle) (c : CandidatesValue) (found : Answer) → ((h : GridValue) → Solves p h → IsWithin c h → ⊥)
-    → Adds (IsAmong p c) found found
-refuted_adds p c found n = adds_nothing (IsAmong p c) found (λ h s. n h s.0 s.1)
 
 -- further, and further again
 pub further_trans : {P : Type 0} (a b c : SearchValue P) → IsFurther a b → IsFurther b c → IsFurther a c
@@ -54,15 +39,6 @@ pub leaf_none : (p : Puzzle) (c : CandidatesValue) (g : GridValue) (found : Answ
     → Adds (IsAmong p c) found found
 leaf_none p c g found size filled n =
     adds_nothing (IsAmong p c) found (none_where_filled p c g size filled n)
-
--- ---- a guess
-
-pub guess_adds : (p : Puzzle) (old kept : CandidatesValue) (cell value : ℕ) (found answer : Answer) → old.size ≡ p.size
-    → KeepsOnly old kept cell value → cell < old.size * old.size → Adds (IsAmong p kept) found answer
-    → Adds (IsAmongAt p old cell value) found answer
-guess_adds p old kept cell value found answer size k inside a =
-    adds_same (IsAmong p kept) (IsAmongAt p old cell value) found answer
-    (at_from_kept p old kept cell value size k inside) (kept_from_at p old kept cell value k) a
 
 -- ---- a value of a square, and then not
 
@@ -134,11 +110,12 @@ under_way_further puzzle start old new first found more u f rest =
 -- narrowing
 pub under_way_narrowed : {P : Type 0} (puzzle : P → Puzzle) (start old new : SearchValue P) (first found : Answer)
     → IsUnderWay puzzle start old first found → IsFurther old new
-    → ((h : GridValue) → Solves (puzzle old.rules) h → IsWithin old.candidates h → IsWithin new.candidates h)
+    → AreSame (IsAmong (puzzle old.rules) old.candidates) (IsAmong (puzzle new.rules) new.candidates)
     → IsUnderWay puzzle start new first found
-under_way_narrowed puzzle start old new first found u f keeps =
+under_way_narrowed puzzle start old new first found u f same =
     under_way_further puzzle start old new first found found u f (record {
-      joins = λ answer a. u.rest.joins answer (narrowed_adds puzzle old new found answer f keeps a);
+      joins = λ answer a. u.rest.joins answer (adds_same (IsAmong (puzzle new.rules) new.candidates) (IsAmong (puzzle old.rules) old.candidates) found answer
+          (λ h. (same h).1) (λ h. (same h).0) a);
     })
 
 -- a value of a square was tried, and went

@@ -10,7 +10,7 @@ use crate::answer::Answer;
 use crate::choice::first_open;
 use crate::rules::{Rules, solves};
 use crate::search::Search;
-use crate::squares::{filled, keep_only};
+use crate::squares::filled;
 use latin_board::{Grid, OutOfMemory};
 use std::alloc::Global;
 
@@ -97,8 +97,7 @@ fn list_guess<P: Rules>(
         return Ok(());
     }
     let mark = search.candidates.mark();
-    keep_only(&mut search.candidates, cell, value);
-    let done = if search.propagate(cell) {
+    let done = if search.assume(cell, value) {
         list(search, limit, listed)
     } else {
         Ok(())

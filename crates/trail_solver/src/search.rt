@@ -1,11 +1,11 @@
 //! A search: the rules of a puzzle, the candidates that are left, and where it failed.
-ghost use Rattle.std.specs.Prelude.{◌≡◌, ◌*◌, ◌<◌, MatchOption};
+ghost use Rattle.std.specs.Prelude.{◌≡◌, ◌*◌, ◌<◌, ◌≤◌, length, MatchOption};
 ghost use Rattle.std.specs.Bool.{OnFalse};
 ghost use Rattle.latin_board.specs.Squares.{GridValue};
 ghost use Rattle.trail_solver.specs.Candidates.{IsWithin};
 ghost use Rattle.trail_solver.specs.Squares.{AreSettled, IsBranch};
 ghost use Rattle.trail_solver.specs.Puzzles.{IsAmong, IsAmongAt, Solves};
-ghost use Rattle.trail_solver.specs.Searches.{IsFurther};
+ghost use Rattle.trail_solver.specs.Searches.{AreSame, IsFurther};
 ghost use Rattle.trail_solver.specs.Answers.{Adds, Fits};
 
 use crate::answer::{Answer, added};
@@ -89,8 +89,7 @@ impl<P: Rules> Search<P> {
         ensures adds { Adds (IsAmongAt (P.puzzle self.old.rules) self.old.candidates cell value) found result }
     {
         let mark = self.candidates.mark();
-        keep_only(&mut self.candidates, cell, value);
-        let answer = if self.propagate(cell) {
+        let answer = if self.assume(cell, value) {
             self.run(found)
         } else {
             found
@@ -110,14 +109,29 @@ impl<P: Rules> Search<P> {
         answer
     }
 
-    /// Narrows candidates that the cell lost, and notes where that failed.
-    pub fn propagate(&mut self, cell: usize) -> bool
+    /// Keeps the value alone in the cell, and narrows; false where that finds no solution with it.
+    pub fn assume(&mut self, cell: usize, value: u8) -> bool
+        requires { IsBranch self.old.candidates cell value }
+        ensures further { IsFurther self.old self.new }
+        ensures longer { length self.old.candidates.trail < length self.new.candidates.trail }
+        ensures room { length self.old.candidates.trail < 729 }
+        ensures same { AreSame (IsAmongAt (P.puzzle self.old.rules) self.old.candidates cell value)
+            (IsAmong (P.puzzle self.new.rules) self.new.candidates) }
+        ensures refutes { OnFalse result ((g : GridValue)
+            → IsAmongAt (P.puzzle self.old.rules) self.old.candidates cell value g → ⊥) }
+    {
+        keep_only(&mut self.candidates, cell, value);
+        self.propagate(cell)
+    }
+
+    // Narrows candidates that the cell lost, and notes where that failed.
+    fn propagate(&mut self, cell: usize) -> bool
         requires { cell < self.old.candidates.size * self.old.candidates.size }
         ensures further { IsFurther self.old self.new }
-        ensures keeps { (g : GridValue) → Solves (P.puzzle self.old.rules) g
-            → IsWithin self.old.candidates g → IsWithin self.new.candidates g }
-        ensures refutes { OnFalse result ((g : GridValue) → Solves (P.puzzle self.old.rules) g
-            → IsWithin self.old.candidates g → ⊥) }
+        ensures same { AreSame (IsAmong (P.puzzle self.old.rules) self.old.candidates)
+            (IsAmong (P.puzzle self.new.rules) self.new.candidates) }
+        ensures refutes { OnFalse result ((g : GridValue)
+            → IsAmong (P.puzzle self.old.rules) self.old.candidates g → ⊥) }
     {
         let left = self.rules.narrow_from(&mut self.candidates, cell);
         if !left {

@@ -1,4 +1,4 @@
-use Rattle.std.proofs.Common.{◌≡◌, ◌*◌, ◌<◌, false, length, refl, sym, ap, ◌∙◌, subst, arith}
+use Rattle.std.proofs.Common.{◌≡◌, false, length, refl, sym, ◌∙◌, subst, arith}
 use Rattle.std.proofs.lemmas.Bool.{OnFalse_at}
 use Rattle.std.proofs.lemmas.Result.{on_ok_weaker}
 use Rattle.trail_solver.specs.Candidates.{may_be}
@@ -6,14 +6,15 @@ use Rattle.trail_solver.specs.Puzzles.{IsAmong, IsAmongAt}
 use Rattle.trail_solver.specs.Searches.{SearchValue, IsFurther}
 use Rattle.trail_solver.specs.Listings.{Lists}
 use Rattle.trail_solver.proofs.SearchSteps.{further_trans, given_back}
-use Rattle.trail_solver.proofs.ListingSteps.{narrowed_lists, refuted_lists, only_lists, guess_lists, guess_lists_none, full_lists, value_lists_none, value_lists_more, value_lists_all}
+use Rattle.trail_solver.proofs.ListedSolutions.{lists_same}
+use Rattle.trail_solver.proofs.ListingSteps.{none_lists, only_lists, guess_lists_none, full_lists, value_lists_none, value_lists_more, value_lists_all}
 use Rattle.trail_solver.proofs.listing.+listing.Goals as goal
-use Rattle.trail_solver.proofs.listing.+listing.Goals.{list_guess-then-propagate, list_guess-else-propagate}
+use Rattle.trail_solver.proofs.listing.+listing.Goals.{list_guess-then-assume, list_guess-else-assume}
 
 pub list-returns-in-None-clause-lists : goal.list-returns-in-None-clause-lists
 list-returns-in-None-clause-lists g t c =
     let now = c.args.search.now in
-    refuted_lists (g.P.Rules.puzzle now.rules) now.candidates c.args.limit c.args.listed.now.items (λ h s w. c.in-None.ensures.fits h (s, w))
+    none_lists (IsAmong (g.P.Rules.puzzle now.rules) now.candidates) c.args.limit c.args.listed.now.items c.in-None.ensures.fits
 
 pub list-returns-in_ok-push-in-One-clause-lists : goal.list-returns-in_ok-push-in-One-clause-lists
 list-returns-in_ok-push-in-One-clause-lists g t c =
@@ -58,35 +59,27 @@ list_guess-returns-then-not-may-clause-lists g t c =
 
 pub list_guess-returns-clause-same : goal.list_guess-returns-clause-same
 list_guess-returns-clause-same g t c =
-    let rules = c.search.inside.rules in
-    let old : SearchValue _ = record { rules = rules; candidates = c.search.inside.candidates } in
-    let kept : SearchValue _ = record { rules = rules; candidates = c.keep_only.new.candidates } in
-    let last : SearchValue _ = record { rules = c.search-2.inside.rules; candidates = c.search-2.inside.candidates } in
-    let tried = further_trans old kept c.propagate.new.self (record { rules = refl; less = c.keep_only.ensures.kept.less }) c.propagate.ensures.further in
-    let further : IsFurther old c.if-propagate.search = elim c.if-propagate.branch [
-      | list_guess-then-propagate w ↦ rw w.search-is (further_trans old c.propagate.new.self w.list-done.new.search tried w.list-done.ensures.further)
-      | list_guess-else-propagate w ↦ rw w.search-is tried
+    let old = c.args.search.now in
+    let further : IsFurther old c.if-assume.search = elim c.if-assume.branch [
+      | list_guess-then-assume w ↦ rw w.search-is (further_trans old c.assume.new.self w.list-done.new.search c.assume.ensures.further w.list-done.ensures.further)
+      | list_guess-else-assume w ↦ rw w.search-is c.assume.ensures.further
     ] in
     let P : SearchValue _ → Type 0 = λ s. IsFurther old s in
+    let last : SearchValue _ = record { rules = c.search-2.inside.rules; candidates = c.search-2.inside.candidates } in
     let all : IsFurther old last = subst P (sym c.search-2.view_is) further in
-    given_back old last c.give_back.new.self all (c.give_back.ensures.restores old.candidates all.less c.mark-mark.ensures) ∙ c.search.view_is
+    given_back old last c.give_back.new.self all (c.give_back.ensures.restores old.candidates all.less (rw (← c.search.view_is) c.mark-mark.ensures))
 
 pub list_guess-returns-clause-lists : goal.list_guess-returns-clause-lists
 list_guess-returns-clause-lists g t c =
-    let puzzle = g.P.Rules.puzzle in
-    let p = puzzle c.search.inside.rules in
-    let old = c.search.inside.candidates in
-    let kept = c.keep_only.new.candidates in
-    let now = c.propagate.new.self in
+    let old = c.args.search.now in
+    let new = c.assume.new.self in
+    let At = IsAmongAt (g.P.Rules.puzzle old.rules) old.candidates c.args.cell c.args.value in
+    let Among = IsAmong (g.P.Rules.puzzle new.rules) new.candidates in
+    let same = c.assume.ensures.same in
     let xs = c.args.listed.now.items in
-    let size : old.size ≡ c.args.search.now.candidates.size = ap (λ (s : SearchValue _). s.candidates.size) c.search.view_is in
-    let inside : c.args.cell < old.size * old.size = rw size c.requires.open_cell.inside in
-    rw (← c.search.view_is) (elim c.if-propagate.branch [
-      | list_guess-then-propagate w ↦ (let ys = w.list-done.new.listed.items in
-          rw (w.done-is, w.listed-is) (on_ok_weaker w.list-done.result (λ (l : Lists (IsAmong (puzzle now.rules) now.candidates) c.args.limit xs ys).
-          guess_lists p old kept c.args.cell c.args.value c.args.limit xs ys c.search.invariant c.keep_only.ensures.kept inside
-          (narrowed_lists puzzle (record { rules = c.search.inside.rules; candidates = kept }) now c.args.limit xs ys c.propagate.ensures.further c.propagate.ensures.keeps l)) w.list-done.ensures.lists))
-      | list_guess-else-propagate w ↦ rw (w.done-is, w.listed-is)
-          (guess_lists p old kept c.args.cell c.args.value c.args.limit xs xs c.search.invariant c.keep_only.ensures.kept inside
-          (refuted_lists p kept c.args.limit xs (OnFalse_at w.if-propagate.false c.propagate.ensures.refutes)))
-    ])
+    elim c.if-assume.branch [
+      | list_guess-then-assume w ↦ (let ys = w.list-done.new.listed.items in
+          rw (w.done-is, w.listed-is) (on_ok_weaker w.list-done.result (λ (l : Lists Among c.args.limit xs ys).
+          lists_same Among At c.args.limit xs ys (λ h. (same h).1) (λ h. (same h).0) l) w.list-done.ensures.lists))
+      | list_guess-else-assume w ↦ rw (w.done-is, w.listed-is) (none_lists At c.args.limit xs (OnFalse_at w.if-assume.false c.assume.ensures.refutes))
+    ]

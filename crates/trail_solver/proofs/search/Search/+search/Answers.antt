@@ -1,24 +1,21 @@
-use Rattle.std.proofs.Common.{◌≡◌, ap, ◌∙◌}
+use Rattle.std.proofs.Common.{◌∙◌}
 use Rattle.std.proofs.lemmas.Bool.{OnFalse_at}
-use Rattle.trail_solver.specs.Searches.{SearchValue}
-use Rattle.trail_solver.specs.Puzzles.{IsAmong}
-use Rattle.trail_solver.proofs.SearchSteps.{narrowed_adds, refuted_adds, guess_adds, rest_none, dead_none, under_way_narrowed, under_way_branched}
+use Rattle.trail_solver.specs.Puzzles.{IsAmong, IsAmongAt}
+use Rattle.trail_solver.proofs.JoinedAnswers.{adds_same, adds_nothing}
+use Rattle.trail_solver.proofs.SearchSteps.{rest_none, dead_none, under_way_narrowed, under_way_branched}
 use Rattle.trail_solver.proofs.search.Search.+search.Goals as goal
-use Rattle.trail_solver.proofs.search.Search.+search.Goals.{guess-then-propagate, guess-else-propagate}
+use Rattle.trail_solver.proofs.search.Search.+search.Goals.{guess-then-assume, guess-else-assume}
 
 pub guess-returns-clause-adds : goal.guess-returns-clause-adds
 guess-returns-clause-adds g t c =
-    let puzzle = g.P.Rules.puzzle in
-    let p = puzzle c.self.inside.rules in
-    let old = c.self.inside.candidates in
-    let kept = c.keep_only.new.candidates in
-    let found = c.args.found in
-    let size : old.size ≡ c.args.self.now.candidates.size = ap (λ (s : SearchValue _). s.candidates.size) c.self.view_is in
-    rw (← c.self.view_is) (guess_adds p old kept c.args.cell c.args.value found c.if-propagate.answer c.self.invariant c.keep_only.ensures.kept (rw size c.requires.pair.inside)
-    (elim c.if-propagate.branch [
-      | guess-then-propagate w ↦ rw w.answer-is (narrowed_adds puzzle (record { rules = c.self.inside.rules; candidates = kept }) c.propagate.new.self found w.run-answer.result c.propagate.ensures.further c.propagate.ensures.keeps w.run-answer.ensures.adds)
-      | guess-else-propagate w ↦ rw w.answer-is (refuted_adds p kept found (OnFalse_at w.if-propagate.false c.propagate.ensures.refutes))
-    ]))
+    let old = c.args.self.now in
+    let new = c.assume.new.self in
+    let At = IsAmongAt (g.P.Rules.puzzle old.rules) old.candidates c.args.cell c.args.value in
+    let same = c.assume.ensures.same in
+    elim c.if-assume.branch [
+      | guess-then-assume w ↦ rw w.answer-is (adds_same (IsAmong (g.P.Rules.puzzle new.rules) new.candidates) At c.args.found w.run-answer.result (λ h. (same h).1) (λ h. (same h).0) w.run-answer.ensures.adds)
+      | guess-else-assume w ↦ rw w.answer-is (adds_nothing At c.args.found (OnFalse_at w.if-assume.false c.assume.ensures.refutes))
+    ]
 
 pub run-returns-in-Dead-clause-adds : goal.run-returns-in-Dead-clause-adds
 run-returns-in-Dead-clause-adds g t c =
@@ -36,11 +33,11 @@ run-returns-then-not-propagate g t c =
     let next = c.take_away.new.candidates in
     let left = under_way_branched puzzle start c.loop-self.self (record { rules = inside.rules; candidates = inside.candidates }) next c.args.found c.loop-self.found c.guess-found.result c.in-Branch.cell c.in-Branch.value c.loop-self.invariant c.guess-found.ensures.adds (c.self-in-Branch.view_is ∙ c.guess-found.ensures.same)
     (record { size = c.take_away.ensures.size; trail = c.take_away.ensures.trail }) in
-    let narrowed = under_way_narrowed puzzle start (record { rules = inside.rules; candidates = next }) c.propagate.new.self c.args.found c.guess-found.result left c.propagate.ensures.further c.propagate.ensures.keeps in
+    let narrowed = under_way_narrowed puzzle start (record { rules = inside.rules; candidates = next }) c.propagate.new.self c.args.found c.guess-found.result left c.propagate.ensures.further c.propagate.ensures.same in
     record {
       further = narrowed.further;
       adds = rest_none (IsAmong (puzzle start.rules) start.candidates) c.args.found (IsAmong (puzzle inside.rules) next) c.guess-found.result left.rest
-          (λ h s. OnFalse_at c.if-not-propagate.true c.propagate.ensures.refutes h s.0 s.1);
+          (OnFalse_at c.if-not-propagate.true c.propagate.ensures.refutes);
     }
 
 pub run-loop-self-preserved : goal.run-loop-self-preserved
@@ -51,4 +48,4 @@ run-loop-self-preserved g t c =
     let next = c.take_away.new.candidates in
     let left = under_way_branched puzzle start c.loop-self.self (record { rules = inside.rules; candidates = inside.candidates }) next c.args.found c.loop-self.found c.guess-found.result c.in-Branch.cell c.in-Branch.value c.loop-self.invariant c.guess-found.ensures.adds (c.self-in-Branch.view_is ∙ c.guess-found.ensures.same)
     (record { size = c.take_away.ensures.size; trail = c.take_away.ensures.trail }) in
-    under_way_narrowed puzzle start (record { rules = inside.rules; candidates = next }) c.propagate.new.self c.args.found c.guess-found.result left c.propagate.ensures.further c.propagate.ensures.keeps
+    under_way_narrowed puzzle start (record { rules = inside.rules; candidates = next }) c.propagate.new.self c.args.found c.guess-found.result left c.propagate.ensures.further c.propagate.ensures.same
