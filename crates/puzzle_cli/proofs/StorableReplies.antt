@@ -1,5 +1,5 @@
 -- A session that can be stored is left so by each reply.
-use Rattle.std.proofs.Common.{◌≡◌, ℕ, List, [], Option, Some, None, Result, Ok, Err, refl, sym, ap, ◌∙◌, subst, inl, inr}
+use Rattle.std.proofs.Common.{◌≡◌, ℕ, List, [], Option, Some, None, Result, Ok, Err, sym, subst, inl, inr}
 use Rattle.clue_rules.specs.declared.game_id.GameId.{GameId}
 use Rattle.clue_rules.specs.declared.game_id.GameId.TheVariants.{Described, Seeded}
 use Rattle.clue_rules.specs.declared.id_fault.IdFault.{IdFault}
