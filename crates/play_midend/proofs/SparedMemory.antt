@@ -7,6 +7,7 @@ use Rattle.play_midend.specs.declared.fault.PlayFault.{PlayFault}
 use Rattle.play_midend.specs.declared.fault.PlayFault.TheVariants.{OutOfMemory}
 use Rattle.play_midend.specs.declared.moves.Move.{Move}
 use Rattle.play_midend.specs.declared.moves.Move.TheVariants.{Real, Pencil, MarkAll, Solve, Restart, Done}
+use Rattle.play_midend.specs.Laws.{Call, Play, FromStart, ToSolution, Undo, Redo, CallGives}
 use Rattle.play_midend.specs.Steps.{entry_refusal, mark_refusal, refusal_of, cell_of, unless_refused}
 use Rattle.play_midend.specs.Histories.{undone, redone, shown, with_move, first_state_refusal, refusal_in, restart_refusal, full_refusal, History, IsRefusal, played, restarted, SolveGives}
 
@@ -37,28 +38,35 @@ refusal_spares : {A : Type 0} (refusal : Option PlayFault) (a : A) → refusal �
 refusal_spares None a spares e = cc
 refusal_spares (Some fault) a spares e = let is : Some fault ≡ Some OutOfMemory = cc in spares is
 
-pub played_spares : {P : Type 0} (p : Puzzle) (h : History P) (m : Move) → played p h m ≢ Err OutOfMemory
+played_spares : {P : Type 0} (p : Puzzle) (h : History P) (m : Move) → played p h m ≢ Err OutOfMemory
 played_spares p h m =
     refusal_spares (refusal_in p h m) (with_move h m)
     (either_spares (first_state_refusal h.position m) (option_or (refusal_of p (shown p h) m) (full_refusal h.position))
     (first_state_spares h.position m)
     (either_spares (refusal_of p (shown p h) m) (full_refusal h.position) (move_spares p (shown p h) m) (full_spares h.position)))
 
-pub restarted_spares : {P : Type 0} (h : History P) → restarted h ≢ Err OutOfMemory
+restarted_spares : {P : Type 0} (h : History P) → restarted h ≢ Err OutOfMemory
 restarted_spares h =
     refusal_spares (option_or (restart_refusal h.position) (full_refusal h.position)) (with_move h Restart)
     (either_spares (restart_refusal h.position) (full_refusal h.position) (first_state_spares h.position Restart) (full_spares h.position))
 
-pub undone_spares : {P : Type 0} (h : History P) → undone h ≢ Err OutOfMemory
+undone_spares : {P : Type 0} (h : History P) → undone h ≢ Err OutOfMemory
 undone_spares h e = grind arith
 
-pub redone_spares : {P : Type 0} (h : History P) → redone h ≢ Err OutOfMemory
+redone_spares : {P : Type 0} (h : History P) → redone h ≢ Err OutOfMemory
 redone_spares h e = grind arith
 
-pub solved_spares : {P : Type 0} (p : Puzzle) (h : History P) → SolveGives p h (Err OutOfMemory) → ⊥
+solved_spares : {P : Type 0} (p : Puzzle) (h : History P) → SolveGives p h (Err OutOfMemory) → ⊥
 solved_spares p h (inl a) = let e = a.1 in cc
 solved_spares p h (inr (inl a)) = let e = a.1 in cc
 solved_spares p h (inr (inr a)) = refusal_spares (full_refusal h.position) (with_move h (Solve a.0)) (full_spares h.position) (sym a.2)
+
+pub call_spares : {P : Type 0} (p : Puzzle) (h : History P) (call : Call) → CallGives p h call (Err OutOfMemory) → ⊥
+call_spares p h (Play m) is = played_spares p h m (sym is)
+call_spares p h FromStart is = restarted_spares h (sym is)
+call_spares p h ToSolution is = solved_spares p h is
+call_spares p h Undo is = undone_spares h (sym is)
+call_spares p h Redo is = redone_spares h (sym is)
 
 -- an exact refusal is the call's, and want of memory stands for success
 pub exact_refusal : (A : Type 0) (fault : PlayFault) → fault ≢ OutOfMemory → IsRefusal {A = A} (Err fault) fault

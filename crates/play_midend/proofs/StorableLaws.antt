@@ -53,7 +53,7 @@ storable_called {P} puzzle of_game letters h new call s is =
     }
 
 -- calls in turn
-storable_answered : {P : Type 0} (puzzle : P → Puzzle) (of_game : P → Type 0) (letters : List ℕ) (h new : History P) (call : Call)
+pub storable_answered : {P : Type 0} (puzzle : P → Puzzle) (of_game : P → Type 0) (letters : List ℕ) (h new : History P) (call : Call)
     (answer : Result (Unit {0}) PlayFault)
     → IsStorable puzzle of_game letters h → Answered (puzzle h.puzzle) h call answer new → IsStorable puzzle of_game letters new
 storable_answered puzzle of_game letters h new call (Ok u) s is = storable_called puzzle of_game letters h new call s is

@@ -17,21 +17,20 @@ use Rattle.play_midend.specs.declared.fault.PlayFault.{PlayFault}
 use Rattle.play_midend.specs.declared.moves.Move.{Move}
 use Rattle.play_midend.specs.declared.moves.Move.TheVariants.{Restart as Back, Solve as Filling}
 use Rattle.play_midend.specs.MoveTexts.{move_by}
-use Rattle.play_midend.specs.Histories.{History, with_move, full_refusal, played, past, SolveGives}
-use Rattle.byte_text.specs.Reading.{◌>>=◌}
+use Rattle.play_midend.specs.Histories.{History, with_move, full_refusal, past, SolveGives}
 use Rattle.play_midend.specs.Steps.{unless_refused}
+use Rattle.play_midend.specs.Laws.{Call, Play, ToSolution, CallGives}
 use Rattle.play_midend.proofs.MoveTextLaws.{move_again}
 use Rattle.puzzle_cli.specs.declared.command.Command.{Command}
 use Rattle.puzzle_cli.specs.declared.command.Command.TheVariants.{New, Quit, Ask}
 use Rattle.puzzle_cli.specs.declared.command.Request.{Request}
 use Rattle.puzzle_cli.specs.declared.command.Request.TheVariants.{Move as Make, Solutions, Plain}
-use Rattle.puzzle_cli.specs.declared.command.Word.{Word}
-use Rattle.puzzle_cli.specs.declared.command.Word.TheVariants.{Solve}
+use Rattle.puzzle_cli.specs.declared.command.Word.TheVariants.{Act, Tell}
 use Rattle.puzzle_cli.specs.declared.refusal.Refusal.{Refusal}
 use Rattle.puzzle_cli.specs.Lines.{Line}
 use Rattle.puzzle_cli.specs.GameFacts.{GameFacts}
 use Rattle.puzzle_cli.specs.NewSessions.{IsIdRead, IdBegins, TextBegins, generated_game}
-use Rattle.puzzle_cli.specs.SessionReplies.{Outcome, IsMoveRead, TextPlays, SolveSays, SolveReplies, WordGives, RequestGives, call_outcome, text_outcome}
+use Rattle.puzzle_cli.specs.SessionReplies.{Outcome, IsMoveRead, CallSays, CallReplies, MoveReplies, RequestGives, call_of, text_outcome}
 use Rattle.puzzle_cli.specs.SolutionTexts.{listed_lines, move_line}
 use Rattle.puzzle_cli.specs.Refusals.{refusal_name}
 use Rattle.puzzle_cli.specs.Replies.{Writes, ReadGives, CommandGives, AmpleReply, begun, refusal_line}
@@ -47,11 +46,6 @@ move_read_once text (Ok m) (Ok k) h l =
 move_read_once text (Ok m) (Err e) h l = absurd (l.0 m h)
 move_read_once text (Err e) (Ok m) h l = absurd (h.0 m l)
 move_read_once text (Err e) (Err d) h l = ap Err (h.1 ∙ sym l.1)
-
-plays_once : {P : Type 0} (p : Puzzle) (h : History P) (text : List ℕ) (one other : Result (History P) PlayFault)
-    → TextPlays p h text one → TextPlays p h text other → one ≡ other
-plays_once {P} p h text one other (r, a, is) (s, b, so) =
-    sym is ∙ ap (λ (x : Result Move PlayFault). x >>= played p h) (move_read_once text r s a b) ∙ so
 
 -- ---- solving
 
@@ -85,14 +79,24 @@ module _ {P : Type 0} (p : Puzzle) (h : History P) where
   same_grid g k new a b =
       sym (last_of-push (past h) (Filling g)) ∙ ap (λ (s : History P). last_of s.moves) (a ∙ sym b) ∙ last_of-push (past h) (Filling k)
 
-  says_once : (exact : Result (History P) PlayFault) (one other : Outcome P) → SolveSays h exact one → SolveSays h exact other → one ≡ other
-  says_once (Ok new) one other (g, a, is) (k, b, so) =
-      sym is ∙ ap (λ (m : Move). text_outcome new (move_line m)) (same_grid g k new a b) ∙ so
-  says_once (Err fault) one other is so = sym is ∙ so
+  call_once : (call : Call) (one other : Result (History P) PlayFault) → CallGives p h call one → CallGives p h call other → one ≡ other
+  call_once ToSolution one other is so = solves_once one other is so
+  call_once call one other is so = is ∙ sym so
 
-  solve_once : (one other : Outcome P) → SolveReplies p h one → SolveReplies p h other → one ≡ other
-  solve_once one other (exact, gives, says) (e, g, s) =
-      says_once exact one other says (subst (λ (x : Result (History P) PlayFault). SolveSays h x other) (solves_once e exact g gives) s)
+  says_once : (call : Call) (exact : Result (History P) PlayFault) (one other : Outcome P)
+      → CallSays h call exact one → CallSays h call exact other → one ≡ other
+  says_once ToSolution (Ok new) one other (g, a, is) (k, b, so) =
+      sym is ∙ ap (λ (m : Move). text_outcome new (move_line m)) (same_grid g k new a b) ∙ so
+  says_once ToSolution (Err fault) one other is so = sym is ∙ so
+  says_once call exact one other is so = sym is ∙ so
+
+  replies_once : (call : Call) (one other : Outcome P) → CallReplies p h call one → CallReplies p h call other → one ≡ other
+  replies_once call one other (exact, gives, says) (e, g, s) =
+      says_once call exact one other says (subst (λ (x : Result (History P) PlayFault). CallSays h call x other) (call_once call e exact g gives) s)
+
+  move_once : (read : Result Move PlayFault) (one other : Outcome P) → MoveReplies p h read one → MoveReplies p h read other → one ≡ other
+  move_once (Ok m) one other is so = replies_once (Play m) one other is so
+  move_once (Err fault) one other is so = sym is ∙ so
 
 -- ---- the parts of an outcome
 
@@ -135,17 +139,15 @@ id_begins_once {P} f laws (Ok (Seeded params seed)) one other (made, gives, is) 
 id_begins_once f laws (Err fault) one other is so = sym is ∙ so
 
 module _ {P : Type 0} (f : GameFacts P) (laws : ItemLaws f.rules) (ids : IdsAreReadOnce f) where
-  word_once : (h : History P) (word : Word) (one other : Outcome P) → WordGives f h word one → WordGives f h word other → one ≡ other
-  word_once h Solve one other is so = solve_once (f.rules.puzzle h.puzzle) h one other is so
-  word_once h word one other is so = sym is ∙ so
-
   request_once : (h : History P) (request : Request (List ℕ)) (one other : Outcome P) → RequestGives f h request one
       → RequestGives f h request other → one ≡ other
-  request_once h (Make text) one other (e, plays, is) (d, does, so) =
-      sym is ∙ ap call_outcome (plays_once (f.rules.puzzle h.puzzle) h text e d plays does) ∙ so
+  request_once h (Make text) one other (r, a, is) (s, b, so) =
+      move_once (f.rules.puzzle h.puzzle) h r one other is
+      (subst (λ (read : Result Move PlayFault). MoveReplies (f.rules.puzzle h.puzzle) h read other) (move_read_once text s r b a) so)
   request_once h (Solutions n) one other (xs, first, is) (ys, least, so) =
       sym is ∙ ap (λ l. text_outcome h (listed_lines l)) (first_once (Solves (f.rules.puzzle h.puzzle)) n xs ys first least) ∙ so
-  request_once h (Plain word) one other is so = word_once h word one other is so
+  request_once h (Plain (Act action)) one other is so = replies_once (f.rules.puzzle h.puzzle) h (call_of action) one other is so
+  request_once h (Plain (Tell view)) one other is so = sym is ∙ so
 
   begins_once : (text : List ℕ) (one other : Result (History P) StartFault) → TextBegins f text one → TextBegins f text other → one ≡ other
   begins_once text one other (r, a, is) (s, b, so) =

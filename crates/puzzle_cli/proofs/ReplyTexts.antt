@@ -19,11 +19,11 @@ first_byte a b e = ap (λ l. get_or l 0 0) e
 pub not_ok : (bytes name : List ℕ) → bytes ≡ ok_line → bytes ≡ refusal_line name → ⊥
 not_ok bytes name a b = let e : 111 ≡ 114 = first_byte ok_line (refusal_line name) (sym a ∙ b) in omega (arith, e)
 
-pub not_solution : (bytes name : List ℕ) (g : GridValue) → bytes ≡ move_line (Filling g) → bytes ≡ refusal_line name → ⊥
+not_solution : (bytes name : List ℕ) (g : GridValue) → bytes ≡ move_line (Filling g) → bytes ≡ refusal_line name → ⊥
 not_solution bytes name g a b = let e : 83 ≡ 114 = first_byte (move_line (Filling g)) (refusal_line name) (sym a ∙ b) in omega (arith, e)
 
 -- what was made is no refusal
-made_or_refused : (call : Call) (bytes name : List ℕ) → IsMade call bytes → bytes ≡ refusal_line name → ⊥
+pub made_or_refused : (call : Call) (bytes name : List ℕ) → IsMade call bytes → bytes ≡ refusal_line name → ⊥
 made_or_refused ToSolution bytes name (g, a) b = not_solution bytes name g a b
 made_or_refused call bytes name a b = not_ok bytes name a b
 

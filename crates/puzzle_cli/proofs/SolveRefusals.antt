@@ -4,20 +4,21 @@ use Rattle.trail_solver.specs.Puzzles.{Puzzle}
 use Rattle.play_midend.specs.declared.fault.PlayFault.{PlayFault}
 use Rattle.play_midend.specs.declared.fault.PlayFault.TheVariants.{OutOfMemory, NoSolution, SeveralSolutions}
 use Rattle.play_midend.specs.Histories.{History, SolveGives, IsRefusal, IsSolveRefusal}
+use Rattle.play_midend.specs.Laws.{ToSolution}
 use Rattle.puzzle_cli.specs.declared.refusal.Refusal.TheVariants.{Play}
-use Rattle.puzzle_cli.specs.SessionReplies.{SolveSays, SolveReplies}
+use Rattle.puzzle_cli.specs.SessionReplies.{SolveSays, CallReplies, CallTakesMemory}
 use Rattle.puzzle_cli.specs.Replies.{Explains}
 
 module _ {P : Type 0} (p : Puzzle) (h : History P) where
   abbrev IsSolveExplained : PlayFault → Type 0
-  IsSolveExplained fault = Explains (SolveReplies p h) ((new : History P) × SolveGives p h (Ok new)) (Play fault)
+  IsSolveExplained fault = Explains (CallReplies p h ToSolution) (CallTakesMemory p h ToSolution) (Play fault)
 
   said : (fault : PlayFault) (exact : Result (History P) PlayFault) → SolveGives p h exact
       → exact ≡ Err fault → SolveSays h (Err fault) (Err (Play fault)) → IsSolveExplained fault
   said fault exact gives is says = inl (Err fault, subst (SolveGives p h) is gives, says)
 
   without_memory : (exact : Result (History P) PlayFault) → SolveGives p h exact → IsOk exact → IsSolveExplained OutOfMemory
-  without_memory (Ok new) gives is = inr ((new, gives), refl)
+  without_memory (Ok new) gives is = inr ((new, gives, refl), refl)
   without_memory (Err fault) gives is = cc
 
   explained : (fault : PlayFault) (exact : Result (History P) PlayFault) → SolveGives p h exact

@@ -7,10 +7,11 @@ use Rattle.play_midend.specs.declared.fault.PlayFault.{PlayFault}
 use Rattle.play_midend.specs.Faults.{play_fault_name}
 use Rattle.play_midend.specs.Histories.{History, IsValid, undone, redone}
 use Rattle.play_midend.specs.Laws.{Call, Play, FromStart, ToSolution, CallGives, IsSameBack, may_want_memory}
-use Rattle.play_midend.specs.Laws.{Undo as ToUndo, Redo as ToRedo}
+use Rattle.play_midend.specs.Laws
 use Rattle.play_midend.proofs.SessionLaws.{undo_takes_back, undo_takes_restart_back, undo_takes_solve_back, redo_takes_undo_back}
 use Rattle.puzzle_cli.specs.declared.command.Request.TheVariants.{Plain}
-use Rattle.puzzle_cli.specs.declared.command.Word.TheVariants.{Undo, Redo}
+use Rattle.puzzle_cli.specs.declared.command.Word.TheVariants.{Act}
+use Rattle.puzzle_cli.specs.declared.command.Action.TheVariants.{Undo, Redo}
 use Rattle.puzzle_cli.specs.GameFacts.{GameFacts}
 use Rattle.puzzle_cli.specs.SessionReplies.{ok_line}
 use Rattle.puzzle_cli.specs.Replies.{Reply}
@@ -20,10 +21,10 @@ use Rattle.puzzle_cli.proofs.CallReplies.{replies_are_calls}
 
 -- ---- undo and redo
 
-undo_asks : Asks undo_line (Plain Undo)
+undo_asks : Asks undo_line (Plain (Act Undo))
 undo_asks = (codes "undo", refl, inl (refl, refl))
 
-redo_asks : Asks redo_line (Plain Redo)
+redo_asks : Asks redo_line (Plain (Act Redo))
 redo_asks = (codes "redo", refl, inr (inl (refl, refl)))
 
 -- a call that is made and then undone
@@ -33,12 +34,11 @@ taken_back : {P : Type 0} (f : GameFacts P) (h k : History P) (call : Call) → 
 taken_back f h k (Play m) valid wants gives = undo_takes_back f.rules.puzzle h k m valid (sym gives)
 taken_back f h k FromStart valid wants gives = undo_takes_restart_back f.rules.puzzle h k valid (sym gives)
 taken_back f h k ToSolution valid wants gives = undo_takes_solve_back f.rules.puzzle h k valid gives
-taken_back f h k ToUndo valid wants gives = cc
-taken_back f h k ToRedo valid wants gives = cc
+taken_back f h k call valid wants gives = cc
 
 -- what is said of an undo that succeeds
 undo_said : {P : Type 0} (f : GameFacts P) (p : Puzzle) (h k : History P) (said : List ℕ) (last : Option (History P))
-    → IsOkAnd (undone k) (IsSameBack p h) → AnswersCall f k ToUndo said last → (said ≡ ok_line) × IsSomeAnd last (IsSameBack p h)
+    → IsOkAnd (undone k) (IsSameBack p h) → AnswersCall f k Laws.Undo said last → (said ≡ ok_line) × IsSomeAnd last (IsSameBack p h)
 undo_said f p h k said None back told = absurd told
 undo_said {P} f p h k said (Some z) back (Ok u, gives, told) =
     (told, subst (λ (r : Result (History P) PlayFault). IsOkAnd r (IsSameBack p h)) (sym gives) back)
@@ -51,7 +51,7 @@ after_made : {P : Type 0} (f : GameFacts P) (h : History P) (call : Call) (bytes
 after_made f h call bytes said None last valid wants made answer reply = absurd answer
 after_made f h call bytes said (Some k) last valid wants made (Ok u, gives, told) reply =
     undo_said f (f.rules.puzzle h.puzzle) h k said last (taken_back f h k call valid wants gives)
-    (replies_are_calls f k undo_line (Plain Undo) ToUndo said last undo_asks refl reply)
+    (replies_are_calls f k undo_line (Plain (Act Undo)) Laws.Undo said last undo_asks refl reply)
 after_made f h call bytes said (Some k) last valid wants made (Err fault, gives, told) reply =
     let no_ok : IsOk {T = Unit {0}} {E = PlayFault} (Err fault) = told_made call (Err fault) bytes told made in cc
 
@@ -61,20 +61,20 @@ undo_line_takes_back f h line request call bytes said new last valid asks is wan
 
 -- what is said of a redo that succeeds
 redo_said : {P : Type 0} (f : GameFacts P) (h k : History P) (said : List ℕ) (last : Option (History P)) → redone k ≡ Ok h
-    → AnswersCall f k ToRedo said last → (said ≡ ok_line) × (last ≡ Some h)
+    → AnswersCall f k Laws.Redo said last → (said ≡ ok_line) × (last ≡ Some h)
 redo_said f h k said None back told = absurd told
 redo_said f h k said (Some z) back (Ok u, gives, told) = let same : z ≡ h = cc in (told, ap Some same)
 redo_said f h k said (Some z) back (Err fault, (stays, (exact, gives, is)), told) = cc
 
 after_undo : {P : Type 0} (f : GameFacts P) (h : History P) (said : List ℕ) (new last : Option (History P))
-    → IsValid (f.rules.puzzle h.puzzle) h → AnswersCall f h ToUndo ok_line new → Reply f new redo_line said last
+    → IsValid (f.rules.puzzle h.puzzle) h → AnswersCall f h Laws.Undo ok_line new → Reply f new redo_line said last
     → (said ≡ ok_line) × (last ≡ Some h)
 after_undo f h said None last valid answer reply = absurd answer
 after_undo f h said (Some k) last valid (Ok u, gives, told) reply =
     redo_said f h k said last (redo_takes_undo_back f.rules.puzzle h k valid (sym gives))
-    (replies_are_calls f k redo_line (Plain Redo) ToRedo said last redo_asks refl reply)
+    (replies_are_calls f k redo_line (Plain (Act Redo)) Laws.Redo said last redo_asks refl reply)
 after_undo f h said (Some k) last valid (Err fault, gives, told) reply = absurd (not_ok ok_line (play_fault_name fault) refl told)
 
 pub redo_line_takes_undo_back : {P : Type 0} (f : GameFacts P) → RedoLineTakesUndoBack f
 redo_line_takes_undo_back f h said new last valid reply again =
-    after_undo f h said new last valid (replies_are_calls f h undo_line (Plain Undo) ToUndo ok_line new undo_asks refl reply) again
+    after_undo f h said new last valid (replies_are_calls f h undo_line (Plain (Act Undo)) Laws.Undo ok_line new undo_asks refl reply) again

@@ -7,7 +7,9 @@ use Rattle.puzzle_cli.specs.declared.command.Command.TheVariants.{New, Quit, Ask
 use Rattle.puzzle_cli.specs.declared.command.Request.{Request}
 use Rattle.puzzle_cli.specs.declared.command.Request.TheVariants.{Move, Solutions, Plain}
 use Rattle.puzzle_cli.specs.declared.command.Word.{Word}
-use Rattle.puzzle_cli.specs.declared.command.Word.TheVariants.{Undo, Redo, Restart, Show, Marks, Status, Id, Done, Solve, Save}
+use Rattle.puzzle_cli.specs.declared.command.Word.TheVariants.{Act, Tell}
+use Rattle.puzzle_cli.specs.declared.command.Action.TheVariants.{Undo, Redo, Restart, Solve}
+use Rattle.puzzle_cli.specs.declared.command.View.TheVariants.{Show, Marks, Status, Id, Done, Save}
 use Rattle.puzzle_cli.specs.declared.line_fault.LineFault.{LineFault}
 use Rattle.puzzle_cli.specs.declared.line_fault.LineFault.TheVariants.{LongLine, BadCommand, NoGame}
 use Rattle.puzzle_cli.specs.Lines.{Line}
@@ -15,16 +17,16 @@ use Rattle.puzzle_cli.specs.Lines.{Line}
 -- what is asked of a session by a word alone
 abbrev pub words : List (List ℕ × Word)
 words =
-    (codes "undo", Undo)
-    ∷ (codes "redo", Redo)
-    ∷ (codes "restart", Restart)
-    ∷ (codes "show", Show)
-    ∷ (codes "marks", Marks)
-    ∷ (codes "status", Status)
-    ∷ (codes "id", Id)
-    ∷ (codes "done", Done)
-    ∷ (codes "solve", Solve)
-    ∷ (codes "save", Save)
+    (codes "undo", Act Undo)
+    ∷ (codes "redo", Act Redo)
+    ∷ (codes "restart", Act Restart)
+    ∷ (codes "show", Tell Show)
+    ∷ (codes "marks", Tell Marks)
+    ∷ (codes "status", Tell Status)
+    ∷ (codes "id", Tell Id)
+    ∷ (codes "done", Tell Done)
+    ∷ (codes "solve", Act Solve)
+    ∷ (codes "save", Tell Save)
     ∷ []
 
 -- the table has the entry under this line

@@ -8,18 +8,16 @@ use Rattle.play_midend.specs.declared.moves.Move.TheVariants.{Solve as Filling}
 use Rattle.play_midend.specs.Faults.{play_fault_name}
 use Rattle.play_midend.specs.MoveTexts.{IsMoveText}
 use Rattle.play_midend.specs.Histories.{History, IsValid, IsStorable}
-use Rattle.play_midend.specs.Laws.{Call, Play, FromStart, ToSolution, IsSameBack, Answered, may_want_memory}
-use Rattle.play_midend.specs.Laws.{Undo as ToUndo, Redo as ToRedo}
+use Rattle.play_midend.specs.Laws.{Call, Play, ToSolution, IsSameBack, Answered, may_want_memory}
 use Rattle.puzzle_cli.specs.declared.command.Command.TheVariants.{Ask}
 use Rattle.puzzle_cli.specs.declared.command.Request.{Request}
 use Rattle.puzzle_cli.specs.declared.command.Request.TheVariants.{Move as Make, Solutions, Plain}
-use Rattle.puzzle_cli.specs.declared.command.Word.{Word}
-use Rattle.puzzle_cli.specs.declared.command.Word.TheVariants.{Undo, Redo, Restart, Solve}
+use Rattle.puzzle_cli.specs.declared.command.Word.TheVariants.{Act, Tell}
 use Rattle.puzzle_cli.specs.Lines.{Line}
 use Rattle.puzzle_cli.specs.Commands.{Reading, IsRead}
 use Rattle.puzzle_cli.specs.GameFacts.{GameFacts}
 use Rattle.puzzle_cli.specs.SolutionTexts.{move_line, solve_sentence}
-use Rattle.puzzle_cli.specs.SessionReplies.{ok_line}
+use Rattle.puzzle_cli.specs.SessionReplies.{ok_line, call_of}
 use Rattle.puzzle_cli.specs.Replies.{refusal_line, AmpleReply, Reply}
 use Rattle.puzzle_cli.specs.Runs.{RepliesInTurn}
 
@@ -67,17 +65,11 @@ RepliesStayStorable {P} f =
 -- ---- the session's own calls
 
 -- the call of a session that a request is, if any
-abbrev pub IsWordCall : Word → Call → Type 0
-IsWordCall Undo call = call ≡ ToUndo
-IsWordCall Redo call = call ≡ ToRedo
-IsWordCall Restart call = call ≡ FromStart
-IsWordCall Solve call = call ≡ ToSolution
-IsWordCall _ call = ⊥
-
 abbrev pub IsCallOf : Request (List ℕ) → Call → Type 0
 IsCallOf (Make text) call = (m : Move) × IsMoveText m text × (call ≡ Play m)
 IsCallOf (Solutions n) call = ⊥
-IsCallOf (Plain word) call = IsWordCall word call
+IsCallOf (Plain (Act action)) call = call ≡ call_of action
+IsCallOf (Plain (Tell view)) call = ⊥
 
 -- what is said of a call: of a solution its move, else `ok`; the name of a refusal, or why there is no solution to fill in
 abbrev pub IsMade : Call → List ℕ → Type 0

@@ -1,8 +1,7 @@
 -- What a session says to a request, and the session that is left.
-use Rattle.std.specs.Prelude.{◌≡◌, ℕ, ◌+◌, List, [], ◌∷◌, ◌++◌, length, codes, Option, Some, None, Result, Ok, Err, IsOk}
+use Rattle.std.specs.Prelude.{◌≡◌, ℕ, ◌+◌, List, [], ◌∷◌, ◌++◌, length, codes, true, Option, Some, None, Result, Ok, Err}
 use Rattle.latin_board.specs.Squares.{GridValue}
 use Rattle.latin_board.specs.Boards.{BoardValue}
-use Rattle.byte_text.specs.Reading.{◌>>=◌}
 use Rattle.clue_rules.specs.Parameters.{params_text}
 use Rattle.trail_solver.specs.Puzzles.{Puzzle, Solves}
 use Rattle.trail_solver.specs.Listings.{AreFirst}
@@ -10,11 +9,16 @@ use Rattle.play_midend.specs.declared.fault.PlayFault.{PlayFault}
 use Rattle.play_midend.specs.declared.moves.Move.{Move}
 use Rattle.play_midend.specs.declared.moves.Move.TheVariants.{Solve as Filling}
 use Rattle.play_midend.specs.MoveTexts.{IsMoveText, move_fault}
-use Rattle.play_midend.specs.Histories.{History, shown, played, restarted, with_move, SolveGives, undone, redone}
+use Rattle.play_midend.specs.Histories.{History, shown, with_move}
+use Rattle.play_midend.specs.Laws
+use Rattle.play_midend.specs.Laws.{Call, FromStart, ToSolution, CallGives, may_want_memory}
 use Rattle.puzzle_cli.specs.declared.command.Request.{Request}
 use Rattle.puzzle_cli.specs.declared.command.Request.TheVariants.{Move as Make, Solutions, Plain}
-use Rattle.puzzle_cli.specs.declared.command.Word.{Word}
-use Rattle.puzzle_cli.specs.declared.command.Word.TheVariants.{Undo, Redo, Restart, Show, Marks, Status, Id, Done, Solve, Save}
+use Rattle.puzzle_cli.specs.declared.command.Action.{Action}
+use Rattle.puzzle_cli.specs.declared.command.View.{View}
+use Rattle.puzzle_cli.specs.declared.command.Word.TheVariants.{Act, Tell}
+use Rattle.puzzle_cli.specs.declared.command.Action.TheVariants.{Undo, Redo, Restart, Solve}
+use Rattle.puzzle_cli.specs.declared.command.View.TheVariants.{Show, Marks, Status, Id, Done, Save}
 use Rattle.puzzle_cli.specs.declared.refusal.Refusal.{Refusal}
 use Rattle.puzzle_cli.specs.declared.refusal.Refusal.TheVariants.{Play}
 use Rattle.puzzle_cli.specs.BoardTexts.{marks_lines, status_words, done_lines}
@@ -52,10 +56,6 @@ abbrev pub IsMoveRead : List ℕ → Result Move PlayFault → Type 0
 IsMoveRead text (Ok m) = IsMoveText m text
 IsMoveRead text (Err fault) = ((m : Move) → IsMoveText m text → ⊥) × (fault ≡ move_fault text)
 
--- what playing the move that a text spells makes of a session
-abbrev pub TextPlays : {P : Type 0} → Puzzle → History P → List ℕ → Result (History P) PlayFault → Type 0
-TextPlays p h text exact = (read : Result Move PlayFault) × IsMoveRead text read × ((read >>= played p h) ≡ exact)
-
 -- a sentence, or else the refusal
 abbrev pub sentence_outcome : {P : Type 0} → History P → Option (List ℕ) → PlayFault → Outcome P
 sentence_outcome h (Some sentence) fault = text_outcome h sentence
@@ -67,46 +67,58 @@ SolveSays h (Ok new) outcome =
     (g : GridValue) × (with_move h (Filling g) ≡ new) × (text_outcome new (move_line (Filling g)) ≡ outcome)
 SolveSays h (Err fault) outcome = sentence_outcome h (solve_sentence fault) fault ≡ outcome
 
-abbrev pub SolveReplies : {P : Type 0} → Puzzle → History P → Outcome P → Type 0
-SolveReplies {P} p h outcome = (exact : Result (History P) PlayFault) × SolveGives p h exact × SolveSays h exact outcome
+-- what is said of a call's answer: `solve` tells its move, the others `ok`
+abbrev pub CallSays : {P : Type 0} → History P → Call → Result (History P) PlayFault → Outcome P → Type 0
+CallSays h ToSolution exact outcome = SolveSays h exact outcome
+CallSays h call exact outcome = call_outcome exact ≡ outcome
 
--- what a word alone is answered with ample memory
-abbrev pub WordGives : {P : Type 0} → GameFacts P → History P → Word → Outcome P → Type 0
-WordGives f h Undo outcome = call_outcome (undone h) ≡ outcome
-WordGives f h Redo outcome = call_outcome (redone h) ≡ outcome
-WordGives f h Restart outcome = call_outcome (restarted h) ≡ outcome
-WordGives f h Show outcome = text_outcome h (f.drawing h.puzzle (shown_board f h)) ≡ outcome
-WordGives f h Marks outcome = text_outcome h (marks_lines (shown_board f h)) ≡ outcome
-WordGives f h Status outcome =
-    text_outcome h (status_words (shown_board f h) h.position (length h.moves + 1) ++ line_feed ∷ []) ≡ outcome
-WordGives f h Id outcome = text_outcome h (id_line f h) ≡ outcome
-WordGives f h Done outcome = text_outcome h (done_lines (shown_board f h)) ≡ outcome
-WordGives f h Save outcome = text_outcome h (save_of f.title f.desc_of h) ≡ outcome
-WordGives f h Solve outcome = SolveReplies (f.rules.puzzle h.puzzle) h outcome
+-- what is said to a call with ample memory
+abbrev pub CallReplies : {P : Type 0} → Puzzle → History P → Call → Outcome P → Type 0
+CallReplies {P} p h call outcome = (exact : Result (History P) PlayFault) × CallGives p h call exact × CallSays h call exact outcome
+
+-- The call takes memory, and nothing else refuses it.
+abbrev pub CallTakesMemory : {P : Type 0} → Puzzle → History P → Call → Type 0
+CallTakesMemory {P} p h call = (new : History P) × CallGives p h call (Ok new) × (may_want_memory call ≡ true)
+
+-- what is said to a move that was read, or to a text that is none
+abbrev pub MoveReplies : {P : Type 0} → Puzzle → History P → Result Move PlayFault → Outcome P → Type 0
+MoveReplies p h (Ok m) outcome = CallReplies p h (Laws.Play m) outcome
+MoveReplies p h (Err fault) outcome = Err (Play fault) ≡ outcome
+
+-- the call that a word asks for
+abbrev pub call_of : Action → Call
+call_of Undo = Laws.Undo
+call_of Redo = Laws.Redo
+call_of Restart = FromStart
+call_of Solve = ToSolution
+
+-- what is told of a session
+abbrev pub view_text : {P : Type 0} → GameFacts P → History P → View → List ℕ
+view_text f h Show = f.drawing h.puzzle (shown_board f h)
+view_text f h Marks = marks_lines (shown_board f h)
+view_text f h Status = status_words (shown_board f h) h.position (length h.moves + 1) ++ line_feed ∷ []
+view_text f h Id = id_line f h
+view_text f h Done = done_lines (shown_board f h)
+view_text f h Save = save_of f.title f.desc_of h
+
+-- the text takes memory
+abbrev pub ViewTakesMemory : View → Type 0
+ViewTakesMemory Status = ⊥
+ViewTakesMemory Done = ⊥
+ViewTakesMemory _ = Unit {0}
 
 -- what is said to a request with ample memory: to `list` the first solutions of the starting puzzle, so many at most
 abbrev pub RequestGives : {P : Type 0} → GameFacts P → History P → Request (List ℕ) → Outcome P → Type 0
-RequestGives {P} f h (Make text) outcome =
-    (exact : Result (History P) PlayFault) × TextPlays (f.rules.puzzle h.puzzle) h text exact × (call_outcome exact ≡ outcome)
+RequestGives f h (Make text) outcome =
+    (read : Result Move PlayFault) × IsMoveRead text read × MoveReplies (f.rules.puzzle h.puzzle) h read outcome
 RequestGives f h (Solutions n) outcome =
     (listed : List GridValue) × AreFirst (Solves (f.rules.puzzle h.puzzle)) n listed × (text_outcome h (listed_lines listed) ≡ outcome)
-RequestGives f h (Plain word) outcome = WordGives f h word outcome
-
--- The word's answer takes memory, and nothing else refuses it.
-abbrev pub WordTakesMemory : {P : Type 0} → GameFacts P → History P → Word → Type 0
-WordTakesMemory f h Undo = ⊥
-WordTakesMemory f h Redo = ⊥
-WordTakesMemory f h Restart = IsOk (restarted h)
-WordTakesMemory f h Show = Unit {0}
-WordTakesMemory f h Marks = Unit {0}
-WordTakesMemory f h Status = ⊥
-WordTakesMemory f h Id = Unit {0}
-WordTakesMemory f h Done = ⊥
-WordTakesMemory f h Save = Unit {0}
-WordTakesMemory {P} f h Solve = (new : History P) × SolveGives (f.rules.puzzle h.puzzle) h (Ok new)
+RequestGives f h (Plain (Act action)) outcome = CallReplies (f.rules.puzzle h.puzzle) h (call_of action) outcome
+RequestGives f h (Plain (Tell view)) outcome = text_outcome h (view_text f h view) ≡ outcome
 
 -- The request's answer takes memory, and nothing else refuses it.
 abbrev pub RequestTakesMemory : {P : Type 0} → GameFacts P → History P → Request (List ℕ) → Type 0
-RequestTakesMemory {P} f h (Make text) = (new : History P) × TextPlays (f.rules.puzzle h.puzzle) h text (Ok new)
+RequestTakesMemory f h (Make text) = (m : Move) × IsMoveText m text × CallTakesMemory (f.rules.puzzle h.puzzle) h (Laws.Play m)
 RequestTakesMemory f h (Solutions n) = Unit {0}
-RequestTakesMemory f h (Plain word) = WordTakesMemory f h word
+RequestTakesMemory f h (Plain (Act action)) = CallTakesMemory (f.rules.puzzle h.puzzle) h (call_of action)
+RequestTakesMemory f h (Plain (Tell view)) = ViewTakesMemory view

@@ -4,12 +4,12 @@ ghost use Rattle.std.specs.Option.{option_copied};
 ghost use Rattle.play_save.specs.Written.{save_of};
 ghost use Rattle.puzzle_cli.specs.Text.{text_bytes};
 ghost use Rattle.puzzle_cli.specs.Commands.{is_quit, request_copied, IsInRange};
-ghost use Rattle.puzzle_cli.specs.SessionReplies.{id_line, WordGives, WordTakesMemory, RequestGives, RequestTakesMemory};
+ghost use Rattle.puzzle_cli.specs.SessionReplies.{id_line, call_of, view_text, ViewTakesMemory, CallReplies, CallTakesMemory, RequestGives, RequestTakesMemory};
 ghost use Rattle.puzzle_cli.specs.Replies.{Reply, Explains};
 ghost use Rattle.puzzle_cli.specs.Answers.{Says, IsLineRefusal};
 ghost use Rattle.puzzle_cli.specs.Machines.{IsAnswer};
 
-use crate::command::{Command, Request, Word, read_command};
+use crate::command::{Action, Command, Request, View, Word, read_command};
 use crate::done_clues::done_text;
 use crate::draw::{Draw, picture};
 use crate::facts::Facts;
@@ -84,38 +84,50 @@ fn ask<P: Draw>(
     match request {
         Request::Move(text) => play_text(session, text),
         Request::Solutions(limit) => Ok(Text::Long(solution_list(alloc, session, limit)?)),
-        Request::Plain(word) => say(alloc, session, word),
+        Request::Plain(Word::Act(action)) => act(session, action),
+        Request::Plain(Word::Tell(view)) => Ok(tell(alloc, session, view)?),
     }
 }
 
-// What a session says to a word alone.
-fn say<P: Draw>(alloc: Global, session: &mut Session<P>, word: Word) -> Result<Text, Refusal>
-    ensures ok { IfOk result (λ text. WordGives ⟦<P as Facts>⟧.facts session.old word
-        (Ok (text_bytes text, Some session.new))) }
+// What a session says to a call.
+fn act<P: Draw>(session: &mut Session<P>, action: Action) -> Result<Text, Refusal>
+    ensures ok { IfOk result (λ text. CallReplies (P.puzzle session.old.puzzle) session.old
+        (call_of action) (Ok (text_bytes text, Some session.new))) }
     ensures err { OnErr result (session.new ≡ session.old) }
-    ensures why { IfErr result (Explains (WordGives ⟦<P as Facts>⟧.facts session.old word)
-        (WordTakesMemory ⟦<P as Facts>⟧.facts session.old word)) }
+    ensures why { IfErr result (Explains
+        (CallReplies (P.puzzle session.old.puzzle) session.old (call_of action))
+        (CallTakesMemory (P.puzzle session.old.puzzle) session.old (call_of action))) }
 {
-    match word {
-        Word::Undo => {
+    match action {
+        Action::Undo => {
             session.undo()?;
             Ok(Text::line("ok"))
         }
-        Word::Redo => {
+        Action::Redo => {
             session.redo()?;
             Ok(Text::line("ok"))
         }
-        Word::Restart => {
+        Action::Restart => {
             session.restart()?;
             Ok(Text::line("ok"))
         }
-        Word::Show => Ok(Text::Long(picture(alloc, session)?)),
-        Word::Marks => Ok(Text::Long(marks_text(alloc, session)?)),
-        Word::Status => Ok(Text::line(status_text(session).as_str())),
-        Word::Id => Ok(Text::Long(id_text(alloc, session)?)),
-        Word::Done => Ok(Text::Clues(done_text(session))),
-        Word::Solve => solve_reply(session),
-        Word::Save => Ok(Text::Long(save_text(alloc, session)?)),
+        Action::Solve => solve_reply(session),
+    }
+}
+
+// What is told of a session.
+fn tell<P: Draw>(alloc: Global, session: &Session<P>, view: View) -> Result<Text, OutOfMemory>
+    ensures ok { IfOk result (λ text.
+        text_bytes text ≡ view_text ⟦<P as Facts>⟧.facts session.now view) }
+    ensures err { OnErr result (ViewTakesMemory view) }
+{
+    match view {
+        View::Show => Ok(Text::Long(picture(alloc, session)?)),
+        View::Marks => Ok(Text::Long(marks_text(alloc, session)?)),
+        View::Status => Ok(Text::line(status_text(session).as_str())),
+        View::Id => Ok(Text::Long(id_text(alloc, session)?)),
+        View::Done => Ok(Text::Clues(done_text(session))),
+        View::Save => Ok(Text::Long(save_text(alloc, session)?)),
     }
 }
 

@@ -32,21 +32,35 @@ pub(crate) enum Request<T> {
 /// What is asked of a session by a word alone.
 #[derive(Clone, Copy)]
 pub(crate) enum Word {
+    /// Call the session.
+    Act(Action),
+    /// Tell something of the session, which stays as it is.
+    Tell(View),
+}
+
+/// A call of a session.
+#[derive(Clone, Copy)]
+pub(crate) enum Action {
     Undo,
     Redo,
     Restart,
-    /// Draw the board.
-    Show,
-    /// List the pencil marks.
-    Marks,
-    Status,
-    /// Write the ID of the game.
-    Id,
-    /// List the edge clues that are done.
-    Done,
     /// Fill in the only solution of the starting puzzle.
     Solve,
-    /// Write the save text.
+}
+
+/// What can be told of a session.
+#[derive(Clone, Copy)]
+pub(crate) enum View {
+    /// The board, drawn.
+    Show,
+    /// The pencil marks.
+    Marks,
+    Status,
+    /// The ID of the game.
+    Id,
+    /// The edge clues that are done.
+    Done,
+    /// The save text.
     Save,
 }
 
@@ -55,25 +69,25 @@ fn read_word(line: &[u8]) -> Option<Word>
     ensures { result ≡ word_at line.now }
 {
     let word = if line == b"undo".as_slice() {
-        Word::Undo
+        Word::Act(Action::Undo)
     } else if line == b"redo".as_slice() {
-        Word::Redo
+        Word::Act(Action::Redo)
     } else if line == b"restart".as_slice() {
-        Word::Restart
+        Word::Act(Action::Restart)
     } else if line == b"show".as_slice() {
-        Word::Show
+        Word::Tell(View::Show)
     } else if line == b"marks".as_slice() {
-        Word::Marks
+        Word::Tell(View::Marks)
     } else if line == b"status".as_slice() {
-        Word::Status
+        Word::Tell(View::Status)
     } else if line == b"id".as_slice() {
-        Word::Id
+        Word::Tell(View::Id)
     } else if line == b"done".as_slice() {
-        Word::Done
+        Word::Tell(View::Done)
     } else if line == b"solve".as_slice() {
-        Word::Solve
+        Word::Act(Action::Solve)
     } else if line == b"save".as_slice() {
-        Word::Save
+        Word::Tell(View::Save)
     } else {
         return None;
     };

@@ -2,10 +2,10 @@
 ghost use Rattle.std.specs.Prelude.{◌≡◌, ◌-◌, ◌++◌, ◌∷◌, [], List, Some, Ok, length, slice_get, IfOk, OnErr, IfErr};
 ghost use Rattle.latin_board.specs.Squares.{GridValue};
 ghost use Rattle.play_midend.specs.declared.moves.Move.{Move};
-ghost use Rattle.play_midend.specs.Histories.{History, SolveGives};
+ghost use Rattle.play_midend.specs.Laws.{ToSolution};
 ghost use Rattle.puzzle_cli.specs.Text.{text_bytes};
 ghost use Rattle.puzzle_cli.specs.SolutionTexts.{move_line};
-ghost use Rattle.puzzle_cli.specs.SessionReplies.{SolveReplies};
+ghost use Rattle.puzzle_cli.specs.SessionReplies.{CallReplies, CallTakesMemory};
 ghost use Rattle.puzzle_cli.specs.Replies.{Explains};
 
 use crate::refusal::Refusal;
@@ -23,11 +23,12 @@ type SolveLine = ArrayVec<u8, 83>;
 ///
 /// The text takes no memory, as the session has changed by then.
 pub(crate) fn solve_reply<P: Game>(session: &mut Session<P>) -> Result<Text, Refusal>
-    ensures ok { IfOk result (λ text. SolveReplies (P.puzzle session.old.puzzle) session.old
-        (Ok (text_bytes text, Some session.new))) }
+    ensures ok { IfOk result (λ text. CallReplies (P.puzzle session.old.puzzle) session.old
+        ToSolution (Ok (text_bytes text, Some session.new))) }
     ensures err { OnErr result (session.new ≡ session.old) }
-    ensures why { IfErr result (Explains (SolveReplies (P.puzzle session.old.puzzle) session.old)
-        ((new : History P) × SolveGives (P.puzzle session.old.puzzle) session.old (Ok new))) }
+    ensures why { IfErr result (Explains
+        (CallReplies (P.puzzle session.old.puzzle) session.old ToSolution)
+        (CallTakesMemory (P.puzzle session.old.puzzle) session.old ToSolution)) }
 {
     match session.solve() {
         Ok(()) => Ok(Text::Solved(solution_line(session))),

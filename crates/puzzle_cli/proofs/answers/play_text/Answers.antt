@@ -1,4 +1,4 @@
-use Rattle.std.proofs.Common.{Ok, rules}
+use Rattle.std.proofs.Common.{Ok, sym, rules}
 use Rattle.std.proofs.lemmas.Result.{err_from_is_err_and}
 use Rattle.puzzle_cli.specs.GameFacts.{facts_of}
 use Rattle.puzzle_cli.proofs.RefusedLines.{no_move, move_refused}
@@ -19,8 +19,5 @@ returns-in_err-play-clause-why g c =
     c.in_ok-read_move.ensures.found c.in_err-play.ensures.why)
 
 pub returns-clause-ok : goal.returns-clause-ok
-returns-clause-ok g c = (
-  Ok c.play.new.self,
-  (Ok c.in_ok-read_move.field-0, c.in_ok-read_move.ensures.found, c.in_ok-play.ensures.ok),
-  search rules,
-)
+returns-clause-ok g c =
+    (Ok c.in_ok-read_move.field-0, c.in_ok-read_move.ensures.found, (Ok c.play.new.self, sym c.in_ok-play.ensures.ok, search rules))
