@@ -1,6 +1,6 @@
 //! Damage to the text of a save.
 
-use crate::tally::Tally;
+use crate::outcomes::Outcomes;
 use clue_rules::Game;
 use play_save::next_record;
 use std::alloc::{AllocError, Global};
@@ -12,25 +12,29 @@ static VALUES: [u8; 10] = [0, b'\n', b'\r', b' ', b'0', b'3', b':', b'H', b'S', 
 pub(crate) fn damage<P: Game>(
     alloc: Global,
     text: &[u8],
-    tally: &mut Tally,
+    outcomes: &mut Outcomes,
 ) -> Result<(), AllocError> {
-    tally.load::<P>(alloc, text);
-    damage_bytes::<P>(alloc, text, tally)?;
+    outcomes.load::<P>(alloc, text);
+    damage_bytes::<P>(alloc, text, outcomes)?;
     let records = records_of(alloc, text)?;
-    damage_records::<P>(alloc, &records, tally)?;
-    exchange_records::<P>(alloc, &records, tally)
+    damage_records::<P>(alloc, &records, outcomes)?;
+    exchange_records::<P>(alloc, &records, outcomes)
 }
 
 // Each byte is changed, left out and doubled, and the text is cut in front of it.
-fn damage_bytes<P: Game>(alloc: Global, text: &[u8], tally: &mut Tally) -> Result<(), AllocError> {
+fn damage_bytes<P: Game>(
+    alloc: Global,
+    text: &[u8],
+    outcomes: &mut Outcomes,
+) -> Result<(), AllocError> {
     for i in 0..text.len() {
         let (front, rest) = (&text[..i], &text[i + 1..]);
         for value in VALUES.iter() {
-            tally.load::<P>(alloc, &joined(alloc, &[front, &[*value], rest])?);
+            outcomes.load::<P>(alloc, &joined(alloc, &[front, &[*value], rest])?);
         }
-        tally.load::<P>(alloc, &joined(alloc, &[front, rest])?);
-        tally.load::<P>(alloc, &joined(alloc, &[front, &[text[i]], &text[i..]])?);
-        tally.load::<P>(alloc, front);
+        outcomes.load::<P>(alloc, &joined(alloc, &[front, rest])?);
+        outcomes.load::<P>(alloc, &joined(alloc, &[front, &[text[i]], &text[i..]])?);
+        outcomes.load::<P>(alloc, front);
     }
     Ok(())
 }
@@ -39,16 +43,16 @@ fn damage_bytes<P: Game>(alloc: Global, text: &[u8], tally: &mut Tally) -> Resul
 fn damage_records<P: Game>(
     alloc: Global,
     records: &[&[u8]],
-    tally: &mut Tally,
+    outcomes: &mut Outcomes,
 ) -> Result<(), AllocError> {
     for i in 0..records.len() {
         let (front, rest) = (&records[..i], &records[i + 1..]);
         let mut text = joined(alloc, front)?;
         text.extend_from_slice(&joined(alloc, rest)?)?;
-        tally.load::<P>(alloc, &text);
+        outcomes.load::<P>(alloc, &text);
         let mut text = joined(alloc, &records[..i + 1])?;
         text.extend_from_slice(&joined(alloc, &records[i..])?)?;
-        tally.load::<P>(alloc, &text);
+        outcomes.load::<P>(alloc, &text);
     }
     Ok(())
 }
@@ -57,7 +61,7 @@ fn damage_records<P: Game>(
 fn exchange_records<P: Game>(
     alloc: Global,
     records: &[&[u8]],
-    tally: &mut Tally,
+    outcomes: &mut Outcomes,
 ) -> Result<(), AllocError> {
     for i in 0..records.len() {
         for k in i + 1..records.len() {
@@ -66,7 +70,7 @@ fn exchange_records<P: Game>(
             text.extend_from_slice(&joined(alloc, &records[i + 1..k])?)?;
             text.extend_from_slice(records[i])?;
             text.extend_from_slice(&joined(alloc, &records[k + 1..])?)?;
-            tally.load::<P>(alloc, &text);
+            outcomes.load::<P>(alloc, &text);
         }
     }
     Ok(())

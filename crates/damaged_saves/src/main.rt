@@ -14,10 +14,10 @@
 #![tactic(auto)]
 
 mod damage;
-mod tally;
+mod outcomes;
 
 use crate::damage::damage;
-use crate::tally::Tally;
+use crate::outcomes::Outcomes;
 use clue_rules::{Game, Towers, Unequal};
 use std::rt::Files;
 use std::{fs, io};
@@ -45,17 +45,17 @@ static UNEQUAL: [&str; 5] = [
 ];
 
 fn main(rt: HostRuntime) -> io::Result<()> {
-    let mut tally = Tally::new();
+    let mut outcomes = Outcomes::new();
     for name in TOWERS.iter() {
-        damage_file::<Towers>(&rt, name, &mut tally)?;
+        damage_file::<Towers>(&rt, name, &mut outcomes)?;
     }
     for name in UNEQUAL.iter() {
-        damage_file::<Unequal>(&rt, name, &mut tally)?;
+        damage_file::<Unequal>(&rt, name, &mut outcomes)?;
     }
-    let cases = tally.cases();
-    let wrong = tally.wrong();
+    let cases = outcomes.cases();
+    let wrong = outcomes.wrong();
     println!(rt; "{cases} texts, {wrong} wrong")?;
-    for name in tally.answers().iter().flatten() {
+    for name in outcomes.answers().iter().flatten() {
         println!(rt; "{name}")?;
     }
     Ok(())
@@ -64,9 +64,9 @@ fn main(rt: HostRuntime) -> io::Result<()> {
 fn damage_file<P: Game>(
     rt: &(impl Files + AllocGlobal),
     name: &str,
-    tally: &mut Tally,
+    outcomes: &mut Outcomes,
 ) -> io::Result<()> {
     let text = fs::read(rt, name)?;
-    damage::<P>(rt.alloc(), &text, tally)?;
+    damage::<P>(rt.alloc(), &text, outcomes)?;
     Ok(())
 }

@@ -8,8 +8,8 @@ use thiserror::Error;
 
 /// A read, a write or a flush failed.
 #[derive(Clone, Copy, Debug, PartialEq, Eq, Error)]
+#[error("{}", self.name())]
 pub enum DeviceFault {
-    #[error("a device failed")]
     DeviceFault,
 }
 

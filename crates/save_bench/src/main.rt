@@ -4,7 +4,7 @@
 #![tactic(auto)]
 
 use clue_rules::Towers;
-use play_midend::{Move, Session};
+use play_midend::{MOST_STATES, Move, Session};
 use play_save::{load, save};
 use std::alloc::Global;
 use std::io;
@@ -19,7 +19,7 @@ const FRESH: &[u8] =
     b"SAVEFILE:41:Simon Tatham's Portable Puzzle Collection\nVERSION :1:1\nGAME    :6:Towers\nPARAMS  :1:9\nCPARAMS :1:9\nDESC    :35:///////////////////////////////////\nNSTATES :1:1\nSTATEPOS:1:1\n";
 
 // The moves of a full history: numbers, cleared squares, and now and then all marks or a restart.
-fn made(i: u32) -> Move {
+fn made(i: usize) -> Move {
     let x = (i % 9) as u8;
     let y = (i / 9 % 9) as u8;
     let n = (i / 81 % 10) as u8;
@@ -34,7 +34,7 @@ fn made(i: u32) -> Move {
 // A full history.
 fn history(alloc: Global) -> Option<Session<Towers>> {
     let mut session = load::<Towers>(alloc, FRESH).ok()?;
-    for i in 0..99_999u32 {
+    for i in 0..MOST_STATES - 1 {
         session.play(made(i)).ok()?;
     }
     Some(session)

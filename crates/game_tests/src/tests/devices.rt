@@ -1,6 +1,8 @@
 //! Reads, writes and flushes that fail, and full sinks.
 
-use super::script::{EASY, FIRST_RUN, Pace, Played, Transcript, check_status, failing_at, play};
+use super::script::{
+    EASY, FIRST_RUN, Played, Settings, Transcript, check_status, failing_at, play,
+};
 use clue_rules::Towers;
 use puzzle_cli::End;
 use std::process::Abort;
@@ -94,7 +96,7 @@ fn each_read_fails_in_turn(rt: HostRuntime) -> Result<(), Fail> {
     let mut call = 0u64;
     for byte in &whole.input {
         call = call.wrapping_add(1);
-        let reads = Pace {
+        let reads = Settings {
             piece: 1,
             fails_at: call,
         };

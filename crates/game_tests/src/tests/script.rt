@@ -28,20 +28,20 @@ pub(crate) const FIRST_RUN: [(&str, &str); 5] = [
 
 /// How a device over memory works: at most so many bytes in a call, and which call fails, or 0 for none.
 #[derive(Clone, Copy)]
-pub(crate) struct Pace {
+pub(crate) struct Settings {
     pub piece: usize,
     pub fails_at: u64,
 }
 
 /// A device that never fails.
-pub(crate) const EASY: Pace = Pace {
+pub(crate) const EASY: Settings = Settings {
     piece: 512,
     fails_at: 0,
 };
 
 /// A device that fails at a call.
-pub(crate) fn failing_at(call: u64) -> Pace {
-    Pace {
+pub(crate) fn failing_at(call: u64) -> Settings {
+    Settings {
         fails_at: call,
         ..EASY
     }
@@ -92,8 +92,8 @@ pub(crate) fn play<P: Draw>(
     rt: &impl Abort,
     alloc: Global,
     input: &[u8],
-    reads: Pace,
-    writes: Pace,
+    reads: Settings,
+    writes: Settings,
     room: usize,
 ) -> Result<Played<P>, Fail> {
     play_on::<P>(rt, alloc, None, input, reads, writes, room)
@@ -105,8 +105,8 @@ pub(crate) fn play_on<P: Draw>(
     alloc: Global,
     session: Option<Session<P>>,
     input: &[u8],
-    reads: Pace,
-    writes: Pace,
+    reads: Settings,
+    writes: Settings,
     room: usize,
 ) -> Result<Played<P>, Fail> {
     assert!(rt; reads.piece >= 1 && writes.piece >= 1);
@@ -129,8 +129,8 @@ pub(crate) fn compare<P: Draw>(
     output: &[u8],
 ) -> Result<(), Fail> {
     for piece in [1usize, 2, 7, 512] {
-        let pace = Pace { piece, fails_at: 0 };
-        let played = play::<P>(rt, alloc, input, pace, pace, output.len())?;
+        let settings = Settings { piece, fails_at: 0 };
+        let played = play::<P>(rt, alloc, input, settings, settings, output.len())?;
         assert_eq!(rt; played.end, End::Finished, "pieces of {piece}");
         assert_eq!(rt; played.written.as_slice(), output, "pieces of {piece}");
     }

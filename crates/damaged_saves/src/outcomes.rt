@@ -10,16 +10,16 @@ const ANSWERS: usize = 15;
 
 /// How many texts were loaded, how many answers were wrong, and which answers came: `loads`, then the refusals by their numbers.
 #[derive(Drop)]
-pub(crate) struct Tally {
+pub(crate) struct Outcomes {
     cases: u64,
     wrong: u64,
     answers: [Option<&'static str>; ANSWERS],
 }
 
-impl Tally {
+impl Outcomes {
     /// Nothing was loaded yet.
-    pub(crate) fn new() -> Tally {
-        Tally {
+    pub(crate) fn new() -> Outcomes {
+        Outcomes {
             cases: 0,
             wrong: 0,
             answers: [None; ANSWERS],
