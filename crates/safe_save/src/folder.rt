@@ -131,6 +131,9 @@ pub trait Folder {
         ensures time { tells → Elapses Same (state self.old) (state self.new) }
         ensures cause { tells → HasCause Call.FlushFolder (state self.old) (state self.new) result };
 
+    // What stands is among what a crash may leave.
+    ghost may_stand: { (folder : Self) → tells → (state folder).may_leave (state folder).stands };
+
     // What a crash may leave now it might have left since any earlier moment.
     ghost counts_now: { (folder : Self) (t : ℕ) (f : Image) → tells → t ≤ (state folder).moment
         → (state folder).may_leave f → (state folder).left_since t f };
