@@ -1,9 +1,8 @@
 -- One change joins those that were made.
-use Rattle.std.proofs.Common.{◌≡◌, ◌≤◌, ◌+◌, ◌⊎◌, inl, inr, ⊎_elim, ℕ, List, [], ◌∷◌, ◌++◌, length, take, sym, ◌∙◌, ap, arith, length-append}
+use Rattle.std.proofs.Common.{◌≡◌, ◌≤◌, ◌+◌, inl, inr, ℕ, List, [], ◌∷◌, ◌++◌, length, take, sym, ◌∙◌, ap, arith, length-append}
 use Rattle.std.proofs.lemmas.List.{take_all, take-append-le}
 use Rattle.std.proofs.lemmas.Bool.{cases_eq}
-use Rattle.safe_save.specs.Folder.{Image, Same}
-use Rattle.safe_save.specs.Changes.{image_of, HasStood, ChangesGoOn}
+use Rattle.safe_save.specs.Changes.{image_of, ChangesGoOn}
 use Rattle.safe_save.specs.declared.changes.Change.{Change}
 
 module _ (old : List Change) (change : Change) where

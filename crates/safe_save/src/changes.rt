@@ -1,8 +1,8 @@
 //! The changes of a folder over memory.
 
 ghost use Rattle.std.specs.Prelude.{◌≡◌, ◌≢◌, Some, None, option_map, IfOk, OnOk, OnErr};
-ghost use Rattle.safe_save.specs.Folder.{Touched, TouchedBoth, Appended, Moved};
-ghost use Rattle.safe_save.specs.Changes.{image_of, IsChanged, StandsSame, ChangesGoOn};
+ghost use Rattle.safe_save.specs.Folder.{Touched, TouchedBoth, Appended, Moved, MayMove, Follows, Elapses};
+ghost use Rattle.safe_save.specs.Changes.{image_of, IsChanged, StandsSame, ChangesGoOn, content_told};
 
 use std::alloc::{AllocError, Global};
 
@@ -79,7 +79,8 @@ pub(crate) fn set_content(
     ensures set { OnOk result (image_of changes.new.items name.now ≡ option_map (λ bytes. bytes.items) content) }
     ensures kept { OnErr result (StandsSame changes.old.items changes.new.items) }
     ensures others { Touched name.now (image_of changes.old.items) (image_of changes.new.items) }
-    ensures time { ChangesGoOn changes.old.items changes.new.items }
+    ensures crash { Follows (Touched name.now) (content_told changes.old.items) (content_told changes.new.items) }
+    ensures time { Elapses (Touched name.now) (content_told changes.old.items) (content_told changes.new.items) }
 {
     add(alloc, changes, name, content, name)
 }
@@ -94,7 +95,8 @@ pub(crate) fn put(
     ensures set { OnOk result (image_of changes.new.items name.now ≡ Some bytes.now) }
     ensures kept { OnErr result (StandsSame changes.old.items changes.new.items) }
     ensures others { Touched name.now (image_of changes.old.items) (image_of changes.new.items) }
-    ensures time { ChangesGoOn changes.old.items changes.new.items }
+    ensures crash { Follows (Touched name.now) (content_told changes.old.items) (content_told changes.new.items) }
+    ensures time { Elapses (Touched name.now) (content_told changes.old.items) (content_told changes.new.items) }
 {
     let content = bytes.to_vec(alloc)?;
     set_content(alloc, changes, name, Some(content))
@@ -120,7 +122,8 @@ pub(crate) fn append(
     ensures appended { OnOk result (Appended name.now bytes.now (image_of changes.old.items) (image_of changes.new.items)) }
     ensures kept { OnErr result (StandsSame changes.old.items changes.new.items) }
     ensures others { Touched name.now (image_of changes.old.items) (image_of changes.new.items) }
-    ensures time { ChangesGoOn changes.old.items changes.new.items }
+    ensures crash { Follows (Touched name.now) (content_told changes.old.items) (content_told changes.new.items) }
+    ensures time { Elapses (Touched name.now) (content_told changes.old.items) (content_told changes.new.items) }
 {
     match copy_of(alloc, changes, name)? {
         Some(mut content) => {
@@ -142,7 +145,8 @@ pub(crate) fn move_content(
     ensures moved { OnOk result (Moved from.now to.now (image_of changes.old.items) (image_of changes.new.items)) }
     ensures kept { OnErr result (StandsSame changes.old.items changes.new.items) }
     ensures others { TouchedBoth from.now to.now (image_of changes.old.items) (image_of changes.new.items) }
-    ensures time { ChangesGoOn changes.old.items changes.new.items }
+    ensures crash { Follows (MayMove from.now to.now) (content_told changes.old.items) (content_told changes.new.items) }
+    ensures time { Elapses (MayMove from.now to.now) (content_told changes.old.items) (content_told changes.new.items) }
 {
     let content = copy_of(alloc, changes, from)?;
     add(alloc, changes, to, content, from)
