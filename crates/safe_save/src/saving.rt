@@ -77,7 +77,14 @@ pub fn save<F: Folder>(
         let _ = folder.remove(beside);
         return Err(SaveFault::NotSaved);
     }
-    replace(folder, path, beside, bytes)
+    match folder.rename(beside, path) {
+        Ok(()) => match folder.flush_folder(path) {
+            Ok(()) => Ok(()),
+            Err(_) => Err(SaveFault::NotFlushed),
+        },
+        Err(FolderFault::Refused) => in_place(folder, path, beside, bytes),
+        Err(_) => Err(SaveFault::LeftBeside),
+    }
 }
 
 // Fills the new file, which is empty.
@@ -95,44 +102,6 @@ fn fill<F: Folder>(
     folder.take_after(beside, path)?;
     folder.write(beside, bytes)?;
     folder.flush(beside)
-}
-
-// Puts the new file, which is filled, in the place of the old one.
-fn replace<F: Folder>(
-    folder: &mut F,
-    path: &str,
-    beside: &str,
-    bytes: &[u8],
-) -> Result<(), SaveFault>
-    requires apart { beside.now ≢ path.now }
-    requires filled { F.tells → IsStored beside.now bytes.now (F.state folder.old) }
-    ensures saved { F.tells → OnOk result (IsStored path.now bytes.now (F.state folder.new)) }
-    ensures flushed { F.tells → IsErrOf result SaveFault.NotFlushed
-        → (F.state folder.new).stands path.now ≡ Some bytes.now }
-    ensures tried { IsGivenUp result → ⊥ }
-    ensures left { F.tells → IsErrOf result SaveFault.LeftBeside
-        → IsLeftBeside path.now beside.now bytes.now (F.state folder.new) }
-    ensures left_path { F.tells → IsErrOf result SaveFault.LeftBeside
-        → KeepsPath path.now (F.state folder.old) (F.state folder.new) }
-    ensures others { F.tells → TouchedBoth beside.now path.now (F.state folder.old).stands (F.state folder.new).stands }
-    ensures gone { F.tells → IsCleared result → ((F.state folder.new).stands beside.now ≡ None)
-        ⊎ HasFailed Call.Remove (F.state folder.old) (F.state folder.new) }
-    ensures any_moment { F.tells → LeavesOnly (F.state folder.old) (F.state folder.new)
-        (IsOldOrNew path.now beside.now bytes.now (F.state folder.old) (F.state folder.new)) }
-    ensures faults { F.tells → KeepsFaults (F.state folder.old) (F.state folder.new) }
-    ensures left_beside { F.tells → IsErrOf result SaveFault.LeftBeside
-        → HasFailed Call.Rename (F.state folder.old) (F.state folder.new) }
-    ensures not_flushed { F.tells → IsErrOf result SaveFault.NotFlushed
-        → HasFailed Call.FlushFolder (F.state folder.old) (F.state folder.new) }
-{
-    match folder.rename(beside, path) {
-        Ok(()) => match folder.flush_folder(path) {
-            Ok(()) => Ok(()),
-            Err(_) => Err(SaveFault::NotFlushed),
-        },
-        Err(FolderFault::Refused) => in_place(folder, path, beside, bytes),
-        Err(_) => Err(SaveFault::LeftBeside),
-    }
 }
 
 // Writes over the old file, and takes the new one away, which is filled.
