@@ -18,7 +18,7 @@ module _ (old : List Change) (change : Change) where
   whole : (k : ℕ) (name : List ℕ) → k ≡ length old + 1 → image_of (take k grown) name ≡ image_of grown name
   whole k name is = ap (λ all. image_of all name) (take_all k grown (omega (arith, size, is)))
 
-  -- what has stood since is the same, and what stands behind the change
+  -- what has stood since is the same, and what stands after the change
   pub grows : ChangesGoOn old grown
   grows = record {
     later = omega (arith, size);

@@ -38,7 +38,8 @@ pub fn save<F: Folder>(
         → (F.state folder.new).stands path.now ≡ Some bytes.now }
 
     // What stands at the path is what stood there.
-    ensures kept { F.tells → IsGivenUp result → Keeps path.now (F.state folder.old) (F.state folder.new) }
+    ensures kept { F.tells → IsGivenUp result
+        → Keeps path.now (F.state folder.old) (F.state folder.new) }
 
     // The bytes stand beside, and the path is as it was, unless a rename was refused and an overwrite failed.
     ensures left { F.tells → IsErrOf result SaveFault.LeftBeside
@@ -46,7 +47,8 @@ pub fn save<F: Folder>(
     ensures left_path { F.tells → IsErrOf result SaveFault.LeftBeside
         → KeepsPath path.now (F.state folder.old) (F.state folder.new) }
 
-    ensures others { F.tells → TouchedBoth beside.now path.now (F.state folder.old).stands (F.state folder.new).stands }
+    ensures others { F.tells → TouchedBoth beside.now path.now (F.state folder.old).stands
+        (F.state folder.new).stands }
     ensures gone { F.tells → IsCleared result
         → KeepsBeside beside.now (F.state folder.old) (F.state folder.new) }
 
@@ -116,13 +118,15 @@ fn in_place<F: Folder>(
     ensures saved { F.tells → OnOk result (IsStored path.now bytes.now (F.state folder.new)) }
     ensures one_fault { OnErr result (result ≡ Err SaveFault.LeftBeside) }
     ensures left { F.tells → OnErr result (IsStored beside.now bytes.now (F.state folder.new)) }
-    ensures others { F.tells → TouchedBoth beside.now path.now (F.state folder.old).stands (F.state folder.new).stands }
+    ensures others { F.tells → TouchedBoth beside.now path.now (F.state folder.old).stands
+        (F.state folder.new).stands }
     ensures gone { F.tells → OnOk result (((F.state folder.new).stands beside.now ≡ None)
         ⊎ HasFailed Call.Remove (F.state folder.old) (F.state folder.new)) }
     ensures any_moment { F.tells → LeavesOnly (F.state folder.old) (F.state folder.new)
         (IsAtEither path.now beside.now bytes.now) }
     ensures faults { F.tells → KeepsFaults (F.state folder.old) (F.state folder.new) }
-    ensures cause { F.tells → OnErr result (HasFailed Call.Overwrite (F.state folder.old) (F.state folder.new)) }
+    ensures cause { F.tells → OnErr result (HasFailed Call.Overwrite (F.state folder.old)
+        (F.state folder.new)) }
 {
     if folder.overwrite(path, bytes).is_err() {
         return Err(SaveFault::LeftBeside);
