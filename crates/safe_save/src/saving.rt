@@ -38,8 +38,7 @@ pub fn save<F: Folder>(
         → (F.state folder.new).stands path.now ≡ Some bytes.now }
 
     // What stands at the path is what stood there.
-    ensures kept { F.tells → IsGivenUp result
-        → Keeps path.now (F.state folder.old) (F.state folder.new) }
+    ensures kept { F.tells → IsGivenUp result → Keeps path.now (F.state folder.old) (F.state folder.new) }
 
     // The bytes stand beside, and the path is as it was, unless a rename was refused and an overwrite failed.
     ensures left { F.tells → IsErrOf result SaveFault.LeftBeside
@@ -47,8 +46,7 @@ pub fn save<F: Folder>(
     ensures left_path { F.tells → IsErrOf result SaveFault.LeftBeside
         → KeepsPath path.now (F.state folder.old) (F.state folder.new) }
 
-    ensures others { F.tells → TouchedBoth beside.now path.now (F.state folder.old).stands
-        (F.state folder.new).stands }
+    ensures others { F.tells → TouchedBoth beside.now path.now (F.state folder.old).stands (F.state folder.new).stands }
     ensures gone { F.tells → IsCleared result
         → KeepsBeside beside.now (F.state folder.old) (F.state folder.new) }
 
@@ -79,14 +77,7 @@ pub fn save<F: Folder>(
         let _ = folder.remove(beside);
         return Err(SaveFault::NotSaved);
     }
-    match folder.rename(beside, path) {
-        Ok(()) => match folder.flush_folder(path) {
-            Ok(()) => Ok(()),
-            Err(_) => Err(SaveFault::NotFlushed),
-        },
-        Err(FolderFault::Refused) => in_place(folder, path, beside, bytes),
-        Err(_) => Err(SaveFault::LeftBeside),
-    }
+    replace(folder, path, beside, bytes)
 }
 
 // Fills the new file, which is empty.
@@ -106,6 +97,44 @@ fn fill<F: Folder>(
     folder.flush(beside)
 }
 
+// Puts the new file, which is filled, in the place of the old one.
+fn replace<F: Folder>(
+    folder: &mut F,
+    path: &str,
+    beside: &str,
+    bytes: &[u8],
+) -> Result<(), SaveFault>
+    requires apart { beside.now ≢ path.now }
+    requires filled { F.tells → IsStored beside.now bytes.now (F.state folder.old) }
+    ensures saved { F.tells → OnOk result (IsStored path.now bytes.now (F.state folder.new)) }
+    ensures flushed { F.tells → IsErrOf result SaveFault.NotFlushed
+        → (F.state folder.new).stands path.now ≡ Some bytes.now }
+    ensures tried { IsGivenUp result → ⊥ }
+    ensures left { F.tells → IsErrOf result SaveFault.LeftBeside
+        → IsLeftBeside path.now beside.now bytes.now (F.state folder.new) }
+    ensures left_path { F.tells → IsErrOf result SaveFault.LeftBeside
+        → KeepsPath path.now (F.state folder.old) (F.state folder.new) }
+    ensures others { F.tells → TouchedBoth beside.now path.now (F.state folder.old).stands (F.state folder.new).stands }
+    ensures gone { F.tells → IsCleared result → ((F.state folder.new).stands beside.now ≡ None)
+        ⊎ HasFailed Call.Remove (F.state folder.old) (F.state folder.new) }
+    ensures any_moment { F.tells → LeavesOnly (F.state folder.old) (F.state folder.new)
+        (IsOldOrNew path.now beside.now bytes.now (F.state folder.old) (F.state folder.new)) }
+    ensures faults { F.tells → KeepsFaults (F.state folder.old) (F.state folder.new) }
+    ensures left_beside { F.tells → IsErrOf result SaveFault.LeftBeside
+        → HasFailed Call.Rename (F.state folder.old) (F.state folder.new) }
+    ensures not_flushed { F.tells → IsErrOf result SaveFault.NotFlushed
+        → HasFailed Call.FlushFolder (F.state folder.old) (F.state folder.new) }
+{
+    match folder.rename(beside, path) {
+        Ok(()) => match folder.flush_folder(path) {
+            Ok(()) => Ok(()),
+            Err(_) => Err(SaveFault::NotFlushed),
+        },
+        Err(FolderFault::Refused) => in_place(folder, path, beside, bytes),
+        Err(_) => Err(SaveFault::LeftBeside),
+    }
+}
+
 // Writes over the old file, and takes the new one away, which is filled.
 fn in_place<F: Folder>(
     folder: &mut F,
@@ -118,15 +147,13 @@ fn in_place<F: Folder>(
     ensures saved { F.tells → OnOk result (IsStored path.now bytes.now (F.state folder.new)) }
     ensures one_fault { OnErr result (result ≡ Err SaveFault.LeftBeside) }
     ensures left { F.tells → OnErr result (IsStored beside.now bytes.now (F.state folder.new)) }
-    ensures others { F.tells → TouchedBoth beside.now path.now (F.state folder.old).stands
-        (F.state folder.new).stands }
+    ensures others { F.tells → TouchedBoth beside.now path.now (F.state folder.old).stands (F.state folder.new).stands }
     ensures gone { F.tells → OnOk result (((F.state folder.new).stands beside.now ≡ None)
         ⊎ HasFailed Call.Remove (F.state folder.old) (F.state folder.new)) }
     ensures any_moment { F.tells → LeavesOnly (F.state folder.old) (F.state folder.new)
         (IsAtEither path.now beside.now bytes.now) }
     ensures faults { F.tells → KeepsFaults (F.state folder.old) (F.state folder.new) }
-    ensures cause { F.tells → OnErr result (HasFailed Call.Overwrite (F.state folder.old)
-        (F.state folder.new)) }
+    ensures cause { F.tells → OnErr result (HasFailed Call.Overwrite (F.state folder.old) (F.state folder.new)) }
 {
     if folder.overwrite(path, bytes).is_err() {
         return Err(SaveFault::LeftBeside);
