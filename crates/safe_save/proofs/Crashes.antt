@@ -1,31 +1,30 @@
 -- What a crash leaves of a folder where each change is made at once: what stands there.
-use Rattle.std.proofs.Common.{length, inl, inr, ⊎_elim, List, ℕ, refl, ◌∙◌}
-use Rattle.safe_save.specs.Folder.{Image, Same, Touched, TouchedBoth, Moved, MayMove, GoesOn}
-use Rattle.safe_save.specs.Changes.{image_of, HasStood, ChangesGoOn}
+use Rattle.std.proofs.Common.{inl, inr, ⊎_elim, List, ℕ, ◌≡◌, refl, ◌∙◌}
+use Rattle.std.specs.Prelude.{Result, Ok, Err, OnOk, OnErr}
+use Rattle.safe_save.specs.Folder.{Image, Same, Touched, TouchedBoth, MayMove, Follows, Elapses}
+use Rattle.safe_save.specs.Changes.{image_of, ChangesGoOn, content_told}
 use Rattle.safe_save.specs.declared.changes.Change.{Change}
 
--- behind a call that touches one name
-pub touched : (name : List ℕ) (old new : Image) → Touched name old new → (f : Image) → Same new f → (g : Image) × Same old g × Touched name g f
-touched name old new others f same = (old, λ n. refl, λ n apart. same n ∙ others n apart)
+-- after a call that touches one name
+pub touched : (name : List ℕ) (old new : List Change) → Touched name (image_of old) (image_of new) → Follows (Touched name) (content_told old) (content_told new)
+touched name old new others f same = (image_of old, λ n. refl, λ n apart. same n ∙ others n apart)
 
--- behind a rename that was made
-pub moved : (from to : List ℕ) (old new : Image) → Moved from to old new → TouchedBoth from to old new → (f : Image) → Same new f → (g : Image) × Same old g × MayMove from to g f
-moved from to old new done others f same = (
-  old,
-  λ n. refl,
-  record { whole = inr (same to ∙ done.there); others = λ n apart away. same n ∙ others n apart away },
-)
-
--- behind one that wasn't
-pub not_moved : (from to : List ℕ) (old new : Image) → Same old new → (f : Image) → Same new f → (g : Image) × Same old g × MayMove from to g f
+-- where nothing was moved
+pub not_moved : (from to : List ℕ) (old new : List Change) → Same (image_of old) (image_of new) → Follows (MayMove from to) (content_told old) (content_told new)
 not_moved from to old new kept f same = (
-  old,
+  image_of old,
   λ n. refl,
   record { whole = inl (same from ∙ kept from, same to ∙ kept to); others = λ n apart away. same n ∙ kept n },
 )
 
+-- after a rename, made or not
+pub moved : {T E : Type 0} (result : Result T E) (from to : List ℕ) (old new : List Change) → OnOk result (image_of new to ≡ image_of old from) → OnErr result (Same (image_of old) (image_of new)) → TouchedBoth from to (image_of old) (image_of new) → Follows (MayMove from to) (content_told old) (content_told new)
+moved (Ok value) from to old new there kept others f same =
+    (image_of old, λ n. refl, record { whole = inr (same to ∙ there); others = λ n apart away. same n ∙ others n apart away })
+moved (Err fault) from to old new there kept others f same = not_moved from to old new kept f same
+
 -- over a call, during which nothing else stood there
-pub goes_on : (change : Image → Image → Type 0) (old new : List Change) → ChangesGoOn old new → ((f : Image) → Same (image_of new) f → (g : Image) × Same (image_of old) g × change g f) → GoesOn change (length old) (length new) (HasStood old) (HasStood new) (Same (image_of old))
+pub goes_on : (change : Image → Image → Type 0) (old new : List Change) → ChangesGoOn old new → Follows change (content_told old) (content_told new) → Elapses change (content_told old) (content_told new)
 goes_on change old new time crash = record {
   later = time.later;
   nothing_else = λ t f le stood. ⊎_elim (λ before. inl before) (λ now. inr (crash f now)) (time.nothing_else t f le stood);

@@ -1,9 +1,8 @@
 -- One change joins those that were made.
-use Rattle.std.proofs.Common.{◌≡◌, ◌≤◌, ◌+◌, ◌⊎◌, inl, inr, ⊎_elim, ℕ, List, [], ◌∷◌, ◌++◌, length, take, sym, ◌∙◌, ap, arith, length-append}
+use Rattle.std.proofs.Common.{◌≡◌, ◌≤◌, ◌+◌, inl, inr, ℕ, List, [], ◌∷◌, ◌++◌, length, take, sym, ◌∙◌, ap, arith, length-append}
 use Rattle.std.proofs.lemmas.List.{take_all, take-append-le}
 use Rattle.std.proofs.lemmas.Bool.{cases_eq}
-use Rattle.safe_save.specs.Folder.{Image, Same}
-use Rattle.safe_save.specs.Changes.{image_of, HasStood, ChangesGoOn}
+use Rattle.safe_save.specs.Changes.{image_of, ChangesGoOn}
 use Rattle.safe_save.specs.declared.changes.Change.{Change}
 
 module _ (old : List Change) (change : Change) where
@@ -19,7 +18,7 @@ module _ (old : List Change) (change : Change) where
   whole : (k : ℕ) (name : List ℕ) → k ≡ length old + 1 → image_of (take k grown) name ≡ image_of grown name
   whole k name is = ap (λ all. image_of all name) (take_all k grown (omega (arith, size, is)))
 
-  -- what has stood since is the same, and what stands behind the change
+  -- what has stood since is the same, and what stands after the change
   pub grows : ChangesGoOn old grown
   grows = record {
     later = omega (arith, size);

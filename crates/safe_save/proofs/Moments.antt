@@ -1,4 +1,4 @@
--- What crashes leave over calls that come one behind the other.
+-- What crashes leave over calls that come one after the other.
 use Rattle.std.proofs.Common.{◌≡◌, false, inl, inr, ⊎_elim, arith}
 use Rattle.std.specs.Prelude.{Result, Ok, Err, OnOk, is_err}
 use Rattle.safe_save.specs.Folder.{Image, FolderState, Elapses, LeavesOnly}

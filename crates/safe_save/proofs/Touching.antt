@@ -1,4 +1,4 @@
--- Calls that touch one name, one behind the other.
+-- Calls that touch one name, one after the other.
 use Rattle.std.proofs.Common.{inl, inr, ⊎_elim, ℕ, List, refl, ◌∙◌, arith}
 use Rattle.std.specs.Prelude.{Result, Ok, Err, OnOk}
 use Rattle.safe_save.specs.Folder.{Image, FolderState, Touched, Follows, Elapses, KeepsFaults}
@@ -21,7 +21,7 @@ by_call name old new now others crash time faults = record {
   faults = faults;
 }
 
--- one behind the other
+-- one after the other
 pub then : (name : List ℕ) (old mid new : FolderState) → TouchesOnly name old mid → TouchesOnly name mid new → TouchesOnly name old new
 then name old mid new first second = record {
   others = λ n apart. second.others n apart ∙ first.others n apart;

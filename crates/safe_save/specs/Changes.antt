@@ -1,8 +1,10 @@
 -- What stands in a folder over memory, as a list of its changes.
 use Rattle.std.specs.Prelude.{◌≡◌, ◌⊎◌, ℕ, ◌≤◌, List, length, take, fold, Option, None, option_map, if◌then◌else◌}
 use Rattle.std.specs.Str.{bytes_eq}
-use Rattle.safe_save.specs.Folder.{Image, Same}
+use Rattle.safe_save.specs.Folder.{Image, FolderState, Same}
 use Rattle.safe_save.specs.declared.changes.Change.{Change}
+use Rattle.safe_save.specs.declared.folder.Call.{Call}
+use Rattle.safe_save.specs.declared.folder.FolderFault.{FolderFault}
 
 -- what stands at a name after a change, where this stood there: the content at its name, nothing at the other, and else the same
 abbrev pub changed : List ℕ → Option (List ℕ) → Change → Option (List ℕ)
@@ -33,3 +35,17 @@ pub record ChangesGoOn (old new : List Change) : Type 0 where
   pub later : length old ≤ length new
   pub nothing_else : (t : ℕ) (f : Image) → t ≤ length old → HasStood new t f → HasStood old t f ⊎ Same (image_of new) f
   pub keeps : (t : ℕ) (f : Image) → t ≤ length old → HasStood old t f → HasStood new t f
+
+-- what a folder tells that was empty before these changes: each is made at once, so a crash leaves what stands there
+abbrev pub told : List Change → (Call → FolderFault → ℕ) → FolderState
+told changes failed = record {
+  stands = image_of changes;
+  may_leave = Same (image_of changes);
+  moment = length changes;
+  left_since = HasStood changes;
+  last_failed = failed;
+}
+
+-- the same of its content alone
+abbrev pub content_told : List Change → FolderState
+content_told changes = told changes (λ _ _. 0)

@@ -42,7 +42,7 @@ Touched name old new = (n : List ℕ) → n ≢ name → new n ≡ old n
 abbrev pub TouchedBoth : List ℕ → List ℕ → Image → Image → Type 0
 TouchedBoth one other old new = (n : List ℕ) → n ≢ one → n ≢ other → new n ≡ old n
 
--- behind what stood at the name stand these bytes
+-- after what stood at the name stand these bytes
 abbrev pub Appended : List ℕ → List ℕ → Image → Image → Type 0
 Appended name bytes old new = (before : List ℕ) → old name ≡ Some before → new name ≡ Some (before ++ bytes)
 

@@ -3,7 +3,7 @@ use Rattle.std.specs.Prelude.{◌≤◌, ℕ, List, length}
 use Rattle.std.proofs.Common.{sym, ◌∙◌, ap, arith}
 use Rattle.std.proofs.lemmas.List.{take_all}
 use Rattle.safe_save.specs.Folder.{Image, FolderState, Same}
-use Rattle.safe_save.specs.Changes.{image_of, HasStood}
+use Rattle.safe_save.specs.Changes.{image_of, HasStood, told}
 use Rattle.safe_save.specs.Failures.{last_failed_of, to_come}
 use Rattle.safe_save.specs.declared.changes.Change.{Change}
 use Rattle.safe_save.specs.declared.failures.Failing.{Failing}
@@ -17,15 +17,9 @@ contents folder = image_of folder.changes.items
 abbrev pub failing_of : MemoryFolder → Failing
 failing_of folder = to_come folder.failures
 
--- each change is done at once, so a crash leaves what stands there
+-- what a folder over memory tells
 abbrev pub memory_state : MemoryFolder → FolderState
-memory_state folder = record {
-  stands = contents folder;
-  may_leave = Same (contents folder);
-  moment = length folder.changes.items;
-  left_since = HasStood folder.changes.items;
-  last_failed = last_failed_of folder.failures;
-}
+memory_state folder = told folder.changes.items (last_failed_of folder.failures)
 
 -- what stands there now has stood there since each moment up to now
 pub stands_now : (changes : List Change) (t : ℕ) (f : Image) → t ≤ length changes → Same (image_of changes) f → HasStood changes t f

@@ -1,8 +1,8 @@
 //! The changes of a folder over memory.
 
 ghost use Rattle.std.specs.Prelude.{◌≡◌, ◌≢◌, Some, None, option_map, IfOk, OnOk, OnErr};
-ghost use Rattle.safe_save.specs.Folder.{Touched, TouchedBoth, Appended, Moved};
-ghost use Rattle.safe_save.specs.Changes.{image_of, IsChanged, StandsSame, ChangesGoOn};
+ghost use Rattle.safe_save.specs.Folder.{Touched, TouchedBoth, Appended, Moved, MayMove, Follows, Elapses};
+ghost use Rattle.safe_save.specs.Changes.{image_of, IsChanged, StandsSame, ChangesGoOn, content_told};
 
 use std::alloc::{AllocError, Global};
 
@@ -55,7 +55,8 @@ fn add(
     content: Option<Vec<u8>>,
     gone: &str,
 ) -> Result<(), AllocError>
-    ensures changed { OnOk result (IsChanged name.now (option_map (λ bytes. bytes.items) content) gone.now
+    ensures changed { OnOk result (IsChanged
+        name.now (option_map (λ bytes. bytes.items) content) gone.now
         changes.old.items changes.new.items) }
     ensures kept { OnErr result (StandsSame changes.old.items changes.new.items) }
     ensures time { ChangesGoOn changes.old.items changes.new.items }
@@ -76,10 +77,14 @@ pub(crate) fn set_content(
     name: &str,
     content: Option<Vec<u8>>,
 ) -> Result<(), AllocError>
-    ensures set { OnOk result (image_of changes.new.items name.now ≡ option_map (λ bytes. bytes.items) content) }
+    ensures set { OnOk result (image_of changes.new.items name.now
+        ≡ option_map (λ bytes. bytes.items) content) }
     ensures kept { OnErr result (StandsSame changes.old.items changes.new.items) }
     ensures others { Touched name.now (image_of changes.old.items) (image_of changes.new.items) }
-    ensures time { ChangesGoOn changes.old.items changes.new.items }
+    ensures crash { Follows (Touched name.now)
+        (content_told changes.old.items) (content_told changes.new.items) }
+    ensures time { Elapses (Touched name.now)
+        (content_told changes.old.items) (content_told changes.new.items) }
 {
     add(alloc, changes, name, content, name)
 }
@@ -94,7 +99,10 @@ pub(crate) fn put(
     ensures set { OnOk result (image_of changes.new.items name.now ≡ Some bytes.now) }
     ensures kept { OnErr result (StandsSame changes.old.items changes.new.items) }
     ensures others { Touched name.now (image_of changes.old.items) (image_of changes.new.items) }
-    ensures time { ChangesGoOn changes.old.items changes.new.items }
+    ensures crash { Follows (Touched name.now)
+        (content_told changes.old.items) (content_told changes.new.items) }
+    ensures time { Elapses (Touched name.now)
+        (content_told changes.old.items) (content_told changes.new.items) }
 {
     let content = bytes.to_vec(alloc)?;
     set_content(alloc, changes, name, Some(content))
@@ -102,7 +110,8 @@ pub(crate) fn put(
 
 // A copy of what stands under the name, as bytes that can grow; nothing stands as none.
 fn copy_of(alloc: Global, changes: &[Change], name: &str) -> Result<Option<Vec<u8>>, AllocError>
-    ensures { IfOk result (λ copy. option_map (λ bytes. bytes.items) copy ≡ image_of changes.now name.now) }
+    ensures { IfOk result (λ copy. option_map (λ bytes. bytes.items) copy
+        ≡ image_of changes.now name.now) }
 {
     match content_of(changes, name) {
         Some(bytes) => Ok(Some(bytes.to_vec(alloc)?)),
@@ -110,17 +119,21 @@ fn copy_of(alloc: Global, changes: &[Change], name: &str) -> Result<Option<Vec<u
     }
 }
 
-// Puts the bytes under the name, behind what stands there. Where nothing stands, nothing is put there.
+// Puts the bytes under the name, after what stands there. Where nothing stands, nothing is put there.
 pub(crate) fn append(
     alloc: Global,
     changes: &mut Vec<Change>,
     name: &str,
     bytes: &[u8],
 ) -> Result<(), AllocError>
-    ensures appended { OnOk result (Appended name.now bytes.now (image_of changes.old.items) (image_of changes.new.items)) }
+    ensures appended { OnOk result (Appended name.now bytes.now
+        (image_of changes.old.items) (image_of changes.new.items)) }
     ensures kept { OnErr result (StandsSame changes.old.items changes.new.items) }
     ensures others { Touched name.now (image_of changes.old.items) (image_of changes.new.items) }
-    ensures time { ChangesGoOn changes.old.items changes.new.items }
+    ensures crash { Follows (Touched name.now)
+        (content_told changes.old.items) (content_told changes.new.items) }
+    ensures time { Elapses (Touched name.now)
+        (content_told changes.old.items) (content_told changes.new.items) }
 {
     match copy_of(alloc, changes, name)? {
         Some(mut content) => {
@@ -139,10 +152,15 @@ pub(crate) fn move_content(
     to: &str,
 ) -> Result<(), AllocError>
     requires { from.now ≢ to.now }
-    ensures moved { OnOk result (Moved from.now to.now (image_of changes.old.items) (image_of changes.new.items)) }
+    ensures moved { OnOk result (Moved from.now to.now
+        (image_of changes.old.items) (image_of changes.new.items)) }
     ensures kept { OnErr result (StandsSame changes.old.items changes.new.items) }
-    ensures others { TouchedBoth from.now to.now (image_of changes.old.items) (image_of changes.new.items) }
-    ensures time { ChangesGoOn changes.old.items changes.new.items }
+    ensures others { TouchedBoth from.now to.now
+        (image_of changes.old.items) (image_of changes.new.items) }
+    ensures crash { Follows (MayMove from.now to.now)
+        (content_told changes.old.items) (content_told changes.new.items) }
+    ensures time { Elapses (MayMove from.now to.now)
+        (content_told changes.old.items) (content_told changes.new.items) }
 {
     let content = copy_of(alloc, changes, from)?;
     add(alloc, changes, to, content, from)

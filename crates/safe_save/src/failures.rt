@@ -10,7 +10,7 @@ use crate::folder::{Call, FolderFault};
 pub struct Failing {
     /// The number of the call that fails, counted from 1, or 0 where none does.
     pub at: u64,
-    /// Whether each call behind that one fails too, as where the machine has stopped.
+    /// Whether each call after that one fails too, as where the machine has stopped.
     pub stops: bool,
     /// Whether each rename is refused.
     pub refuses_rename: bool,
@@ -59,11 +59,12 @@ impl Failures {
         fault
     }
 
-    // Counts a call, and fails it where it is the one to fail, or stands behind that one in a machine that has stopped.
+    // Counts a call, and fails it where it is the one to fail, or comes after that one in a machine that has stopped.
     pub(crate) fn count_call(&mut self, call: Call, moment: usize) -> Result<(), FolderFault>
         requires { moment + 1 < 2 ^ 64 }
         ensures fails { is_err result ≡ (self.old.stopped || self.old.fails_in == 1) }
-        ensures stopped { self.new.stopped ≡ (self.old.stopped || (self.old.stops && self.old.fails_in == 1)) }
+        ensures stopped { self.new.stopped
+            ≡ (self.old.stopped || (self.old.stops && self.old.fails_in == 1)) }
         ensures counts { self.new.fails_in ≡ self.old.fails_in - 1 }
         ensures stops { self.new.stops ≡ self.old.stops }
         ensures fault { IfErr result (λ fault. fault ≡ FolderFault.Failed) }
@@ -80,25 +81,10 @@ impl Failures {
     }
 }
 
-// Where the last failure of a kind of call with a fault is kept.
+// Where the last failure of a kind of call with a fault is kept: both are counted in the order in which they are declared.
 fn place(call: Call, fault: FolderFault) -> usize
     ensures place { result ≡ place_of call fault }
     ensures bound { result < 24 }
 {
-    let call_number = match call {
-        Call::OpenNew => 0,
-        Call::Write => 1,
-        Call::TakeAfter => 2,
-        Call::Flush => 3,
-        Call::Rename => 4,
-        Call::Overwrite => 5,
-        Call::Remove => 6,
-        Call::FlushFolder => 7,
-    };
-    let fault_number = match fault {
-        FolderFault::Taken => 0,
-        FolderFault::Refused => 1,
-        FolderFault::Failed => 2,
-    };
-    3 * call_number + fault_number
+    3 * call as usize + fault as usize
 }

@@ -125,6 +125,8 @@ impl<R: Files<File = File>> Folder for FilesFolder<'_, R> {
         flush_folder(self.files, folder_of(path)).map_err(|error| fault_of(&error))
     }
 
+    ghost may_stand = { λ folder told. absurd told };
+
     ghost counts_now = { λ folder t f told. absurd told };
 
     ghost only_now = { λ folder f told. absurd told };

@@ -53,7 +53,8 @@ pub trait Folder {
         ensures free { tells → OnOk result ((state self.old).stands name.now ≡ None) }
         ensures made { tells → OnOk result ((state self.new).stands name.now ≡ Some []) }
         ensures kept { tells → OnErr result (Same (state self.old).stands (state self.new).stands) }
-        ensures taken { tells → IsErrOf result FolderFault.Taken → IsSome ((state self.old).stands name.now) }
+        ensures taken { tells → IsErrOf result FolderFault.Taken
+            → IsSome ((state self.old).stands name.now) }
         ensures others { tells → Touched name.now (state self.old).stands (state self.new).stands }
         ensures crash { tells → Follows (Touched name.now) (state self.old) (state self.new) }
         ensures time { tells → Elapses (Touched name.now) (state self.old) (state self.new) }
@@ -63,7 +64,8 @@ pub trait Folder {
     ///
     /// After a fault anything may stand at the name.
     fn write(&mut self, name: &str, bytes: &[u8]) -> Result<(), FolderFault>
-        ensures written { tells → OnOk result (Appended name.now bytes.now (state self.old).stands (state self.new).stands) }
+        ensures written { tells → OnOk result (Appended name.now bytes.now
+            (state self.old).stands (state self.new).stands) }
         ensures others { tells → Touched name.now (state self.old).stands (state self.new).stands }
         ensures crash { tells → Follows (Touched name.now) (state self.old) (state self.new) }
         ensures time { tells → Elapses (Touched name.now) (state self.old) (state self.new) }
@@ -95,11 +97,15 @@ pub trait Folder {
     /// fault what stands is unchanged, while a crash may leave the file moved.
     fn rename(&mut self, from: &str, to: &str) -> Result<(), FolderFault>
         requires { from.now ≢ to.now }
-        ensures moved { tells → OnOk result (Moved from.now to.now (state self.old).stands (state self.new).stands) }
+        ensures moved { tells → OnOk result (Moved from.now to.now (state self.old).stands
+            (state self.new).stands) }
         ensures kept { tells → OnErr result (Same (state self.old).stands (state self.new).stands) }
-        ensures refused { tells → IsErrOf result FolderFault.Refused → Follows Same (state self.old) (state self.new) }
-        ensures others { tells → TouchedBoth from.now to.now (state self.old).stands (state self.new).stands }
-        ensures crash { tells → Follows (MayMove from.now to.now) (state self.old) (state self.new) }
+        ensures refused { tells → IsErrOf result FolderFault.Refused
+            → Follows Same (state self.old) (state self.new) }
+        ensures others { tells → TouchedBoth from.now to.now (state self.old).stands
+            (state self.new).stands }
+        ensures crash { tells → Follows (MayMove from.now to.now) (state self.old)
+            (state self.new) }
         ensures time { tells → Elapses (MayMove from.now to.now) (state self.old) (state self.new) }
         ensures cause { tells → HasCause Call.Rename (state self.old) (state self.new) result };
 
@@ -129,13 +135,17 @@ pub trait Folder {
         ensures durable { tells → OnOk result (IsDurable path.now (state self.new)) }
         ensures crash { tells → Follows Same (state self.old) (state self.new) }
         ensures time { tells → Elapses Same (state self.old) (state self.new) }
-        ensures cause { tells → HasCause Call.FlushFolder (state self.old) (state self.new) result };
+        ensures cause { tells → HasCause Call.FlushFolder (state self.old)
+            (state self.new) result };
+
+    // What stands is among what a crash may leave.
+    ghost may_stand: { (folder : Self) → tells → (state folder).may_leave (state folder).stands };
 
     // What a crash may leave now it might have left since any earlier moment.
     ghost counts_now: { (folder : Self) (t : ℕ) (f : Image) → tells → t ≤ (state folder).moment
         → (state folder).may_leave f → (state folder).left_since t f };
 
     // Since this moment there is no other.
-    ghost only_now: { (folder : Self) (f : Image) → tells → (state folder).left_since (state folder).moment f
-        → (state folder).may_leave f };
+    ghost only_now: { (folder : Self) (f : Image) → tells
+        → (state folder).left_since (state folder).moment f → (state folder).may_leave f };
 }

@@ -54,11 +54,14 @@ impl MemoryFolder {
 }
 
 impl Folder for MemoryFolder {
+    ghost use Rattle.std.specs.Prelude.{refl};
     ghost use Rattle.safe_save.specs.Memory.{memory_state, stands_now, only_last};
 
     ghost tells = { Unit {0} };
 
     ghost state = { memory_state };
+
+    ghost may_stand = { λ folder tells name. refl };
 
     ghost counts_now = { λ folder t f tells le now. stands_now folder.changes.items t f le now };
 
