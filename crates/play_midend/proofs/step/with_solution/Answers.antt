@@ -6,4 +6,4 @@ pub returns : goal.returns
 returns c =
     let all : c.args.board.now.size * c.args.board.now.size ≤ c.loop-cell.cell = grind arith in
     let some : 3 * 3 ≤ c.args.board.now.size * c.args.board.now.size = grind arith in
-    numbers_all c.args.board.now c.loop-cell.next c.args.grid.now c.loop-cell.cell c.loop-cell.invariant c.size-valid.ensures.valid c.requires (omega arith) all
+    numbers_all c.args.board.now c.loop-cell.next c.args.grid.now c.loop-cell.cell c.loop-cell.invariant c.size-size.ensures.valid c.requires (omega arith) all
