@@ -177,6 +177,7 @@ impl<P: Game> Session<P> {
     ///
     /// Refused, the first that applies, with nothing changed: `NoSolution`, `SeveralSolutions`, `HistoryFull` at position
     /// `MOST_STATES`, `OutOfMemory`.
+    #[tactic(auto, using(crate::proofs::Playing::solve_refused))]
     pub fn solve(&mut self) -> Result<(), PlayFault>
         ensures ok { OnOk result (SolveGives (P.puzzle self.old.puzzle) self.old (Ok self.new)) }
         ensures err { OnErr result (self.new ≡ self.old) }
@@ -265,6 +266,7 @@ impl<P: Game> Session<P> {
     }
 
     /// The board that is shown: the past moves, replayed from the start.
+    #[tactic(auto, using(crate::proofs::Viewing::shown_viewed))]
     pub fn board(&self) -> &Board
         ensures shown { result.now ≡ shown (P.puzzle self.now.puzzle) self.now }
         ensures size { result.now.size ≡ (P.puzzle self.now.puzzle).size }

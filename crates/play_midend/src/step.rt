@@ -83,6 +83,7 @@ pub(crate) fn check<P: Game>(puzzle: &P, board: &Board, m: &Move) -> Result<(), 
 }
 
 // The puzzle's givens.
+#[tactic(auto, using(crate::proofs::BoardFilling::givens_all))]
 fn givens<P: Game>(puzzle: &P) -> Grid
     ensures { result ≡ givens_of (P.puzzle puzzle.now) }
 {
@@ -132,6 +133,7 @@ fn marks_of_all(board: &Board, cell: usize) -> Marks
 }
 
 // The board with all marks at each square without a number.
+#[tactic(auto, using(crate::proofs::BoardFilling::marks_all))]
 fn with_all_marks(board: &Board) -> Board
     ensures { result ≡ all_marked board.now }
 {
@@ -153,6 +155,7 @@ fn with_all_marks(board: &Board) -> Board
 }
 
 // The board with a grid of its size filled in.
+#[tactic(auto, using(crate::proofs::BoardFilling::numbers_all))]
 fn with_solution(board: &Board, grid: &Grid) -> Board
     requires { grid.now.size ≡ board.now.size }
     ensures { result ≡ filled board.now grid.now }
@@ -248,6 +251,7 @@ pub(crate) fn change_for<P: Game>(
 ///
 /// Refused, the first that applies: `OffGrid`, `OffRange`, `GivenSquare`, `FilledSquare` and `BadSolution` as the board has
 /// it; `OutOfMemory`, which a number or a pencil mark never meets.
+#[tactic(auto, using(crate::proofs::Making::changes))]
 pub fn change_of<P: Game>(
     alloc: Global,
     puzzle: &P,

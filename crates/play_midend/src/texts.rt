@@ -125,6 +125,7 @@ fn read_text(text: &[u8]) -> Result<Move, PlayFault>
 /// zeros.
 ///
 /// `Unsupported` where the first byte is `H` or `F`, else `BadMove` where the text is no move.
+#[tactic(auto, using(crate::proofs::MoveTextLaws::reads))]
 pub fn read_move(text: &[u8]) -> Result<Move, PlayFault>
     ensures value { result ≡ move_at text.now }
     ensures found { IfOk result (λ m. IsMoveText m text.now) }
