@@ -1,6 +1,6 @@
 //! The refusals of a session.
 
-ghost use Rattle.std.specs.Prelude.{◌≡◌, codes};
+ghost use Rattle.std.specs.Prelude.{◌≡◌};
 ghost use Rattle.play_midend.specs.declared.fault.PlayFault.TheVariants.{OutOfMemory};
 ghost use Rattle.play_midend.specs.Faults.{play_fault_number, play_fault_name};
 

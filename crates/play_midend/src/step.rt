@@ -3,7 +3,6 @@
 //! A line `let _size = ..` is there for the contract of `size`, which tells the check that the board or grid is a valid one.
 
 ghost use Rattle.std.specs.Prelude.{◌≡◌, ◌<◌, ◌≤◌, ◌+◌, ◌*◌, None, Some, false, IfOk, IfErr, IsOk, OnOk, MatchResult};
-ghost use Rattle.latin_board.specs.Squares.{IsGrid};
 ghost use Rattle.latin_board.specs.Marks.{IsMarkSet};
 ghost use Rattle.latin_board.specs.Changes.{FitsBoard, OneSquare, board_after};
 ghost use Rattle.play_midend.specs.Steps.{cell_of, entry_refusal, refusal_of, with_number, with_mark_flipped, marks_of_all, all_marked, filled, givens_of, start_of, moved, takes_memory, step, IsRefusalOf, Makes};
