@@ -1,9 +1,10 @@
 -- The place at which a text is cut is what `position` answers.
-use Rattle.std.proofs.Common.{◌≡◌, ℕ, suc, ◌+◌, ◌-◌, ◌<◌, ◌≤◌, true, false, List, [], ◌∷◌, length, take, drop, Some, None, ◌==◌, cond, refl, sym, ap, ◌∙◌, arith, take_all}
+use Rattle.std.proofs.Common.{◌≡◌, ℕ, suc, ◌+◌, ◌-◌, ◌<◌, ◌≤◌, true, false, List, [], ◌∷◌, ◌++◌, length, take, drop, Some, None, ◌==◌, cond, refl, sym, ap, ◌∙◌, subst, arith, take_all}
 use Rattle.std.specs.List.{position, position_or_len}
 use Rattle.std.proofs.lemmas.Bool.Decides.{nat_tests}
 use Rattle.std.proofs.lemmas.Grind.{common_steps}
-use Rattle.byte_text.specs.Cuts.{before, behind}
+use Rattle.byte_text.specs.Cuts.{Lacks, before, behind}
+use Rattle.byte_text.proofs.CutLaws.{lacks_before, cut_parts}
 
 -- the place of the first separator, or the length
 abbrev place : ℕ → List ℕ → ℕ
@@ -62,3 +63,18 @@ before_missing c bs missing =
 
 pub behind_missing : (c : ℕ) (bs : List ℕ) → None ≡ position (λ b. b == c) bs → None ≡ behind c bs
 behind_missing c bs missing = no-place c bs (position_missing c bs missing)
+
+-- the parts that are left, in the words of the place
+pub found_first : (c : ℕ) (bs : List ℕ) (i : ℕ) → Some i ≡ position (λ b. b == c) bs → Lacks c (take i bs)
+found_first c bs i found = subst (Lacks c) (sym (before_found c bs i found)) (lacks_before c bs)
+
+pub found_parts : (c : ℕ) (bs : List ℕ) (i : ℕ) → Some i ≡ position (λ b. b == c) bs
+    → bs ≡ take i bs ++ c ∷ take (length bs - (i + 1)) (drop (i + 1) bs)
+found_parts c bs i found =
+    cut_parts c bs _ (sym (behind_found c bs i found)) ∙ ap (λ xs. xs ++ c ∷ take (length bs - (i + 1)) (drop (i + 1) bs)) (sym (before_found c bs i found))
+
+pub missing_first : (c : ℕ) (bs : List ℕ) → None ≡ position (λ b. b == c) bs → Lacks c bs
+missing_first c bs missing = subst (Lacks c) (sym (before_missing c bs missing)) (lacks_before c bs)
+
+-- what `cut` promises
+pub ruleset cuts = (before_found, behind_found, found_first, found_parts, before_missing, behind_missing, missing_first)

@@ -135,3 +135,6 @@ pub number_found : (greatest : ℕ) (bs : List ℕ) (answer : Option ℕ) → gr
     → IfSome answer (λ m. (bs ≡ decimal m) × (m ≤ greatest))
 number_found greatest bs None fits is = tt
 number_found greatest bs (Some m) fits is = number_taken greatest m bs fits (sym is)
+
+-- what `number` promises
+pub ruleset reads = (number_found, number_again)

@@ -21,6 +21,7 @@ fn with_digit(n: u64, digit: u8, greatest: u64) -> Option<u64>
     if more <= greatest { Some(more) } else { None }
 }
 
+// Apart from `number`, so that `decimal_value` is opened here alone: there its laws say what it is.
 #[tactic(auto, unfolding(crate::specs::Decimals::decimal_value))]
 fn read_number(bytes: &[u8], greatest: u64) -> Option<u64>
     ensures { result ≡ decimal_value greatest bytes.now }
@@ -37,6 +38,7 @@ fn read_number(bytes: &[u8], greatest: u64) -> Option<u64>
 
 /// The number from 0 to `greatest` that `bytes` writes in decimal without leading zeros.
 /// `None` where there is no such number: no digit, another byte, a leading zero, or a number above `greatest`.
+#[tactic(auto, using(crate::proofs::DecimalLaws::reads))]
 pub fn number(bytes: &[u8], greatest: u64) -> Option<u64>
     ensures value { result ≡ decimal_value greatest bytes.now }
     ensures found { IfSome result (λ n. (bytes.now ≡ decimal n) × (n ≤ greatest)) }

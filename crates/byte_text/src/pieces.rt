@@ -3,13 +3,15 @@
 ghost use Rattle.std.specs.Prelude.{◌≡◌, ◌==◌, ◌++◌, ◌∷◌, MatchOption, option_map, position};
 ghost use Rattle.byte_text.specs.Cuts.{Lacks, before, behind};
 
-fn place_of(byte: u8, bytes: &[u8]) -> Option<usize>
-    ensures { result ≡ position (λ b. b == byte) bytes.now }
+// Where the first separator stands.
+fn place_of(separator: u8, bytes: &[u8]) -> Option<usize>
+    ensures { result ≡ position (λ b. b == separator) bytes.now }
 {
-    bytes.iter().position(|b| *b == byte)
+    bytes.iter().position(|b| *b == separator)
 }
 
 /// The bytes before the first `separator`, and those behind it where there is one.
+#[tactic(auto, using(crate::proofs::CutPlace::cuts))]
 pub fn cut(bytes: &[u8], separator: u8) -> (&[u8], Option<&[u8]>)
     ensures front { result.0.now ≡ before separator bytes.now }
     ensures rest { option_map (λ r. r.now) result.1 ≡ behind separator bytes.now }

@@ -35,13 +35,15 @@ places_alike n i x xs h all =
     let inside : k < n = omega (arith, h.long) in
     h.each k (omega arith) ∙ sym (get_or-replicate n k x 0 inside))
 
--- the givens of a puzzle, once all are written
-pub givens_all : (p : Puzzle) (grid : GridValue) (w i : ℕ) → grid.size ≡ w → w ≡ p.size → PlacesHold p.given (w * w) i grid.numbers
-    → w * w ≤ i → grid ≡ givens_of p
-givens_all p grid w i size same h all =
-    let numbers : grid.numbers ≡ map p.given (range_with_len 0 (p.size * p.size)) =
-    places_all p.given (w * w) i grid.numbers h all ∙ ap (λ v. map p.given (range_with_len 0 (v * v))) same in
-    λ k. record { size = (size ∙ same) k; numbers = numbers k }
+-- the givens of all squares before i
+pub record HasGivens (p : Puzzle) (grid : GridValue) (i : ℕ) : Type 0 where
+  pub size : grid.size ≡ p.size
+  pub numbers : PlacesHold p.given (p.size * p.size) i grid.numbers
+
+pub givens_all : (p : Puzzle) (grid : GridValue) (i : ℕ) → HasGivens p grid i → p.size * p.size ≤ i → grid ≡ givens_of p
+givens_all p grid i h all =
+    let numbers = places_all p.given (p.size * p.size) i grid.numbers h.numbers all in
+    λ k. record { size = h.size k; numbers = numbers k }
 
 -- the marks of all squares before i
 pub record HasMarks (board next : BoardValue) (i : ℕ) : Type 0 where
@@ -90,9 +92,11 @@ marks_more board next new i marks h inside is written =
     })
 
 pub numbers_all : (board next : BoardValue) (grid : GridValue) (i : ℕ) → HasNumbers board next grid i → IsGrid grid → grid.size ≡ board.size
-    → 0 < i → board.size * board.size ≤ i → next ≡ filled board grid
-numbers_all board next grid i h valid size some all =
+    → board.size * board.size ≤ i → next ≡ filled board grid
+numbers_all board next grid i h valid size all =
     let n = board.size * board.size in
+    let low : 3 ≤ board.size = rw size at valid.smallest in
+    let some : 0 < i = grind arith in
     let long : length grid.numbers ≡ n = valid.count ∙ ap (λ w. w * w) size in
     let numbers = places_same n i grid.numbers next.numbers h.numbers all long in
     let marks = places_alike n i no_marks next.marks h.marks all in

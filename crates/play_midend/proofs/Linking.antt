@@ -1,4 +1,4 @@
--- The records of a session and its board stay linked when the board is exchanged with the record before or behind it.
+-- A session's links still lead from board to board once the board is exchanged with the link before or behind it.
 use Rattle.std.proofs.Common.{◌≡◌, ◌≢◌, ℕ, suc, ◌+◌, ◌-◌, ◌<◌, ◌≤◌, false, List, [], ◌∷◌, ◌++◌, length, get_or, set, take, drop, Ok, refl, sym, ap, ◌∙◌, subst, arith, add-one, drop-cons}
 use Rattle.std.proofs.lemmas.List.{length-set, length-append, length-map, take_at, drop_at, take-set, drop-set, drop-set-lt, map-append, length-take-le, get_or-set_same, take-map, take-append-drop}
 use Rattle.std.proofs.Math.Seq.{take-suc, map-set_same}
@@ -6,10 +6,10 @@ use Rattle.latin_board.specs.Boards.{BoardValue}
 use Rattle.latin_board.specs.Changes.{ChangeValue, OneSquare, WholeBoard, FitsBoard, board_after}
 use Rattle.trail_solver.specs.Puzzles.{Puzzle}
 use Rattle.play_midend.specs.declared.moves.Move.{Move}
-use Rattle.play_midend.specs.declared.session.Record.{Record}
+use Rattle.play_midend.specs.declared.session.Link.{Link}
 use Rattle.play_midend.specs.Steps.{step, start_of, replay_from, ArePlayable, IsLegal, is_restart, begins_with_restart}
 use Rattle.play_midend.specs.declared.session.TheConstants.{MOST_STATES}
-use Rattle.play_midend.specs.Links.{moves_of, IsBack, IsAhead, ArePast, AreLater, AreLinked}
+use Rattle.play_midend.specs.Inner.Links.{moves_of, IsBack, IsAhead, ArePast, AreLater, AreLinked}
 use Rattle.play_midend.proofs.Replaying.{after_step, ArePlayable-append, restart_first-take, restart_first-push}
 
 -- the exchange keeps the size
@@ -17,159 +17,159 @@ pub size_after : (b : BoardValue) (change : ChangeValue) → FitsBoard b change 
 size_after b (OneSquare s) fits = refl
 size_after b (WholeBoard other) fits = fits
 
--- the last of the past records
-pub record LastBack (p : Puzzle) (first : BoardValue) (rs : List Record) (r : Record) (now : BoardValue) : Type 0 where
+-- the last of the past links
+pub record LastBack (p : Puzzle) (first : BoardValue) (rs : List Link) (r : Link) (now : BoardValue) : Type 0 where
   pub before : BoardValue
   pub past : ArePast p first rs before
   pub is_back : IsBack p before r now
 
-past_last : (p : Puzzle) (first : BoardValue) (rs : List Record) (r : Record) (now : BoardValue) → ArePast p first (rs ++ r ∷ []) now
+past_last : (p : Puzzle) (first : BoardValue) (rs : List Link) (r : Link) (now : BoardValue) → ArePast p first (rs ++ r ∷ []) now
     → LastBack p first rs r now
 past_last p first [] r now h = record { before = first; past = refl; is_back = subst (λ (b : BoardValue). IsBack p first r b) (sym h.2) h.1 }
 past_last p first (q ∷ rs) r now h =
     let more = past_last p h.0 rs r now h.2 in
     record { before = more.before; past = (h.0, h.1, more.past); is_back = more.is_back }
 
-past_more : (p : Puzzle) (first : BoardValue) (rs : List Record) (r : Record) (before now : BoardValue) → ArePast p first rs before
+past_more : (p : Puzzle) (first : BoardValue) (rs : List Link) (r : Link) (before now : BoardValue) → ArePast p first rs before
     → IsBack p before r now → ArePast p first (rs ++ r ∷ []) now
 past_more p first [] r before now h back = (now, subst (λ (b : BoardValue). IsBack p b r now) h back, refl)
 past_more p first (q ∷ rs) r before now h back = (h.0, h.1, past_more p h.0 rs r before now h.2 back)
 
--- the records round a place
-take_there : (records : List Record) (n : ℕ) (r : Record) → n < length records → r ≡ get_or records n r
-    → take (n + 1) records ≡ take n records ++ r ∷ []
-take_there records n r inside is =
-    rw add-one (take-suc records n r inside ∙ ap (λ x. take n records ++ x ∷ []) (sym is))
+-- the links round a place
+take_there : (links : List Link) (n : ℕ) (r : Link) → n < length links → r ≡ get_or links n r
+    → take (n + 1) links ≡ take n links ++ r ∷ []
+take_there links n r inside is =
+    rw add-one (take-suc links n r inside ∙ ap (λ x. take n links ++ x ∷ []) (sym is))
 
-drop_there : (records : List Record) (n : ℕ) (r : Record) → n < length records → r ≡ get_or records n r
-    → drop n records ≡ r ∷ drop (n + 1) records
-drop_there records n r inside is =
-    rw add-one (drop-cons records n r inside ∙ ap (λ x. x ∷ drop (suc n) records) (sym is))
+drop_there : (links : List Link) (n : ℕ) (r : Link) → n < length links → r ≡ get_or links n r
+    → drop n links ≡ r ∷ drop (n + 1) links
+drop_there links n r inside is =
+    rw add-one (drop-cons links n r inside ∙ ap (λ x. x ∷ drop (suc n) links) (sym is))
 
-pub moves_of-set : (records : List Record) (n : ℕ) (r q : Record) → r ≡ get_or records n r → q.made ≡ r.made
-    → moves_of (set records n q) ≡ moves_of records
-moves_of-set records n r q is made = map-set_same (λ (k : Record). k.made) records n q r (made ∙ ap (λ (k : Record). k.made) is)
+pub moves_of-set : (links : List Link) (n : ℕ) (r q : Link) → r ≡ get_or links n r → q.made ≡ r.made
+    → moves_of (set links n q) ≡ moves_of links
+moves_of-set links n r q is made = map-set_same (λ (k : Link). k.made) links n q r (made ∙ ap (λ (k : Link). k.made) is)
 
--- the record that stands before the position
-pub last_back : (p : Puzzle) (records : List Record) (n : ℕ) (board : BoardValue) (r : Record) → AreLinked p records (n + 1) board
-    → r ≡ get_or records n r → LastBack p (start_of p) (take n records) r board
-last_back p records n board r h is =
-    past_last p (start_of p) (take n records) r board
-    (subst (λ (rs : List Record). ArePast p (start_of p) rs board) (take_there records n r (let i = h.inside in omega arith) is) h.past)
+-- the link that stands before the position
+pub last_back : (p : Puzzle) (links : List Link) (n : ℕ) (board : BoardValue) (r : Link) → AreLinked p links (n + 1) board
+    → r ≡ get_or links n r → LastBack p (start_of p) (take n links) r board
+last_back p links n board r h is =
+    past_last p (start_of p) (take n links) r board
+    (subst (λ (rs : List Link). ArePast p (start_of p) rs board) (take_there links n r (let i = h.inside in omega arith) is) h.past)
 
-pub linked_back : (p : Puzzle) (records : List Record) (n : ℕ) (board : BoardValue) (r q : Record) (new : BoardValue)
-    → AreLinked p records (n + 1) board → r ≡ get_or records n r → new ≡ board_after board r.change → q.made ≡ r.made
-    → FitsBoard new q.change → board_after new q.change ≡ board → AreLinked p (set records n q) n new
-linked_back p records n board r q new h is at made fits back =
-    let last = last_back p records n board r h is in
-    let inside : n < length records = let i = h.inside in omega arith in
+pub linked_back : (p : Puzzle) (links : List Link) (n : ℕ) (board : BoardValue) (r q : Link) (new : BoardValue)
+    → AreLinked p links (n + 1) board → r ≡ get_or links n r → new ≡ board_after board r.change → q.made ≡ r.made
+    → FitsBoard new q.change → board_after new q.change ≡ board → AreLinked p (set links n q) n new
+linked_back p links n board r q new h is at made fits back =
+    let last = last_back p links n board r h is in
+    let inside : n < length links = let i = h.inside in omega arith in
     let e : new ≡ last.before = at ∙ last.is_back.back in
     let stepped : step p new q.made ≡ Ok board = rw (e, made) last.is_back.stepped in
     record {
       size = at_size p board r.change new h.size last.is_back.fits at;
-      inside = rw (length-set records n q) (omega arith);
-      few = rw (length-set records n q) h.few;
-      no_restart_first = rw (moves_of-set records n r q is made) h.no_restart_first;
-      past = rw (take-set records n q, e) last.past;
-      later = rw (drop-set records n q inside) (board, record { stepped = stepped; fits = fits; ahead = back }, h.later);
+      inside = rw (length-set links n q) (omega arith);
+      few = rw (length-set links n q) h.few;
+      no_restart_first = rw (moves_of-set links n r q is made) h.no_restart_first;
+      past = rw (take-set links n q, e) last.past;
+      later = rw (drop-set links n q inside) (board, record { stepped = stepped; fits = fits; ahead = back }, h.later);
     }
   where
     at_size : (p : Puzzle) (board : BoardValue) (change : ChangeValue) (new : BoardValue) → board.size ≡ p.size → FitsBoard board change → new ≡ board_after board change → new.size ≡ p.size
     at_size p board change new size fits at = ap (λ (b : BoardValue). b.size) at ∙ size_after board change fits ∙ size
 
--- the record that stands behind the position
-pub record FirstAhead (p : Puzzle) (now : BoardValue) (r : Record) (rs : List Record) : Type 0 where
+-- the link that stands behind the position
+pub record FirstAhead (p : Puzzle) (now : BoardValue) (r : Link) (rs : List Link) : Type 0 where
   pub next : BoardValue
   pub is_ahead : IsAhead p now r next
   pub later : AreLater p next rs
 
-pub first_ahead : (p : Puzzle) (records : List Record) (n : ℕ) (board : BoardValue) (r : Record) → AreLinked p records n board
-    → n < length records → r ≡ get_or records n r → FirstAhead p board r (drop (n + 1) records)
-first_ahead p records n board r h inside is =
-    let later : AreLater p board (r ∷ drop (n + 1) records) = subst (λ (rs : List Record). AreLater p board rs) (drop_there records n r inside is) h.later in
+pub first_ahead : (p : Puzzle) (links : List Link) (n : ℕ) (board : BoardValue) (r : Link) → AreLinked p links n board
+    → n < length links → r ≡ get_or links n r → FirstAhead p board r (drop (n + 1) links)
+first_ahead p links n board r h inside is =
+    let later : AreLater p board (r ∷ drop (n + 1) links) = subst (λ (rs : List Link). AreLater p board rs) (drop_there links n r inside is) h.later in
     record { next = later.0; is_ahead = later.1; later = later.2 }
 
-pub linked_ahead : (p : Puzzle) (records : List Record) (n : ℕ) (board : BoardValue) (r q : Record) (new : BoardValue)
-    → AreLinked p records n board → n < length records → r ≡ get_or records n r → new ≡ board_after board r.change → q.made ≡ r.made
-    → FitsBoard new q.change → board_after new q.change ≡ board → AreLinked p (set records n q) (n + 1) new
-linked_ahead p records n board r q new h inside is at made fits back =
-    let first = first_ahead p records n board r h inside is in
+pub linked_ahead : (p : Puzzle) (links : List Link) (n : ℕ) (board : BoardValue) (r q : Link) (new : BoardValue)
+    → AreLinked p links n board → n < length links → r ≡ get_or links n r → new ≡ board_after board r.change → q.made ≡ r.made
+    → FitsBoard new q.change → board_after new q.change ≡ board → AreLinked p (set links n q) (n + 1) new
+linked_ahead p links n board r q new h inside is at made fits back =
+    let first = first_ahead p links n board r h inside is in
     let e : new ≡ first.next = at ∙ first.is_ahead.ahead in
     let stepped : step p board q.made ≡ Ok new = rw (e, made) first.is_ahead.stepped in
-    let long : n < length (set records n q) = rw (length-set records n q) inside in
-    let there : get_or (set records n q) n q ≡ q = get_or-set_same records n q q inside in
-    let front : take (n + 1) (set records n q) ≡ take n records ++ q ∷ [] =
-    take_there (set records n q) n q long (sym there) ∙ ap (λ rs. rs ++ q ∷ []) (take-set records n q) in
+    let long : n < length (set links n q) = rw (length-set links n q) inside in
+    let there : get_or (set links n q) n q ≡ q = get_or-set_same links n q q inside in
+    let front : take (n + 1) (set links n q) ≡ take n links ++ q ∷ [] =
+    take_there (set links n q) n q long (sym there) ∙ ap (λ rs. rs ++ q ∷ []) (take-set links n q) in
     record {
       size = ap (λ (b : BoardValue). b.size) at ∙ size_after board r.change first.is_ahead.fits ∙ h.size;
-      inside = rw (length-set records n q) (omega arith);
-      few = rw (length-set records n q) h.few;
-      no_restart_first = rw (moves_of-set records n r q is made) h.no_restart_first;
-      past = subst (λ (rs : List Record). ArePast p (start_of p) rs new) (sym front)
-          (past_more p (start_of p) (take n records) q board new h.past (record { stepped = stepped; fits = fits; back = back }));
-      later = subst (λ (rs : List Record). AreLater p new rs) (sym (drop-set-lt (n + 1) records n q (omega arith)))
-          (subst (λ (b : BoardValue). AreLater p b (drop (n + 1) records)) (sym e) first.later);
+      inside = rw (length-set links n q) (omega arith);
+      few = rw (length-set links n q) h.few;
+      no_restart_first = rw (moves_of-set links n r q is made) h.no_restart_first;
+      past = subst (λ (rs : List Link). ArePast p (start_of p) rs new) (sym front)
+          (past_more p (start_of p) (take n links) q board new h.past (record { stepped = stepped; fits = fits; back = back }));
+      later = subst (λ (rs : List Link). AreLater p new rs) (sym (drop-set-lt (n + 1) links n q (omega arith)))
+          (subst (λ (b : BoardValue). AreLater p b (drop (n + 1) links)) (sym e) first.later);
     }
 
--- a new record behind the past ones
-pub linked_new : (p : Puzzle) (records : List Record) (n : ℕ) (board : BoardValue) (r : Record) (next : BoardValue)
-    → AreLinked p records n board → IsAhead p board r next → n + 2 ≤ MOST_STATES → (n ≡ 0 → is_restart r.made ≡ false)
-    → AreLinked p (take n records ++ r ∷ []) n board
-linked_new p records n board r next h ahead room restart =
+-- a new link behind the past ones
+pub linked_new : (p : Puzzle) (links : List Link) (n : ℕ) (board : BoardValue) (r : Link) (next : BoardValue)
+    → AreLinked p links n board → IsAhead p board r next → n + 2 ≤ MOST_STATES → (n ≡ 0 → is_restart r.made ≡ false)
+    → AreLinked p (take n links ++ r ∷ []) n board
+linked_new p links n board r next h ahead room restart =
     let inside = h.inside in
-    let front : length (take n records) ≡ n = length-take-le n records inside in
-    let long : length (take n records ++ r ∷ []) ≡ n + 1 = length-append (take n records) (r ∷ []) ∙ ap (λ k. k + 1) front in
-    let made : Record → Move = λ k. k.made in
-    let moves : moves_of (take n records ++ r ∷ []) ≡ moves_of (take n records) ++ r.made ∷ [] = map-append made (take n records) (r ∷ []) in
-    let first : begins_with_restart (moves_of (take n records)) ≡ false =
-    ap begins_with_restart (sym (take-map made n records)) ∙ restart_first-take n (moves_of records) h.no_restart_first in
-    let count : length (moves_of (take n records)) ≡ n = length-map (take n records) made ∙ front in
+    let front : length (take n links) ≡ n = length-take-le n links inside in
+    let long : length (take n links ++ r ∷ []) ≡ n + 1 = length-append (take n links) (r ∷ []) ∙ ap (λ k. k + 1) front in
+    let made : Link → Move = λ k. k.made in
+    let moves : moves_of (take n links ++ r ∷ []) ≡ moves_of (take n links) ++ r.made ∷ [] = map-append made (take n links) (r ∷ []) in
+    let first : begins_with_restart (moves_of (take n links)) ≡ false =
+    ap begins_with_restart (sym (take-map made n links)) ∙ restart_first-take n (moves_of links) h.no_restart_first in
+    let count : length (moves_of (take n links)) ≡ n = length-map (take n links) made ∙ front in
     record {
       size = h.size;
       inside = rw long (omega arith);
       few = rw long (omega arith);
       no_restart_first = ap begins_with_restart moves
-          ∙ restart_first-push (moves_of (take n records)) r.made first (λ none. restart (omega arith));
-      past = subst (λ (rs : List Record). ArePast p (start_of p) rs board) (sym (take_at (take n records) (r ∷ []) n front)) h.past;
-      later = subst (λ (rs : List Record). AreLater p board rs) (sym (drop_at (take n records) (r ∷ []) n front)) (next, ahead, tt);
+          ∙ restart_first-push (moves_of (take n links)) r.made first (λ none. restart (omega arith));
+      past = subst (λ (rs : List Link). ArePast p (start_of p) rs board) (sym (take_at (take n links) (r ∷ []) n front)) h.past;
+      later = subst (λ (rs : List Link). AreLater p board rs) (sym (drop_at (take n links) (r ∷ []) n front)) (next, ahead, tt);
     }
 
 -- what links say of replay
-pub replay_past : (p : Puzzle) (first : BoardValue) (rs : List Record) (now : BoardValue) → ArePast p first rs now
+pub replay_past : (p : Puzzle) (first : BoardValue) (rs : List Link) (now : BoardValue) → ArePast p first rs now
     → replay_from p first (moves_of rs) ≡ now
 replay_past p first [] now h = sym h
 replay_past p first (r ∷ rs) now h =
     ap (λ (b : BoardValue). replay_from p b (moves_of rs)) (after_step p first r.made h.0 h.1.stepped) ∙ replay_past p h.0 rs now h.2
 
-pub shown_linked : (p : Puzzle) (records : List Record) (n : ℕ) (board : BoardValue) → AreLinked p records n board
-    → replay_from p (start_of p) (take n (moves_of records)) ≡ board
-shown_linked p records n board h = rw (take-map (λ (r : Record). r.made) n records) (replay_past p (start_of p) (take n records) board h.past)
+pub shown_linked : (p : Puzzle) (links : List Link) (n : ℕ) (board : BoardValue) → AreLinked p links n board
+    → replay_from p (start_of p) (take n (moves_of links)) ≡ board
+shown_linked p links n board h = rw (take-map (λ (r : Link). r.made) n links) (replay_past p (start_of p) (take n links) board h.past)
 
-past_playable : (p : Puzzle) (first : BoardValue) (rs : List Record) (now : BoardValue) → ArePast p first rs now
+past_playable : (p : Puzzle) (first : BoardValue) (rs : List Link) (now : BoardValue) → ArePast p first rs now
     → ArePlayable p first (moves_of rs)
 past_playable p first [] now h = tt
 past_playable p first (r ∷ rs) now h =
     (rw h.1.stepped refl, subst (λ (b : BoardValue). ArePlayable p b (moves_of rs)) (sym (after_step p first r.made h.0 h.1.stepped)) (past_playable p h.0 rs now h.2))
 
-later_playable : (p : Puzzle) (now : BoardValue) (rs : List Record) → AreLater p now rs → ArePlayable p now (moves_of rs)
+later_playable : (p : Puzzle) (now : BoardValue) (rs : List Link) → AreLater p now rs → ArePlayable p now (moves_of rs)
 later_playable p now [] h = tt
 later_playable p now (r ∷ rs) h =
     (rw h.1.stepped refl, subst (λ (b : BoardValue). ArePlayable p b (moves_of rs)) (sym (after_step p now r.made h.0 h.1.stepped)) (later_playable p h.0 rs h.2))
 
-pub legal_linked : (p : Puzzle) (records : List Record) (n : ℕ) (board : BoardValue) → AreLinked p records n board
-    → IsLegal p (moves_of records)
-legal_linked p records n board h =
-    let whole : moves_of (take n records) ++ moves_of (drop n records) ≡ moves_of records =
-    sym (map-append (λ r. r.made) (take n records) (drop n records)) ∙ ap moves_of (take-append-drop n records) in
-    let later : ArePlayable p (replay_from p (start_of p) (moves_of (take n records))) (moves_of (drop n records)) =
-    rw (replay_past p (start_of p) (take n records) board h.past) (later_playable p board (drop n records) h.later) in
+pub legal_linked : (p : Puzzle) (links : List Link) (n : ℕ) (board : BoardValue) → AreLinked p links n board
+    → IsLegal p (moves_of links)
+legal_linked p links n board h =
+    let whole : moves_of (take n links) ++ moves_of (drop n links) ≡ moves_of links =
+    sym (map-append (λ r. r.made) (take n links) (drop n links)) ∙ ap moves_of (take-append-drop n links) in
+    let later : ArePlayable p (replay_from p (start_of p) (moves_of (take n links))) (moves_of (drop n links)) =
+    rw (replay_past p (start_of p) (take n links) board h.past) (later_playable p board (drop n links) h.later) in
     record {
       playable = subst (λ (ms : List Move). ArePlayable p (start_of p) ms) whole
-          (ArePlayable-append p (start_of p) (moves_of (take n records)) (moves_of (drop n records)) (past_playable p (start_of p) (take n records) board h.past) later);
+          (ArePlayable-append p (start_of p) (moves_of (take n links)) (moves_of (drop n links)) (past_playable p (start_of p) (take n links) board h.past) later);
       no_restart_first = h.no_restart_first;
     }
 
 -- one less than a position, and back
-pub with_one_less : (p : Puzzle) (records : List Record) (n : ℕ) (board : BoardValue) → AreLinked p records n board → n ≢ 0
-    → AreLinked p records ((n - 1) + 1) board
-with_one_less p records n board h some = let e : n ≡ (n - 1) + 1 = omega arith in subst (λ k. AreLinked p records k board) e h
+pub with_one_less : (p : Puzzle) (links : List Link) (n : ℕ) (board : BoardValue) → AreLinked p links n board → n ≢ 0
+    → AreLinked p links ((n - 1) + 1) board
+with_one_less p links n board h some = let e : n ≡ (n - 1) + 1 = omega arith in subst (λ k. AreLinked p links k board) e h

@@ -19,3 +19,5 @@ makes p b m change valid allowed fits board = record {
   back = board_restored b change;
   change_back = change_restored b change valid fits;
 }
+
+pub ruleset changes = (makes, step_allowed, board_restored, change_restored, fits_after)

@@ -170,3 +170,6 @@ histories_are_reached {P} puzzle h v =
     let back : length h.moves + 1 ≡ h.position + (length h.moves + 1 - h.position) = omega arith in
     ap (result_and_then (λ (last : History P). undone_times (length h.moves + 1 - h.position) last)) whole
     ∙ undo_leads_back P (with_moves h h.moves) (length h.moves + 1 - h.position) h.position low back
+
+-- the laws of a list of moves
+pub ruleset list_laws = (legal_lists_play, accepted_lists_are_legal, histories_are_reached)

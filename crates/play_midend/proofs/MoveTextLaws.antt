@@ -217,3 +217,6 @@ unfolding move_at
 read_fault text (Ok m) is = tt
 read_fault text (Err e) is =
     elim (move_by text) as (λ o. Err e ≡ ok_or o (move_fault text) → e ≡ move_fault text) [ None ↦ λ e. cc | Some k ↦ λ e. cc ] is
+
+-- what `read_move` promises
+pub ruleset reads = (read_found, read_fault)

@@ -8,14 +8,14 @@ use Rattle.latin_board.specs.Changes.{ChangeValue, FitsBoard, board_after}
 use Rattle.trail_solver.specs.Puzzles.{Puzzle}
 use Rattle.play_midend.specs.declared.moves.Move.{Move}
 use Rattle.play_midend.specs.declared.moves.Move.TheVariants.{Solve}
-use Rattle.play_midend.specs.declared.session.Record.{Record}
+use Rattle.play_midend.specs.declared.session.Link.{Link}
 use Rattle.play_midend.specs.declared.session.Session.TheInside.{Inside}
 use Rattle.play_midend.specs.declared.fault.PlayFault.{PlayFault}
 use Rattle.play_midend.specs.declared.fault.PlayFault.TheVariants.{HistoryFull, NothingToRestart}
 use Rattle.play_midend.specs.Steps.{is_restart, refusal_of, unless_refused, moved}
 use Rattle.play_midend.specs.declared.session.TheConstants.{MOST_STATES}
 use Rattle.play_midend.specs.Histories.{History, past, shown, first_state_refusal, restart_refusal, full_refusal, refusal_in, with_move, played, IsOnlySolution, IsRefusal, IsSolveRefusal, at_position}
-use Rattle.play_midend.specs.Links.{moves_of, viewed, AreLinked}
+use Rattle.play_midend.specs.Inner.Links.{moves_of, viewed, AreLinked}
 use Rattle.trail_solver.proofs.SolutionTests.{Decides-solves_test}
 use Rattle.latin_board.specs.Squares.{GridValue}
 use Rattle.play_midend.proofs.Making.{step_allowed}
@@ -30,14 +30,6 @@ or_none (Some x) b h = cc
 -- a move that isn't refused
 pub played_allowed : {P : Type 0} (p : Puzzle) (h : History P) (m : Move) → refusal_in p h m ≡ None → played p h m ≡ Ok (with_move h m)
 played_allowed p h m allowed = ap (λ o. unless_refused o (with_move h m)) allowed
-
--- the refusal at a state, over the fields of a session
-refusal_viewed : {P : Type 0} (p : Puzzle) (s : Inside P) (m : Move) → AreLinked p s.records.items s.past s.board
-    → refusal_in p (viewed s) m
-    ≡ option_or (first_state_refusal (s.past + 1) m) (option_or (refusal_of p s.board m) (full_refusal (s.past + 1)))
-refusal_viewed p s m h =
-    ap (λ (b : BoardValue). option_or (first_state_refusal (s.past + 1) m) (option_or (refusal_of p b m) (full_refusal (s.past + 1))))
-    (shown_viewed p s h)
 
 -- what an accepted move knows
 pub record Allowed (p : Puzzle) (position : ℕ) (board : BoardValue) (m : Move) : Type 0 where
@@ -64,7 +56,7 @@ allowed_in p h m allowed =
     let second = or_none (refusal_of p (shown p h) m) (full_refusal h.position) first.1 in
     allowed_parts p h.position (shown p h) m first.0 second.0 second.1
 
-pub allowed_viewed : {P : Type 0} (p : Puzzle) (s : Inside P) (m : Move) → AreLinked p s.records.items s.past s.board
+pub allowed_viewed : {P : Type 0} (p : Puzzle) (s : Inside P) (m : Move) → AreLinked p s.links.items s.past s.board
     → refusal_in p (viewed s) m ≡ None → Allowed p (s.past + 1) s.board m
 allowed_viewed p s m h allowed =
     subst (λ (b : BoardValue). Allowed p (s.past + 1) b m) (shown_viewed p s h) (allowed_in p (viewed s) m allowed)
@@ -78,33 +70,27 @@ pub not_refused : (o : Option PlayFault) {A : Type 0} (a : A) → IsOk (unless_r
 not_refused None a h = refl
 not_refused (Some fault) a h = cc
 
--- the refusal in a session, from the refusals of its parts
-pub refusal_by_parts : {P : Type 0} (p : Puzzle) (s : Inside P) (m : Move) (first second third : Option PlayFault)
-    → AreLinked p s.records.items s.past s.board → first_state_refusal (s.past + 1) m ≡ first → refusal_of p s.board m ≡ second
-    → full_refusal (s.past + 1) ≡ third → refusal_in p (viewed s) m ≡ option_or first (option_or second third)
-refusal_by_parts p s m first second third h a b c = rw (refusal_viewed p s m h, a, b, c) refl
-
--- a further record keeps the links
-pub linked_move : {P : Type 0} (p : Puzzle) (s : Inside P) (m : Move) (change : ChangeValue) → AreLinked p s.records.items s.past s.board
+-- one more link keeps them linked
+pub linked_move : {P : Type 0} (p : Puzzle) (s : Inside P) (m : Move) (change : ChangeValue) → AreLinked p s.links.items s.past s.board
     → Allowed p (s.past + 1) s.board m → FitsBoard s.board change → board_after s.board change ≡ moved p s.board m
-    → AreLinked p (take s.past s.records.items ++ record { made = m; change = change } ∷ []) s.past s.board
+    → AreLinked p (take s.past s.links.items ++ record { made = m; change = change } ∷ []) s.past s.board
 linked_move p s m change h allowed fits board_is =
     let few = h.few in
     let inside = h.inside in
     let room : s.past + 1 ≢ MOST_STATES = allowed.room in
-    linked_new p s.records.items s.past s.board (record { made = m; change = change }) (moved p s.board m) h
+    linked_new p s.links.items s.past s.board (record { made = m; change = change }) (moved p s.board m) h
     (record { stepped = step_allowed p s.board m allowed.on_board; fits = fits; ahead = board_is }) (omega arith)
     (λ zero. allowed.restart (omega arith))
 
-pub played_viewed : {P : Type 0} (p : Puzzle) (s : Inside P) (new : List Record) (m : Move) (change : ChangeValue)
-    → refusal_in p (viewed s) m ≡ None → new ≡ take s.past s.records.items ++ record { made = m; change = change } ∷ []
+pub played_viewed : {P : Type 0} (p : Puzzle) (s : Inside P) (new : List Link) (m : Move) (change : ChangeValue)
+    → refusal_in p (viewed s) m ≡ None → new ≡ take s.past s.links.items ++ record { made = m; change = change } ∷ []
     → played p (viewed s) m ≡ Ok (at_position (record (viewed s) { moves = moves_of new }) (s.past + 1 + 1))
 played_viewed {P} p s new m change allowed is =
-    let made : Record → Move = λ r. r.made in
-    let front : past (viewed s) ≡ moves_of (take s.past s.records.items) = past_viewed s ∙ take-map made s.past s.records.items in
-    let last : List Record = record { made = m; change = change } ∷ [] in
+    let made : Link → Move = λ r. r.made in
+    let front : past (viewed s) ≡ moves_of (take s.past s.links.items) = past_viewed s ∙ take-map made s.past s.links.items in
+    let last : List Link = record { made = m; change = change } ∷ [] in
     let moves : past (viewed s) ++ m ∷ [] ≡ moves_of new =
-    ap (λ ms. ms ++ m ∷ []) front ∙ sym (map-append made (take s.past s.records.items) last) ∙ ap moves_of (sym is) in
+    ap (λ ms. ms ++ m ∷ []) front ∙ sym (map-append made (take s.past s.links.items) last) ∙ ap moves_of (sym is) in
     played_allowed p (viewed s) m allowed ∙ ap (λ ms. Ok (at_position (record (viewed s) { moves = ms }) (s.past + 1 + 1))) moves
 
 -- a solution is a move that only a full history refuses

@@ -1,5 +1,5 @@
--- No call of a session is exactly refused for want of memory.
-use Rattle.std.proofs.Common.{◌≡◌, ◌≢◌, ℕ, Option, Some, None, Err, refl, sym, inl, inr, arith}
+-- No call of a session is exactly refused as OutOfMemory.
+use Rattle.std.proofs.Common.{◌≡◌, ◌≢◌, Option, Some, None, Err, refl, sym, inl, inr, arith}
 use Rattle.std.specs.Option.{option_or}
 use Rattle.latin_board.specs.Boards.{BoardValue}
 use Rattle.trail_solver.specs.Puzzles.{Puzzle}
@@ -8,31 +8,21 @@ use Rattle.play_midend.specs.declared.fault.PlayFault.TheVariants.{OutOfMemory}
 use Rattle.play_midend.specs.declared.moves.Move.{Move}
 use Rattle.play_midend.specs.declared.moves.Move.TheVariants.{Real, Pencil, MarkAll, Solve, Restart, Done}
 use Rattle.play_midend.specs.Laws.{Call, Play, FromStart, ToSolution, Undo, Redo, CallGives}
-use Rattle.play_midend.specs.Steps.{entry_refusal, mark_refusal, refusal_of, cell_of, unless_refused}
-use Rattle.play_midend.specs.Histories.{undone, redone, shown, with_move, first_state_refusal, refusal_in, restart_refusal, full_refusal, History, IsRefusal, played, restarted, SolveGives}
+use Rattle.play_midend.specs.Steps.{refusal_of, unless_refused}
+use Rattle.play_midend.specs.Histories.{undone, redone, shown, with_move, first_state_refusal, refusal_in, full_refusal, History, IsRefusal, played, restarted, SolveGives}
 
 either_spares : (first second : Option PlayFault) → first ≢ Some OutOfMemory → second ≢ Some OutOfMemory
     → option_or first second ≢ Some OutOfMemory
 either_spares None second f s = s
 either_spares (Some fault) second f s = f
 
-entry_spares : (p : Puzzle) (x y n : ℕ) → entry_refusal p x y n ≢ Some OutOfMemory
-entry_spares p x y n e = grind arith
-
 pub move_spares : (p : Puzzle) (b : BoardValue) (m : Move) → refusal_of p b m ≢ Some OutOfMemory
-move_spares p b (Real x y n) e = entry_spares p x y n e
-move_spares p b (Pencil x y n) e =
-    either_spares (entry_refusal p x y n) (mark_refusal b (cell_of p.size x y) n) (entry_spares p x y n) (λ m. grind arith) e
+move_spares p b (Real x y n) e = grind arith
+move_spares p b (Pencil x y n) e = grind arith
 move_spares p b MarkAll e = grind arith
 move_spares p b (Solve g) e = grind arith
 move_spares p b Restart e = cc
 move_spares p b (Done x y) e = grind arith
-
-first_state_spares : (position : ℕ) (m : Move) → first_state_refusal position m ≢ Some OutOfMemory
-first_state_spares position m e = grind arith
-
-full_spares : (position : ℕ) → full_refusal position ≢ Some OutOfMemory
-full_spares position e = grind arith
 
 refusal_spares : {A : Type 0} (refusal : Option PlayFault) (a : A) → refusal ≢ Some OutOfMemory → unless_refused refusal a ≢ Err OutOfMemory
 refusal_spares None a spares e = cc
@@ -41,14 +31,11 @@ refusal_spares (Some fault) a spares e = let is : Some fault ≡ Some OutOfMemor
 played_spares : {P : Type 0} (p : Puzzle) (h : History P) (m : Move) → played p h m ≢ Err OutOfMemory
 played_spares p h m =
     refusal_spares (refusal_in p h m) (with_move h m)
-    (either_spares (first_state_refusal h.position m) (option_or (refusal_of p (shown p h) m) (full_refusal h.position))
-    (first_state_spares h.position m)
-    (either_spares (refusal_of p (shown p h) m) (full_refusal h.position) (move_spares p (shown p h) m) (full_spares h.position)))
+    (either_spares (first_state_refusal h.position m) _ (λ e. grind arith)
+    (either_spares (refusal_of p (shown p h) m) (full_refusal h.position) (move_spares p (shown p h) m) (λ e. grind arith)))
 
 restarted_spares : {P : Type 0} (h : History P) → restarted h ≢ Err OutOfMemory
-restarted_spares h =
-    refusal_spares (option_or (restart_refusal h.position) (full_refusal h.position)) (with_move h Restart)
-    (either_spares (restart_refusal h.position) (full_refusal h.position) (first_state_spares h.position Restart) (full_spares h.position))
+restarted_spares h e = grind arith
 
 undone_spares : {P : Type 0} (h : History P) → undone h ≢ Err OutOfMemory
 undone_spares h e = grind arith
@@ -59,7 +46,7 @@ redone_spares h e = grind arith
 solved_spares : {P : Type 0} (p : Puzzle) (h : History P) → SolveGives p h (Err OutOfMemory) → ⊥
 solved_spares p h (inl a) = let e = a.1 in cc
 solved_spares p h (inr (inl a)) = let e = a.1 in cc
-solved_spares p h (inr (inr a)) = refusal_spares (full_refusal h.position) (with_move h (Solve a.0)) (full_spares h.position) (sym a.2)
+solved_spares p h (inr (inr a)) = refusal_spares (full_refusal h.position) (with_move h (Solve a.0)) (λ e. grind arith) (sym a.2)
 
 pub call_spares : {P : Type 0} (p : Puzzle) (h : History P) (call : Call) → CallGives p h call (Err OutOfMemory) → ⊥
 call_spares p h (Play m) is = played_spares p h m (sym is)
@@ -68,7 +55,7 @@ call_spares p h ToSolution is = solved_spares p h is
 call_spares p h Undo is = undone_spares h (sym is)
 call_spares p h Redo is = redone_spares h (sym is)
 
--- an exact refusal is the call's, and want of memory stands for success
+-- an exact refusal is the call's, and OutOfMemory stands for success
 pub exact_refusal : (A : Type 0) (fault : PlayFault) → fault ≢ OutOfMemory → IsRefusal {A = A} (Err fault) fault
 exact_refusal A OutOfMemory n = absurd (n refl)
 exact_refusal A fault n = refl

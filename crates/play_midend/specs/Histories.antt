@@ -73,7 +73,7 @@ first_state_refusal position m = if is_restart m then restart_refusal position e
 abbrev pub full_refusal : ℕ → Option PlayFault
 full_refusal position = if position == MOST_STATES then Some HistoryFull else None
 
--- the first refusal of a move at the state that is shown, want of memory left aside
+-- the first refusal of a move at the state that is shown, OutOfMemory left aside
 abbrev pub refusal_in : {P : Type 0} → Puzzle → History P → Move → Option PlayFault
 refusal_in p h m =
     option_or (first_state_refusal h.position m) (option_or (refusal_of p (shown p h) m) (full_refusal h.position))
@@ -115,7 +115,7 @@ abbrev pub redone : {P : Type 0} → History P → Result (History P) PlayFault
 redone h =
     if h.position == length h.moves + 1 then Err NothingToRedo else Ok (at_position h (h.position + 1))
 
--- a refusal of a call that takes memory: its own, or want of memory in place of success alone
+-- a refusal of a call that takes memory: its own, or OutOfMemory in place of success alone
 abbrev pub IsRefusal : {A : Type 0} → Result A PlayFault → PlayFault → Type 0
 IsRefusal exact OutOfMemory = IsOk exact
 IsRefusal exact fault = exact ≡ Err fault

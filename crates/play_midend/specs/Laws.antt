@@ -21,7 +21,7 @@ pub data Call : Type 0 where
   Undo : Call
   Redo : Call
 
--- what a call answers, want of memory left aside
+-- what a call answers, OutOfMemory left aside
 abbrev pub CallGives : {P : Type 0} → Puzzle → History P → Call → Result (History P) PlayFault → Type 0
 CallGives p h (Play m) exact = exact ≡ played p h m
 CallGives p h FromStart exact = exact ≡ restarted h

@@ -1,8 +1,13 @@
--- Moves and their texts, one move on a board, the value of a session and the laws of its calls.
+-- What the contracts of the crate say. Each of the files here is one subject, and has definitions alone.
+
+-- the refusals by number and name, and the texts of moves
 pub mod Faults
 pub mod MoveTexts
+-- one move on a board, the value of a session with what each call makes of it, and moves played in turn
 pub mod Steps
 pub mod Histories
 pub mod MoveLists
-pub mod Links
+-- the laws of a session's calls
 pub mod Laws
+-- words that the invariants and the contracts of private functions alone use
+pub mod Inner

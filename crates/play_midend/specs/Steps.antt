@@ -132,7 +132,7 @@ takes_memory (Real x y n) = false
 takes_memory (Pencil x y n) = false
 takes_memory _ = true
 
--- a refusal of a move that takes memory at most for its change: want of memory in place of success alone
+-- a refusal of a move that takes memory at most for its change: OutOfMemory in place of success alone
 abbrev pub IsRefusalOf : Move → Result BoardValue PlayFault → PlayFault → Type 0
 IsRefusalOf m exact OutOfMemory = IsOk exact × IsTrue (takes_memory m)
 IsRefusalOf m exact fault = exact ≡ Err fault

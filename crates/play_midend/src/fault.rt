@@ -1,57 +1,42 @@
 //! The refusals of a session.
 
-ghost use Rattle.std.specs.Prelude.{◌≡◌, codes};
+ghost use Rattle.std.specs.Prelude.{◌≡◌};
 ghost use Rattle.play_midend.specs.declared.fault.PlayFault.TheVariants.{OutOfMemory};
 ghost use Rattle.play_midend.specs.Faults.{play_fault_number, play_fault_name};
 
 use latin_board::OutOfMemory;
 use std::alloc::{AllocError, AllocFailed};
-use thiserror::Error;
 
 /// Why a move text, a move or another call of a session is refused.
-#[derive(Clone, Copy, Debug, PartialEq, Eq, Error)]
+#[derive(Clone, Copy, Debug, PartialEq, Eq)]
 pub enum PlayFault {
     /// The text is no move.
-    #[error("the text is no move")]
     BadMove,
     /// The text is a hint, `H`, or a spent sign, `F`, which are left out here.
-    #[error("hints and spent signs are not supported")]
     Unsupported,
     /// The square isn't on the grid, or there is no clue at the edge place.
-    #[error("there is no such square, or no such clue")]
     OffGrid,
     /// The number is greater than the size.
-    #[error("the number is greater than the size")]
     OffRange,
     /// The square is given.
-    #[error("the square is given")]
     GivenSquare,
     /// A pencil mark for a square that holds a number.
-    #[error("the square holds a number")]
     FilledSquare,
     /// The grid has another size, or is no solution.
-    #[error("the grid is no solution")]
     BadSolution,
     /// The position is the last that a history has.
-    #[error("the history is full")]
     HistoryFull,
     /// A growth was refused.
-    #[error("out of memory")]
     OutOfMemory,
     /// The first state is shown.
-    #[error("there is nothing to undo")]
     NothingToUndo,
     /// The last state is shown.
-    #[error("there is nothing to redo")]
     NothingToRedo,
     /// The first state is shown.
-    #[error("there is nothing to restart")]
     NothingToRestart,
     /// The starting puzzle has no solution.
-    #[error("the puzzle has no solution")]
     NoSolution,
     /// The starting puzzle has more than one solution.
-    #[error("the puzzle has several solutions")]
     SeveralSolutions,
 }
 

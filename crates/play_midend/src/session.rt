@@ -1,6 +1,6 @@
 //! A session: a puzzle, its history and the board that is shown.
 
-ghost use Rattle.std.specs.Prelude.{◌≡◌, ℕ, ◌+◌, ◌-◌, ◌≤◌, ◌<◌, ◌++◌, ◌∷◌, [], length, take, slice_get, false, Some, None, Ok, Err, IsOk, IfOk, IfErr, OnOk, OnErr};
+ghost use Rattle.std.specs.Prelude.{◌≡◌, ◌+◌, ◌-◌, ◌≤◌, ◌<◌, ◌++◌, ◌∷◌, [], length, take, slice_get, false, Some, None, Ok, Err, IsOk, IfOk, IfErr, OnOk, OnErr};
 ghost use Rattle.latin_board.specs.Changes.{FitsBoard, board_after};
 ghost use Rattle.play_midend.specs.declared.session.TheConstants.{MOST_STATES};
 ghost use Rattle.play_midend.specs.Steps.{takes_memory};
@@ -21,7 +21,7 @@ pub const MOST_STATES: usize = 100_000;
 
 // A move, and the change that takes it back while it is past, or makes it again while it is later.
 #[derive(Drop, Debug)]
-struct Record {
+struct Link {
     made: Move,
     change: Change,
 }
@@ -39,8 +39,8 @@ pub struct Session<P: Game> {
     next_params: Params,
     extras: Extras,
     board: Board,
-    records: Vec<Record>,
-    // How many of the records are past. Those behind them are later.
+    links: Vec<Link>,
+    // How many of the links are past. Those behind them are later.
     past: usize,
 }
 
@@ -50,57 +50,55 @@ impl<P: Game> Model for Session<P> {
 
     ghost Value = { History P };
 
-    ghost use Rattle.play_midend.specs.Links.{viewed, AreLinked};
+    ghost use Rattle.play_midend.specs.Inner.Links.{viewed, AreLinked};
 
     ghost view = { viewed };
 
     ghost invariant = { λ s. (s.params.size ≡ (P.puzzle s.puzzle).size)
-        × AreLinked (P.puzzle s.puzzle) s.records.items s.past s.board };
+        × AreLinked (P.puzzle s.puzzle) s.links.items s.past s.board };
 }
 
 // A restart needs a move to take back.
-fn check_restart(past: usize, m: &Move) -> Result<(), PlayFault>
-    requires { past < MOST_STATES }
-    ensures ok { OnOk result (first_state_refusal (past + 1) m.now ≡ None) }
-    ensures err { IfErr result (λ fault. first_state_refusal (past + 1) m.now ≡ Some fault) }
+fn check_restart(position: usize, m: &Move) -> Result<(), PlayFault>
+    ensures ok { OnOk result (first_state_refusal position m.now ≡ None) }
+    ensures err { IfErr result (λ fault. first_state_refusal position m.now ≡ Some fault) }
 {
     match m {
-        Move::Restart if past == 0 => Err(PlayFault::NothingToRestart),
+        Move::Restart if position == 1 => Err(PlayFault::NothingToRestart),
         _ => Ok(()),
     }
 }
 
 // A further state needs room in the history.
-fn check_room(past: usize) -> Result<(), PlayFault>
-    requires { past < MOST_STATES }
-    ensures ok { OnOk result (full_refusal (past + 1) ≡ None) }
-    ensures err { IfErr result (λ fault. full_refusal (past + 1) ≡ Some fault) }
+fn check_room(position: usize) -> Result<(), PlayFault>
+    ensures ok { OnOk result (full_refusal position ≡ None) }
+    ensures err { IfErr result (λ fault. full_refusal position ≡ Some fault) }
 {
-    if past + 1 == MOST_STATES {
+    if position == MOST_STATES {
         return Err(PlayFault::HistoryFull);
     }
     Ok(())
 }
 
-// Puts a record behind the past ones, in place of all that stand there, which takes no memory where one does.
-fn put(records: &mut Vec<Record>, past: usize, last: Record) -> Result<(), AllocError>
-    requires { past ≤ length records.old.items }
-    ensures ok { OnOk result (records.new.items ≡ take past records.old.items ++ last ∷ []) }
-    ensures err { OnErr result (records.new.items ≡ records.old.items) }
-    ensures in_place { past < length records.old.items → IsOk result }
+// Puts a link behind the past ones, in place of all that stand there, which takes no memory where one does.
+fn put(links: &mut Vec<Link>, past: usize, last: Link) -> Result<(), AllocError>
+    requires { past ≤ length links.old.items }
+    ensures ok { OnOk result (links.new.items ≡ take past links.old.items ++ last ∷ []) }
+    ensures err { OnErr result (links.new.items ≡ links.old.items) }
+    ensures in_place { past < length links.old.items → IsOk result }
 {
-    if past == records.len() {
-        records.push(last)?;
+    if past == links.len() {
+        links.push(last)?;
     } else {
-        records[past] = last;
-        records.truncate(past + 1);
+        links[past] = last;
+        links.truncate(past + 1);
     }
     Ok(())
 }
 
-// Exchanges what a record's change holds with what the board holds there: so a past move is taken back, and a later one made
+// Exchanges what a link's change holds with what the board holds there: so a past move is taken back, and a later one made
 // again. A second exchange restores both.
-fn exchange(board: &mut Board, link: &mut Record)
+fn exchange(board: &mut Board, link: &mut Link)
     requires { FitsBoard board.old link.old.change }
     ensures board { board.new ≡ board_after board.old link.old.change }
     ensures made { link.new.made ≡ link.old.made }
@@ -126,9 +124,9 @@ impl<P: Game> Session<P> {
     ) -> Result<Session<P>, PlayFault>
         requires { params.size ≡ (P.puzzle puzzle).size }
         ensures ok { IfOk result (λ s. s ≡ started puzzle params next_params extras) }
-        ensures only_memory { IfErr result (λ fault. fault ≡ PlayFault.OutOfMemory) }
+        ensures only_out_of_memory { IfErr result (λ fault. fault ≡ PlayFault.OutOfMemory) }
     {
-        let records = Vec::with_capacity(alloc, 1)?;
+        let links = Vec::with_capacity(alloc, 1)?;
         let board = start(&puzzle);
         Ok(Session {
             puzzle,
@@ -136,7 +134,7 @@ impl<P: Game> Session<P> {
             next_params,
             extras,
             board,
-            records,
+            links,
             past: 0,
         })
     }
@@ -156,9 +154,9 @@ impl<P: Game> Session<P> {
             → IfErr result (λ fault. played (P.puzzle self.old.puzzle) self.old m ≡ Err fault) }
     {
         self.allow(&m)?;
-        let alloc = *self.records.allocator();
+        let alloc = *self.links.allocator();
         let change = change_for(alloc, &self.puzzle, &self.board, &m)?;
-        put(&mut self.records, self.past, Record { made: m, change })?;
+        put(&mut self.links, self.past, Link { made: m, change })?;
         self.forward();
         Ok(())
     }
@@ -179,6 +177,7 @@ impl<P: Game> Session<P> {
     ///
     /// Refused, the first that applies, with nothing changed: `NoSolution`, `SeveralSolutions`, `HistoryFull` at position
     /// `MOST_STATES`, `OutOfMemory`.
+    #[tactic(auto, using(crate::proofs::Playing::solve_refused))]
     pub fn solve(&mut self) -> Result<(), PlayFault>
         ensures ok { OnOk result (SolveGives (P.puzzle self.old.puzzle) self.old (Ok self.new)) }
         ensures err { OnErr result (self.new ≡ self.old) }
@@ -201,7 +200,7 @@ impl<P: Game> Session<P> {
             return Err(PlayFault::NothingToUndo);
         }
         self.past -= 1;
-        exchange(&mut self.board, &mut self.records[self.past]);
+        exchange(&mut self.board, &mut self.links[self.past]);
         Ok(())
     }
 
@@ -211,23 +210,22 @@ impl<P: Game> Session<P> {
         ensures err { OnErr result (self.new ≡ self.old) }
         ensures why { IfErr result (λ fault. redone self.old ≡ Err fault) }
     {
-        if self.past == self.records.len() {
+        if self.past == self.links.len() {
             return Err(PlayFault::NothingToRedo);
         }
         self.forward();
         Ok(())
     }
 
-    // The first refusal of a move, memory left aside.
+    // The first refusal of a move, `OutOfMemory` left aside.
     fn allow(&self, m: &Move) -> Result<(), PlayFault>
         ensures ok { OnOk result (refusal_in (P.puzzle self.now.puzzle) self.now m.now ≡ None) }
         ensures err { IfErr result (λ fault.
             refusal_in (P.puzzle self.now.puzzle) self.now m.now ≡ Some fault) }
     {
-        check_restart(self.past, m)?;
-        check(&self.puzzle, &self.board, m)?;
-        check_room(self.past)?;
-        Ok(())
+        check_restart(self.position(), m)?;
+        check(self.puzzle(), self.board(), m)?;
+        check_room(self.position())
     }
 
     // Makes the next of the later moves again.
@@ -235,7 +233,7 @@ impl<P: Game> Session<P> {
         requires { self.old.position ≤ length self.old.moves }
         ensures { self.new ≡ at_position self.old (self.old.position + 1) }
     {
-        exchange(&mut self.board, &mut self.records[self.past]);
+        exchange(&mut self.board, &mut self.links[self.past]);
         self.past += 1;
     }
 
@@ -268,6 +266,7 @@ impl<P: Game> Session<P> {
     }
 
     /// The board that is shown: the past moves, replayed from the start.
+    #[tactic(auto, using(crate::proofs::Viewing::shown_viewed))]
     pub fn board(&self) -> &Board
         ensures shown { result.now ≡ shown (P.puzzle self.now.puzzle) self.now }
         ensures size { result.now.size ≡ (P.puzzle self.now.puzzle).size }
@@ -282,14 +281,14 @@ impl<P: Game> Session<P> {
         requires last { i ≤ length self.now.moves }
         ensures { slice_get self.now.moves (i - 1) ≡ Some result.now }
     {
-        &self.records[i - 1].made
+        &self.links[i - 1].made
     }
 
     /// How many states there are, the first included.
     pub fn states(&self) -> usize
         ensures { result ≡ length self.now.moves + 1 }
     {
-        self.records.len() + 1
+        self.links.len() + 1
     }
 
     /// The number of the state that is shown, from 1 to `states()`.

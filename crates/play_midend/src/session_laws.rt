@@ -10,6 +10,7 @@ use clue_rules::Game;
 /// begins with a puzzle and parameters of the game can be stored in a save file, whatever calls follow. A move, a restart or
 /// a solution that is accepted and then undone gives back the puzzle, the parameters, the kept bytes, the past, the position
 /// and the board. What is undone and then made again is the whole session as it was, later moves included.
+#[tactic(auto, using(crate::proofs::StorableLaws::laws))]
 pub fn laws<P: Game>()
     ensures stays_valid { RunsStayValid P.puzzle }
     ensures starts_storable { StartsStorable P.puzzle P.valid P.letter_codes }
@@ -24,6 +25,7 @@ pub fn laws<P: Game>()
 ///
 /// Every move is accepted exactly where the list is legal and leads to at most `MOST_STATES` states. The session then has these moves
 /// and is at its last position, from where `undo` leads back to each position. Every valid session can be reached so.
+#[tactic(auto, using(crate::proofs::MoveListLaws::list_laws))]
 pub fn move_list_laws<P: Game>()
     ensures legal_accepted { LegalListsPlay P.puzzle }
     ensures accepted_legal { AcceptedListsAreLegal P.puzzle }

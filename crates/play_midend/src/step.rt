@@ -1,7 +1,8 @@
 //! One move on a board: its refusals, and the change that makes it.
+//!
+//! A line `let _size = ..` is there for the contract of `size`, which tells the check that the board or grid is a valid one.
 
 ghost use Rattle.std.specs.Prelude.{◌≡◌, ◌<◌, ◌≤◌, ◌+◌, ◌*◌, None, Some, false, IfOk, IfErr, IsOk, OnOk, MatchResult};
-ghost use Rattle.latin_board.specs.Squares.{IsGrid};
 ghost use Rattle.latin_board.specs.Marks.{IsMarkSet};
 ghost use Rattle.latin_board.specs.Changes.{FitsBoard, OneSquare, board_after};
 ghost use Rattle.play_midend.specs.Steps.{cell_of, entry_refusal, refusal_of, with_number, with_mark_flipped, marks_of_all, all_marked, filled, givens_of, start_of, moved, takes_memory, step, IsRefusalOf, Makes};
@@ -43,7 +44,7 @@ fn entry_cell<P: Game>(puzzle: &P, x: u8, y: u8, n: u8) -> Result<usize, PlayFau
     Ok(cell)
 }
 
-// The first refusal of a move, those of a full history and of memory left aside.
+// The first refusal of a move, `HistoryFull` and `OutOfMemory` left aside.
 pub(crate) fn check<P: Game>(puzzle: &P, board: &Board, m: &Move) -> Result<(), PlayFault>
     requires { board.now.size ≡ (P.puzzle puzzle.now).size }
     ensures ok { OnOk result (refusal_of (P.puzzle puzzle.now) board.now m.now ≡ None) }
@@ -81,6 +82,7 @@ pub(crate) fn check<P: Game>(puzzle: &P, board: &Board, m: &Move) -> Result<(), 
 }
 
 // The puzzle's givens.
+#[tactic(auto, using(crate::proofs::BoardFilling::givens_all))]
 fn givens<P: Game>(puzzle: &P) -> Grid
     ensures { result ≡ givens_of (P.puzzle puzzle.now) }
 {
@@ -130,6 +132,7 @@ fn marks_of_all(board: &Board, cell: usize) -> Marks
 }
 
 // The board with all marks at each square without a number.
+#[tactic(auto, using(crate::proofs::BoardFilling::marks_all))]
 fn with_all_marks(board: &Board) -> Board
     ensures { result ≡ all_marked board.now }
 {
@@ -151,13 +154,13 @@ fn with_all_marks(board: &Board) -> Board
 }
 
 // The board with a grid of its size filled in.
+#[tactic(auto, using(crate::proofs::BoardFilling::numbers_all))]
 fn with_solution(board: &Board, grid: &Grid) -> Board
     requires { grid.now.size ≡ board.now.size }
     ensures { result ≡ filled board.now grid.now }
 {
     let width = board.size().get() as usize;
-    // `size` tells that the grid is a valid one.
-    let _valid = grid.size();
+    let _size = grid.size();
     let mut next = *board;
     for cell in 0..width * width {
         write_square(&mut next, cell, grid.get(cell), Marks::empty(), true, true);
@@ -200,8 +203,7 @@ fn mark_change(board: &Board, cell: usize, n: u8) -> Change
     ensures fits { FitsBoard board.now result }
     ensures board { board_after board.now result ≡ with_mark_flipped board.now cell n }
 {
-    // `size` and `get` tell that the board is a valid one, of width 3 to 9.
-    let _width = board.size().get();
+    let _size = board.size();
     let mut marks = board.marks(cell);
     marks.flip(n);
     Change::square(
@@ -248,6 +250,7 @@ pub(crate) fn change_for<P: Game>(
 ///
 /// Refused, the first that applies: `OffGrid`, `OffRange`, `GivenSquare`, `FilledSquare` and `BadSolution` as the board has
 /// it; `OutOfMemory`, which a number or a pencil mark never meets.
+#[tactic(auto, using(crate::proofs::Making::changes))]
 pub fn change_of<P: Game>(
     alloc: Global,
     puzzle: &P,
@@ -259,8 +262,7 @@ pub fn change_of<P: Game>(
     ensures why { IfErr result (IsRefusalOf m.now (step (P.puzzle puzzle.now) board.now m.now)) }
 {
     check(puzzle, board, m)?;
-    // `size` tells that the board is a valid one.
-    let _valid = board.size();
+    let _size = board.size();
     let change = change_for(alloc, puzzle, board, m)?;
     Ok(change)
 }

@@ -110,6 +110,7 @@ fn fault_of(text: &[u8]) -> PlayFault
     }
 }
 
+// Apart from `read_move`, so that `move_at` is opened here alone: there its laws say what it is.
 #[tactic(auto, unfolding(crate::specs::MoveTexts::move_at))]
 fn read_text(text: &[u8]) -> Result<Move, PlayFault>
     ensures { result ≡ move_at text.now }
@@ -124,6 +125,7 @@ fn read_text(text: &[u8]) -> Result<Move, PlayFault>
 /// zeros.
 ///
 /// `Unsupported` where the first byte is `H` or `F`, else `BadMove` where the text is no move.
+#[tactic(auto, using(crate::proofs::MoveTextLaws::reads))]
 pub fn read_move(text: &[u8]) -> Result<Move, PlayFault>
     ensures value { result ≡ move_at text.now }
     ensures found { IfOk result (λ m. IsMoveText m text.now) }
@@ -139,7 +141,7 @@ pub fn read_move(text: &[u8]) -> Result<Move, PlayFault>
 pub fn write_move(alloc: Global, m: &Move) -> Result<Vec<u8>, PlayFault>
     requires { m.now ≢ Move.Restart }
     ensures text { IfOk result (λ text. text.items ≡ move_text m.now) }
-    ensures only_memory { IfErr result (λ fault. fault ≡ PlayFault.OutOfMemory) }
+    ensures only_out_of_memory { IfErr result (λ fault. fault ≡ PlayFault.OutOfMemory) }
 {
     let text = match *m {
         Move::Real { x, y, n } => format!(in alloc; "R{x},{y},{n}")?.into_bytes(),

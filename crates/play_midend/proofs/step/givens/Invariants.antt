@@ -1,7 +1,5 @@
-use Rattle.std.proofs.Common.{◌≡◌, ◌*◌}
-use Rattle.play_midend.proofs.BoardFilling.{PlacesHold}
+use Rattle.play_midend.proofs.BoardFilling.{HasGivens}
 use Rattle.play_midend.proofs.step.givens.Given as goal
 
 abbrev pub invariant-loop-cell : goal.invariant-loop-cell
-invariant-loop-cell g l =
-    (l.grid.size ≡ l.width) × PlacesHold (g.P.Rules.puzzle l.puzzle).given (l.width * l.width) l.cell l.grid.numbers
+invariant-loop-cell g l = HasGivens (g.P.Rules.puzzle l.puzzle) l.grid l.cell

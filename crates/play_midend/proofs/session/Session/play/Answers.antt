@@ -22,4 +22,4 @@ returns-clause-ok g c =
     let s = c.self.inside in
     let p = g.P.Rules.puzzle s.puzzle in
     let ok = rw (← c.self.view_is) at c.in_ok-allow.ensures.ok in
-    rw (c.forward.ensures, ← c.self.view_is) (played_viewed p s c.put.new.records.items c.args.m c.in_ok-change.change ok c.in_ok-put.ensures.ok)
+    rw (c.forward.ensures, ← c.self.view_is) (played_viewed p s c.put.new.links.items c.args.m c.in_ok-change.change ok c.in_ok-put.ensures.ok)

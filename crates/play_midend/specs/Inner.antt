@@ -1,0 +1,2 @@
+-- Words that the invariants and the contracts of private functions alone use.
+pub mod Links
