@@ -22,10 +22,11 @@ use Rattle.play_save.specs.declared.key.WhoseParams.TheVariants.{Next, Current}
 use Rattle.play_save.specs.declared.key.StateKey.{StateKey}
 use Rattle.play_save.specs.declared.key.Key.{Key}
 use Rattle.play_save.specs.declared.key.Key.TheVariants.{SaveFile, FormatVersion, GameName, ParamsOf, Desc, PrivateDesc, Kept, StateCount, Position, State, Other}
+use Rattle.play_save.specs.declared.save_format.TheConstants.{MOST_BYTES}
 use Rattle.play_save.specs.Records.{record_at}
 use Rattle.play_save.specs.Keys.{kept_at}
 use Rattle.play_save.specs.KeyedRecords.{KeyedRecord, KeyedState, values_of, states_in, onto_states, once_if_kept, is_state, CountsStandFirst, may_be_last, EndsWithState}
-use Rattle.play_save.specs.SaveTexts.{SavedGame, params_of, format_record, longest_save, HaveStates, AreSaved, SaveText}
+use Rattle.play_save.specs.SaveTexts.{SavedGame, params_of, format_record, HaveStates, AreSaved, SaveText}
 use Rattle.play_save.specs.FirstFaults.{saved_params_at, count_at, first_of, met, params_met, fault_unless, once, params_fault, count_fault, behind_counts, state_fault, fault_by, has_all, is_complete, records_of, needed, states_played, session_of, behind_head, met_in, load_at}
 use Rattle.play_save.proofs.RecordLaws.{record_again}
 use Rattle.play_save.proofs.RecordLists.{values_of-append, states_in-append, append_none, own_rank, no_state_rank, kept_each, same_extras}
@@ -365,7 +366,7 @@ pub load_again : {P : Type 0} (game : SavedGame P) (text : List ℕ) (h : Histor
     → IsGame game → SaveText game h text → load_at game text ≡ Ok h
 unfolding load_at
 load_again game text h owes t =
-    let small : nat_lt longest_save (length text) ≡ false = (let within = t.small in grind (arith, nat_tests)) in
+    let small : nat_lt MOST_BYTES (length text) ≡ false = (let within = t.small in grind (arith, nat_tests)) in
     let head : behind_head (record_at text) ≡ Ok t.behind_head =
     ap behind_head (record_again text format_record t.behind_head t.head) in
     let read : needed game [] (records_of t.behind_head) ≡ Ok t.records =

@@ -18,9 +18,10 @@ use Rattle.play_save.specs.declared.fault.LoadFault.TheVariants.{NotASave, Versi
 use Rattle.play_save.specs.declared.key.WhoseParams.TheVariants.{Next, Current}
 use Rattle.play_save.specs.declared.key.Key.{Key}
 use Rattle.play_save.specs.declared.key.Key.TheVariants.{SaveFile, FormatVersion, GameName, ParamsOf, Desc, PrivateDesc, Kept, StateCount, Position, State}
+use Rattle.play_save.specs.declared.save_format.TheConstants.{MOST_BYTES}
 use Rattle.play_save.specs.Records.{Entry, BeginsWith, record_at}
 use Rattle.play_save.specs.KeyedRecords.{KeyedRecord, values_of, states_in, StandsOnce, once_if_kept, is_state, CountsStandFirst, may_be_last, EndsWithState}
-use Rattle.play_save.specs.SaveTexts.{SavedGame, params_of, collection, format_record, longest_save, AreSaved, SaveText}
+use Rattle.play_save.specs.SaveTexts.{SavedGame, params_of, collection, format_record, AreSaved, SaveText}
 use Rattle.play_save.specs.FirstFaults.{Met, saved_params_at, count_at, first_of, met, fault_unless, state_fault, fault_by, is_complete, records_of, unless, needed, states_played, needed_params, needed_count, session_of, head_or_fault, behind_head, met_in, load_at}
 use Rattle.play_save.specs.Taking.{added}
 use Rattle.play_save.proofs.OptionSteps.{map_taken, ok_or_taken, result_taken, ok_else, ok_where}
@@ -288,7 +289,7 @@ pub load_taken : {P : Type 0} (game : SavedGame P) (text : List ℕ) (h : Histor
     → IsGame game → load_at game text ≡ Ok h → SaveText game h text
 unfolding load_at
 load_taken {P} game text h owes is =
-    let fits = ok_else (nat_lt longest_save (length text)) TooLarge _ h is in
+    let fits = ok_else (nat_lt MOST_BYTES (length text)) TooLarge _ h is in
     let head = bind_taken (behind_head (record_at text)) _ h fits.1 in
     let some = bind_taken (met_in game (records_of head.0)) _ h head.2 in
     let all = bind_taken (needed game [] (records_of head.0)) _ some.0 some.1 in
@@ -296,7 +297,7 @@ load_taken {P} game text h owes is =
     let met_is : met game all.0 ≡ some.0 = cc all.2 in
     let same : met game need.more ≡ some.0 = ap (met game) (sym need.all_is) ∙ met_is in
     record {
-      small = ltb-false longest_save (length text) fits.0;
+      small = ltb-false MOST_BYTES (length text) fits.0;
       behind_head = head.0;
       head = behind_head_taken text head.0 (record_at text) refl head.1;
       records = need.more;

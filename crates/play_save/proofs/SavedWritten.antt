@@ -25,10 +25,11 @@ use Rattle.play_save.specs.declared.key.WhoseParams.{WhoseParams}
 use Rattle.play_save.specs.declared.key.WhoseParams.TheVariants.{Next, Current}
 use Rattle.play_save.specs.declared.key.Key.{Key}
 use Rattle.play_save.specs.declared.key.Key.TheVariants.{SaveFile, FormatVersion, GameName, ParamsOf, Desc, PrivateDesc, Kept, StateCount, Position}
+use Rattle.play_save.specs.declared.save_format.TheConstants.{MOST_BYTES}
 use Rattle.play_save.specs.Records.{BeginsWith}
 use Rattle.play_save.specs.Keys.{kept_at}
 use Rattle.play_save.specs.KeyedRecords.{KeyedRecord, values_of, states_in, once_if_kept, EndsWithState}
-use Rattle.play_save.specs.SaveTexts.{SavedGame, params_of, collection, format_record, longest_save, is_solve, IsStateOf, HaveStates, AreSaved, SaveText}
+use Rattle.play_save.specs.SaveTexts.{SavedGame, params_of, collection, format_record, is_solve, IsStateOf, HaveStates, AreSaved, SaveText}
 use Rattle.play_save.specs.FirstFaults.{count_at}
 use Rattle.play_save.specs.Written.{with_value, state_value, record_text, records_text, save_of}
 use Rattle.play_save.specs.Laws.{HasGrid, WrittenIsSaved, WrittenSavesNoOther}
@@ -148,12 +149,12 @@ record Read {P : Type 0} (game : SavedGame P) (h : History P) (text : List ℕ) 
   all : AreToTheEnd (tail_of game h) (behind_first game h)
 
 read_written : {P : Type 0} (game : SavedGame P) (h : History P)
-    → length (save_of game.title game.desc_of h) ≤ longest_save → Read game h (save_of game.title game.desc_of h)
+    → length (save_of game.title game.desc_of h) ≤ MOST_BYTES → Read game h (save_of game.title game.desc_of h)
 read_written {P} game h small =
     let rs = tail_of game h in
     let first = with_value SaveFile collection in
     let text = written_text game h in
-    let short : length (records_text rs) ≤ longest_save =
+    let short : length (records_text rs) ≤ MOST_BYTES =
     omega (arith, ap length text, length-append (record_text first) (records_text rs)) in
     record {
       head = rw text (written_begins first [] (records_text rs) tt refl (lit≤ tt));

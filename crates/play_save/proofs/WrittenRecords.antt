@@ -14,10 +14,10 @@ use Rattle.play_save.specs.declared.key.KeptKey.TheVariants.{Seed}
 use Rattle.play_save.specs.declared.key.WhoseParams.TheVariants.{Next}
 use Rattle.play_save.specs.declared.key.Key.{Key}
 use Rattle.play_save.specs.declared.key.Key.TheVariants.{ParamsOf, Kept, State, Other}
+use Rattle.play_save.specs.declared.save_format.TheConstants.{MOST_BYTES}
 use Rattle.play_save.specs.Records.{Entry, AreBreaks, begins_with_break, unpadded, length_at, BeginsWith}
 use Rattle.play_save.specs.Keys.{key_name, padded, key_of}
 use Rattle.play_save.specs.KeyedRecords.{KeyedRecord, keyed, BeginsWithAll}
-use Rattle.play_save.specs.SaveTexts.{longest_save}
 use Rattle.play_save.specs.Written.{record_text, records_text}
 use Rattle.play_save.proofs.OptionSteps.{else_taken}
 use Rattle.play_save.proofs.RecordLaws.{record_again, end_again}
@@ -123,7 +123,7 @@ own_record : (r : KeyedRecord) → is_known r.key ≡ true → keyed (entry_writ
 own_record r known = same_record (keyed (entry_written r)) r.key r.value (is_key r.key known).key_again refl
 
 pub all_written : (rs : List KeyedRecord) (breaks : List ℕ)
-    → AreBreaks breaks → AreKnown rs → length (records_text rs) ≤ longest_save
+    → AreBreaks breaks → AreKnown rs → length (records_text rs) ≤ MOST_BYTES
     → AreToTheEnd rs (breaks ++ records_text rs)
 all_written [] breaks are known small = subst (λ t. AreBreaks t) (sym (append-nil breaks)) are
 all_written (r ∷ rs) breaks are known small =

@@ -22,10 +22,11 @@ use Rattle.play_save.specs.declared.key.WhoseParams.{WhoseParams}
 use Rattle.play_save.specs.declared.key.WhoseParams.TheVariants.{Next, Current}
 use Rattle.play_save.specs.declared.key.Key.{Key}
 use Rattle.play_save.specs.declared.key.Key.TheVariants.{SaveFile, FormatVersion, GameName, ParamsOf, Desc, PrivateDesc, Kept, StateCount, Position, State, Other}
+use Rattle.play_save.specs.declared.save_format.TheConstants.{MOST_BYTES}
 use Rattle.play_save.specs.Records.{Entry, record_at}
 use Rattle.play_save.specs.Keys.{kept_at, each_kept}
 use Rattle.play_save.specs.KeyedRecords.{KeyedRecord, keyed, KeyedState, values_of, states_in}
-use Rattle.play_save.specs.SaveTexts.{SavedGame, collection, longest_save, is_solve}
+use Rattle.play_save.specs.SaveTexts.{SavedGame, collection, is_solve}
 
 -- parameters of the game, and a count of states: decimal from 1 to MOST_STATES
 abbrev pub saved_params_at : {P : Type 0} → SavedGame P → List ℕ → Result Params IdFault
@@ -231,5 +232,5 @@ met_in game listing = needed game [] listing >>= λ rs. Ok (met game rs)
 -- a save text: its session, or its first fault
 unfoldable pub load_at : {P : Type 0} → SavedGame P → List ℕ → Result (History P) LoadFault
 load_at game text =
-    if nat_lt longest_save (length text) then Err TooLarge
+    if nat_lt MOST_BYTES (length text) then Err TooLarge
     else (behind_head (record_at text) >>= λ rest. met_in game (records_of rest) >>= λ m. session_of game m)

@@ -12,6 +12,7 @@ use Rattle.play_midend.specs.declared.moves.Move.{Move}
 use Rattle.play_midend.specs.declared.moves.Move.TheVariants.{Solve, Restart}
 use Rattle.play_midend.specs.MoveTexts.{IsMoveText}
 use Rattle.play_midend.specs.Histories.{History, IsValid}
+use Rattle.play_save.specs.declared.save_format.TheConstants.{MOST_BYTES}
 use Rattle.play_save.specs.declared.key.StateKey.{StateKey}
 use Rattle.play_save.specs.declared.key.StateKey.TheVariants.{AnyMove, SolveMove, RestartMove}
 use Rattle.play_save.specs.declared.key.KeptKey.{KeptKey}
@@ -57,10 +58,6 @@ collection = codes "Simon Tatham's Portable Puzzle Collection"
 abbrev pub format_record : Entry
 format_record = record { key = codes "SAVEFILE"; value = collection }
 
--- the size that a save text may have
-abbrev pub longest_save : ℕ
-longest_save = 16777216
-
 abbrev pub is_solve : Move → Bool
 is_solve (Solve g) = true
 is_solve _ = false
@@ -101,7 +98,7 @@ pub record AreSaved {P : Type 0} (game : SavedGame P) (h : History P) (rs : List
 
 -- The text is a save of the session: the record that names the format, the records of the session, and then anything.
 pub record SaveText {P : Type 0} (game : SavedGame P) (h : History P) (text : List ℕ) : Type 0 where
-  pub small : length text ≤ longest_save
+  pub small : length text ≤ MOST_BYTES
   pub behind_head : List ℕ
   pub head : BeginsWith format_record behind_head text
   pub records : List KeyedRecord

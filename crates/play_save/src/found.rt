@@ -1,11 +1,11 @@
 //! What the records of a save file say, found one by one.
 
-ghost use Rattle.std.specs.Prelude.{◌≡◌, ℕ, ◌+◌, ◌≤◌, true, false, Some, None, Ok, Err, ok_or, OnOk, IfOk, IfErr, is_some, length, bytes_eq, codes};
+ghost use Rattle.std.specs.Prelude.{◌≡◌, ◌+◌, true, false, Some, None, Ok, Err, ok_or, OnOk, IfErr, is_some};
 ghost use Rattle.std.specs.Result.{result_ok};
 ghost use Rattle.play_save.specs.declared.key.Key.TheVariants.{FormatVersion, GameName, ParamsOf, StateCount, Position, State};
 ghost use Rattle.play_save.specs.Keys.{kept_at};
 ghost use Rattle.play_save.specs.SaveTexts.{saves_of};
-ghost use Rattle.play_save.specs.FirstFaults.{is_complete, count_at, once, params_fault, text_fault, state_fault, saved_params_at, fault_unless};
+ghost use Rattle.play_save.specs.FirstFaults.{is_complete, count_at, once, params_fault, state_fault, saved_params_at};
 ghost use Rattle.play_save.specs.Taking.{as_read, bytes_of, kept_of, with_kept, met_of, nothing_met, Taken};
 
 use crate::fault::LoadFault;

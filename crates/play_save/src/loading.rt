@@ -1,12 +1,12 @@
 //! Loading: a save text is read record by record, and its session is played.
 
-ghost use Rattle.std.specs.Prelude.{◌≡◌, ◌⊎◌, ℕ, ◌+◌, ◌-◌, ◌<◌, ◌≤◌, Some, None, Ok, Err, ok_or, IfOk, IfErr, OnOk, IfSome, length, map};
+ghost use Rattle.std.specs.Prelude.{◌≡◌, ◌+◌, ◌-◌, ◌<◌, ◌≤◌, Some, None, Ok, Err, ok_or, IfOk, IfErr, length, map};
 ghost use Rattle.std.specs.Result.{result_ok};
 ghost use Rattle.byte_text.specs.Reading.{Gives, GivesUnless};
 ghost use Rattle.play_midend.specs.declared.session.TheConstants.{MOST_STATES};
 ghost use Rattle.play_midend.specs.Histories.{History, started, at_position};
 ghost use Rattle.play_save.specs.Records.{record_at};
-ghost use Rattle.play_save.specs.SaveTexts.{saves_of, is_solve, SaveText};
+ghost use Rattle.play_save.specs.SaveTexts.{saves_of, SaveText};
 ghost use Rattle.play_save.specs.FirstFaults.{behind_head, records_of, met_in, state_move, state_played, states_played, session_of, load_at};
 ghost use Rattle.play_save.specs.Taking.{IsPlayable, bytes_of, kept_of, met_of, state_of};
 
@@ -14,16 +14,11 @@ use crate::fault::LoadFault;
 use crate::found::{Found, KeptValues, StateRecord};
 use crate::key::{Key, StateKey};
 use crate::record::next_record;
+use crate::save_format::{COLLECTION, MOST_BYTES, is_solve};
 use clue_rules::{Game, Params};
 use latin_board::Size;
 use play_midend::{Extras, KeptBytes, Move, PlayFault, Session, read_move};
 use std::alloc::{AllocError, Global};
-
-/// The size that a save text may have.
-const MOST_BYTES: usize = 16_777_216;
-
-/// The value of the first record, which names the format.
-pub(crate) const COLLECTION: &[u8] = b"Simon Tatham's Portable Puzzle Collection";
 
 // What follows the first record, which has to name the format.
 fn behind_head(bytes: &[u8]) -> Result<&[u8], LoadFault>
@@ -76,12 +71,6 @@ fn extras(alloc: Global, values: KeptValues) -> Result<Extras, AllocError>
         ui: kept(alloc, values.ui)?,
         time: kept(alloc, values.time)?,
     })
-}
-
-pub(crate) fn is_solve(made: &Move) -> bool
-    ensures { result ≡ is_solve made.now }
-{
-    matches!(made, Move::Solve(_))
 }
 
 // The move of a state record, where it is one of the puzzle.
@@ -203,7 +192,7 @@ fn session<P: Game>(alloc: Global, found: &Found) -> Result<Session<P>, LoadFaul
 
 /// The session of which the bytes are a save.
 ///
-/// Refused, where the bytes are a save of no session: `TooLarge` for more than 16,777,216 bytes; `NotASave` where the first
+/// Refused, where the bytes are a save of no session: `TooLarge` for more than `MOST_BYTES` bytes; `NotASave` where the first
 /// record doesn't name the format; then the first fault of a record in turn, up to the last that is needed, `Malformed` where
 /// none can be read and `Missing` where none is left; then `Missing` where a record is missing still, `BadDesc`, and `BadState`
 /// with the number of the first state record that is wrong. `OutOfMemory` may come in place of any answer, and nothing is handed

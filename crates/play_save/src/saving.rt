@@ -1,13 +1,13 @@
 //! Saving: the records of a session, written in their order.
 
-ghost use Rattle.std.specs.Prelude.{◌≡◌, ℕ, ◌+◌, ◌++◌, [], ◌∷◌, length, map, Some, None, IfOk, IfErr, OnOk};
+ghost use Rattle.std.specs.Prelude.{◌≡◌, ◌+◌, ◌++◌, length, Some, IfOk, IfErr, OnOk};
 ghost use Rattle.std.specs.Fmt.{decimal};
 ghost use Rattle.play_midend.specs.Steps.{is_restart};
 ghost use Rattle.play_save.specs.Written.{with_value, record_text, records_text, kept_record, head_records, body_records, state_record, state_records, save_of};
 
 use crate::fault::LoadFault;
 use crate::key::{KeptKey, Key, StateKey, WhoseParams};
-use crate::loading::{COLLECTION, is_solve};
+use crate::save_format::{COLLECTION, is_solve};
 use clue_rules::Game;
 use play_midend::{Extras, KeptBytes, Move, Session, write_move};
 use std::alloc::{AllocError, Global};
@@ -135,7 +135,7 @@ fn put_states<P: Game>(
 
 /// The save text of a session: what the usual program writes, without spaces at the ends of lines or other spellings.
 ///
-/// It has no limit of size, but what is longer than 16,777,216 bytes isn't loaded. `OutOfMemory` alone.
+/// It has no limit of size, but what is longer than `MOST_BYTES` bytes isn't loaded. `OutOfMemory` alone.
 #[tactic(auto, unfolding(crate::specs::Written::save_of))]
 pub fn save<P: Game>(alloc: Global, session: &Session<P>) -> Result<Vec<u8>, LoadFault>
     ensures written { IfOk result (λ text. text.items ≡ save_of P.title P.desc_of session.now) }
