@@ -5,14 +5,16 @@ use Rattle.std.proofs.lemmas.Option.{some_pair_parts}
 use Rattle.std.proofs.lemmas.List.{append-nil, length-map}
 use Rattle.std.proofs.lemmas.List.Elements.{recursion_from_All}
 use Rattle.std.specs.List.{AllByRecursion}
-use Rattle.byte_text.specs.Bytes.{line_feed, digit}
+use Rattle.byte_text.specs.Bytes.{line_feed}
 use Rattle.byte_text.specs.Reading.{GivesUnless}
 use Rattle.latin_board.specs.Squares.{GridValue}
 use Rattle.latin_board.proofs.LatinLines.{latin_full}
 use Rattle.trail_solver.specs.Puzzles.{Puzzle}
 use Rattle.trail_solver.proofs.SolutionTests.{Decides-solves_test}
 use Rattle.clue_rules.specs.declared.params.Params.{Params}
-use Rattle.clue_rules.specs.Parameters.{IsParams, letter_part, params_text}
+use Rattle.clue_rules.specs.Parameters.{IsParams, params_text}
+use Rattle.clue_rules.proofs.ParameterLemmas.{same_params}
+use Rattle.play_midend.proofs.MoveTextsRead.{same_move, same_solution}
 use Rattle.play_midend.specs.declared.moves.Move.{Move}
 use Rattle.play_midend.specs.declared.moves.Move.TheVariants.{Solve, Restart}
 use Rattle.play_midend.specs.MoveTexts.{move_text, IsMoveText}
@@ -37,7 +39,7 @@ use Rattle.play_save.proofs.RecordLaws.{record_again}
 use Rattle.play_save.proofs.RecordLists.{same_extras, values_of-append, states_in-append}
 use Rattle.play_save.proofs.Counting.{count_again}
 use Rattle.play_save.proofs.GameTexts.{Owes}
-use Rattle.play_save.proofs.StatesPlayed.{text_again, have_length}
+use Rattle.play_save.proofs.StatesPlayed.{have_length}
 use Rattle.play_save.proofs.SavedAgain.{has_state_or_count}
 use Rattle.play_save.proofs.WrittenRecords.{written_begins, AreToTheEnd, all_written, begins_prefix, all_begin}
 use Rattle.play_save.proofs.SessionRecords.{tail_records, values_tail, states_tail, counts_first_tail, ends_tail, known_tail}
@@ -61,38 +63,16 @@ states_again game p desc (m ∷ ms) described fits grids =
     (state_again game p desc m described fits.0 grids.0, states_again game p desc ms described fits.1 grids.1)
 
 -- the move of a state record that is written is that move
-same_digits : (xs ys : List ℕ) → map digit xs ≡ map digit ys → xs ≡ ys
-same_digits [] [] e = refl
-same_digits (x ∷ xs) (y ∷ ys) e =
-    let head : digit x ≡ digit y = cc in
-    let rest = same_digits xs ys (cc) in
-    let same : x ≡ y = omega arith in
-    cc
-same_digits xs ys e = cc
-
-same_text : (t m : Move) → IsMoveText t (move_text m) → IsMoveText m (move_text m) → t ≡ m
-same_text t m one other =
-    let read_one = text_again (move_text m) t one in
-    let read_other = text_again (move_text m) m other in
-    cc
-
 same_solve : (p : Puzzle) (t : Move) (g : GridValue)
     → FitsText p t → g.size ≡ p.size → IsMoveText t (move_text (Solve g)) → is_solve t ≡ true → t ≡ Solve g
-same_solve p (Solve f) g fits size is solve =
-    let text = is.spelled in
-    let numbers = same_digits g.numbers f.numbers (cc) in
-    let sizes : f.size ≡ g.size = fits.0 ∙ sym size in
-    let one : GridValue = record { size = f.size; numbers = f.numbers } in
-    let other : GridValue = record { size = g.size; numbers = g.numbers } in
-    let same : one ≡ other = cc in
-    ap Solve same
+same_solve p (Solve f) g fits size is solve = ap Solve (same_solution f g (fits.0 ∙ sym size) is.spelled)
 same_solve p t g fits size is solve = cc
 
-same_move : {P : Type 0} (game : SavedGame P) (q : P) (desc : List ℕ) (p : Puzzle) (t m : Move)
+same_played : {P : Type 0} (game : SavedGame P) (q : P) (desc : List ℕ) (p : Puzzle) (t m : Move)
     → FitsText p t → FitsText p m → IsStateOf game q t (state_value desc m).key (state_value desc m).value → t ≡ m
-same_move game q desc p t (Solve g) t_fits fits is = same_solve p t g t_fits fits.0 is.0 is.1
-same_move game q desc p t Restart t_fits fits is = is.0
-same_move game q desc p t m t_fits fits is = same_text t m is (record { writable = fits; spelled = refl })
+same_played game q desc p t (Solve g) t_fits fits is = same_solve p t g t_fits fits.0 is.0 is.1
+same_played game q desc p t Restart t_fits fits is = is.0
+same_played game q desc p t m t_fits fits is = same_move (move_text m) t m is (record { writable = fits; spelled = refl })
 
 same_moves : {P : Type 0} (game : SavedGame P) (q : P) (desc : List ℕ) (p : Puzzle) (ts ms : List Move)
     → AllFit p ts → AllFit p ms → HaveStates game q ts (map (state_value desc) ms) → ts ≡ ms
@@ -100,25 +80,10 @@ same_moves game q desc p [] [] t_fits fits have = refl
 same_moves game q desc p [] (m ∷ ms) t_fits fits have = absurd have
 same_moves game q desc p (t ∷ ts) [] t_fits fits have = absurd have
 same_moves game q desc p (t ∷ ts) (m ∷ ms) t_fits fits have =
-    ap (λ x. x ∷ ts) (same_move game q desc p t m t_fits.0 fits.0 have.0)
+    ap (λ x. x ∷ ts) (same_played game q desc p t m t_fits.0 fits.0 have.0)
     ∙ ap (λ xs. m ∷ xs) (same_moves game q desc p ts ms t_fits.1 fits.1 have.1)
 
--- parameters by their text
-same_params : (p q : Params) → params_text p ≡ params_text q → p ≡ q
-same_params p q text =
-    let first : digit p.size ≡ digit q.size = cc in
-    let size : p.size ≡ q.size = omega arith in
-    let letter = by_letter p.letter q.letter (cc) in
-    let one : Params = record { size = p.size; letter = p.letter } in
-    let other : Params = record { size = q.size; letter = q.letter } in
-    let same : one ≡ other = cc in
-    same
-  where
-    by_letter : (a b : Option ℕ) → letter_part a ≡ letter_part b → a ≡ b
-    by_letter None None e = refl
-    by_letter (Some a) (Some b) e = cc
-    by_letter a b e = cc
-
+-- what is kept, and a count, by their values
 same_kept : (a b : Option (List ℕ)) → once_if_kept a ≡ once_if_kept b → a ≡ b
 same_kept None None e = refl
 same_kept (Some a) (Some b) e = cc
