@@ -8,7 +8,7 @@ use Rattle.play_save.specs.Keys.{key_of}
 use Rattle.play_save.specs.KeyedRecords.{KeyedRecord, keyed}
 use Rattle.play_save.specs.SaveTexts.{SavedGame}
 use Rattle.play_save.specs.FirstFaults.{Met, met, fault_by, is_complete, Listing, nothing, listed, listing_within, records_of, needed, met_in}
-use Rattle.play_save.specs.Taking.{nothing_met, added}
+use Rattle.play_save.specs.Taking.{added}
 use Rattle.play_save.proofs.RecordLaws.{record_shorter, end_again, record_fault}
 use Rattle.play_save.proofs.Meeting.{met_added}
 
@@ -17,17 +17,17 @@ pub record Reads {P : Type 0} (game : SavedGame P) (text rest : List ℕ) (m : M
   pub before : List KeyedRecord
   pub most : ℕ
   pub within : length rest ≤ most
-  pub now : m ≡ met game before
+  pub now : m ≡ met before
   pub same : needed game before (listing_within most rest) ≡ needed game [] (records_of text)
 
-pub reads_all : {P : Type 0} (game : SavedGame P) (text : List ℕ) → Reads game text text nothing_met
+pub reads_all : {P : Type 0} (game : SavedGame P) (text : List ℕ) → Reads game text text (met [])
 unfolding records_of
 reads_all game text = record { before = []; most = length text; within = omega arith; now = refl; same = refl }
 
 -- what was needed of a text tells what was met in it
 met_by_needed : {P : Type 0} (game : SavedGame P) (text : List ℕ) (all : Result (List KeyedRecord) LoadFault)
-    → all ≡ needed game [] (records_of text) → met_in game (records_of text) ≡ (all >>= λ rs. Ok (met game rs))
-met_by_needed game text all is = ap (λ (x : Result (List KeyedRecord) LoadFault). x >>= λ rs. Ok (met game rs)) (sym is)
+    → all ≡ needed game [] (records_of text) → met_in game (records_of text) ≡ (all >>= λ rs. Ok (met rs))
+met_by_needed game text all is = ap (λ (x : Result (List KeyedRecord) LoadFault). x >>= λ rs. Ok (met rs)) (sym is)
 
 -- the end of reading
 pub reads_done : {P : Type 0} {game : SavedGame P} {text rest : List ℕ} {m : Met}
@@ -38,7 +38,7 @@ reads_done {P} {game} {text} {rest} {m} r complete =
     met_by_needed game text (Ok r.before) all ∙ ap Ok (sym r.now)
   where
     finished : (before : List KeyedRecord) (listing : Listing)
-        → is_complete (met game before) ≡ true → needed game before listing ≡ Ok before
+        → is_complete (met before) ≡ true → needed game before listing ≡ Ok before
     finished before nothing done = rw done refl
     finished before listing done = rw done refl
 
@@ -56,8 +56,8 @@ record Onward {P : Type 0} (game : SavedGame P) (text : List ℕ) (m : Met) (rea
     : Type 0 where
   before : List KeyedRecord
   most : ℕ
-  now : m ≡ met game before
-  undone : is_complete (met game before) ≡ false
+  now : m ≡ met before
+  undone : is_complete (met before) ≡ false
   same : needed game before (listed (listing_within most) read) ≡ needed game [] (records_of text)
   within : (e : Entry) (after : List ℕ) → read ≡ Ok (Some (e, after)) → length after ≤ most
 
@@ -103,7 +103,7 @@ reads_fault {P} {game} {text} {rest} {m} {e} {after} fault r undone read (inr ha
 -- a record without a fault
 pub reads_more : {P : Type 0} {game : SavedGame P} {text rest : List ℕ} {m new : Met} {e : Entry} {after : List ℕ}
     → Reads game text rest m → is_complete m ≡ false → record_at rest ≡ Ok (Some (e, after))
-    → fault_by game m (key_of e.key) e.value ≡ None → new ≡ added game m (key_of e.key) e.value → Reads game text after new
+    → fault_by game m (key_of e.key) e.value ≡ None → new ≡ added m (key_of e.key) e.value → Reads game text after new
 reads_more {P} {game} {text} {rest} {m} {new} {e} {after} r undone read none is =
     let o = onward (Ok (Some (e, after))) r undone read in
     let none_here = rw o.now at none in

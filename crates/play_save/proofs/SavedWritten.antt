@@ -25,15 +25,17 @@ use Rattle.play_save.specs.declared.fault.LoadFault.{LoadFault}
 use Rattle.play_save.specs.declared.fault.LoadFault.TheVariants.{OutOfMemory}
 use Rattle.play_save.specs.declared.key.WhoseParams.{WhoseParams}
 use Rattle.play_save.specs.declared.key.WhoseParams.TheVariants.{Next, Current}
-use Rattle.play_save.specs.declared.key.Key.{Key}
-use Rattle.play_save.specs.declared.key.Key.TheVariants.{SaveFile, FormatVersion, GameName, ParamsOf, Desc, PrivateDesc, Kept, StateCount, Position}
+use Rattle.play_save.specs.declared.key.WhichCount.{WhichCount}
+use Rattle.play_save.specs.declared.key.WhichCount.TheVariants.{States, Position}
+use Rattle.play_save.specs.declared.key.HeaderKey.{HeaderKey}
+use Rattle.play_save.specs.declared.key.HeaderKey.TheVariants.{SaveFile, FormatVersion, GameName, ParamsOf, Desc, PrivateDesc, Kept, Count}
 use Rattle.play_save.specs.declared.save_format.TheConstants.{MOST_BYTES}
 use Rattle.play_save.specs.Records.{BeginsWith}
 use Rattle.play_save.specs.Keys.{kept_at}
 use Rattle.play_save.specs.KeyedRecords.{KeyedRecord, values_of, states_in, once_if_kept, EndsWithState}
-use Rattle.play_save.specs.SaveTexts.{SavedGame, params_of, collection, format_record, is_solve, IsStateOf, HaveStates, AreSaved, SaveText}
+use Rattle.play_save.specs.SaveTexts.{SavedGame, params_of, HasValues, collection, format_record, is_solve, IsStateOf, HaveStates, AreSaved, SaveText}
 use Rattle.play_save.specs.FirstFaults.{count_at}
-use Rattle.play_save.specs.Written.{with_value, state_value, record_text, records_text, save_of}
+use Rattle.play_save.specs.Written.{header_record, state_value, record_text, records_text, save_of}
 use Rattle.play_save.specs.Laws.{HasGrid, WrittenIsSaved, WrittenSavesNoOther}
 use Rattle.play_save.proofs.RecordLaws.{record_again}
 use Rattle.play_save.proofs.RecordLists.{same_extras, values_of-append, states_in-append}
@@ -105,7 +107,7 @@ behind_first game h = line_feed ∷ records_text (tail_of game h)
 
 -- the written text, record by record
 written_text : {P : Type 0} (game : SavedGame P) (h : History P)
-    → save_of game.title game.desc_of h ≡ record_text (with_value SaveFile collection) ++ records_text (tail_of game h)
+    → save_of game.title game.desc_of h ≡ record_text (header_record SaveFile collection) ++ records_text (tail_of game h)
 unfolding save_of
 written_text game h = refl
 
@@ -117,7 +119,7 @@ read_written : {P : Type 0} (game : SavedGame P) (h : History P)
     → length (save_of game.title game.desc_of h) ≤ MOST_BYTES → Read game h (save_of game.title game.desc_of h)
 read_written {P} game h small =
     let rs = tail_of game h in
-    let first = with_value SaveFile collection in
+    let first = header_record SaveFile collection in
     let text = written_text game h in
     let short : length (records_text rs) ≤ MOST_BYTES =
     omega (arith, ap length text, length-append (record_text first) (records_text rs)) in
@@ -152,19 +154,20 @@ written_is_saved {P} game of_game owes h storable grids small =
       records = tail_of game h;
       begins = all_begin (tail_of game h) (behind_first game h) read.all;
       saved = record {
-        no_second_head = stands SaveFile refl;
-        version = stands FormatVersion refl;
-        name = stands GameName refl;
-        params = λ whose. (
-          params_text (params_of h whose),
-          stands (ParamsOf whose) refl,
-          record { params = params_are whose; text_is = refl },
-        );
-        desc = (desc, stands Desc refl, subst (λ w. game.Describes w h.puzzle desc) (sym valid.size) described);
-        no_private_desc = stands PrivateDesc refl;
-        kept = λ k. stands (Kept k) refl;
-        count = stands StateCount refl;
-        position = stands Position refl;
+        values = λ k. elim k as (λ j. HasValues game h j (values_of j (tail_of game h))) [
+          | SaveFile ↦ stands SaveFile
+          | FormatVersion ↦ stands FormatVersion
+          | GameName ↦ stands GameName
+          | ParamsOf whose ↦ (
+            params_text (params_of h whose),
+            stands (ParamsOf whose),
+            record { params = params_are whose; text_is = refl },
+          )
+          | Desc ↦ (desc, stands Desc, subst (λ w. game.Describes w h.puzzle desc) (sym valid.size) described)
+          | PrivateDesc ↦ stands PrivateDesc
+          | Kept j ↦ stands (Kept j)
+          | Count which ↦ stands (Count which)
+        ];
         states = rw (states_tail title desc h) states;
         counts_first = counts_first_tail title desc h;
         last = ends_tail title desc h;
@@ -173,7 +176,7 @@ written_is_saved {P} game of_game owes h storable grids small =
     }
 
 -- the records of any save of it are those that were written
-one_value : (k : Key) (v w : List ℕ) (rs later all : List KeyedRecord)
+one_value : (k : HeaderKey) (v w : List ℕ) (rs later all : List KeyedRecord)
     → all ≡ rs ++ later → values_of k all ≡ v ∷ [] → values_of k rs ≡ w ∷ [] → (v ≡ w) × (values_of k later ≡ [])
 one_value k v w rs later all split whole part =
     let both : v ∷ [] ≡ w ∷ values_of k later =
@@ -204,8 +207,8 @@ same_save {P} game h other rs later valid split saved =
     let other_few = saved.valid.few in
     let other_first = saved.valid.first in
     let other_last = saved.valid.last in
-    let count = one_value StateCount _ _ rs later (tail_of game h) split (stands StateCount refl) saved.count in
-    let place = one_value Position _ _ rs later (tail_of game h) split (stands Position refl) saved.position in
+    let count = one_value (Count States) _ _ rs later (tail_of game h) split (stands (Count States)) (saved.values (Count States)) in
+    let place = one_value (Count Position) _ _ rs later (tail_of game h) split (stands (Count Position)) (saved.values (Count Position)) in
     let counts : length h.moves + 1 ≡ length other.moves + 1 =
     same_count (length h.moves + 1) (length other.moves + 1) (omega arith) few (omega arith) other_few count.0 in
     let places : h.position ≡ other.position =
@@ -216,18 +219,20 @@ same_save {P} game h other rs later valid split saved =
     let own = have_length game other.puzzle other.moves (states_in rs) saved.states in
     let whole = ap length (states_tail title desc h) in
     let none : length (states_in later) ≡ 0 = omega arith in
-    let empty : later ≡ [] = no_more later split count.1 place.1 none in
+    let no_counts : (which : WhichCount) → values_of (Count which) later ≡ [] =
+    λ which. elim which as (λ w. values_of (Count w) later ≡ []) [ States ↦ count.1 | Position ↦ place.1 ] in
+    let empty : later ≡ [] = no_more later split no_counts none in
     let same : rs ≡ tail_of game h = sym (append-nil rs) ∙ (ap (λ xs. rs ++ xs) (sym empty) ∙ sym split) in
     record { saved = subst (λ xs. AreSaved game other xs) same saved; count = omega arith; position = sym places }
   where
     no_more : (xs : List KeyedRecord)
-        → tail_of game h ≡ rs ++ xs → values_of StateCount xs ≡ [] → values_of Position xs ≡ []
+        → tail_of game h ≡ rs ++ xs → ((which : WhichCount) → values_of (Count which) xs ≡ [])
         → length (states_in xs) ≡ 0 → xs ≡ []
-    no_more [] cut no_count no_place no_state = refl
-    no_more (x ∷ xs) cut no_count no_place no_state =
+    no_more [] cut no_counts no_state = refl
+    no_more (x ∷ xs) cut no_counts no_state =
         let all_end = ends_tail game.title (game.desc_of h.puzzle) h in
         let ends = ends_later rs x xs (subst (λ zs. EndsWithState zs) cut all_end) in
-        let some = has_state_or_count (x ∷ xs) ends no_count no_place in
+        let some = has_state_or_count (x ∷ xs) ends no_counts in
         absurd (omega arith)
 
 -- and so it is the session
@@ -258,17 +263,17 @@ written_saves_no_other {P} game of_game owes h other valid of t =
     let s = same.saved in
     let stands = values_tail game.title desc h in
     let same_of : (whose : WhoseParams) → params_of other whose ≡ params_of h whose = λ whose.
-    let own = s.params whose in
-    same_params (params_of other whose) (params_of h whose) (sym own.2.text_is ∙ one_of own.1 (stands (ParamsOf whose) refl)) in
+    let own = s.values (ParamsOf whose) in
+    same_params (params_of other whose) (params_of h whose) (sym own.2.text_is ∙ one_of own.1 (stands (ParamsOf whose))) in
     let next = same_of Next in
     let params = same_of Current in
-    let own = (s.params Current).2.params in
+    let own = (s.values (ParamsOf Current)).2.params in
     let width : other.params.size ≡ p.size = ap (λ (q : Params). q.size) params ∙ valid.size in
-    let own_desc = subst (λ d. game.Describes other.params.size other.puzzle d) (one_of s.desc.1 (stands Desc refl)) s.desc.2 in
+    let own_desc = subst (λ d. game.Describes other.params.size other.puzzle d) (one_of (s.values Desc).1 (stands Desc)) (s.values Desc).2 in
     let described = subst (λ n. game.Describes n other.puzzle desc) width own_desc in
     let puzzle = same_described p.size h.puzzle other.puzzle desc (owes.own_text h.puzzle of) described in
     let extras = same_extras other.extras h.extras (λ k.
-    same_kept (kept_at other.extras k) (kept_at h.extras k) (sym (s.kept k) ∙ stands (Kept k) refl)) in
+    same_kept (kept_at other.extras k) (kept_at h.extras k) (sym (s.values (Kept k)) ∙ stands (Kept k))) in
     let largest : p.size ≤ 9 = (let top = own.largest in omega (arith, width)) in
     let fits = all_fit p (start_of p) h.moves largest valid.legal.playable in
     let other_valid = subst (λ q. IsValid (game.puzzle q) other) puzzle s.valid in
@@ -280,7 +285,7 @@ written_saves_no_other {P} game of_game owes h other valid of t =
         session = valid;
         puzzle_is = of;
         params_are = subst (λ q. IsParams game.letters q) params own;
-        next_params_are = subst (λ q. IsParams game.letters q) next (s.params Next).2.params;
+        next_params_are = subst (λ q. IsParams game.letters q) next (s.values (ParamsOf Next)).2.params;
       },
     )
   where

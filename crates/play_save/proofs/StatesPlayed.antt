@@ -4,10 +4,8 @@ use Rattle.std.specs.Result.{result_ok}
 use Rattle.std.proofs.lemmas.Option.{cond_some}
 use Rattle.byte_text.proofs.ReadingLaws.{bind_taken, bind_again}
 use Rattle.clue_rules.specs.declared.id_fault.IdFault.{IdFault}
-use Rattle.trail_solver.specs.Puzzles.{Puzzle}
 use Rattle.play_midend.specs.declared.moves.Move.{Move}
-use Rattle.play_midend.specs.declared.fault.PlayFault.{PlayFault}
-use Rattle.play_midend.specs.MoveTexts.{IsMoveText, move_at}
+use Rattle.play_midend.specs.MoveTexts.{move_at}
 use Rattle.play_midend.specs.Histories.{History, played}
 use Rattle.play_midend.specs.MoveLists.{played_all}
 use Rattle.play_midend.proofs.MoveTextsRead.{text_taken, text_again}

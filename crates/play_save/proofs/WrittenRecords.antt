@@ -12,14 +12,15 @@ use Rattle.play_save.specs.declared.key.StateKey.TheVariants.{AnyMove}
 use Rattle.play_save.specs.declared.key.KeptKey.TheVariants.{Seed}
 use Rattle.play_save.specs.declared.key.WhoseParams.TheVariants.{Next}
 use Rattle.play_save.specs.declared.key.Key.{Key}
-use Rattle.play_save.specs.declared.key.Key.TheVariants.{ParamsOf, Kept, State, Other}
+use Rattle.play_save.specs.declared.key.WhichCount.TheVariants.{States}
+use Rattle.play_save.specs.declared.key.HeaderKey.TheVariants.{ParamsOf, Kept, Count}
+use Rattle.play_save.specs.declared.key.Key.TheVariants.{Header, State, Other}
 use Rattle.play_save.specs.declared.save_format.TheConstants.{MOST_BYTES}
 use Rattle.play_save.specs.Records.{Entry, AreBreaks, begins_with_break, unpadded, length_at, BeginsWith}
 use Rattle.play_save.specs.Keys.{key_name, padded, key_of}
 use Rattle.play_save.specs.KeyedRecords.{KeyedRecord, keyed, BeginsWithAll}
 use Rattle.play_save.specs.Written.{record_text, records_text}
 use Rattle.play_save.proofs.RecordLaws.{record_again, end_again}
-use Rattle.play_save.proofs.RightLists.{same_record}
 
 abbrev pub is_known : Key → Bool
 is_known Other = false
@@ -51,9 +52,11 @@ unfolding free_of_colon key_of
 is_key Other known = cc
 is_key (State AnyMove) known =
     record { eight = refl; colon_free = refl; no_break = refl; name_again = refl; key_again = refl }
-is_key (ParamsOf Next) known =
+is_key (Header (ParamsOf Next)) known =
     record { eight = refl; colon_free = refl; no_break = refl; name_again = refl; key_again = refl }
-is_key (Kept Seed) known =
+is_key (Header (Kept Seed)) known =
+    record { eight = refl; colon_free = refl; no_break = refl; name_again = refl; key_again = refl }
+is_key (Header (Count States)) known =
     record { eight = refl; colon_free = refl; no_break = refl; name_again = refl; key_again = refl }
 is_key k known = record { eight = refl; colon_free = refl; no_break = refl; name_again = refl; key_again = refl }
 
@@ -113,7 +116,11 @@ value_within r =
     omega (arith, length-append key (colon ∷ (size ++ behind)), length-append size behind, length-append r.value (line_feed ∷ []))
 
 own_record : (r : KeyedRecord) → is_known r.key ≡ true → keyed (entry_written r) ≡ r
-own_record r known = same_record (keyed (entry_written r)) r.key r.value (is_key r.key known).key_again refl
+own_record r known =
+    let key = (is_key r.key known).key_again in
+    let own : KeyedRecord = record r { key = r.key } in
+    let same : keyed (entry_written r) ≡ own = cc in
+    same
 
 pub all_written : (rs : List KeyedRecord) (breaks : List ℕ)
     → AreBreaks breaks → AreKnown rs → length (records_text rs) ≤ MOST_BYTES

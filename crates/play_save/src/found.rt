@@ -1,19 +1,25 @@
 //! What the records of a save file say, found one by one.
 
-ghost use Rattle.std.specs.Prelude.{◌≡◌, ◌+◌, true, false, Some, None, Ok, Err, ok_or, OnOk, IfErr, is_some};
-ghost use Rattle.std.specs.Result.{result_ok};
-ghost use Rattle.play_save.specs.declared.key.Key.TheVariants.{FormatVersion, GameName, ParamsOf, StateCount, Position, State};
-ghost use Rattle.play_save.specs.Keys.{kept_at};
+ghost use Rattle.std.specs.Prelude.{◌≡◌, Some, None, ok_or, option_and_then, [], OnOk, IfErr};
+ghost use Rattle.std.specs.Result.{result_ok, result_err};
+ghost use Rattle.play_save.specs.declared.key.Key.TheVariants.{Header, State};
 ghost use Rattle.play_save.specs.SaveTexts.{saves_of};
-ghost use Rattle.play_save.specs.FirstFaults.{is_complete, count_at, once, params_fault, state_fault, saved_params_at};
-ghost use Rattle.play_save.specs.Taking.{as_read, bytes_of, kept_of, with_kept, met_of, nothing_met, Taken};
+ghost use Rattle.play_save.specs.FirstFaults.{met, params_met, count_met, is_complete, count_at, fault_unless, go_together, count_fault, other_count, state_fault, value_fault, saved_params_at};
+ghost use Rattle.play_save.specs.Taking.{bytes_of, met_of, added, Taken};
 
 use crate::fault::LoadFault;
-use crate::key::{KeptKey, Key, StateKey, WhoseParams};
+use crate::key::{HeaderKey, Key, StateKey, WhichCount, WhoseParams};
 use byte_text::number;
 use clue_rules::{Game, Params};
 use play_midend::{MOST_STATES, PlayFault, read_move};
 use std::alloc::Global;
+
+/// A record that may stand once.
+#[derive(Clone, Copy, Debug)]
+pub(crate) struct HeaderRecord<'a> {
+    pub(crate) key: HeaderKey,
+    pub(crate) value: &'a [u8],
+}
 
 /// A state record.
 #[derive(Clone, Copy, Debug)]
@@ -22,86 +28,54 @@ pub(crate) struct StateRecord<'a> {
     pub(crate) value: &'a [u8],
 }
 
-/// The values that are kept as they are.
-#[derive(Clone, Copy, Debug)]
-pub(crate) struct KeptValues<'a> {
-    pub(crate) seed: Option<&'a [u8]>,
-    pub(crate) auxinfo: Option<&'a [u8]>,
-    pub(crate) ui: Option<&'a [u8]>,
-    pub(crate) time: Option<&'a [u8]>,
-}
-
 /// What the records of a save file said so far.
 #[derive(Drop, Debug)]
 pub(crate) struct Found<'a> {
-    pub(crate) version: bool,
-    pub(crate) name: bool,
-    pub(crate) next_params: Option<Params>,
-    pub(crate) params: Option<Params>,
-    pub(crate) desc: Option<&'a [u8]>,
-    pub(crate) kept: KeptValues<'a>,
-    pub(crate) count: Option<usize>,
-    pub(crate) position: Option<usize>,
+    // Each of its own key.
+    headers: Vec<HeaderRecord<'a>>,
     // The state records are played once the puzzle is known, which may stand behind them.
     pub(crate) states: Vec<StateRecord<'a>>,
 }
 
-// A record that may stand once.
-fn once(met: bool) -> Result<(), LoadFault>
-    ensures ok { OnOk result (met ≡ false) }
-    ensures err { IfErr result (λ fault. (met ≡ true) × (fault ≡ LoadFault.Repeated)) }
+// A refusal, unless the test holds.
+fn refuse_unless(holds: bool, fault: LoadFault) -> Result<(), LoadFault>
+    ensures { result_err result ≡ fault_unless holds fault }
 {
-    if met {
-        return Err(LoadFault::Repeated);
-    }
-    Ok(())
-}
-
-// Bytes that may be met once, and are kept.
-fn keep<'a>(kept: &mut Option<&'a [u8]>, value: &'a [u8]) -> Result<(), LoadFault>
-    ensures ok { OnOk result ((bytes_of kept.old ≡ None) × (bytes_of kept.new ≡ Some value.now)) }
-    ensures err { IfErr result (λ fault.
-        (is_some (bytes_of kept.old) ≡ true) × (fault ≡ LoadFault.Repeated)) }
-{
-    once(kept.is_some())?;
-    *kept = Some(value);
-    Ok(())
+    if holds { Ok(()) } else { Err(fault) }
 }
 
 // A count of states: a decimal number from 1 to `MOST_STATES`.
-fn count(value: &[u8]) -> Result<usize, LoadFault>
-    ensures { result ≡ ok_or (count_at value.now) LoadFault.BadCount }
+fn count(value: &[u8]) -> Option<usize>
+    ensures { result ≡ count_at value.now }
 {
     match number(value, MOST_STATES as u64) {
-        Some(0) | None => Err(LoadFault::BadCount),
-        Some(n) => Ok(n as usize),
+        Some(0) | None => None,
+        Some(n) => Some(n as usize),
     }
 }
 
-fn params<P: Game>(value: &[u8]) -> Result<Params, LoadFault>
-    ensures { result ≡ ok_or (result_ok (saved_params_at (saves_of P.Rules P.Game.own) value.now))
-        LoadFault.BadParams }
+// The position is no greater than the count of states.
+fn go_together(which: WhichCount, count: usize, other: usize) -> bool
+    ensures { result ≡ go_together which count other }
 {
-    Params::read::<P>(value).map_err(|_| LoadFault::BadParams)
+    match which {
+        WhichCount::States => other <= count,
+        WhichCount::Position => count <= other,
+    }
 }
 
-// Parameters that may be met once.
-fn keep_params<P: Game>(met: &mut Option<Params>, value: &[u8]) -> Result<(), LoadFault>
-    ensures ok { let read = saved_params_at (saves_of P.Rules P.Game.own) value.now in
-        OnOk result ((once (is_some (as_read met.old)) (params_fault read) ≡ None)
-        × (as_read met.new ≡ Some read)) }
-    ensures err { let read = saved_params_at (saves_of P.Rules P.Game.own) value.now in
-        IfErr result (λ fault. once (is_some (as_read met.old)) (params_fault read) ≡ Some fault) }
+fn other_count(which: WhichCount) -> WhichCount
+    ensures { result ≡ other_count which }
 {
-    once(met.is_some())?;
-    *met = Some(params::<P>(value)?);
-    Ok(())
+    match which {
+        WhichCount::States => WhichCount::Position,
+        WhichCount::Position => WhichCount::States,
+    }
 }
 
 // Hints and spent signs are refused before their turn to be played has come.
 fn check_state(key: StateKey, value: &[u8]) -> Result<(), LoadFault>
-    ensures ok { OnOk result (state_fault key value.now ≡ None) }
-    ensures err { IfErr result (λ fault. state_fault key value.now ≡ Some fault) }
+    ensures { result_err result ≡ state_fault key value.now }
 {
     match key {
         StateKey::RestartMove => Ok(()),
@@ -112,51 +86,51 @@ fn check_state(key: StateKey, value: &[u8]) -> Result<(), LoadFault>
     }
 }
 
-impl<'a> KeptValues<'a> {
-    // One more of them, that may be met once.
-    fn take(&mut self, key: KeptKey, value: &'a [u8]) -> Result<(), LoadFault>
-        ensures ok { OnOk result ((kept_at (kept_of self.old) key ≡ None)
-            × (kept_of self.new ≡ with_kept (kept_of self.old) key value.now)) }
-        ensures err { IfErr result (λ fault.
-            (is_some (kept_at (kept_of self.old) key) ≡ true) × (fault ≡ LoadFault.Repeated)) }
-    {
-        match key {
-            KeptKey::Seed => keep(&mut self.seed, value),
-            KeptKey::AuxInfo => keep(&mut self.auxinfo, value),
-            KeptKey::Ui => keep(&mut self.ui, value),
-            KeptKey::Time => keep(&mut self.time, value),
-        }
-    }
-}
-
 impl<'a> Found<'a> {
     /// Nothing yet.
     pub(crate) fn new(alloc: Global) -> Found<'a>
-        ensures { met_of result ≡ nothing_met }
+        ensures { met_of result ≡ met [] }
     {
         Found {
-            version: false,
-            name: false,
-            next_params: None,
-            params: None,
-            desc: None,
-            kept: KeptValues {
-                seed: None,
-                auxinfo: None,
-                ui: None,
-                time: None,
-            },
-            count: None,
-            position: None,
+            headers: Vec::new(alloc),
             states: Vec::new(alloc),
         }
+    }
+
+    /// The value that was met of a key.
+    pub(crate) fn first(&self, key: HeaderKey) -> Option<&'a [u8]>
+        ensures { bytes_of result ≡ (met_of self.now).first key }
+    {
+        for record in &self.headers {
+            if record.key.rank() == key.rank() {
+                return Some(record.value);
+            }
+        }
+        None
+    }
+
+    /// The parameters that were met.
+    pub(crate) fn params<P: Game>(&self, whose: WhoseParams) -> Option<Params>
+        ensures { result ≡ params_met (saves_of P.Rules P.Game.own) (met_of self.now) whose }
+    {
+        Params::read::<P>(self.first(HeaderKey::ParamsOf(whose))?).ok()
+    }
+
+    /// A count of states that was met.
+    pub(crate) fn count(&self, which: WhichCount) -> Option<usize>
+        ensures { result ≡ count_met (met_of self.now) which }
+    {
+        count(self.first(HeaderKey::Count(which))?)
     }
 
     /// Whether both counts were met, and all states behind the first.
     pub(crate) fn is_complete(&self) -> bool
         ensures { result ≡ is_complete (met_of self.now) }
     {
-        match (self.count, self.position) {
+        match (
+            self.count(WhichCount::States),
+            self.count(WhichCount::Position),
+        ) {
             (Some(count), Some(_)) => count <= self.states.len() + 1,
             _ => false,
         }
@@ -168,89 +142,74 @@ impl<'a> Found<'a> {
             (met_of self.old) key value.now result (met_of self.new) }
     {
         match key {
-            Key::SaveFile => Err(LoadFault::Repeated),
-            Key::PrivateDesc => Err(LoadFault::Unsupported),
-            Key::FormatVersion => self.take_version::<P>(value),
-            Key::GameName => self.take_name::<P>(value),
-            Key::ParamsOf(whose) => self.take_params::<P>(whose, value),
-            Key::Desc => keep(&mut self.desc, value),
-            Key::Kept(key) => self.kept.take(key, value),
-            Key::StateCount => self.take_count::<P>(value),
-            Key::Position => self.take_position::<P>(value),
+            Key::Header(key) => self.take_header::<P>(key, value),
             Key::State(key) => self.take_state::<P>(key, value),
             Key::Other => Ok(()),
         }
     }
 
-    fn take_version<P: Game>(&mut self, value: &'a [u8]) -> Result<(), LoadFault>
+    fn take_header<P: Game>(&mut self, key: HeaderKey, value: &'a [u8]) -> Result<(), LoadFault>
         ensures { Taken (saves_of P.Rules P.Game.own)
-            (met_of self.old) FormatVersion value.now result (met_of self.new) }
+            (met_of self.old) (Header key) value.now result (met_of self.new) }
     {
-        once(self.version)?;
-        if value != b"1".as_slice() {
-            return Err(LoadFault::Version);
+        if self.first(key).is_some() {
+            return Err(LoadFault::Repeated);
         }
-        self.version = true;
+        self.check_header::<P>(key, value)?;
+        self.keep(key, value)
+    }
+
+    // Keeps the first value of a key.
+    fn keep(&mut self, key: HeaderKey, value: &'a [u8]) -> Result<(), LoadFault>
+        requires { (met_of self.old).first key ≡ None }
+        ensures ok { OnOk result (met_of self.new
+            ≡ added (met_of self.old) (Header key) value.now) }
+        ensures err { IfErr result (λ fault. fault ≡ LoadFault.OutOfMemory) }
+    {
+        self.headers.push(HeaderRecord { key, value })?;
         Ok(())
     }
 
-    fn take_name<P: Game>(&mut self, value: &'a [u8]) -> Result<(), LoadFault>
-        ensures { Taken (saves_of P.Rules P.Game.own)
-            (met_of self.old) GameName value.now result (met_of self.new) }
+    // A value that is the first of its key.
+    fn check_header<P: Game>(&self, key: HeaderKey, value: &[u8]) -> Result<(), LoadFault>
+        ensures { result_err result
+            ≡ value_fault (saves_of P.Rules P.Game.own) (met_of self.now) key value.now }
     {
-        once(self.name)?;
-        if value != P::name().as_bytes() {
-            return Err(LoadFault::WrongGame);
+        match key {
+            HeaderKey::SaveFile => Err(LoadFault::Repeated),
+            HeaderKey::FormatVersion => refuse_unless(value == b"1".as_slice(), LoadFault::Version),
+            HeaderKey::GameName => {
+                refuse_unless(value == P::name().as_bytes(), LoadFault::WrongGame)
+            }
+            HeaderKey::ParamsOf(_) => match Params::read::<P>(value) {
+                Ok(_) => Ok(()),
+                Err(_) => Err(LoadFault::BadParams),
+            },
+            HeaderKey::PrivateDesc => Err(LoadFault::Unsupported),
+            HeaderKey::Count(which) => self.check_count(which, value),
+            HeaderKey::Desc | HeaderKey::Kept(_) => Ok(()),
         }
-        self.name = true;
-        Ok(())
     }
 
-    fn take_params<P: Game>(&mut self, whose: WhoseParams, value: &'a [u8]) -> Result<(), LoadFault>
-        ensures { Taken (saves_of P.Rules P.Game.own)
-            (met_of self.old) (ParamsOf whose) value.now result (met_of self.new) }
+    // A count has to go together with the other one, where that was met.
+    fn check_count(&self, which: WhichCount, value: &[u8]) -> Result<(), LoadFault>
+        ensures { result_err result ≡ count_fault which (count_at value.now)
+            (count_met (met_of self.now) (other_count which)) }
     {
-        match whose {
-            WhoseParams::Next => keep_params::<P>(&mut self.next_params, value),
-            WhoseParams::Current => keep_params::<P>(&mut self.params, value),
-        }
-    }
-
-    fn take_count<P: Game>(&mut self, value: &'a [u8]) -> Result<(), LoadFault>
-        ensures { Taken (saves_of P.Rules P.Game.own)
-            (met_of self.old) StateCount value.now result (met_of self.new) }
-    {
-        once(self.count.is_some())?;
-        let count = count(value)?;
-        if let Some(position) = self.position
-            && position > count
-        {
+        let Some(count) = count(value) else {
             return Err(LoadFault::BadCount);
+        };
+        match self.count(other_count(which)) {
+            Some(other) => refuse_unless(go_together(which, count, other), LoadFault::BadCount),
+            None => Ok(()),
         }
-        self.count = Some(count);
-        Ok(())
-    }
-
-    fn take_position<P: Game>(&mut self, value: &'a [u8]) -> Result<(), LoadFault>
-        ensures { Taken (saves_of P.Rules P.Game.own)
-            (met_of self.old) Position value.now result (met_of self.new) }
-    {
-        once(self.position.is_some())?;
-        let position = count(value)?;
-        if let Some(count) = self.count
-            && position > count
-        {
-            return Err(LoadFault::BadCount);
-        }
-        self.position = Some(position);
-        Ok(())
     }
 
     fn take_state<P: Game>(&mut self, key: StateKey, value: &'a [u8]) -> Result<(), LoadFault>
         ensures { Taken (saves_of P.Rules P.Game.own)
             (met_of self.old) (State key) value.now result (met_of self.new) }
     {
-        if self.count.is_none() || self.position.is_none() {
+        if self.count(WhichCount::States).is_none() || self.count(WhichCount::Position).is_none() {
             return Err(LoadFault::EarlyState);
         }
         check_state(key, value)?;

@@ -7,12 +7,12 @@ ghost use Rattle.play_midend.specs.declared.session.TheConstants.{MOST_STATES};
 ghost use Rattle.play_midend.specs.Histories.{History, started, at_position};
 ghost use Rattle.play_save.specs.Records.{record_at};
 ghost use Rattle.play_save.specs.SaveTexts.{saves_of, SaveText};
-ghost use Rattle.play_save.specs.FirstFaults.{behind_head, records_of, met_in, state_move, state_played, states_played, session_of, load_at};
-ghost use Rattle.play_save.specs.Taking.{IsPlayable, bytes_of, kept_of, met_of, state_of};
+ghost use Rattle.play_save.specs.FirstFaults.{behind_head, records_of, met_in, state_move, extras_met, state_played, states_played, session_of, load_at};
+ghost use Rattle.play_save.specs.Taking.{IsPlayable, bytes_of, met_of, state_of};
 
 use crate::fault::LoadFault;
-use crate::found::{Found, KeptValues, StateRecord};
-use crate::key::{Key, StateKey};
+use crate::found::{Found, StateRecord};
+use crate::key::{HeaderKey, KeptKey, Key, StateKey, WhichCount, WhoseParams};
 use crate::record::next_record;
 use crate::save_format::{COLLECTION, MOST_BYTES, is_solve};
 use clue_rules::{Game, Params};
@@ -62,14 +62,14 @@ fn kept(alloc: Global, bytes: Option<&[u8]>) -> Result<Option<KeptBytes>, AllocE
     }
 }
 
-fn extras(alloc: Global, values: KeptValues) -> Result<Extras, AllocError>
-    ensures { IfOk result (λ extras. extras ≡ kept_of values.entry) }
+fn extras(alloc: Global, found: &Found) -> Result<Extras, AllocError>
+    ensures { IfOk result (λ extras. extras ≡ extras_met (met_of found.now)) }
 {
     Ok(Extras {
-        seed: kept(alloc, values.seed)?,
-        auxinfo: kept(alloc, values.auxinfo)?,
-        ui: kept(alloc, values.ui)?,
-        time: kept(alloc, values.time)?,
+        seed: kept(alloc, found.first(HeaderKey::Kept(KeptKey::Seed)))?,
+        auxinfo: kept(alloc, found.first(HeaderKey::Kept(KeptKey::AuxInfo)))?,
+        ui: kept(alloc, found.first(HeaderKey::Kept(KeptKey::Ui)))?,
+        time: kept(alloc, found.first(HeaderKey::Kept(KeptKey::Time)))?,
     })
 }
 
@@ -155,14 +155,14 @@ fn start<P: Game>(
     params: Params,
     next_params: Params,
     puzzle: P,
-    values: KeptValues,
+    found: &Found,
 ) -> Result<Session<P>, LoadFault>
     requires { params.size ≡ (P.puzzle puzzle).size }
     ensures ok { IfOk result (λ s.
-        s ≡ started puzzle params next_params (kept_of values.entry)) }
+        s ≡ started puzzle params next_params (extras_met (met_of found.now))) }
     ensures err { IfErr result (λ fault. fault ≡ LoadFault.OutOfMemory) }
 {
-    let extras = extras(alloc, values)?;
+    let extras = extras(alloc, found)?;
     match Session::new(alloc, params, next_params, puzzle, extras) {
         Ok(session) => Ok(session),
         Err(_) => Err(LoadFault::OutOfMemory),
@@ -176,15 +176,21 @@ fn session<P: Game>(alloc: Global, found: &Found) -> Result<Session<P>, LoadFaul
     ensures { GivesUnless LoadFault.OutOfMemory (λ s. s) result
         (session_of (saves_of P.Rules P.Game.own) (met_of found.now)) }
 {
-    if !found.version || !found.name {
+    if found.first(HeaderKey::FormatVersion).is_none()
+        || found.first(HeaderKey::GameName).is_none()
+    {
         return Err(LoadFault::Missing);
     }
-    let next_params = found.next_params.ok_or(LoadFault::Missing)?;
-    let params = found.params.ok_or(LoadFault::Missing)?;
-    let desc = found.desc.ok_or(LoadFault::Missing)?;
-    let position = found.position.ok_or(LoadFault::Missing)?;
+    let next_params = found
+        .params::<P>(WhoseParams::Next)
+        .ok_or(LoadFault::Missing)?;
+    let params = found
+        .params::<P>(WhoseParams::Current)
+        .ok_or(LoadFault::Missing)?;
+    let desc = found.first(HeaderKey::Desc).ok_or(LoadFault::Missing)?;
+    let position = found.count(WhichCount::Position).ok_or(LoadFault::Missing)?;
     let puzzle = read_puzzle::<P>(params.size, desc)?;
-    let mut session = start(alloc, params, next_params, puzzle, found.kept)?;
+    let mut session = start(alloc, params, next_params, puzzle, found)?;
     play_states(&mut session, &found.states)?;
     go_back(&mut session, position);
     Ok(session)
