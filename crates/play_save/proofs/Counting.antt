@@ -19,8 +19,8 @@ use Rattle.play_save.specs.declared.key.Key.{Key}
 use Rattle.play_save.specs.declared.key.Key.TheVariants.{Header, State}
 use Rattle.play_save.specs.KeyedRecords.{KeyedRecord, states_in}
 use Rattle.play_save.specs.SaveTexts.{SavedGame}
-use Rattle.play_save.specs.FirstFaults.{Met, met, count_met, positive, count_at, fault_unless, go_together, count_fault, behind_counts, state_fault, fault_by, has_all, is_complete, Listing, needed, met_in}
-use Rattle.play_save.specs.Taking.{IsPlayable, added}
+use Rattle.play_save.specs.FirstFaults.{MetValue, met, count_met, positive, count_at, fault_unless, go_together, count_fault, behind_counts, state_fault, fault_by, has_all, is_complete, Listing, needed, met_in}
+use Rattle.play_save.specs.Inner.Taking.{IsPlayable, added}
 use Rattle.play_save.proofs.OptionSteps.{and_then_taken}
 use Rattle.play_save.proofs.Meeting.{once_taken, met_added}
 use Rattle.play_save.proofs.RightLists.{AreRight, right_end, needed_taken}
@@ -58,13 +58,13 @@ count_faultless which (Some n) (Some k) none =
     (n, refl, λ m is. let same : k ≡ m = cc in ap (go_together which n) (sym same) ∙ together)
 
 -- both counts were met before each state, and go together with each other and with the states
-pub record IsSound (m : Met) : Type 0 where
+pub record IsSound (m : MetValue) : Type 0 where
   pub early : count_met m States ≡ None → length m.states ≡ 0
   pub few : (n : ℕ) → count_met m States ≡ Some n → length m.states + 1 ≤ n
   pub inside : (n p : ℕ) → count_met m States ≡ Some n → count_met m Position ≡ Some p → p ≤ n
 
 -- both counts were met before a state without a fault
-pub counts_met : (m : Met) (fault : Option LoadFault) → behind_counts m fault ≡ None
+pub counts_met : (m : MetValue) (fault : Option LoadFault) → behind_counts m fault ≡ None
     → ((which : WhichCount) → (n : ℕ) × (count_met m which ≡ Some n)) × (fault ≡ None)
 counts_met m fault none = by_counts (count_met m States) (count_met m Position) refl refl none
   where
@@ -81,7 +81,7 @@ counts_met m fault none = by_counts (count_met m States) (count_met m Position) 
       e,
     )
 
-sound_count : {P : Type 0} (game : SavedGame P) (m : Met) (which : WhichCount) (value : List ℕ)
+sound_count : {P : Type 0} (game : SavedGame P) (m : MetValue) (which : WhichCount) (value : List ℕ)
     → IsSound m → fault_by game m (Header (Count which)) value ≡ None → IsSound (added m (Header (Count which)) value)
 sound_count game m States value s none =
     let fresh = once_taken (is_some (m.first (Count States))) _ none in
@@ -89,7 +89,7 @@ sound_count game m States value s none =
     let some = count_taken value good.0 good.1 in
     let empty = s.early (unmet (m.first (Count States)) fresh.0) in
     record {
-      early = λ is. cc good.1;
+      early = λ is. cc;
       few = λ n is. let same : good.0 ≡ n = cc good.1 in omega (arith, same, empty, some.1);
       inside = λ n p is at. let same : good.0 ≡ n = cc good.1 in omega (arith, same, leb-true p good.0 (good.2 p at));
     }
@@ -106,7 +106,7 @@ sound_count game m Position value s none =
       inside = λ n p is at. let same : good.0 ≡ p = cc good.1 in omega (arith, same, leb-true good.0 n (good.2 n is));
     }
 
-sound_state : {P : Type 0} (game : SavedGame P) (m : Met) (k : StateKey) (value : List ℕ)
+sound_state : {P : Type 0} (game : SavedGame P) (m : MetValue) (k : StateKey) (value : List ℕ)
     → IsSound m → is_complete m ≡ false → fault_by game m (State k) value ≡ None → IsSound (added m (State k) value)
 sound_state game m k value s undone none =
     let both = (counts_met m (state_fault k value) none).0 in
@@ -122,7 +122,7 @@ sound_state game m k value s undone none =
       inside = s.inside;
     }
 
-pub sound_added : {P : Type 0} (game : SavedGame P) (m : Met) (k : Key) (value : List ℕ)
+pub sound_added : {P : Type 0} (game : SavedGame P) (m : MetValue) (k : Key) (value : List ℕ)
     → IsSound m → is_complete m ≡ false → fault_by game m k value ≡ None → IsSound (added m k value)
 sound_added game m (Header (Count which)) value s undone none = sound_count game m which value s none
 sound_added game m (State k) value s undone none = sound_state game m k value s undone none
@@ -142,7 +142,7 @@ sound_along game before (r ∷ rs) s right =
     (sound_along game (before ++ r ∷ []) rs (rw (met_added game before r.key r.value right.1) next) right.2)
 
 -- the counts of complete records
-pub record Counted (m : Met) : Type 0 where
+pub record Counted (m : MetValue) : Type 0 where
   pub n : ℕ
   pub p : ℕ
   pub count_is : count_met m States ≡ Some n
@@ -178,15 +178,15 @@ counted game rs right = by_counts (count_met (met rs) States) (count_met (met rs
       inside = sound.inside n q c p;
     }
 
-pub playable : {P : Type 0} (game : SavedGame P) (listing : Listing) (m : Met)
+pub playable : {P : Type 0} (game : SavedGame P) (listing : Listing) (m : MetValue)
     → met_in game listing ≡ Ok m → IsPlayable m
 playable game listing m is =
-    let step = bind_taken (needed game [] listing) (λ rs. let r : Result Met LoadFault = Ok (met rs) in r) m is in
+    let step = bind_taken (needed game [] listing) (λ rs. let r : Result MetValue LoadFault = Ok (met rs) in r) m is in
     let need = needed_taken game [] listing step.0 step.1 in
     let same : met need.more ≡ m = ap met (sym need.all_is) ∙ (let e = step.2 in cc) in
     subst IsPlayable same (fits (counted game need.more need.right))
   where
-    fits : {m : Met} → Counted m → IsPlayable m
+    fits : {m : MetValue} → Counted m → IsPlayable m
     fits c = record {
       few = omega (arith, c.states, c.few);
       inside = λ position at.

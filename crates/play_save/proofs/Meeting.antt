@@ -3,22 +3,22 @@ use Rattle.std.proofs.Common.{◌≡◌, ℕ, Bool, true, false, ◌==◌, List,
 use Rattle.std.proofs.Math.Path.{fun_ext}
 use Rattle.std.proofs.lemmas.List.{append-nil, map-append}
 use Rattle.play_save.specs.declared.fault.LoadFault.{LoadFault}
-use Rattle.play_save.specs.declared.found.HeaderRecord.{HeaderRecord}
+use Rattle.play_save.specs.declared.met.HeaderRecord.{HeaderRecord}
 use Rattle.play_save.specs.declared.key.HeaderKey.{HeaderKey}
 use Rattle.play_save.specs.declared.key.Key.{Key}
 use Rattle.play_save.specs.declared.key.Key.TheVariants.{Header, State, Other}
 use Rattle.play_save.specs.Keys.{rank}
 use Rattle.play_save.specs.KeyedRecords.{KeyedRecord, KeyedState, values_of}
 use Rattle.play_save.specs.SaveTexts.{SavedGame}
-use Rattle.play_save.specs.FirstFaults.{Met, first_of, met, once, value_fault, fault_by}
-use Rattle.play_save.specs.Taking.{header_of, with_first, added}
+use Rattle.play_save.specs.FirstFaults.{MetValue, first_of, met, once, value_fault, fault_by}
+use Rattle.play_save.specs.Inner.Taking.{header_of, with_first, added}
 use Rattle.play_save.proofs.RecordLists.{same_key, values_of-append, states_in-append, one, no_first}
 
-pub same_met : (m n : Met) → ((k : HeaderKey) → m.first k ≡ n.first k) → m.states ≡ n.states → m ≡ n
+pub same_met : (m n : MetValue) → ((k : HeaderKey) → m.first k ≡ n.first k) → m.states ≡ n.states → m ≡ n
 same_met m n first states =
     let firsts : m.first ≡ n.first = fun_ext first in
-    let own : Met = record m { states = m.states } in
-    let other : Met = record n { states = n.states } in
+    let own : MetValue = record m { states = m.states } in
+    let other : MetValue = record n { states = n.states } in
     let same : own ≡ other = cc in
     same
 
@@ -63,7 +63,7 @@ met_added game before Other value none =
 -- what the code keeps, with one more record
 pub kept_added : (old new : List HeaderRecord) (r : HeaderRecord) (states : List KeyedState)
     → new ≡ old ++ r ∷ [] → first_of (values_of r.key (map header_of old)) ≡ None
-    → (let m : Met = record { first = λ k. first_of (values_of k (map header_of new)); states = states } in m)
+    → (let m : MetValue = record { first = λ k. first_of (values_of k (map header_of new)); states = states } in m)
     ≡ added (record { first = λ k. first_of (values_of k (map header_of old)); states = states }) (Header r.key) r.value.now
 kept_added old new r states is none =
     same_met _ _ (λ j. ap (λ rs. first_of (values_of j rs)) (ap (map header_of) is ∙ map-append header_of old (r ∷ []))

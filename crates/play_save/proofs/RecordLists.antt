@@ -1,5 +1,5 @@
 -- Lists of records: the values of a key, and the state records, along a list that is put together.
-use Rattle.std.proofs.Common.{◌≡◌, ◌⊎◌, ℕ, Bool, true, false, ◌==◌, List, [], ◌∷◌, ◌++◌, get_or, Option, Some, None, is_some, cond, refl, sym, ap, ◌∙◌, inl, inr}
+use Rattle.std.proofs.Common.{◌≡◌, ℕ, Bool, true, false, ◌==◌, List, [], ◌∷◌, ◌++◌, get_or, Option, Some, None, is_some, cond, refl, sym, ap, ◌∙◌}
 use borrow.Author.Tests.{eqb-true, eq-eqb}
 use Rattle.play_midend.specs.declared.extras.Extras.{Extras}
 use Rattle.play_save.specs.declared.key.KeptKey.{KeptKey}
@@ -91,24 +91,6 @@ pub append_none : {A : Type 0} (xs ys : List A) → xs ++ ys ≡ [] → (xs ≡ 
 append_none [] ys none = (refl, none)
 append_none (x ∷ xs) ys none = cc
 
--- a value that stands alone stands behind a place, or before it and not behind
-abbrev pub OnOneSide : HeaderKey → List ℕ → List KeyedRecord → List KeyedRecord → Type 0
-OnOneSide k value before later =
-    (values_of k before ≡ []) ⊎ ((values_of k before ≡ value ∷ []) × (values_of k later ≡ []))
-
-pub on_one_side : (k : HeaderKey) (value : List ℕ) (before later : List KeyedRecord)
-    → values_of k (before ++ later) ≡ value ∷ [] → OnOneSide k value before later
-on_one_side k value before later is =
-    by_values (values_of k before) refl (sym (values_of-append k before later) ∙ is)
-  where
-    by_values : (values : List (List ℕ)) → values_of k before ≡ values
-        → values ++ values_of k later ≡ value ∷ [] → OnOneSide k value before later
-    by_values [] none all = inl none
-    by_values (v ∷ vs) some all =
-        let rest = append_none vs (values_of k later) (cc) in
-        let alone : vs ≡ [] = rest.0 in
-        inr (cc, rest.1)
-
 -- the first record with a key
 pub record FirstAt (k : HeaderKey) (value : List ℕ) (more : List (List ℕ)) (rs : List KeyedRecord) : Type 0 where
   pub front : List KeyedRecord
@@ -129,18 +111,14 @@ first_at k value more (r ∷ rs) is = by_key r.key refl is (λ e. first_at k val
       more_is = rest.more_is;
     }
 
-    here : (j : HeaderKey) (v : List ℕ) → r.key ≡ Header j → (rank j == rank k) ≡ true → v ∷ values_of k rs ≡ value ∷ more
-        → r.value ≡ v → FirstAt k value more (r ∷ rs)
-    here j v key same e value_is =
+    by_rank : (j : HeaderKey) (own : Bool) → r.key ≡ Header j → (rank j == rank k) ≡ own
+        → cond own (r.value ∷ values_of k rs) (values_of k rs) ≡ value ∷ more
+        → (values_of k rs ≡ value ∷ more → FirstAt k value more rs) → FirstAt k value more (r ∷ rs)
+    by_rank j true key same e along =
         let own : KeyedRecord = record r { key = r.key } in
         let key_is : r.key ≡ Header k = key ∙ ap Header (same_key j k same) in
         let whole : own ≡ record { key = Header k; value = value } = cc in
         record { front = []; later = rs; split = ap (λ x. x ∷ rs) whole; more_is = cc }
-
-    by_rank : (j : HeaderKey) (own : Bool) → r.key ≡ Header j → (rank j == rank k) ≡ own
-        → cond own (r.value ∷ values_of k rs) (values_of k rs) ≡ value ∷ more
-        → (values_of k rs ≡ value ∷ more → FirstAt k value more rs) → FirstAt k value more (r ∷ rs)
-    by_rank j true key same e along = here j r.value key same e refl
     by_rank j false key same e along = behind_one (along e)
 
     by_key : (key : Key) → r.key ≡ key → onto_values k key r.value (values_of k rs) ≡ value ∷ more

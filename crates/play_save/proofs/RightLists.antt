@@ -1,5 +1,5 @@
 -- Lists of records without a fault: they are what is read up to the last record that is needed.
-use Rattle.std.proofs.Common.{◌≡◌, ◌⊎◌, inl, inr, ℕ, zero, suc, ◌<◌, ◌≤◌, true, false, List, [], ◌∷◌, ◌++◌, length, Option, Some, None, Result, Ok, Err, refl, sym, ap, ◌∙◌, subst, arith, length-append}
+use Rattle.std.proofs.Common.{◌≡◌, ℕ, zero, suc, ◌<◌, ◌≤◌, true, false, List, [], ◌∷◌, ◌++◌, length, Option, Some, None, Result, Ok, Err, refl, sym, ap, ◌∙◌, subst, arith, length-append}
 use Rattle.std.proofs.lemmas.Bool.{cond_both}
 use Rattle.std.proofs.lemmas.List.{append-nil, append_assoc}
 use Rattle.play_save.specs.declared.fault.LoadFault.{LoadFault}
@@ -180,12 +180,12 @@ stands_alone game rs k value more right is =
       faultless = good.1;
     }
 
--- a value stands alone, or none stands
-pub standing : {P : Type 0} (game : SavedGame P) (rs : List KeyedRecord) (k : HeaderKey) → AreRight game [] rs
-    → (values_of k rs ≡ []) ⊎ ((value : List ℕ) × StandsAlone game k value rs)
-standing {P} game rs k right = by_values (values_of k rs) refl
+-- what holds where no value stands, and where one stands alone, holds of the values that stand
+pub by_standing : {P : Type 0} (game : SavedGame P) (rs : List KeyedRecord) (k : HeaderKey) (R : List (List ℕ) → Type 0)
+    → AreRight game [] rs → R [] → ((value : List ℕ) → StandsAlone game k value rs → R (value ∷ [])) → R (values_of k rs)
+by_standing game rs k R right none some = by_values (values_of k rs) refl
   where
-    by_values : (values : List (List ℕ)) → values_of k rs ≡ values
-        → (values_of k rs ≡ []) ⊎ ((value : List ℕ) × StandsAlone game k value rs)
-    by_values [] is = inl is
-    by_values (v ∷ more) is = inr (v, stands_alone game rs k v more right is)
+    by_values : (values : List (List ℕ)) → values_of k rs ≡ values → R (values_of k rs)
+    by_values [] is = subst R (sym is) none
+    by_values (v ∷ more) is =
+        let at = stands_alone game rs k v more right is in subst R (sym at.alone) (some v at)

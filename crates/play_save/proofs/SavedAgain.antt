@@ -32,9 +32,9 @@ use Rattle.play_save.specs.Records.{record_at}
 use Rattle.play_save.specs.Keys.{kept_at}
 use Rattle.play_save.specs.KeyedRecords.{KeyedRecord, KeyedState, values_of, states_in, onto_states, once_if_kept, is_state, CountsStandFirst, may_be_last, EndsWithState}
 use Rattle.play_save.specs.SaveTexts.{SavedGame, params_of, count_of, HasValues, format_record, HaveStates, AreSaved, SaveText}
-use Rattle.play_save.specs.FirstFaults.{saved_params_at, count_at, Met, first_of, met, params_met, count_met, extras_met, fault_unless, params_fault, go_together, other_count, count_fault, behind_counts, state_fault, value_fault, fault_by, has_all, is_complete, records_of, needed, states_played, session_of, behind_head, met_in, load_at}
+use Rattle.play_save.specs.FirstFaults.{saved_params_at, count_at, first_of, met, params_met, count_met, extras_met, fault_unless, params_fault, go_together, other_count, count_fault, behind_counts, state_fault, value_fault, fault_by, has_all, is_complete, records_of, needed, states_played, session_of, behind_head, met_in, load_at}
 use Rattle.play_save.proofs.RecordLaws.{record_again}
-use Rattle.play_save.proofs.RecordLists.{one, values_of-append, values_at, states_in-append, append_none, OnOneSide, on_one_side, kept_each, same_extras}
+use Rattle.play_save.proofs.RecordLists.{one, values_of-append, values_at, states_in-append, append_none, kept_each, same_extras}
 use Rattle.play_save.proofs.RightLists.{AreRight, needed_again, records_again}
 use Rattle.play_save.proofs.Counting.{count_again}
 use Rattle.play_save.proofs.GameTexts.{IsGame}
@@ -109,50 +109,47 @@ IsOnSide h which before later =
 count_side : {P : Type 0} (game : SavedGame P) (h : History P) (before later : List KeyedRecord)
     → AreSaved game h (before ++ later) → (which : WhichCount) → IsOnSide h which before later
 count_side game h before later s which =
-    by_side (on_one_side (Count which) (decimal (count_of h which)) before later (s.values (Count which)))
+    by_values (values_of (Count which) before) refl
+    (sym (values_of-append (Count which) before later) ∙ s.values (Count which))
   where
-    by_side : OnOneSide (Count which) (decimal (count_of h which)) before later → IsOnSide h which before later
-    by_side (inl none) = inl none
-    by_side (inr some) = inr (rw (some.0, count_good (game.puzzle h.puzzle) h s.valid which) refl, some.1)
+    by_values : (values : List (List ℕ)) → values_of (Count which) before ≡ values
+        → values ++ values_of (Count which) later ≡ decimal (count_of h which) ∷ [] → IsOnSide h which before later
+    by_values [] none all = inl none
+    by_values (v ∷ vs) some all =
+        let rest = append_none vs (values_of (Count which) later) (cc) in
+        let same : v ≡ decimal (count_of h which) = cc in
+        inr (rw (some, same) (count_good (game.puzzle h.puzzle) h s.valid which), rest.1)
 
 -- the same parameters are read
 params_good : {P : Type 0} (game : SavedGame P) (p : Params) (value : List ℕ)
     → IsParamText game.letters p value → saved_params_at game value ≡ Ok p
 params_good game p value is = params_again game.letters (has_adjacent game.title) value p is
 
--- no value of a save has a fault, where a count that was met before is the save's
-abbrev AgreesWith : {P : Type 0} → History P → Met → WhichCount → Type 0
-AgreesWith h m which = (count_met m which ≡ None) ⊎ (count_met m which ≡ Some (count_of h which))
-
-agrees : {P : Type 0} (h : History P) (which : WhichCount) (before later : List KeyedRecord)
-    → IsOnSide h which before later → AgreesWith h (met before) which
-agrees h which before later (inl none) = inl (rw none refl)
-agrees h which before later (inr some) = inr some.0
-
+-- no value of a save has a fault behind the records before it
 head_same : {A : Type 0} (x y : A) → x ∷ [] ≡ y ∷ [] → x ≡ y
 head_same x y e = cc
 
-value_good : {P : Type 0} (game : SavedGame P) (h : History P) (m : Met) (k : HeaderKey) (value : List ℕ)
-    → IsValid (game.puzzle h.puzzle) h → ((which : WhichCount) → AgreesWith h m which) → HasValues game h k (value ∷ [])
-    → value_fault game m k value ≡ None
-value_good game h m SaveFile value valid agree has = cc
-value_good game h m PrivateDesc value valid agree has = cc
-value_good game h m FormatVersion value valid agree has =
+value_good : {P : Type 0} (game : SavedGame P) (h : History P) (before later : List KeyedRecord) (k : HeaderKey) (value : List ℕ)
+    → IsValid (game.puzzle h.puzzle) h → ((which : WhichCount) → IsOnSide h which before later) → HasValues game h k (value ∷ [])
+    → value_fault game (met before) k value ≡ None
+value_good game h before later SaveFile value valid side has = cc
+value_good game h before later PrivateDesc value valid side has = cc
+value_good game h before later FormatVersion value valid side has =
     ap (λ t. fault_unless t Version) (same_bytes value (codes "1") (head_same value (codes "1") has))
-value_good game h m GameName value valid agree has =
+value_good game h before later GameName value valid side has =
     ap (λ t. fault_unless t WrongGame) (same_bytes value game.title (head_same value game.title has))
-value_good game h m (ParamsOf whose) value valid agree has =
+value_good game h before later (ParamsOf whose) value valid side has =
     ap params_fault (ap (saved_params_at game) (head_same value has.0 has.1)
     ∙ params_good game (params_of h whose) has.0 has.2)
-value_good game h m (Count which) value valid agree has =
+value_good game h before later (Count which) value valid side has =
     let read = ap count_at (head_same value _ has) ∙ count_good (game.puzzle h.puzzle) h valid which in
-    rw read (by_other (count_met m (other_count which)) (agree (other_count which)))
+    rw read (by_other (side (other_count which)))
   where
-    by_other : (other : Option ℕ) → (other ≡ None) ⊎ (other ≡ Some (count_of h (other_count which)))
-        → count_fault which (Some (count_of h which)) other ≡ None
-    by_other other (inl none) = rw none refl
-    by_other other (inr some) = rw (some, go_good (game.puzzle h.puzzle) h valid which) refl
-value_good game h m k value valid agree has = refl
+    by_other : IsOnSide h (other_count which) before later
+        → count_fault which (Some (count_of h which)) (count_met (met before) (other_count which)) ≡ None
+    by_other (inl none) = rw none refl
+    by_other (inr some) = rw (some.0, go_good (game.puzzle h.puzzle) h valid which) refl
+value_good game h before later k value valid side has = refl
 
 -- no record of a save has a fault behind those before it
 faultless_at : {P : Type 0} (game : SavedGame P) (h : History P) (before later : List KeyedRecord) (k : Key) (value : List ℕ)
@@ -162,9 +159,7 @@ faultless_at : {P : Type 0} (game : SavedGame P) (h : History P) (before later :
 faultless_at game h before later Other value s counts fine = refl
 faultless_at game h before later (Header k) value s counts fine =
     let at = alone_at game h k value before later s in
-    let agree : (which : WhichCount) → AgreesWith h (met before) which =
-    λ which. agrees h which before (one (Header k) value ++ later) (count_side game h before (one (Header k) value ++ later) s which) in
-    rw at.first (value_good game h (met before) k value s.valid agree at.has)
+    rw at.first (value_good game h before (one (Header k) value ++ later) k value s.valid (count_side game h before (one (Header k) value ++ later) s) at.has)
 faultless_at game h before later (State k) value s counts fine =
     let none = counts refl in
     let count = met_before States (none States) (count_side game h before (one (State k) value ++ later) s States) in

@@ -1,11 +1,12 @@
 -- What is read as a session is a save of it.
-use Rattle.std.proofs.Common.{◌≡◌, ◌⊎◌, inl, inr, length-append, option_and_then, ℕ, ◌<◌, true, false, ◌&&◌, nat_lt, List, [], ◌∷◌, ◌++◌, length, codes, bytes_eq, Option, Some, None, is_some, Result, Ok, ok_or, refl, sym, ap, ◌∙◌, subst, arith}
+use Rattle.std.proofs.Common.{◌≡◌, length-append, option_and_then, ℕ, ◌<◌, true, false, ◌&&◌, nat_lt, List, [], ◌∷◌, ◌++◌, length, codes, bytes_eq, Option, Some, None, is_some, Result, Ok, ok_or, refl, sym, ap, ◌∙◌, subst, arith}
 use Rattle.std.specs.Result.{result_ok}
+use Rattle.std.specs.Fmt.{decimal}
 use Rattle.std.proofs.lemmas.Slice.Eq.{bytes_eq-Decides}
 use Rattle.std.proofs.lemmas.Bool.{and_parts, ltb-false}
 use Rattle.byte_text.proofs.ReadingLaws.{bind_taken}
 use Rattle.clue_rules.specs.declared.params.Params.{Params}
-use Rattle.clue_rules.specs.Parameters.{has_adjacent}
+use Rattle.clue_rules.specs.Parameters.{IsParamText, has_adjacent}
 use Rattle.clue_rules.proofs.ParameterLemmas.{params_taken}
 use Rattle.play_midend.specs.Histories.{History, started, at_position}
 use Rattle.play_midend.specs.MoveLists.{with_moves}
@@ -23,99 +24,74 @@ use Rattle.play_save.specs.declared.key.Key.{Key}
 use Rattle.play_save.specs.declared.key.Key.TheVariants.{Header, State}
 use Rattle.play_save.specs.declared.save_format.TheConstants.{MOST_BYTES}
 use Rattle.play_save.specs.Records.{Entry, BeginsWith, record_at}
-use Rattle.play_save.specs.Keys.{kept_at}
-use Rattle.play_save.specs.KeyedRecords.{KeyedRecord, values_of, states_in, once_if_kept, is_state, CountsStandFirst, may_be_last, EndsWithState}
-use Rattle.play_save.specs.SaveTexts.{SavedGame, params_of, count_of, HasValues, collection, format_record, AreSaved, SaveText}
-use Rattle.play_save.specs.FirstFaults.{Met, saved_params_at, count_at, first_of, met, params_met, count_met, extras_met, fault_unless, state_fault, value_fault, fault_by, is_complete, records_of, unless, needed, states_played, session_of, head_or_fault, behind_head, met_in, load_at}
-use Rattle.play_save.specs.Taking.{added}
+use Rattle.play_save.specs.KeyedRecords.{KeyedRecord, values_of, states_in, IsOne, once_if_kept, is_state, CountsStandFirst, may_be_last, EndsWithState}
+use Rattle.play_save.specs.SaveTexts.{SavedGame, HasValues, collection, format_record, AreSaved, SaveText}
+use Rattle.play_save.specs.FirstFaults.{MetValue, saved_params_at, count_at, first_of, met, params_met, count_met, extras_met, fault_unless, state_fault, value_fault, fault_by, is_complete, records_of, unless, needed, states_played, session_of, head_or_fault, behind_head, met_in, load_at}
+use Rattle.play_save.specs.Inner.Taking.{added}
 use Rattle.play_save.proofs.OptionSteps.{and_then_taken, ok_or_taken, result_taken, ok_else, ok_where}
 use Rattle.play_save.proofs.RecordLaws.{record_taken}
 use Rattle.play_save.proofs.RecordLists.{kept_each, values_of-append}
 use Rattle.play_save.proofs.Meeting.{met_added}
-use Rattle.play_save.proofs.RightLists.{AreRight, needed_taken, records_taken, none_again, StandsAlone, standing}
+use Rattle.play_save.proofs.RightLists.{AreRight, needed_taken, records_taken, none_again, by_standing}
 use Rattle.play_save.proofs.Counting.{count_taken, fault_unless_taken, counts_met, counted}
 use Rattle.play_save.proofs.GameTexts.{IsGame}
 use Rattle.play_save.proofs.StatesPlayed.{IsDescribed, ok_taken, states_taken, have_length}
 
--- What the session of some records has of them.
-record IsMade {P : Type 0} (game : SavedGame P) (m : Met) (h : History P) : Type 0 where
+-- What a session was made of.
+record Parts {P : Type 0} (game : SavedGame P) (m : MetValue) (h : History P) : Type 0 where
   version : is_some (m.first FormatVersion) ≡ true
   name : is_some (m.first GameName) ≡ true
-  params : (whose : WhoseParams) → params_met game m whose ≡ Some (params_of h whose)
-  text : List ℕ
-  text_is : m.first Desc ≡ Some text
-  described : game.Describes h.params.size h.puzzle text
-  extras : h.extras ≡ extras_met m
-  counts : (which : WhichCount) → count_met m which ≡ Some (count_of h which)
+  next_params : Params
+  next_read : params_met game m Next ≡ Some next_params
+  params : Params
+  read : params_met game m Current ≡ Some params
+  desc : List ℕ
+  desc_is : m.first Desc ≡ Some desc
+  position : ℕ
+  position_is : count_met m Position ≡ Some position
+  puzzle : P
+  described : game.desc_at params.size desc ≡ Ok puzzle
+  last : History P
+  played_is : states_played game (started puzzle params next_params (extras_met m)) 1 m.states ≡ Ok last
+  whole : at_position last position ≡ h
 
 -- what was met of a key is its only value
 only_value : {P : Type 0} (game : SavedGame P) (rs : List KeyedRecord) (k : HeaderKey) (value : List ℕ)
     → AreRight game [] rs → (met rs).first k ≡ Some value → values_of k rs ≡ value ∷ []
-only_value game rs k value right is = by_standing (standing game rs k right)
-  where
-    by_standing : (values_of k rs ≡ []) ⊎ ((v : List ℕ) × StandsAlone game k v rs) → values_of k rs ≡ value ∷ []
-    by_standing (inl none) = let first = ap first_of none in cc
-    by_standing (inr at) =
-        let first = ap first_of at.1.alone in
-        let same : at.0 ≡ value = cc in
-        at.1.alone ∙ ap (λ v. v ∷ []) same
+only_value game rs k value right is =
+    by_standing game rs k (λ vs. first_of vs ≡ Some value → vs ≡ value ∷ []) right (λ e. cc) (λ v at e. cc) is
 
 -- a key whose value always has a fault never stands
 never : {P : Type 0} (game : SavedGame P) (rs : List KeyedRecord) (k : HeaderKey)
-    → AreRight game [] rs → ((m : Met) (value : List ℕ) → value_fault game m k value ≡ None → ⊥) → values_of k rs ≡ []
-never game rs k right refused = by_standing (standing game rs k right)
-  where
-    by_standing : (values_of k rs ≡ []) ⊎ ((v : List ℕ) × StandsAlone game k v rs) → values_of k rs ≡ []
-    by_standing (inl none) = none
-    by_standing (inr at) = absurd (refused (met at.1.front) at.0 at.1.faultless)
+    → AreRight game [] rs → ((m : MetValue) (value : List ℕ) → value_fault game m k value ≡ None → ⊥) → values_of k rs ≡ []
+never game rs k right refused =
+    by_standing game rs k (λ vs. vs ≡ []) right refl (λ v at. absurd (refused (met at.front) v at.faultless))
 
 -- a key that stands with one value alone
 fixed_value : {P : Type 0} (game : SavedGame P) (rs : List KeyedRecord) (k : HeaderKey) (value : List ℕ) (fault : LoadFault)
     → AreRight game [] rs
-    → ((m : Met) (v : List ℕ) → value_fault game m k v ≡ None → fault_unless (bytes_eq v value) fault ≡ None)
+    → ((m : MetValue) (v : List ℕ) → value_fault game m k v ≡ None → fault_unless (bytes_eq v value) fault ≡ None)
     → is_some ((met rs).first k) ≡ true → values_of k rs ≡ value ∷ []
-fixed_value game rs k value fault right only some = by_standing (standing game rs k right)
-  where
-    by_standing : (values_of k rs ≡ []) ⊎ ((v : List ℕ) × StandsAlone game k v rs) → values_of k rs ≡ value ∷ []
-    by_standing (inl none) = let first = ap (λ vs. is_some (first_of vs)) none in cc
-    by_standing (inr at) =
-        let good = fault_unless_taken (bytes_eq at.0 value) fault (only (met at.1.front) at.0 at.1.faultless) in
-        at.1.alone ∙ ap (λ v. v ∷ []) ((bytes_eq-Decides at.0 value).0 good)
+fixed_value game rs k value fault right only some =
+    by_standing game rs k (λ vs. is_some (first_of vs) ≡ true → vs ≡ value ∷ []) right (λ e. cc) (λ v at e.
+    let good = fault_unless_taken (bytes_eq v value) fault (only (met at.front) v at.faultless) in
+    ap (λ w. w ∷ []) ((bytes_eq-Decides v value).0 good)) some
 
--- a key that stands once or never
-kept_once : {P : Type 0} (game : SavedGame P) (rs : List KeyedRecord) (k : HeaderKey)
-    → AreRight game [] rs → values_of k rs ≡ once_if_kept ((met rs).first k)
-kept_once game rs k right = by_standing (standing game rs k right)
-  where
-    by_standing : (values_of k rs ≡ []) ⊎ ((v : List ℕ) × StandsAlone game k v rs)
-        → values_of k rs ≡ once_if_kept ((met rs).first k)
-    by_standing (inl none) = rw none refl
-    by_standing (inr at) = rw at.1.alone refl
-
--- the values that stand with each key are those of the session
-values_taken : {P : Type 0} (game : SavedGame P) (rs : List KeyedRecord) (h : History P) (k : HeaderKey)
-    → AreRight game [] rs → IsMade game (met rs) h → HasValues game h k (values_of k rs)
-values_taken game rs h (ParamsOf whose) right made =
-    let read = and_then_taken _ ((met rs).first (ParamsOf whose)) (params_of h whose) (made.params whose) in
-    let taken = ok_taken (saved_params_at game read.0) (params_of h whose) read.2 in (
+params_taken_of : {P : Type 0} (game : SavedGame P) (rs : List KeyedRecord) (whose : WhoseParams) (p : Params)
+    → AreRight game [] rs → params_met game (met rs) whose ≡ Some p
+    → IsOne (IsParamText game.letters p) (values_of (ParamsOf whose) rs)
+params_taken_of game rs whose p right is =
+    let read = and_then_taken _ ((met rs).first (ParamsOf whose)) p is in (
       read.0,
       only_value game rs (ParamsOf whose) read.0 right read.1,
-      params_taken game.letters (has_adjacent game.title) read.0 (params_of h whose) taken,
+      params_taken game.letters (has_adjacent game.title) read.0 p (ok_taken (saved_params_at game read.0) p read.2),
     )
-values_taken game rs h Desc right made =
-    (made.text, only_value game rs Desc made.text right made.text_is, made.described)
-values_taken game rs h (Count which) right made =
-    let read = and_then_taken count_at ((met rs).first (Count which)) (count_of h which) (made.counts which) in
-    only_value game rs (Count which) read.0 right read.1
-    ∙ ap (λ v. v ∷ []) (count_taken read.0 (count_of h which) read.2).0
-values_taken game rs h SaveFile right made = never game rs SaveFile right (λ m v none. cc)
-values_taken game rs h PrivateDesc right made = never game rs PrivateDesc right (λ m v none. cc)
-values_taken game rs h FormatVersion right made =
-    fixed_value game rs FormatVersion (codes "1") Version right (λ m v none. none) made.version
-values_taken game rs h GameName right made =
-    fixed_value game rs GameName game.title WrongGame right (λ m v none. none) made.name
-values_taken game rs h (Kept k) right made =
-    kept_once game rs (Kept k) right ∙ ap once_if_kept (sym (ap (λ e. kept_at e k) made.extras ∙ kept_each (λ j. (met rs).first (Kept j)) k))
+
+count_taken_of : {P : Type 0} (game : SavedGame P) (rs : List KeyedRecord) (which : WhichCount) (n : ℕ)
+    → AreRight game [] rs → count_met (met rs) which ≡ Some n → values_of (Count which) rs ≡ decimal n ∷ []
+count_taken_of game rs which n right is =
+    let read = and_then_taken count_at ((met rs).first (Count which)) n is in
+    only_value game rs (Count which) read.0 right read.1 ∙ ap (λ v. v ∷ []) (count_taken read.0 n read.2).0
 
 -- no count follows a state record
 right_counts_first : {P : Type 0} (game : SavedGame P) (before rs : List KeyedRecord)
@@ -143,7 +119,7 @@ right_counts_first {P} game before (r ∷ rs) right =
     by_key k value state none = cc
 
 -- the last record is one that completes
-completes : (m : Met) (k : Key) (value : List ℕ)
+completes : (m : MetValue) (k : Key) (value : List ℕ)
     → is_complete m ≡ false → is_complete (added m k value) ≡ true → may_be_last k ≡ true
 completes m (Header (Count which)) value undone done = refl
 completes m (State k) value undone done = refl
@@ -169,25 +145,7 @@ unless_taken : {A : Type 0} (fault : Option LoadFault) (r : Result A LoadFault) 
 unless_taken None r a is = (refl, is)
 unless_taken (Some fault) r a is = cc
 
--- what a session was made of
-record Parts {P : Type 0} (game : SavedGame P) (m : Met) (h : History P) : Type 0 where
-  version : is_some (m.first FormatVersion) ≡ true
-  name : is_some (m.first GameName) ≡ true
-  next_params : Params
-  next_read : params_met game m Next ≡ Some next_params
-  params : Params
-  read : params_met game m Current ≡ Some params
-  desc : List ℕ
-  desc_is : m.first Desc ≡ Some desc
-  position : ℕ
-  position_is : count_met m Position ≡ Some position
-  puzzle : P
-  described : game.desc_at params.size desc ≡ Ok puzzle
-  last : History P
-  played_is : states_played game (started puzzle params next_params (extras_met m)) 1 m.states ≡ Ok last
-  whole : at_position last position ≡ h
-
-parts_taken : {P : Type 0} (game : SavedGame P) (m : Met) (h : History P) → session_of game m ≡ Ok h → Parts game m h
+parts_taken : {P : Type 0} (game : SavedGame P) (m : MetValue) (h : History P) → session_of game m ≡ Ok h → Parts game m h
 unfolding session_of
 parts_taken {P} game m h is =
     let stand = is_some (m.first FormatVersion) && is_some (m.first GameName) in
@@ -223,9 +181,9 @@ saved_taken {P} game rs h owes right is =
     let m = met rs in
     let parts = parts_taken game m h is in
     let counts = counted game rs right in
-    let read = and_then_taken _ (m.first (ParamsOf Current)) parts.params parts.read in
-    let own_params =
-    (params_taken game.letters (has_adjacent game.title) read.0 parts.params (ok_taken _ parts.params read.2)).params in
+    let next = params_taken_of game rs Next parts.next_params right parts.next_read in
+    let now = params_taken_of game rs Current parts.params right parts.read in
+    let own_params = now.2.params in
     let described =
     owes.reads.taken parts.params.size parts.desc parts.puzzle own_params.smallest own_params.largest parts.described in
     let size = owes.sized parts.params.size parts.puzzle parts.desc described in
@@ -243,24 +201,26 @@ saved_taken {P} game rs h owes right is =
     let long = have_length game parts.puzzle played.moves (states_in rs) played.have in
     let here : counts.p ≡ parts.position = (let a = counts.position_is in let b = parts.position_is in cc) in
     let whole_h : History P = at_position (with_moves start played.moves) parts.position in
-    let session : IsMade game m whole_h = record {
-      version = parts.version;
-      name = parts.name;
-      params = λ whose. elim whose as (λ w. params_met game m w ≡ Some (params_of whole_h w)) [
-        | Next ↦ parts.next_read
-        | Current ↦ parts.read
-      ];
-      text = parts.desc;
-      text_is = parts.desc_is;
-      described = described;
-      extras = refl;
-      counts = λ which. elim which as (λ w. count_met m w ≡ Some (count_of whole_h w)) [
-        | States ↦ counts.count_is ∙ ap Some (omega (arith, counts.states, long))
-        | Position ↦ parts.position_is
-      ];
-    } in
+    let count = count_taken_of game rs States counts.n right counts.count_is in
     let made : AreSaved game whole_h rs = record {
-      values = λ k. values_taken game rs whole_h k right session;
+      values = λ k. elim k as (λ j. HasValues game whole_h j (values_of j rs)) [
+        | SaveFile ↦ never game rs SaveFile right (λ n v none. cc)
+        | FormatVersion ↦ fixed_value game rs FormatVersion (codes "1") Version right (λ n v none. none) parts.version
+        | GameName ↦ fixed_value game rs GameName game.title WrongGame right (λ n v none. none) parts.name
+        | ParamsOf whose ↦ elim whose as (λ w. HasValues game whole_h (ParamsOf w) (values_of (ParamsOf w) rs)) [
+          | Next ↦ next
+          | Current ↦ now
+        ]
+        | Desc ↦ (parts.desc, only_value game rs Desc parts.desc right parts.desc_is, described)
+        | PrivateDesc ↦ never game rs PrivateDesc right (λ n v none. cc)
+        | Kept j ↦
+            by_standing game rs (Kept j) (λ vs. vs ≡ once_if_kept (first_of vs)) right refl (λ v at. refl)
+            ∙ ap once_if_kept (sym (kept_each (λ i. m.first (Kept i)) j))
+        | Count which ↦ elim which as (λ w. HasValues game whole_h (Count w) (values_of (Count w) rs)) [
+          | States ↦ count ∙ ap (λ n. decimal n ∷ []) (omega (arith, counts.states, long))
+          | Position ↦ count_taken_of game rs Position parts.position right parts.position_is
+        ]
+      ];
       states = played.have;
       counts_first = right_counts_first game [] rs right;
       last = ends_with_state game rs right;

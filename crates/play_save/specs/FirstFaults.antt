@@ -44,7 +44,7 @@ abbrev pub count_at : List ℕ → Option ℕ
 count_at value = option_and_then positive (decimal_value MOST_STATES value)
 
 -- What some records say: the first value of each key that may stand once, and the state records.
-pub record Met : Type 0 where
+pub record MetValue : Type 0 where
   pub first : HeaderKey → Option (List ℕ)
   pub states : List KeyedState
 
@@ -52,17 +52,17 @@ abbrev pub first_of : {A : Type 0} → List A → Option A
 first_of [] = None
 first_of (v ∷ vs) = Some v
 
-abbrev pub met : List KeyedRecord → Met
+abbrev pub met : List KeyedRecord → MetValue
 met rs = record { first = λ k. first_of (values_of k rs); states = states_in rs }
 
 -- the parameters and the counts that were met, as they read, and what is kept
-abbrev pub params_met : {P : Type 0} → SavedGame P → Met → WhoseParams → Option Params
+abbrev pub params_met : {P : Type 0} → SavedGame P → MetValue → WhoseParams → Option Params
 params_met game m whose = option_and_then (λ value. result_ok (saved_params_at game value)) (m.first (ParamsOf whose))
 
-abbrev pub count_met : Met → WhichCount → Option ℕ
+abbrev pub count_met : MetValue → WhichCount → Option ℕ
 count_met m which = option_and_then count_at (m.first (Count which))
 
-abbrev pub extras_met : Met → Extras
+abbrev pub extras_met : MetValue → Extras
 extras_met m = each_kept (λ k. m.first (Kept k))
 
 -- a fault, where the test fails
@@ -104,11 +104,11 @@ state_fault AnyMove value = text_fault (move_at value)
 state_fault SolveMove value = text_fault (move_at value)
 state_fault RestartMove value = None
 
-abbrev pub behind_counts : Met → Option LoadFault → Option LoadFault
+abbrev pub behind_counts : MetValue → Option LoadFault → Option LoadFault
 behind_counts m fault = if is_some (count_met m States) && is_some (count_met m Position) then fault else Some EarlyState
 
 -- the fault of a value that stands with a key for the first time
-abbrev pub value_fault : {P : Type 0} → SavedGame P → Met → HeaderKey → List ℕ → Option LoadFault
+abbrev pub value_fault : {P : Type 0} → SavedGame P → MetValue → HeaderKey → List ℕ → Option LoadFault
 value_fault game m SaveFile value = Some Repeated
 value_fault game m FormatVersion value = fault_unless (bytes_eq value (codes "1")) Version
 value_fault game m GameName value = fault_unless (bytes_eq value game.title) WrongGame
@@ -119,7 +119,7 @@ value_fault game m (Kept k) value = None
 value_fault game m (Count which) value = count_fault which (count_at value) (count_met m (other_count which))
 
 -- the fault of a record behind those that were met
-abbrev pub fault_by : {P : Type 0} → SavedGame P → Met → Key → List ℕ → Option LoadFault
+abbrev pub fault_by : {P : Type 0} → SavedGame P → MetValue → Key → List ℕ → Option LoadFault
 fault_by game m (Header k) value = once (is_some (m.first k)) (value_fault game m k value)
 fault_by game m (State k) value = behind_counts m (state_fault k value)
 fault_by game m Other value = None
@@ -129,7 +129,7 @@ abbrev pub has_all : Option ℕ → Option ℕ → ℕ → Bool
 has_all (Some n) (Some position) states = nat_le n (states + 1)
 has_all _ _ states = false
 
-abbrev pub is_complete : Met → Bool
+abbrev pub is_complete : MetValue → Bool
 is_complete m = has_all (count_met m States) (count_met m Position) (length m.states)
 
 -- the records of a text up to its end, or to what is no record
@@ -191,18 +191,18 @@ states_played game h i (s ∷ ss) =
     state_played game h i s >>= λ next. states_played game next (i + 1) ss
 
 -- the session of a puzzle, or the first state record that is wrong
-abbrev pub session_with : {P : Type 0} → SavedGame P → Met → Params → Params → ℕ → P → Result (History P) LoadFault
+abbrev pub session_with : {P : Type 0} → SavedGame P → MetValue → Params → Params → ℕ → P → Result (History P) LoadFault
 session_with game m params next_params position puzzle =
     states_played game (started puzzle params next_params (extras_met m)) 1 m.states
     >>= λ last. Ok (at_position last position)
 
-abbrev pub session_at : {P : Type 0} → SavedGame P → Met → Params → Params → List ℕ → ℕ → Result (History P) LoadFault
+abbrev pub session_at : {P : Type 0} → SavedGame P → MetValue → Params → Params → List ℕ → ℕ → Result (History P) LoadFault
 session_at game m params next_params desc position =
     ok_or (result_ok (game.desc_at params.size desc)) BadDesc
     >>= λ puzzle. session_with game m params next_params position puzzle
 
 -- the session of what was met, or the first thing that is missing or wrong
-unfoldable pub session_of : {P : Type 0} → SavedGame P → Met → Result (History P) LoadFault
+unfoldable pub session_of : {P : Type 0} → SavedGame P → MetValue → Result (History P) LoadFault
 session_of game m =
     unless (fault_unless (is_some (m.first FormatVersion) && is_some (m.first GameName)) Missing)
     (ok_or (params_met game m Next) Missing >>= λ next_params. ok_or (params_met game m Current) Missing >>= λ params.
@@ -218,7 +218,7 @@ abbrev pub behind_head : Result (Option (Entry × List ℕ)) LoadFault → Resul
 behind_head (Ok (Some parts)) = head_or_fault parts.0 parts.1
 behind_head _ = Err NotASave
 
-abbrev pub met_in : {P : Type 0} → SavedGame P → Listing → Result Met LoadFault
+abbrev pub met_in : {P : Type 0} → SavedGame P → Listing → Result MetValue LoadFault
 met_in game listing = needed game [] listing >>= λ rs. Ok (met rs)
 
 -- a save text: its session, or its first fault

@@ -11,9 +11,9 @@
 #![tactic(auto)]
 
 mod fault;
-mod found;
 mod key;
 mod loading;
+mod met;
 mod record;
 mod save_format;
 mod save_laws;

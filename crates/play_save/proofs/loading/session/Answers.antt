@@ -1,7 +1,7 @@
 -- The last state is behind the position.
 use Rattle.std.proofs.Common.{length, map, sym, ◌∙◌, ap, arith}
 use Rattle.play_save.specs.SaveTexts.{saves_of}
-use Rattle.play_save.specs.Taking.{state_of}
+use Rattle.play_save.specs.Inner.Taking.{state_of}
 use Rattle.play_save.proofs.StatesPlayed.{position_played}
 use Rattle.play_save.proofs.loading.session.Goals as goal
 

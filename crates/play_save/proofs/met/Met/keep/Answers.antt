@@ -1,8 +1,8 @@
 -- One more record is kept.
 use Rattle.std.proofs.Common.{map}
-use Rattle.play_save.specs.Taking.{state_of}
+use Rattle.play_save.specs.Inner.Taking.{state_of}
 use Rattle.play_save.proofs.Meeting.{kept_added}
-use Rattle.play_save.proofs.found.Found.keep.Goals as goal
+use Rattle.play_save.proofs.met.Met.keep.Goals as goal
 
 pub returns-clause-ok : goal.returns-clause-ok
 returns-clause-ok c =

@@ -1,11 +1,11 @@
-//! What the records of a save file say, found one by one.
+//! What the records of a save file say, met one by one.
 
 ghost use Rattle.std.specs.Prelude.{◌≡◌, Some, None, ok_or, option_and_then, [], OnOk, IfErr};
 ghost use Rattle.std.specs.Result.{result_ok, result_err};
 ghost use Rattle.play_save.specs.declared.key.Key.TheVariants.{Header, State};
 ghost use Rattle.play_save.specs.SaveTexts.{saves_of};
 ghost use Rattle.play_save.specs.FirstFaults.{met, params_met, count_met, is_complete, count_at, fault_unless, go_together, count_fault, other_count, state_fault, value_fault, saved_params_at};
-ghost use Rattle.play_save.specs.Taking.{bytes_of, met_of, added, Taken};
+ghost use Rattle.play_save.specs.Inner.Taking.{bytes_of, met_of, added, Taken};
 
 use crate::fault::LoadFault;
 use crate::key::{HeaderKey, Key, StateKey, WhichCount, WhoseParams};
@@ -30,7 +30,7 @@ pub(crate) struct StateRecord<'a> {
 
 /// What the records of a save file said so far.
 #[derive(Drop, Debug)]
-pub(crate) struct Found<'a> {
+pub(crate) struct Met<'a> {
     // Each of its own key.
     headers: Vec<HeaderRecord<'a>>,
     // The state records are played once the puzzle is known, which may stand behind them.
@@ -86,12 +86,12 @@ fn check_state(key: StateKey, value: &[u8]) -> Result<(), LoadFault>
     }
 }
 
-impl<'a> Found<'a> {
+impl<'a> Met<'a> {
     /// Nothing yet.
-    pub(crate) fn new(alloc: Global) -> Found<'a>
+    pub(crate) fn new(alloc: Global) -> Met<'a>
         ensures { met_of result ≡ met [] }
     {
-        Found {
+        Met {
             headers: Vec::new(alloc),
             states: Vec::new(alloc),
         }
