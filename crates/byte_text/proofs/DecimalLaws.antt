@@ -1,9 +1,10 @@
 -- Decimal numbers without leading zeros: what is read is std's `decimal` of the number, and `decimal` is read.
-use Rattle.std.proofs.Common.{◌≡◌, ◌≢◌, ℕ, ◌+◌, ◌-◌, ◌*◌, ◌^◌, ◌<◌, ◌≤◌, Bool, true, false, ◌&&◌, nat_le, List, [], ◌∷◌, length, get_or, Option, Some, None, option_and_then, ◌==◌, cond, refl, sym, ap, ◌∙◌, arith, rules, IfSome}
+use Rattle.std.proofs.Common.{◌≡◌, ◌≢◌, ℕ, ◌+◌, ◌-◌, ◌*◌, ◌^◌, ◌<◌, ◌≤◌, Bool, true, false, ◌&&◌, nat_le, List, [], ◌∷◌, length, map, get_or, Option, Some, None, option_and_then, ◌==◌, cond, refl, sym, ap, ◌∙◌, arith, rules, IfSome}
 use Rattle.std.specs.Fmt.{decimal}
 use Rattle.std.proofs.lemmas.Str.Parse.{IsNumeralModel, numerals_by_fold}
 use Rattle.std.proofs.lemmas.Fmt.{decimal-digits_value, digits_decimal, digits_value-decimal, decimal_nonempty, first_decimal, decimal_digit}
 use borrow.Author.Tests.{eqb-true, eqb-false, leb-true, le-leb, apart_eqb}
+use Rattle.byte_text.specs.Bytes.{digit}
 use Rattle.byte_text.specs.Cuts.{Lacks}
 use Rattle.byte_text.specs.Decimals.{is_digit, digit_onto, number_from, has_leading_zero, decimal_value}
 
@@ -118,13 +119,18 @@ unfolding decimal_value
 number_of_digits greatest [] some none = absurd (omega arith)
 number_of_digits greatest (b ∷ bs) some none = rw none refl
 
--- what is written so is read
+-- what is written so is read, and also where leading zeros may stand
+pub digits_again : (greatest m : ℕ) → m ≤ greatest → greatest < 2 ^ 64 → number_from greatest 0 (decimal m) ≡ Some m
+digits_again greatest m within fits =
+    let below : m < 2 ^ 64 = omega arith in
+    let value = digits_value-decimal own m below in
+    from_again greatest 0 (decimal m) (digits_decimal own m below) (rw value within) ∙ ap Some value
+
 pub number_again : (greatest m : ℕ) → m ≤ greatest → greatest < 2 ^ 64 → decimal_value greatest (decimal m) ≡ Some m
 number_again greatest m within fits =
     let below : m < 2 ^ 64 = omega arith in
-    let value = digits_value-decimal own m below in
-    let read = from_again greatest 0 (decimal m) (digits_decimal own m below) (rw value within) in
-    number_of_digits greatest (decimal m) (decimal_nonempty m below) (decimal_no_leading_zero m below) ∙ read ∙ ap Some value
+    number_of_digits greatest (decimal m) (decimal_nonempty m below) (decimal_no_leading_zero m below)
+    ∙ digits_again greatest m within fits
 
 -- a decimal has no other bytes than digits
 pub lacks_decimal : (c m : ℕ) → m < 2 ^ 64 → is_digit c ≡ false → Lacks c (decimal m)
@@ -135,6 +141,16 @@ pub number_found : (greatest : ℕ) (bs : List ℕ) (answer : Option ℕ) → gr
     → IfSome answer (λ m. (bs ≡ decimal m) × (m ≤ greatest))
 number_found greatest bs None fits is = tt
 number_found greatest bs (Some m) fits is = number_taken greatest m bs fits (sym is)
+
+-- single digits are told apart by their bytes
+pub same_digits : (xs ys : List ℕ) → map digit xs ≡ map digit ys → xs ≡ ys
+same_digits [] [] e = refl
+same_digits (x ∷ xs) (y ∷ ys) e =
+    let head : digit x ≡ digit y = cc in
+    let rest = same_digits xs ys (cc) in
+    let same : x ≡ y = omega arith in
+    cc
+same_digits xs ys e = cc
 
 -- what `number` promises
 pub ruleset reads = (number_found, number_again)

@@ -8,7 +8,7 @@ use Rattle.byte_text.specs.Bytes.{letter_d, letter_a, digit_zero}
 use Rattle.clue_rules.specs.declared.id_fault.IdFault.{IdFault}
 use Rattle.clue_rules.specs.declared.id_fault.IdFault.TheVariants.{BadSize, BadLetter, AdjacentMode, BadParams}
 use Rattle.clue_rules.specs.declared.params.Params.{Params}
-use Rattle.clue_rules.specs.Parameters.{letter_part, IsParamText, if_no_more, letter_at, behind_size, is_size, params_at}
+use Rattle.clue_rules.specs.Parameters.{letter_part, params_text, IsParamText, if_no_more, letter_at, behind_size, is_size, params_at}
 use Rattle.clue_rules.specs.Laws.Refusals.{refused_then, refused_else}
 
 contains_from_any : (letters : List ℕ) (letter : ℕ) → list_any (λ l. l == letter) letters ≡ true → Contains letters letter
@@ -100,3 +100,19 @@ params_again letters has_adjacent text p h =
     and_from (nat_le (digit_zero + 3) (digit_zero + p.size)) _ (le-leb (digit_zero + 3) (digit_zero + p.size) (omega arith)) bounds in
     let size : digit_zero + p.size - digit_zero ≡ p.size = omega arith in
     ap (params_at letters has_adjacent) h.text_is ∙ rw (is, size) (letters_again letters has_adjacent p.size p.letter params.letter)
+
+-- parameters are told apart by their texts
+pub same_params : (p q : Params) → params_text p ≡ params_text q → p ≡ q
+same_params p q text =
+    let first : digit_zero + p.size ≡ digit_zero + q.size = cc in
+    let size : p.size ≡ q.size = omega arith in
+    let letter = by_letter p.letter q.letter (cc) in
+    let one : Params = record { size = p.size; letter = p.letter } in
+    let other : Params = record { size = q.size; letter = q.letter } in
+    let same : one ≡ other = cc in
+    same
+  where
+    by_letter : (a b : Option ℕ) → letter_part a ≡ letter_part b → a ≡ b
+    by_letter None None e = refl
+    by_letter (Some a) (Some b) e = cc
+    by_letter a b e = cc

@@ -6,9 +6,11 @@ ghost use Rattle.play_midend.specs.Faults.{play_fault_number, play_fault_name};
 
 use latin_board::OutOfMemory;
 use std::alloc::{AllocError, AllocFailed};
+use thiserror::Error;
 
 /// Why a move text, a move or another call of a session is refused.
-#[derive(Clone, Copy, Debug, PartialEq, Eq)]
+#[derive(Clone, Copy, Debug, PartialEq, Eq, Error)]
+#[error("{}", self.name())]
 pub enum PlayFault {
     /// The text is no move.
     BadMove,

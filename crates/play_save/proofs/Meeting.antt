@@ -1,65 +1,70 @@
 -- What was met after one more record that has no fault, and that a record which may stand once is refused the second time.
-use Rattle.std.proofs.Common.{◌≡◌, ℕ, Bool, true, false, List, [], ◌∷◌, ◌++◌, Option, None, option_map, is_some, refl}
-use Rattle.std.proofs.lemmas.List.{append-nil}
+use Rattle.std.proofs.Common.{◌≡◌, ℕ, Bool, true, false, ◌==◌, List, [], ◌∷◌, ◌++◌, map, Option, Some, None, is_some, cond, refl, sym, ap, ◌∙◌}
+use Rattle.std.proofs.Math.Path.{fun_ext}
+use Rattle.std.proofs.lemmas.List.{append-nil, map-append}
 use Rattle.play_save.specs.declared.fault.LoadFault.{LoadFault}
-use Rattle.play_save.specs.declared.key.KeptKey.TheVariants.{Seed}
-use Rattle.play_save.specs.declared.key.WhoseParams.TheVariants.{Next, Current}
+use Rattle.play_save.specs.declared.met.HeaderRecord.{HeaderRecord}
+use Rattle.play_save.specs.declared.key.HeaderKey.{HeaderKey}
 use Rattle.play_save.specs.declared.key.Key.{Key}
-use Rattle.play_save.specs.declared.key.Key.TheVariants.{SaveFile, ParamsOf, PrivateDesc, Kept, StateCount, Position, State, Other}
-use Rattle.play_save.specs.KeyedRecords.{KeyedRecord, values_of}
+use Rattle.play_save.specs.declared.key.Key.TheVariants.{Header, State, Other}
+use Rattle.play_save.specs.Keys.{rank}
+use Rattle.play_save.specs.KeyedRecords.{KeyedRecord, KeyedState, values_of}
 use Rattle.play_save.specs.SaveTexts.{SavedGame}
-use Rattle.play_save.specs.FirstFaults.{saved_params_at, count_at, first_of, met, once, fault_by}
-use Rattle.play_save.specs.Taking.{added}
-use Rattle.play_save.proofs.RecordLists.{values_of-append, states_in-append}
+use Rattle.play_save.specs.FirstFaults.{MetValue, first_of, met, once, value_fault, fault_by}
+use Rattle.play_save.specs.Inner.Taking.{header_of, with_first, added}
+use Rattle.play_save.proofs.RecordLists.{same_key, values_of-append, states_in-append, one, no_first}
 
--- the keys that may stand once
-abbrev pub is_once : Key → Bool
-is_once (State k) = false
-is_once Other = false
-is_once _ = true
+pub same_met : (m n : MetValue) → ((k : HeaderKey) → m.first k ≡ n.first k) → m.states ≡ n.states → m ≡ n
+same_met m n first states =
+    let firsts : m.first ≡ n.first = fun_ext first in
+    let own : MetValue = record m { states = m.states } in
+    let other : MetValue = record n { states = n.states } in
+    let same : own ≡ other = cc in
+    same
 
 pub once_taken : (seen : Bool) (fault : Option LoadFault) → once seen fault ≡ None → (seen ≡ false) × (fault ≡ None)
 once_taken true fault none = cc
 once_taken false fault none = (refl, none)
 
-none_yet : {A : Type 0} (xs : List A) (fault : Option LoadFault) → once (is_some (first_of xs)) fault ≡ None → xs ≡ []
-none_yet [] fault none = refl
-none_yet (x ∷ xs) fault none = cc
+-- a record without a fault is the first of its key, and its value has no fault
+pub first_faultless : {P : Type 0} (game : SavedGame P) (before : List KeyedRecord) (k : HeaderKey) (value : List ℕ)
+    → fault_by game (met before) (Header k) value ≡ None
+    → (values_of k before ≡ []) × (value_fault game (met before) k value ≡ None)
+first_faultless game before k value none =
+    let parts = once_taken (is_some (first_of (values_of k before))) _ none in
+    (no_first (values_of k before) parts.0, parts.1)
 
-none_read : {A B : Type 0} (f : A → B) (xs : List A) (fault : Option LoadFault)
-    → once (is_some (option_map f (first_of xs))) fault ≡ None → xs ≡ []
-none_read f [] fault none = refl
-none_read f (x ∷ xs) fault none = cc
-
--- where the key stands already, the record has a fault
-pub stands_alone : {P : Type 0} (game : SavedGame P) (before : List KeyedRecord) (k : Key) (value : List ℕ)
-    → is_once k ≡ true → fault_by game (met game before) k value ≡ None → values_of k before ≡ []
-stands_alone game before (State k) value single none = cc
-stands_alone game before Other value single none = cc
-stands_alone game before SaveFile value single none = cc
-stands_alone game before PrivateDesc value single none = cc
-stands_alone game before (ParamsOf Next) value single none =
-    none_read (saved_params_at game) (values_of (ParamsOf Next) before) _ none
-stands_alone game before (ParamsOf Current) value single none =
-    none_read (saved_params_at game) (values_of (ParamsOf Current) before) _ none
-stands_alone game before StateCount value single none = none_read count_at (values_of StateCount before) _ none
-stands_alone game before Position value single none = none_read count_at (values_of Position before) _ none
-stands_alone game before (Kept Seed) value single none = none_yet (values_of (Kept Seed) before) _ none
-stands_alone game before k value single none = none_yet (values_of k before) _ none
-
-abbrev pub one : Key → List ℕ → List KeyedRecord
-one k value = record { key = k; value = value } ∷ []
+-- the first values, with one more behind
+pub first_added : (before : List KeyedRecord) (k : HeaderKey) (value : List ℕ)
+    → values_of k before ≡ [] → (j : HeaderKey)
+    → first_of (values_of j (before ++ one (Header k) value)) ≡ with_first (λ i. first_of (values_of i before)) k value j
+first_added before k value none j = by_rank (rank k == rank j) refl
+  where
+    by_rank : (own : Bool) → (rank k == rank j) ≡ own
+        → first_of (values_of j (before ++ one (Header k) value)) ≡ cond own (Some value) (first_of (values_of j before))
+    by_rank true same =
+        let here : values_of j before ≡ [] = ap (λ i. values_of i before) (sym (same_key k j same)) ∙ none in
+        ap first_of (values_of-append j before (one (Header k) value)) ∙ rw (here, same) refl
+    by_rank false other =
+        ap first_of (values_of-append j before (one (Header k) value)) ∙ rw (other, append-nil) refl
 
 pub met_added : {P : Type 0} (game : SavedGame P) (before : List KeyedRecord) (k : Key) (value : List ℕ)
-    → fault_by game (met game before) k value ≡ None
-    → met game (before ++ one k value) ≡ added game (met game before) k value
-met_added game before (State k) value none = simp (values_of-append, states_in-append, append-nil)
-met_added game before Other value none = simp (values_of-append, states_in-append, append-nil)
-met_added game before (ParamsOf Next) value none =
-    let first = stands_alone game before (ParamsOf Next) value refl none in
-    simp (values_of-append, states_in-append, append-nil, first)
-met_added game before (Kept Seed) value none =
-    let first = stands_alone game before (Kept Seed) value refl none in
-    simp (values_of-append, states_in-append, append-nil, first)
-met_added game before k value none =
-    let first = stands_alone game before k value refl none in simp (values_of-append, states_in-append, append-nil, first)
+    → fault_by game (met before) k value ≡ None → met (before ++ one k value) ≡ added (met before) k value
+met_added game before (Header k) value none =
+    same_met _ _ (first_added before k value (first_faultless game before k value none).0)
+    (states_in-append before (one (Header k) value) ∙ append-nil _)
+met_added game before (State k) value none =
+    same_met _ _ (λ j. ap first_of (values_of-append j before (one (State k) value) ∙ append-nil _))
+    (states_in-append before (one (State k) value))
+met_added game before Other value none =
+    same_met _ _ (λ j. ap first_of (values_of-append j before (one Other value) ∙ append-nil _))
+    (states_in-append before (one Other value) ∙ append-nil _)
+
+-- what the code keeps, with one more record
+pub kept_added : (old new : List HeaderRecord) (r : HeaderRecord) (states : List KeyedState)
+    → new ≡ old ++ r ∷ [] → first_of (values_of r.key (map header_of old)) ≡ None
+    → (let m : MetValue = record { first = λ k. first_of (values_of k (map header_of new)); states = states } in m)
+    ≡ added (record { first = λ k. first_of (values_of k (map header_of old)); states = states }) (Header r.key) r.value.now
+kept_added old new r states is none =
+    same_met _ _ (λ j. ap (λ rs. first_of (values_of j rs)) (ap (map header_of) is ∙ map-append header_of old (r ∷ []))
+    ∙ first_added (map header_of old) r.key r.value.now (no_first _ (ap is_some none)) j) refl

@@ -7,30 +7,30 @@ use Rattle.play_save.specs.Records.{Entry, record_at}
 use Rattle.play_save.specs.Keys.{key_of}
 use Rattle.play_save.specs.KeyedRecords.{KeyedRecord, keyed}
 use Rattle.play_save.specs.SaveTexts.{SavedGame}
-use Rattle.play_save.specs.FirstFaults.{Met, met, fault_by, is_complete, Listing, nothing, listed, listing_within, records_of, needed, met_in}
-use Rattle.play_save.specs.Taking.{nothing_met, added}
+use Rattle.play_save.specs.FirstFaults.{MetValue, met, fault_by, is_complete, Listing, nothing, listed, listing_within, records_of, needed, met_in}
+use Rattle.play_save.specs.Inner.Taking.{added}
 use Rattle.play_save.proofs.RecordLaws.{record_shorter, end_again, record_fault}
 use Rattle.play_save.proofs.Meeting.{met_added}
 
 -- some records before the rest have no fault, and what is needed of all is what is needed from there on
-pub record Reads {P : Type 0} (game : SavedGame P) (text rest : List ℕ) (m : Met) : Type 0 where
+pub record Reads {P : Type 0} (game : SavedGame P) (text rest : List ℕ) (m : MetValue) : Type 0 where
   pub before : List KeyedRecord
   pub most : ℕ
   pub within : length rest ≤ most
-  pub now : m ≡ met game before
+  pub now : m ≡ met before
   pub same : needed game before (listing_within most rest) ≡ needed game [] (records_of text)
 
-pub reads_all : {P : Type 0} (game : SavedGame P) (text : List ℕ) → Reads game text text nothing_met
+pub reads_all : {P : Type 0} (game : SavedGame P) (text : List ℕ) → Reads game text text (met [])
 unfolding records_of
 reads_all game text = record { before = []; most = length text; within = omega arith; now = refl; same = refl }
 
 -- what was needed of a text tells what was met in it
 met_by_needed : {P : Type 0} (game : SavedGame P) (text : List ℕ) (all : Result (List KeyedRecord) LoadFault)
-    → all ≡ needed game [] (records_of text) → met_in game (records_of text) ≡ (all >>= λ rs. Ok (met game rs))
-met_by_needed game text all is = ap (λ (x : Result (List KeyedRecord) LoadFault). x >>= λ rs. Ok (met game rs)) (sym is)
+    → all ≡ needed game [] (records_of text) → met_in game (records_of text) ≡ (all >>= λ rs. Ok (met rs))
+met_by_needed game text all is = ap (λ (x : Result (List KeyedRecord) LoadFault). x >>= λ rs. Ok (met rs)) (sym is)
 
 -- the end of reading
-pub reads_done : {P : Type 0} {game : SavedGame P} {text rest : List ℕ} {m : Met}
+pub reads_done : {P : Type 0} {game : SavedGame P} {text rest : List ℕ} {m : MetValue}
     → Reads game text rest m → is_complete m ≡ true → met_in game (records_of text) ≡ Ok m
 reads_done {P} {game} {text} {rest} {m} r complete =
     let done = rw r.now at complete in
@@ -38,7 +38,7 @@ reads_done {P} {game} {text} {rest} {m} r complete =
     met_by_needed game text (Ok r.before) all ∙ ap Ok (sym r.now)
   where
     finished : (before : List KeyedRecord) (listing : Listing)
-        → is_complete (met game before) ≡ true → needed game before listing ≡ Ok before
+        → is_complete (met before) ≡ true → needed game before listing ≡ Ok before
     finished before nothing done = rw done refl
     finished before listing done = rw done refl
 
@@ -52,16 +52,16 @@ listing_at zero [] within = let none = end_again [] tt in (zero, rw none refl, �
 listing_at zero (b ∷ bs) within = absurd (omega arith)
 
 -- A place where more is needed, by what is read there: what is needed of the text, and a bound of the records behind.
-record Onward {P : Type 0} (game : SavedGame P) (text : List ℕ) (m : Met) (read : Result (Option (Entry × List ℕ)) LoadFault)
+record Onward {P : Type 0} (game : SavedGame P) (text : List ℕ) (m : MetValue) (read : Result (Option (Entry × List ℕ)) LoadFault)
     : Type 0 where
   before : List KeyedRecord
   most : ℕ
-  now : m ≡ met game before
-  undone : is_complete (met game before) ≡ false
+  now : m ≡ met before
+  undone : is_complete (met before) ≡ false
   same : needed game before (listed (listing_within most) read) ≡ needed game [] (records_of text)
   within : (e : Entry) (after : List ℕ) → read ≡ Ok (Some (e, after)) → length after ≤ most
 
-onward : {P : Type 0} {game : SavedGame P} {text rest : List ℕ} {m : Met} (read : Result (Option (Entry × List ℕ)) LoadFault)
+onward : {P : Type 0} {game : SavedGame P} {text rest : List ℕ} {m : MetValue} (read : Result (Option (Entry × List ℕ)) LoadFault)
     → Reads game text rest m → is_complete m ≡ false → record_at rest ≡ read → Onward game text m read
 onward {P} {game} {text} {rest} {m} read r undone is =
     let here = listing_at r.most rest r.within in
@@ -76,21 +76,21 @@ onward {P} {game} {text} {rest} {m} read r undone is =
     rw is at made
 
 -- a place where no record is left
-pub reads_end : {P : Type 0} {game : SavedGame P} {text rest : List ℕ} {m : Met}
+pub reads_end : {P : Type 0} {game : SavedGame P} {text rest : List ℕ} {m : MetValue}
     → Reads game text rest m → is_complete m ≡ false → record_at rest ≡ Ok None → met_in game (records_of text) ≡ Err Missing
 reads_end {P} {game} {text} r undone read =
     let o = onward (Ok None) r undone read in
     met_by_needed game text (Err Missing) (rw o.undone at o.same)
 
 -- a place where no record can be read
-pub reads_broken : {P : Type 0} {game : SavedGame P} {text rest : List ℕ} {m : Met} {fault : LoadFault}
+pub reads_broken : {P : Type 0} {game : SavedGame P} {text rest : List ℕ} {m : MetValue} {fault : LoadFault}
     → Reads game text rest m → is_complete m ≡ false → record_at rest ≡ Err fault → met_in game (records_of text) ≡ Err fault
 reads_broken {P} {game} {text} {rest} {m} {fault} r undone read =
     let o = onward (Err fault) r undone read in
     met_by_needed game text (Err Malformed) (rw o.undone at o.same) ∙ ap Err (sym (record_fault rest fault read))
 
 -- a record that is refused, with its fault or for want of memory
-pub reads_fault : {P : Type 0} {game : SavedGame P} {text rest : List ℕ} {m : Met} {e : Entry} {after : List ℕ} (fault : LoadFault)
+pub reads_fault : {P : Type 0} {game : SavedGame P} {text rest : List ℕ} {m : MetValue} {e : Entry} {after : List ℕ} (fault : LoadFault)
     → Reads game text rest m → is_complete m ≡ false → record_at rest ≡ Ok (Some (e, after))
     → (fault ≡ OutOfMemory) ⊎ (fault_by game m (key_of e.key) e.value ≡ Some fault)
     → (fault ≡ OutOfMemory) ⊎ (met_in game (records_of text) ≡ Err fault)
@@ -101,9 +101,9 @@ reads_fault {P} {game} {text} {rest} {m} {e} {after} fault r undone read (inr ha
     inr (met_by_needed game text (Err fault) (rw (o.undone, has_it) at o.same))
 
 -- a record without a fault
-pub reads_more : {P : Type 0} {game : SavedGame P} {text rest : List ℕ} {m new : Met} {e : Entry} {after : List ℕ}
+pub reads_more : {P : Type 0} {game : SavedGame P} {text rest : List ℕ} {m new : MetValue} {e : Entry} {after : List ℕ}
     → Reads game text rest m → is_complete m ≡ false → record_at rest ≡ Ok (Some (e, after))
-    → fault_by game m (key_of e.key) e.value ≡ None → new ≡ added game m (key_of e.key) e.value → Reads game text after new
+    → fault_by game m (key_of e.key) e.value ≡ None → new ≡ added m (key_of e.key) e.value → Reads game text after new
 reads_more {P} {game} {text} {rest} {m} {new} {e} {after} r undone read none is =
     let o = onward (Ok (Some (e, after))) r undone read in
     let none_here = rw o.now at none in

@@ -1,49 +1,39 @@
 -- Lists of records: the values of a key, and the state records, along a list that is put together.
-use Rattle.std.proofs.Common.{◌≡◌, ℕ, ◌<◌, Bool, true, false, ◌==◌, List, [], ◌∷◌, ◌++◌, length, Option, Some, None, is_some, cond, refl, sym, ap, ◌∙◌, arith, length-append}
+use Rattle.std.proofs.Common.{◌≡◌, ℕ, Bool, true, false, ◌==◌, List, [], ◌∷◌, ◌++◌, get_or, Option, Some, None, is_some, cond, refl, sym, ap, ◌∙◌}
 use borrow.Author.Tests.{eqb-true, eq-eqb}
 use Rattle.play_midend.specs.declared.extras.Extras.{Extras}
 use Rattle.play_save.specs.declared.key.KeptKey.{KeptKey}
 use Rattle.play_save.specs.declared.key.KeptKey.TheVariants.{Seed, AuxInfo, Ui, Time}
 use Rattle.play_save.specs.declared.key.WhoseParams.TheVariants.{Next, Current}
+use Rattle.play_save.specs.declared.key.WhichCount.TheVariants.{States, Position}
+use Rattle.play_save.specs.declared.key.HeaderKey.{HeaderKey}
+use Rattle.play_save.specs.declared.key.HeaderKey.TheVariants.{SaveFile, FormatVersion, GameName, ParamsOf, Desc, PrivateDesc, Kept, Count}
 use Rattle.play_save.specs.declared.key.Key.{Key}
-use Rattle.play_save.specs.declared.key.Key.TheVariants.{SaveFile, FormatVersion, GameName, ParamsOf, Desc, PrivateDesc, Kept, StateCount, Position, State, Other}
+use Rattle.play_save.specs.declared.key.Key.TheVariants.{Header, State}
 use Rattle.play_save.specs.Keys.{rank, kept_at, each_kept}
-use Rattle.play_save.specs.KeyedRecords.{KeyedRecord, KeyedState, values_of, onto_states, states_in, is_state}
+use Rattle.play_save.specs.KeyedRecords.{KeyedRecord, KeyedState, onto_values, values_of, onto_states, states_in}
 use Rattle.play_save.specs.FirstFaults.{first_of}
-use Rattle.play_save.proofs.OptionSteps.{else_taken}
 
--- A key is known by its number, unless it is one of the three of states. (Here and below the clauses at `ParamsOf Next` and
--- `Kept Seed` make the last one be looked at for each of the other keys of their kinds, and so computed.)
-by_rank : ℕ → Option Key
-by_rank n =
-    cond (n == 0) (Some SaveFile) (cond (n == 1) (Some FormatVersion) (cond (n == 2) (Some GameName)
-    (cond (n == 3) (Some (ParamsOf Next)) (cond (n == 4) (Some (ParamsOf Current)) (cond (n == 5) (Some (Kept Seed))
-    (cond (n == 6) (Some Desc) (cond (n == 7) (Some (Kept AuxInfo)) (cond (n == 8) (Some (Kept Ui)) (cond (n == 9) (Some (Kept Time))
-    (cond (n == 10) (Some StateCount) (cond (n == 11) (Some Position) (cond (n == 13) (Some PrivateDesc)
-    (cond (n == 14) (Some Other) None)))))))))))))
+-- A key that may stand once is known by its place. (Here and below a clause at one key of a pair makes the last clause be looked
+-- at for the other one, and so computed.)
+headers : List HeaderKey
+headers =
+    SaveFile ∷ FormatVersion ∷ GameName ∷ ParamsOf Next ∷ ParamsOf Current ∷ Kept Seed ∷ Desc ∷ Kept AuxInfo ∷ Kept Ui ∷ Kept Time
+    ∷ Count States ∷ Count Position ∷ PrivateDesc ∷ []
 
-by_own_rank : (k : Key) → by_rank (rank k) ≡ cond (is_state k) None (Some k)
-unfolding by_rank
-by_own_rank (ParamsOf Next) = refl
-by_own_rank (Kept Seed) = refl
-by_own_rank k = refl
+at_place : (k : HeaderKey) → get_or headers (rank k) SaveFile ≡ k
+unfolding headers
+at_place (ParamsOf Next) = refl
+at_place (Kept Seed) = refl
+at_place (Count States) = refl
+at_place k = refl
 
-pub same_key : (a k : Key) → is_state k ≡ false → (rank a == rank k) ≡ true → a ≡ k
-same_key a k other same =
-    let found : cond (is_state a) None (Some a) ≡ Some k =
-    sym (by_own_rank a)
-    ∙ (ap by_rank (eqb-true (rank a) (rank k) same) ∙ (by_own_rank k ∙ ap (λ t. cond t None (Some k)) other)) in
-    let is = else_taken (is_state a) (Some a) k found in
-    cc is.1
+pub same_key : (j k : HeaderKey) → (rank j == rank k) ≡ true → j ≡ k
+same_key j k same =
+    sym (at_place j) ∙ ap (λ n. get_or headers n SaveFile) (eqb-true (rank j) (rank k) same) ∙ at_place k
 
-pub own_rank : (k : Key) → (rank k == rank k) ≡ true
+pub own_rank : (k : HeaderKey) → (rank k == rank k) ≡ true
 own_rank k = eq-eqb (rank k) (rank k) refl
-
-pub no_state_rank : (k : Key) → is_state k ≡ false → (12 == rank k) ≡ false
-no_state_rank (State j) header = cc
-no_state_rank (ParamsOf Next) header = refl
-no_state_rank (Kept Seed) header = refl
-no_state_rank k header = refl
 
 -- what is kept, by its keys
 pub kept_each : (value : KeptKey → Option (List ℕ)) (k : KeptKey) → kept_at (each_kept value) k ≡ value k
@@ -62,15 +52,21 @@ same_extras a b same =
     whole
 
 -- lists that are put together
-pub values_of-append : (k : Key) (xs ys : List KeyedRecord) → values_of k (xs ++ ys) ≡ values_of k xs ++ values_of k ys
-values_of-append k [] ys = refl
-values_of-append k (x ∷ xs) ys = by_key (rank x.key == rank k) (values_of-append k xs ys)
+onto_values-append : (k : HeaderKey) (key : Key) (value : List ℕ) (xs ys : List (List ℕ))
+    → onto_values k key value (xs ++ ys) ≡ onto_values k key value xs ++ ys
+onto_values-append k (Header j) value xs ys = by_rank (rank j == rank k)
   where
-    by_key : (own : Bool) → values_of k (xs ++ ys) ≡ values_of k xs ++ values_of k ys
-        → cond own (x.value ∷ values_of k (xs ++ ys)) (values_of k (xs ++ ys))
-        ≡ cond own (x.value ∷ values_of k xs) (values_of k xs) ++ values_of k ys
-    by_key true same = ap (λ vs. x.value ∷ vs) same
-    by_key false same = same
+    by_rank : (own : Bool) → cond own (value ∷ (xs ++ ys)) (xs ++ ys) ≡ cond own (value ∷ xs) xs ++ ys
+    by_rank true = refl
+    by_rank false = refl
+onto_values-append k key value xs ys = refl
+
+pub values_of-append : (k : HeaderKey) (xs ys : List KeyedRecord)
+    → values_of k (xs ++ ys) ≡ values_of k xs ++ values_of k ys
+values_of-append k [] ys = refl
+values_of-append k (x ∷ xs) ys =
+    ap (onto_values k x.key x.value) (values_of-append k xs ys)
+    ∙ onto_values-append k x.key x.value (values_of k xs) (values_of k ys)
 
 onto_states-append : (k : Key) (value : List ℕ) (xs ys : List KeyedState)
     → onto_states k value (xs ++ ys) ≡ onto_states k value xs ++ ys
@@ -83,21 +79,58 @@ states_in-append (x ∷ xs) ys =
     ap (onto_states x.key x.value) (states_in-append xs ys)
     ∙ onto_states-append x.key x.value (states_in xs) (states_in ys)
 
+-- a record alone, and the values of its key where it stands between others
+abbrev pub one : Key → List ℕ → List KeyedRecord
+one k value = record { key = k; value = value } ∷ []
+
+pub values_at : (k : HeaderKey) (value : List ℕ) (before later : List KeyedRecord)
+    → values_of k (before ++ (one (Header k) value ++ later)) ≡ values_of k before ++ (value ∷ values_of k later)
+values_at k value before later = values_of-append k before (one (Header k) value ++ later) ∙ rw (own_rank k) refl
+
 pub append_none : {A : Type 0} (xs ys : List A) → xs ++ ys ≡ [] → (xs ≡ []) × (ys ≡ [])
 append_none [] ys none = (refl, none)
 append_none (x ∷ xs) ys none = cc
 
--- a key that stands still does with one more record behind
-pub stands_on : (k : Key) (rs : List KeyedRecord) (r : KeyedRecord)
-    → 0 < length (values_of k rs) → 0 < length (values_of k (rs ++ r ∷ []))
-stands_on k rs r some =
-    omega (arith, ap length (values_of-append k rs (r ∷ [])), length-append (values_of k rs) (values_of k (r ∷ [])))
+-- the first record with a key
+pub record FirstAt (k : HeaderKey) (value : List ℕ) (more : List (List ℕ)) (rs : List KeyedRecord) : Type 0 where
+  pub front : List KeyedRecord
+  pub later : List KeyedRecord
+  pub split : rs ≡ front ++ (one (Header k) value ++ later)
+  pub more_is : values_of k later ≡ more
+
+pub first_at : (k : HeaderKey) (value : List ℕ) (more : List (List ℕ)) (rs : List KeyedRecord)
+    → values_of k rs ≡ value ∷ more → FirstAt k value more rs
+first_at k value more [] is = cc
+first_at k value more (r ∷ rs) is = by_key r.key refl is (λ e. first_at k value more rs e)
+  where
+    behind_one : FirstAt k value more rs → FirstAt k value more (r ∷ rs)
+    behind_one rest = record {
+      front = r ∷ rest.front;
+      later = rest.later;
+      split = ap (λ xs. r ∷ xs) rest.split;
+      more_is = rest.more_is;
+    }
+
+    by_rank : (j : HeaderKey) (own : Bool) → r.key ≡ Header j → (rank j == rank k) ≡ own
+        → cond own (r.value ∷ values_of k rs) (values_of k rs) ≡ value ∷ more
+        → (values_of k rs ≡ value ∷ more → FirstAt k value more rs) → FirstAt k value more (r ∷ rs)
+    by_rank j true key same e along =
+        let own : KeyedRecord = record r { key = r.key } in
+        let key_is : r.key ≡ Header k = key ∙ ap Header (same_key j k same) in
+        let whole : own ≡ record { key = Header k; value = value } = cc in
+        record { front = []; later = rs; split = ap (λ x. x ∷ rs) whole; more_is = cc }
+    by_rank j false key same e along = behind_one (along e)
+
+    by_key : (key : Key) → r.key ≡ key → onto_values k key r.value (values_of k rs) ≡ value ∷ more
+        → (values_of k rs ≡ value ∷ more → FirstAt k value more rs) → FirstAt k value more (r ∷ rs)
+    by_key (Header j) key e along = by_rank j (rank j == rank k) key refl e along
+    by_key _ key e along = behind_one (along e)
 
 -- the first of some values
-pub first_some : {A : Type 0} (xs : List A) (x : A) → first_of xs ≡ Some x → (more : List A) × (xs ≡ x ∷ more)
-first_some [] x some = cc
-first_some (y ∷ ys) x some = (ys, cc)
-
 pub is_some_taken : {A : Type 0} (o : Option A) → is_some o ≡ true → (a : A) × (o ≡ Some a)
 is_some_taken None some = cc
 is_some_taken (Some a) some = (a, refl)
+
+pub no_first : {A : Type 0} (xs : List A) → is_some (first_of xs) ≡ false → xs ≡ []
+no_first [] none = refl
+no_first (x ∷ xs) none = cc

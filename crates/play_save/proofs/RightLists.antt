@@ -1,25 +1,25 @@
 -- Lists of records without a fault: they are what is read up to the last record that is needed.
-use Rattle.std.proofs.Common.{◌≡◌, ℕ, zero, suc, ◌<◌, ◌≤◌, true, false, ◌==◌, List, [], ◌∷◌, ◌++◌, length, Option, Some, None, Result, Ok, Err, refl, sym, ap, ◌∙◌, subst, arith, length-append}
+use Rattle.std.proofs.Common.{◌≡◌, ℕ, zero, suc, ◌<◌, ◌≤◌, true, false, List, [], ◌∷◌, ◌++◌, length, Option, Some, None, Result, Ok, Err, refl, sym, ap, ◌∙◌, subst, arith, length-append}
 use Rattle.std.proofs.lemmas.Bool.{cond_both}
 use Rattle.std.proofs.lemmas.List.{append-nil, append_assoc}
 use Rattle.play_save.specs.declared.fault.LoadFault.{LoadFault}
 use Rattle.play_save.specs.declared.fault.LoadFault.TheVariants.{Malformed, Missing}
-use Rattle.play_save.specs.declared.key.Key.{Key}
+use Rattle.play_save.specs.declared.key.HeaderKey.{HeaderKey}
+use Rattle.play_save.specs.declared.key.Key.TheVariants.{Header}
 use Rattle.play_save.specs.Records.{Entry, record_at}
-use Rattle.play_save.specs.Keys.{rank}
-use Rattle.play_save.specs.KeyedRecords.{KeyedRecord, BeginsWithAll, values_of, is_state}
+use Rattle.play_save.specs.KeyedRecords.{KeyedRecord, BeginsWithAll, values_of}
 use Rattle.play_save.specs.SaveTexts.{SavedGame}
-use Rattle.play_save.specs.FirstFaults.{met, fault_by, is_complete, Listing, nothing, broken, first, listed, listing_within, records_of, unless, needed}
+use Rattle.play_save.specs.FirstFaults.{met, value_fault, fault_by, is_complete, Listing, nothing, broken, first, listed, listing_within, records_of, unless, needed}
 use Rattle.play_save.proofs.OptionSteps.{ok_where}
 use Rattle.play_save.proofs.RecordLaws.{record_taken, record_again, record_shorter}
-use Rattle.play_save.proofs.RecordLists.{same_key, values_of-append, stands_on}
-use Rattle.play_save.proofs.Meeting.{is_once, one, stands_alone}
+use Rattle.play_save.proofs.RecordLists.{one, own_rank, values_of-append, first_at}
+use Rattle.play_save.proofs.Meeting.{first_faultless}
 
 -- behind what stands before, no record has a fault, and the last is the first that completes them
 abbrev pub AreRight : {P : Type 0} → SavedGame P → List KeyedRecord → List KeyedRecord → Type 0
-AreRight game before [] = is_complete (met game before) ≡ true
+AreRight game before [] = is_complete (met before) ≡ true
 AreRight game before (r ∷ rs) =
-    (is_complete (met game before) ≡ false) × (fault_by game (met game before) r.key r.value ≡ None)
+    (is_complete (met before) ≡ false) × (fault_by game (met before) r.key r.value ≡ None)
     × AreRight game (before ++ r ∷ []) rs
 
 -- the listing begins with these records
@@ -38,7 +38,7 @@ pub record IsNeeded {P : Type 0} (game : SavedGame P) (before : List KeyedRecord
 
 -- before a place where nothing more is needed
 done_needed : {P : Type 0} (game : SavedGame P) (before all : List KeyedRecord) (listing : Listing)
-    → is_complete (met game before) ≡ true → before ≡ all → IsNeeded game before listing all
+    → is_complete (met before) ≡ true → before ≡ all → IsNeeded game before listing all
 done_needed game before all listing done same =
     record { more = []; all_is = sym same ∙ sym (append-nil before); right = done; follow = tt }
 
@@ -46,21 +46,21 @@ done_needed game before all listing done same =
 pub needed_taken : {P : Type 0} (game : SavedGame P) (before : List KeyedRecord) (listing : Listing) (all : List KeyedRecord)
     → needed game before listing ≡ Ok all → IsNeeded game before listing all
 needed_taken game before nothing all is =
-    let done = ok_where (is_complete (met game before)) before Missing all is in
+    let done = ok_where (is_complete (met before)) before Missing all is in
     done_needed game before all nothing done.0 done.1
 needed_taken game before broken all is =
-    let done = ok_where (is_complete (met game before)) before Malformed all is in
+    let done = ok_where (is_complete (met before)) before Malformed all is in
     done_needed game before all broken done.0 done.1
 needed_taken game before (first r more) all is =
-    cond_both (is_complete (met game before)) _ _
+    cond_both (is_complete (met before)) _ _
     (λ (x : Result (List KeyedRecord) LoadFault). x ≡ Ok all → IsNeeded game before (first r more) all)
     (λ done e. done_needed game before all (first r more) done (cc))
     (λ undone e. taken (needed_taken game (before ++ r ∷ []) more all) undone _ refl e)
     is
   where
     taken : (needed game (before ++ r ∷ []) more ≡ Ok all → IsNeeded game (before ++ r ∷ []) more all)
-        → is_complete (met game before) ≡ false
-        → (fault : Option LoadFault) → fault_by game (met game before) r.key r.value ≡ fault
+        → is_complete (met before) ≡ false
+        → (fault : Option LoadFault) → fault_by game (met before) r.key r.value ≡ fault
         → unless fault (needed game (before ++ r ∷ []) more) ≡ Ok all → IsNeeded game before (first r more) all
     taken along undone (Some fault) has e = cc
     taken along undone None has e =
@@ -122,74 +122,70 @@ pub records_again : (rs : List KeyedRecord) (text : List ℕ) → BeginsWithAll 
 unfolding records_of
 records_again rs text begins = follows_again (length text) rs text (omega arith) begins
 
--- a key that may stand once, once it was met, doesn't stand again
-pub none_again : {P : Type 0} (game : SavedGame P) (before rs : List KeyedRecord) (k : Key)
-    → is_once k ≡ true → is_state k ≡ false → 0 < length (values_of k before) → AreRight game before rs
-    → values_of k rs ≡ []
-none_again game before [] k single header some right = refl
-none_again game before (r ∷ rs) k single header some right =
-    cond_both (rank r.key == rank k) _ _ (λ (values : List (List ℕ)). values ≡ [])
-    (λ same. absurd (omega (arith, ap length (met_none (same_key r.key k header same)))))
-    (λ other. none_again game (before ++ r ∷ []) rs k single header (stands_on k before r some) right.2)
-  where
-    met_none : r.key ≡ k → values_of k before ≡ []
-    met_none key = stands_alone game before k r.value single (rw key at right.1)
+-- right lists that are put together
+pub record IsRightAt {P : Type 0} (game : SavedGame P) (before : List KeyedRecord) (r : KeyedRecord) (later : List KeyedRecord)
+    : Type 0 where
+  pub undone : is_complete (met before) ≡ false
+  pub faultless : fault_by game (met before) r.key r.value ≡ None
+  pub right : AreRight game (before ++ r ∷ []) later
 
-pub same_record : (r : KeyedRecord) (k : Key) (value : List ℕ) → r.key ≡ k → r.value ≡ value → r ≡ record {
-  key =
-      k;
-  value = value;
-}
-same_record r k value key same_value =
-    let own : KeyedRecord = record r { key = r.key } in
-    let same : own ≡ record { key = k; value = value } = cc in
-    same
+pub right_at : {P : Type 0} (game : SavedGame P) (before front later : List KeyedRecord) (r : KeyedRecord)
+    → AreRight game before (front ++ r ∷ later) → IsRightAt game (before ++ front) r later
+right_at game before [] later r right =
+    rw (append-nil before) (record { undone = right.0; faultless = right.1; right = right.2 })
+right_at {P} game before (x ∷ front) later r right =
+    subst (λ xs. IsRightAt game xs r later) (append_assoc before (x ∷ []) front)
+    (right_at game (before ++ x ∷ []) front later r right.2)
+
+pub right_end : {P : Type 0} (game : SavedGame P) (before rs : List KeyedRecord)
+    → AreRight game before rs → is_complete (met (before ++ rs)) ≡ true
+right_end game before [] right = rw (append-nil before) right
+right_end game before (r ∷ rs) right =
+    subst (λ xs. is_complete (met xs) ≡ true) (append_assoc before (r ∷ []) rs)
+    (right_end game (before ++ r ∷ []) rs right.2)
+
+-- a key that may stand once, once it was met, doesn't stand again
+pub none_again : {P : Type 0} (game : SavedGame P) (before rs : List KeyedRecord) (k : HeaderKey)
+    → 0 < length (values_of k before) → AreRight game before rs → values_of k rs ≡ []
+none_again game before rs k some right = by_values (values_of k rs) refl
+  where
+    by_values : (values : List (List ℕ)) → values_of k rs ≡ values → values ≡ []
+    by_values [] is = refl
+    by_values (v ∷ more) is =
+        let at = first_at k v more rs is in
+        let here = right_at game before at.front at.later _ (rw at.split at right) in
+        let none = (first_faultless game (before ++ at.front) k v here.faultless).0 in
+        let all = values_of-append k before at.front in
+        absurd (omega (arith, ap length none, ap length all, length-append (values_of k before) (values_of k at.front)))
 
 -- where a value of such a key stands, it stands alone and has no fault
-pub record StandsAlone {P : Type 0} (game : SavedGame P) (k : Key) (value : List ℕ) (rs before : List KeyedRecord) : Type 0 where
+pub record StandsAlone {P : Type 0} (game : SavedGame P) (k : HeaderKey) (value : List ℕ) (rs : List KeyedRecord) : Type 0 where
   pub alone : values_of k rs ≡ value ∷ []
   pub front : List KeyedRecord
-  pub later : List KeyedRecord
-  pub split : rs ≡ front ++ (one k value ++ later)
-  pub faultless : fault_by game (met game (before ++ front)) k value ≡ None
-  pub undone : is_complete (met game (before ++ front)) ≡ false
+  pub faultless : value_fault game (met front) k value ≡ None
 
-pub stands_at : {P : Type 0} (game : SavedGame P) (before rs : List KeyedRecord) (k : Key) (value : List ℕ) (more : List (List ℕ))
-    → is_once k ≡ true → is_state k ≡ false → AreRight game before rs → values_of k rs ≡ value ∷ more
-    → StandsAlone game k value rs before
-stands_at game before [] k value more single header right is = cc
-stands_at game before (r ∷ rs) k value more single header right is =
-    cond_both (rank r.key == rank k) _ _
-    (λ (values : List (List ℕ)). values ≡ value ∷ more → StandsAlone game k value (r ∷ rs) before)
-    (λ same e. stands_here same (cc))
-    (λ other e. stands_later other (stands_at game (before ++ r ∷ []) rs k value more single header right.2 e)) is
+pub stands_alone : {P : Type 0} (game : SavedGame P) (rs : List KeyedRecord) (k : HeaderKey) (value : List ℕ) (more : List (List ℕ))
+    → AreRight game [] rs → values_of k rs ≡ value ∷ more → StandsAlone game k value rs
+stands_alone game rs k value more right is =
+    let at = first_at k value more rs is in
+    let here = right_at game [] at.front at.later _ (rw at.split at right) in
+    let good = first_faultless game at.front k value here.faultless in
+    let some : 0 < length (values_of k (at.front ++ one (Header k) value)) =
+    rw (values_of-append k at.front (one (Header k) value), own_rank k)
+    (omega (arith, length-append (values_of k at.front) (value ∷ []))) in
+    let none = none_again game (at.front ++ one (Header k) value) at.later k some here.right in
+    record {
+      alone = is ∙ ap (λ vs. value ∷ vs) (sym at.more_is ∙ none);
+      front = at.front;
+      faultless = good.1;
+    }
+
+-- what holds where no value stands, and where one stands alone, holds of the values that stand
+pub by_standing : {P : Type 0} (game : SavedGame P) (rs : List KeyedRecord) (k : HeaderKey) (R : List (List ℕ) → Type 0)
+    → AreRight game [] rs → R [] → ((value : List ℕ) → StandsAlone game k value rs → R (value ∷ [])) → R (values_of k rs)
+by_standing game rs k R right none some = by_values (values_of k rs) refl
   where
-    stands_here : (rank r.key == rank k) ≡ true → r.value ≡ value → StandsAlone game k value (r ∷ rs) before
-    stands_here same same_value =
-        let here = same_record r k value (same_key r.key k header same) same_value in
-        let own : values_of k (r ∷ []) ≡ r.value ∷ [] = rw same refl in
-        let some : 0 < length (values_of k (before ++ r ∷ [])) =
-        rw (values_of-append k before (r ∷ []), own) (omega (arith, length-append (values_of k before) (r.value ∷ []))) in
-        let none = none_again game (before ++ r ∷ []) rs k single header some right.2 in
-        record {
-          alone = rw (same, none) (ap (λ v. v ∷ []) same_value);
-          front = [];
-          later = rs;
-          split = ap (λ x. x ∷ rs) here;
-          faultless = rw (append-nil before) (rw here at right.1);
-          undone = rw (append-nil before) right.0;
-        }
-
-    stands_later : (rank r.key == rank k) ≡ false → StandsAlone game k value rs (before ++ r ∷ [])
-        → StandsAlone game k value (r ∷ rs) before
-    stands_later other rest =
-        let seam : (before ++ r ∷ []) ++ rest.front ≡ before ++ (r ∷ rest.front) =
-        append_assoc before (r ∷ []) rest.front in
-        record {
-          alone = rw other rest.alone;
-          front = r ∷ rest.front;
-          later = rest.later;
-          split = ap (λ xs. r ∷ xs) rest.split;
-          faultless = rw seam at rest.faultless;
-          undone = rw seam at rest.undone;
-        }
+    by_values : (values : List (List ℕ)) → values_of k rs ≡ values → R (values_of k rs)
+    by_values [] is = subst R (sym is) none
+    by_values (v ∷ more) is =
+        let at = stands_alone game rs k v more right is in subst R (sym at.alone) (some v at)

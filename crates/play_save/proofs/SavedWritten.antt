@@ -5,14 +5,16 @@ use Rattle.std.proofs.lemmas.Option.{some_pair_parts}
 use Rattle.std.proofs.lemmas.List.{append-nil, length-map}
 use Rattle.std.proofs.lemmas.List.Elements.{recursion_from_All}
 use Rattle.std.specs.List.{AllByRecursion}
-use Rattle.byte_text.specs.Bytes.{line_feed, digit}
+use Rattle.byte_text.specs.Bytes.{line_feed}
 use Rattle.byte_text.specs.Reading.{GivesUnless}
 use Rattle.latin_board.specs.Squares.{GridValue}
 use Rattle.latin_board.proofs.LatinLines.{latin_full}
 use Rattle.trail_solver.specs.Puzzles.{Puzzle}
 use Rattle.trail_solver.proofs.SolutionTests.{Decides-solves_test}
 use Rattle.clue_rules.specs.declared.params.Params.{Params}
-use Rattle.clue_rules.specs.Parameters.{IsParams, letter_part, params_text}
+use Rattle.clue_rules.specs.Parameters.{IsParams, params_text}
+use Rattle.clue_rules.proofs.ParameterLemmas.{same_params}
+use Rattle.play_midend.proofs.MoveTextsRead.{same_move, same_solution}
 use Rattle.play_midend.specs.declared.moves.Move.{Move}
 use Rattle.play_midend.specs.declared.moves.Move.TheVariants.{Solve, Restart}
 use Rattle.play_midend.specs.MoveTexts.{move_text, IsMoveText}
@@ -23,20 +25,23 @@ use Rattle.play_save.specs.declared.fault.LoadFault.{LoadFault}
 use Rattle.play_save.specs.declared.fault.LoadFault.TheVariants.{OutOfMemory}
 use Rattle.play_save.specs.declared.key.WhoseParams.{WhoseParams}
 use Rattle.play_save.specs.declared.key.WhoseParams.TheVariants.{Next, Current}
-use Rattle.play_save.specs.declared.key.Key.{Key}
-use Rattle.play_save.specs.declared.key.Key.TheVariants.{SaveFile, FormatVersion, GameName, ParamsOf, Desc, PrivateDesc, Kept, StateCount, Position}
+use Rattle.play_save.specs.declared.key.WhichCount.{WhichCount}
+use Rattle.play_save.specs.declared.key.WhichCount.TheVariants.{States, Position}
+use Rattle.play_save.specs.declared.key.HeaderKey.{HeaderKey}
+use Rattle.play_save.specs.declared.key.HeaderKey.TheVariants.{SaveFile, FormatVersion, GameName, ParamsOf, Desc, PrivateDesc, Kept, Count}
+use Rattle.play_save.specs.declared.save_format.TheConstants.{MOST_BYTES}
 use Rattle.play_save.specs.Records.{BeginsWith}
 use Rattle.play_save.specs.Keys.{kept_at}
 use Rattle.play_save.specs.KeyedRecords.{KeyedRecord, values_of, states_in, once_if_kept, EndsWithState}
-use Rattle.play_save.specs.SaveTexts.{SavedGame, params_of, collection, format_record, longest_save, is_solve, IsStateOf, HaveStates, AreSaved, SaveText}
+use Rattle.play_save.specs.SaveTexts.{SavedGame, params_of, HasValues, collection, format_record, is_solve, IsStateOf, HaveStates, AreSaved, SaveText}
 use Rattle.play_save.specs.FirstFaults.{count_at}
-use Rattle.play_save.specs.Written.{with_value, state_value, record_text, records_text, save_of}
+use Rattle.play_save.specs.Written.{header_record, state_value, record_text, records_text, save_of}
 use Rattle.play_save.specs.Laws.{HasGrid, WrittenIsSaved, WrittenSavesNoOther}
 use Rattle.play_save.proofs.RecordLaws.{record_again}
 use Rattle.play_save.proofs.RecordLists.{same_extras, values_of-append, states_in-append}
 use Rattle.play_save.proofs.Counting.{count_again}
 use Rattle.play_save.proofs.GameTexts.{Owes}
-use Rattle.play_save.proofs.StatesPlayed.{text_again, have_length}
+use Rattle.play_save.proofs.StatesPlayed.{have_length}
 use Rattle.play_save.proofs.SavedAgain.{has_state_or_count}
 use Rattle.play_save.proofs.WrittenRecords.{written_begins, AreToTheEnd, all_written, begins_prefix, all_begin}
 use Rattle.play_save.proofs.SessionRecords.{tail_records, values_tail, states_tail, counts_first_tail, ends_tail, known_tail}
@@ -60,38 +65,16 @@ states_again game p desc (m ∷ ms) described fits grids =
     (state_again game p desc m described fits.0 grids.0, states_again game p desc ms described fits.1 grids.1)
 
 -- the move of a state record that is written is that move
-same_digits : (xs ys : List ℕ) → map digit xs ≡ map digit ys → xs ≡ ys
-same_digits [] [] e = refl
-same_digits (x ∷ xs) (y ∷ ys) e =
-    let head : digit x ≡ digit y = cc in
-    let rest = same_digits xs ys (cc) in
-    let same : x ≡ y = omega arith in
-    cc
-same_digits xs ys e = cc
-
-same_text : (t m : Move) → IsMoveText t (move_text m) → IsMoveText m (move_text m) → t ≡ m
-same_text t m one other =
-    let read_one = text_again (move_text m) t one in
-    let read_other = text_again (move_text m) m other in
-    cc
-
 same_solve : (p : Puzzle) (t : Move) (g : GridValue)
     → FitsText p t → g.size ≡ p.size → IsMoveText t (move_text (Solve g)) → is_solve t ≡ true → t ≡ Solve g
-same_solve p (Solve f) g fits size is solve =
-    let text = is.spelled in
-    let numbers = same_digits g.numbers f.numbers (cc) in
-    let sizes : f.size ≡ g.size = fits.0 ∙ sym size in
-    let one : GridValue = record { size = f.size; numbers = f.numbers } in
-    let other : GridValue = record { size = g.size; numbers = g.numbers } in
-    let same : one ≡ other = cc in
-    ap Solve same
+same_solve p (Solve f) g fits size is solve = ap Solve (same_solution f g (fits.0 ∙ sym size) is.spelled)
 same_solve p t g fits size is solve = cc
 
-same_move : {P : Type 0} (game : SavedGame P) (q : P) (desc : List ℕ) (p : Puzzle) (t m : Move)
+same_played : {P : Type 0} (game : SavedGame P) (q : P) (desc : List ℕ) (p : Puzzle) (t m : Move)
     → FitsText p t → FitsText p m → IsStateOf game q t (state_value desc m).key (state_value desc m).value → t ≡ m
-same_move game q desc p t (Solve g) t_fits fits is = same_solve p t g t_fits fits.0 is.0 is.1
-same_move game q desc p t Restart t_fits fits is = is.0
-same_move game q desc p t m t_fits fits is = same_text t m is (record { writable = fits; spelled = refl })
+same_played game q desc p t (Solve g) t_fits fits is = same_solve p t g t_fits fits.0 is.0 is.1
+same_played game q desc p t Restart t_fits fits is = is.0
+same_played game q desc p t m t_fits fits is = same_move (move_text m) t m is (record { writable = fits; spelled = refl })
 
 same_moves : {P : Type 0} (game : SavedGame P) (q : P) (desc : List ℕ) (p : Puzzle) (ts ms : List Move)
     → AllFit p ts → AllFit p ms → HaveStates game q ts (map (state_value desc) ms) → ts ≡ ms
@@ -99,25 +82,10 @@ same_moves game q desc p [] [] t_fits fits have = refl
 same_moves game q desc p [] (m ∷ ms) t_fits fits have = absurd have
 same_moves game q desc p (t ∷ ts) [] t_fits fits have = absurd have
 same_moves game q desc p (t ∷ ts) (m ∷ ms) t_fits fits have =
-    ap (λ x. x ∷ ts) (same_move game q desc p t m t_fits.0 fits.0 have.0)
+    ap (λ x. x ∷ ts) (same_played game q desc p t m t_fits.0 fits.0 have.0)
     ∙ ap (λ xs. m ∷ xs) (same_moves game q desc p ts ms t_fits.1 fits.1 have.1)
 
--- parameters by their text
-same_params : (p q : Params) → params_text p ≡ params_text q → p ≡ q
-same_params p q text =
-    let first : digit p.size ≡ digit q.size = cc in
-    let size : p.size ≡ q.size = omega arith in
-    let letter = by_letter p.letter q.letter (cc) in
-    let one : Params = record { size = p.size; letter = p.letter } in
-    let other : Params = record { size = q.size; letter = q.letter } in
-    let same : one ≡ other = cc in
-    same
-  where
-    by_letter : (a b : Option ℕ) → letter_part a ≡ letter_part b → a ≡ b
-    by_letter None None e = refl
-    by_letter (Some a) (Some b) e = cc
-    by_letter a b e = cc
-
+-- what is kept, and a count, by their values
 same_kept : (a b : Option (List ℕ)) → once_if_kept a ≡ once_if_kept b → a ≡ b
 same_kept None None e = refl
 same_kept (Some a) (Some b) e = cc
@@ -139,7 +107,7 @@ behind_first game h = line_feed ∷ records_text (tail_of game h)
 
 -- the written text, record by record
 written_text : {P : Type 0} (game : SavedGame P) (h : History P)
-    → save_of game.title game.desc_of h ≡ record_text (with_value SaveFile collection) ++ records_text (tail_of game h)
+    → save_of game.title game.desc_of h ≡ record_text (header_record SaveFile collection) ++ records_text (tail_of game h)
 unfolding save_of
 written_text game h = refl
 
@@ -148,12 +116,12 @@ record Read {P : Type 0} (game : SavedGame P) (h : History P) (text : List ℕ) 
   all : AreToTheEnd (tail_of game h) (behind_first game h)
 
 read_written : {P : Type 0} (game : SavedGame P) (h : History P)
-    → length (save_of game.title game.desc_of h) ≤ longest_save → Read game h (save_of game.title game.desc_of h)
+    → length (save_of game.title game.desc_of h) ≤ MOST_BYTES → Read game h (save_of game.title game.desc_of h)
 read_written {P} game h small =
     let rs = tail_of game h in
-    let first = with_value SaveFile collection in
+    let first = header_record SaveFile collection in
     let text = written_text game h in
-    let short : length (records_text rs) ≤ longest_save =
+    let short : length (records_text rs) ≤ MOST_BYTES =
     omega (arith, ap length text, length-append (record_text first) (records_text rs)) in
     record {
       head = rw text (written_begins first [] (records_text rs) tt refl (lit≤ tt));
@@ -186,19 +154,20 @@ written_is_saved {P} game of_game owes h storable grids small =
       records = tail_of game h;
       begins = all_begin (tail_of game h) (behind_first game h) read.all;
       saved = record {
-        no_second_head = stands SaveFile refl;
-        version = stands FormatVersion refl;
-        name = stands GameName refl;
-        params = λ whose. (
-          params_text (params_of h whose),
-          stands (ParamsOf whose) refl,
-          record { params = params_are whose; text_is = refl },
-        );
-        desc = (desc, stands Desc refl, subst (λ w. game.Describes w h.puzzle desc) (sym valid.size) described);
-        no_private_desc = stands PrivateDesc refl;
-        kept = λ k. stands (Kept k) refl;
-        count = stands StateCount refl;
-        position = stands Position refl;
+        values = λ k. elim k as (λ j. HasValues game h j (values_of j (tail_of game h))) [
+          | SaveFile ↦ stands SaveFile
+          | FormatVersion ↦ stands FormatVersion
+          | GameName ↦ stands GameName
+          | ParamsOf whose ↦ (
+            params_text (params_of h whose),
+            stands (ParamsOf whose),
+            record { params = params_are whose; text_is = refl },
+          )
+          | Desc ↦ (desc, stands Desc, subst (λ w. game.Describes w h.puzzle desc) (sym valid.size) described)
+          | PrivateDesc ↦ stands PrivateDesc
+          | Kept j ↦ stands (Kept j)
+          | Count which ↦ stands (Count which)
+        ];
         states = rw (states_tail title desc h) states;
         counts_first = counts_first_tail title desc h;
         last = ends_tail title desc h;
@@ -207,7 +176,7 @@ written_is_saved {P} game of_game owes h storable grids small =
     }
 
 -- the records of any save of it are those that were written
-one_value : (k : Key) (v w : List ℕ) (rs later all : List KeyedRecord)
+one_value : (k : HeaderKey) (v w : List ℕ) (rs later all : List KeyedRecord)
     → all ≡ rs ++ later → values_of k all ≡ v ∷ [] → values_of k rs ≡ w ∷ [] → (v ≡ w) × (values_of k later ≡ [])
 one_value k v w rs later all split whole part =
     let both : v ∷ [] ≡ w ∷ values_of k later =
@@ -238,8 +207,8 @@ same_save {P} game h other rs later valid split saved =
     let other_few = saved.valid.few in
     let other_first = saved.valid.first in
     let other_last = saved.valid.last in
-    let count = one_value StateCount _ _ rs later (tail_of game h) split (stands StateCount refl) saved.count in
-    let place = one_value Position _ _ rs later (tail_of game h) split (stands Position refl) saved.position in
+    let count = one_value (Count States) _ _ rs later (tail_of game h) split (stands (Count States)) (saved.values (Count States)) in
+    let place = one_value (Count Position) _ _ rs later (tail_of game h) split (stands (Count Position)) (saved.values (Count Position)) in
     let counts : length h.moves + 1 ≡ length other.moves + 1 =
     same_count (length h.moves + 1) (length other.moves + 1) (omega arith) few (omega arith) other_few count.0 in
     let places : h.position ≡ other.position =
@@ -250,18 +219,20 @@ same_save {P} game h other rs later valid split saved =
     let own = have_length game other.puzzle other.moves (states_in rs) saved.states in
     let whole = ap length (states_tail title desc h) in
     let none : length (states_in later) ≡ 0 = omega arith in
-    let empty : later ≡ [] = no_more later split count.1 place.1 none in
+    let no_counts : (which : WhichCount) → values_of (Count which) later ≡ [] =
+    λ which. elim which as (λ w. values_of (Count w) later ≡ []) [ States ↦ count.1 | Position ↦ place.1 ] in
+    let empty : later ≡ [] = no_more later split no_counts none in
     let same : rs ≡ tail_of game h = sym (append-nil rs) ∙ (ap (λ xs. rs ++ xs) (sym empty) ∙ sym split) in
     record { saved = subst (λ xs. AreSaved game other xs) same saved; count = omega arith; position = sym places }
   where
     no_more : (xs : List KeyedRecord)
-        → tail_of game h ≡ rs ++ xs → values_of StateCount xs ≡ [] → values_of Position xs ≡ []
+        → tail_of game h ≡ rs ++ xs → ((which : WhichCount) → values_of (Count which) xs ≡ [])
         → length (states_in xs) ≡ 0 → xs ≡ []
-    no_more [] cut no_count no_place no_state = refl
-    no_more (x ∷ xs) cut no_count no_place no_state =
+    no_more [] cut no_counts no_state = refl
+    no_more (x ∷ xs) cut no_counts no_state =
         let all_end = ends_tail game.title (game.desc_of h.puzzle) h in
         let ends = ends_later rs x xs (subst (λ zs. EndsWithState zs) cut all_end) in
-        let some = has_state_or_count (x ∷ xs) ends no_count no_place in
+        let some = has_state_or_count (x ∷ xs) ends no_counts in
         absurd (omega arith)
 
 -- and so it is the session
@@ -292,17 +263,17 @@ written_saves_no_other {P} game of_game owes h other valid of t =
     let s = same.saved in
     let stands = values_tail game.title desc h in
     let same_of : (whose : WhoseParams) → params_of other whose ≡ params_of h whose = λ whose.
-    let own = s.params whose in
-    same_params (params_of other whose) (params_of h whose) (sym own.2.text_is ∙ one_of own.1 (stands (ParamsOf whose) refl)) in
+    let own = s.values (ParamsOf whose) in
+    same_params (params_of other whose) (params_of h whose) (sym own.2.text_is ∙ one_of own.1 (stands (ParamsOf whose))) in
     let next = same_of Next in
     let params = same_of Current in
-    let own = (s.params Current).2.params in
+    let own = (s.values (ParamsOf Current)).2.params in
     let width : other.params.size ≡ p.size = ap (λ (q : Params). q.size) params ∙ valid.size in
-    let own_desc = subst (λ d. game.Describes other.params.size other.puzzle d) (one_of s.desc.1 (stands Desc refl)) s.desc.2 in
+    let own_desc = subst (λ d. game.Describes other.params.size other.puzzle d) (one_of (s.values Desc).1 (stands Desc)) (s.values Desc).2 in
     let described = subst (λ n. game.Describes n other.puzzle desc) width own_desc in
     let puzzle = same_described p.size h.puzzle other.puzzle desc (owes.own_text h.puzzle of) described in
     let extras = same_extras other.extras h.extras (λ k.
-    same_kept (kept_at other.extras k) (kept_at h.extras k) (sym (s.kept k) ∙ stands (Kept k) refl)) in
+    same_kept (kept_at other.extras k) (kept_at h.extras k) (sym (s.values (Kept k)) ∙ stands (Kept k))) in
     let largest : p.size ≤ 9 = (let top = own.largest in omega (arith, width)) in
     let fits = all_fit p (start_of p) h.moves largest valid.legal.playable in
     let other_valid = subst (λ q. IsValid (game.puzzle q) other) puzzle s.valid in
@@ -314,7 +285,7 @@ written_saves_no_other {P} game of_game owes h other valid of t =
         session = valid;
         puzzle_is = of;
         params_are = subst (λ q. IsParams game.letters q) params own;
-        next_params_are = subst (λ q. IsParams game.letters q) next (s.params Next).2.params;
+        next_params_are = subst (λ q. IsParams game.letters q) next (s.values (ParamsOf Next)).2.params;
       },
     )
   where

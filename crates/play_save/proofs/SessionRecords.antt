@@ -1,5 +1,5 @@
 -- The records that are written for a session: which value stands with which key, and where.
-use Rattle.std.proofs.Common.{◌≡◌, ℕ, ◌+◌, true, false, ◌==◌, List, [], ◌∷◌, ◌++◌, length, map, codes, Option, Some, None, cond, refl, ap, ◌∙◌}
+use Rattle.std.proofs.Common.{◌≡◌, ℕ, true, false, ◌==◌, List, [], ◌∷◌, ◌++◌, map, codes, Option, Some, None, cond, refl, ap, ◌∙◌}
 use Rattle.std.specs.Fmt.{decimal}
 use Rattle.std.proofs.lemmas.Bool.{both_ways, cond_both}
 use Rattle.std.proofs.lemmas.List.{append-nil}
@@ -9,13 +9,16 @@ use Rattle.play_midend.specs.Histories.{History}
 use Rattle.play_save.specs.declared.key.KeptKey.{KeptKey}
 use Rattle.play_save.specs.declared.key.KeptKey.TheVariants.{Seed, AuxInfo, Ui, Time}
 use Rattle.play_save.specs.declared.key.WhoseParams.TheVariants.{Next}
+use Rattle.play_save.specs.declared.key.WhichCount.TheVariants.{States, Position}
+use Rattle.play_save.specs.declared.key.HeaderKey.{HeaderKey}
+use Rattle.play_save.specs.declared.key.HeaderKey.TheVariants.{SaveFile, FormatVersion, GameName, ParamsOf, Desc, PrivateDesc, Kept, Count}
 use Rattle.play_save.specs.declared.key.Key.{Key}
-use Rattle.play_save.specs.declared.key.Key.TheVariants.{FormatVersion, GameName, ParamsOf, Desc, Kept, StateCount, Position, State}
+use Rattle.play_save.specs.declared.key.Key.TheVariants.{State}
 use Rattle.play_save.specs.Keys.{rank, kept_at}
 use Rattle.play_save.specs.KeyedRecords.{KeyedRecord, KeyedState, values_of, onto_states, states_in, once_if_kept, is_state, CountsStandFirst, may_be_last, EndsWithState}
-use Rattle.play_save.specs.SaveTexts.{params_of}
-use Rattle.play_save.specs.Written.{with_value, kept_record, state_value, state_record, game_records, body_records, state_records}
-use Rattle.play_save.proofs.RecordLists.{values_of-append, states_in-append, no_state_rank}
+use Rattle.play_save.specs.SaveTexts.{params_of, count_of}
+use Rattle.play_save.specs.Written.{header_record, kept_record, state_value, state_record, game_records, body_records, state_records}
+use Rattle.play_save.proofs.RecordLists.{values_of-append, states_in-append}
 use Rattle.play_save.proofs.WrittenRecords.{AreKnown}
 
 -- the records behind the first
@@ -25,39 +28,39 @@ tail_records title desc h = game_records title h ++ (body_records desc h ++ stat
 abbrev states_of : List ℕ → List Move → List KeyedRecord
 states_of desc ms = map (state_record desc) ms
 
--- a key of no state is no state record's
-states_none : (k : Key) (desc : List ℕ) (ms : List Move) → is_state k ≡ false → values_of k (states_of desc ms) ≡ []
-states_none k desc [] header = refl
-states_none k desc (m ∷ ms) header = rw (no_state_rank k header) (states_none k desc ms header)
+-- a state record has no value of another key
+states_none : (k : HeaderKey) (desc : List ℕ) (ms : List Move) → values_of k (states_of desc ms) ≡ []
+states_none k desc [] = refl
+states_none k desc (m ∷ ms) = states_none k desc ms
 
 -- bytes that are kept stand with their own key
-kept_values : (k : Key) (j : KeptKey) (kept : Option (List ℕ))
+kept_values : (k : HeaderKey) (j : KeptKey) (kept : Option (List ℕ))
     → values_of k (kept_record j kept) ≡ cond (rank (Kept j) == rank k) (once_if_kept kept) []
 kept_values k j None =
     cond_both (rank (Kept j) == rank k) [] [] (λ (values : List (List ℕ)). [] ≡ values) (λ is. refl) (λ is. refl)
 kept_values k j (Some v) = refl
 
--- the values that are written with a key, state records apart
-abbrev pub values_written : {P : Type 0} → List ℕ → List ℕ → History P → Key → List (List ℕ)
+-- the values that are written with a key
+abbrev pub values_written : {P : Type 0} → List ℕ → List ℕ → History P → HeaderKey → List (List ℕ)
+values_written title desc h SaveFile = []
 values_written title desc h FormatVersion = codes "1" ∷ []
 values_written title desc h GameName = title ∷ []
 values_written title desc h (ParamsOf whose) = params_text (params_of h whose) ∷ []
 values_written title desc h Desc = desc ∷ []
+values_written title desc h PrivateDesc = []
 values_written title desc h (Kept k) = once_if_kept (kept_at h.extras k)
-values_written title desc h StateCount = decimal (length h.moves + 1) ∷ []
-values_written title desc h Position = decimal h.position ∷ []
-values_written title desc h k = []
+values_written title desc h (Count which) = decimal (count_of h which) ∷ []
 
--- (the last clause is looked at for each key but those of states)
-pub values_tail : {P : Type 0} (title desc : List ℕ) (h : History P) (k : Key)
-    → is_state k ≡ false → values_of k (tail_records title desc h) ≡ values_written title desc h k
-values_tail title desc h (State k) no_state = cc
-values_tail title desc h (ParamsOf Next) no_state =
-    let states = states_none (ParamsOf Next) desc h.moves refl in simp (values_of-append, kept_values, states, append-nil)
-values_tail title desc h (Kept Seed) no_state =
-    let states = states_none (Kept Seed) desc h.moves refl in simp (values_of-append, kept_values, states, append-nil)
-values_tail title desc h k no_state =
-    let states = states_none k desc h.moves no_state in simp (values_of-append, kept_values, states, append-nil)
+pub values_tail : {P : Type 0} (title desc : List ℕ) (h : History P) (k : HeaderKey)
+    → values_of k (tail_records title desc h) ≡ values_written title desc h k
+values_tail title desc h (ParamsOf Next) =
+    let states = states_none (ParamsOf Next) desc h.moves in simp (values_of-append, kept_values, states, append-nil)
+values_tail title desc h (Kept Seed) =
+    let states = states_none (Kept Seed) desc h.moves in simp (values_of-append, kept_values, states, append-nil)
+values_tail title desc h (Count States) =
+    let states = states_none (Count States) desc h.moves in simp (values_of-append, kept_values, states, append-nil)
+values_tail title desc h k =
+    let states = states_none k desc h.moves in simp (values_of-append, kept_values, states, append-nil)
 
 -- the state records
 states_none_kept : (j : KeptKey) (kept : Option (List ℕ)) → states_in (kept_record j kept) ≡ []
@@ -93,7 +96,7 @@ front_first (x ∷ xs) ys none first =
 states_first : (desc : List ℕ) (ms : List Move) → CountsStandFirst (states_of desc ms)
 states_first desc [] = tt
 states_first desc (m ∷ ms) =
-    ((λ state. (states_none StateCount desc ms refl, states_none Position desc ms refl)), states_first desc ms)
+    ((λ state which. states_none (Count which) desc ms), states_first desc ms)
 
 pub counts_first_tail : {P : Type 0} (title desc : List ℕ) (h : History P)
     → CountsStandFirst (tail_records title desc h)
@@ -118,7 +121,7 @@ pub ends_tail : {P : Type 0} (title desc : List ℕ) (h : History P) → EndsWit
 ends_tail title desc h =
     ends_behind (game_records title h) (body_records desc h ++ state_records desc h)
     (ends_behind (body_records desc h) (state_records desc h)
-    (ends_states (with_value Position (decimal h.position)) desc h.moves refl))
+    (ends_states (header_record (Count Position) (decimal h.position)) desc h.moves refl))
 
 -- all keys have a name
 known_append : (xs ys : List KeyedRecord) → AreKnown xs → AreKnown ys → AreKnown (xs ++ ys)

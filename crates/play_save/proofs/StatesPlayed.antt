@@ -4,14 +4,12 @@ use Rattle.std.specs.Result.{result_ok}
 use Rattle.std.proofs.lemmas.Option.{cond_some}
 use Rattle.byte_text.proofs.ReadingLaws.{bind_taken, bind_again}
 use Rattle.clue_rules.specs.declared.id_fault.IdFault.{IdFault}
-use Rattle.trail_solver.specs.Puzzles.{Puzzle}
 use Rattle.play_midend.specs.declared.moves.Move.{Move}
-use Rattle.play_midend.specs.declared.fault.PlayFault.{PlayFault}
-use Rattle.play_midend.specs.MoveTexts.{IsMoveText, move_at}
-use Rattle.play_midend.specs.Histories.{History, refusal_in, with_move, played}
-use Rattle.play_midend.specs.MoveLists.{result_and_then, played_all}
-use Rattle.play_midend.proofs.MoveTextLaws.{read_found, read_only}
-use Rattle.play_midend.proofs.Playing.{accepted}
+use Rattle.play_midend.specs.MoveTexts.{move_at}
+use Rattle.play_midend.specs.Histories.{History, played}
+use Rattle.play_midend.specs.MoveLists.{played_all}
+use Rattle.play_midend.proofs.MoveTextsRead.{text_taken, text_again}
+use Rattle.play_midend.proofs.PlayedMoves.{played_puzzle, played_position, first_played}
 use Rattle.play_save.specs.declared.fault.LoadFault.TheVariants.{BadState}
 use Rattle.play_save.specs.declared.key.StateKey.{StateKey}
 use Rattle.play_save.specs.declared.key.StateKey.TheVariants.{AnyMove, SolveMove, RestartMove}
@@ -20,13 +18,6 @@ use Rattle.play_save.specs.SaveTexts.{SavedGame, is_solve, IsStateOf, HaveStates
 use Rattle.play_save.specs.FirstFaults.{solution_alone, restart_of, state_move, move_played, state_played, states_played, state_fault}
 use Rattle.play_save.proofs.OptionSteps.{and_then_taken, result_taken}
 use Rattle.play_save.proofs.GameTexts.{IsGame, same_puzzle, restart_taken, restart_again, other_puzzle}
-
--- the text of a move, and the move of a text
-text_taken : (value : List ℕ) (m : Move) → move_at value ≡ Ok m → IsMoveText m value
-text_taken value m is = let read : Result Move PlayFault = Ok m in read_found value read (sym is)
-
-pub text_again : (value : List ℕ) (m : Move) → IsMoveText m value → move_at value ≡ Ok m
-text_again value m is = read_only value (move_at value) refl m is
 
 pub ok_taken : {A E : Type 0} (r : Result A E) (a : A) → result_ok r ≡ Some a → r ≡ Ok a
 ok_taken (Ok b) a is = cc
@@ -75,11 +66,6 @@ state_faultless game p AnyMove value m is = rw (text_again value m is) refl
 state_faultless game p SolveMove value m is = rw (text_again value m is.0) refl
 state_faultless game p RestartMove value m is = refl
 
--- a move keeps the puzzle
-pub played_keeps : {P : Type 0} (pz : Puzzle) (h next : History P) (m : Move)
-    → played pz h m ≡ Ok next → next.puzzle ≡ h.puzzle
-played_keeps pz h next m is = ap (λ k. k.puzzle) (sym (accepted (refusal_in pz h m) (with_move h m) next is).1)
-
 -- a move that was played was there
 move_taken : {P : Type 0} (game : SavedGame P) (h next : History P) (i : ℕ) (o : Option Move)
     → move_played game h i o ≡ Ok next → (m : Move) × (o ≡ Some m) × (played (game.puzzle h.puzzle) h m ≡ Ok next)
@@ -99,7 +85,7 @@ states_taken game h last i [] owes d is =
 states_taken {P} game h last i (s ∷ ss) owes d is =
     let step = bind_taken (state_played game h i s) _ last is in
     let one = move_taken game h step.0 i (state_move game h.puzzle s.key s.value) step.1 in
-    let keeps = played_keeps (game.puzzle h.puzzle) h step.0 one.0 one.2 in
+    let keeps = played_puzzle (game.puzzle h.puzzle) h step.0 one.0 one.2 in
     let rest = states_taken game step.0 last (i + 1) ss owes (subst (λ p. IsDescribed game p) (sym keeps) d) step.2 in
     let later = subst (λ p. HaveStates game p rest.moves ss) keeps rest.have in
     record {
@@ -119,22 +105,16 @@ states_again game h last i [] [] owes have is = let same : h ≡ last = cc in ap
 states_again game h last i [] (s ∷ ss) owes have is = absurd have
 states_again game h last i (m ∷ ms) [] owes have is = absurd have
 states_again {P} game h last i (m ∷ ms) (s ∷ ss) owes have is =
-    let step = and_then_ok (played (game.puzzle h.puzzle) h m) is in
+    let step = first_played (game.puzzle h.puzzle) h last m ms is in
     more step.0 step.1 step.2 (λ kept all. states_again game step.0 last (i + 1) ms ss owes kept all)
   where
-    and_then_ok : (r : Result (History P) PlayFault)
-        → result_and_then (λ next. played_all (game.puzzle h.puzzle) next ms) r ≡ Ok last
-        → (next : History P) × (r ≡ Ok next) × (played_all (game.puzzle h.puzzle) next ms ≡ Ok last)
-    and_then_ok (Ok next) made = (next, refl, made)
-    and_then_ok (Err e) made = cc
-
     more : (next : History P)
         → played (game.puzzle h.puzzle) h m ≡ Ok next → played_all (game.puzzle h.puzzle) next ms ≡ Ok last
         → (HaveStates game next.puzzle ms ss → played_all (game.puzzle next.puzzle) next ms ≡ Ok last
         → states_played game next (i + 1) ss ≡ Ok last)
         → states_played game h i (s ∷ ss) ≡ Ok last
     more next made all along =
-        let keeps = played_keeps (game.puzzle h.puzzle) h next m made in
+        let keeps = played_puzzle (game.puzzle h.puzzle) h next m made in
         let one : state_played game h i s ≡ Ok next =
         ap (move_played game h i) (state_of_move game h.puzzle s.key s.value m owes have.0)
         ∙ played_ok game h next i m made in
@@ -169,7 +149,6 @@ position_played game h last i [] is =
 position_played {P} game h last i (s ∷ ss) is =
     let step = bind_taken (state_played game h i s) _ last is in
     let one = move_taken game h step.0 i (state_move game h.puzzle s.key s.value) step.1 in
-    let with_it = accepted (refusal_in (game.puzzle h.puzzle) h one.0) (with_move h one.0) step.0 one.2 in
-    let on : step.0.position ≡ h.position + 1 = ap (λ k. k.position) (sym with_it.1) in
+    let on = played_position (game.puzzle h.puzzle) h step.0 one.0 one.2 in
     let rest = position_played game step.0 last (i + 1) ss step.2 in
     omega arith

@@ -7,21 +7,20 @@ use Rattle.std.proofs.lemmas.Option.{some_pair_parts}
 use Rattle.std.proofs.lemmas.List.{append-nil}
 use Rattle.byte_text.specs.Bytes.{colon, line_feed}
 use Rattle.byte_text.specs.Cuts.{Lacks}
-use Rattle.byte_text.specs.Decimals.{has_leading_zero, number_from, decimal_value}
-use Rattle.byte_text.proofs.DecimalLaws.{number_again}
+use Rattle.byte_text.proofs.DecimalLaws.{digits_again}
 use Rattle.play_save.specs.declared.key.StateKey.TheVariants.{AnyMove}
 use Rattle.play_save.specs.declared.key.KeptKey.TheVariants.{Seed}
 use Rattle.play_save.specs.declared.key.WhoseParams.TheVariants.{Next}
 use Rattle.play_save.specs.declared.key.Key.{Key}
-use Rattle.play_save.specs.declared.key.Key.TheVariants.{ParamsOf, Kept, State, Other}
+use Rattle.play_save.specs.declared.key.WhichCount.TheVariants.{States}
+use Rattle.play_save.specs.declared.key.HeaderKey.TheVariants.{ParamsOf, Kept, Count}
+use Rattle.play_save.specs.declared.key.Key.TheVariants.{Header, State, Other}
+use Rattle.play_save.specs.declared.save_format.TheConstants.{MOST_BYTES}
 use Rattle.play_save.specs.Records.{Entry, AreBreaks, begins_with_break, unpadded, length_at, BeginsWith}
 use Rattle.play_save.specs.Keys.{key_name, padded, key_of}
 use Rattle.play_save.specs.KeyedRecords.{KeyedRecord, keyed, BeginsWithAll}
-use Rattle.play_save.specs.SaveTexts.{longest_save}
 use Rattle.play_save.specs.Written.{record_text, records_text}
-use Rattle.play_save.proofs.OptionSteps.{else_taken}
 use Rattle.play_save.proofs.RecordLaws.{record_again, end_again}
-use Rattle.play_save.proofs.RightLists.{same_record}
 
 abbrev pub is_known : Key → Bool
 is_known Other = false
@@ -53,24 +52,21 @@ unfolding free_of_colon key_of
 is_key Other known = cc
 is_key (State AnyMove) known =
     record { eight = refl; colon_free = refl; no_break = refl; name_again = refl; key_again = refl }
-is_key (ParamsOf Next) known =
+is_key (Header (ParamsOf Next)) known =
     record { eight = refl; colon_free = refl; no_break = refl; name_again = refl; key_again = refl }
-is_key (Kept Seed) known =
+is_key (Header (Kept Seed)) known =
+    record { eight = refl; colon_free = refl; no_break = refl; name_again = refl; key_again = refl }
+is_key (Header (Count States)) known =
     record { eight = refl; colon_free = refl; no_break = refl; name_again = refl; key_again = refl }
 is_key k known = record { eight = refl; colon_free = refl; no_break = refl; name_again = refl; key_again = refl }
 
 -- the length of a value is read
-from_at : (bs : List ℕ) (n : ℕ) → decimal_value 99999999 bs ≡ Some n → number_from 99999999 0 bs ≡ Some n
-unfolding decimal_value
-from_at [] n is = cc
-from_at (b ∷ bs) n is = (else_taken (has_leading_zero (b ∷ bs)) _ n is).1
-
 length_written : (n : ℕ) → n ≤ 99999999 → length_at (decimal n) ≡ Some n
 length_written n few =
     let fits : n < 2 ^ 64 = omega (arith, few, big) in
     let some = decimal_nonempty n fits in
     let short = length-decimal-le 8 n (lit< tt) (omega (arith, few)) fits in
-    let read = from_at (decimal n) n (number_again 99999999 n few (lit< tt)) in
+    let read = digits_again 99999999 n few (lit< tt) in
     rw (le-leb 1 (length (decimal n)) some, le-leb (length (decimal n)) 8 short) read
   where
     big : 99999999 < 2 ^ 64
@@ -120,10 +116,14 @@ value_within r =
     omega (arith, length-append key (colon ∷ (size ++ behind)), length-append size behind, length-append r.value (line_feed ∷ []))
 
 own_record : (r : KeyedRecord) → is_known r.key ≡ true → keyed (entry_written r) ≡ r
-own_record r known = same_record (keyed (entry_written r)) r.key r.value (is_key r.key known).key_again refl
+own_record r known =
+    let key = (is_key r.key known).key_again in
+    let own : KeyedRecord = record r { key = r.key } in
+    let same : keyed (entry_written r) ≡ own = cc in
+    same
 
 pub all_written : (rs : List KeyedRecord) (breaks : List ℕ)
-    → AreBreaks breaks → AreKnown rs → length (records_text rs) ≤ longest_save
+    → AreBreaks breaks → AreKnown rs → length (records_text rs) ≤ MOST_BYTES
     → AreToTheEnd rs (breaks ++ records_text rs)
 all_written [] breaks are known small = subst (λ t. AreBreaks t) (sym (append-nil breaks)) are
 all_written (r ∷ rs) breaks are known small =

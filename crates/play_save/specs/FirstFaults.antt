@@ -1,5 +1,5 @@
 -- Reading a save text: the session, or the first fault.
-use Rattle.std.specs.Prelude.{ℕ, zero, suc, ◌+◌, Bool, true, false, ◌&&◌, nat_lt, nat_le, bytes_eq, is_some, if◌then◌else◌, List, [], ◌∷◌, ◌++◌, length, codes, Option, Some, None, option_map, option_and_then, Result, Ok, Err, ok_or}
+use Rattle.std.specs.Prelude.{ℕ, zero, suc, ◌+◌, Bool, true, false, ◌&&◌, nat_lt, nat_le, bytes_eq, is_some, if◌then◌else◌, List, [], ◌∷◌, ◌++◌, length, codes, Option, Some, None, option_and_then, Result, Ok, Err, ok_or}
 use Rattle.std.specs.Result.{result_ok}
 use Rattle.byte_text.specs.Decimals.{decimal_value}
 use Rattle.byte_text.specs.Reading.{◌>>=◌}
@@ -20,12 +20,17 @@ use Rattle.play_save.specs.declared.key.StateKey.{StateKey}
 use Rattle.play_save.specs.declared.key.StateKey.TheVariants.{AnyMove, SolveMove, RestartMove}
 use Rattle.play_save.specs.declared.key.WhoseParams.{WhoseParams}
 use Rattle.play_save.specs.declared.key.WhoseParams.TheVariants.{Next, Current}
+use Rattle.play_save.specs.declared.key.WhichCount.{WhichCount}
+use Rattle.play_save.specs.declared.key.WhichCount.TheVariants.{States, Position}
+use Rattle.play_save.specs.declared.key.HeaderKey.{HeaderKey}
+use Rattle.play_save.specs.declared.key.HeaderKey.TheVariants.{SaveFile, FormatVersion, GameName, ParamsOf, Desc, PrivateDesc, Kept, Count}
 use Rattle.play_save.specs.declared.key.Key.{Key}
-use Rattle.play_save.specs.declared.key.Key.TheVariants.{SaveFile, FormatVersion, GameName, ParamsOf, Desc, PrivateDesc, Kept, StateCount, Position, State, Other}
+use Rattle.play_save.specs.declared.key.Key.TheVariants.{Header, State, Other}
+use Rattle.play_save.specs.declared.save_format.TheConstants.{MOST_BYTES}
 use Rattle.play_save.specs.Records.{Entry, record_at}
-use Rattle.play_save.specs.Keys.{kept_at, each_kept}
+use Rattle.play_save.specs.Keys.{each_kept}
 use Rattle.play_save.specs.KeyedRecords.{KeyedRecord, keyed, KeyedState, values_of, states_in}
-use Rattle.play_save.specs.SaveTexts.{SavedGame, collection, longest_save, is_solve}
+use Rattle.play_save.specs.SaveTexts.{SavedGame, collection, is_solve}
 
 -- parameters of the game, and a count of states: decimal from 1 to MOST_STATES
 abbrev pub saved_params_at : {P : Type 0} → SavedGame P → List ℕ → Result Params IdFault
@@ -38,39 +43,27 @@ positive (suc n) = Some (suc n)
 abbrev pub count_at : List ℕ → Option ℕ
 count_at value = option_and_then positive (decimal_value MOST_STATES value)
 
--- What some records say: for each key the first value, parameters and counts as they read.
-pub record Met : Type 0 where
-  pub version : Bool
-  pub name : Bool
-  pub next_params : Option (Result Params IdFault)
-  pub params : Option (Result Params IdFault)
-  pub desc : Option (List ℕ)
-  pub kept : Extras
-  pub count : Option (Option ℕ)
-  pub position : Option (Option ℕ)
+-- What some records say: the first value of each key that may stand once, and the state records.
+pub record MetValue : Type 0 where
+  pub first : HeaderKey → Option (List ℕ)
   pub states : List KeyedState
-
--- the parameters of a game that were met, and the first of some values
-abbrev pub params_met : Met → WhoseParams → Option (Result Params IdFault)
-params_met m Next = m.next_params
-params_met m Current = m.params
 
 abbrev pub first_of : {A : Type 0} → List A → Option A
 first_of [] = None
 first_of (v ∷ vs) = Some v
 
-abbrev pub met : {P : Type 0} → SavedGame P → List KeyedRecord → Met
-met game rs = record {
-  version = is_some (first_of (values_of FormatVersion rs));
-  name = is_some (first_of (values_of GameName rs));
-  next_params = option_map (saved_params_at game) (first_of (values_of (ParamsOf Next) rs));
-  params = option_map (saved_params_at game) (first_of (values_of (ParamsOf Current) rs));
-  desc = first_of (values_of Desc rs);
-  kept = each_kept (λ k. first_of (values_of (Kept k) rs));
-  count = option_map count_at (first_of (values_of StateCount rs));
-  position = option_map count_at (first_of (values_of Position rs));
-  states = states_in rs;
-}
+abbrev pub met : List KeyedRecord → MetValue
+met rs = record { first = λ k. first_of (values_of k rs); states = states_in rs }
+
+-- the parameters and the counts that were met, as they read, and what is kept
+abbrev pub params_met : {P : Type 0} → SavedGame P → MetValue → WhoseParams → Option Params
+params_met game m whose = option_and_then (λ value. result_ok (saved_params_at game value)) (m.first (ParamsOf whose))
+
+abbrev pub count_met : MetValue → WhichCount → Option ℕ
+count_met m which = option_and_then count_at (m.first (Count which))
+
+abbrev pub extras_met : MetValue → Extras
+extras_met m = each_kept (λ k. m.first (Kept k))
 
 -- a fault, where the test fails
 abbrev pub fault_unless : Bool → LoadFault → Option LoadFault
@@ -86,11 +79,20 @@ abbrev pub params_fault : Result Params IdFault → Option LoadFault
 params_fault (Ok p) = None
 params_fault (Err fault) = Some BadParams
 
+-- a position is no greater than the count of states
+abbrev pub go_together : WhichCount → ℕ → ℕ → Bool
+go_together States n position = nat_le position n
+go_together Position position n = nat_le position n
+
+abbrev pub other_count : WhichCount → WhichCount
+other_count States = Position
+other_count Position = States
+
 -- a count that is none, or that doesn't go together with the other one, where that was met
-abbrev pub count_fault : (ℕ → ℕ → Bool) → Option ℕ → Option (Option ℕ) → Option LoadFault
-count_fault goes None other = Some BadCount
-count_fault goes (Some n) (Some (Some other)) = fault_unless (goes n other) BadCount
-count_fault goes (Some n) _ = None
+abbrev pub count_fault : WhichCount → Option ℕ → Option ℕ → Option LoadFault
+count_fault which None other = Some BadCount
+count_fault which (Some n) None = None
+count_fault which (Some n) (Some other) = fault_unless (go_together which n other) BadCount
 
 -- a hint or a spent sign
 abbrev pub text_fault : Result Move PlayFault → Option LoadFault
@@ -102,31 +104,33 @@ state_fault AnyMove value = text_fault (move_at value)
 state_fault SolveMove value = text_fault (move_at value)
 state_fault RestartMove value = None
 
-abbrev pub behind_counts : Met → Option LoadFault → Option LoadFault
-behind_counts m fault = if is_some m.count && is_some m.position then fault else Some EarlyState
+abbrev pub behind_counts : MetValue → Option LoadFault → Option LoadFault
+behind_counts m fault = if is_some (count_met m States) && is_some (count_met m Position) then fault else Some EarlyState
+
+-- the fault of a value that stands with a key for the first time
+abbrev pub value_fault : {P : Type 0} → SavedGame P → MetValue → HeaderKey → List ℕ → Option LoadFault
+value_fault game m SaveFile value = Some Repeated
+value_fault game m FormatVersion value = fault_unless (bytes_eq value (codes "1")) Version
+value_fault game m GameName value = fault_unless (bytes_eq value game.title) WrongGame
+value_fault game m (ParamsOf whose) value = params_fault (saved_params_at game value)
+value_fault game m Desc value = None
+value_fault game m PrivateDesc value = Some Unsupported
+value_fault game m (Kept k) value = None
+value_fault game m (Count which) value = count_fault which (count_at value) (count_met m (other_count which))
 
 -- the fault of a record behind those that were met
-abbrev pub fault_by : {P : Type 0} → SavedGame P → Met → Key → List ℕ → Option LoadFault
-fault_by game m SaveFile value = Some Repeated
-fault_by game m FormatVersion value = once m.version (fault_unless (bytes_eq value (codes "1")) Version)
-fault_by game m GameName value = once m.name (fault_unless (bytes_eq value game.title) WrongGame)
-fault_by game m (ParamsOf whose) value = once (is_some (params_met m whose)) (params_fault (saved_params_at game value))
-fault_by game m Desc value = once (is_some m.desc) None
-fault_by game m PrivateDesc value = Some Unsupported
-fault_by game m (Kept k) value = once (is_some (kept_at m.kept k)) None
-fault_by game m StateCount value =
-    once (is_some m.count) (count_fault (λ n position. nat_le position n) (count_at value) m.position)
-fault_by game m Position value = once (is_some m.position) (count_fault nat_le (count_at value) m.count)
+abbrev pub fault_by : {P : Type 0} → SavedGame P → MetValue → Key → List ℕ → Option LoadFault
+fault_by game m (Header k) value = once (is_some (m.first k)) (value_fault game m k value)
 fault_by game m (State k) value = behind_counts m (state_fault k value)
 fault_by game m Other value = None
 
 -- both counts were met, and all states behind the first
-abbrev pub has_all : Option (Option ℕ) → Option (Option ℕ) → ℕ → Bool
-has_all (Some (Some n)) (Some (Some position)) states = nat_le n (states + 1)
+abbrev pub has_all : Option ℕ → Option ℕ → ℕ → Bool
+has_all (Some n) (Some position) states = nat_le n (states + 1)
 has_all _ _ states = false
 
-abbrev pub is_complete : Met → Bool
-is_complete m = has_all m.count m.position (length m.states)
+abbrev pub is_complete : MetValue → Bool
+is_complete m = has_all (count_met m States) (count_met m Position) (length m.states)
 
 -- the records of a text up to its end, or to what is no record
 pub data Listing : Type 0 where
@@ -153,11 +157,11 @@ unless None more = more
 unless (Some fault) more = Err fault
 
 abbrev pub needed : {P : Type 0} → SavedGame P → List KeyedRecord → Listing → Result (List KeyedRecord) LoadFault
-needed game before nothing = if is_complete (met game before) then Ok before else Err Missing
-needed game before broken = if is_complete (met game before) then Ok before else Err Malformed
+needed game before nothing = if is_complete (met before) then Ok before else Err Missing
+needed game before broken = if is_complete (met before) then Ok before else Err Malformed
 needed game before (first r more) =
-    if is_complete (met game before) then Ok before
-    else unless (fault_by game (met game before) r.key r.value) (needed game (before ++ r ∷ []) more)
+    if is_complete (met before) then Ok before
+    else unless (fault_by game (met before) r.key r.value) (needed game (before ++ r ∷ []) more)
 
 -- the move of a state record, where it is one of the puzzle: a restart has a description of it
 abbrev pub solution_alone : Move → Option Move
@@ -186,34 +190,23 @@ states_played game h i [] = Ok h
 states_played game h i (s ∷ ss) =
     state_played game h i s >>= λ next. states_played game next (i + 1) ss
 
--- what has to be there
-abbrev pub needed_params : Option (Result Params IdFault) → Result Params LoadFault
-needed_params None = Err Missing
-needed_params (Some (Ok p)) = Ok p
-needed_params (Some (Err fault)) = Err BadParams
-
-abbrev pub needed_count : Option (Option ℕ) → Result ℕ LoadFault
-needed_count None = Err Missing
-needed_count (Some None) = Err BadCount
-needed_count (Some (Some n)) = Ok n
-
 -- the session of a puzzle, or the first state record that is wrong
-abbrev pub session_with : {P : Type 0} → SavedGame P → Met → Params → Params → ℕ → P → Result (History P) LoadFault
+abbrev pub session_with : {P : Type 0} → SavedGame P → MetValue → Params → Params → ℕ → P → Result (History P) LoadFault
 session_with game m params next_params position puzzle =
-    states_played game (started puzzle params next_params m.kept) 1 m.states
+    states_played game (started puzzle params next_params (extras_met m)) 1 m.states
     >>= λ last. Ok (at_position last position)
 
-abbrev pub session_at : {P : Type 0} → SavedGame P → Met → Params → Params → List ℕ → ℕ → Result (History P) LoadFault
+abbrev pub session_at : {P : Type 0} → SavedGame P → MetValue → Params → Params → List ℕ → ℕ → Result (History P) LoadFault
 session_at game m params next_params desc position =
     ok_or (result_ok (game.desc_at params.size desc)) BadDesc
     >>= λ puzzle. session_with game m params next_params position puzzle
 
 -- the session of what was met, or the first thing that is missing or wrong
-unfoldable pub session_of : {P : Type 0} → SavedGame P → Met → Result (History P) LoadFault
+unfoldable pub session_of : {P : Type 0} → SavedGame P → MetValue → Result (History P) LoadFault
 session_of game m =
-    unless (fault_unless (m.version && m.name) Missing)
-    (needed_params m.next_params >>= λ next_params. needed_params m.params >>= λ params.
-    ok_or m.desc Missing >>= λ desc. needed_count m.position >>= λ position.
+    unless (fault_unless (is_some (m.first FormatVersion) && is_some (m.first GameName)) Missing)
+    (ok_or (params_met game m Next) Missing >>= λ next_params. ok_or (params_met game m Current) Missing >>= λ params.
+    ok_or (m.first Desc) Missing >>= λ desc. ok_or (count_met m Position) Missing >>= λ position.
     session_at game m params next_params desc position)
 
 -- what follows the first record, which names the format
@@ -225,11 +218,11 @@ abbrev pub behind_head : Result (Option (Entry × List ℕ)) LoadFault → Resul
 behind_head (Ok (Some parts)) = head_or_fault parts.0 parts.1
 behind_head _ = Err NotASave
 
-abbrev pub met_in : {P : Type 0} → SavedGame P → Listing → Result Met LoadFault
-met_in game listing = needed game [] listing >>= λ rs. Ok (met game rs)
+abbrev pub met_in : {P : Type 0} → SavedGame P → Listing → Result MetValue LoadFault
+met_in game listing = needed game [] listing >>= λ rs. Ok (met rs)
 
 -- a save text: its session, or its first fault
 unfoldable pub load_at : {P : Type 0} → SavedGame P → List ℕ → Result (History P) LoadFault
 load_at game text =
-    if nat_lt longest_save (length text) then Err TooLarge
+    if nat_lt MOST_BYTES (length text) then Err TooLarge
     else (behind_head (record_at text) >>= λ rest. met_in game (records_of rest) >>= λ m. session_of game m)

@@ -1,8 +1,11 @@
 -- Lists of records, each seen by what its key is about: which value stands how often with which key.
 use Rattle.std.specs.Prelude.{◌≡◌, ℕ, Bool, true, false, ◌==◌, if◌then◌else◌, List, [], ◌∷◌, Option, Some, None}
 use Rattle.play_save.specs.declared.key.StateKey.{StateKey}
+use Rattle.play_save.specs.declared.key.WhichCount.{WhichCount}
+use Rattle.play_save.specs.declared.key.HeaderKey.{HeaderKey}
+use Rattle.play_save.specs.declared.key.HeaderKey.TheVariants.{Count}
 use Rattle.play_save.specs.declared.key.Key.{Key}
-use Rattle.play_save.specs.declared.key.Key.TheVariants.{StateCount, Position, State}
+use Rattle.play_save.specs.declared.key.Key.TheVariants.{Header, State}
 use Rattle.play_save.specs.Records.{Entry, BeginsWith}
 use Rattle.play_save.specs.Keys.{rank, key_of}
 
@@ -26,9 +29,13 @@ BeginsWithAll (r ∷ rs) text =
     (e : Entry) × (rest : List ℕ) × (keyed e ≡ r) × BeginsWith e rest text × BeginsWithAll rs rest
 
 -- the values that stand with a key, in turn
-abbrev pub values_of : Key → List KeyedRecord → List (List ℕ)
+abbrev pub onto_values : HeaderKey → Key → List ℕ → List (List ℕ) → List (List ℕ)
+onto_values k (Header j) value values = if rank j == rank k then (value ∷ values) else values
+onto_values k _ value values = values
+
+abbrev pub values_of : HeaderKey → List KeyedRecord → List (List ℕ)
 values_of k [] = []
-values_of k (r ∷ rs) = if rank r.key == rank k then (r.value ∷ values_of k rs) else values_of k rs
+values_of k (r ∷ rs) = onto_values k r.key r.value (values_of k rs)
 
 -- the state records, in turn
 abbrev pub onto_states : Key → List ℕ → List KeyedState → List KeyedState
@@ -39,9 +46,9 @@ abbrev pub states_in : List KeyedRecord → List KeyedState
 states_in [] = []
 states_in (r ∷ rs) = onto_states r.key r.value (states_in rs)
 
--- the key stands once, with a value of which this holds
-abbrev pub StandsOnce : Key → (List ℕ → Type 0) → List KeyedRecord → Type 0
-StandsOnce k P rs = (value : List ℕ) × (values_of k rs ≡ value ∷ []) × P value
+-- one value stands, of which this holds
+abbrev pub IsOne : (List ℕ → Type 0) → List (List ℕ) → Type 0
+IsOne P values = (value : List ℕ) × (values ≡ value ∷ []) × P value
 
 -- bytes that are kept stand once, and nothing stands where none are
 abbrev pub once_if_kept : Option (List ℕ) → List (List ℕ)
@@ -56,13 +63,12 @@ is_state _ = false
 abbrev pub CountsStandFirst : List KeyedRecord → Type 0
 CountsStandFirst [] = Unit {0}
 CountsStandFirst (r ∷ rs) =
-    (is_state r.key ≡ true → (values_of StateCount rs ≡ []) × (values_of Position rs ≡ [])) × CountsStandFirst rs
+    (is_state r.key ≡ true → (which : WhichCount) → values_of (Count which) rs ≡ []) × CountsStandFirst rs
 
 -- the last record is a state record or a count
 abbrev pub may_be_last : Key → Bool
 may_be_last (State k) = true
-may_be_last StateCount = true
-may_be_last Position = true
+may_be_last (Header (Count which)) = true
 may_be_last _ = false
 
 abbrev pub EndsWithState : List KeyedRecord → Type 0

@@ -7,11 +7,15 @@ use Rattle.play_save.specs.declared.key.WhoseParams.{WhoseParams}
 use Rattle.play_save.specs.declared.key.WhoseParams.TheVariants.{Next, Current}
 use Rattle.play_save.specs.declared.key.KeptKey.{KeptKey}
 use Rattle.play_save.specs.declared.key.KeptKey.TheVariants.{Seed, AuxInfo, Ui, Time}
+use Rattle.play_save.specs.declared.key.WhichCount.{WhichCount}
+use Rattle.play_save.specs.declared.key.WhichCount.TheVariants.{States, Position}
+use Rattle.play_save.specs.declared.key.HeaderKey.{HeaderKey}
+use Rattle.play_save.specs.declared.key.HeaderKey.TheVariants.{SaveFile, FormatVersion, GameName, ParamsOf, Desc, PrivateDesc, Kept, Count}
 use Rattle.play_save.specs.declared.key.Key.{Key}
-use Rattle.play_save.specs.declared.key.Key.TheVariants.{SaveFile, FormatVersion, GameName, ParamsOf, Desc, PrivateDesc, Kept, StateCount, Position, State, Other}
+use Rattle.play_save.specs.declared.key.Key.TheVariants.{Header, State, Other}
 use Rattle.byte_text.specs.Bytes.{space}
 
--- the keys in the order in which their records are written
+-- the keys that may stand once, in the order in which their records are written
 abbrev pub params_rank : WhoseParams → ℕ
 params_rank Next = 3
 params_rank Current = 4
@@ -22,18 +26,19 @@ kept_rank AuxInfo = 7
 kept_rank Ui = 8
 kept_rank Time = 9
 
-abbrev pub rank : Key → ℕ
+abbrev pub count_rank : WhichCount → ℕ
+count_rank States = 10
+count_rank Position = 11
+
+abbrev pub rank : HeaderKey → ℕ
 rank SaveFile = 0
 rank FormatVersion = 1
 rank GameName = 2
 rank (ParamsOf whose) = params_rank whose
 rank Desc = 6
 rank (Kept k) = kept_rank k
-rank StateCount = 10
-rank Position = 11
-rank (State k) = 12
-rank PrivateDesc = 13
-rank Other = 14
+rank (Count which) = count_rank which
+rank PrivateDesc = 12
 
 -- the names; any other name is nothing's
 abbrev pub state_name : StateKey → List ℕ
@@ -51,17 +56,23 @@ kept_name AuxInfo = codes "AUXINFO"
 kept_name Ui = codes "UI"
 kept_name Time = codes "TIME"
 
+abbrev pub count_name : WhichCount → List ℕ
+count_name States = codes "NSTATES"
+count_name Position = codes "STATEPOS"
+
+abbrev pub header_name : HeaderKey → List ℕ
+header_name SaveFile = codes "SAVEFILE"
+header_name FormatVersion = codes "VERSION"
+header_name GameName = codes "GAME"
+header_name (ParamsOf whose) = params_name whose
+header_name Desc = codes "DESC"
+header_name (Kept k) = kept_name k
+header_name (Count which) = count_name which
+header_name PrivateDesc = codes "PRIVDESC"
+
 abbrev pub key_name : Key → List ℕ
-key_name SaveFile = codes "SAVEFILE"
-key_name FormatVersion = codes "VERSION"
-key_name GameName = codes "GAME"
-key_name (ParamsOf whose) = params_name whose
-key_name Desc = codes "DESC"
-key_name (Kept k) = kept_name k
-key_name StateCount = codes "NSTATES"
-key_name Position = codes "STATEPOS"
+key_name (Header k) = header_name k
 key_name (State k) = state_name k
-key_name PrivateDesc = codes "PRIVDESC"
 key_name Other = []
 
 -- a name with blanks up to the eight bytes of a key
@@ -71,16 +82,21 @@ padded name = name ++ replicate (8 - length name) space
 -- what has the name
 abbrev pub kept_key_of : List ℕ → Key
 kept_key_of name =
-    if bytes_eq name (codes "SEED") then Kept Seed else (if bytes_eq name (codes "AUXINFO") then Kept AuxInfo
-    else (if bytes_eq name (codes "UI") then Kept Ui else (if bytes_eq name (codes "TIME") then Kept Time else Other)))
+    if bytes_eq name (codes "SEED") then Header (Kept Seed) else (if bytes_eq name (codes "AUXINFO") then Header (Kept AuxInfo)
+    else (if bytes_eq name (codes "UI") then Header (Kept Ui) else (if bytes_eq name (codes "TIME") then Header (Kept Time)
+    else Other)))
+
+abbrev pub pair_key_of : List ℕ → Key
+pair_key_of name =
+    if bytes_eq name (codes "PARAMS") then Header (ParamsOf Next) else (if bytes_eq name (codes "CPARAMS") then Header (ParamsOf Current)
+    else (if bytes_eq name (codes "NSTATES") then Header (Count States) else (if bytes_eq name (codes "STATEPOS") then Header (Count Position)
+    else kept_key_of name)))
 
 abbrev pub header_key_of : List ℕ → Key
 header_key_of name =
-    if bytes_eq name (codes "SAVEFILE") then SaveFile else (if bytes_eq name (codes "VERSION") then FormatVersion
-    else (if bytes_eq name (codes "GAME") then GameName else (if bytes_eq name (codes "PARAMS") then ParamsOf Next
-    else (if bytes_eq name (codes "CPARAMS") then ParamsOf Current else (if bytes_eq name (codes "DESC") then Desc
-    else (if bytes_eq name (codes "PRIVDESC") then PrivateDesc else (if bytes_eq name (codes "NSTATES") then StateCount
-    else (if bytes_eq name (codes "STATEPOS") then Position else kept_key_of name))))))))
+    if bytes_eq name (codes "SAVEFILE") then Header SaveFile else (if bytes_eq name (codes "VERSION") then Header FormatVersion
+    else (if bytes_eq name (codes "GAME") then Header GameName else (if bytes_eq name (codes "DESC") then Header Desc
+    else (if bytes_eq name (codes "PRIVDESC") then Header PrivateDesc else pair_key_of name))))
 
 unfoldable pub key_of : List ℕ → Key
 key_of name =

@@ -5,7 +5,8 @@ use Rattle.play_midend.specs.declared.moves.Move.{Move}
 use Rattle.play_midend.specs.declared.moves.Move.TheVariants.{Solve}
 use Rattle.play_midend.specs.Histories.{History, IsValid, IsStorable}
 use Rattle.play_save.specs.declared.fault.LoadFault.{LoadFault}
-use Rattle.play_save.specs.SaveTexts.{SavedGame, longest_save, SaveText}
+use Rattle.play_save.specs.declared.save_format.TheConstants.{MOST_BYTES}
+use Rattle.play_save.specs.SaveTexts.{SavedGame, SaveText}
 use Rattle.play_save.specs.FirstFaults.{load_at}
 use Rattle.play_save.specs.Written.{save_of}
 
@@ -29,7 +30,7 @@ HasGrid _ = Unit {0}
 abbrev pub WrittenIsSaved : {P : Type 0} → SavedGame P → (P → Type 0) → Type 0
 WrittenIsSaved {P} game of_game =
     (h : History P) → IsStorable game.puzzle of_game game.letters h → All HasGrid h.moves
-    → length (save_of game.title game.desc_of h) ≤ longest_save
+    → length (save_of game.title game.desc_of h) ≤ MOST_BYTES
     → SaveText game h (save_of game.title game.desc_of h)
 
 -- what is written of a valid session is a save of that session at most, and only of a storable one

@@ -7,5 +7,5 @@ pub mod KeyedRecords
 pub mod SaveTexts
 pub mod Written
 pub mod FirstFaults
-pub mod Taking
+pub mod Inner
 pub mod Laws

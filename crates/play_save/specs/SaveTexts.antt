@@ -12,15 +12,18 @@ use Rattle.play_midend.specs.declared.moves.Move.{Move}
 use Rattle.play_midend.specs.declared.moves.Move.TheVariants.{Solve, Restart}
 use Rattle.play_midend.specs.MoveTexts.{IsMoveText}
 use Rattle.play_midend.specs.Histories.{History, IsValid}
+use Rattle.play_save.specs.declared.save_format.TheConstants.{MOST_BYTES}
 use Rattle.play_save.specs.declared.key.StateKey.{StateKey}
 use Rattle.play_save.specs.declared.key.StateKey.TheVariants.{AnyMove, SolveMove, RestartMove}
-use Rattle.play_save.specs.declared.key.KeptKey.{KeptKey}
 use Rattle.play_save.specs.declared.key.WhoseParams.{WhoseParams}
 use Rattle.play_save.specs.declared.key.WhoseParams.TheVariants.{Next, Current}
-use Rattle.play_save.specs.declared.key.Key.TheVariants.{SaveFile, FormatVersion, GameName, ParamsOf, Desc, PrivateDesc, Kept, StateCount, Position}
+use Rattle.play_save.specs.declared.key.WhichCount.{WhichCount}
+use Rattle.play_save.specs.declared.key.WhichCount.TheVariants.{States, Position}
+use Rattle.play_save.specs.declared.key.HeaderKey.{HeaderKey}
+use Rattle.play_save.specs.declared.key.HeaderKey.TheVariants.{SaveFile, FormatVersion, GameName, ParamsOf, Desc, PrivateDesc, Kept, Count}
 use Rattle.play_save.specs.Keys.{kept_at}
 use Rattle.play_save.specs.Records.{Entry, BeginsWith}
-use Rattle.play_save.specs.KeyedRecords.{KeyedRecord, KeyedState, BeginsWithAll, values_of, states_in, StandsOnce, once_if_kept, CountsStandFirst, EndsWithState}
+use Rattle.play_save.specs.KeyedRecords.{KeyedRecord, KeyedState, BeginsWithAll, values_of, states_in, IsOne, once_if_kept, CountsStandFirst, EndsWithState}
 
 -- What saves ask of a game: its name and letters, what its puzzles are, which text describes which puzzle of which width, the
 -- puzzle that is read of a description, and the description that is written.
@@ -57,10 +60,6 @@ collection = codes "Simon Tatham's Portable Puzzle Collection"
 abbrev pub format_record : Entry
 format_record = record { key = codes "SAVEFILE"; value = collection }
 
--- the size that a save text may have
-abbrev pub longest_save : ℕ
-longest_save = 16777216
-
 abbrev pub is_solve : Move → Bool
 is_solve (Solve g) = true
 is_solve _ = false
@@ -83,17 +82,25 @@ abbrev pub params_of : {P : Type 0} → History P → WhoseParams → Params
 params_of h Next = h.next_params
 params_of h Current = h.params
 
+-- how many states there are, and the number of the one that is shown
+abbrev pub count_of : {P : Type 0} → History P → WhichCount → ℕ
+count_of h States = length h.moves + 1
+count_of h Position = h.position
+
+-- which values stand with a key, and how many
+abbrev pub HasValues : {P : Type 0} → SavedGame P → History P → HeaderKey → List (List ℕ) → Type 0
+HasValues game h SaveFile values = values ≡ []
+HasValues game h FormatVersion values = values ≡ codes "1" ∷ []
+HasValues game h GameName values = values ≡ game.title ∷ []
+HasValues game h (ParamsOf whose) values = IsOne (IsParamText game.letters (params_of h whose)) values
+HasValues game h Desc values = IsOne (game.Describes h.params.size h.puzzle) values
+HasValues game h PrivateDesc values = values ≡ []
+HasValues game h (Kept k) values = values ≡ once_if_kept (kept_at h.extras k)
+HasValues game h (Count which) values = values ≡ decimal (count_of h which) ∷ []
+
 -- the records behind the first, up to the last that is needed
 pub record AreSaved {P : Type 0} (game : SavedGame P) (h : History P) (rs : List KeyedRecord) : Type 0 where
-  pub no_second_head : values_of SaveFile rs ≡ []
-  pub version : values_of FormatVersion rs ≡ codes "1" ∷ []
-  pub name : values_of GameName rs ≡ game.title ∷ []
-  pub params : (whose : WhoseParams) → StandsOnce (ParamsOf whose) (IsParamText game.letters (params_of h whose)) rs
-  pub desc : StandsOnce Desc (game.Describes h.params.size h.puzzle) rs
-  pub no_private_desc : values_of PrivateDesc rs ≡ []
-  pub kept : (k : KeptKey) → values_of (Kept k) rs ≡ once_if_kept (kept_at h.extras k)
-  pub count : values_of StateCount rs ≡ decimal (length h.moves + 1) ∷ []
-  pub position : values_of Position rs ≡ decimal h.position ∷ []
+  pub values : (k : HeaderKey) → HasValues game h k (values_of k rs)
   pub states : HaveStates game h.puzzle h.moves (states_in rs)
   pub counts_first : CountsStandFirst rs
   pub last : EndsWithState rs
@@ -101,7 +108,7 @@ pub record AreSaved {P : Type 0} (game : SavedGame P) (h : History P) (rs : List
 
 -- The text is a save of the session: the record that names the format, the records of the session, and then anything.
 pub record SaveText {P : Type 0} (game : SavedGame P) (h : History P) (text : List ℕ) : Type 0 where
-  pub small : length text ≤ longest_save
+  pub small : length text ≤ MOST_BYTES
   pub behind_head : List ℕ
   pub head : BeginsWith format_record behind_head text
   pub records : List KeyedRecord

@@ -11,7 +11,10 @@ use Rattle.play_save.specs.declared.key.KeptKey.{KeptKey}
 use Rattle.play_save.specs.declared.key.KeptKey.TheVariants.{Seed, AuxInfo, Ui, Time}
 use Rattle.play_save.specs.declared.key.WhoseParams.TheVariants.{Next, Current}
 use Rattle.play_save.specs.declared.key.Key.{Key}
-use Rattle.play_save.specs.declared.key.Key.TheVariants.{SaveFile, FormatVersion, GameName, ParamsOf, Desc, Kept, StateCount, Position, State}
+use Rattle.play_save.specs.declared.key.WhichCount.TheVariants.{States, Position}
+use Rattle.play_save.specs.declared.key.HeaderKey.{HeaderKey}
+use Rattle.play_save.specs.declared.key.HeaderKey.TheVariants.{SaveFile, FormatVersion, GameName, ParamsOf, Desc, Kept, Count}
+use Rattle.play_save.specs.declared.key.Key.TheVariants.{Header, State}
 use Rattle.play_save.specs.Keys.{key_name, padded}
 use Rattle.play_save.specs.KeyedRecords.{KeyedRecord, KeyedState}
 use Rattle.play_save.specs.SaveTexts.{collection, is_solve}
@@ -29,10 +32,13 @@ records_text (r ∷ rs) = record_text r ++ records_text rs
 abbrev pub with_value : Key → List ℕ → KeyedRecord
 with_value k value = record { key = k; value = value }
 
+abbrev pub header_record : HeaderKey → List ℕ → KeyedRecord
+header_record k value = with_value (Header k) value
+
 -- bytes that are kept have a record
 abbrev pub kept_record : KeptKey → Option (List ℕ) → List KeyedRecord
 kept_record k None = []
-kept_record k (Some value) = with_value (Kept k) value ∷ []
+kept_record k (Some value) = header_record (Kept k) value ∷ []
 
 -- the state of a move, with the description of the puzzle for a restart
 abbrev pub state_value : List ℕ → Move → KeyedState
@@ -47,23 +53,23 @@ state_record desc m = with_value (State (state_value desc m).key) (state_value d
 -- the version, the game's name and the parameters
 abbrev pub game_records : {P : Type 0} → List ℕ → History P → List KeyedRecord
 game_records title h =
-    with_value FormatVersion (codes "1") ∷ with_value GameName title ∷ with_value (ParamsOf Next) (params_text h.next_params)
-    ∷ with_value (ParamsOf Current) (params_text h.params) ∷ []
+    header_record FormatVersion (codes "1") ∷ header_record GameName title ∷ header_record (ParamsOf Next) (params_text h.next_params)
+    ∷ header_record (ParamsOf Current) (params_text h.params) ∷ []
 
 -- the same behind the record that names the format
 abbrev pub head_records : {P : Type 0} → List ℕ → History P → List KeyedRecord
-head_records title h = with_value SaveFile collection ∷ game_records title h
+head_records title h = header_record SaveFile collection ∷ game_records title h
 
 -- the description, and what is kept
 abbrev pub body_records : {P : Type 0} → List ℕ → History P → List KeyedRecord
 body_records desc h =
-    kept_record Seed h.extras.seed ++ (with_value Desc desc ∷ (kept_record AuxInfo h.extras.auxinfo
+    kept_record Seed h.extras.seed ++ (header_record Desc desc ∷ (kept_record AuxInfo h.extras.auxinfo
     ++ (kept_record Ui h.extras.ui ++ kept_record Time h.extras.time)))
 
 -- the counts, and the states behind the first
 abbrev pub state_records : {P : Type 0} → List ℕ → History P → List KeyedRecord
 state_records desc h =
-    with_value StateCount (decimal (length h.moves + 1)) ∷ with_value Position (decimal h.position)
+    header_record (Count States) (decimal (length h.moves + 1)) ∷ header_record (Count Position) (decimal h.position)
     ∷ map (state_record desc) h.moves
 
 -- all of them in their order, of a game with this name

@@ -8,48 +8,35 @@ use thiserror::Error;
 
 /// Why a text isn't loaded as a save file, or a save file couldn't be written.
 #[derive(Clone, Copy, Debug, PartialEq, Eq, Error)]
+#[error("{}", self.name())]
 pub enum LoadFault {
     /// The first record isn't the one that names the format.
-    #[error("the text isn't a save file")]
     NotASave,
     /// The text isn't a record where one has to follow.
-    #[error("a record can't be read")]
     Malformed,
     /// The version isn't 1.
-    #[error("the version isn't 1")]
     Version,
     /// The save file is one of another game.
-    #[error("the save file is of another game")]
     WrongGame,
     /// A record that may stand once stands twice.
-    #[error("a record stands twice")]
     Repeated,
     /// A state record before the two counts.
-    #[error("a state stands before the counts of states")]
     EarlyState,
     /// A private description, a hint or a spent sign, which are left out here.
-    #[error("private descriptions, hints and spent signs are not supported")]
     Unsupported,
     /// Parameters that can't be read.
-    #[error("the parameters can't be read")]
     BadParams,
     /// The description can't be read at the size of the parameters.
-    #[error("the description can't be read")]
     BadDesc,
     /// A count that isn't a number from 1 to `MOST_STATES`, or a position behind the last state.
-    #[error("a count of states is out of range")]
     BadCount,
     /// A record that is needed isn't there.
-    #[error("a record is missing")]
     Missing,
     /// The state record with this number, counted from 1, is no move that can be made.
-    #[error("the state record {0} can't be played")]
     BadState(u32),
-    /// The text has more than 16,777,216 bytes.
-    #[error("the text is too large")]
+    /// The text has more than `MOST_BYTES` bytes.
     TooLarge,
     /// A growth was refused.
-    #[error("out of memory")]
     OutOfMemory,
 }
 

@@ -1,7 +1,7 @@
 //! What a record is about, by its key.
 
 ghost use Rattle.std.specs.Prelude.{◌≡◌};
-ghost use Rattle.play_save.specs.Keys.{key_of, header_key_of, kept_key_of, key_name, padded};
+ghost use Rattle.play_save.specs.Keys.{rank, key_of, header_key_of, pair_key_of, kept_key_of, key_name, padded};
 
 /// What a state record holds: the key says how the state was reached.
 #[derive(Clone, Copy, Debug, PartialEq, Eq)]
@@ -36,9 +36,18 @@ pub(crate) enum KeptKey {
     Time,
 }
 
-/// What a record is about.
+/// Which count of states.
 #[derive(Clone, Copy, Debug, PartialEq, Eq)]
-pub(crate) enum Key {
+pub(crate) enum WhichCount {
+    /// `NSTATES`, how many there are.
+    States,
+    /// `STATEPOS`, the number of the one that is shown.
+    Position,
+}
+
+/// The key of a record that may stand once.
+#[derive(Clone, Copy, Debug, PartialEq, Eq)]
+pub(crate) enum HeaderKey {
     /// `SAVEFILE`, which names the format.
     SaveFile,
     /// `VERSION`, of the format.
@@ -53,14 +62,42 @@ pub(crate) enum Key {
     PrivateDesc,
     /// One of those whose value is kept as it is.
     Kept(KeptKey),
-    /// `NSTATES`, how many states there are.
-    StateCount,
-    /// `STATEPOS`, the number of the state that is shown.
-    Position,
+    /// A count of states.
+    Count(WhichCount),
+}
+
+/// What a record is about.
+#[derive(Clone, Copy, Debug, PartialEq, Eq)]
+pub(crate) enum Key {
+    /// What may stand once.
+    Header(HeaderKey),
     /// A state behind the first.
     State(StateKey),
     /// Any other.
     Other,
+}
+
+impl HeaderKey {
+    /// Its place among the keys that may stand once, in the order in which they are written.
+    pub(crate) fn rank(self) -> u8
+        ensures { result ≡ rank self }
+    {
+        match self {
+            HeaderKey::SaveFile => 0,
+            HeaderKey::FormatVersion => 1,
+            HeaderKey::GameName => 2,
+            HeaderKey::ParamsOf(WhoseParams::Next) => 3,
+            HeaderKey::ParamsOf(WhoseParams::Current) => 4,
+            HeaderKey::Kept(KeptKey::Seed) => 5,
+            HeaderKey::Desc => 6,
+            HeaderKey::Kept(KeptKey::AuxInfo) => 7,
+            HeaderKey::Kept(KeptKey::Ui) => 8,
+            HeaderKey::Kept(KeptKey::Time) => 9,
+            HeaderKey::Count(WhichCount::States) => 10,
+            HeaderKey::Count(WhichCount::Position) => 11,
+            HeaderKey::PrivateDesc => 12,
+        }
+    }
 }
 
 impl Key {
@@ -85,23 +122,32 @@ impl Key {
         ensures { result ≡ header_key_of name.now }
     {
         if name == b"SAVEFILE".as_slice() {
-            Key::SaveFile
+            Key::Header(HeaderKey::SaveFile)
         } else if name == b"VERSION".as_slice() {
-            Key::FormatVersion
+            Key::Header(HeaderKey::FormatVersion)
         } else if name == b"GAME".as_slice() {
-            Key::GameName
-        } else if name == b"PARAMS".as_slice() {
-            Key::ParamsOf(WhoseParams::Next)
-        } else if name == b"CPARAMS".as_slice() {
-            Key::ParamsOf(WhoseParams::Current)
+            Key::Header(HeaderKey::GameName)
         } else if name == b"DESC".as_slice() {
-            Key::Desc
+            Key::Header(HeaderKey::Desc)
         } else if name == b"PRIVDESC".as_slice() {
-            Key::PrivateDesc
+            Key::Header(HeaderKey::PrivateDesc)
+        } else {
+            Key::of_pair(name)
+        }
+    }
+
+    // The same where it is one of two of its kind, or kept.
+    fn of_pair(name: &[u8]) -> Key
+        ensures { result ≡ pair_key_of name.now }
+    {
+        if name == b"PARAMS".as_slice() {
+            Key::Header(HeaderKey::ParamsOf(WhoseParams::Next))
+        } else if name == b"CPARAMS".as_slice() {
+            Key::Header(HeaderKey::ParamsOf(WhoseParams::Current))
         } else if name == b"NSTATES".as_slice() {
-            Key::StateCount
+            Key::Header(HeaderKey::Count(WhichCount::States))
         } else if name == b"STATEPOS".as_slice() {
-            Key::Position
+            Key::Header(HeaderKey::Count(WhichCount::Position))
         } else {
             Key::of_kept(name)
         }
@@ -112,13 +158,13 @@ impl Key {
         ensures { result ≡ kept_key_of name.now }
     {
         if name == b"SEED".as_slice() {
-            Key::Kept(KeptKey::Seed)
+            Key::Header(HeaderKey::Kept(KeptKey::Seed))
         } else if name == b"AUXINFO".as_slice() {
-            Key::Kept(KeptKey::AuxInfo)
+            Key::Header(HeaderKey::Kept(KeptKey::AuxInfo))
         } else if name == b"UI".as_slice() {
-            Key::Kept(KeptKey::Ui)
+            Key::Header(HeaderKey::Kept(KeptKey::Ui))
         } else if name == b"TIME".as_slice() {
-            Key::Kept(KeptKey::Time)
+            Key::Header(HeaderKey::Kept(KeptKey::Time))
         } else {
             Key::Other
         }
@@ -129,19 +175,19 @@ impl Key {
         ensures { result.now ≡ padded (key_name self) }
     {
         match self {
-            Key::SaveFile => b"SAVEFILE",
-            Key::FormatVersion => b"VERSION ",
-            Key::GameName => b"GAME    ",
-            Key::ParamsOf(WhoseParams::Next) => b"PARAMS  ",
-            Key::ParamsOf(WhoseParams::Current) => b"CPARAMS ",
-            Key::Kept(KeptKey::Seed) => b"SEED    ",
-            Key::Desc => b"DESC    ",
-            Key::PrivateDesc => b"PRIVDESC",
-            Key::Kept(KeptKey::AuxInfo) => b"AUXINFO ",
-            Key::Kept(KeptKey::Ui) => b"UI      ",
-            Key::Kept(KeptKey::Time) => b"TIME    ",
-            Key::StateCount => b"NSTATES ",
-            Key::Position => b"STATEPOS",
+            Key::Header(HeaderKey::SaveFile) => b"SAVEFILE",
+            Key::Header(HeaderKey::FormatVersion) => b"VERSION ",
+            Key::Header(HeaderKey::GameName) => b"GAME    ",
+            Key::Header(HeaderKey::ParamsOf(WhoseParams::Next)) => b"PARAMS  ",
+            Key::Header(HeaderKey::ParamsOf(WhoseParams::Current)) => b"CPARAMS ",
+            Key::Header(HeaderKey::Kept(KeptKey::Seed)) => b"SEED    ",
+            Key::Header(HeaderKey::Desc) => b"DESC    ",
+            Key::Header(HeaderKey::PrivateDesc) => b"PRIVDESC",
+            Key::Header(HeaderKey::Kept(KeptKey::AuxInfo)) => b"AUXINFO ",
+            Key::Header(HeaderKey::Kept(KeptKey::Ui)) => b"UI      ",
+            Key::Header(HeaderKey::Kept(KeptKey::Time)) => b"TIME    ",
+            Key::Header(HeaderKey::Count(WhichCount::States)) => b"NSTATES ",
+            Key::Header(HeaderKey::Count(WhichCount::Position)) => b"STATEPOS",
             Key::State(StateKey::AnyMove) => b"MOVE    ",
             Key::State(StateKey::SolveMove) => b"SOLVE   ",
             Key::State(StateKey::RestartMove) => b"RESTART ",

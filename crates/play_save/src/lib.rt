@@ -11,10 +11,11 @@
 #![tactic(auto)]
 
 mod fault;
-mod found;
 mod key;
 mod loading;
+mod met;
 mod record;
+mod save_format;
 mod save_laws;
 mod save_round;
 mod saving;
@@ -22,6 +23,7 @@ mod saving;
 pub use fault::LoadFault;
 pub use loading::load;
 pub use record::{Record, next_record};
+pub use save_format::MOST_BYTES;
 pub use save_laws::laws;
 pub use save_round::saved_and_loaded;
 pub use saving::save;

@@ -1,29 +1,24 @@
 //! Loading: a save text is read record by record, and its session is played.
 
-ghost use Rattle.std.specs.Prelude.{◌≡◌, ◌⊎◌, ℕ, ◌+◌, ◌-◌, ◌<◌, ◌≤◌, Some, None, Ok, Err, ok_or, IfOk, IfErr, OnOk, IfSome, length, map};
+ghost use Rattle.std.specs.Prelude.{◌≡◌, ◌+◌, ◌-◌, ◌<◌, ◌≤◌, Some, None, Ok, Err, ok_or, IfOk, IfErr, length, map};
 ghost use Rattle.std.specs.Result.{result_ok};
 ghost use Rattle.byte_text.specs.Reading.{Gives, GivesUnless};
 ghost use Rattle.play_midend.specs.declared.session.TheConstants.{MOST_STATES};
 ghost use Rattle.play_midend.specs.Histories.{History, started, at_position};
 ghost use Rattle.play_save.specs.Records.{record_at};
-ghost use Rattle.play_save.specs.SaveTexts.{saves_of, is_solve, SaveText};
-ghost use Rattle.play_save.specs.FirstFaults.{behind_head, records_of, met_in, state_move, state_played, states_played, session_of, load_at};
-ghost use Rattle.play_save.specs.Taking.{IsPlayable, bytes_of, kept_of, met_of, state_of};
+ghost use Rattle.play_save.specs.SaveTexts.{saves_of, SaveText};
+ghost use Rattle.play_save.specs.FirstFaults.{behind_head, records_of, met_in, state_move, extras_met, state_played, states_played, session_of, load_at};
+ghost use Rattle.play_save.specs.Inner.Taking.{IsPlayable, bytes_of, met_of, state_of};
 
 use crate::fault::LoadFault;
-use crate::found::{Found, KeptValues, StateRecord};
-use crate::key::{Key, StateKey};
+use crate::key::{HeaderKey, KeptKey, Key, StateKey, WhichCount, WhoseParams};
+use crate::met::{Met, StateRecord};
 use crate::record::next_record;
+use crate::save_format::{COLLECTION, MOST_BYTES, is_solve};
 use clue_rules::{Game, Params};
 use latin_board::Size;
 use play_midend::{Extras, KeptBytes, Move, PlayFault, Session, read_move};
 use std::alloc::{AllocError, Global};
-
-/// The size that a save text may have.
-const MOST_BYTES: usize = 16_777_216;
-
-/// The value of the first record, which names the format.
-pub(crate) const COLLECTION: &[u8] = b"Simon Tatham's Portable Puzzle Collection";
 
 // What follows the first record, which has to name the format.
 fn behind_head(bytes: &[u8]) -> Result<&[u8], LoadFault>
@@ -42,19 +37,19 @@ fn behind_head(bytes: &[u8]) -> Result<&[u8], LoadFault>
 }
 
 // Takes records in turn, up to the last that is needed. What follows is ignored.
-fn find<'a, P: Game>(alloc: Global, bytes: &'a [u8]) -> Result<Found<'a>, LoadFault>
+fn find<'a, P: Game>(alloc: Global, bytes: &'a [u8]) -> Result<Met<'a>, LoadFault>
     ensures given { GivesUnless LoadFault.OutOfMemory met_of result
         (met_in (saves_of P.Rules P.Game.own) (records_of bytes.now)) }
-    ensures playable { IfOk result (λ found. IsPlayable (met_of found)) }
+    ensures playable { IfOk result (λ met. IsPlayable (met_of met)) }
 {
-    let mut found = Found::new(alloc);
+    let mut met = Met::new(alloc);
     let mut rest = bytes;
-    while !found.is_complete() {
+    while !met.is_complete() {
         let (record, after) = next_record(rest)?.ok_or(LoadFault::Missing)?;
-        found.take::<P>(Key::of(record.key), record.value)?;
+        met.take::<P>(Key::of(record.key), record.value)?;
         rest = after;
     }
-    Ok(found)
+    Ok(met)
 }
 
 // The bytes of a record, kept for the session.
@@ -67,21 +62,15 @@ fn kept(alloc: Global, bytes: Option<&[u8]>) -> Result<Option<KeptBytes>, AllocE
     }
 }
 
-fn extras(alloc: Global, values: KeptValues) -> Result<Extras, AllocError>
-    ensures { IfOk result (λ extras. extras ≡ kept_of values.entry) }
+fn extras(alloc: Global, met: &Met) -> Result<Extras, AllocError>
+    ensures { IfOk result (λ extras. extras ≡ extras_met (met_of met.now)) }
 {
     Ok(Extras {
-        seed: kept(alloc, values.seed)?,
-        auxinfo: kept(alloc, values.auxinfo)?,
-        ui: kept(alloc, values.ui)?,
-        time: kept(alloc, values.time)?,
+        seed: kept(alloc, met.first(HeaderKey::Kept(KeptKey::Seed)))?,
+        auxinfo: kept(alloc, met.first(HeaderKey::Kept(KeptKey::AuxInfo)))?,
+        ui: kept(alloc, met.first(HeaderKey::Kept(KeptKey::Ui)))?,
+        time: kept(alloc, met.first(HeaderKey::Kept(KeptKey::Time)))?,
     })
-}
-
-pub(crate) fn is_solve(made: &Move) -> bool
-    ensures { result ≡ is_solve made.now }
-{
-    matches!(made, Move::Solve(_))
 }
 
 // The move of a state record, where it is one of the puzzle.
@@ -166,14 +155,14 @@ fn start<P: Game>(
     params: Params,
     next_params: Params,
     puzzle: P,
-    values: KeptValues,
+    met: &Met,
 ) -> Result<Session<P>, LoadFault>
     requires { params.size ≡ (P.puzzle puzzle).size }
     ensures ok { IfOk result (λ s.
-        s ≡ started puzzle params next_params (kept_of values.entry)) }
+        s ≡ started puzzle params next_params (extras_met (met_of met.now))) }
     ensures err { IfErr result (λ fault. fault ≡ LoadFault.OutOfMemory) }
 {
-    let extras = extras(alloc, values)?;
+    let extras = extras(alloc, met)?;
     match Session::new(alloc, params, next_params, puzzle, extras) {
         Ok(session) => Ok(session),
         Err(_) => Err(LoadFault::OutOfMemory),
@@ -182,28 +171,32 @@ fn start<P: Game>(
 
 // What the records say, as a session at their position.
 #[tactic(auto, unfolding(crate::specs::FirstFaults::session_of))]
-fn session<P: Game>(alloc: Global, found: &Found) -> Result<Session<P>, LoadFault>
-    requires { IsPlayable (met_of found.now) }
+fn session<P: Game>(alloc: Global, met: &Met) -> Result<Session<P>, LoadFault>
+    requires { IsPlayable (met_of met.now) }
     ensures { GivesUnless LoadFault.OutOfMemory (λ s. s) result
-        (session_of (saves_of P.Rules P.Game.own) (met_of found.now)) }
+        (session_of (saves_of P.Rules P.Game.own) (met_of met.now)) }
 {
-    if !found.version || !found.name {
+    if met.first(HeaderKey::FormatVersion).is_none() || met.first(HeaderKey::GameName).is_none() {
         return Err(LoadFault::Missing);
     }
-    let next_params = found.next_params.ok_or(LoadFault::Missing)?;
-    let params = found.params.ok_or(LoadFault::Missing)?;
-    let desc = found.desc.ok_or(LoadFault::Missing)?;
-    let position = found.position.ok_or(LoadFault::Missing)?;
+    let next_params = met
+        .params::<P>(WhoseParams::Next)
+        .ok_or(LoadFault::Missing)?;
+    let params = met
+        .params::<P>(WhoseParams::Current)
+        .ok_or(LoadFault::Missing)?;
+    let desc = met.first(HeaderKey::Desc).ok_or(LoadFault::Missing)?;
+    let position = met.count(WhichCount::Position).ok_or(LoadFault::Missing)?;
     let puzzle = read_puzzle::<P>(params.size, desc)?;
-    let mut session = start(alloc, params, next_params, puzzle, found.kept)?;
-    play_states(&mut session, &found.states)?;
+    let mut session = start(alloc, params, next_params, puzzle, met)?;
+    play_states(&mut session, &met.states)?;
     go_back(&mut session, position);
     Ok(session)
 }
 
 /// The session of which the bytes are a save.
 ///
-/// Refused, where the bytes are a save of no session: `TooLarge` for more than 16,777,216 bytes; `NotASave` where the first
+/// Refused, where the bytes are a save of no session: `TooLarge` for more than `MOST_BYTES` bytes; `NotASave` where the first
 /// record doesn't name the format; then the first fault of a record in turn, up to the last that is needed, `Malformed` where
 /// none can be read and `Missing` where none is left; then `Missing` where a record is missing still, `BadDesc`, and `BadState`
 /// with the number of the first state record that is wrong. `OutOfMemory` may come in place of any answer, and nothing is handed
@@ -226,6 +219,6 @@ fn read<P: Game>(alloc: Global, bytes: &[u8]) -> Result<Session<P>, LoadFault>
     if bytes.len() > MOST_BYTES {
         return Err(LoadFault::TooLarge);
     }
-    let found = find::<P>(alloc, behind_head(bytes)?)?;
-    session(alloc, &found)
+    let met = find::<P>(alloc, behind_head(bytes)?)?;
+    session(alloc, &met)
 }

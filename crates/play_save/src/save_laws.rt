@@ -8,7 +8,7 @@ use clue_rules::Game;
 /// The laws of save texts of a game, as the contracts of `save` and `load` see them.
 ///
 /// A text is a save of at most one session, and it has a first fault just where it is a save of no session. What is written of
-/// a storable session is a save of it, where it is no longer than 16,777,216 bytes; what is written of a valid session is a save
+/// a storable session is a save of it, where it is no longer than `MOST_BYTES` bytes; what is written of a valid session is a save
 /// of no other, and of none where the session isn't storable.
 pub fn laws<P: Game>()
     ensures one_session { SavesOneSession (saves_of P.Rules P.Game.own) }

@@ -1,13 +1,14 @@
 //! Saving: the records of a session, written in their order.
 
-ghost use Rattle.std.specs.Prelude.{◌≡◌, ℕ, ◌+◌, ◌++◌, [], ◌∷◌, length, map, Some, None, IfOk, IfErr, OnOk};
+ghost use Rattle.std.specs.Prelude.{◌≡◌, ◌+◌, ◌++◌, length, Some, IfOk, IfErr, OnOk};
 ghost use Rattle.std.specs.Fmt.{decimal};
+ghost use Rattle.play_save.specs.declared.key.HeaderKey.TheVariants.{Count};
 ghost use Rattle.play_midend.specs.Steps.{is_restart};
-ghost use Rattle.play_save.specs.Written.{with_value, record_text, records_text, kept_record, head_records, body_records, state_record, state_records, save_of};
+ghost use Rattle.play_save.specs.Written.{with_value, header_record, record_text, records_text, kept_record, head_records, body_records, state_record, state_records, save_of};
 
 use crate::fault::LoadFault;
-use crate::key::{KeptKey, Key, StateKey, WhoseParams};
-use crate::loading::{COLLECTION, is_solve};
+use crate::key::{HeaderKey, KeptKey, Key, StateKey, WhichCount, WhoseParams};
+use crate::save_format::{COLLECTION, is_solve};
 use clue_rules::Game;
 use play_midend::{Extras, KeptBytes, Move, Session, write_move};
 use std::alloc::{AllocError, Global};
@@ -30,13 +31,13 @@ fn put(text: &mut Vec<u8>, key: Key, value: &[u8]) -> Result<(), AllocError>
 }
 
 // Writes a number.
-fn put_count(text: &mut Vec<u8>, key: Key, count: usize) -> Result<(), AllocError>
+fn put_count(text: &mut Vec<u8>, which: WhichCount, count: usize) -> Result<(), AllocError>
     ensures { OnOk result (text.new.items
-        ≡ text.old.items ++ record_text (with_value key (decimal count))) }
+        ≡ text.old.items ++ record_text (header_record (Count which) (decimal count))) }
 {
     let alloc = *text.allocator();
     let value = format!(in alloc; "{count}")?;
-    put(text, key, value.as_bytes())
+    put(text, Key::Header(HeaderKey::Count(which)), value.as_bytes())
 }
 
 // Writes bytes that are kept, where there are any.
@@ -45,7 +46,7 @@ fn put_kept(text: &mut Vec<u8>, key: KeptKey, kept: &Option<KeptBytes>) -> Resul
         ≡ text.old.items ++ records_text (kept_record key kept.now)) }
 {
     if let Some(bytes) = kept {
-        put(text, Key::Kept(key), bytes.as_slice())?;
+        put(text, Key::Header(HeaderKey::Kept(key)), bytes.as_slice())?;
     }
     Ok(())
 }
@@ -54,17 +55,17 @@ fn put_head<P: Game>(text: &mut Vec<u8>, session: &Session<P>) -> Result<(), All
     ensures { OnOk result (text.new.items
         ≡ text.old.items ++ records_text (head_records P.title session.now)) }
 {
-    put(text, Key::SaveFile, COLLECTION)?;
-    put(text, Key::FormatVersion, b"1")?;
-    put(text, Key::GameName, P::name().as_bytes())?;
+    put(text, Key::Header(HeaderKey::SaveFile), COLLECTION)?;
+    put(text, Key::Header(HeaderKey::FormatVersion), b"1")?;
+    put(text, Key::Header(HeaderKey::GameName), P::name().as_bytes())?;
     put(
         text,
-        Key::ParamsOf(WhoseParams::Next),
+        Key::Header(HeaderKey::ParamsOf(WhoseParams::Next)),
         session.next_params().write().as_slice(),
     )?;
     put(
         text,
-        Key::ParamsOf(WhoseParams::Current),
+        Key::Header(HeaderKey::ParamsOf(WhoseParams::Current)),
         session.params().write().as_slice(),
     )?;
     Ok(())
@@ -80,7 +81,7 @@ fn put_body<P: Game>(
 {
     let extras = session.extras();
     put_kept(text, KeptKey::Seed, &extras.seed)?;
-    put(text, Key::Desc, desc)?;
+    put(text, Key::Header(HeaderKey::Desc), desc)?;
     put_kept(text, KeptKey::AuxInfo, &extras.auxinfo)?;
     put_kept(text, KeptKey::Ui, &extras.ui)?;
     put_kept(text, KeptKey::Time, &extras.time)?;
@@ -125,8 +126,8 @@ fn put_states<P: Game>(
         ≡ text.old.items ++ records_text (state_records desc.now session.now)) }
     ensures err { IfErr result (λ fault. fault ≡ LoadFault.OutOfMemory) }
 {
-    put_count(text, Key::StateCount, session.states())?;
-    put_count(text, Key::Position, session.position())?;
+    put_count(text, WhichCount::States, session.states())?;
+    put_count(text, WhichCount::Position, session.position())?;
     for i in 1..session.states() {
         put_state(text, session.move_at(i), desc)?;
     }
@@ -135,7 +136,7 @@ fn put_states<P: Game>(
 
 /// The save text of a session: what the usual program writes, without spaces at the ends of lines or other spellings.
 ///
-/// It has no limit of size, but what is longer than 16,777,216 bytes isn't loaded. `OutOfMemory` alone.
+/// It has no limit of size, but what is longer than `MOST_BYTES` bytes isn't loaded. `OutOfMemory` alone.
 #[tactic(auto, unfolding(crate::specs::Written::save_of))]
 pub fn save<P: Game>(alloc: Global, session: &Session<P>) -> Result<Vec<u8>, LoadFault>
     ensures written { IfOk result (λ text. text.items ≡ save_of P.title P.desc_of session.now) }

@@ -20,7 +20,7 @@ pub enum StartFault {
     #[error("the seeded game is refused: {0}")]
     Gen(GenFault),
     /// The file isn't a save of the game.
-    #[error("the file is refused: {0}")]
+    #[error("the file is refused: {0:?}")]
     Load(LoadFault),
     /// A growth was refused.
     #[error("out of memory")]

@@ -6,7 +6,7 @@ use Rattle.play_save.specs.Records.{record_at}
 use Rattle.play_save.specs.Views.{entry_of, parts_of}
 use Rattle.play_save.specs.SaveTexts.{saves_of}
 use Rattle.play_save.specs.FirstFaults.{is_complete, records_of}
-use Rattle.play_save.specs.Taking.{met_of}
+use Rattle.play_save.specs.Inner.Taking.{met_of}
 use Rattle.play_save.proofs.OptionSteps.{error_of_none}
 use Rattle.play_save.proofs.RecordLaws.{record_shorter}
 use Rattle.play_save.proofs.Counting.{playable}
@@ -14,17 +14,17 @@ use Rattle.play_save.proofs.ReadingOn.{reads_all, reads_done, reads_end, reads_b
 use Rattle.play_save.proofs.loading.find.Goals as goal
 
 pub loop-rest-init : goal.loop-rest-init
-loop-rest-init g c = rw c.new-found.ensures (reads_all (saves_of g.P.Rules g.P.Game) c.args.bytes.now)
+loop-rest-init g c = rw c.new-met.ensures (reads_all (saves_of g.P.Rules g.P.Game) c.args.bytes.now)
 
 pub returns-in_err-next_record-clause-given : goal.returns-in_err-next_record-clause-given
 returns-in_err-next_record-clause-given g c =
-    let undone : is_complete (met_of c.loop-rest.found) ≡ false = search rules in
+    let undone : is_complete (met_of c.loop-rest.met) ≡ false = search rules in
     let e = err_from_is_err_and c.from_residual.result c.from_residual.ensures.1 in
     rw (e.1, e.2) (inr (reads_broken c.loop-rest.invariant undone c.in_err-next_record.ensures.value))
 
 pub returns-in_err-record-clause-given : goal.returns-in_err-record-clause-given
 returns-in_err-record-clause-given g c =
-    let undone : is_complete (met_of c.loop-rest.found) ≡ false = search rules in
+    let undone : is_complete (met_of c.loop-rest.met) ≡ false = search rules in
     let none = c.in_err-record.ensures.ok_part in
     let read : record_at c.loop-rest.rest.now ≡ Ok None =
     c.in_ok-next_record.ensures.value ∙ ap (λ o. Ok (option_map parts_of o)) none in
@@ -35,7 +35,7 @@ returns-in_err-record-clause-given g c =
 
 pub returns-in_err-take-clause-given : goal.returns-in_err-take-clause-given
 returns-in_err-take-clause-given g c =
-    let undone : is_complete (met_of c.loop-rest.found) ≡ false = search rules in
+    let undone : is_complete (met_of c.loop-rest.met) ≡ false = search rules in
     let some = c.in_ok-record.ensures.ok_part in
     let read : record_at c.loop-rest.rest.now ≡ Ok (Some (entry_of c.in_ok-record.record, c.in_ok-record.after.now)) =
     c.in_ok-next_record.ensures.value ∙ ap (λ o. Ok (option_map parts_of o)) some in
@@ -52,7 +52,7 @@ loop-rest-smaller g c =
 
 pub loop-rest-preserved : goal.loop-rest-preserved
 loop-rest-preserved g c =
-    let undone : is_complete (met_of c.loop-rest.found) ≡ false = search rules in
+    let undone : is_complete (met_of c.loop-rest.met) ≡ false = search rules in
     let some = c.in_ok-record.ensures.ok_part in
     let read : record_at c.loop-rest.rest.now ≡ Ok (Some (entry_of c.in_ok-record.record, c.in_ok-record.after.now)) =
     c.in_ok-next_record.ensures.value ∙ ap (λ o. Ok (option_map parts_of o)) some in
@@ -61,11 +61,11 @@ loop-rest-preserved g c =
 
 pub returns-clause-given : goal.returns-clause-given
 returns-clause-given g c =
-    let complete : is_complete (met_of c.loop-rest.found) ≡ true = search rules in
+    let complete : is_complete (met_of c.loop-rest.met) ≡ true = search rules in
     reads_done c.loop-rest.invariant complete
 
 pub returns-clause-playable : goal.returns-clause-playable
 returns-clause-playable g c =
-    let complete : is_complete (met_of c.loop-rest.found) ≡ true = search rules in
+    let complete : is_complete (met_of c.loop-rest.met) ≡ true = search rules in
     let all = reads_done c.loop-rest.invariant complete in
-    playable (saves_of g.P.Rules g.P.Game) (records_of c.args.bytes.now) (met_of c.loop-rest.found) all
+    playable (saves_of g.P.Rules g.P.Game) (records_of c.args.bytes.now) (met_of c.loop-rest.met) all

@@ -1,7 +1,7 @@
 use Rattle.std.proofs.Common.{◌≡◌, ◌+◌, drop, map}
 use Rattle.play_save.specs.SaveTexts.{saves_of}
 use Rattle.play_save.specs.FirstFaults.{states_played}
-use Rattle.play_save.specs.Taking.{state_of}
+use Rattle.play_save.specs.Inner.Taking.{state_of}
 use Rattle.play_save.proofs.loading.play_states.Given as goal
 
 abbrev pub invariant-loop-index : goal.invariant-loop-index

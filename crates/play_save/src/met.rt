@@ -1,0 +1,219 @@
+//! What the records of a save file say, met one by one.
+
+ghost use Rattle.std.specs.Prelude.{◌≡◌, Some, None, ok_or, option_and_then, [], OnOk, IfErr};
+ghost use Rattle.std.specs.Result.{result_ok, result_err};
+ghost use Rattle.play_save.specs.declared.key.Key.TheVariants.{Header, State};
+ghost use Rattle.play_save.specs.SaveTexts.{saves_of};
+ghost use Rattle.play_save.specs.FirstFaults.{met, params_met, count_met, is_complete, count_at, fault_unless, go_together, count_fault, other_count, state_fault, value_fault, saved_params_at};
+ghost use Rattle.play_save.specs.Inner.Taking.{bytes_of, met_of, added, Taken};
+
+use crate::fault::LoadFault;
+use crate::key::{HeaderKey, Key, StateKey, WhichCount, WhoseParams};
+use byte_text::number;
+use clue_rules::{Game, Params};
+use play_midend::{MOST_STATES, PlayFault, read_move};
+use std::alloc::Global;
+
+/// A record that may stand once.
+#[derive(Clone, Copy, Debug)]
+pub(crate) struct HeaderRecord<'a> {
+    pub(crate) key: HeaderKey,
+    pub(crate) value: &'a [u8],
+}
+
+/// A state record.
+#[derive(Clone, Copy, Debug)]
+pub(crate) struct StateRecord<'a> {
+    pub(crate) key: StateKey,
+    pub(crate) value: &'a [u8],
+}
+
+/// What the records of a save file said so far.
+#[derive(Drop, Debug)]
+pub(crate) struct Met<'a> {
+    // Each of its own key.
+    headers: Vec<HeaderRecord<'a>>,
+    // The state records are played once the puzzle is known, which may stand behind them.
+    pub(crate) states: Vec<StateRecord<'a>>,
+}
+
+// A refusal, unless the test holds.
+fn refuse_unless(holds: bool, fault: LoadFault) -> Result<(), LoadFault>
+    ensures { result_err result ≡ fault_unless holds fault }
+{
+    if holds { Ok(()) } else { Err(fault) }
+}
+
+// A count of states: a decimal number from 1 to `MOST_STATES`.
+fn count(value: &[u8]) -> Option<usize>
+    ensures { result ≡ count_at value.now }
+{
+    match number(value, MOST_STATES as u64) {
+        Some(0) | None => None,
+        Some(n) => Some(n as usize),
+    }
+}
+
+// The position is no greater than the count of states.
+fn go_together(which: WhichCount, count: usize, other: usize) -> bool
+    ensures { result ≡ go_together which count other }
+{
+    match which {
+        WhichCount::States => other <= count,
+        WhichCount::Position => count <= other,
+    }
+}
+
+fn other_count(which: WhichCount) -> WhichCount
+    ensures { result ≡ other_count which }
+{
+    match which {
+        WhichCount::States => WhichCount::Position,
+        WhichCount::Position => WhichCount::States,
+    }
+}
+
+// Hints and spent signs are refused before their turn to be played has come.
+fn check_state(key: StateKey, value: &[u8]) -> Result<(), LoadFault>
+    ensures { result_err result ≡ state_fault key value.now }
+{
+    match key {
+        StateKey::RestartMove => Ok(()),
+        StateKey::AnyMove | StateKey::SolveMove => match read_move(value) {
+            Err(PlayFault::Unsupported) => Err(LoadFault::Unsupported),
+            _ => Ok(()),
+        },
+    }
+}
+
+impl<'a> Met<'a> {
+    /// Nothing yet.
+    pub(crate) fn new(alloc: Global) -> Met<'a>
+        ensures { met_of result ≡ met [] }
+    {
+        Met {
+            headers: Vec::new(alloc),
+            states: Vec::new(alloc),
+        }
+    }
+
+    /// The value that was met of a key.
+    pub(crate) fn first(&self, key: HeaderKey) -> Option<&'a [u8]>
+        ensures { bytes_of result ≡ (met_of self.now).first key }
+    {
+        for record in &self.headers {
+            if record.key.rank() == key.rank() {
+                return Some(record.value);
+            }
+        }
+        None
+    }
+
+    /// The parameters that were met.
+    pub(crate) fn params<P: Game>(&self, whose: WhoseParams) -> Option<Params>
+        ensures { result ≡ params_met (saves_of P.Rules P.Game.own) (met_of self.now) whose }
+    {
+        Params::read::<P>(self.first(HeaderKey::ParamsOf(whose))?).ok()
+    }
+
+    /// A count of states that was met.
+    pub(crate) fn count(&self, which: WhichCount) -> Option<usize>
+        ensures { result ≡ count_met (met_of self.now) which }
+    {
+        count(self.first(HeaderKey::Count(which))?)
+    }
+
+    /// Whether both counts were met, and all states behind the first.
+    pub(crate) fn is_complete(&self) -> bool
+        ensures { result ≡ is_complete (met_of self.now) }
+    {
+        match (
+            self.count(WhichCount::States),
+            self.count(WhichCount::Position),
+        ) {
+            (Some(count), Some(_)) => count <= self.states.len() + 1,
+            _ => false,
+        }
+    }
+
+    /// Takes one more record, of the game `P`, or refuses it: `Repeated` before the fault of its value.
+    pub(crate) fn take<P: Game>(&mut self, key: Key, value: &'a [u8]) -> Result<(), LoadFault>
+        ensures { Taken (saves_of P.Rules P.Game.own)
+            (met_of self.old) key value.now result (met_of self.new) }
+    {
+        match key {
+            Key::Header(key) => self.take_header::<P>(key, value),
+            Key::State(key) => self.take_state::<P>(key, value),
+            Key::Other => Ok(()),
+        }
+    }
+
+    fn take_header<P: Game>(&mut self, key: HeaderKey, value: &'a [u8]) -> Result<(), LoadFault>
+        ensures { Taken (saves_of P.Rules P.Game.own)
+            (met_of self.old) (Header key) value.now result (met_of self.new) }
+    {
+        if self.first(key).is_some() {
+            return Err(LoadFault::Repeated);
+        }
+        self.check_header::<P>(key, value)?;
+        self.keep(key, value)
+    }
+
+    // Keeps the first value of a key.
+    fn keep(&mut self, key: HeaderKey, value: &'a [u8]) -> Result<(), LoadFault>
+        requires { (met_of self.old).first key ≡ None }
+        ensures ok { OnOk result (met_of self.new
+            ≡ added (met_of self.old) (Header key) value.now) }
+        ensures err { IfErr result (λ fault. fault ≡ LoadFault.OutOfMemory) }
+    {
+        self.headers.push(HeaderRecord { key, value })?;
+        Ok(())
+    }
+
+    // A value that is the first of its key.
+    fn check_header<P: Game>(&self, key: HeaderKey, value: &[u8]) -> Result<(), LoadFault>
+        ensures { result_err result
+            ≡ value_fault (saves_of P.Rules P.Game.own) (met_of self.now) key value.now }
+    {
+        match key {
+            HeaderKey::SaveFile => Err(LoadFault::Repeated),
+            HeaderKey::FormatVersion => refuse_unless(value == b"1".as_slice(), LoadFault::Version),
+            HeaderKey::GameName => {
+                refuse_unless(value == P::name().as_bytes(), LoadFault::WrongGame)
+            }
+            HeaderKey::ParamsOf(_) => match Params::read::<P>(value) {
+                Ok(_) => Ok(()),
+                Err(_) => Err(LoadFault::BadParams),
+            },
+            HeaderKey::PrivateDesc => Err(LoadFault::Unsupported),
+            HeaderKey::Count(which) => self.check_count(which, value),
+            HeaderKey::Desc | HeaderKey::Kept(_) => Ok(()),
+        }
+    }
+
+    // A count has to go together with the other one, where that was met.
+    fn check_count(&self, which: WhichCount, value: &[u8]) -> Result<(), LoadFault>
+        ensures { result_err result ≡ count_fault which (count_at value.now)
+            (count_met (met_of self.now) (other_count which)) }
+    {
+        let Some(count) = count(value) else {
+            return Err(LoadFault::BadCount);
+        };
+        match self.count(other_count(which)) {
+            Some(other) => refuse_unless(go_together(which, count, other), LoadFault::BadCount),
+            None => Ok(()),
+        }
+    }
+
+    fn take_state<P: Game>(&mut self, key: StateKey, value: &'a [u8]) -> Result<(), LoadFault>
+        ensures { Taken (saves_of P.Rules P.Game.own)
+            (met_of self.old) (State key) value.now result (met_of self.new) }
+    {
+        if self.count(WhichCount::States).is_none() || self.count(WhichCount::Position).is_none() {
+            return Err(LoadFault::EarlyState);
+        }
+        check_state(key, value)?;
+        self.states.push(StateRecord { key, value })?;
+        Ok(())
+    }
+}
