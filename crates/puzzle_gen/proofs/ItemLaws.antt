@@ -72,5 +72,5 @@ cuts_of_full {P} f g laws grid latin =
       loses_none = λ a b h s.
           subst (λ (p : P). Solves (f.puzzle p) h) (laws.cut_cut (f.full_of g) a b is_valid)
           (laws.cut_solved (f.cut (f.full_of g) a) b h (laws.cut_valid (f.full_of g) a is_valid) s);
-      only_full = record { solution = laws.full_solved g grid latin; only = full_only f g laws grid latin };
+      only_full = record { solves = laws.full_solved g grid latin; only = full_only f g laws grid latin };
     }

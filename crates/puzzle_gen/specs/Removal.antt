@@ -4,13 +4,14 @@ use Rattle.latin_board.specs.Squares.{GridValue}
 use Rattle.trail_solver.specs.Puzzles.{Solves}
 use Rattle.trail_solver.specs.declared.rules.Rules.{Ghosts}
 use Rattle.puzzle_gen.specs.Orders.{place_in}
-use Rattle.puzzle_gen.specs.Pruning.{HasTwo, IsOnlySolution, IsPruned, all_but, rest_puzzle}
+use Rattle.trail_solver.specs.Solutions.{HasSeveralSolutions, IsOnlySolution}
+use Rattle.puzzle_gen.specs.Pruning.{IsPruned, all_but, rest_puzzle}
 
 -- what stands when the first k items of the order were tried
 pub record IsPrunedTo {P : Type 0} (f : Ghosts P) (g : GridValue) (order : List ℕ) (k : ℕ) (p : P) : Type 0 where
   pub is_cut : p ≡ f.cut (f.full_of g) (f.has p)
   pub tried : (i : ℕ) → i < f.items_of g.size → place_in i order < k
-      → IsTrue (f.has p i) ↔ HasTwo (f.puzzle (rest_puzzle f g order p i))
+      → IsTrue (f.has p i) ↔ HasSeveralSolutions (f.puzzle (rest_puzzle f g order p i))
   pub untried : (i : ℕ) → i < f.items_of g.size → k ≤ place_in i order → f.has p i ≡ true
   pub only : IsOnlySolution (f.puzzle p) g
 
@@ -31,4 +32,4 @@ pub record IsOnePruned {P : Type 0} (f : Ghosts P) (g : GridValue) (order : List
   pub valid : f.valid p
   pub size : (f.puzzle p).size ≡ g.size
   pub only_solution : IsOnlySolution (f.puzzle p) g
-  pub all_needed : (i : ℕ) → i < f.items_of g.size → IsTrue (f.has p i) → HasTwo (f.puzzle (f.cut p (all_but i)))
+  pub all_needed : (i : ℕ) → i < f.items_of g.size → IsTrue (f.has p i) → HasSeveralSolutions (f.puzzle (f.cut p (all_but i)))

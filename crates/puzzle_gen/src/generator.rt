@@ -3,7 +3,8 @@
 ghost use Rattle.std.specs.Prelude.{◌≡◌, ℕ, ◌<◌, ◌≤◌, Result, IfOk, IsTrue};
 ghost use Rattle.latin_board.specs.Squares.{IsLatin};
 ghost use Rattle.puzzle_gen.specs.SeededSquares.{drawn_order, square_of, trial_order};
-ghost use Rattle.puzzle_gen.specs.Pruning.{HasTwo, IsOnlySolution, all_but};
+ghost use Rattle.trail_solver.specs.Solutions.{HasSeveralSolutions, IsOnlySolution};
+ghost use Rattle.puzzle_gen.specs.Pruning.{all_but};
 ghost use Rattle.puzzle_gen.specs.Removal.{IsOnePruned};
 ghost use Rattle.puzzle_gen.specs.declared.gen_fault.GenFault.{GenFault};
 ghost use Rattle.puzzle_gen.specs.Generating.{Generates};
@@ -33,7 +34,7 @@ pub fn generate<P: Game>(params: &Params, seed: u64) -> Result<P, GenFault>
 
     // Without any one of its items it has several solutions.
     ensures all_needed { IfOk result (λ p. (i : ℕ) → i < P.items_of params.now.size
-        → IsTrue (P.has p i) → HasTwo (P.puzzle (P.cut p (all_but i)))) }
+        → IsTrue (P.has p i) → HasSeveralSolutions (P.puzzle (P.cut p (all_but i)))) }
 
     // Its description in the written form describes a puzzle, and that puzzle has exactly one solution.
     ensures described { IfOk result (λ p. P.describes (P.desc_of p) p) }

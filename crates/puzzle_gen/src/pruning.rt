@@ -5,7 +5,8 @@ ghost use Rattle.std.specs.Bool.{OnTrue, OnFalse};
 ghost use Rattle.latin_board.specs.Squares.{IsLatin};
 ghost use Rattle.trail_solver.specs.Puzzles.{Solves};
 ghost use Rattle.puzzle_gen.specs.Orders.{IsOrder};
-ghost use Rattle.puzzle_gen.specs.Pruning.{HasTwo, all_but};
+ghost use Rattle.trail_solver.specs.Solutions.{HasSeveralSolutions};
+ghost use Rattle.puzzle_gen.specs.Pruning.{all_but};
 ghost use Rattle.puzzle_gen.specs.Removal.{AreCuts, IsOnePruned, IsPrunedTo};
 
 use crate::forced_squares::is_forced;
@@ -78,9 +79,9 @@ fn item_at(order: &[u8], k: usize) -> usize
 fn tried<P: Rules>(puzzle: P, grid: &Grid, item: usize) -> P
     requires inside { item < P.items_of (P.puzzle puzzle).size }
     requires solved { Solves (P.puzzle puzzle) grid.now }
-    ensures { ((result ≡ puzzle) × HasTwo (P.puzzle (P.cut puzzle (all_but item))))
+    ensures { ((result ≡ puzzle) × HasSeveralSolutions (P.puzzle (P.cut puzzle (all_but item))))
         ⊎ ((result ≡ P.cut puzzle (all_but item))
-        × (HasTwo (P.puzzle (P.cut puzzle (all_but item))) → ⊥)) }
+        × (HasSeveralSolutions (P.puzzle (P.cut puzzle (all_but item))) → ⊥)) }
 {
     let _size = puzzle.size();
     let mut fewer = puzzle;
@@ -91,8 +92,8 @@ fn tried<P: Rules>(puzzle: P, grid: &Grid, item: usize) -> P
 // Whether two different grids solve the puzzle; the grid is one that does.
 fn has_two<P: Rules>(puzzle: &P, grid: &Grid) -> bool
     requires { Solves (P.puzzle puzzle.now) grid.now }
-    ensures two { OnTrue result (HasTwo (P.puzzle puzzle.now)) }
-    ensures one { OnFalse result (HasTwo (P.puzzle puzzle.now) → ⊥) }
+    ensures two { OnTrue result (HasSeveralSolutions (P.puzzle puzzle.now)) }
+    ensures one { OnFalse result (HasSeveralSolutions (P.puzzle puzzle.now) → ⊥) }
 {
     if is_forced(puzzle, grid) {
         return false;

@@ -4,6 +4,7 @@ pub mod Candidates
 pub mod Fields
 pub mod Squares
 pub mod Puzzles
+pub mod Solutions
 pub mod Answers
 pub mod Searches
 pub mod Listings

@@ -2,8 +2,9 @@
 ghost use Rattle.std.specs.Prelude.{◌≡◌, ℕ, ◌*◌, ◌<◌, ◌≤◌, ◌↔◌, ◌==◌, ◌&&◌, Bool, true, not, IsTrue};
 ghost use Rattle.std.specs.Bool.{OnFalse};
 ghost use Rattle.latin_board.specs.Squares.{GridValue, IsGrid, IsFull, IsLatin, number_at};
-ghost use Rattle.trail_solver.specs.Candidates.{IsEarlier, IsWithin};
+ghost use Rattle.trail_solver.specs.Candidates.{IsEarlier};
 ghost use Rattle.trail_solver.specs.Puzzles.{Puzzle, Solves, HoldsGivens, solves_test};
+ghost use Rattle.trail_solver.specs.Solutions.{HasNoSolutionWithin, KeepsSolutions};
 
 use crate::candidates::Candidates;
 use latin_board::{Grid, Size};
@@ -53,10 +54,8 @@ pub trait Rules: Copy {
     fn narrow(&self, candidates: &mut Candidates) -> bool
         requires { candidates.old.size ≡ (puzzle self.now).size }
         ensures less { IsEarlier candidates.old candidates.new }
-        ensures keeps { (g : GridValue) → Solves (puzzle self.now) g
-            → IsWithin candidates.old g → IsWithin candidates.new g }
-        ensures refutes { OnFalse result ((g : GridValue) → Solves (puzzle self.now) g
-            → IsWithin candidates.old g → ⊥) };
+        ensures keeps { KeepsSolutions (puzzle self.now) candidates.old candidates.new }
+        ensures refutes { OnFalse result (HasNoSolutionWithin (puzzle self.now) candidates.old) };
 
     /// Removes candidates as `narrow` does, where `narrow` left these, and then the cell alone lost some: it need look
     /// only at what follows from that. The sizes are equal, and the cell is one of the grid's.
@@ -64,10 +63,8 @@ pub trait Rules: Copy {
         requires size { candidates.old.size ≡ (puzzle self.now).size }
         requires inside { cell < candidates.old.size * candidates.old.size }
         ensures less { IsEarlier candidates.old candidates.new }
-        ensures keeps { (g : GridValue) → Solves (puzzle self.now) g
-            → IsWithin candidates.old g → IsWithin candidates.new g }
-        ensures refutes { OnFalse result ((g : GridValue) → Solves (puzzle self.now) g
-            → IsWithin candidates.old g → ⊥) }
+        ensures keeps { KeepsSolutions (puzzle self.now) candidates.old candidates.new }
+        ensures refutes { OnFalse result (HasNoSolutionWithin (puzzle self.now) candidates.old) }
     {
         // All squares are looked at, whichever of them lost a candidate.
         let _cell = cell;

@@ -5,6 +5,7 @@ ghost use Rattle.latin_board.specs.Squares.{GridValue};
 ghost use Rattle.trail_solver.specs.Candidates.{IsWithin};
 ghost use Rattle.trail_solver.specs.Squares.{AreSettled, IsBranch};
 ghost use Rattle.trail_solver.specs.Puzzles.{IsAmong, IsAmongAt, Solves};
+ghost use Rattle.trail_solver.specs.Solutions.{HasNoSolution};
 ghost use Rattle.trail_solver.specs.Searches.{AreSame, IsFurther};
 ghost use Rattle.trail_solver.specs.Answers.{Adds, Fits};
 
@@ -41,7 +42,7 @@ impl<P: Rules> Model for Search<P> {
 impl<P: Rules> Search<P> {
     /// The search of a puzzle at its start, or `None` where narrowing finds that there is no solution.
     pub fn start(p: &P) -> Option<Search<P>>
-        ensures { MatchOption result ((g : GridValue) → Solves (P.puzzle p.now) g → ⊥)
+        ensures { MatchOption result (HasNoSolution (P.puzzle p.now))
             (λ s. (s.rules ≡ p.now) × ((g : GridValue) → Solves (P.puzzle p.now) g
             → IsWithin s.candidates g)) }
     {

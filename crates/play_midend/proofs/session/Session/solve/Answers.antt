@@ -1,5 +1,5 @@
 use Rattle.std.proofs.lemmas.Result.{IfErr-weaker}
-use Rattle.play_midend.specs.Histories.{IsOnlySolution}
+use Rattle.trail_solver.specs.Solutions.{IsOnlySolution}
 use Rattle.play_midend.proofs.Playing.{solve_refused}
 use Rattle.play_midend.proofs.session.Session.solve.Goals as goal
 
