@@ -9,7 +9,6 @@ use Rattle.std.proofs.lemmas.Bool.Decides.{nat_tests}
 use Rattle.byte_text.specs.Reading.{◌>>=◌}
 use Rattle.clue_rules.specs.declared.params.Params.{Params}
 use Rattle.clue_rules.specs.Parameters.{IsParamText}
-use Rattle.clue_rules.specs.Parameters.{has_adjacent}
 use Rattle.clue_rules.proofs.ParameterLemmas.{params_again}
 use Rattle.play_midend.specs.declared.moves.Move.{Move}
 use Rattle.play_midend.specs.Histories.{History, started}
@@ -148,7 +147,7 @@ ranges game rs h s = record {
 
 params_good : {P : Type 0} (game : SavedGame P) (p : Params) (value : List ℕ)
     → IsParamText game.letters p value → saved_params_at game value ≡ Ok p
-params_good game p value is = params_again game.letters (has_adjacent game.title) value p is
+params_good game p value is = params_again game.letters game.has_adjacent value p is
 
 -- a count that stands, and not from a state record on, was met before it
 met_before : (c : Key) (v : List ℕ) (k : StateKey) (value : List ℕ) (before later : List KeyedRecord)

@@ -8,7 +8,6 @@ use Rattle.byte_text.proofs.ReadingLaws.{bind_taken}
 use Rattle.clue_rules.specs.declared.id_fault.IdFault.{IdFault}
 use Rattle.clue_rules.specs.declared.params.Params.{Params}
 use Rattle.clue_rules.specs.Parameters.{IsParamText}
-use Rattle.clue_rules.specs.Parameters.{has_adjacent}
 use Rattle.clue_rules.proofs.ParameterLemmas.{params_taken}
 use Rattle.play_midend.specs.Histories.{History, started, at_position}
 use Rattle.play_midend.specs.MoveLists.{with_moves}
@@ -86,7 +85,7 @@ params_are : {P : Type 0} (game : SavedGame P) (rs : List KeyedRecord) (k : Key)
 params_are game rs k p single header right is =
     let read = map_taken (saved_params_at game) (first_of (values_of k rs)) (Ok p) (needed_params_taken _ p is) in
     let at = alone_at game rs k read.0 single header right read.1 in
-    (read.0, at.alone, params_taken game.letters (has_adjacent game.title) read.0 p read.2)
+    (read.0, at.alone, params_taken game.letters game.has_adjacent read.0 p read.2)
 
 -- the counts
 count_stands : {P : Type 0} (game : SavedGame P) (rs : List KeyedRecord) (k : Key) (n : ℕ)

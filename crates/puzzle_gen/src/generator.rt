@@ -52,7 +52,7 @@ pub fn generate<P: Game>(params: &Params, seed: u64) -> Result<P, GenFault>
 }
 
 // The pruned puzzle of a seed.
-fn seeded<P: Rules>(size: Size, seed: u64) -> P
+fn seeded<P: Game>(size: Size, seed: u64) -> P
     requires { size ≤ 6 }
     ensures { IsOnePruned ⟦<P as Rules>⟧ (square_of size seed)
         (trial_order (P.items_of size) size seed) result }
@@ -63,7 +63,7 @@ fn seeded<P: Rules>(size: Size, seed: u64) -> P
 }
 
 // The puzzle of a square, pruned in an order that is drawn next.
-fn pruned_next<P: Rules, R: Rng>(grid: &Grid, rng: &mut R) -> P
+fn pruned_next<P: Game, R: Rng>(grid: &Grid, rng: &mut R) -> P
     requires small { grid.now.size ≤ 6 }
     requires latin { IsLatin grid.now }
     ensures { IsOnePruned ⟦<P as Rules>⟧ grid.now

@@ -96,9 +96,6 @@ pub trait Rules: Copy {
     ghost valid_given: { (p : Self) (cell : ℕ) → valid p → cell < (puzzle p).size * (puzzle p).size
         → (puzzle p).given cell ≤ (puzzle p).size };
 
-    // A puzzle of a size that is generated, 3 to 6, has few items.
-    ghost few_items: { (n : ℕ) → 3 ≤ n → n ≤ 6 → items_of n ≤ 96 };
-
     // A cut has the items that were there and are in the set. To cut with every item is to change nothing, two cuts
     // are one, and only the items that the puzzle has matter.
     ghost cut_valid: { (p : Self) (keep : ℕ → Bool) → valid p → valid (cut p keep) };

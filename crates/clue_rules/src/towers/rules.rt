@@ -162,8 +162,6 @@ impl Rules for Towers {
 
     ghost valid_given = { laws.valid_given };
 
-    ghost few_items = { laws.few_items };
-
     ghost cut_valid = { laws.cut_valid };
 
     ghost cut_size = { λ p keep h. refl };

@@ -152,8 +152,6 @@ impl Rules for Unequal {
 
     ghost valid_given = { laws.valid_given };
 
-    ghost few_items = { laws.few_items };
-
     ghost cut_valid = { laws.cut_valid };
 
     ghost cut_size = { λ p keep h. refl };
