@@ -10,7 +10,7 @@ use Rattle.latin_board.proofs.LatinLines.{latin_full, peers_differ, some_width}
 use Rattle.latin_board.proofs.Numbers.{number_within, same_numbers}
 use Rattle.trail_solver.specs.Puzzles.{Puzzle, Solves}
 use Rattle.trail_solver.specs.Solutions.{HasSeveralSolutions}
-use Rattle.puzzle_gen.specs.ForcedSquares.{HasFound, IsForced, StandsAtPeer}
+use Rattle.puzzle_gen.specs.Inner.ForcedSquares.{HasFound, IsForced, StandsAtPeer}
 
 -- ---- what is seen from a blank square
 

@@ -1,5 +1,5 @@
 -- How the pruned puzzle comes about, item by item, and that there is just one.
-use Rattle.std.proofs.Common.{◌≡◌, ◌≢◌, ◌↔◌, ℕ, zero, suc, ◌+◌, ◌<◌, ◌≤◌, Bool, true, false, not, ◌&&◌, List, get_or, IsTrue, inl, inr, refl, sym, ◌∙◌, ap, subst, arith, eq-eqb}
+use Rattle.std.proofs.Common.{◌≡◌, ◌≢◌, ◌↔◌, ℕ, zero, suc, ◌+◌, ◌<◌, ◌≤◌, ◌⊎◌, length, Bool, true, false, not, ◌&&◌, List, get_or, IsTrue, inl, inr, refl, sym, ◌∙◌, ap, subst, arith, eq-eqb}
 use Rattle.std.proofs.lemmas.Bool.{cases_eq, cases_order, ne_eqb, lt-ltb, le-ltb}
 use Rattle.latin_board.specs.Squares.{GridValue, IsGrid, IsLatin}
 use Rattle.latin_board.specs.Sameness.{same_grid, same_grid_decides}
@@ -8,7 +8,7 @@ use Rattle.trail_solver.specs.declared.rules.Rules.{Ghosts}
 use Rattle.puzzle_gen.specs.Orders.{place_in, IsOrder}
 use Rattle.trail_solver.specs.Solutions.{HasSeveralSolutions, IsOnlySolution}
 use Rattle.puzzle_gen.specs.Pruning.{all_but, IsPruned, rest, rest_puzzle}
-use Rattle.puzzle_gen.specs.Removal.{AreCuts, IsPrunedTo}
+use Rattle.puzzle_gen.proofs.ItemLaws.{AreCuts, ItemLaws}
 
 all_but_itself : (i : ℕ) → all_but i i ≡ false
 all_but_itself i = ap not (eq-eqb i i refl)
@@ -117,6 +117,14 @@ only_of_not_two p g s single = record {
 
 -- ---- the pruning
 
+-- what stands when the first k items of the order were tried
+pub record IsPrunedTo {P : Type 0} (f : Ghosts P) (g : GridValue) (order : List ℕ) (k : ℕ) (p : P) : Type 0 where
+  pub is_cut : p ≡ f.cut (f.full_of g) (f.has p)
+  pub tried : (i : ℕ) → i < f.items_of g.size → place_in i order < k
+      → IsTrue (f.has p i) ↔ HasSeveralSolutions (f.puzzle (rest_puzzle f g order p i))
+  pub untried : (i : ℕ) → i < f.items_of g.size → k ≤ place_in i order → f.has p i ≡ true
+  pub only : IsOnlySolution (f.puzzle p) g
+
 -- the full puzzle, before any
 pub pruned_none : {P : Type 0} (f : Ghosts P) (g : GridValue) (order : List ℕ) → AreCuts f g → IsPrunedTo f g order 0 (f.full_of g)
 pruned_none f g order cuts =
@@ -219,6 +227,30 @@ pruned_all f g order k p grid latin is_order whole so_far = record {
   is_cut = so_far.is_cut;
   each = λ i small. so_far.tried i small (omega (arith, is_order.inside i small));
 }
+
+-- ---- the loop that tries them
+
+pub pruned_valid : {P : Type 0} (f : Ghosts P) (g : GridValue) (order : List ℕ) (k : ℕ) (p : P) → ItemLaws f → IsGrid g → IsLatin g
+    → IsPrunedTo f g order k p → f.valid p
+pruned_valid f g order k p laws grid latin so_far =
+    subst f.valid (sym so_far.is_cut) (laws.cut_valid (f.full_of g) (f.has p) (laws.full_valid g grid latin))
+
+-- one item more is tried: it stays or it goes
+pub pruned_next : {P : Type 0} (f : Ghosts P) (g : GridValue) (order : List ℕ) (k i : ℕ) (p q : P) → AreCuts f g
+    → IsOrder (f.items_of g.size) order → k < length order → i ≡ get_or order k 0 → IsPrunedTo f g order k p
+    → ((q ≡ p) × HasSeveralSolutions (f.puzzle (f.cut p (all_but i))))
+    ⊎ ((q ≡ f.cut p (all_but i)) × (HasSeveralSolutions (f.puzzle (f.cut p (all_but i))) → ⊥))
+    → IsPrunedTo f g order (k + 1) q
+pruned_next {P} f g order k i p q cuts is_order below is so_far tried =
+    let within : k < f.items_of g.size = omega (arith, is_order.count) in
+    let small : i < f.items_of g.size = omega (arith, is_order.items k within, is) in
+    let here : place_in i order ≡ k = ap (λ (j : ℕ). place_in j order) is ∙ is_order.places k within in
+    elim tried [
+      | inl stays ↦
+          let To : P → Type 0 = λ r. IsPrunedTo f g order (k + 1) r in
+          subst To (sym stays.0) (pruned_stays f g order k i p cuts is_order small here so_far stays.1)
+      | inr goes ↦ pruned_goes f g order k i p q cuts is_order small here so_far goes.1 goes.0
+    ]
 
 -- ---- there is just one
 

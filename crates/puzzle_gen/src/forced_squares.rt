@@ -5,7 +5,7 @@ ghost use Rattle.std.specs.Bool.{OnTrue};
 ghost use Rattle.latin_board.specs.Squares.{GridValue, IsFull, IsGrid, IsLatin, number_at};
 ghost use Rattle.trail_solver.specs.Puzzles.{Solves};
 ghost use Rattle.trail_solver.specs.Solutions.{HasSeveralSolutions};
-ghost use Rattle.puzzle_gen.specs.ForcedSquares.{HasFound, IsForced, StandsAtPeer};
+ghost use Rattle.puzzle_gen.specs.Inner.ForcedSquares.{HasFound, IsForced, StandsAtPeer};
 
 use latin_board::Grid;
 use trail_solver::Rules;
