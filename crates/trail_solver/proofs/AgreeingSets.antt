@@ -9,7 +9,7 @@ use Rattle.std.proofs.lemmas.Option.{get_or_from_slice_get, slice_get_within}
 use Rattle.latin_board.specs.Marks.{has_mark, full_marks}
 use Rattle.latin_board.proofs.MarkSets.{has_mark-full_marks}
 use Rattle.trail_solver.specs.Pairs.{IsPair, AreApart, has_pair}
-use Rattle.trail_solver.specs.Fields.{AgreesWithTrail, FlipsBit}
+use Rattle.trail_solver.specs.Inner.Fields.{AgreesWithTrail, FlipsBit}
 use Rattle.trail_solver.proofs.Trails.{same_pair, pair_from_test, test_from_pair, has_pair-push, apart_push, apart_front, length-le_from_apart}
 
 -- a grid of the size has at most 81 squares

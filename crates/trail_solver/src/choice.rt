@@ -2,7 +2,7 @@
 
 ghost use Rattle.std.specs.Prelude.{MatchOption};
 ghost use Rattle.std.specs.Bool.{OnTrue};
-ghost use Rattle.trail_solver.specs.Squares.{AreSettled, IsBranch, IsChoice, IsFirstOpen, IsOpen};
+ghost use Rattle.trail_solver.specs.Inner.Squares.{AreSettled, IsBranch, IsChoice, IsFirstOpen, IsOpen};
 
 use crate::candidates::Candidates;
 use crate::failures::Failures;

@@ -2,12 +2,15 @@
 ghost use Rattle.std.specs.Prelude.{◌≡◌, ◌*◌, ◌<◌, ◌≤◌, length, MatchOption};
 ghost use Rattle.std.specs.Bool.{OnFalse};
 ghost use Rattle.latin_board.specs.Squares.{GridValue};
+ghost use Rattle.trail_solver.specs.declared.candidates.TheConstants.{PAIRS};
 ghost use Rattle.trail_solver.specs.Candidates.{IsWithin};
-ghost use Rattle.trail_solver.specs.Squares.{AreSettled, IsBranch};
-ghost use Rattle.trail_solver.specs.Puzzles.{IsAmong, IsAmongAt, Solves};
+ghost use Rattle.trail_solver.specs.Inner.Squares.{AreSettled, IsBranch};
+ghost use Rattle.trail_solver.specs.Inner.Among.{IsAmong, IsAmongAt};
+ghost use Rattle.trail_solver.specs.Puzzles.{Solves};
 ghost use Rattle.trail_solver.specs.Solutions.{HasNoSolution};
-ghost use Rattle.trail_solver.specs.Searches.{AreSame, IsFurther};
-ghost use Rattle.trail_solver.specs.Answers.{Adds, Fits};
+ghost use Rattle.trail_solver.specs.Inner.Searches.{AreSame, IsFurther};
+ghost use Rattle.trail_solver.specs.Inner.Added.{Adds};
+ghost use Rattle.trail_solver.specs.Answers.{Fits};
 
 use crate::answer::{Answer, added};
 use crate::candidates::Candidates;
@@ -30,7 +33,7 @@ pub(crate) struct Search<P: Rules> {
 
 impl<P: Rules> Model for Search<P> {
     ghost use Rattle.std.specs.Prelude.{◌≡◌};
-    ghost use Rattle.trail_solver.specs.Searches.{SearchValue};
+    ghost use Rattle.trail_solver.specs.Inner.Searches.{SearchValue};
 
     ghost Value = { SearchValue P };
 
@@ -115,7 +118,7 @@ impl<P: Rules> Search<P> {
         requires { IsBranch self.old.candidates cell value }
         ensures further { IsFurther self.old self.new }
         ensures longer { length self.old.candidates.trail < length self.new.candidates.trail }
-        ensures room { length self.old.candidates.trail < 729 }
+        ensures room { length self.old.candidates.trail < PAIRS }
         ensures same { AreSame (IsAmongAt (P.puzzle self.old.rules) self.old.candidates cell value)
             (IsAmong (P.puzzle self.new.rules) self.new.candidates) }
         ensures refutes { OnFalse result ((g : GridValue)

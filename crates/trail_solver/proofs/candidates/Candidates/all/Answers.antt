@@ -1,5 +1,5 @@
 use Rattle.std.proofs.Common.{ℕ, List, replicate, sym, subst, ◌*◌, ◌^◌, ◌%◌, ◌+◌, ◌-◌}
-use Rattle.trail_solver.specs.Fields.{AgreesWithTrail}
+use Rattle.trail_solver.specs.Inner.Fields.{AgreesWithTrail}
 use Rattle.trail_solver.proofs.AgreeingSets.{agrees_at_start}
 use Rattle.trail_solver.proofs.candidates.Candidates.all.Goals as goal
 
