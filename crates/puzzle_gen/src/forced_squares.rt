@@ -1,6 +1,6 @@
 //! A quick test for puzzles with many givens: whether rows and columns alone lead from them to the known solution.
 
-ghost use Rattle.std.specs.Prelude.{◌≡◌, ◌≢◌, ℕ, ◌*◌, ◌<◌, ◌≤◌, true, false, slice_index_or};
+ghost use Rattle.std.specs.Prelude.{◌≡◌, ℕ, ◌*◌, ◌<◌, ◌≤◌, true, false, slice_index_or};
 ghost use Rattle.std.specs.Bool.{OnTrue};
 ghost use Rattle.latin_board.specs.Squares.{GridValue, IsFull, IsGrid, IsLatin, number_at};
 ghost use Rattle.trail_solver.specs.Puzzles.{Solves};

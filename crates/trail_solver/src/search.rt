@@ -1,5 +1,5 @@
 //! A search: the rules of a puzzle, the candidates that are left, and where it failed.
-ghost use Rattle.std.specs.Prelude.{◌≡◌, ◌*◌, ◌<◌, ◌≤◌, length, MatchOption};
+ghost use Rattle.std.specs.Prelude.{◌≡◌, ◌*◌, ◌<◌, length, MatchOption};
 ghost use Rattle.std.specs.Bool.{OnFalse};
 ghost use Rattle.latin_board.specs.Squares.{GridValue};
 ghost use Rattle.trail_solver.specs.declared.candidates.TheConstants.{PAIRS};

@@ -1,6 +1,6 @@
 -- What holds of the fields of `Candidates`: the bit sets say what the trail says.
 use Rattle.std.specs.Prelude.{◌≡◌, ℕ, ◌*◌, ◌<◌, ◌≤◌, ◌==◌, nat_le, Bool, true, not, ◌&&◌, if◌then◌else◌, List, length, slice_index}
-use Rattle.trail_solver.specs.declared.candidates.TheConstants.{CELLS}
+use Rattle.latin_board.specs.declared.grid.TheConstants.{CELLS}
 use Rattle.latin_board.specs.Marks.{has_mark}
 use Rattle.trail_solver.specs.Pairs.{IsPair, AreApart, has_pair}
 
