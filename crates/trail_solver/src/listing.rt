@@ -53,6 +53,7 @@ struct Listing<P: Rules> {
 impl<P: Rules> Listing<P> {
     // Lists the solutions among the candidates, while there is room.
     #[cycle(listing)]
+    #[tactic(auto, using(crate::proofs::ListingSteps::none_lists, crate::proofs::ListingSteps::only_lists))]
     fn list(&mut self) -> Result<(), OutOfMemory>
         requires { length self.old.listed.items < self.old.limit }
         ensures further { IsFurther self.old.search self.new.search }
@@ -91,6 +92,7 @@ impl<P: Rules> Listing<P> {
 
     // Lists those that have the value in the cell, and leaves the candidates as they were.
     #[cycle(listing)]
+    #[tactic(auto, using(crate::proofs::ListingSteps::full_lists, crate::proofs::ListingSteps::guess_lists_none))]
     fn list_guess(&mut self, cell: usize, value: u8) -> Result<(), OutOfMemory>
         requires open_cell { IsOpen self.old.search.candidates cell }
         requires pair { IsPair self.old.search.candidates.size cell value }
@@ -118,6 +120,7 @@ impl<P: Rules> Listing<P> {
     }
 
     // Lists the only grid of the candidates, where it is a solution.
+    #[tactic(auto, using(crate::proofs::ListingSteps::leaf_lists, crate::proofs::ListingSteps::leaf_lists_none))]
     fn list_leaf(&mut self) -> Result<(), OutOfMemory>
         requires settled { AreSettled self.old.search.candidates }
         requires room { length self.old.listed.items < self.old.limit }

@@ -136,6 +136,7 @@ pub trait Rules: Copy {
 
 /// Whether the grid is a solution of the puzzle: Latin, with the puzzle's givens, and meeting its clues or signs; the
 /// sizes are equal.
+#[tactic(auto, using(crate::proofs::SolutionTests::tested_in_two, crate::proofs::SolutionTests::tested_in_one))]
 pub fn solves<P: Rules>(p: &P, grid: &Grid) -> bool
     requires { grid.now.size ≡ (P.puzzle p.now).size }
     ensures rule { IsTrue result ↔ Solves (P.puzzle p.now) grid.now }

@@ -129,6 +129,7 @@ impl<P: Rules> Search<P> {
     }
 
     // Narrows candidates that the cell lost, and notes where that failed.
+    #[tactic(auto, using(crate::proofs::AmongCandidates::among_narrowed, crate::proofs::AmongCandidates::among_earlier))]
     fn propagate(&mut self, cell: usize) -> bool
         requires { cell < self.old.candidates.size * self.old.candidates.size }
         ensures further { IsFurther self.old self.new }
@@ -145,6 +146,7 @@ impl<P: Rules> Search<P> {
     }
 
     // Adds the only grid of the candidates, where it is a solution.
+    #[tactic(auto, using(crate::proofs::SearchSteps::leaf_adds, crate::proofs::SearchSteps::leaf_none))]
     fn at_leaf(&self, found: Answer) -> Answer
         requires { AreSettled self.now.candidates }
         ensures { Adds (IsAmong (P.puzzle self.now.rules) self.now.candidates) found result }

@@ -1,27 +1,15 @@
-use Rattle.std.proofs.Common.{◌≡◌, ℕ, false, length, refl, sym, ◌∙◌, subst, OnOk, arith}
+use Rattle.std.proofs.Common.{◌≡◌, ℕ, refl, sym, ◌∙◌, subst, OnOk, arith}
 use Rattle.std.proofs.lemmas.Bool.{OnFalse_at}
 use Rattle.std.proofs.lemmas.Result.{on_ok_weaker}
-use Rattle.trail_solver.specs.Candidates.{may_be}
 use Rattle.trail_solver.specs.Inner.Among.{IsAmong, IsAmongAt}
 use Rattle.trail_solver.specs.Inner.Searches.{SearchValue, IsFurther}
 use Rattle.trail_solver.specs.Inner.Listed.{Lists}
 use Rattle.trail_solver.specs.declared.listing.Listing.{Listing}
 use Rattle.trail_solver.proofs.SearchSteps.{further_trans, given_back}
 use Rattle.trail_solver.proofs.ListedSolutions.{lists_same}
-use Rattle.trail_solver.proofs.ListingSteps.{none_lists, only_lists, guess_lists_none, full_lists, value_lists_none, value_lists_more, value_lists_all}
+use Rattle.trail_solver.proofs.ListingSteps.{none_lists, value_lists_none, value_lists_more, value_lists_all}
 use Rattle.trail_solver.proofs.listing.Listing.+listing.Goals as goal
 use Rattle.trail_solver.proofs.listing.Listing.+listing.Goals.{list_guess-then-assume, list_guess-else-assume}
-
-pub list-returns-in-None-clause-lists : goal.list-returns-in-None-clause-lists
-list-returns-in-None-clause-lists g t c =
-    let now = c.args.self.now.search in
-    none_lists (IsAmong (g.P.Rules.puzzle now.rules) now.candidates) c.args.self.now.limit c.args.self.now.listed.items c.in-None.ensures.fits
-
-pub list-returns-in_ok-push-in-One-clause-lists : goal.list-returns-in_ok-push-in-One-clause-lists
-list-returns-in_ok-push-in-One-clause-lists g t c =
-    let now = c.args.self.now.search in
-    let fits = c.in-One.ensures.fits in
-    only_lists (IsAmong (g.P.Rules.puzzle now.rules) now.candidates) c.in-One.grid c.args.self.now.limit c.args.self.now.listed.items c.push.new.self.items fits.0 fits.1 c.requires c.in_ok-push-in-One.ensures.items
 
 pub list_values-loop-value-init : goal.list_values-loop-value-init
 list_values-loop-value-init g t c =
@@ -51,21 +39,6 @@ list_values-returns-clause-lists g t c =
     let size : now.candidates.size ≡ (g.P.Rules.puzzle now.rules).size = rw (← c.self.view_is) c.self.invariant in
     let width : c.get-width.result ≡ now.candidates.size = rw (← c.self.view_is) (c.get-width.ensures.value ∙ c.size.ensures.value) in
     value_lists_all (g.P.Rules.puzzle now.rules) now.candidates c.args.cell c.loop-value.value first.limit first.listed.items c.loop-value.self.listed.items size c.requires.first.is_open.inside (omega arith) c.loop-value.invariant.2
-
-pub list_guess-returns-then-len-self-clause-lists : goal.list_guess-returns-then-len-self-clause-lists
-list_guess-returns-then-len-self-clause-lists g t c =
-    let now = c.args.self.now in
-    let inside = c.self.inside.0 in
-    let full_inside : length inside.1.1.0.items ≡ inside.1.0 = omega arith in
-    let full : length now.listed.items ≡ now.limit = rw (← c.self.view_is) full_inside in
-    full_lists (IsAmongAt (g.P.Rules.puzzle now.search.rules) now.search.candidates c.args.cell c.args.value) now.limit now.listed.items full
-
-pub list_guess-returns-then-not-may-clause-lists : goal.list_guess-returns-then-not-may-clause-lists
-list_guess-returns-then-not-may-clause-lists g t c =
-    let now = c.args.self.now in
-    let old = now.search in
-    let gone : may_be c.self.inside.0.0.candidates c.args.cell c.args.value ≡ false = rw (← c.may.ensures) c.if-not-may.true in
-    guess_lists_none (g.P.Rules.puzzle old.rules) old.candidates c.args.cell c.args.value now.limit now.listed.items c.requires.open_cell.inside (rw (← c.self.view_is) gone)
 
 pub list_guess-returns-clause-same : goal.list_guess-returns-clause-same
 list_guess-returns-clause-same g t c =
