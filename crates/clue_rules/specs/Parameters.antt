@@ -1,8 +1,7 @@
 -- Parameters of a game: their text, and reading it.
-use Rattle.std.specs.Prelude.{◌≡◌, ℕ, ◌+◌, ◌≤◌, List, [], ◌∷◌, Contains, Option, Some, None, IfSome, ◌-◌, Bool, ◌==◌, ◌&&◌, not, nat_le, if◌then◌else◌, Result, Ok, Err, codes}
+use Rattle.std.specs.Prelude.{◌≡◌, ℕ, ◌+◌, ◌≤◌, List, [], ◌∷◌, Contains, Option, Some, None, IfSome, ◌-◌, Bool, ◌==◌, ◌&&◌, not, nat_le, if◌then◌else◌, Result, Ok, Err}
 use Rattle.clue_rules.specs.declared.params.Params.{Params}
 use Rattle.std.specs.List.{list_any}
-use Rattle.std.specs.Str.{bytes_eq}
 use Rattle.byte_text.specs.Decimals.{begins_digit}
 use Rattle.clue_rules.specs.declared.id_fault.IdFault.{IdFault}
 use Rattle.clue_rules.specs.declared.id_fault.IdFault.TheVariants.{BadSize, BadLetter, AdjacentMode, BadParams}
@@ -55,7 +54,3 @@ unfoldable pub params_at : List ℕ → Bool → List ℕ → Result Params IdFa
 params_at letters has_adjacent [] = Err BadSize
 params_at letters has_adjacent (b ∷ bs) =
     if is_size b bs then behind_size letters has_adjacent (b - digit_zero) bs else Err BadSize
-
--- the game of this name has an adjacent mode: Unequal alone
-abbrev pub has_adjacent : List ℕ → Bool
-has_adjacent title = bytes_eq title (codes "Unequal")

@@ -1,14 +1,12 @@
 -- What narrowing rules out, by the candidates alone: by rows and columns, by the clues of Towers, by the signs of Unequal.
 use Rattle.std.specs.Prelude.{◌≡◌, ◌≢◌, ℕ, ◌*◌, ◌<◌, ◌≤◌, ◌⊎◌, true, List, length, slice_index, false}
 use Rattle.latin_board.specs.Lines.{line_cell, ArePeers}
-use Rattle.trail_solver.specs.Candidates.{CandidatesValue, IsOnly, IsWithin, may_be}
+use Rattle.trail_solver.specs.Candidates.{CandidatesValue, IsOnly, may_be}
 use Rattle.tower_lines.specs.TowersSeen.{seen}
 use Rattle.trail_solver.specs.Pairs.{IsPair}
 use Rattle.clue_rules.specs.Towers.{TowersValue, clue_of}
 use Rattle.clue_rules.specs.Views.{view_cell}
 use Rattle.clue_rules.specs.Unequal.{UnequalValue, IsGreater}
-use Rattle.latin_board.specs.Squares.{GridValue}
-use Rattle.trail_solver.specs.Puzzles.{Puzzle, Solves}
 
 -- the line's k-th square is the one place of the value in the line
 pub record IsOnePlace (c : CandidatesValue) (line value k : ℕ) : Type 0 where
@@ -86,15 +84,7 @@ pub record IsSignStruck (v : UnequalValue) (c : CandidatesValue) (cell value : �
 abbrev pub IsUnequalStruck : UnequalValue → CandidatesValue → ℕ → ℕ → Type 0
 IsUnequalStruck v c cell value = IsLatinStruck c cell value ⊎ IsSignStruck v c cell value
 
--- ---- what narrowing the old candidates to the new ones keeps and leaves
-
--- each solution of the puzzle within the old candidates is within the new ones
-abbrev pub KeepsSolutions : Puzzle → CandidatesValue → CandidatesValue → Type 0
-KeepsSolutions p old new = (g : GridValue) → Solves p g → IsWithin old g → IsWithin new g
-
--- no solution of the puzzle is within the candidates
-abbrev pub HasNoSolutionWithin : Puzzle → CandidatesValue → Type 0
-HasNoSolutionWithin p c = (g : GridValue) → Solves p g → IsWithin c g → ⊥
+-- ---- what narrowing the old candidates to the new ones leaves
 
 -- no pair is left that the old candidates strike
 abbrev pub NoneLeft : (CandidatesValue → ℕ → ℕ → Type 0) → CandidatesValue → CandidatesValue → Type 0

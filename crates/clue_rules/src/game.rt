@@ -1,7 +1,8 @@
 //! What the mid-end and the programs know of a game.
-ghost use Rattle.std.specs.Prelude.{◌≡◌, ℕ, ◌≤◌, false, List, Result, Ok, IsTrue, ◌↔◌, IfOk, IfErr};
+ghost use Rattle.std.specs.Prelude.{◌≡◌, ℕ, ◌≤◌, Bool, false, List, Result, Ok, IsTrue, ◌↔◌, IfOk, IfErr};
 ghost use Rattle.std.specs.Option.{option_map_or};
 ghost use Rattle.latin_board.specs.Edges.{edge_place};
+ghost use Rattle.clue_rules.specs.declared.game.TheConstants.{MOST_ITEMS};
 ghost use Rattle.clue_rules.specs.declared.id_fault.IdFault.{IdFault};
 ghost use Rattle.clue_rules.specs.GameIds.{LacksSeparators};
 ghost use Rattle.clue_rules.specs.IdFaults.{SparesMemory};
@@ -11,6 +12,9 @@ use latin_board::Size;
 use std::alloc::Global;
 use trail_solver::Rules;
 
+/// The most items that a puzzle of a size from 3 to 6 can have, in the game that has the most.
+pub const MOST_ITEMS: usize = 96;
+
 /// A game of the collection: the rules of its puzzles, and the texts by which they are named.
 ///
 /// All in which two games differ goes through this trait and the one above it.
@@ -18,6 +22,9 @@ pub trait Game: Rules {
     ghost title: { List ℕ };
 
     ghost letter_codes: { List ℕ };
+
+    // The collection's game has an adjacent mode.
+    ghost has_adjacent: { Bool };
 
     // The text describes the puzzle.
     ghost describes: { List ℕ → Self → Type 0 };
@@ -35,6 +42,10 @@ pub trait Game: Rules {
     /// The letters of the difficulties that may stand behind `d` in the game's parameters.
     fn letters() -> &'static str
         ensures { result.now ≡ letter_codes };
+
+    /// Whether the collection's game has an adjacent mode, which isn't supported here.
+    fn has_adjacent_mode() -> bool
+        ensures { result ≡ has_adjacent };
 
     /// Whether both are the same puzzle.
     fn same(&self, other: &Self) -> bool
@@ -55,6 +66,9 @@ pub trait Game: Rules {
     fn write_desc(&self, alloc: Global) -> Result<Vec<u8>, IdFault>
         ensures written { IfOk result (λ text. text.items ≡ desc_of self.now) }
         ensures refused { IfErr result (λ fault. fault ≡ IdFault.OutOfMemory) };
+
+    // A puzzle of a size that is generated, 3 to 6, has few items.
+    ghost few_items: { (n : ℕ) → 3 ≤ n → n ≤ 6 → Self.items_of n ≤ MOST_ITEMS };
 
     // No letter is one of the bytes that end the parameters of a game ID.
     ghost plain_letters: { LacksSeparators letter_codes };

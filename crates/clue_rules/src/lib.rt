@@ -2,7 +2,7 @@
 //!
 //! Both games are `Rules` of the solver and a `Game` of the mid-end. All in which they differ is in `towers` and `unequal`;
 //! what both do along the rows and columns of a grid is in `lines`. Parameters and game IDs are read alike for both, but
-//! that the name tells which game has an adjacent mode.
+//! that one of the games has an adjacent mode.
 //!
 //! A game ID is read, its puzzle solved, and its description written:
 //!
@@ -23,7 +23,7 @@ mod params;
 mod towers;
 mod unequal;
 
-pub use game::Game;
+pub use game::{Game, MOST_ITEMS};
 pub use game_id::{GameId, read_id};
 pub use id_fault::IdFault;
 pub use params::Params;

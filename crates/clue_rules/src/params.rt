@@ -1,7 +1,7 @@
 //! The parameters of a game: a size, and a difficulty letter or none.
 
 ghost use Rattle.std.specs.Prelude.{◌≡◌, List, ℕ, Contains, Result, Ok, Err, IfOk, IfSome};
-ghost use Rattle.clue_rules.specs.Parameters.{IsParamText, has_adjacent, letter_at, behind_size, params_at};
+ghost use Rattle.clue_rules.specs.Parameters.{IsParamText, letter_at, behind_size, params_at};
 
 use crate::game::Game;
 use crate::id_fault::IdFault;
@@ -21,13 +21,13 @@ pub struct Params {
 impl Params {
     /// The parameters that the text says, of the game `P`.
     ///
-    /// Refused, in this order, as `BadSize`, `AdjacentMode` in Unequal alone, `BadLetter`, `BadParams`.
+    /// Refused, in this order, as `BadSize`, `AdjacentMode` where the game has that mode, `BadLetter`, `BadParams`.
     pub fn read<P: Game>(text: &[u8]) -> Result<Params, IdFault>
-        ensures value { result ≡ params_at P.letter_codes (has_adjacent P.title) text.now }
+        ensures value { result ≡ params_at P.letter_codes P.has_adjacent text.now }
         ensures found { IfOk result (λ p. IsParamText P.letter_codes p text.now) }
         ensures only { (p : Params) → IsParamText P.letter_codes p text.now → result ≡ Ok p }
     {
-        read_params(P::letters(), has_adjacent_mode::<P>(), text)
+        read_params(P::letters(), P::has_adjacent_mode(), text)
     }
 
     ghost use Rattle.std.specs.Prelude.{◌≡◌, List, ℕ, Contains, IfSome};
@@ -48,13 +48,6 @@ impl Params {
         }
         text
     }
-}
-
-/// Whether the collection's game has an adjacent mode, which isn't supported here: Unequal has.
-pub(crate) fn has_adjacent_mode<P: Game>() -> bool
-    ensures { result ≡ has_adjacent P.title }
-{
-    P::name() == "Unequal"
 }
 
 /// The parameters that the text says, of a game with these letters.

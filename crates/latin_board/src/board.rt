@@ -35,6 +35,7 @@ pub struct Board {
 impl Model for Board {
     ghost use Rattle.std.specs.Prelude.{ℕ, ◌-◌, ◌*◌, ◌++◌, List, take, replicate};
     ghost use Rattle.std.proofs.Common.{ap};
+    ghost use Rattle.latin_board.specs.declared.grid.TheConstants.{CELLS};
     ghost use Rattle.latin_board.specs.Boards.{BoardValue};
     ghost use Rattle.latin_board.specs.Fields.{KeepsMarks, front_and_rest};
 
@@ -53,7 +54,7 @@ impl Model for Board {
 
     ghost inverse = { λ v. record {
       grid = record { size = v.size; numbers = v.numbers };
-      marks = v.marks ++ replicate (81 - v.size * v.size) 0;
+      marks = v.marks ++ replicate (CELLS - v.size * v.size) 0;
       completed = v.completed;
       cheated = v.cheated;
       done = v.done;

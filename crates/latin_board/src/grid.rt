@@ -27,6 +27,7 @@ pub struct Grid {
 impl Model for Grid {
     ghost use Rattle.std.specs.Prelude.{ℕ, ◌-◌, ◌*◌, ◌++◌, List, take, replicate};
     ghost use Rattle.std.proofs.Common.{ap};
+    ghost use Rattle.latin_board.specs.declared.grid.TheConstants.{CELLS};
     ghost use Rattle.latin_board.specs.Squares.{GridValue};
     ghost use Rattle.latin_board.specs.Fields.{KeepsNumbers, front_and_rest};
 
@@ -38,7 +39,7 @@ impl Model for Grid {
 
     ghost inverse = { λ v. record {
       size = v.size;
-      cells = v.numbers ++ replicate (81 - v.size * v.size) 0;
+      cells = v.numbers ++ replicate (CELLS - v.size * v.size) 0;
     } };
 
     ghost inverse_ok = { λ a h.

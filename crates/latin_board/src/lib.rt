@@ -28,7 +28,7 @@ mod size;
 pub use board::Board;
 pub use change::Change;
 pub use edges::{edge_place, edge_xy};
-pub use grid::Grid;
+pub use grid::{CELLS, Grid};
 pub use lines::line_cell;
 pub use marks::Marks;
 pub use out_of_memory::OutOfMemory;

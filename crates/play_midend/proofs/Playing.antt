@@ -6,6 +6,7 @@ use borrow.Author.Tests.{eq-eqb}
 use Rattle.latin_board.specs.Boards.{BoardValue}
 use Rattle.latin_board.specs.Changes.{ChangeValue, FitsBoard, board_after}
 use Rattle.trail_solver.specs.Puzzles.{Puzzle}
+use Rattle.trail_solver.specs.Solutions.{IsOnlySolution}
 use Rattle.play_midend.specs.declared.moves.Move.{Move}
 use Rattle.play_midend.specs.declared.moves.Move.TheVariants.{Solve}
 use Rattle.play_midend.specs.declared.session.Link.{Link}
@@ -14,7 +15,7 @@ use Rattle.play_midend.specs.declared.fault.PlayFault.{PlayFault}
 use Rattle.play_midend.specs.declared.fault.PlayFault.TheVariants.{HistoryFull, NothingToRestart}
 use Rattle.play_midend.specs.Steps.{is_restart, refusal_of, unless_refused, moved}
 use Rattle.play_midend.specs.declared.session.TheConstants.{MOST_STATES}
-use Rattle.play_midend.specs.Histories.{History, past, shown, first_state_refusal, restart_refusal, full_refusal, refusal_in, with_move, played, IsOnlySolution, IsRefusal, IsSolveRefusal, at_position}
+use Rattle.play_midend.specs.Histories.{History, past, shown, first_state_refusal, restart_refusal, full_refusal, refusal_in, with_move, played, IsRefusal, IsSolveRefusal, at_position}
 use Rattle.play_midend.specs.Inner.Links.{moves_of, viewed, AreLinked}
 use Rattle.trail_solver.proofs.SolutionTests.{Decides-solves_test}
 use Rattle.latin_board.specs.Squares.{GridValue}

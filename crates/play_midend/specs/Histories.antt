@@ -1,9 +1,10 @@
 -- The value of a session, and what each call makes of it.
-use Rattle.std.specs.Prelude.{◌≡◌, ◌≢◌, ◌⊎◌, ℕ, ◌+◌, ◌-◌, ◌≤◌, ◌==◌, if◌then◌else◌, List, [], ◌∷◌, ◌++◌, length, take, Option, Some, None, Result, Ok, Err, IsOk}
+use Rattle.std.specs.Prelude.{◌≡◌, ◌⊎◌, ℕ, ◌+◌, ◌-◌, ◌≤◌, ◌==◌, if◌then◌else◌, List, [], ◌∷◌, ◌++◌, length, take, Option, Some, None, Result, Ok, Err, IsOk}
 use Rattle.std.specs.Option.{option_or}
 use Rattle.latin_board.specs.Squares.{GridValue}
 use Rattle.latin_board.specs.Boards.{BoardValue}
-use Rattle.trail_solver.specs.Puzzles.{Puzzle, Solves}
+use Rattle.trail_solver.specs.Puzzles.{Puzzle}
+use Rattle.trail_solver.specs.Solutions.{HasNoSolution, HasSeveralSolutions, IsOnlySolution}
 use Rattle.clue_rules.specs.declared.params.Params.{Params}
 use Rattle.clue_rules.specs.Parameters.{IsParams}
 use Rattle.play_midend.specs.declared.extras.Extras.{Extras}
@@ -84,21 +85,6 @@ played p h m = unless_refused (refusal_in p h m) (with_move h m)
 abbrev pub restarted : {P : Type 0} → History P → Result (History P) PlayFault
 restarted h =
     unless_refused (option_or (restart_refusal h.position) (full_refusal h.position)) (with_move h Restart)
-
--- the solutions of a puzzle: none, several, or just one
-abbrev pub HasNoSolution : Puzzle → Type 0
-HasNoSolution p = (g : GridValue) → Solves p g → ⊥
-
-pub record HasSeveralSolutions (p : Puzzle) : Type 0 where
-  pub one : GridValue
-  pub other : GridValue
-  pub one_solves : Solves p one
-  pub other_solves : Solves p other
-  pub differ : one ≢ other
-
-pub record IsOnlySolution (p : Puzzle) (g : GridValue) : Type 0 where
-  pub solves : Solves p g
-  pub only : (h : GridValue) → Solves p h → h ≡ g
 
 -- solving: the only solution is a move, whatever the board shows
 abbrev pub SolveGives : {P : Type 0} → Puzzle → History P → Result (History P) PlayFault → Type 0

@@ -11,7 +11,6 @@ use Rattle.std.proofs.lemmas.Bool.Decides.{nat_tests}
 use Rattle.byte_text.specs.Reading.{◌>>=◌}
 use Rattle.clue_rules.specs.declared.params.Params.{Params}
 use Rattle.clue_rules.specs.Parameters.{IsParamText}
-use Rattle.clue_rules.specs.Parameters.{has_adjacent}
 use Rattle.clue_rules.proofs.ParameterLemmas.{params_again}
 use Rattle.play_midend.specs.declared.moves.Move.{Move}
 use Rattle.play_midend.specs.Histories.{History, IsValid, started}
@@ -123,7 +122,7 @@ count_side game h before later s which =
 -- the same parameters are read
 params_good : {P : Type 0} (game : SavedGame P) (p : Params) (value : List ℕ)
     → IsParamText game.letters p value → saved_params_at game value ≡ Ok p
-params_good game p value is = params_again game.letters (has_adjacent game.title) value p is
+params_good game p value is = params_again game.letters game.has_adjacent value p is
 
 -- no value of a save has a fault behind the records before it
 head_same : {A : Type 0} (x y : A) → x ∷ [] ≡ y ∷ [] → x ≡ y

@@ -6,7 +6,7 @@ use Rattle.std.proofs.lemmas.Slice.Eq.{bytes_eq-Decides}
 use Rattle.std.proofs.lemmas.Bool.{and_parts, ltb-false}
 use Rattle.byte_text.proofs.ReadingLaws.{bind_taken}
 use Rattle.clue_rules.specs.declared.params.Params.{Params}
-use Rattle.clue_rules.specs.Parameters.{IsParamText, has_adjacent}
+use Rattle.clue_rules.specs.Parameters.{IsParamText}
 use Rattle.clue_rules.proofs.ParameterLemmas.{params_taken}
 use Rattle.play_midend.specs.Histories.{History, started, at_position}
 use Rattle.play_midend.specs.MoveLists.{with_moves}
@@ -84,7 +84,7 @@ params_taken_of game rs whose p right is =
     let read = and_then_taken _ ((met rs).first (ParamsOf whose)) p is in (
       read.0,
       only_value game rs (ParamsOf whose) read.0 right read.1,
-      params_taken game.letters (has_adjacent game.title) read.0 p (ok_taken (saved_params_at game read.0) p read.2),
+      params_taken game.letters game.has_adjacent read.0 p (ok_taken (saved_params_at game read.0) p read.2),
     )
 
 count_taken_of : {P : Type 0} (game : SavedGame P) (rs : List KeyedRecord) (which : WhichCount) (n : ℕ)

@@ -5,7 +5,7 @@ use Rattle.byte_text.specs.Decimals.{decimal_value}
 use Rattle.byte_text.specs.Reading.{◌>>=◌}
 use Rattle.clue_rules.specs.declared.id_fault.IdFault.{IdFault}
 use Rattle.clue_rules.specs.declared.params.Params.{Params}
-use Rattle.clue_rules.specs.Parameters.{params_at, has_adjacent}
+use Rattle.clue_rules.specs.Parameters.{params_at}
 use Rattle.play_midend.specs.declared.extras.Extras.{Extras}
 use Rattle.play_midend.specs.declared.moves.Move.{Move}
 use Rattle.play_midend.specs.declared.moves.Move.TheVariants.{Restart}
@@ -34,7 +34,7 @@ use Rattle.play_save.specs.SaveTexts.{SavedGame, collection, is_solve}
 
 -- parameters of the game, and a count of states: decimal from 1 to MOST_STATES
 abbrev pub saved_params_at : {P : Type 0} → SavedGame P → List ℕ → Result Params IdFault
-saved_params_at game value = params_at game.letters (has_adjacent game.title) value
+saved_params_at game value = params_at game.letters game.has_adjacent value
 
 abbrev pub positive : ℕ → Option ℕ
 positive zero = None

@@ -25,22 +25,24 @@ use Rattle.play_save.specs.Keys.{kept_at}
 use Rattle.play_save.specs.Records.{Entry, BeginsWith}
 use Rattle.play_save.specs.KeyedRecords.{KeyedRecord, KeyedState, BeginsWithAll, values_of, states_in, IsOne, once_if_kept, CountsStandFirst, EndsWithState}
 
--- What saves ask of a game: its name and letters, what its puzzles are, which text describes which puzzle of which width, the
+-- What saves ask of a game: its name and letters, whether it has an adjacent mode, what its puzzles are, which text describes which puzzle of which width, the
 -- puzzle that is read of a description, and the description that is written.
 pub record SavedGame (P : Type 0) : Type 1 where
   pub title : List ℕ
   pub letters : List ℕ
+  pub has_adjacent : Bool
   pub puzzle : P → Puzzle
   pub Describes : ℕ → P → List ℕ → Type 0
   pub desc_at : ℕ → List ℕ → Result P IdFault
   pub desc_of : P → List ℕ
 
 -- the same, of the ghost members of a game
-abbrev pub saved_game : {P : Type 0} → List ℕ → List ℕ → (P → Puzzle) → (P → Type 0) → (List ℕ → P → Type 0)
+abbrev pub saved_game : {P : Type 0} → List ℕ → List ℕ → Bool → (P → Puzzle) → (P → Type 0) → (List ℕ → P → Type 0)
     → (ℕ → List ℕ → Result P IdFault) → (P → List ℕ) → SavedGame P
-saved_game title letters puzzle of_game describes desc_at desc_of = record {
+saved_game title letters has_adjacent puzzle of_game describes desc_at desc_of = record {
   title = title;
   letters = letters;
+  has_adjacent = has_adjacent;
   puzzle = puzzle;
   Describes = describes_at puzzle of_game describes;
   desc_at = desc_at;
@@ -50,7 +52,7 @@ saved_game title letters puzzle of_game describes desc_at desc_of = record {
 -- the same, of what `Rules` and `Game` say of a type P: `saves_of P.Rules P.Game.own`
 abbrev pub saves_of : {P : Type 0} → RulesGhosts P → GameGhosts P → SavedGame P
 saves_of rules game =
-    saved_game game.title game.letter_codes rules.puzzle rules.valid game.describes game.desc_at game.desc_of
+    saved_game game.title game.letter_codes game.has_adjacent rules.puzzle rules.valid game.describes game.desc_at game.desc_of
 
 -- the value of the first record, which names the format
 abbrev pub collection : List ℕ

@@ -6,6 +6,7 @@ use Rattle.std.proofs.lemmas.Bool.Decides.{nat_tests}
 use Rattle.std.proofs.lemmas.Slice.Eq.{bytes_eq-Decides}
 use Rattle.byte_text.specs.Decimals.{decimal_value}
 use Rattle.byte_text.proofs.DecimalLaws.{number_taken, number_again}
+use Rattle.trail_solver.specs.declared.listing.TheConstants.{MOST_LISTED}
 use Rattle.puzzle_cli.specs.declared.command.Command.{Command}
 use Rattle.puzzle_cli.specs.declared.command.Command.TheVariants.{New, Quit, Ask}
 use Rattle.puzzle_cli.specs.declared.command.Request.TheVariants.{Move, Solutions, Plain}
@@ -108,21 +109,21 @@ nonzero_taken m n h =
       | false ↦ λ other e. let is : m ≡ n = cc in (grind (arith, nat_tests), is)
     ] refl h
 
-limit_taken : (text : List ℕ) (n : ℕ) → limit_at text ≡ Some n → (1 ≤ n) × (n ≤ 100) × (text ≡ decimal n)
+limit_taken : (text : List ℕ) (n : ℕ) → limit_at text ≡ Some n → (1 ≤ n) × (n ≤ MOST_LISTED) × (text ≡ decimal n)
 limit_taken text n h =
-    elim (decimal_value 100 text) as (λ o. decimal_value 100 text ≡ o → option_and_then nonzero o ≡ Some n
-    → (1 ≤ n) × (n ≤ 100) × (text ≡ decimal n)) [
+    elim (decimal_value MOST_LISTED text) as (λ o. decimal_value MOST_LISTED text ≡ o → option_and_then nonzero o ≡ Some n
+    → (1 ≤ n) × (n ≤ MOST_LISTED) × (text ≡ decimal n)) [
       | None ↦ λ _ e. cc
       | Some m ↦ λ read e.
-          let found = number_taken 100 m text (omega arith) read in
+          let found = number_taken MOST_LISTED m text (omega arith) read in
           let is = nonzero_taken m n e in
           (is.0, omega (arith, is.1, found.1), found.0 ∙ ap decimal is.1)
     ] refl h
 
-limit_again : (n : ℕ) → 1 ≤ n → n ≤ 100 → limit_at (decimal n) ≡ Some n
+limit_again : (n : ℕ) → 1 ≤ n → n ≤ MOST_LISTED → limit_at (decimal n) ≡ Some n
 limit_again n least most =
     let some : (n == 0) ≡ false = grind (arith, nat_tests) in
-    rw (number_again 100 n most (omega arith), some) refl
+    rw (number_again MOST_LISTED n most (omega arith), some) refl
 
 abbrev list_of : ℕ → Command (List ℕ)
 list_of n = Ask (Solutions n)

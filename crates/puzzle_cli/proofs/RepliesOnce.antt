@@ -10,7 +10,6 @@ use Rattle.puzzle_gen.proofs.ItemLaws.{ItemLaws}
 use Rattle.puzzle_gen.proofs.GeneratedOnce.{generates_once}
 use Rattle.puzzle_cli.specs.Commands.{Reading}
 use Rattle.puzzle_cli.specs.declared.start_fault.StartFault.{StartFault}
-use Rattle.clue_rules.specs.Parameters.{has_adjacent}
 use Rattle.clue_rules.specs.GameIds.{IsIdText}
 use Rattle.clue_rules.specs.GameIds.{id_at, describes_at}
 use Rattle.play_midend.specs.declared.fault.PlayFault.{PlayFault}
@@ -123,7 +122,7 @@ IdsAreReadOnce {P} f = (text : List ℕ) (one other : Result (GameId P) IdFault)
 -- the grammar of IDs has at most one ID for a text, and reading finds it
 pub ids_once : {P : Type 0} (f : GameFacts P)
     → ((text : List ℕ) (id : GameId P) → IsIdText f.letters (describes_at f.rules.puzzle f.rules.valid f.describes) id text
-    → id_at f.letters (has_adjacent f.title) f.desc_at text ≡ Ok id) → IdsAreReadOnce f
+    → id_at f.letters f.has_adjacent f.desc_at text ≡ Ok id) → IdsAreReadOnce f
 ids_once f again text (Ok a) (Ok b) h k = sym (again text a h) ∙ again text b k
 ids_once f again text (Ok a) (Err b) h k = sym (again text a h) ∙ k
 ids_once f again text (Err a) (Ok b) h k = sym h ∙ again text b k

@@ -2,6 +2,7 @@
 use Rattle.std.specs.Prelude.{ℕ, ◌==◌, if◌then◌else◌, List, [], ◌∷◌, length, take, drop, codes, bytes_eq, Option, Some, None, option_map, option_and_then, Ok, Err, ok_or}
 use Rattle.std.specs.Option.{option_or}
 use Rattle.byte_text.specs.Decimals.{decimal_value}
+use Rattle.trail_solver.specs.declared.listing.TheConstants.{MOST_LISTED}
 use Rattle.puzzle_cli.specs.declared.command.Command.{Command}
 use Rattle.puzzle_cli.specs.declared.command.Command.TheVariants.{New, Quit, Ask}
 use Rattle.puzzle_cli.specs.declared.command.Request.TheVariants.{Move, Solutions, Plain}
@@ -27,7 +28,7 @@ abbrev pub nonzero : ℕ → Option ℕ
 nonzero n = if n == 0 then None else Some n
 
 abbrev pub limit_at : List ℕ → Option ℕ
-limit_at text = option_and_then nonzero (decimal_value 100 text)
+limit_at text = option_and_then nonzero (decimal_value MOST_LISTED text)
 
 -- the command of a text that is no word of a session's
 abbrev pub other_command_at : List ℕ → Option (Command (List ℕ))

@@ -2,6 +2,7 @@
 use Rattle.std.specs.Prelude.{◌≡◌, ◌≢◌, ℕ, ◌≤◌, Bool, false, List, [], ◌∷◌, ◌++◌, codes, bytes_eq, ◌⊎◌, Option, Some, None, Result, Ok, Err}
 use denote.Ref.{Bor}
 use Rattle.std.specs.Fmt.{decimal}
+use Rattle.trail_solver.specs.declared.listing.TheConstants.{MOST_LISTED}
 use Rattle.puzzle_cli.specs.declared.command.Command.{Command}
 use Rattle.puzzle_cli.specs.declared.command.Command.TheVariants.{New, Quit, Ask}
 use Rattle.puzzle_cli.specs.declared.command.Request.{Request}
@@ -34,10 +35,10 @@ abbrev pub IsEntry : {A : Type 0} → List (List ℕ × A) → List ℕ → A �
 IsEntry [] line a = ⊥
 IsEntry (row ∷ rows) line a = ((line ≡ row.0) × (a ≡ row.1)) ⊎ IsEntry rows line a
 
--- the line asks this of a session: a list is of 1 to 100 solutions
+-- the line asks this of a session: a list is of 1 to `MOST_LISTED` solutions
 abbrev pub IsRequestLine : Request (List ℕ) → List ℕ → Type 0
 IsRequestLine (Move text) line = line ≡ codes "move " ++ text
-IsRequestLine (Solutions n) line = (1 ≤ n) × (n ≤ 100) × (line ≡ codes "list " ++ decimal n)
+IsRequestLine (Solutions n) line = (1 ≤ n) × (n ≤ MOST_LISTED) × (line ≡ codes "list " ++ decimal n)
 IsRequestLine (Plain word) line = IsEntry words line word
 
 -- the line is that of the command
@@ -66,7 +67,7 @@ IsRead line (Err NoGame) = ⊥
 
 -- how many solutions a list has at most
 abbrev pub IsInRange : {T : Type 0} → Request T → Type 0
-IsInRange (Solutions n) = (1 ≤ n) × (n ≤ 100)
+IsInRange (Solutions n) = (1 ≤ n) × (n ≤ MOST_LISTED)
 IsInRange _ = Unit {0}
 
 -- the same with its argument seen by f

@@ -1,16 +1,17 @@
 -- What the replies know of a game, in one record.
-use Rattle.std.specs.Prelude.{ℕ, List, Result}
+use Rattle.std.specs.Prelude.{ℕ, Bool, List, Result}
 use Rattle.latin_board.specs.Boards.{BoardValue}
 use Rattle.clue_rules.specs.declared.id_fault.IdFault.{IdFault}
 use Rattle.clue_rules.specs.declared.game.Game.{Ghosts as OfGame}
 use Rattle.trail_solver.specs.declared.rules.Rules.{Ghosts}
 use Rattle.puzzle_cli.specs.declared.draw.Draw.{Ghosts as OfDraw}
 
--- a game's name and letters; what generic code knows of its puzzles and their items; the grammar, the reading and the written form of their
+-- a game's name and letters, and whether it has an adjacent mode; what generic code knows of its puzzles and their items; the grammar, the reading and the written form of their
 -- descriptions; the pictures of their boards
 pub record GameFacts (P : Type 0) : Type 1 where
   pub title : List ℕ
   pub letters : List ℕ
+  pub has_adjacent : Bool
   pub rules : Ghosts P
   pub describes : List ℕ → P → Type 0
   pub desc_at : ℕ → List ℕ → Result P IdFault
@@ -22,6 +23,7 @@ abbrev pub facts_of : {P : Type 0} → Ghosts P → OfGame P → OfDraw P → Ga
 facts_of rules game draw = record {
   title = game.title;
   letters = game.letter_codes;
+  has_adjacent = game.has_adjacent;
   rules = rules;
   describes = game.describes;
   desc_at = game.desc_at;

@@ -5,7 +5,6 @@ use Rattle.clue_rules.specs.declared.id_fault.IdFault.TheVariants.{OutOfMemory a
 use Rattle.clue_rules.specs.declared.params.Params.{Params}
 use Rattle.clue_rules.specs.declared.game_id.GameId.{GameId}
 use Rattle.clue_rules.specs.declared.game_id.GameId.TheVariants.{Described, Seeded}
-use Rattle.clue_rules.specs.Parameters.{has_adjacent}
 use Rattle.clue_rules.specs.GameIds.{IsIdText, id_at, describes_at}
 use Rattle.puzzle_gen.specs.declared.gen_fault.GenFault.{GenFault}
 use Rattle.puzzle_gen.specs.Generating.{Generates}
@@ -18,7 +17,7 @@ use Rattle.puzzle_cli.specs.GameFacts.{GameFacts}
 -- the text says the ID, or has this fault first
 abbrev pub IsIdRead : {P : Type 0} → GameFacts P → List ℕ → Result (GameId P) IdFault → Type 0
 IsIdRead f text (Ok id) = IsIdText f.letters (describes_at f.rules.puzzle f.rules.valid f.describes) id text
-IsIdRead f text (Err fault) = id_at f.letters (has_adjacent f.title) f.desc_at text ≡ Err fault
+IsIdRead f text (Err fault) = id_at f.letters f.has_adjacent f.desc_at text ≡ Err fault
 
 abbrev pub no_extras : Extras
 no_extras = record { seed = None; auxinfo = None; ui = None; time = None }

@@ -10,7 +10,7 @@ use Rattle.puzzle_cli.specs.GameFacts.{GameFacts}
 
 -- what saves ask of a game
 abbrev pub saved_facts : {P : Type 0} → GameFacts P → SavedGame P
-saved_facts f = saved_game f.title f.letters f.rules.puzzle f.rules.valid f.describes f.desc_at f.desc_of
+saved_facts f = saved_game f.title f.letters f.has_adjacent f.rules.puzzle f.rules.valid f.describes f.desc_at f.desc_of
 
 -- the refusal for a fault of a save: want of memory is want of memory
 abbrev pub load_refusal : LoadFault → StartFault

@@ -6,6 +6,7 @@ ghost use Rattle.puzzle_cli.specs.CommandReading.{command_at, read_at, limit_at,
 
 use crate::line_fault::LineFault;
 use byte_text::number;
+use trail_solver::MOST_LISTED;
 
 /// A command, whose argument is a text of type `T`.
 #[derive(Clone, Copy)]
@@ -23,7 +24,7 @@ pub(crate) enum Command<T> {
 pub(crate) enum Request<T> {
     /// Make the move that a text spells.
     Move(T),
-    /// List the first solutions of the starting puzzle, so many at most: from 1 to 100.
+    /// List the first solutions of the starting puzzle, so many at most: from 1 to `MOST_LISTED`.
     Solutions(u8),
     /// What a word says alone.
     Plain(Word),
@@ -97,7 +98,7 @@ fn read_word(line: &[u8]) -> Option<Word>
 /// The command that a line is, or `None` where the line is empty.
 ///
 /// One space stands between a word and its argument. The argument is the rest of the line, and may be empty; that of `list`
-/// is a number from 1 to 100 in decimal without leading zeros.
+/// is a number from 1 to `MOST_LISTED` in decimal without leading zeros.
 ///
 /// `LongLine` where there is no line, since it was too long to be kept; `BadCommand` where it is no command.
 pub(crate) fn read_command(line: Option<&[u8]>) -> Result<Option<Command<&[u8]>>, LineFault>
@@ -148,7 +149,7 @@ fn parse_command(line: &[u8]) -> Option<Command<&[u8]>>
 fn read_limit(text: &[u8]) -> Option<u8>
     ensures { result ≡ limit_at text.now }
 {
-    let limit = number(text, 100)?;
+    let limit = number(text, u64::from(MOST_LISTED))?;
     if limit == 0 {
         return None;
     }

@@ -2,6 +2,7 @@
 
 ghost use Rattle.std.specs.Prelude.{◌≡◌, ◌≤◌, ℕ, List, IfOk};
 ghost use Rattle.latin_board.specs.Squares.{GridValue};
+ghost use Rattle.trail_solver.specs.declared.listing.TheConstants.{MOST_LISTED};
 ghost use Rattle.trail_solver.specs.Puzzles.{Solves};
 ghost use Rattle.trail_solver.specs.Listings.{AreFirst};
 ghost use Rattle.puzzle_cli.specs.SolutionTexts.{listed_lines};
@@ -22,7 +23,7 @@ pub(crate) fn solution_list<P: Game>(
     limit: u8,
 ) -> Result<Vec<u8>, OutOfMemory>
     requires least { 1 ≤ limit }
-    requires most { limit ≤ 100 }
+    requires most { limit ≤ MOST_LISTED }
     ensures { IfOk result (λ text. (listed : List GridValue)
         × AreFirst (Solves (P.puzzle session.now.puzzle)) limit listed
         × (text.items ≡ listed_lines listed)) }

@@ -9,8 +9,8 @@ use Rattle.latin_board.specs.Lines.{ArePeers}
 use Rattle.latin_board.proofs.LatinLines.{latin_full, peers_differ, some_width}
 use Rattle.latin_board.proofs.Numbers.{number_within, same_numbers}
 use Rattle.trail_solver.specs.Puzzles.{Puzzle, Solves}
-use Rattle.puzzle_gen.specs.Pruning.{HasTwo}
-use Rattle.puzzle_gen.specs.ForcedSquares.{HasFound, IsForced, StandsAtPeer}
+use Rattle.trail_solver.specs.Solutions.{HasSeveralSolutions}
+use Rattle.puzzle_gen.specs.Inner.ForcedSquares.{HasFound, IsForced, StandsAtPeer}
 
 -- ---- what is seen from a blank square
 
@@ -100,14 +100,14 @@ found_more found new h cell value inside blank forced size count written grid la
 
 -- where all is found there is no second solution
 pub full_is_only : (p : Puzzle) (found : GridValue) → IsFull found → found.size ≡ p.size
-    → ((h : GridValue) → Solves p h → HasFound found h) → HasTwo p → ⊥
+    → ((h : GridValue) → Solves p h → HasFound found h) → HasSeveralSolutions p → ⊥
 full_is_only p found full size has two =
-    let same_size = two.solves_first.same_size ∙ sym two.solves_second.same_size in
-    let a = has two.first two.solves_first in
-    let b = has two.second two.solves_second in
-    two.differ (same_numbers two.first two.second two.solves_first.is_grid two.solves_second.is_grid same_size (λ cell inside.
+    let same_size = two.one_solves.same_size ∙ sym two.other_solves.same_size in
+    let a = has two.one two.one_solves in
+    let b = has two.other two.other_solves in
+    two.differ (same_numbers two.one two.other two.one_solves.is_grid two.other_solves.is_grid same_size (λ cell inside.
     let within : cell < found.size * found.size =
-    subst (λ (n : ℕ). cell < n * n) (two.solves_first.same_size ∙ sym size) inside in
+    subst (λ (n : ℕ). cell < n * n) (two.one_solves.same_size ∙ sym size) inside in
     a.each cell within (full.each cell within) ∙ sym (b.each cell within (full.each cell within))))
 
 -- ---- steps of the loops

@@ -6,7 +6,7 @@ use Rattle.latin_board.proofs.Numbers.{same_numbers}
 use Rattle.trail_solver.specs.Puzzles.{Solves}
 use Rattle.trail_solver.specs.declared.rules.Rules.{Ghosts}
 use Rattle.trail_solver.specs.contracts.rules.Rules.TheBound.{Met}
-use Rattle.puzzle_gen.specs.Removal.{AreCuts}
+use Rattle.trail_solver.specs.Solutions.{IsOnlySolution}
 
 pub record ItemLaws {P : Type 0} (f : Ghosts P) : Type 0 where
   pub cut_valid : (p : P) (keep : ℕ → Bool) → f.valid p → f.valid (f.cut p keep)
@@ -43,6 +43,16 @@ laws_of met = record {
   full_solved = met.full_solved;
 }
 
+-- the cuts of the full puzzle of a Latin square: each set of items gives one, which has just those items
+pub record AreCuts {P : Type 0} (f : Ghosts P) (g : GridValue) : Type 0 where
+  pub has_cut : (keep : ℕ → Bool) (i : ℕ) → i < f.items_of g.size → f.has (f.cut (f.full_of g) keep) i ≡ keep i
+  pub agrees : (a b : ℕ → Bool) → ((i : ℕ) → i < f.items_of g.size → a i ≡ b i) → f.cut (f.full_of g) a ≡ f.cut (f.full_of g) b
+  pub again : (a b : ℕ → Bool) → f.cut (f.cut (f.full_of g) a) b ≡ f.cut (f.full_of g) (λ i. a i && b i)
+  pub all : f.cut (f.full_of g) (λ i. true) ≡ f.full_of g
+  pub loses_none : (a b : ℕ → Bool) (h : GridValue) → Solves (f.puzzle (f.cut (f.full_of g) a)) h
+      → Solves (f.puzzle (f.cut (f.full_of g) (λ i. a i && b i))) h
+  pub only_full : IsOnlySolution (f.puzzle (f.full_of g)) g
+
 -- a solution of the full puzzle has the square's numbers, which are all given
 full_only : {P : Type 0} (f : Ghosts P) (g : GridValue) → ItemLaws f → IsGrid g → IsLatin g → (h : GridValue)
     → Solves (f.puzzle (f.full_of g)) h → h ≡ g
@@ -72,5 +82,5 @@ cuts_of_full {P} f g laws grid latin =
       loses_none = λ a b h s.
           subst (λ (p : P). Solves (f.puzzle p) h) (laws.cut_cut (f.full_of g) a b is_valid)
           (laws.cut_solved (f.cut (f.full_of g) a) b h (laws.cut_valid (f.full_of g) a is_valid) s);
-      only_full = record { solution = laws.full_solved g grid latin; only = full_only f g laws grid latin };
+      only_full = record { solves = laws.full_solved g grid latin; only = full_only f g laws grid latin };
     }

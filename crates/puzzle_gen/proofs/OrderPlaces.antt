@@ -113,3 +113,10 @@ refilled n first lent order made same is =
     let count = ap length same ∙ length_range_made n first made in
     let whole = refill_whole first order (is.count ∙ ap length same) in
     (count, whole, subst (IsOrder n) (sym whole) (subst (λ (k : ℕ). IsOrder k order) count is))
+
+-- the same, with what is left of a stream
+pub refilled_drawn : {S : Type 0} (drawn : ℕ → List ℕ × S) (n : ℕ) (first lent order : List ℕ) (left : S) → first ≡ range_with_len 0 n
+    → lent ≡ first → IsOrder (length lent) order → (order, left) ≡ drawn (length lent) → (refill (length first) first order, left) ≡ drawn n
+refilled_drawn drawn n first lent order left made same is drew =
+    let done = refilled n first lent order made same is in
+    ap (λ (xs : List ℕ). (xs, left)) done.1 ∙ drew ∙ ap drawn done.0

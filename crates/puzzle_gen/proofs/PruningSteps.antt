@@ -1,13 +1,14 @@
 -- How the pruned puzzle comes about, item by item, and that there is just one.
-use Rattle.std.proofs.Common.{◌≡◌, ◌≢◌, ◌↔◌, ℕ, zero, suc, ◌+◌, ◌<◌, ◌≤◌, Bool, true, false, not, ◌&&◌, List, get_or, IsTrue, inl, inr, refl, sym, ◌∙◌, ap, subst, arith, eq-eqb}
+use Rattle.std.proofs.Common.{◌≡◌, ◌≢◌, ◌↔◌, ℕ, zero, suc, ◌+◌, ◌<◌, ◌≤◌, ◌⊎◌, length, Bool, true, false, not, ◌&&◌, List, get_or, IsTrue, inl, inr, refl, sym, ◌∙◌, ap, subst, arith, eq-eqb}
 use Rattle.std.proofs.lemmas.Bool.{cases_eq, cases_order, ne_eqb, lt-ltb, le-ltb}
 use Rattle.latin_board.specs.Squares.{GridValue, IsGrid, IsLatin}
 use Rattle.latin_board.specs.Sameness.{same_grid, same_grid_decides}
 use Rattle.trail_solver.specs.Puzzles.{Puzzle, Solves}
 use Rattle.trail_solver.specs.declared.rules.Rules.{Ghosts}
 use Rattle.puzzle_gen.specs.Orders.{place_in, IsOrder}
-use Rattle.puzzle_gen.specs.Pruning.{all_but, HasTwo, IsOnlySolution, IsPruned, rest, rest_puzzle}
-use Rattle.puzzle_gen.specs.Removal.{AreCuts, IsPrunedTo}
+use Rattle.trail_solver.specs.Solutions.{HasSeveralSolutions, IsOnlySolution}
+use Rattle.puzzle_gen.specs.Pruning.{all_but, IsPruned, rest, rest_puzzle}
+use Rattle.puzzle_gen.proofs.ItemLaws.{AreCuts, ItemLaws}
 
 all_but_itself : (i : ℕ) → all_but i i ≡ false
 all_but_itself i = ap not (eq-eqb i i refl)
@@ -107,14 +108,22 @@ only_same h g true same single = (same_grid_decides h g).0 same
 only_same h g false other single = absurd (single (λ same. (let e = (same_grid_decides h g).1 same in cc)))
 
 -- where a grid solves the puzzle and there aren't two, it is the only solution
-pub only_of_not_two : (p : Puzzle) (g : GridValue) → Solves p g → (HasTwo p → ⊥) → IsOnlySolution p g
+pub only_of_not_two : (p : Puzzle) (g : GridValue) → Solves p g → (HasSeveralSolutions p → ⊥) → IsOnlySolution p g
 only_of_not_two p g s single = record {
-  solution = s;
+  solves = s;
   only = λ h t. only_same h g (same_grid h g) refl (λ apart.
-      single (record { first = h; second = g; solves_first = t; solves_second = s; differ = apart }));
+      single (record { one = h; other = g; one_solves = t; other_solves = s; differ = apart }));
 }
 
 -- ---- the pruning
+
+-- what stands when the first k items of the order were tried
+pub record IsPrunedTo {P : Type 0} (f : Ghosts P) (g : GridValue) (order : List ℕ) (k : ℕ) (p : P) : Type 0 where
+  pub is_cut : p ≡ f.cut (f.full_of g) (f.has p)
+  pub tried : (i : ℕ) → i < f.items_of g.size → place_in i order < k
+      → IsTrue (f.has p i) ↔ HasSeveralSolutions (f.puzzle (rest_puzzle f g order p i))
+  pub untried : (i : ℕ) → i < f.items_of g.size → k ≤ place_in i order → f.has p i ≡ true
+  pub only : IsOnlySolution (f.puzzle p) g
 
 -- the full puzzle, before any
 pub pruned_none : {P : Type 0} (f : Ghosts P) (g : GridValue) (order : List ℕ) → AreCuts f g → IsPrunedTo f g order 0 (f.full_of g)
@@ -140,14 +149,14 @@ next_is_rest {P} f g order k i p cuts is_order small here so_far =
 -- an item without which there are two solutions stays
 pub pruned_stays : {P : Type 0} (f : Ghosts P) (g : GridValue) (order : List ℕ) (k i : ℕ) (p : P) → AreCuts f g
     → IsOrder (f.items_of g.size) order → i < f.items_of g.size → place_in i order ≡ k → IsPrunedTo f g order k p
-    → HasTwo (f.puzzle (f.cut p (all_but i))) → IsPrunedTo f g order (k + 1) p
+    → HasSeveralSolutions (f.puzzle (f.cut p (all_but i))) → IsPrunedTo f g order (k + 1) p
 pruned_stays {P} f g order k i p cuts is_order small here so_far two = record {
   is_cut = so_far.is_cut;
   tried = λ j small_j before. elim (cases_eq (place_in j order) k) [
     | inl last ↦
         let itself : j ≡ i = place_apart (f.items_of g.size) order is_order j i small_j small (last ∙ sym here) in
-        let Tried : ℕ → Type 0 = λ l. IsTrue (f.has p l) ↔ HasTwo (f.puzzle (rest_puzzle f g order p l)) in
-        let Two : P → Type 0 = λ q. HasTwo (f.puzzle q) in
+        let Tried : ℕ → Type 0 = λ l. IsTrue (f.has p l) ↔ HasSeveralSolutions (f.puzzle (rest_puzzle f g order p l)) in
+        let Two : P → Type 0 = λ q. HasSeveralSolutions (f.puzzle q) in
         subst Tried (sym itself) (
           λ there. subst Two (next_is_rest f g order k i p cuts is_order small here so_far) two,
           λ both. so_far.untried i small (omega arith),
@@ -161,7 +170,7 @@ pruned_stays {P} f g order k i p cuts is_order small here so_far two = record {
 -- any other goes
 pub pruned_goes : {P : Type 0} (f : Ghosts P) (g : GridValue) (order : List ℕ) (k i : ℕ) (p q : P) → AreCuts f g
     → IsOrder (f.items_of g.size) order → i < f.items_of g.size → place_in i order ≡ k → IsPrunedTo f g order k p
-    → (HasTwo (f.puzzle (f.cut p (all_but i))) → ⊥) → q ≡ f.cut p (all_but i) → IsPrunedTo f g order (k + 1) q
+    → (HasSeveralSolutions (f.puzzle (f.cut p (all_but i))) → ⊥) → q ≡ f.cut p (all_but i) → IsPrunedTo f g order (k + 1) q
 pruned_goes {P} f g order k i p q cuts is_order small here so_far single gone =
     let n = f.items_of g.size in
     let cut : q ≡ f.cut (f.full_of g) (λ j. f.has p j && all_but i j) =
@@ -177,16 +186,16 @@ pruned_goes {P} f g order k i p q cuts is_order small here so_far single gone =
     let same_rest : (j : ℕ) → j < n → place_in j order ≤ k → rest_puzzle f g order q j ≡ rest_puzzle f g order p j =
     λ j small_j last. cuts.agrees (rest order (f.has q) j) (rest order (f.has p) j)
     (rest_agrees n order (f.has q) (f.has p) j is_order small_j (λ l small_l before. earlier_kept j l last small_l before)) in
-    let Two : P → Type 0 = λ r. HasTwo (f.puzzle r) in
+    let Two : P → Type 0 = λ r. HasSeveralSolutions (f.puzzle r) in
     let Sol : P → Type 0 = λ r. Solves (f.puzzle r) g in
     let still : Solves (f.puzzle q) g = subst Sol (sym cut)
-    (cuts.loses_none (f.has p) (all_but i) g (subst Sol so_far.is_cut so_far.only.solution)) in
+    (cuts.loses_none (f.has p) (all_but i) g (subst Sol so_far.is_cut so_far.only.solves)) in
     record {
       is_cut = cut ∙ cuts.agrees (λ j. f.has p j && all_but i j) (f.has q) (λ j small_j. sym (kept j small_j));
       tried = λ j small_j before. elim (cases_eq (place_in j order) k) [
         | inl last ↦
             let itself : j ≡ i = place_apart n order is_order j i small_j small (last ∙ sym here) in
-            let Tried : ℕ → Type 0 = λ l. IsTrue (f.has q l) ↔ HasTwo (f.puzzle (rest_puzzle f g order q l)) in
+            let Tried : ℕ → Type 0 = λ l. IsTrue (f.has q l) ↔ HasSeveralSolutions (f.puzzle (rest_puzzle f g order q l)) in
             let back : rest_puzzle f g order q i ≡ f.cut p (all_but i) =
             same_rest i small (omega arith) ∙ sym (next_is_rest f g order k i p cuts is_order small here so_far) in
             subst Tried (sym itself) (
@@ -197,8 +206,8 @@ pruned_goes {P} f g order k i p q cuts is_order small here so_far single gone =
             let is_earlier : place_in j order < k = omega arith in
             let other : j ≢ i =
             λ same. (let e : place_in j order ≡ place_in i order = ap (λ (m : ℕ). place_in m order) same in omega arith) in
-            let Kept : Bool → Type 0 = λ b. IsTrue b ↔ HasTwo (f.puzzle (rest_puzzle f g order p j)) in
-            let Rest : P → Type 0 = λ r. IsTrue (f.has q j) ↔ HasTwo (f.puzzle r) in
+            let Kept : Bool → Type 0 = λ b. IsTrue b ↔ HasSeveralSolutions (f.puzzle (rest_puzzle f g order p j)) in
+            let Rest : P → Type 0 = λ r. IsTrue (f.has q j) ↔ HasSeveralSolutions (f.puzzle r) in
             subst Rest (sym (same_rest j small_j (omega arith)))
             (subst Kept (sym (kept_other j small_j other)) (so_far.tried j small_j is_earlier))
       ];
@@ -219,6 +228,30 @@ pruned_all f g order k p grid latin is_order whole so_far = record {
   each = λ i small. so_far.tried i small (omega (arith, is_order.inside i small));
 }
 
+-- ---- the loop that tries them
+
+pub pruned_valid : {P : Type 0} (f : Ghosts P) (g : GridValue) (order : List ℕ) (k : ℕ) (p : P) → ItemLaws f → IsGrid g → IsLatin g
+    → IsPrunedTo f g order k p → f.valid p
+pruned_valid f g order k p laws grid latin so_far =
+    subst f.valid (sym so_far.is_cut) (laws.cut_valid (f.full_of g) (f.has p) (laws.full_valid g grid latin))
+
+-- one item more is tried: it stays or it goes
+pub pruned_next : {P : Type 0} (f : Ghosts P) (g : GridValue) (order : List ℕ) (k i : ℕ) (p q : P) → AreCuts f g
+    → IsOrder (f.items_of g.size) order → k < length order → i ≡ get_or order k 0 → IsPrunedTo f g order k p
+    → ((q ≡ p) × HasSeveralSolutions (f.puzzle (f.cut p (all_but i))))
+    ⊎ ((q ≡ f.cut p (all_but i)) × (HasSeveralSolutions (f.puzzle (f.cut p (all_but i))) → ⊥))
+    → IsPrunedTo f g order (k + 1) q
+pruned_next {P} f g order k i p q cuts is_order below is so_far tried =
+    let within : k < f.items_of g.size = omega (arith, is_order.count) in
+    let small : i < f.items_of g.size = omega (arith, is_order.items k within, is) in
+    let here : place_in i order ≡ k = ap (λ (j : ℕ). place_in j order) is ∙ is_order.places k within in
+    elim tried [
+      | inl stays ↦
+          let To : P → Type 0 = λ r. IsPrunedTo f g order (k + 1) r in
+          subst To (sym stays.0) (pruned_stays f g order k i p cuts is_order small here so_far stays.1)
+      | inr goes ↦ pruned_goes f g order k i p q cuts is_order small here so_far goes.1 goes.0
+    ]
+
 -- ---- there is just one
 
 same_bool : (a b : Bool) (A : Type 0) → (IsTrue a ↔ A) → (IsTrue b ↔ A) → a ≡ b
@@ -235,8 +268,8 @@ same_kept {P} f g order p q cuts first second (suc k) i small before =
     cuts.agrees (rest order (f.has p) i) (rest order (f.has q) i)
     (rest_agrees (f.items_of g.size) order (f.has p) (f.has q) i first.is_order small
     (λ j small_j earlier. same_kept f g order p q cuts first second k j small_j (omega arith))) in
-    let Rest : P → Type 0 = λ r. IsTrue (f.has q i) ↔ HasTwo (f.puzzle r) in
-    same_bool (f.has p i) (f.has q i) (HasTwo (f.puzzle (rest_puzzle f g order p i))) (first.each i small)
+    let Rest : P → Type 0 = λ r. IsTrue (f.has q i) ↔ HasSeveralSolutions (f.puzzle r) in
+    same_bool (f.has p i) (f.has q i) (HasSeveralSolutions (f.puzzle (rest_puzzle f g order p i))) (first.each i small)
     (subst Rest (sym same) (second.each i small))
 
 pub pruned_one : {P : Type 0} (f : Ghosts P) (g : GridValue) (order : List ℕ) (p q : P) → AreCuts f g → IsPruned f g order p
@@ -250,7 +283,7 @@ pruned_one f g order p q cuts first second =
 -- ---- without any item that is kept there are two solutions
 
 pub pruned_needed : {P : Type 0} (f : Ghosts P) (g : GridValue) (order : List ℕ) (p : P) → AreCuts f g → IsPruned f g order p
-    → (i : ℕ) → i < f.items_of g.size → IsTrue (f.has p i) → HasTwo (f.puzzle (f.cut p (all_but i)))
+    → (i : ℕ) → i < f.items_of g.size → IsTrue (f.has p i) → HasSeveralSolutions (f.puzzle (f.cut p (all_but i)))
 pruned_needed {P} f g order p cuts pruned i small there =
     let two = (pruned.each i small).0 there in
     let fewer : f.cut (f.full_of g) (λ j. rest order (f.has p) i j && (f.has p j && all_but i j)) ≡ f.cut p (all_but i) =
@@ -261,9 +294,9 @@ pruned_needed {P} f g order p cuts pruned i small there =
     subst (λ (q : P). Solves (f.puzzle q) h) fewer
     (cuts.loses_none (rest order (f.has p) i) (λ j. f.has p j && all_but i j) h s) in
     record {
-      first = two.first;
-      second = two.second;
-      solves_first = solved two.first two.solves_first;
-      solves_second = solved two.second two.solves_second;
+      one = two.one;
+      other = two.other;
+      one_solves = solved two.one two.one_solves;
+      other_solves = solved two.other two.other_solves;
       differ = two.differ;
     }

@@ -1,7 +1,8 @@
+-- Seeded squares and orders, the pruned puzzle of a square, what is generated, and the faults.
 pub mod Orders
 pub mod SeededSquares
 pub mod Pruning
-pub mod Removal
 pub mod GenFaults
 pub mod Generating
-pub mod ForcedSquares
+-- words that the contracts of private functions alone use
+pub mod Inner

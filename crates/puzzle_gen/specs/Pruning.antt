@@ -1,22 +1,9 @@
 -- The pruned puzzle of a Latin square and an order of the items, over the ghost members of `Rules`.
-use Rattle.std.specs.Prelude.{◌≡◌, ◌≢◌, ◌↔◌, ℕ, ◌<◌, ◌==◌, Bool, not, nat_lt, if◌then◌else◌, List, IsTrue}
+use Rattle.std.specs.Prelude.{◌≡◌, ◌↔◌, ℕ, ◌<◌, ◌==◌, Bool, not, nat_lt, if◌then◌else◌, List, IsTrue}
 use Rattle.latin_board.specs.Squares.{GridValue, IsGrid, IsLatin}
-use Rattle.trail_solver.specs.Puzzles.{Puzzle, Solves}
+use Rattle.trail_solver.specs.Solutions.{HasSeveralSolutions}
 use Rattle.trail_solver.specs.declared.rules.Rules.{Ghosts}
 use Rattle.puzzle_gen.specs.Orders.{place_in, IsOrder}
-
--- two different grids solve the puzzle
-pub record HasTwo (p : Puzzle) : Type 0 where
-  pub first : GridValue
-  pub second : GridValue
-  pub solves_first : Solves p first
-  pub solves_second : Solves p second
-  pub differ : first ≢ second
-
--- the grid solves the puzzle, and no other grid does
-pub record IsOnlySolution (p : Puzzle) (g : GridValue) : Type 0 where
-  pub solution : Solves p g
-  pub only : (h : GridValue) → Solves p h → h ≡ g
 
 -- all items but one
 abbrev pub all_but : ℕ → ℕ → Bool
@@ -32,10 +19,10 @@ abbrev pub rest_puzzle : {P : Type 0} → Ghosts P → GridValue → List ℕ �
 rest_puzzle f g order p i = f.cut (f.full_of g) (rest order (f.has p) i)
 
 -- the pruned puzzle of a Latin square and an order of its items: a cut of the square's full puzzle that has an item exactly
--- where the rest has two different solutions
+-- where the rest has several solutions
 pub record IsPruned {P : Type 0} (f : Ghosts P) (g : GridValue) (order : List ℕ) (p : P) : Type 0 where
   pub is_grid : IsGrid g
   pub is_latin : IsLatin g
   pub is_order : IsOrder (f.items_of g.size) order
   pub is_cut : p ≡ f.cut (f.full_of g) (f.has p)
-  pub each : (i : ℕ) → i < f.items_of g.size → IsTrue (f.has p i) ↔ HasTwo (f.puzzle (rest_puzzle f g order p i))
+  pub each : (i : ℕ) → i < f.items_of g.size → IsTrue (f.has p i) ↔ HasSeveralSolutions (f.puzzle (rest_puzzle f g order p i))

@@ -3,16 +3,15 @@
 ghost use Rattle.std.specs.Prelude.{◌≡◌, ◌≤◌, length};
 ghost use Rattle.std.specs.List.{range_with_len};
 ghost use Rattle.rand_chacha.specs.ChaCha.{of_seed};
+ghost use Rattle.clue_rules.specs.declared.game.TheConstants.{MOST_ITEMS};
 ghost use Rattle.puzzle_gen.specs.Orders.{IsOrder};
 ghost use Rattle.puzzle_gen.specs.SeededSquares.{key_bytes, drawn_order};
 
 use arrayvec::ArrayVec;
+use clue_rules::MOST_ITEMS;
 use rand::seq::SliceRandom;
 use rand_chacha::ChaCha20Rng;
 use rand_core::{Rng, SeedableRng};
-
-/// How many items a puzzle of size 6 can have, in the game that has the most.
-pub(crate) const ITEMS: usize = 96;
 
 /// The generator of random words of a seed.
 pub(crate) fn rng_of(seed: u64) -> ChaCha20Rng
@@ -24,8 +23,8 @@ pub(crate) fn rng_of(seed: u64) -> ChaCha20Rng
 }
 
 /// The items below the count, in an order that is drawn.
-pub(crate) fn draw_items<R: Rng>(rng: &mut R, count: usize) -> ArrayVec<u8, ITEMS>
-    requires { count ≤ ITEMS }
+pub(crate) fn draw_items<R: Rng>(rng: &mut R, count: usize) -> ArrayVec<u8, MOST_ITEMS>
+    requires { count ≤ MOST_ITEMS }
     ensures order { IsOrder count result.items }
     ensures drawn { (result.items, R.stream rng.new) ≡ drawn_order count (R.stream rng.old) }
 {
@@ -35,8 +34,8 @@ pub(crate) fn draw_items<R: Rng>(rng: &mut R, count: usize) -> ArrayVec<u8, ITEM
 }
 
 // The items below the count.
-fn first_items(count: usize) -> ArrayVec<u8, ITEMS>
-    requires { count ≤ ITEMS }
+fn first_items(count: usize) -> ArrayVec<u8, MOST_ITEMS>
+    requires { count ≤ MOST_ITEMS }
     ensures { result.items ≡ range_with_len 0 count }
 {
     let mut items = ArrayVec::new();

@@ -1,11 +1,11 @@
 //! A quick test for puzzles with many givens: whether rows and columns alone lead from them to the known solution.
 
-ghost use Rattle.std.specs.Prelude.{◌≡◌, ◌≢◌, ℕ, ◌*◌, ◌<◌, ◌≤◌, true, false, slice_index_or};
+ghost use Rattle.std.specs.Prelude.{◌≡◌, ℕ, ◌*◌, ◌<◌, ◌≤◌, true, false, slice_index_or};
 ghost use Rattle.std.specs.Bool.{OnTrue};
 ghost use Rattle.latin_board.specs.Squares.{GridValue, IsFull, IsGrid, IsLatin, number_at};
 ghost use Rattle.trail_solver.specs.Puzzles.{Solves};
-ghost use Rattle.puzzle_gen.specs.Pruning.{HasTwo};
-ghost use Rattle.puzzle_gen.specs.ForcedSquares.{HasFound, IsForced, StandsAtPeer};
+ghost use Rattle.trail_solver.specs.Solutions.{HasSeveralSolutions};
+ghost use Rattle.puzzle_gen.specs.Inner.ForcedSquares.{HasFound, IsForced, StandsAtPeer};
 
 use latin_board::Grid;
 use trail_solver::Rules;
@@ -14,7 +14,7 @@ use trail_solver::Rules;
 /// solution. Then it is the only one.
 pub(crate) fn is_forced<P: Rules>(puzzle: &P, known: &Grid) -> bool
     requires { Solves (P.puzzle puzzle.now) known.now }
-    ensures { OnTrue result (HasTwo (P.puzzle puzzle.now) → ⊥) }
+    ensures { OnTrue result (HasSeveralSolutions (P.puzzle puzzle.now) → ⊥) }
 {
     let mut found = givens_of(puzzle);
     for _pass in 0..81 {

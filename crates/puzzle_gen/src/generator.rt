@@ -1,10 +1,10 @@
 //! The puzzle of a game, of parameters and a seed.
 
 ghost use Rattle.std.specs.Prelude.{◌≡◌, ℕ, ◌<◌, ◌≤◌, Result, IfOk, IsTrue};
-ghost use Rattle.latin_board.specs.Squares.{IsLatin};
-ghost use Rattle.puzzle_gen.specs.SeededSquares.{drawn_order, square_of, trial_order};
-ghost use Rattle.puzzle_gen.specs.Pruning.{HasTwo, IsOnlySolution, all_but};
-ghost use Rattle.puzzle_gen.specs.Removal.{IsOnePruned};
+ghost use Rattle.puzzle_gen.specs.SeededSquares.{square_of, trial_order};
+ghost use Rattle.trail_solver.specs.Solutions.{HasSeveralSolutions, IsOnlySolution};
+ghost use Rattle.puzzle_gen.specs.Pruning.{all_but};
+ghost use Rattle.puzzle_gen.specs.Inner.OnePruned.{IsOnePruned};
 ghost use Rattle.puzzle_gen.specs.declared.gen_fault.GenFault.{GenFault};
 ghost use Rattle.puzzle_gen.specs.Generating.{Generates};
 
@@ -13,8 +13,7 @@ use crate::gen_fault::GenFault;
 use crate::pruning::pruned;
 use crate::seeded_square::draw_square;
 use clue_rules::{Game, Params};
-use latin_board::{Grid, Size};
-use rand_core::Rng;
+use latin_board::Size;
 use trail_solver::Rules;
 
 /// The puzzle of these parameters and this seed.
@@ -33,7 +32,7 @@ pub fn generate<P: Game>(params: &Params, seed: u64) -> Result<P, GenFault>
 
     // Without any one of its items it has several solutions.
     ensures all_needed { IfOk result (λ p. (i : ℕ) → i < P.items_of params.now.size
-        → IsTrue (P.has p i) → HasTwo (P.puzzle (P.cut p (all_but i)))) }
+        → IsTrue (P.has p i) → HasSeveralSolutions (P.puzzle (P.cut p (all_but i)))) }
 
     // Its description in the written form describes a puzzle, and that puzzle has exactly one solution.
     ensures described { IfOk result (λ p. P.describes (P.desc_of p) p) }
@@ -50,25 +49,14 @@ pub fn generate<P: Game>(params: &Params, seed: u64) -> Result<P, GenFault>
     Ok(seeded(params.size, seed))
 }
 
-// The pruned puzzle of a seed.
-fn seeded<P: Rules>(size: Size, seed: u64) -> P
+// The pruned puzzle of a seed: its square is drawn first, and then the order in which the items are tried.
+fn seeded<P: Game>(size: Size, seed: u64) -> P
     requires { size ≤ 6 }
     ensures { IsOnePruned ⟦<P as Rules>⟧ (square_of size seed)
         (trial_order (P.items_of size) size seed) result }
 {
     let mut rng = rng_of(seed);
     let grid = draw_square(size, &mut rng);
-    pruned_next(&grid, &mut rng)
-}
-
-// The puzzle of a square, pruned in an order that is drawn next.
-fn pruned_next<P: Rules, R: Rng>(grid: &Grid, rng: &mut R) -> P
-    requires small { grid.now.size ≤ 6 }
-    requires latin { IsLatin grid.now }
-    ensures { IsOnePruned ⟦<P as Rules>⟧ grid.now
-        (drawn_order (P.items_of grid.now.size) (R.stream rng.old)).0 result }
-{
-    let count = P::item_count(grid.size());
-    let order = draw_items(rng, count);
-    pruned(grid, order.as_slice())
+    let order = draw_items(&mut rng, P::item_count(size));
+    pruned(&grid, order.as_slice())
 }

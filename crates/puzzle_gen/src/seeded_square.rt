@@ -1,6 +1,6 @@
 //! The Latin square of a seed.
 
-ghost use Rattle.std.specs.Prelude.{◌≡◌, length};
+ghost use Rattle.std.specs.Prelude.{◌≡◌};
 ghost use Rattle.latin_board.specs.Squares.{IsLatin};
 ghost use Rattle.puzzle_gen.specs.Orders.{IsOrder};
 ghost use Rattle.puzzle_gen.specs.SeededSquares.{combined, drawn_square, square_of};

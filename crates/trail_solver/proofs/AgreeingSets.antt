@@ -6,19 +6,21 @@ use Rattle.std.proofs.lemmas.List.{get_or-replicate, length-append}
 use Rattle.std.proofs.lemmas.List.Folds.{list_any_at}
 use Rattle.std.proofs.lemmas.Nat.{mul-le, one_shl}
 use Rattle.std.proofs.lemmas.Option.{get_or_from_slice_get, slice_get_within}
+use Rattle.latin_board.specs.declared.grid.TheConstants.{CELLS}
+use Rattle.trail_solver.specs.declared.candidates.TheConstants.{PAIRS}
 use Rattle.latin_board.specs.Marks.{has_mark, full_marks}
 use Rattle.latin_board.proofs.MarkSets.{has_mark-full_marks}
 use Rattle.trail_solver.specs.Pairs.{IsPair, AreApart, has_pair}
-use Rattle.trail_solver.specs.Fields.{AgreesWithTrail, FlipsBit}
+use Rattle.trail_solver.specs.Inner.Fields.{AgreesWithTrail, FlipsBit}
 use Rattle.trail_solver.proofs.Trails.{same_pair, pair_from_test, test_from_pair, has_pair-push, apart_push, apart_front, length-le_from_apart}
 
--- a grid of the size has at most 81 squares
-pub squares_fit : (w : ℕ) → w ≤ 9 → w * w ≤ 81
+-- a grid of the size has at most `CELLS` squares
+pub squares_fit : (w : ℕ) → w ≤ 9 → w * w ≤ CELLS
 squares_fit w high = mul-le w w 9 9 high high
 
--- and at most 729 pairs
-pub pairs_fit : (w : ℕ) → w ≤ 9 → w * w * w ≤ 729
-pairs_fit w high = mul-le (w * w) w 81 9 (squares_fit w high) high
+-- and at most `PAIRS` pairs
+pub pairs_fit : (w : ℕ) → w ≤ 9 → w * w * w ≤ PAIRS
+pairs_fit w high = mul-le (w * w) w CELLS 9 (squares_fit w high) high
 
 -- what the code computes of the values from 1 to w
 abbrev full_set : ℕ → ℕ
@@ -28,14 +30,14 @@ full_set-is : (w : ℕ) → w ≤ 9 → full_set w ≡ full_marks w
 full_set-is w high = let small : w + 1 < 16 = omega arith in ap (λ (k : ℕ). k - 2) (one_shl (w + 1) 16 small)
 
 -- at the start no pair has gone
-pub agrees_at_start : (w : ℕ) → 3 ≤ w → w ≤ 9 → AgreesWithTrail w (replicate 81 (full_set w)) []
+pub agrees_at_start : (w : ℕ) → 3 ≤ w → w ≤ 9 → AgreesWithTrail w (replicate CELLS (full_set w)) []
 agrees_at_start w low high = record {
   smallest = low;
   largest = high;
   places = refl;
   agree = λ cell value inside.
-      let near : cell < 81 = omega (arith, squares_fit w high) in
-      ap (λ m. has_mark m value) (get_or-replicate 81 cell (full_set w) 0 near ∙ full_set-is w high)
+      let near : cell < CELLS = omega (arith, squares_fit w high) in
+      ap (λ m. has_mark m value) (get_or-replicate CELLS cell (full_set w) 0 near ∙ full_set-is w high)
       ∙ has_mark-full_marks w value
       ∙ sym (and-true (leb 1 value && leb value w));
   in_range = λ cell value h. absurd (false≢true h);
@@ -156,7 +158,7 @@ trail_fits w sets trail k = length-le_from_apart w trail k.in_range k.apart
 
 -- there is room for a pair that isn't in the trail
 pub room_for_pair : (w : ℕ) (sets : List ℕ) (trail : List (ℕ × ℕ)) (cell value : ℕ) → AgreesWithTrail w sets trail → IsPair w cell value
-    → has_pair trail cell value ≡ false → length trail < 729
+    → has_pair trail cell value ≡ false → length trail < PAIRS
 room_for_pair w sets trail cell value k i n =
     let more = length-le_from_apart w (trail ++ (cell, value) ∷ []) (more_in_range w trail cell value k.in_range i) (apart_push trail (cell, value) k.apart n) in
     omega (arith, more, length-append trail ((cell, value) ∷ []), pairs_fit w k.largest)

@@ -3,8 +3,9 @@ use Rattle.std.proofs.Common.{◌≡◌, ℕ, ◌*◌, ◌<◌, true, false, sub
 use Rattle.std.proofs.lemmas.Bool.{both_ways}
 use Rattle.latin_board.specs.Squares.{GridValue}
 use Rattle.trail_solver.specs.Candidates.{CandidatesValue, IsEarlier, IsWithin, may_be}
-use Rattle.trail_solver.specs.Squares.{IsFilled, KeepsOnly}
-use Rattle.trail_solver.specs.Puzzles.{Puzzle, Solves, IsAmong, IsAmongAt}
+use Rattle.trail_solver.specs.Inner.Squares.{IsFilled, KeepsOnly}
+use Rattle.trail_solver.specs.Puzzles.{Puzzle, Solves}
+use Rattle.trail_solver.specs.Inner.Among.{IsAmong, IsAmongAt}
 use Rattle.trail_solver.proofs.Earlier.{within_earlier}
 use Rattle.trail_solver.proofs.FilledGrids.{solution_pair, only_filled}
 use Rattle.trail_solver.proofs.OneKept.{within_one_kept, value_one_kept}

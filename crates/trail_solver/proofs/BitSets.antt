@@ -5,7 +5,7 @@ use Rattle.std.proofs.lemmas.List.{get_or-set_same, get_or-set_other, length-set
 use Rattle.std.proofs.lemmas.Nat.{one_shl}
 use Rattle.latin_board.specs.Marks.{has_mark, flip_mark}
 use Rattle.latin_board.proofs.MarkSets.{has_mark-flip_mark}
-use Rattle.trail_solver.specs.Fields.{FlipsBit}
+use Rattle.trail_solver.specs.Inner.Fields.{FlipsBit}
 
 -- what the code computes of a square's set
 abbrev flipped : ℕ → ℕ → ℕ

@@ -7,7 +7,7 @@ use Rattle.latin_board.proofs.LatinLines.{latin_full}
 use Rattle.latin_board.proofs.Numbers.{number_within, same_numbers}
 use Rattle.trail_solver.specs.Pairs.{IsPair}
 use Rattle.trail_solver.specs.Candidates.{CandidatesValue, IsCandidates, IsOnly, IsWithin}
-use Rattle.trail_solver.specs.Squares.{IsFilled}
+use Rattle.trail_solver.specs.Inner.Squares.{IsFilled}
 use Rattle.trail_solver.specs.Puzzles.{Puzzle, Solves}
 
 -- the first k squares have their numbers

@@ -3,7 +3,8 @@ use Rattle.std.proofs.Common.{◌⊎◌, refl, sym, ◌∙◌, subst, ⊎_elim}
 use Rattle.latin_board.specs.Squares.{GridValue}
 use Rattle.trail_solver.specs.declared.answer.Answer.{Answer}
 use Rattle.trail_solver.specs.declared.answer.Answer.TheVariants.{None, One, Several}
-use Rattle.trail_solver.specs.Answers.{Fits, Adds}
+use Rattle.trail_solver.specs.Answers.{Fits}
+use Rattle.trail_solver.specs.Inner.Added.{Adds}
 
 -- the same solutions, told otherwise
 pub fits_same : (A B : GridValue → Type 0) (answer : Answer) → ((g : GridValue) → A g → B g) → ((g : GridValue) → B g → A g) → Fits A answer

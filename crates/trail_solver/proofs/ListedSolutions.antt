@@ -4,7 +4,8 @@ use Rattle.std.proofs.lemmas.Bool.{cases_lt}
 use Rattle.std.proofs.lemmas.List.{get_or_append_left, get_or-append_right}
 use Rattle.std.proofs.lemmas.List.Elements.{All-append, All-weaker, All-cons, All-nil, All-contains, Contains-get_or, Contains-append_left, Contains-append_right, Contains-push}
 use Rattle.latin_board.specs.Squares.{GridValue}
-use Rattle.trail_solver.specs.Listings.{IsBelow, AreFirst, Lists}
+use Rattle.trail_solver.specs.Listings.{IsBelow, AreFirst}
+use Rattle.trail_solver.specs.Inner.Listed.{Lists}
 
 -- pairs of two lists end to end
 all_pairs_append : {X : Type 0} (R : X → X → Type 0) (xs ys : List X) → AllPairs R xs → AllPairs R ys

@@ -3,9 +3,11 @@ use Rattle.std.proofs.Common.{◌≡◌, ℕ, ◌+◌, ◌-◌, ◌*◌, ◌<◌
 use Rattle.std.proofs.lemmas.Bool.{cases_order}
 use Rattle.latin_board.specs.Squares.{GridValue, number_at}
 use Rattle.trail_solver.specs.Candidates.{CandidatesValue, may_be}
-use Rattle.trail_solver.specs.Squares.{IsFilled, IsFirstOpen}
-use Rattle.trail_solver.specs.Puzzles.{Puzzle, Solves, IsAmong, IsAmongAt, IsAmongBelow}
-use Rattle.trail_solver.specs.Listings.{IsBelow, Lists}
+use Rattle.trail_solver.specs.Inner.Squares.{IsFilled, IsFirstOpen}
+use Rattle.trail_solver.specs.Puzzles.{Puzzle, Solves}
+use Rattle.trail_solver.specs.Inner.Among.{IsAmong, IsAmongAt, IsAmongBelow}
+use Rattle.trail_solver.specs.Listings.{IsBelow}
+use Rattle.trail_solver.specs.Inner.Listed.{Lists}
 use Rattle.trail_solver.proofs.AmongCandidates.{none_at_gone, none_where_filled}
 use Rattle.trail_solver.proofs.FilledGrids.{solution_pair, only_filled, filled_within}
 use Rattle.trail_solver.proofs.ListedSolutions.{AreFirst-none, AreFirst-full, AreFirst-only, lists_nothing, lists_same, lists_then}

@@ -7,7 +7,7 @@ use Rattle.std.proofs.lemmas.Nat.Bits.{bit_at-pow_same, bit_at-pow_other, bit_at
 use Rattle.latin_board.specs.Marks.{has_mark}
 use Rattle.latin_board.proofs.MarkSets.{has_mark-no_marks, same_marks}
 use Rattle.trail_solver.specs.Candidates.{CandidatesValue, IsSetOf, IsOnly, may_be}
-use Rattle.trail_solver.specs.Squares.{IsBranch, IsDead, IsOpen}
+use Rattle.trail_solver.specs.Inner.Squares.{IsBranch, IsDead, IsOpen}
 
 has_mark-pow_same : (k : ℕ) → has_mark (2 ^ k) k ≡ true
 has_mark-pow_same k = eq-eqb _ 1 (bit_at-pow_same k)

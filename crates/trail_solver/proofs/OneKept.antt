@@ -5,7 +5,7 @@ use Rattle.std.proofs.Math.Bool.{or-false}
 use Rattle.latin_board.specs.Squares.{GridValue, number_at}
 use Rattle.trail_solver.specs.Pairs.{IsPair, IsPrefix, has_pair, with_pair}
 use Rattle.trail_solver.specs.Candidates.{CandidatesValue, IsEarlier, IsWithin, may_be}
-use Rattle.trail_solver.specs.Squares.{KeepsOnly}
+use Rattle.trail_solver.specs.Inner.Squares.{KeepsOnly}
 use Rattle.trail_solver.proofs.Trails.{same_pair, pair_from_test, test_from_pair, has_pair-push}
 use Rattle.trail_solver.proofs.Earlier.{prefix_with_pair}
 

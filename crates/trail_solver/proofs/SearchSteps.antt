@@ -3,12 +3,13 @@ use Rattle.std.proofs.Common.{◌≡◌, ◌≢◌, ℕ, ◌*◌, ◌<◌, ◌�
 use Rattle.std.proofs.lemmas.Bool.{both_ways, cases_eq}
 use Rattle.latin_board.specs.Squares.{GridValue, number_at}
 use Rattle.trail_solver.specs.Candidates.{CandidatesValue, IsWithin, may_be}
-use Rattle.trail_solver.specs.Squares.{IsDead, IsFilled}
-use Rattle.trail_solver.specs.Puzzles.{Puzzle, Solves, IsAmong, IsAmongAt}
-use Rattle.trail_solver.specs.Searches.{SearchValue, IsFurther, AreSame}
+use Rattle.trail_solver.specs.Inner.Squares.{IsDead, IsFilled}
+use Rattle.trail_solver.specs.Puzzles.{Puzzle, Solves}
+use Rattle.trail_solver.specs.Inner.Among.{IsAmong, IsAmongAt}
+use Rattle.trail_solver.specs.Inner.Searches.{SearchValue, IsFurther, AreSame}
 use Rattle.trail_solver.specs.declared.answer.Answer.{Answer}
 use Rattle.trail_solver.specs.declared.answer.Answer.TheVariants.{Several}
-use Rattle.trail_solver.specs.Answers.{Adds}
+use Rattle.trail_solver.specs.Inner.Added.{Adds}
 use Rattle.trail_solver.proofs.AmongCandidates.{among_earlier, none_where_filled}
 use Rattle.trail_solver.proofs.Earlier.{earlier_trans, prefix_length}
 use Rattle.trail_solver.proofs.FilledGrids.{solution_pair, only_filled, filled_within}

@@ -1,5 +1,5 @@
 -- The tests that compute, and the rules that they stand for.
-use Rattle.std.proofs.Common.{◌≡◌, ℕ, ◌*◌, ◌<◌, eqb, Bool, true, ◌&&◌, ◌||◌, Decides, refl, inl, inr, eq-eqb, eqb-true, arith}
+use Rattle.std.proofs.Common.{◌≡◌, ℕ, ◌*◌, ◌<◌, eqb, Bool, true, ◌&&◌, ◌||◌, Decides, false, refl, sym, ap, ◌∙◌, inl, inr, eq-eqb, eqb-true, arith}
 use Rattle.std.proofs.lemmas.Bool.{cases_eq, or_cases, or_left, or_right}
 use Rattle.std.proofs.lemmas.Bool.Decides.{Decides-and, Decides-eqb, Decides-like, same_from_decides}
 use Rattle.latin_board.specs.Squares.{GridValue, IsGrid, number_at, latin_test}
@@ -35,9 +35,14 @@ Decides-solves_test p g grid =
     (Decides-givens_test p g))
     (λ h. h, λ h. h))
 
--- the test of a solution, where the sizes are equal and the grid is Latin
-pub solves_test-is : (p : Puzzle) (g : GridValue) (b : Bool) → g.size ≡ p.size → latin_test g ≡ true → Decides b (HoldsGivens p g)
-    → (b && p.meets g) ≡ solves_test p g
-solves_test-is p g b size latin givens =
-    let same : b ≡ givens_test p g = same_from_decides b (givens_test p g) givens (Decides-givens_test p g) in
-    rw (same, eq-eqb g.size p.size size, latin) refl
+-- an answer of two tests is that of a solution, where the sizes are equal and the grid is Latin
+pub tested_in_two : (p : Puzzle) (g : GridValue) (held b : Bool) → b ≡ (held && p.meets g) → g.size ≡ p.size → latin_test g ≡ true
+    → Decides held (HoldsGivens p g) → b ≡ solves_test p g
+tested_in_two p g held b both size latin givens =
+    let same : held ≡ givens_test p g = same_from_decides held (givens_test p g) givens (Decides-givens_test p g) in
+    both ∙ rw (same, eq-eqb g.size p.size size, latin) refl
+
+pub tested_in_one : (p : Puzzle) (g : GridValue) (held : Bool) → held ≡ false → g.size ≡ p.size → latin_test g ≡ true
+    → Decides held (HoldsGivens p g) → held ≡ solves_test p g
+tested_in_one p g held refused size latin givens =
+    tested_in_two p g held held (refused ∙ ap (λ (b : Bool). b && p.meets g) (sym refused)) size latin givens

@@ -9,11 +9,3 @@ abbrev pub Fits : (GridValue → Type 0) → Answer → Type 0
 Fits Solution None = (g : GridValue) → Solution g → ⊥
 Fits Solution (One g) = Solution g × ((h : GridValue) → Solution h → h ≡ g)
 Fits Solution (Several g h) = Solution g × Solution h × (g ≢ h)
-
--- the answer, where these solutions join those that were found before
-abbrev pub Adds : (GridValue → Type 0) → Answer → Answer → Type 0
-Adds Solution None answer = Fits Solution answer
-Adds Solution (One g) None = ⊥
-Adds Solution (One g) (One f) = (f ≡ g) × ((h : GridValue) → Solution h → h ≡ g)
-Adds Solution (One g) (Several f h) = (f ≡ g) × Solution h × (f ≢ h)
-Adds Solution (Several f h) answer = answer ≡ Several f h

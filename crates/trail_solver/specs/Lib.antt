@@ -1,9 +1,9 @@
--- Pairs and candidates, what the fields keep, squares in a search, puzzles and their solutions, answers, searches and listings.
+-- Pairs and candidates, puzzles and their solutions, answers and listings.
 pub mod Pairs
 pub mod Candidates
-pub mod Fields
-pub mod Squares
 pub mod Puzzles
+pub mod Solutions
 pub mod Answers
-pub mod Searches
 pub mod Listings
+-- words that the contracts of private functions alone use
+pub mod Inner

@@ -1,5 +1,5 @@
 -- The first solutions of a puzzle, in order.
-use Rattle.std.specs.Prelude.{◌≡◌, ℕ, ◌-◌, ◌<◌, ◌≤◌, ◌⊎◌, List, ◌++◌, length, All, AllPairs, Contains, slice_index}
+use Rattle.std.specs.Prelude.{◌≡◌, ℕ, ◌<◌, ◌≤◌, ◌⊎◌, List, length, All, AllPairs, Contains, slice_index}
 use Rattle.latin_board.specs.Squares.{GridValue}
 
 -- as lists of numbers f is below g: they agree up to some place, and f has the smaller number there
@@ -16,9 +16,3 @@ pub record AreFirst (Solution : GridValue → Type 0) (limit : ℕ) (listed : Li
   pub rising : AllPairs IsBelow listed
   pub others : (g : GridValue) → Solution g
       → Contains listed g ⊎ ((length listed ≡ limit) × All (λ f. IsBelow f g) listed)
-
--- the new list is the old one followed by the first of these solutions, as many as the limit leaves
-pub record Lists (Solution : GridValue → Type 0) (limit : ℕ) (old new : List GridValue) : Type 0 where
-  pub more : List GridValue
-  pub whole : new ≡ old ++ more
-  pub first : AreFirst Solution (limit - length old) more

@@ -2,7 +2,6 @@
 use Rattle.std.specs.Prelude.{◌≡◌, ℕ, ◌*◌, ◌<◌, Bool, ◌==◌, ◌&&◌, ◌||◌, IsTrue}
 use Rattle.std.specs.List.{range_with_len, list_all}
 use Rattle.latin_board.specs.Squares.{GridValue, IsGrid, IsLatin, number_at, latin_test}
-use Rattle.trail_solver.specs.Candidates.{CandidatesValue, IsWithin}
 
 -- a width, the given number of each square, 0 for none, whether a grid meets the puzzle's clues or signs, and at which edge
 -- places a clue stands, which doesn't matter for its solutions
@@ -32,15 +31,3 @@ givens_test p g =
 -- `Solves`, of a grid, as a test that computes
 abbrev pub solves_test : Puzzle → GridValue → Bool
 solves_test p g = (((g.size == p.size) && latin_test g) && givens_test p g) && p.meets g
-
--- a solution whose numbers are all candidates
-abbrev pub IsAmong : Puzzle → CandidatesValue → GridValue → Type 0
-IsAmong p c g = Solves p g × IsWithin c g
-
--- one with the value in the cell
-abbrev pub IsAmongAt : Puzzle → CandidatesValue → ℕ → ℕ → GridValue → Type 0
-IsAmongAt p c cell value g = Solves p g × (IsWithin c g × (number_at g cell ≡ value))
-
--- one with a smaller value in the cell
-abbrev pub IsAmongBelow : Puzzle → CandidatesValue → ℕ → ℕ → GridValue → Type 0
-IsAmongBelow p c cell value g = Solves p g × (IsWithin c g × (number_at g cell < value))

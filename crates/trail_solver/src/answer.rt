@@ -1,6 +1,6 @@
 //! What the solver answers: none, one or several solutions.
 ghost use Rattle.std.specs.Prelude.{◌≡◌};
-ghost use Rattle.trail_solver.specs.Answers.{Adds};
+ghost use Rattle.trail_solver.specs.Inner.Added.{Adds};
 
 use latin_board::Grid;
 

@@ -1,19 +1,19 @@
 //! Candidates: which values each square may still have, with the trail of what was removed.
-ghost use Rattle.std.specs.Prelude.{◌≡◌, ℕ, ◌+◌, ◌-◌, ◌*◌, ◌<◌, ◌≤◌, true, List, [], length, take, MatchOption};
+ghost use Rattle.std.specs.Prelude.{◌≡◌, ℕ, ◌+◌, ◌-◌, ◌*◌, ◌<◌, ◌≤◌, [], length, take, MatchOption};
+ghost use Rattle.latin_board.specs.declared.grid.TheConstants.{CELLS};
 ghost use Rattle.trail_solver.specs.Pairs.{IsPair, with_pair};
 ghost use Rattle.trail_solver.specs.Candidates.{CandidatesValue, IsCandidates, IsSetOf, IsOnly, IsEarlier, may_be};
-ghost use Rattle.trail_solver.specs.Fields.{FlipsBit};
+ghost use Rattle.trail_solver.specs.Inner.Fields.{FlipsBit};
 
 use arrayvec::ArrayVec;
-use latin_board::Size;
+use latin_board::{CELLS, Size};
 use std::marker::Model;
 
-/// The squares of the largest grid.
-const CELLS: usize = 81;
 /// The pairs of a square and a value in the largest grid, and so the longest trail.
-const PAIRS: usize = 729;
+pub(crate) const PAIRS: usize = 729;
 
-/// A place in the trail of `Candidates`, to give back what is removed from then on. Contracts see the trail's length.
+/// A place in the trail of `Candidates`, to give back what is removed from then on; no pencil mark. Contracts see the trail's
+/// length.
 #[derive(Clone, Copy, PartialEq, Eq, Debug)]
 pub struct Mark {
     len: usize,
@@ -50,7 +50,7 @@ pub struct Candidates {
 
 impl Model for Candidates {
     ghost use Rattle.trail_solver.specs.Candidates.{CandidatesValue};
-    ghost use Rattle.trail_solver.specs.Fields.{AgreesWithTrail};
+    ghost use Rattle.trail_solver.specs.Inner.Fields.{AgreesWithTrail};
 
     ghost Value = { CandidatesValue };
 
@@ -112,7 +112,7 @@ impl Candidates {
         if set == 1 << value { Some(value) } else { None }
     }
 
-    /// The place in the trail that `give_back` restores.
+    /// The place in the trail that `give_back` restores; no pencil mark.
     pub fn mark(&self) -> Mark
         ensures { result ≡ length self.now.trail }
     {

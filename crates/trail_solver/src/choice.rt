@@ -2,7 +2,7 @@
 
 ghost use Rattle.std.specs.Prelude.{MatchOption};
 ghost use Rattle.std.specs.Bool.{OnTrue};
-ghost use Rattle.trail_solver.specs.Squares.{AreSettled, IsBranch, IsChoice, IsFirstOpen, IsOpen};
+ghost use Rattle.trail_solver.specs.Inner.Squares.{AreSettled, IsBranch, IsChoice, IsFirstOpen, IsOpen};
 
 use crate::candidates::Candidates;
 use crate::failures::Failures;
@@ -61,14 +61,15 @@ fn lowest_at(candidates: &Candidates, cell: usize) -> Choice
 }
 
 /// The first open square in reading order.
+#[tactic(auto, using(crate::proofs::SettledSquares::settled_below_more))]
 pub(crate) fn first_open(candidates: &Candidates) -> Option<usize>
     ensures { MatchOption result (AreSettled candidates.now) (IsFirstOpen candidates.now) }
 {
     let width = candidates.size().get() as usize;
     for cell in 0..width * width {
-        if candidates.only(cell).is_none() {
+        let Some(_) = candidates.only(cell) else {
             return Some(cell);
-        }
+        };
     }
     None
 }

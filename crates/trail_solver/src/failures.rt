@@ -2,6 +2,7 @@
 //! thumb by which a place to branch is proposed.
 
 ghost use Rattle.std.specs.Prelude.{◌<◌};
+ghost use Rattle.trail_solver.specs.declared.failures.TheConstants.{LINES};
 
 use crate::candidates::Candidates;
 
@@ -38,7 +39,7 @@ impl Failures {
 
     /// How often the search failed in a line.
     pub fn of_line(&self, line: u8) -> u32
-        requires { line < 18 }
+        requires { line < LINES }
         ensures { result < 65536 }
     {
         u32::from(self.lines[line as usize])

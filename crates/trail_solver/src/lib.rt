@@ -19,15 +19,15 @@ mod candidates;
 mod choice;
 mod failures;
 mod listing;
+mod place_counts;
 mod proposal;
 mod rules;
 mod search;
 mod solver;
 mod squares;
-mod tally;
 
 pub use answer::Answer;
 pub use candidates::{Candidates, Mark};
-pub use listing::solutions;
+pub use listing::{MOST_LISTED, solutions};
 pub use rules::{Rules, solves};
 pub use solver::solve;

@@ -1,10 +1,13 @@
 //! The listing: the first solutions of a puzzle, in order.
 ghost use Rattle.std.specs.Prelude.{◌≡◌, ◌<◌, ◌≤◌, length, IfOk, OnOk};
 ghost use Rattle.trail_solver.specs.Pairs.{IsPair};
-ghost use Rattle.trail_solver.specs.Squares.{AreSettled, IsFirstOpen, IsOpen};
-ghost use Rattle.trail_solver.specs.Puzzles.{IsAmong, IsAmongAt, Solves};
-ghost use Rattle.trail_solver.specs.Searches.{IsFurther};
-ghost use Rattle.trail_solver.specs.Listings.{AreFirst, Lists};
+ghost use Rattle.trail_solver.specs.Inner.Squares.{AreSettled, IsFirstOpen, IsOpen};
+ghost use Rattle.trail_solver.specs.Inner.Among.{IsAmong, IsAmongAt};
+ghost use Rattle.trail_solver.specs.Puzzles.{Solves};
+ghost use Rattle.trail_solver.specs.Inner.Searches.{IsFurther};
+ghost use Rattle.trail_solver.specs.Listings.{AreFirst};
+ghost use Rattle.trail_solver.specs.Inner.Listed.{Lists};
+ghost use Rattle.trail_solver.specs.declared.listing.TheConstants.{MOST_LISTED};
 
 use crate::answer::Answer;
 use crate::choice::first_open;
@@ -14,112 +17,123 @@ use crate::squares::filled;
 use latin_board::{Grid, OutOfMemory};
 use std::alloc::Global;
 
+/// The most solutions that a listing can be asked for.
+pub const MOST_LISTED: u8 = 100;
+
 /// The first solutions of the puzzle as lists of numbers in reading order, rising, each once; all of them where there
-/// are no more than the limit, which is from 1 to 100. `OutOfMemory` where a growth was refused.
+/// are no more than the limit, which is from 1 to `MOST_LISTED`. `OutOfMemory` where a growth was refused.
 ///
 /// It goes through the squares in reading order and their values from 1 up, and asks the search before it goes on with a
 /// value: it never goes on where there is no solution.
 pub fn solutions<P: Rules>(alloc: Global, p: &P, limit: u8) -> Result<Vec<Grid>, OutOfMemory>
     requires least { 1 ≤ limit }
-    requires most { limit ≤ 100 }
+    requires most { limit ≤ MOST_LISTED }
     ensures { IfOk result (λ listed. AreFirst (Solves (P.puzzle p.now)) limit listed.items) }
 {
-    let mut listed = Vec::new(alloc);
-    if let Some(mut search) = Search::start(p) {
-        list(&mut search, limit, &mut listed)?;
-    }
-    Ok(listed)
-}
-
-// Lists the solutions among the candidates, while there is room.
-#[cycle(listing)]
-fn list<P: Rules>(
-    search: &mut Search<P>,
-    limit: u8,
-    listed: &mut Vec<Grid>,
-) -> Result<(), OutOfMemory>
-    requires { length listed.old.items < limit }
-    ensures further { IsFurther search.old search.new }
-    ensures lists { OnOk result (Lists (IsAmong (P.puzzle search.old.rules) search.old.candidates)
-        limit listed.old.items listed.new.items) }
-{
-    let Some(cell) = first_open(&search.candidates) else {
-        return list_leaf(search, limit, listed);
+    let Some(search) = Search::start(p) else {
+        return Ok(Vec::new(alloc));
     };
-    match search.answer() {
-        Answer::None => Ok(()),
-        Answer::One(grid) => Ok(listed.push(grid)?),
-        Answer::Several(_, _) => list_values(search, cell, limit, listed),
-    }
+    let mut listing = Listing {
+        search,
+        limit,
+        listed: Vec::new(alloc),
+    };
+    listing.list()?;
+    Ok(listing.listed)
 }
 
-// Lists them by the values of the first open square.
-#[cycle(listing)]
-fn list_values<P: Rules>(
-    search: &mut Search<P>,
-    cell: usize,
+/// A listing under way: the search that it asks, and the solutions that it has listed, of which the limit is the most.
+#[derive(Drop)]
+struct Listing<P: Rules> {
+    search: Search<P>,
     limit: u8,
-    listed: &mut Vec<Grid>,
-) -> Result<(), OutOfMemory>
-    requires first { IsFirstOpen search.old.candidates cell }
-    requires room { length listed.old.items < limit }
-    ensures further { IsFurther search.old search.new }
-    ensures lists { OnOk result (Lists (IsAmong (P.puzzle search.old.rules) search.old.candidates)
-        limit listed.old.items listed.new.items) }
-{
-    let width = search.candidates.size().get();
-    for value in 1..width + 1 {
-        list_guess(search, cell, value, limit, listed)?;
-    }
-    Ok(())
+    listed: Vec<Grid>,
 }
 
-// Lists those that have the value in the cell, and leaves the candidates as they were.
-#[cycle(listing)]
-fn list_guess<P: Rules>(
-    search: &mut Search<P>,
-    cell: usize,
-    value: u8,
-    limit: u8,
-    listed: &mut Vec<Grid>,
-) -> Result<(), OutOfMemory>
-    requires open_cell { IsOpen search.old.candidates cell }
-    requires pair { IsPair search.old.candidates.size cell value }
-    requires few { length listed.old.items ≤ limit }
-    ensures same { search.new ≡ search.old }
-    ensures lists { OnOk result (Lists (IsAmongAt (P.puzzle search.old.rules) search.old.candidates cell value)
-        limit listed.old.items listed.new.items) }
-{
-    if listed.len() == limit as usize {
-        return Ok(());
+impl<P: Rules> Listing<P> {
+    // Lists the solutions among the candidates, while there is room.
+    #[cycle(listing)]
+    #[tactic(auto, using(crate::proofs::ListingSteps::none_lists, crate::proofs::ListingSteps::only_lists))]
+    fn list(&mut self) -> Result<(), OutOfMemory>
+        requires { length self.old.listed.items < self.old.limit }
+        ensures further { IsFurther self.old.search self.new.search }
+        ensures limit { self.new.limit ≡ self.old.limit }
+        ensures lists { OnOk result (Lists
+            (IsAmong (P.puzzle self.old.search.rules) self.old.search.candidates)
+            self.old.limit self.old.listed.items self.new.listed.items) }
+    {
+        let Some(cell) = first_open(&self.search.candidates) else {
+            return self.list_leaf();
+        };
+        match self.search.answer() {
+            Answer::None => Ok(()),
+            Answer::One(grid) => Ok(self.listed.push(grid)?),
+            Answer::Several(_, _) => self.list_values(cell),
+        }
     }
-    if !search.candidates.may(cell, value) {
-        return Ok(());
-    }
-    let mark = search.candidates.mark();
-    let done = if search.assume(cell, value) {
-        list(search, limit, listed)
-    } else {
+
+    // Lists them by the values of the first open square.
+    #[cycle(listing)]
+    fn list_values(&mut self, cell: usize) -> Result<(), OutOfMemory>
+        requires first { IsFirstOpen self.old.search.candidates cell }
+        requires room { length self.old.listed.items < self.old.limit }
+        ensures further { IsFurther self.old.search self.new.search }
+        ensures limit { self.new.limit ≡ self.old.limit }
+        ensures lists { OnOk result (Lists
+            (IsAmong (P.puzzle self.old.search.rules) self.old.search.candidates)
+            self.old.limit self.old.listed.items self.new.listed.items) }
+    {
+        let width = self.search.candidates.size().get();
+        for value in 1..width + 1 {
+            self.list_guess(cell, value)?;
+        }
         Ok(())
-    };
-    search.candidates.give_back(mark);
-    done
-}
-
-// Lists the only grid of the candidates, where it is a solution.
-fn list_leaf<P: Rules>(
-    search: &Search<P>,
-    limit: u8,
-    listed: &mut Vec<Grid>,
-) -> Result<(), OutOfMemory>
-    requires settled { AreSettled search.now.candidates }
-    requires room { length listed.old.items < limit }
-    ensures { OnOk result (Lists (IsAmong (P.puzzle search.now.rules) search.now.candidates)
-        limit listed.old.items listed.new.items) }
-{
-    let grid = filled(&search.candidates);
-    if solves(&search.rules, &grid) {
-        listed.push(grid)?;
     }
-    Ok(())
+
+    // Lists those that have the value in the cell, and leaves the candidates as they were.
+    #[cycle(listing)]
+    #[tactic(auto, using(crate::proofs::ListingSteps::full_lists, crate::proofs::ListingSteps::guess_lists_none))]
+    fn list_guess(&mut self, cell: usize, value: u8) -> Result<(), OutOfMemory>
+        requires open_cell { IsOpen self.old.search.candidates cell }
+        requires pair { IsPair self.old.search.candidates.size cell value }
+        requires few { length self.old.listed.items ≤ self.old.limit }
+        ensures same { self.new.search ≡ self.old.search }
+        ensures limit { self.new.limit ≡ self.old.limit }
+        ensures lists { OnOk result (Lists
+            (IsAmongAt (P.puzzle self.old.search.rules) self.old.search.candidates cell value)
+            self.old.limit self.old.listed.items self.new.listed.items) }
+    {
+        if self.listed.len() == self.limit as usize {
+            return Ok(());
+        }
+        if !self.search.candidates.may(cell, value) {
+            return Ok(());
+        }
+        let mark = self.search.candidates.mark();
+        let done = if self.search.assume(cell, value) {
+            self.list()
+        } else {
+            Ok(())
+        };
+        self.search.candidates.give_back(mark);
+        done
+    }
+
+    // Lists the only grid of the candidates, where it is a solution.
+    #[tactic(auto, using(crate::proofs::ListingSteps::leaf_lists, crate::proofs::ListingSteps::leaf_lists_none))]
+    fn list_leaf(&mut self) -> Result<(), OutOfMemory>
+        requires settled { AreSettled self.old.search.candidates }
+        requires room { length self.old.listed.items < self.old.limit }
+        ensures same { self.new.search ≡ self.old.search }
+        ensures limit { self.new.limit ≡ self.old.limit }
+        ensures lists { OnOk result (Lists
+            (IsAmong (P.puzzle self.old.search.rules) self.old.search.candidates)
+            self.old.limit self.old.listed.items self.new.listed.items) }
+    {
+        let grid = filled(&self.search.candidates);
+        if solves(&self.search.rules, &grid) {
+            self.listed.push(grid)?;
+        }
+        Ok(())
+    }
 }

@@ -7,7 +7,7 @@ ghost use Rattle.std.specs.Prelude.{◌*◌, ◌<◌};
 
 use crate::candidates::Candidates;
 use crate::failures::Failures;
-use crate::tally::Tally;
+use crate::place_counts::PlaceCounts;
 use latin_board::line_cell;
 
 /// What a square or a value weighs in whose lines nothing failed: a few failures don't make much of it.
@@ -86,7 +86,7 @@ fn best_value(
     // `size` tells that the width is at most 9, so that each line has its failures.
     let _size = candidates.size();
     let weight = WEIGHT + 2 * failures.of_line(line);
-    let Some((value, ways)) = tally_of(candidates, line).fewest() else {
+    let Some((value, ways)) = counts_of(candidates, line).fewest() else {
         return best;
     };
     if !is_better(best, ways, weight) {
@@ -110,15 +110,15 @@ fn is_better(best: Option<Proposal>, ways: u32, weight: u32) -> bool {
 }
 
 // How many places each value has in a line.
-fn tally_of(candidates: &Candidates, line: u8) -> Tally
+fn counts_of(candidates: &Candidates, line: u8) -> PlaceCounts
     requires { line < 2 * candidates.now.size }
 {
     let size = candidates.size();
-    let mut tally = Tally::none();
+    let mut counts = PlaceCounts::none();
     for place in 0..size.get() {
-        tally = tally.with(candidates.values(line_cell(size, line, place)));
+        counts = counts.with(candidates.values(line_cell(size, line, place)));
     }
-    tally
+    counts
 }
 
 // The first square of a line that may have a value.

@@ -2,8 +2,9 @@
 ghost use Rattle.std.specs.Prelude.{◌≡◌, ℕ, ◌*◌, ◌<◌, ◌≤◌, ◌↔◌, ◌==◌, ◌&&◌, Bool, true, not, IsTrue};
 ghost use Rattle.std.specs.Bool.{OnFalse};
 ghost use Rattle.latin_board.specs.Squares.{GridValue, IsGrid, IsFull, IsLatin, number_at};
-ghost use Rattle.trail_solver.specs.Candidates.{IsEarlier, IsWithin};
+ghost use Rattle.trail_solver.specs.Candidates.{IsEarlier};
 ghost use Rattle.trail_solver.specs.Puzzles.{Puzzle, Solves, HoldsGivens, solves_test};
+ghost use Rattle.trail_solver.specs.Solutions.{HasNoSolutionWithin, KeepsSolutions};
 
 use crate::candidates::Candidates;
 use latin_board::{Grid, Size};
@@ -53,10 +54,8 @@ pub trait Rules: Copy {
     fn narrow(&self, candidates: &mut Candidates) -> bool
         requires { candidates.old.size ≡ (puzzle self.now).size }
         ensures less { IsEarlier candidates.old candidates.new }
-        ensures keeps { (g : GridValue) → Solves (puzzle self.now) g
-            → IsWithin candidates.old g → IsWithin candidates.new g }
-        ensures refutes { OnFalse result ((g : GridValue) → Solves (puzzle self.now) g
-            → IsWithin candidates.old g → ⊥) };
+        ensures keeps { KeepsSolutions (puzzle self.now) candidates.old candidates.new }
+        ensures refutes { OnFalse result (HasNoSolutionWithin (puzzle self.now) candidates.old) };
 
     /// Removes candidates as `narrow` does, where `narrow` left these, and then the cell alone lost some: it need look
     /// only at what follows from that. The sizes are equal, and the cell is one of the grid's.
@@ -64,10 +63,8 @@ pub trait Rules: Copy {
         requires size { candidates.old.size ≡ (puzzle self.now).size }
         requires inside { cell < candidates.old.size * candidates.old.size }
         ensures less { IsEarlier candidates.old candidates.new }
-        ensures keeps { (g : GridValue) → Solves (puzzle self.now) g
-            → IsWithin candidates.old g → IsWithin candidates.new g }
-        ensures refutes { OnFalse result ((g : GridValue) → Solves (puzzle self.now) g
-            → IsWithin candidates.old g → ⊥) }
+        ensures keeps { KeepsSolutions (puzzle self.now) candidates.old candidates.new }
+        ensures refutes { OnFalse result (HasNoSolutionWithin (puzzle self.now) candidates.old) }
     {
         // All squares are looked at, whichever of them lost a candidate.
         let _cell = cell;
@@ -98,9 +95,6 @@ pub trait Rules: Copy {
 
     ghost valid_given: { (p : Self) (cell : ℕ) → valid p → cell < (puzzle p).size * (puzzle p).size
         → (puzzle p).given cell ≤ (puzzle p).size };
-
-    // A puzzle of a size that is generated, 3 to 6, has few items.
-    ghost few_items: { (n : ℕ) → 3 ≤ n → n ≤ 6 → items_of n ≤ 96 };
 
     // A cut has the items that were there and are in the set. To cut with every item is to change nothing, two cuts
     // are one, and only the items that the puzzle has matter.
@@ -142,6 +136,7 @@ pub trait Rules: Copy {
 
 /// Whether the grid is a solution of the puzzle: Latin, with the puzzle's givens, and meeting its clues or signs; the
 /// sizes are equal.
+#[tactic(auto, using(crate::proofs::SolutionTests::tested_in_two, crate::proofs::SolutionTests::tested_in_one))]
 pub fn solves<P: Rules>(p: &P, grid: &Grid) -> bool
     requires { grid.now.size ≡ (P.puzzle p.now).size }
     ensures rule { IsTrue result ↔ Solves (P.puzzle p.now) grid.now }

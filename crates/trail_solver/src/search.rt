@@ -1,12 +1,16 @@
 //! A search: the rules of a puzzle, the candidates that are left, and where it failed.
-ghost use Rattle.std.specs.Prelude.{◌≡◌, ◌*◌, ◌<◌, ◌≤◌, length, MatchOption};
+ghost use Rattle.std.specs.Prelude.{◌≡◌, ◌*◌, ◌<◌, length, MatchOption};
 ghost use Rattle.std.specs.Bool.{OnFalse};
 ghost use Rattle.latin_board.specs.Squares.{GridValue};
+ghost use Rattle.trail_solver.specs.declared.candidates.TheConstants.{PAIRS};
 ghost use Rattle.trail_solver.specs.Candidates.{IsWithin};
-ghost use Rattle.trail_solver.specs.Squares.{AreSettled, IsBranch};
-ghost use Rattle.trail_solver.specs.Puzzles.{IsAmong, IsAmongAt, Solves};
-ghost use Rattle.trail_solver.specs.Searches.{AreSame, IsFurther};
-ghost use Rattle.trail_solver.specs.Answers.{Adds, Fits};
+ghost use Rattle.trail_solver.specs.Inner.Squares.{AreSettled, IsBranch};
+ghost use Rattle.trail_solver.specs.Inner.Among.{IsAmong, IsAmongAt};
+ghost use Rattle.trail_solver.specs.Puzzles.{Solves};
+ghost use Rattle.trail_solver.specs.Solutions.{HasNoSolution};
+ghost use Rattle.trail_solver.specs.Inner.Searches.{AreSame, IsFurther};
+ghost use Rattle.trail_solver.specs.Inner.Added.{Adds};
+ghost use Rattle.trail_solver.specs.Answers.{Fits};
 
 use crate::answer::{Answer, added};
 use crate::candidates::Candidates;
@@ -29,7 +33,7 @@ pub(crate) struct Search<P: Rules> {
 
 impl<P: Rules> Model for Search<P> {
     ghost use Rattle.std.specs.Prelude.{◌≡◌};
-    ghost use Rattle.trail_solver.specs.Searches.{SearchValue};
+    ghost use Rattle.trail_solver.specs.Inner.Searches.{SearchValue};
 
     ghost Value = { SearchValue P };
 
@@ -41,7 +45,7 @@ impl<P: Rules> Model for Search<P> {
 impl<P: Rules> Search<P> {
     /// The search of a puzzle at its start, or `None` where narrowing finds that there is no solution.
     pub fn start(p: &P) -> Option<Search<P>>
-        ensures { MatchOption result ((g : GridValue) → Solves (P.puzzle p.now) g → ⊥)
+        ensures { MatchOption result (HasNoSolution (P.puzzle p.now))
             (λ s. (s.rules ≡ p.now) × ((g : GridValue) → Solves (P.puzzle p.now) g
             → IsWithin s.candidates g)) }
     {
@@ -114,7 +118,7 @@ impl<P: Rules> Search<P> {
         requires { IsBranch self.old.candidates cell value }
         ensures further { IsFurther self.old self.new }
         ensures longer { length self.old.candidates.trail < length self.new.candidates.trail }
-        ensures room { length self.old.candidates.trail < 729 }
+        ensures room { length self.old.candidates.trail < PAIRS }
         ensures same { AreSame (IsAmongAt (P.puzzle self.old.rules) self.old.candidates cell value)
             (IsAmong (P.puzzle self.new.rules) self.new.candidates) }
         ensures refutes { OnFalse result ((g : GridValue)
@@ -125,6 +129,7 @@ impl<P: Rules> Search<P> {
     }
 
     // Narrows candidates that the cell lost, and notes where that failed.
+    #[tactic(auto, using(crate::proofs::AmongCandidates::among_narrowed, crate::proofs::AmongCandidates::among_earlier))]
     fn propagate(&mut self, cell: usize) -> bool
         requires { cell < self.old.candidates.size * self.old.candidates.size }
         ensures further { IsFurther self.old self.new }
@@ -141,6 +146,7 @@ impl<P: Rules> Search<P> {
     }
 
     // Adds the only grid of the candidates, where it is a solution.
+    #[tactic(auto, using(crate::proofs::SearchSteps::leaf_adds, crate::proofs::SearchSteps::leaf_none))]
     fn at_leaf(&self, found: Answer) -> Answer
         requires { AreSettled self.now.candidates }
         ensures { Adds (IsAmong (P.puzzle self.now.rules) self.now.candidates) found result }

@@ -1,7 +1,8 @@
 //! Squares of the candidates: one value kept, one taken away, and the grid of settled squares.
 ghost use Rattle.std.specs.Prelude.{◌≡◌, ◌<◌, ◌≤◌, length};
+ghost use Rattle.trail_solver.specs.declared.candidates.TheConstants.{PAIRS};
 ghost use Rattle.trail_solver.specs.Pairs.{IsPair, with_pair};
-ghost use Rattle.trail_solver.specs.Squares.{AreSettled, IsBranch, IsFilled, KeepsOnly};
+ghost use Rattle.trail_solver.specs.Inner.Squares.{AreSettled, IsBranch, IsFilled, KeepsOnly};
 
 use crate::candidates::Candidates;
 use latin_board::Grid;
@@ -10,7 +11,7 @@ use latin_board::Grid;
 pub(crate) fn keep_only(candidates: &mut Candidates, cell: usize, value: u8)
     requires { IsPair candidates.old.size cell value }
     ensures kept { KeepsOnly candidates.old candidates.new cell value }
-    ensures bound { length candidates.new.trail ≤ 729 }
+    ensures bound { length candidates.new.trail ≤ PAIRS }
 {
     let width = candidates.size().get();
     for other in 1..width + 1 {
@@ -28,7 +29,7 @@ pub(crate) fn take_away(candidates: &mut Candidates, cell: usize, value: u8)
     ensures size { candidates.new.size ≡ candidates.old.size }
     ensures trail { candidates.new.trail ≡ with_pair candidates.old.trail cell value }
     ensures longer { length candidates.old.trail < length candidates.new.trail }
-    ensures bound { length candidates.new.trail ≤ 729 }
+    ensures bound { length candidates.new.trail ≤ PAIRS }
 {
     candidates.remove(cell, value);
     // What a trail's length can be is a clause of `trail_len`.

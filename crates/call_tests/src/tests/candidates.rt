@@ -41,8 +41,6 @@ impl Rules for Plain {
 
     ghost valid_given = { λ p cell h inside. number_within p.givens h cell inside };
 
-    ghost few_items = { λ n low high. Prim.omega arith };
-
     ghost cut_valid = { λ p keep h. h };
 
     ghost cut_size = { λ p keep h. refl };

@@ -13,6 +13,7 @@ use Rattle.latin_board.proofs.Numbers.{number_within}
 use Rattle.tower_lines.specs.TowersSeen.{seen}
 use Rattle.tower_lines.proofs.SeenLemmas.{seen_most, seen_some}
 use Rattle.trail_solver.specs.Puzzles.{Solves}
+use Rattle.clue_rules.specs.declared.game.TheConstants.{MOST_ITEMS}
 use Rattle.clue_rules.specs.Towers.{TowersValue, IsTowers, clue_of, HoldsClues, holds_clue, holds_clues, towers_puzzle, towers_items, has_towers, cut_towers, full_towers, given_grid}
 use Rattle.clue_rules.specs.Views.{view_of}
 use Rattle.clue_rules.specs.Laws.KeptItems.{length-kept, kept-all, kept-kept, All-kept, still_asked, has_item-kept, items_agree, has_item-full, not_positive, small_widths, IsGrid-kept}
@@ -61,8 +62,8 @@ cut_all v = rw (kept-all zero 0 v.clues, kept-all zero (4 * v.size) v.givens) re
 pub cut_cut : (v : TowersValue) (first second : ℕ → Bool) → cut_towers (cut_towers v first) second ≡ cut_towers v (λ i. first i && second i)
 cut_cut v first second = rw (kept-kept zero first second 0 v.clues, kept-kept zero first second (4 * v.size) v.givens) refl
 
-pub few_items : (w : ℕ) → 3 ≤ w → w ≤ 6 → towers_items w ≤ 96
-few_items w low high = small_widths (λ n. towers_items n ≤ 96) (omega arith) (omega arith) (omega arith) (omega arith) w low high
+pub few_items : (w : ℕ) → 3 ≤ w → w ≤ 6 → towers_items w ≤ MOST_ITEMS
+few_items w low high = small_widths (λ n. towers_items n ≤ MOST_ITEMS) (omega arith) (omega arith) (omega arith) (omega arith) w low high
 
 pub cut_agrees : (v : TowersValue) (a b : ℕ → Bool) → IsTowers v
     → ((i : ℕ) → i < towers_items v.size → has_towers v i ≡ true → a i ≡ b i) → cut_towers v a ≡ cut_towers v b

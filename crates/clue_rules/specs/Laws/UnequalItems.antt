@@ -8,6 +8,7 @@ use Rattle.latin_board.specs.Lines.{ArePeers}
 use Rattle.latin_board.proofs.LatinLines.{peers_differ}
 use Rattle.latin_board.proofs.Numbers.{number_within}
 use Rattle.trail_solver.specs.Puzzles.{Solves}
+use Rattle.clue_rules.specs.declared.game.TheConstants.{MOST_ITEMS}
 use Rattle.clue_rules.specs.declared.unequal.sign.Sign.{Sign}
 use Rattle.clue_rules.specs.declared.unequal.sign.Sign.TheVariants.{Absent, FirstGreater, SecondGreater}
 use Rattle.clue_rules.specs.Unequal.{UnequalValue, IsUnequal, IsAcross, IsDown, sign_count, sign_at, first_side, second_side, holds_sign, unequal_puzzle, unequal_items, is_present, has_unequal, cut_unequal, sign_of, full_unequal, given_grid}
@@ -41,8 +42,8 @@ pub cut_cut : (v : UnequalValue) (first second : ℕ → Bool)
     → cut_unequal (cut_unequal v first) second ≡ cut_unequal v (λ i. first i && second i)
 cut_cut v first second = rw (kept-kept Absent first second 0 v.signs, kept-kept zero first second (sign_count v.size) v.givens) refl
 
-pub few_items : (w : ℕ) → 3 ≤ w → w ≤ 6 → unequal_items w ≤ 96
-few_items w low high = small_widths (λ n. unequal_items n ≤ 96) (omega arith) (omega arith) (omega arith) (omega arith) w low high
+pub few_items : (w : ℕ) → 3 ≤ w → w ≤ 6 → unequal_items w ≤ MOST_ITEMS
+few_items w low high = small_widths (λ n. unequal_items n ≤ MOST_ITEMS) (omega arith) (omega arith) (omega arith) (omega arith) w low high
 
 not_present : (s : Sign) → is_present s ≡ false → s ≡ Absent
 not_present Absent h = refl

@@ -9,8 +9,9 @@ use std::alloc::Global;
 use trail_solver::Rules;
 
 impl Game for Towers {
+    ghost use Rattle.clue_rules.specs.Laws.TowersItems.{few_items as towers_few_items};
     ghost use Rattle.clue_rules.specs.Laws.GameIds.{towers_letters_lack};
-    ghost use Rattle.std.specs.Prelude.{codes};
+    ghost use Rattle.std.specs.Prelude.{codes, false};
     ghost use Rattle.clue_rules.specs.TowersText.{IsTowersText, towers_text, towers_at};
     ghost use Rattle.clue_rules.specs.Laws.TowersText.{towers_taken, towers_again, towers_canonical};
     ghost use Rattle.clue_rules.specs.Laws.SparedMemory.{towers_spares};
@@ -18,6 +19,8 @@ impl Game for Towers {
     ghost title = { codes "Towers" };
 
     ghost letter_codes = { codes "ehxu" };
+
+    ghost has_adjacent = { false };
 
     ghost describes = { λ text p. IsTowersText p text };
 
@@ -32,6 +35,10 @@ impl Game for Towers {
     /// Easy, Hard, Extreme and Unreasonable.
     fn letters() -> &'static str {
         "ehxu"
+    }
+
+    fn has_adjacent_mode() -> bool {
+        false
     }
 
     fn same(&self, other: &Towers) -> bool {
@@ -52,6 +59,8 @@ impl Game for Towers {
     fn write_desc(&self, alloc: Global) -> Result<Vec<u8>, IdFault> {
         write_towers(alloc, self)
     }
+
+    ghost few_items = { towers_few_items };
 
     ghost plain_letters = { towers_letters_lack };
 

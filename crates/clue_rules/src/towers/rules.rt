@@ -1,13 +1,14 @@
 //! The rules of Towers: its clues, and what a solver and a generator know of a puzzle.
 
-ghost use Rattle.std.specs.Prelude.{◌≡◌, ◌+◌, ◌-◌, ◌*◌, ◌<◌, ◌≤◌, ◌↔◌, ◌==◌, ◌&&◌, IsTrue};
+ghost use Rattle.std.specs.Prelude.{◌≡◌, ◌+◌, ◌-◌, ◌*◌, ◌<◌, ◌≤◌, ◌↔◌, ◌==◌, IsTrue};
 ghost use Rattle.std.specs.Bool.{OnFalse, OnTrue};
 ghost use Rattle.latin_board.specs.Squares.{IsFull};
 ghost use Rattle.tower_lines.specs.TowersSeen.{seen};
 ghost use Rattle.clue_rules.specs.Views.{view_of};
 ghost use Rattle.trail_solver.specs.Candidates.{IsEarlier};
+ghost use Rattle.trail_solver.specs.Solutions.{HasNoSolutionWithin, KeepsSolutions};
 ghost use Rattle.clue_rules.specs.Towers.{IsTowers, given_grid, clue_of, holds_clue, holds_clues, HoldsClues, towers_puzzle, towers_items, has_towers, cut_towers, full_towers};
-ghost use Rattle.clue_rules.specs.Struck.{IsTowersStruck, KeepsSolutions, HasNoSolutionWithin, NoneLeft};
+ghost use Rattle.clue_rules.specs.Struck.{IsTowersStruck, NoneLeft};
 
 use crate::lines::given_squares::keep_givens;
 use crate::lines::narrowing::{narrow_by_lines, narrow_by_lines_of};
@@ -160,8 +161,6 @@ impl Rules for Towers {
     ghost valid_size = { laws.valid_size };
 
     ghost valid_given = { laws.valid_given };
-
-    ghost few_items = { laws.few_items };
 
     ghost cut_valid = { laws.cut_valid };
 

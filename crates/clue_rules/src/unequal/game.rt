@@ -8,8 +8,9 @@ use latin_board::Size;
 use std::alloc::Global;
 
 impl Game for Unequal {
+    ghost use Rattle.clue_rules.specs.Laws.UnequalItems.{few_items as unequal_few_items};
     ghost use Rattle.clue_rules.specs.Laws.GameIds.{unequal_letters_lack};
-    ghost use Rattle.std.specs.Prelude.{codes};
+    ghost use Rattle.std.specs.Prelude.{codes, true};
     ghost use Rattle.clue_rules.specs.UnequalText.{IsUnequalText, unequal_text, unequal_at};
     ghost use Rattle.clue_rules.specs.Laws.UnequalText.{unequal_taken, unequal_again};
     ghost use Rattle.clue_rules.specs.Laws.UnequalWritten.{unequal_canonical};
@@ -18,6 +19,8 @@ impl Game for Unequal {
     ghost title = { codes "Unequal" };
 
     ghost letter_codes = { codes "tekxr" };
+
+    ghost has_adjacent = { true };
 
     ghost describes = { λ text p. IsUnequalText p text };
 
@@ -32,6 +35,10 @@ impl Game for Unequal {
     /// Trivial, Easy, Tricky, Extreme and Recursive.
     fn letters() -> &'static str {
         "tekxr"
+    }
+
+    fn has_adjacent_mode() -> bool {
+        true
     }
 
     fn same(&self, other: &Unequal) -> bool {
@@ -50,6 +57,8 @@ impl Game for Unequal {
     fn write_desc(&self, alloc: Global) -> Result<Vec<u8>, IdFault> {
         write_unequal(alloc, self)
     }
+
+    ghost few_items = { unequal_few_items };
 
     ghost plain_letters = { unequal_letters_lack };
 

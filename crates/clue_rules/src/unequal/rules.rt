@@ -4,9 +4,10 @@ ghost use Rattle.std.specs.Prelude.{◌≡◌, ℕ, ◌*◌, ◌<◌, ◌↔◌,
 ghost use Rattle.std.specs.Bool.{OnFalse, OnTrue};
 ghost use Rattle.latin_board.specs.Squares.{IsFull, IsLatin, number_at};
 ghost use Rattle.trail_solver.specs.Candidates.{IsEarlier};
+ghost use Rattle.trail_solver.specs.Solutions.{HasNoSolutionWithin, KeepsSolutions};
 ghost use Rattle.clue_rules.specs.Unequal.{IsUnequal, IsGreater, AreNeighbours, holds_signs, HoldsSigns, holds_sign_at, sign_count, unequal_puzzle, full_unequal};
 ghost use Rattle.clue_rules.specs.Inner.UnequalFields.{HoldsPlaces};
-ghost use Rattle.clue_rules.specs.Struck.{IsUnequalStruck, KeepsSolutions, HasNoSolutionWithin, NoneLeft};
+ghost use Rattle.clue_rules.specs.Struck.{IsUnequalStruck, NoneLeft};
 
 use crate::lines::given_squares::keep_givens;
 use crate::lines::narrowing::{narrow_by_lines, narrow_by_lines_of};
@@ -150,8 +151,6 @@ impl Rules for Unequal {
     ghost valid_size = { laws.valid_size };
 
     ghost valid_given = { laws.valid_given };
-
-    ghost few_items = { laws.few_items };
 
     ghost cut_valid = { laws.cut_valid };
 

@@ -1,6 +1,5 @@
 -- Both laws of game IDs, by what the game owes of its descriptions.
 use Rattle.std.proofs.Common.{◌∙◌, Result, subst, sym}
-use Rattle.clue_rules.specs.Parameters.{has_adjacent}
 use Rattle.clue_rules.specs.GameIds.{describes_at}
 use Rattle.clue_rules.specs.declared.id_fault.IdFault.{IdFault}
 use Rattle.clue_rules.specs.declared.game_id.GameId.{GameId}
@@ -12,7 +11,7 @@ pub returns-clause-found : goal.returns-clause-found
 returns-clause-found g c =
     let game = g.P.Game in
     let rules = g.P.Rules in
-    id_found g.row.P.Denot game.letter_codes (has_adjacent game.title) game.desc_at
+    id_found g.row.P.Denot game.letter_codes game.has_adjacent game.desc_at
     (describes_at rules.puzzle rules.valid game.describes) c.args.text.now c.parse_id.result
     (game_reads g.row.P.Denot rules.puzzle rules.valid game.describes game.desc_at g.met.P.Game.desc_taken g.met.P.Game.desc_again)
     c.parse_id.ensures
@@ -22,7 +21,7 @@ returns-clause-only g c = λ id text.
     let game = g.P.Game in
     let rules = g.P.Rules in
     c.parse_id.ensures
-    ∙ id_again g.row.P.Denot game.letter_codes (has_adjacent game.title) game.desc_at
+    ∙ id_again g.row.P.Denot game.letter_codes game.has_adjacent game.desc_at
     (describes_at rules.puzzle rules.valid game.describes) c.args.text.now id g.met.P.Game.plain_letters
     (game_reads g.row.P.Denot rules.puzzle rules.valid game.describes game.desc_at g.met.P.Game.desc_taken g.met.P.Game.desc_again)
     text
@@ -31,4 +30,4 @@ pub returns-clause-without_memory : goal.returns-clause-without_memory
 returns-clause-without_memory g c =
     let game = g.P.Game in
     subst (λ (r : Result (GameId g.row.P.Denot) IdFault). SparesMemory r) (sym c.parse_id.ensures)
-    (id_spares game.letter_codes (has_adjacent game.title) game.desc_at g.met.P.Game.desc_spares c.args.text.now)
+    (id_spares game.letter_codes game.has_adjacent game.desc_at g.met.P.Game.desc_spares c.args.text.now)

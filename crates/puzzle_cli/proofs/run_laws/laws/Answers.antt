@@ -1,4 +1,3 @@
-use Rattle.clue_rules.specs.Parameters.{has_adjacent}
 use Rattle.clue_rules.specs.GameIds.{describes_at}
 use Rattle.clue_rules.proofs.GameIdLemmas.{id_again, game_reads}
 use Rattle.puzzle_gen.proofs.ItemLaws.{laws_of}
@@ -21,7 +20,7 @@ returns-clause-one_output g c =
     let D = g.row.P.Denot in
     let is_desc = describes_at f.rules.puzzle f.rules.valid f.describes in
     let reads = game_reads D f.rules.puzzle f.rules.valid f.describes f.desc_at g.met.P.Game.desc_taken g.met.P.Game.desc_again in
-    let ids = ids_once f (λ text id. id_again D f.letters (has_adjacent f.title) f.desc_at is_desc text id
+    let ids = ids_once f (λ text id. id_again D f.letters f.has_adjacent f.desc_at is_desc text id
     g.met.P.Game.plain_letters reads) in
     output_once f (laws_of g.met.P.Rules) ids
 

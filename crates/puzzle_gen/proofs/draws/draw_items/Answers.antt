@@ -1,7 +1,7 @@
-use Rattle.std.proofs.Common.{ℕ, ◌∙◌, List, ap, sym}
+use Rattle.std.proofs.Common.{ℕ, ◌∙◌, ap, sym}
 use Rattle.std.specs.List.{range_with_len}
 use Rattle.puzzle_gen.specs.SeededSquares.{drawn_order}
-use Rattle.puzzle_gen.proofs.OrderPlaces.{length_range_made, refilled}
+use Rattle.puzzle_gen.proofs.OrderPlaces.{length_range_made, refilled, refilled_drawn}
 use Rattle.puzzle_gen.proofs.draws.draw_items.Goals as goal
 
 pub draw_order-requires : goal.draw_order-requires
@@ -17,7 +17,6 @@ returns-clause-order g c =
 
 pub returns-clause-drawn : goal.returns-clause-drawn
 returns-clause-drawn g c =
-    let done = refilled c.args.count c.first_items-items.result.items c.as_mut_slice.result.now c.draw_order.new.items
-    c.first_items-items.ensures c.as_mut_slice.ensures.value c.draw_order.ensures.order in
-    ap (λ (xs : List ℕ). (xs, g.R.Rng.stream c.draw_order.new.rng)) done.1
-    ∙ c.draw_order.ensures.drawn ∙ ap (λ (n : ℕ). drawn_order n (g.R.Rng.stream c.args.rng.now)) done.0
+    refilled_drawn (λ (n : ℕ). drawn_order n (g.R.Rng.stream c.args.rng.now)) c.args.count c.first_items-items.result.items
+    c.as_mut_slice.result.now c.draw_order.new.items (g.R.Rng.stream c.draw_order.new.rng)
+    c.first_items-items.ensures c.as_mut_slice.ensures.value c.draw_order.ensures.order c.draw_order.ensures.drawn

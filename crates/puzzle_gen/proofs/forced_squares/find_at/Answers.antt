@@ -1,6 +1,6 @@
 use Rattle.std.proofs.Common.{◌≡◌, sym, subst, arith}
 use Rattle.latin_board.specs.Squares.{number_at}
-use Rattle.puzzle_gen.specs.ForcedSquares.{IsForced}
+use Rattle.puzzle_gen.specs.Inner.ForcedSquares.{IsForced}
 use Rattle.puzzle_gen.proofs.ForcedNumbers.{found_more}
 use Rattle.puzzle_gen.proofs.forced_squares.find_at.Goals as goal
 

@@ -1,6 +1,6 @@
 use Rattle.std.proofs.Common.{◌≡◌}
 use Rattle.latin_board.specs.Squares.{GridValue, IsGrid, IsLatin}
-use Rattle.puzzle_gen.specs.ForcedSquares.{HasFound}
+use Rattle.puzzle_gen.specs.Inner.ForcedSquares.{HasFound}
 use Rattle.puzzle_gen.proofs.forced_squares.find_more.Given as goal
 
 abbrev pub invariant-loop-cell : goal.invariant-loop-cell

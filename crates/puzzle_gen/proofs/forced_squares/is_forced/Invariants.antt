@@ -1,7 +1,7 @@
 use Rattle.std.proofs.Common.{◌≡◌}
 use Rattle.latin_board.specs.Squares.{GridValue}
 use Rattle.trail_solver.specs.Puzzles.{Solves}
-use Rattle.puzzle_gen.specs.ForcedSquares.{HasFound}
+use Rattle.puzzle_gen.specs.Inner.ForcedSquares.{HasFound}
 use Rattle.puzzle_gen.proofs.forced_squares.is_forced.Given as goal
 
 abbrev pub invariant-loop-pass : goal.invariant-loop-pass

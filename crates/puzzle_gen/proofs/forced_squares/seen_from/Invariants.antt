@@ -1,5 +1,5 @@
 use Rattle.std.proofs.Common.{◌≡◌, ℕ, ◌≤◌, true, false, slice_index_or}
-use Rattle.puzzle_gen.specs.ForcedSquares.{StandsAtPeer}
+use Rattle.puzzle_gen.specs.Inner.ForcedSquares.{StandsAtPeer}
 use Rattle.puzzle_gen.proofs.forced_squares.seen_from.Given as goal
 
 abbrev pub invariant-loop-k : goal.invariant-loop-k

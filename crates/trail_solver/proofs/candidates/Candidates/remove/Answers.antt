@@ -2,7 +2,7 @@ use Rattle.std.proofs.Common.{◌≡◌, ℕ, false, List, lit<, sym, ◌∙◌,
 use Rattle.std.proofs.lemmas.Bool.{not-true}
 use Rattle.trail_solver.specs.Pairs.{IsPair, has_pair}
 use Rattle.trail_solver.specs.Candidates.{CandidatesValue}
-use Rattle.trail_solver.specs.Fields.{AgreesWithTrail}
+use Rattle.trail_solver.specs.Inner.Fields.{AgreesWithTrail}
 use Rattle.trail_solver.proofs.AgreeingSets.{agrees_removed, room_for_pair}
 use Rattle.trail_solver.proofs.candidates.Candidates.remove.Goals as goal
 

@@ -1,5 +1,5 @@
 use Rattle.std.proofs.Common.{ℕ, List, subst, arith}
-use Rattle.trail_solver.specs.Fields.{AgreesWithTrail}
+use Rattle.trail_solver.specs.Inner.Fields.{AgreesWithTrail}
 use Rattle.trail_solver.proofs.AgreeingSets.{agrees_undone, last_is_pair, squares_fit}
 use Rattle.trail_solver.proofs.candidates.Candidates.undo.Goals as goal
 

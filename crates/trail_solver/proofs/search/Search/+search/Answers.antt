@@ -1,6 +1,6 @@
 use Rattle.std.proofs.Common.{◌∙◌}
 use Rattle.std.proofs.lemmas.Bool.{OnFalse_at}
-use Rattle.trail_solver.specs.Puzzles.{IsAmong, IsAmongAt}
+use Rattle.trail_solver.specs.Inner.Among.{IsAmong, IsAmongAt}
 use Rattle.trail_solver.proofs.JoinedAnswers.{adds_same, adds_nothing}
 use Rattle.trail_solver.proofs.SearchSteps.{rest_none, dead_none, under_way_narrowed, under_way_branched}
 use Rattle.trail_solver.proofs.search.Search.+search.Goals as goal

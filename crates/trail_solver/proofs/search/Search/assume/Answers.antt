@@ -1,5 +1,5 @@
 use Rattle.std.proofs.Common.{◌≡◌, ◌*◌, ◌<◌, ap}
-use Rattle.trail_solver.specs.Searches.{SearchValue}
+use Rattle.trail_solver.specs.Inner.Searches.{SearchValue}
 use Rattle.trail_solver.proofs.AmongCandidates.{at_from_kept, kept_from_at}
 use Rattle.trail_solver.proofs.search.Search.assume.Goals as goal
 

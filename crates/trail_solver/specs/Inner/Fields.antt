@@ -1,5 +1,6 @@
 -- What holds of the fields of `Candidates`: the bit sets say what the trail says.
 use Rattle.std.specs.Prelude.{◌≡◌, ℕ, ◌*◌, ◌<◌, ◌≤◌, ◌==◌, nat_le, Bool, true, not, ◌&&◌, if◌then◌else◌, List, length, slice_index}
+use Rattle.latin_board.specs.declared.grid.TheConstants.{CELLS}
 use Rattle.latin_board.specs.Marks.{has_mark}
 use Rattle.trail_solver.specs.Pairs.{IsPair, AreApart, has_pair}
 
@@ -11,7 +12,7 @@ is_left size trail cell value = (nat_le 1 value && nat_le value size) && not (ha
 pub record AgreesWithTrail (size : ℕ) (sets : List ℕ) (trail : List (ℕ × ℕ)) : Type 0 where
   pub smallest : 3 ≤ size
   pub largest : size ≤ 9
-  pub places : length sets ≡ 81
+  pub places : length sets ≡ CELLS
   pub agree : (cell value : ℕ) → cell < size * size
       → has_mark (slice_index sets cell) value ≡ is_left size trail cell value
   pub in_range : (cell value : ℕ) → has_pair trail cell value ≡ true → IsPair size cell value

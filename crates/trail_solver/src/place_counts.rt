@@ -2,7 +2,7 @@
 
 /// The values that have at least so many places: bit v of a set is set where v has.
 #[derive(Clone, Copy)]
-pub(crate) struct Tally {
+pub(crate) struct PlaceCounts {
     one: u16,
     two: u16,
     three: u16,
@@ -10,10 +10,10 @@ pub(crate) struct Tally {
     five: u16,
 }
 
-impl Tally {
+impl PlaceCounts {
     /// No value has a place.
-    pub fn none() -> Tally {
-        Tally {
+    pub fn none() -> PlaceCounts {
+        PlaceCounts {
             one: 0,
             two: 0,
             three: 0,
@@ -23,8 +23,8 @@ impl Tally {
     }
 
     /// Each value of a set has a place more.
-    pub fn with(self, set: u16) -> Tally {
-        Tally {
+    pub fn with(self, set: u16) -> PlaceCounts {
+        PlaceCounts {
             one: self.one | set,
             two: self.two | self.one & set,
             three: self.three | self.two & set,

@@ -1,0 +1,72 @@
+use Rattle.std.proofs.Common.{◌≡◌, ℕ, refl, sym, ◌∙◌, subst, OnOk, arith}
+use Rattle.std.proofs.lemmas.Bool.{OnFalse_at}
+use Rattle.std.proofs.lemmas.Result.{on_ok_weaker}
+use Rattle.trail_solver.specs.Inner.Among.{IsAmong, IsAmongAt}
+use Rattle.trail_solver.specs.Inner.Searches.{SearchValue, IsFurther}
+use Rattle.trail_solver.specs.Inner.Listed.{Lists}
+use Rattle.trail_solver.specs.declared.listing.Listing.{Listing}
+use Rattle.trail_solver.proofs.SearchSteps.{further_trans, given_back}
+use Rattle.trail_solver.proofs.ListedSolutions.{lists_same}
+use Rattle.trail_solver.proofs.ListingSteps.{none_lists, value_lists_none, value_lists_more, value_lists_all}
+use Rattle.trail_solver.proofs.listing.Listing.+listing.Goals as goal
+use Rattle.trail_solver.proofs.listing.Listing.+listing.Goals.{list_guess-then-assume, list_guess-else-assume}
+
+pub list_values-loop-value-init : goal.list_values-loop-value-init
+list_values-loop-value-init g t c =
+    let now = c.args.self.now.search in
+    let size : now.candidates.size ≡ (g.P.Rules.puzzle now.rules).size = rw (← c.self.view_is) c.self.invariant in
+    (refl, refl, value_lists_none (g.P.Rules.puzzle now.rules) now.candidates c.args.cell c.args.self.now.limit c.args.self.now.listed.items size c.requires.first.is_open.inside)
+
+pub list_values-loop-value-preserved : goal.list_values-loop-value-preserved
+list_values-loop-value-preserved g t c =
+    let puzzle = g.P.Rules.puzzle in
+    let first = c.args.self.now in
+    let now = first.search in
+    let size : now.candidates.size ≡ (puzzle now.rules).size = rw (← c.self.view_is) c.self.invariant in
+    let ys = c.loop-value.self.listed.items in
+    let zs = c.list_guess.new.self.listed.items in
+    let At : SearchValue _ → ℕ → Type 0 = λ s limit. Lists (IsAmongAt (puzzle s.rules) s.candidates c.args.cell c.loop-value.value) limit ys zs in
+    let here : At now first.limit = rw (← c.loop-value.invariant.0, ← c.loop-value.invariant.1) c.in_ok-list_guess.ensures.lists in (
+      c.list_guess.ensures.same ∙ c.loop-value.invariant.0,
+      c.list_guess.ensures.limit ∙ c.loop-value.invariant.1,
+      value_lists_more (puzzle now.rules) now.candidates c.args.cell c.loop-value.value first.limit first.listed.items ys zs size c.requires.first c.loop-value.invariant.2 here,
+    )
+
+pub list_values-returns-clause-lists : goal.list_values-returns-clause-lists
+list_values-returns-clause-lists g t c =
+    let first = c.args.self.now in
+    let now = first.search in
+    let size : now.candidates.size ≡ (g.P.Rules.puzzle now.rules).size = rw (← c.self.view_is) c.self.invariant in
+    let width : c.get-width.result ≡ now.candidates.size = rw (← c.self.view_is) (c.get-width.ensures.value ∙ c.size.ensures.value) in
+    value_lists_all (g.P.Rules.puzzle now.rules) now.candidates c.args.cell c.loop-value.value first.limit first.listed.items c.loop-value.self.listed.items size c.requires.first.is_open.inside (omega arith) c.loop-value.invariant.2
+
+pub list_guess-returns-clause-same : goal.list_guess-returns-clause-same
+list_guess-returns-clause-same g t c =
+    let old = c.args.self.now.search in
+    let further : IsFurther old c.if-assume.self.search = elim c.if-assume.branch [
+      | list_guess-then-assume w ↦ rw w.self-is (further_trans old c.assume.new.self w.list-done.new.self.search c.assume.ensures.further w.list-done.ensures.further)
+      | list_guess-else-assume w ↦ rw w.self-is c.assume.ensures.further
+    ] in
+    let inside = c.self-2.inside.0.0 in
+    let P : Listing _ → Type 0 = λ l. IsFurther old l.search in
+    let last : SearchValue _ = record { rules = inside.rules; candidates = inside.candidates } in
+    let all : IsFurther old last = subst P (sym c.self-2.view_is) further in
+    given_back old last c.give_back.new.self all (c.give_back.ensures.restores old.candidates all.less (rw (← c.self.view_is) c.mark-mark.ensures))
+
+pub list_guess-returns-clause-lists : goal.list_guess-returns-clause-lists
+list_guess-returns-clause-lists g t c =
+    let first = c.args.self.now in
+    let old = first.search in
+    let new = c.assume.new.self in
+    let At = IsAmongAt (g.P.Rules.puzzle old.rules) old.candidates c.args.cell c.args.value in
+    let Among = IsAmong (g.P.Rules.puzzle new.rules) new.candidates in
+    let same = c.assume.ensures.same in
+    let xs = first.listed.items in
+    let Leaves : Listing _ → Type 0 = λ l. OnOk c.if-assume.done (Lists At first.limit xs l.listed.items) in
+    let leaves : Leaves c.if-assume.self = elim c.if-assume.branch [
+      | list_guess-then-assume w ↦ (let ys = w.list-done.new.self.listed.items in
+          rw (w.done-is, w.self-is) (on_ok_weaker w.list-done.result (λ (l : Lists Among first.limit xs ys).
+          lists_same Among At first.limit xs ys (λ h. (same h).1) (λ h. (same h).0) l) w.list-done.ensures.lists))
+      | list_guess-else-assume w ↦ rw (w.done-is, w.self-is) (none_lists At first.limit xs (OnFalse_at w.if-assume.false c.assume.ensures.refutes))
+    ] in
+    subst Leaves (sym c.self-2.view_is) leaves

@@ -1,0 +1,7 @@
+-- Words that the contracts of private functions alone use.
+pub mod Fields
+pub mod Squares
+pub mod Among
+pub mod Added
+pub mod Searches
+pub mod Listed
