@@ -34,6 +34,7 @@ impl Game for Unequal {
         "tekxr"
     }
 
+    #[tactic(auto, using(crate::specs::Laws::UnequalSameness::same_unequal_tested))]
     fn same(&self, other: &Unequal) -> bool {
         self == other
     }
