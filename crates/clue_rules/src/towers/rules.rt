@@ -1,12 +1,12 @@
 //! The rules of Towers: its clues, and what a solver and a generator know of a puzzle.
 
-ghost use Rattle.std.specs.Prelude.{◌≡◌, ◌+◌, ◌-◌, ◌*◌, ◌<◌, ◌≤◌, ◌↔◌, ◌==◌, ◌&&◌, IsTrue};
+ghost use Rattle.std.specs.Prelude.{◌≡◌, ◌+◌, ◌-◌, ◌*◌, ◌<◌, ◌≤◌, ◌↔◌, ◌==◌, IsTrue};
 ghost use Rattle.std.specs.Bool.{OnFalse, OnTrue};
 ghost use Rattle.latin_board.specs.Squares.{IsFull};
 ghost use Rattle.tower_lines.specs.TowersSeen.{seen};
 ghost use Rattle.clue_rules.specs.Views.{view_of};
 ghost use Rattle.trail_solver.specs.Candidates.{IsEarlier};
-ghost use Rattle.clue_rules.specs.Towers.{IsTowers, given_grid, clue_of, holds_clue, holds_clues, HoldsClues, towers_puzzle, towers_items, has_towers, cut_towers, full_towers};
+ghost use Rattle.clue_rules.specs.Towers.{IsTowers, holds_clue, holds_clues, HoldsClues, towers_puzzle, towers_items, has_towers, cut_towers, full_towers};
 ghost use Rattle.clue_rules.specs.Struck.{IsTowersStruck, KeepsSolutions, HasNoSolutionWithin, NoneLeft};
 
 use crate::lines::given_squares::keep_givens;
@@ -33,23 +33,6 @@ fn seen_from(grid: &Grid, place: u8) -> u8
 }
 
 impl Towers {
-    /// The clue at an edge place, 0 for none; the place is below four times the width.
-    ///
-    /// Places are numbered in description order, as `latin_board::edge_place` does.
-    pub fn clue(&self, place: u8) -> u8
-        requires { place < 4 * self.now.size }
-        ensures value { result ≡ clue_of self.now place }
-        ensures within { result ≤ self.now.size }
-    {
-        self.clues()[place as usize]
-    }
-
-    fn givens(&self) -> &Grid
-        ensures { result.now ≡ given_grid self.now }
-    {
-        &self.givens
-    }
-
     // Whether as many towers are seen from a place as its clue says.
     fn holds_clue(&self, grid: &Grid, place: u8) -> bool
         requires size { grid.now.size ≡ self.now.size }

@@ -10,11 +10,11 @@ ghost use Rattle.clue_rules.specs.Inner.UnequalFields.{HoldsSignsOf};
 ghost use Rattle.clue_rules.specs.UnequalText.{letter_of, is_greater_towards, piece_written, unequal_text, has_number, grid_in, has_letters, points_inside, piece_at, says_greater, sign_said, contradicts, puzzle_at, unequal_at};
 ghost use Rattle.clue_rules.specs.Inner.UnequalPieces.{texts_of, contradicts_towards};
 
-use super::direction::Direction;
-use super::pieces::{has_letters, number_in, pieces_of, points_inside, says};
-use super::sign::Sign;
-use super::{SQUARES, Unequal, square_count};
 use crate::id_fault::IdFault;
+use crate::unequal::direction::Direction;
+use crate::unequal::pieces::{has_letters, number_in, pieces_of, points_inside, says};
+use crate::unequal::sign::Sign;
+use crate::unequal::{SQUARES, Unequal, square_count};
 use latin_board::{Grid, Size};
 use std::alloc::{AllocError, Global};
 use trail_solver::Rules;
@@ -162,15 +162,6 @@ fn says_greater(size: Size, pieces: &[&[u8]], a: usize, b: usize) -> bool
 pub(crate) fn write_unequal(alloc: Global, puzzle: &Unequal) -> Result<Vec<u8>, IdFault>
     ensures written { IfOk result (λ text. text.items ≡ unequal_text puzzle.now) }
     ensures refused { IfErr result (λ fault. fault ≡ IdFault.OutOfMemory) }
-{
-    match written(alloc, puzzle) {
-        Ok(text) => Ok(text),
-        Err(_) => Err(IdFault::OutOfMemory),
-    }
-}
-
-fn written(alloc: Global, puzzle: &Unequal) -> Result<Vec<u8>, AllocError>
-    ensures { IfOk result (λ text. text.items ≡ unequal_text puzzle.now) }
 {
     let mut text = Vec::new(alloc);
     for cell in 0..square_count(puzzle.size()) {

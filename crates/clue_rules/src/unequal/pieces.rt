@@ -8,8 +8,8 @@ ghost use Rattle.clue_rules.specs.IdFaults.{exactly};
 ghost use Rattle.clue_rules.specs.UnequalText.{letter_of, pieces_of, number_in, has_letters, is_inside};
 ghost use Rattle.clue_rules.specs.Inner.UnequalPieces.{IsWithoutLastComma, texts_of};
 
-use super::direction::Direction;
 use crate::id_fault::IdFault;
+use crate::unequal::direction::Direction;
 use arrayvec::ArrayVec;
 use byte_text::{begins_with_digit, cut};
 use latin_board::Size;

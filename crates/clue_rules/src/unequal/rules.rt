@@ -19,6 +19,7 @@ use latin_board::{Grid, Size};
 use trail_solver::{Candidates, Rules};
 
 impl Unequal {
+    // A function of its own, so that `holds` need only prove that the test decides the rule.
     fn holds_signs(&self, grid: &Grid) -> bool
         requires { grid.now.size ≡ self.now.size }
         ensures value { result ≡ holds_signs self.now grid.now }
