@@ -9,7 +9,7 @@ use Rattle.trail_solver.specs.Pairs.{IsPair}
 use Rattle.trail_solver.specs.Candidates.{CandidatesValue, IsEarlier, IsWithin, may_be}
 use Rattle.trail_solver.specs.Puzzles.{Solves}
 use Rattle.trail_solver.proofs.Earlier.{was_left}
-use Rattle.clue_rules.specs.Inner.Narrowing.{IsStruckByLines, KeepsOf, Narrows, StruckBelow, IsSetOf}
+use Rattle.clue_rules.specs.Inner.Narrowing.{IsStruckByLines, KeepsInSquare, Narrows, StruckBelow, IsSetOf}
 use Rattle.clue_rules.specs.Unequal.{UnequalValue, IsUnequal, IsGreater, unequal_puzzle}
 use Rattle.clue_rules.specs.Laws.Neighbours.{IsNext, next_line, next_inside}
 use Rattle.clue_rules.specs.Laws.Signs.{greater_next}
@@ -40,7 +40,7 @@ square_narrows : {S : GridValue → Type 0} {T : CandidatesValue → ℕ → ℕ
     → ((g : GridValue) → S g → g.size ≡ old.size → IsWithin old g → has_mark kept (number_at g cell) ≡ true)
     → ((first : CandidatesValue) → IsEarlier first old → (at v : ℕ) → IsPair first.size at v → T first at v
     → (at ≡ cell) × (has_mark kept v ≡ false))
-    → KeepsOf old new cell kept → left ≡ not (kept == 0) → Narrows S T old new left
+    → KeepsInSquare old new cell kept → left ≡ not (kept == 0) → Narrows S T old new left
 square_narrows old new cell kept left solved struck k is = record {
   less = k.less;
   keeps = λ g s size w. within_kept old new cell kept g k w (solved g s size w);
@@ -60,7 +60,7 @@ square_narrows old new cell kept left solved struck k is = record {
 
 pub lesser_narrows : (old new : CandidatesValue) (ends : Ends) (set kept : ℕ) (left : Bool) → AreInside old.size ends
     → IsSetOf old ends.greater set → ((v : ℕ) → (has_mark kept v ≡ true) ↔ ((u : ℕ) × (v < u) × (has_mark set u ≡ true)))
-    → KeepsOf old new ends.lesser kept → left ≡ not (kept == 0)
+    → KeepsInSquare old new ends.lesser kept → left ≡ not (kept == 0)
     → Narrows (HoldsGreater ends) (IsLesserStruck ends) old new left
 lesser_narrows old new ends set kept left inside is below k answer =
     square_narrows old new ends.lesser kept left
@@ -79,7 +79,7 @@ lesser_narrows old new ends set kept left inside is below k answer =
 pub greater_narrows : (old new : CandidatesValue) (ends : Ends) (set kept : ℕ) (left : Bool) → old.size ≤ 9
     → AreInside old.size ends → IsSetOf old ends.lesser set
     → ((v : ℕ) → v < 16 → (has_mark kept v ≡ true) ↔ ((u : ℕ) × (u < v) × (has_mark set u ≡ true)))
-    → KeepsOf old new ends.greater kept → left ≡ not (kept == 0)
+    → KeepsInSquare old new ends.greater kept → left ≡ not (kept == 0)
     → Narrows (HoldsGreater ends) (IsGreaterStruck ends) old new left
 greater_narrows old new ends set kept left small inside is above k answer =
     square_narrows old new ends.greater kept left

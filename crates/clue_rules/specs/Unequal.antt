@@ -145,16 +145,16 @@ abbrev pub has_unequal : UnequalValue → ℕ → Bool
 has_unequal v i = has_item v (item_at v.size i)
 
 -- of which squares the item of a kind is in a set of numbers
-abbrev pub keeps_of : ℕ → (ℕ → Bool) → (ℕ → Item) → ℕ → Bool
-keeps_of w keep kind cell = keep (item_number w (kind cell))
+abbrev pub keeps_kind : ℕ → (ℕ → Bool) → (ℕ → Item) → ℕ → Bool
+keeps_kind w keep kind cell = keep (item_number w (kind cell))
 
 -- the puzzle without its items outside a set
 abbrev pub cut_unequal : UnequalValue → (ℕ → Bool) → UnequalValue
 cut_unequal v keep = record {
   size = v.size;
-  right = kept_items Absent (keeps_of v.size keep RightSign) 0 v.right;
-  below = kept_items Absent (keeps_of v.size keep LowerSign) 0 v.below;
-  givens = kept_items zero (keeps_of v.size keep Given) 0 v.givens;
+  right = kept_items Absent (keeps_kind v.size keep RightSign) 0 v.right;
+  below = kept_items Absent (keeps_kind v.size keep LowerSign) 0 v.below;
+  givens = kept_items zero (keeps_kind v.size keep Given) 0 v.givens;
 }
 
 -- the sign between a square and its neighbour in a direction, where there is one, by a rule

@@ -15,7 +15,7 @@ use Rattle.clue_rules.specs.declared.unequal.item.Item.{Item}
 use Rattle.clue_rules.specs.declared.unequal.item.Item.TheVariants.{RightSign, LowerSign, Given}
 use Rattle.clue_rules.specs.declared.unequal.sign.Sign.{Sign}
 use Rattle.clue_rules.specs.declared.unequal.sign.Sign.TheVariants.{Absent, FirstGreater, SecondGreater}
-use Rattle.clue_rules.specs.Unequal.{UnequalValue, IsUnequal, neighbour, right_sign, lower_sign, sign_between, holds_sign, holds_towards, unequal_puzzle, pairs_across, unequal_items, item_at, item_number, is_present, has_item, has_unequal, keeps_of, cut_unequal, sign_of, sign_in_grid, full_unequal, given_grid}
+use Rattle.clue_rules.specs.Unequal.{UnequalValue, IsUnequal, neighbour, right_sign, lower_sign, sign_between, holds_sign, holds_towards, unequal_puzzle, pairs_across, unequal_items, item_at, item_number, is_present, has_item, has_unequal, keeps_kind, cut_unequal, sign_of, sign_in_grid, full_unequal, given_grid}
 use Rattle.clue_rules.specs.Items.{kept_items}
 use Rattle.clue_rules.specs.Laws.Neighbours.{IsNext, right_of, below_of, next_line, next_inside}
 use Rattle.clue_rules.specs.Laws.Signs.{IsSaid, said_next, right_between, below_between, signed_between, signed_valid}
@@ -131,13 +131,13 @@ has_is_item v (Given cell) valid here = elim (cases_lt cell (v.size * v.size)) [
 
 pub cut_valid : (v : UnequalValue) (keep : ℕ → Bool) → IsUnequal v → IsUnequal (cut_unequal v keep)
 cut_valid v keep h = record {
-  givens = IsGrid-kept (given_grid v) (keeps_of v.size keep Given) 0 h.givens;
-  right_count = length-kept Absent (keeps_of v.size keep RightSign) 0 v.right ∙ h.right_count;
-  right_ends = λ cell none. entry-kept Absent (keeps_of v.size keep RightSign) 0 v.right cell cell (omega arith)
-      ∙ lost (keeps_of v.size keep RightSign cell) (right_sign v cell) (h.right_ends cell none);
-  below_count = length-kept Absent (keeps_of v.size keep LowerSign) 0 v.below ∙ h.below_count;
-  below_ends = λ cell none. entry-kept Absent (keeps_of v.size keep LowerSign) 0 v.below cell cell (omega arith)
-      ∙ lost (keeps_of v.size keep LowerSign cell) (lower_sign v cell) (h.below_ends cell none);
+  givens = IsGrid-kept (given_grid v) (keeps_kind v.size keep Given) 0 h.givens;
+  right_count = length-kept Absent (keeps_kind v.size keep RightSign) 0 v.right ∙ h.right_count;
+  right_ends = λ cell none. entry-kept Absent (keeps_kind v.size keep RightSign) 0 v.right cell cell (omega arith)
+      ∙ lost (keeps_kind v.size keep RightSign cell) (right_sign v cell) (h.right_ends cell none);
+  below_count = length-kept Absent (keeps_kind v.size keep LowerSign) 0 v.below ∙ h.below_count;
+  below_ends = λ cell none. entry-kept Absent (keeps_kind v.size keep LowerSign) 0 v.below cell cell (omega arith)
+      ∙ lost (keeps_kind v.size keep LowerSign cell) (lower_sign v cell) (h.below_ends cell none);
 }
   where
     lost : (b : Bool) (s : Sign) → s ≡ Absent → (if b then s else Absent) ≡ Absent
@@ -147,11 +147,11 @@ cut_valid v keep h = record {
 cut_has_item : (v : UnequalValue) (keep : ℕ → Bool) (item : Item)
     → has_item (cut_unequal v keep) item ≡ (has_item v item && keep (item_number v.size item))
 cut_has_item v keep (RightSign cell) =
-    rw (entry-kept Absent (keeps_of v.size keep RightSign) 0 v.right cell cell (omega arith)) (present_kept is_present Absent refl _ (right_sign v cell))
+    rw (entry-kept Absent (keeps_kind v.size keep RightSign) 0 v.right cell cell (omega arith)) (present_kept is_present Absent refl _ (right_sign v cell))
 cut_has_item v keep (LowerSign cell) =
-    rw (entry-kept Absent (keeps_of v.size keep LowerSign) 0 v.below cell cell (omega arith)) (present_kept is_present Absent refl _ (lower_sign v cell))
+    rw (entry-kept Absent (keeps_kind v.size keep LowerSign) 0 v.below cell cell (omega arith)) (present_kept is_present Absent refl _ (lower_sign v cell))
 cut_has_item v keep (Given cell) =
-    rw (entry-kept zero (keeps_of v.size keep Given) 0 v.givens cell cell (omega arith)) (present_kept (nat_lt 0) zero refl _ (slice_index v.givens cell))
+    rw (entry-kept zero (keeps_kind v.size keep Given) 0 v.givens cell cell (omega arith)) (present_kept (nat_lt 0) zero refl _ (slice_index v.givens cell))
 
 pub cut_has : (v : UnequalValue) (keep : ℕ → Bool) (i : ℕ) → IsUnequal v
     → has_unequal (cut_unequal v keep) i ≡ (has_unequal v i && keep i)
@@ -167,9 +167,9 @@ cut_cut v first second =
     rw (twice Absent RightSign v.right, twice Absent LowerSign v.below, twice zero Given v.givens) refl
   where
     twice : {X : Type 0} (empty : X) (kind : ℕ → Item) (xs : List X)
-        → kept_items empty (keeps_of v.size second kind) 0 (kept_items empty (keeps_of v.size first kind) 0 xs)
-        ≡ kept_items empty (keeps_of v.size (λ i. first i && second i) kind) 0 xs
-    twice empty kind xs = kept-kept empty (keeps_of v.size first kind) (keeps_of v.size second kind) 0 xs
+        → kept_items empty (keeps_kind v.size second kind) 0 (kept_items empty (keeps_kind v.size first kind) 0 xs)
+        ≡ kept_items empty (keeps_kind v.size (λ i. first i && second i) kind) 0 xs
+    twice empty kind xs = kept-kept empty (keeps_kind v.size first kind) (keeps_kind v.size second kind) 0 xs
 
 pub few_items : (w : ℕ) → 3 ≤ w → w ≤ 6 → unequal_items w ≤ 96
 few_items w low high = small_widths (λ n. unequal_items n ≤ 96) (omega arith) (omega arith) (omega arith) (omega arith) w low high
@@ -178,9 +178,9 @@ few_items w low high = small_widths (λ n. unequal_items n ≤ 96) (omega arith)
 pub cut_agrees : (v : UnequalValue) (a b : ℕ → Bool) → IsUnequal v
     → ((i : ℕ) → i < unequal_items v.size → has_unequal v i ≡ true → a i ≡ b i) → cut_unequal v a ≡ cut_unequal v b
 cut_agrees v a b h same =
-    let right = kept-same Absent is_present not_present (keeps_of v.size a RightSign) (keeps_of v.size b RightSign) v.right (λ cell inside here. at (RightSign cell) here) in
-    let below = kept-same Absent is_present not_present (keeps_of v.size a LowerSign) (keeps_of v.size b LowerSign) v.below (λ cell inside here. at (LowerSign cell) here) in
-    let givens = kept-same zero (nat_lt 0) not_positive (keeps_of v.size a Given) (keeps_of v.size b Given) v.givens (λ cell inside here. at (Given cell) here) in
+    let right = kept-same Absent is_present not_present (keeps_kind v.size a RightSign) (keeps_kind v.size b RightSign) v.right (λ cell inside here. at (RightSign cell) here) in
+    let below = kept-same Absent is_present not_present (keeps_kind v.size a LowerSign) (keeps_kind v.size b LowerSign) v.below (λ cell inside here. at (LowerSign cell) here) in
+    let givens = kept-same zero (nat_lt 0) not_positive (keeps_kind v.size a Given) (keeps_kind v.size b Given) v.givens (λ cell inside here. at (Given cell) here) in
     λ i. record { size = v.size; right = right i; below = below i; givens = givens i }
   where
     at : (item : Item) → has_item v item ≡ true → a (item_number v.size item) ≡ b (item_number v.size item)
@@ -191,12 +191,12 @@ cut_between : (v : UnequalValue) (keep : ℕ → Bool) (a b : ℕ)
     → (sign_between (cut_unequal v keep) a b ≡ sign_between v a b) ⊎ (sign_between (cut_unequal v keep) a b ≡ Absent)
 cut_between v keep a b = elim (cases_eq b (a + 1)) [
   | inl right ↦
-      rw (eq-eqb b (a + 1) right, entry-kept Absent (keeps_of v.size keep RightSign) 0 v.right a a (omega arith))
-      (either (keeps_of v.size keep RightSign a) (right_sign v a))
+      rw (eq-eqb b (a + 1) right, entry-kept Absent (keeps_kind v.size keep RightSign) 0 v.right a a (omega arith))
+      (either (keeps_kind v.size keep RightSign a) (right_sign v a))
   | inr other ↦ elim (cases_eq b (a + v.size)) [
     | inl below ↦
-        rw (ne_eqb b (a + 1) other, eq-eqb b (a + v.size) below, entry-kept Absent (keeps_of v.size keep LowerSign) 0 v.below a a (omega arith))
-        (either (keeps_of v.size keep LowerSign a) (lower_sign v a))
+        rw (ne_eqb b (a + 1) other, eq-eqb b (a + v.size) below, entry-kept Absent (keeps_kind v.size keep LowerSign) 0 v.below a a (omega arith))
+        (either (keeps_kind v.size keep LowerSign a) (lower_sign v a))
     | inr apart ↦ rw (ne_eqb b (a + 1) other, ne_eqb b (a + v.size) apart) (inl refl)
   ]
 ]
@@ -221,7 +221,7 @@ cut_solved v keep g h = record {
   is_grid = h.is_grid;
   same_size = h.same_size;
   latin = h.latin;
-  givens = λ cell inside. still_asked (keeps_of v.size keep Given) 0 v.givens cell (number_at g cell) (h.givens cell inside);
+  givens = λ cell inside. still_asked (keeps_kind v.size keep Given) 0 v.givens cell (number_at g cell) (h.givens cell inside);
   clues = range_all _ 0 (v.size * v.size) (λ cell low high.
       let here = and_parts (holds_towards v g cell Right) (holds_towards v g cell Down) (all_in_range _ 0 (v.size * v.size) cell h.clues low high) in
       and_from (holds_towards (cut_unequal v keep) g cell Right) (holds_towards (cut_unequal v keep) g cell Down)

@@ -10,7 +10,7 @@ ghost use Rattle.clue_rules.specs.Inner.UnequalLines.{AreEnds, IsStruckAt, IsStr
 use crate::lines::changed::ChangedLines;
 use crate::lines::narrowing::LineRules;
 use crate::lines::value_sets::{above_least, below_greatest};
-use crate::lines::view_candidates::keep_of;
+use crate::lines::view_candidates::keep_in_square;
 use crate::unequal::Unequal;
 use crate::unequal::sign::Sign;
 use latin_board::line_cell;
@@ -134,7 +134,7 @@ impl Ends {
             candidates.old candidates.new result }
     {
         let kept = below_greatest(candidates.values(self.greater));
-        keep_of(candidates, self.lesser, kept, changed)
+        keep_in_square(candidates, self.lesser, kept, changed)
     }
 
     // Keeps in the greater end what is above some candidate of the lesser one.
@@ -146,6 +146,6 @@ impl Ends {
         // The proof learns here that the width is from 3 to 9.
         let _size = candidates.size();
         let kept = above_least(candidates.values(self.lesser));
-        keep_of(candidates, self.greater, kept, changed)
+        keep_in_square(candidates, self.greater, kept, changed)
     }
 }
