@@ -1,5 +1,6 @@
 -- The signs of a puzzle as a grid holds them.
-use Rattle.std.proofs.Common.{◌≡◌, ℕ, ◌*◌, true, Option, Some, None, refl, inl, inr, arith}
+use Rattle.std.proofs.Common.{◌≡◌, ◌↔◌, Bool, ℕ, ◌*◌, true, Option, Some, None, refl, inl, inr, arith}
+use Rattle.std.specs.Bool.{IsTrue}
 use Rattle.std.specs.Option.{option_map_or}
 use Rattle.std.proofs.lemmas.Bool.{lt-ltb, ltb-true, and_parts, and_from}
 use Rattle.latin_board.specs.Squares.{GridValue, number_at}
@@ -43,3 +44,6 @@ held_signs v g h =
         by : (o : Option ℕ) → option_map_or (λ b. holds_sign (sign_between v cell b) (number_at g cell) (number_at g b)) o true ≡ true
         by None = refl
         by (Some b) = pair cell b (sign_between v cell b) refl
+
+pub holds_tested : (v : UnequalValue) (g : GridValue) (t : Bool) → IsUnequal v → t ≡ holds_signs v g → IsTrue t ↔ HoldsSigns v g
+holds_tested v g t valid value = rw value (signs_held v g valid, held_signs v g)

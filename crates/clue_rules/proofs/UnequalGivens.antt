@@ -48,3 +48,8 @@ givens_read w i g pieces size count all good numbers =
 -- the letters of all pieces, looked at through references
 pub letters_of_texts : (pieces : List (Bor (List ℕ))) → list_all (λ p. has_letters p.now) pieces ≡ list_all has_letters (texts_of pieces)
 letters_of_texts pieces = sym (list_all-map has_letters (λ p. p.now) pieces)
+
+-- the text of one piece
+pub text_at : (pieces : List (Bor (List ℕ))) (i : ℕ) (d : Bor (List ℕ)) → i < length pieces
+    → (slice_index_or pieces i d).now ≡ slice_index_or (texts_of pieces) i []
+text_at pieces i d inside = sym (get_or-map (λ p. p.now) pieces i d [] inside)

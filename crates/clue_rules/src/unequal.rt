@@ -59,6 +59,7 @@ impl Unequal {
     /// Whether the squares a and b are neighbours, and the sign between them says that a holds the greater number.
     ///
     /// Squares are counted from 0 in reading order; both are squares of the grid.
+    #[tactic(auto, using(crate::specs::Laws::Signs::greater_tested, crate::specs::Laws::Signs::never_both))]
     pub fn greater(&self, a: usize, b: usize) -> bool
         requires first { a < self.now.size * self.now.size }
         requires second { b < self.now.size * self.now.size }

@@ -1,5 +1,5 @@
 -- The signs of a puzzle: between which squares they stand, which square they say to be the greater, and those that a rule gives.
-use Rattle.std.proofs.Common.{◌≡◌, ◌↔◌, ℕ, ◌+◌, ◌*◌, ◌<◌, ◌≤◌, ◌⊎◌, true, List, length, Some, None, refl, sym, ap, ◌∙◌, inl, inr, arith, slice_index_or}
+use Rattle.std.proofs.Common.{◌≡◌, ◌↔◌, Bool, ℕ, ◌+◌, ◌*◌, ◌<◌, ◌≤◌, ◌⊎◌, true, List, length, Some, None, refl, sym, ap, ◌∙◌, inl, inr, arith, slice_index_or}
 use Rattle.std.specs.Bool.{IsTrue}
 use Rattle.std.specs.Option.{option_map_or}
 use Rattle.std.proofs.lemmas.Bool.{eq-eqb, ne_eqb, cases_eq, cases_lt, false≢true, or_cases, or_right}
@@ -121,6 +121,9 @@ greater_decides v a b = (
     | inr second ↦ or_right (says_first (sign_between v a b)) (says_second (sign_between v b a)) (rw second refl)
   ],
 )
+
+pub greater_tested : (v : UnequalValue) (a b : ℕ) (t : Bool) → t ≡ is_greater v a b → IsTrue t ↔ IsGreater v a b
+greater_tested v a b t value = rw value (greater_decides v a b)
 
 -- ---- the signs that a rule gives
 

@@ -77,6 +77,7 @@ impl Rules for Towers {
         self.givens.get(cell)
     }
 
+    #[tactic(auto, using(crate::specs::Laws::TowersItems::clues_tested))]
     fn holds(&self, grid: &Grid) -> bool
         requires size { grid.now.size ≡ self.now.size }
         requires full { IsFull grid.now }
@@ -119,6 +120,7 @@ impl Rules for Towers {
         }
     }
 
+    #[tactic(auto, using(crate::proofs::TowersTables::clue_dropped))]
     fn drop_item(&mut self, i: usize) {
         let count = self.clues().len();
         if i < count {

@@ -88,6 +88,7 @@ fn point_inside(size: Size, pieces: &[&[u8]]) -> bool
     (0..pieces.len()).all(|cell| points_inside(size, cell, piece_at(pieces, cell)))
 }
 
+#[tactic(auto, using(crate::proofs::UnequalGivens::text_at))]
 fn piece_at<'a>(pieces: &[&'a [u8]], cell: usize) -> &'a [u8]
     requires { cell < length pieces.now }
     ensures { result.now ≡ piece_at (texts_of pieces.now) cell }
@@ -96,7 +97,7 @@ fn piece_at<'a>(pieces: &[&'a [u8]], cell: usize) -> &'a [u8]
 }
 
 // The signs towards the neighbours in a direction, or `None` where the pieces of two of them contradict each other.
-#[tactic(auto, using(crate::proofs::RangeLemmas::none_more, crate::proofs::UnequalTables::sign_filled, crate::proofs::UnequalTables::signs_filled, crate::specs::Laws::SaidSigns::squares_contradict))]
+#[tactic(auto, using(crate::proofs::UnequalTables::signs_filled, crate::specs::Laws::SaidSigns::squares_contradict))]
 fn signs_in(size: Size, pieces: &[&[u8]], direction: Direction) -> Option<[Sign; SQUARES]>
     requires { length pieces.now ≡ size * size }
     ensures agree { IfSome result (λ signs. list_any
@@ -159,6 +160,7 @@ fn says_greater(size: Size, pieces: &[&[u8]], a: usize, b: usize) -> bool
 /// letter, in the order `U`, `R`, `D`, `L`, and a comma.
 ///
 /// `OutOfMemory` where there is no memory for the text.
+#[tactic(auto, using(crate::proofs::UnequalWritten::pieces_more))]
 pub(crate) fn write_unequal(alloc: Global, puzzle: &Unequal) -> Result<Vec<u8>, IdFault>
     ensures written { IfOk result (λ text. text.items ≡ unequal_text puzzle.now) }
     ensures refused { IfErr result (λ fault. fault ≡ IdFault.OutOfMemory) }

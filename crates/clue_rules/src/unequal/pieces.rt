@@ -20,6 +20,7 @@ pub(super) type Pieces<'a> = ArrayVec<&'a [u8], 81>;
 /// What commas separate, where it is as many pieces as are wanted; one comma at the end is dropped.
 ///
 /// Refused as `TooFew` or `TooMany`.
+#[tactic(auto, using(crate::proofs::PieceLemmas::pieces_without_comma))]
 pub(super) fn pieces_of(text: &[u8], wanted: usize) -> Result<Pieces<'_>, IdFault>
     requires some { 1 < wanted }
     requires few { wanted ≤ 81 }

@@ -64,7 +64,7 @@ impl Unequal {
 }
 
 // The signs that the numbers of a grid give towards the neighbours in a direction.
-#[tactic(auto, using(crate::proofs::UnequalTables::sign_filled, crate::proofs::UnequalTables::signs_filled))]
+#[tactic(auto, using(crate::proofs::UnequalTables::signs_filled))]
 fn signs_of(grid: &Grid, direction: Direction) -> [Sign; SQUARES]
     ensures { HoldsSignsOf grid.now.size (sign_in_grid grid.now) direction result }
 {
@@ -113,6 +113,7 @@ impl Rules for Unequal {
         self.givens.get(cell)
     }
 
+    #[tactic(auto, using(crate::proofs::SignLemmas::holds_tested))]
     fn holds(&self, grid: &Grid) -> bool
         requires size { grid.now.size ≡ self.now.size }
         requires full { IsFull grid.now }
