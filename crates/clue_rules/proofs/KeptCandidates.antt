@@ -7,7 +7,7 @@ use Rattle.tower_lines.proofs.MarkLemmas.{mark-and}
 use Rattle.trail_solver.specs.Pairs.{IsPair}
 use Rattle.trail_solver.specs.Candidates.{CandidatesValue, IsEarlier, IsWithin, may_be}
 use Rattle.trail_solver.proofs.Earlier.{earlier_refl}
-use Rattle.clue_rules.specs.Inner.Narrowing.{KeepsOf, KeepsAlong, Agrees, IsSetOf, AreSetsOf, KeepsEach}
+use Rattle.clue_rules.specs.Inner.Narrowing.{KeepsInSquare, KeepsInView, Agrees, IsSetOf, AreSetsOf, KeepsEach}
 use Rattle.clue_rules.specs.Views.{view_cell}
 
 -- ---- one square, value by value
@@ -19,7 +19,7 @@ pub record KeepsBelow (first now : CandidatesValue) (cell kept n : ℕ) : Type 0
   pub rest : (c v : ℕ) → (c ≢ cell) ⊎ (has_mark kept v ≡ true) → may_be now c v ≡ may_be first c v
 
 -- a square whose candidates are all in the set
-pub kept_whole : (c : CandidatesValue) (cell kept set : ℕ) → IsSetOf c cell set → bit_and set kept ≡ set → KeepsOf c c cell kept
+pub kept_whole : (c : CandidatesValue) (cell kept set : ℕ) → IsSetOf c cell set → bit_and set kept ≡ set → KeepsInSquare c c cell kept
 kept_whole c cell kept set is whole = record {
   less = earlier_refl c;
   gone = λ v pair lacks. false_from_ne_true (may_be c cell v) (λ left.
@@ -41,7 +41,7 @@ pub record KeepsUpTo (place : ℕ) (kept : List ℕ) (n : ℕ) (first now : Cand
       → may_be now (view_cell first.size place k) v ≡ false
 
 -- a grid that has a value of the set in the square is still within
-pub within_kept : (old new : CandidatesValue) (cell kept : ℕ) (g : GridValue) → KeepsOf old new cell kept → IsWithin old g
+pub within_kept : (old new : CandidatesValue) (cell kept : ℕ) (g : GridValue) → KeepsInSquare old new cell kept → IsWithin old g
     → has_mark kept (number_at g cell) ≡ true → IsWithin new g
 within_kept old new cell kept g k w has = record {
   each = λ c inside.
@@ -51,7 +51,7 @@ within_kept old new cell kept g k w has = record {
 }
 
 pub up_to_all : (place : ℕ) (kept : List ℕ) (n : ℕ) (first now : CandidatesValue) → KeepsUpTo place kept n first now
-    → n ≡ first.size → KeepsAlong place kept first now true
+    → n ≡ first.size → KeepsInView place kept first now true
 up_to_all place kept n first now h all = record {
   less = h.less;
   keeps = h.keeps;
@@ -61,7 +61,7 @@ up_to_all place kept n first now h all = record {
 
 -- where the sets are those of the candidates, nothing goes
 pub along_whole : (place : ℕ) (sets kept : List ℕ) (c : CandidatesValue) → AreSetsOf c place sets
-    → ((k : ℕ) → k < c.size → slice_index sets k ≡ slice_index kept k) → KeepsAlong place kept c c true
+    → ((k : ℕ) → k < c.size → slice_index sets k ≡ slice_index kept k) → KeepsInView place kept c c true
 along_whole place sets kept c is same = record {
   less = earlier_refl c;
   keeps = λ g size has w. w;

@@ -12,7 +12,7 @@ kept-past empty i d (x ∷ xs) h =
     rw (other, kept-past empty (i + 1) d xs (omega arith)) refl
 
 -- to keep all but one entry is to empty that one
-kept-but_one : {X : Type 0} (empty : X) (i d k : ℕ) (xs : List X) → i + k ≡ d → kept_items empty (λ j. not (j == d)) i xs ≡ set xs k empty
+pub kept-but_one : {X : Type 0} (empty : X) (i d k : ℕ) (xs : List X) → i + k ≡ d → kept_items empty (λ j. not (j == d)) i xs ≡ set xs k empty
 kept-but_one empty i d k [] e = refl
 kept-but_one empty i d zero (x ∷ xs) e =
     let here : (i == d) ≡ true = eq-eqb i d (omega arith) in

@@ -18,7 +18,6 @@ pub mod TowersKept
 pub mod TowersTables
 pub mod UnequalFullLemmas
 pub mod UnequalGivens
-pub mod UnequalSaid
 pub mod UnequalTables
 pub mod UnequalWritten
 pub mod ViewLines

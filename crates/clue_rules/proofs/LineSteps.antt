@@ -9,7 +9,7 @@ use Rattle.latin_board.proofs.Numbers.{number_within}
 use Rattle.trail_solver.specs.Pairs.{IsPair}
 use Rattle.trail_solver.specs.Candidates.{CandidatesValue, IsEarlier, IsOnly, IsWithin, may_be}
 use Rattle.trail_solver.proofs.Earlier.{earlier_refl, only_later, was_left}
-use Rattle.clue_rules.specs.Inner.Narrowing.{AreSetsOf, IsSquare, KeepsAlong, Narrows, StruckBelow, IsSetOf}
+use Rattle.clue_rules.specs.Inner.Narrowing.{AreSetsOf, IsSquare, KeepsInView, Narrows, StruckBelow, IsSetOf}
 use Rattle.clue_rules.specs.Inner.LineTallies.{IsSingle, IsPossible, IsWholeTally, IsKeptOf, IsLineStruck, HoldValuesTo}
 use Rattle.clue_rules.specs.Struck.{IsOnePlace, IsPeerStruck, IsPlaceStruck, IsLatinStruck}
 use Rattle.clue_rules.specs.Views.{view_cell}
@@ -25,7 +25,7 @@ pub along_narrows : {S : GridValue → Type 0} {T : CandidatesValue → ℕ → 
     → has_mark (slice_index kept k) (number_at g (view_cell old.size place k)) ≡ true)
     → ((first : CandidatesValue) → IsEarlier first old → (cell v : ℕ) → T first cell v
     → (k : ℕ) × (k < old.size) × (view_cell old.size place k ≡ cell) × (has_mark (slice_index kept k) v ≡ false))
-    → KeepsAlong place kept old new r → Narrows S T old new r
+    → KeepsInView place kept old new r → Narrows S T old new r
 along_narrows {kept = kept} {old = old} {new = new} {r = r} solved struck h = record {
   less = h.less;
   keeps = λ g s size w. h.keeps g size (λ k inside. solved g s size w k inside) w;
@@ -204,7 +204,7 @@ line_refuted c line place sets a is none = record {
 
 pub line_narrows : (old new : CandidatesValue) (line place : ℕ) (sets kept : List ℕ) (t : Tally) (left : Bool)
     → IsAlong old.size line place → AreSetsOf old place sets → IsWholeTally sets old.size t
-    → ((k : ℕ) → k < old.size → IsKeptOf t (slice_index sets k) (slice_index kept k)) → KeepsAlong place kept old new left
+    → ((k : ℕ) → k < old.size → IsKeptOf t (slice_index sets k) (slice_index kept k)) → KeepsInView place kept old new left
     → Narrows IsSquare (IsLineStruck line) old new left
 line_narrows old new line place sets kept t left a is whole keeps h =
     along_narrows (λ g s size w k inside. line_solved old line place sets kept t a is whole keeps g s size w k inside)

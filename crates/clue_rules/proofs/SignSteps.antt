@@ -1,7 +1,7 @@
 -- What a sign rules out in the squares on both its sides, and along a line.
-use Rattle.std.proofs.Common.{◌≡◌, ℕ, ◌+◌, ◌-◌, ◌*◌, ◌<◌, ◌≤◌, ◌↔◌, Bool, true, false, not, inl, inr, refl, sym, ap, ◌∙◌, subst, arith, ◌⊎◌, ◌==◌}
+use Rattle.std.proofs.Common.{◌≡◌, ℕ, ◌*◌, ◌<◌, ◌≤◌, ◌↔◌, Bool, true, false, not, inl, inr, refl, sym, ap, ◌∙◌, subst, arith, ◌==◌}
 use Rattle.std.specs.Bool.{OnTrue, OnFalse}
-use Rattle.std.proofs.lemmas.Bool.{both_ways, false_from_ne_true, cases_eq, eq-eqb, ne_eqb, lt-ltb, le-ltb}
+use Rattle.std.proofs.lemmas.Bool.{both_ways, false_from_ne_true, cases_eq, eq-eqb, ne_eqb}
 use Rattle.latin_board.specs.Marks.{has_mark}
 use Rattle.latin_board.specs.Squares.{GridValue, number_at}
 use Rattle.tower_lines.proofs.MarkLemmas.{mark-zero}
@@ -9,17 +9,17 @@ use Rattle.trail_solver.specs.Pairs.{IsPair}
 use Rattle.trail_solver.specs.Candidates.{CandidatesValue, IsEarlier, IsWithin, may_be}
 use Rattle.trail_solver.specs.Puzzles.{Solves}
 use Rattle.trail_solver.proofs.Earlier.{was_left}
-use Rattle.clue_rules.specs.Inner.Narrowing.{IsStruckByLines, KeepsOf, Narrows, StruckBelow, IsSetOf}
-use Rattle.clue_rules.specs.Unequal.{UnequalValue, IsBetween, IsGreater, sign_count, sign_at, first_side, second_side, unequal_puzzle}
-use Rattle.clue_rules.specs.Laws.SignPlaces.{between_at}
+use Rattle.clue_rules.specs.Inner.Narrowing.{IsStruckByLines, KeepsInSquare, Narrows, StruckBelow, IsSetOf}
+use Rattle.clue_rules.specs.Unequal.{UnequalValue, IsUnequal, IsGreater, unequal_puzzle}
+use Rattle.clue_rules.specs.Laws.Neighbours.{IsNext, next_line, next_inside}
+use Rattle.clue_rules.specs.Laws.Signs.{greater_next}
 use Rattle.clue_rules.proofs.SignLemmas.{signs_held}
 use Rattle.clue_rules.specs.Struck.{IsUnequalStruck}
-use Rattle.clue_rules.specs.Inner.UnequalLines.{AreEnds, IsStruckAt, IsStruckAlong, line_sign, HoldsGreater, AreInside, IsLesserStruck, IsGreaterStruck, IsEndStruck}
+use Rattle.clue_rules.specs.Inner.UnequalLines.{AreEnds, IsStruckAt, IsStruckOn, IsStruckAlong, HoldsGreater, AreInside, IsLesserStruck, IsGreaterStruck, IsEndStruck}
 use Rattle.clue_rules.specs.declared.unequal.sign.Sign.TheVariants.{FirstGreater, SecondGreater}
 use Rattle.clue_rules.proofs.KeptCandidates.{within_kept}
 use Rattle.clue_rules.proofs.LineSteps.{grid_pair, in_set}
 use Rattle.clue_rules.proofs.Narrowings.{narrows_by, narrows_for}
-use Rattle.clue_rules.specs.Laws.SignSides.{Side, First, Second, other_side, square_at, greater_at, greater_by, greater_from_sign, IsGreaterBy}
 use Rattle.clue_rules.specs.declared.unequal.lines.Ends.{Ends}
 
 -- ---- a step at one square
@@ -40,7 +40,7 @@ square_narrows : {S : GridValue → Type 0} {T : CandidatesValue → ℕ → ℕ
     → ((g : GridValue) → S g → g.size ≡ old.size → IsWithin old g → has_mark kept (number_at g cell) ≡ true)
     → ((first : CandidatesValue) → IsEarlier first old → (at v : ℕ) → IsPair first.size at v → T first at v
     → (at ≡ cell) × (has_mark kept v ≡ false))
-    → KeepsOf old new cell kept → left ≡ not (kept == 0) → Narrows S T old new left
+    → KeepsInSquare old new cell kept → left ≡ not (kept == 0) → Narrows S T old new left
 square_narrows old new cell kept left solved struck k is = record {
   less = k.less;
   keeps = λ g s size w. within_kept old new cell kept g k w (solved g s size w);
@@ -60,7 +60,7 @@ square_narrows old new cell kept left solved struck k is = record {
 
 pub lesser_narrows : (old new : CandidatesValue) (ends : Ends) (set kept : ℕ) (left : Bool) → AreInside old.size ends
     → IsSetOf old ends.greater set → ((v : ℕ) → (has_mark kept v ≡ true) ↔ ((u : ℕ) × (v < u) × (has_mark set u ≡ true)))
-    → KeepsOf old new ends.lesser kept → left ≡ not (kept == 0)
+    → KeepsInSquare old new ends.lesser kept → left ≡ not (kept == 0)
     → Narrows (HoldsGreater ends) (IsLesserStruck ends) old new left
 lesser_narrows old new ends set kept left inside is below k answer =
     square_narrows old new ends.lesser kept left
@@ -79,7 +79,7 @@ lesser_narrows old new ends set kept left inside is below k answer =
 pub greater_narrows : (old new : CandidatesValue) (ends : Ends) (set kept : ℕ) (left : Bool) → old.size ≤ 9
     → AreInside old.size ends → IsSetOf old ends.lesser set
     → ((v : ℕ) → v < 16 → (has_mark kept v ≡ true) ↔ ((u : ℕ) × (u < v) × (has_mark set u ≡ true)))
-    → KeepsOf old new ends.greater kept → left ≡ not (kept == 0)
+    → KeepsInSquare old new ends.greater kept → left ≡ not (kept == 0)
     → Narrows (HoldsGreater ends) (IsGreaterStruck ends) old new left
 greater_narrows old new ends set kept left small inside is above k answer =
     square_narrows old new ends.greater kept left
@@ -96,109 +96,68 @@ greater_narrows old new ends set kept left small inside is above k answer =
     ))
     k answer
 
--- ---- one sign of a puzzle
+-- ---- the sign between two squares of a puzzle
 
--- the ends of a sign stand on its sides, the greater one where the sign says so
-record EndsAt (v : UnequalValue) (sign : ℕ) (ends : Ends) : Type 0 where
-  side : Side
-  says : sign_at v sign ≡ greater_at side
-  greater_is : ends.greater ≡ square_at v.size sign side
-  lesser_is : ends.lesser ≡ square_at v.size sign (other_side side)
-
-ends_at : (v : UnequalValue) (sign : ℕ) (ends : Ends) → AreEnds v sign ends → EndsAt v sign ends
-ends_at v sign ends are = elim are.is [
-  | inl first ↦ record { side = First; says = first.0; greater_is = first.1; lesser_is = first.2 }
-  | inr second ↦ record { side = Second; says = second.0; greater_is = second.1; lesser_is = second.2 }
+-- the greater end is the greater square
+ends_greater : (v : UnequalValue) (a b : ℕ) (ends : Ends) → AreEnds v a b ends → IsGreater v ends.greater ends.lesser
+ends_greater v a b ends are = elim are.is [
+  | inl first ↦ inl (rw (first.1, first.2) first.0)
+  | inr second ↦ inr (rw (second.1, second.2) second.0)
 ]
 
-ends_greater : (v : UnequalValue) (sign : ℕ) (ends : Ends) → 3 ≤ v.size → sign < sign_count v.size → AreEnds v sign ends
-    → IsGreater v ends.greater ends.lesser
-ends_greater v sign ends small inside are =
-    let at = ends_at v sign ends are in
-    carried at.greater_is at.lesser_is (greater_from_sign v sign at.side small inside at.says)
-  where
-    carried : {a b c d : ℕ} → a ≡ c → b ≡ d → IsGreater v c d → IsGreater v a b
-    carried e f h = rw (e, f) h
-
 -- a sign has its ends but once
-same_ends : (v : UnequalValue) (sign : ℕ) (one two : Ends) → AreEnds v sign one → AreEnds v sign two → one ≡ two
-same_ends v sign one two h k =
-    let first = ends_at v sign one h in
-    let second = ends_at v sign two k in
-    let side = one_greater first.side second.side (sym first.says ∙ second.says) in
-    let greater : one.greater ≡ two.greater = first.greater_is ∙ ap (square_at v.size sign) side ∙ sym second.greater_is in
-    let lesser : one.lesser ≡ two.lesser =
-    first.lesser_is ∙ ap (λ s. square_at v.size sign (other_side s)) side ∙ sym second.lesser_is in
-    λ i. record { greater = greater i; lesser = lesser i }
-  where
-    one_greater : (s t : Side) → greater_at s ≡ greater_at t → s ≡ t
-    one_greater First First e = refl
-    one_greater Second Second e = refl
-    one_greater First Second e = cc
-    one_greater Second First e = cc
+same_ends : (v : UnequalValue) (a b : ℕ) (one two : Ends) → AreEnds v a b one → AreEnds v a b two → one ≡ two
+same_ends v a b one two h k = elim h.is [
+  | inl first ↦ elim k.is [
+    | inl other ↦ λ i. record { greater = (first.1 ∙ sym other.1) i; lesser = (first.2 ∙ sym other.2) i }
+    | inr other ↦ absurd (let f : FirstGreater ≡ SecondGreater = sym first.0 ∙ other.0 in cc)
+  ]
+  | inr second ↦ elim k.is [
+    | inl other ↦ absurd (let f : SecondGreater ≡ FirstGreater = sym second.0 ∙ other.0 in cc)
+    | inr other ↦ λ i. record { greater = (second.1 ∙ sym other.1) i; lesser = (second.2 ∙ sym other.2) i }
+  ]
+]
 
-pub sign_narrows : (v : UnequalValue) (sign : ℕ) (ends : Ends) (old new : CandidatesValue) (left : Bool) → 3 ≤ v.size
-    → sign < sign_count v.size → AreEnds v sign ends → Narrows (HoldsGreater ends) (IsEndStruck ends) old new left
-    → Narrows (Solves (unequal_puzzle v)) (IsStruckAt v sign) old new left
-sign_narrows v sign ends old new left small inside are h =
+pub sign_narrows : (v : UnequalValue) (a b : ℕ) (ends : Ends) (old new : CandidatesValue) (left : Bool) → IsUnequal v → AreEnds v a b ends
+    → Narrows (HoldsGreater ends) (IsEndStruck ends) old new left → Narrows (Solves (unequal_puzzle v)) (IsStruckAt v a b) old new left
+sign_narrows v a b ends old new left valid are h =
     narrows_for (λ g s. (
       record { is_grid = s.is_grid; latin = s.latin },
-      (signs_held v g small s.clues).each ends.greater ends.lesser (ends_greater v sign ends small inside are),
+      (signs_held v g valid s.clues).each ends.greater ends.lesser (ends_greater v a b ends are),
     ))
-    (narrows_by (λ first e cell value pair s.
-    subst (λ (x : Ends). IsEndStruck x first cell value) (same_ends v sign s.ends ends s.are are) s.struck) h)
+    (narrows_by (λ first e cell value pair s. subst (λ (x : Ends). IsEndStruck x first cell value) (same_ends v a b s.ends ends s.are are) s.struck) h)
 
 -- ---- all that a puzzle strikes
 
-between_line : (w sign a b : ℕ) → IsBetween w sign a b → (line : ℕ) × (k : ℕ) × (line < 2 * w) × (k < w - 1) × (line_sign w line k ≡ sign)
-between_line w sign a b between = elim between [
-  | inl across ↦ (
-    across.row,
-    across.column,
-    omega (arith, across.row_inside),
-    omega (arith, across.column_inside),
-    rw (lt-ltb across.row w across.row_inside) (sym across.sign_is),
-  )
-  | inr down ↦
-      let column : (w + down.column) - w ≡ down.column = omega arith in (
-        w + down.column,
-        down.row,
-        omega (arith, down.column_inside),
-        omega (arith, down.row_inside),
-        rw (le-ltb (w + down.column) w (omega arith), column) (sym down.sign_is),
-      )
-]
+-- what a sign strikes is struck along a line
+struck_on_line : (v : UnequalValue) (c : CandidatesValue) (a b cell value : ℕ) → 3 ≤ v.size → c.size ≡ v.size → IsNext v.size a b
+    → IsStruckAt v a b c cell value → StruckBelow (IsStruckAlong v) (2 * c.size) c cell value
+struck_on_line v c a b cell value small size next struck =
+    let on = next_line v.size a b small next in
+    let here : IsStruckOn v on.line on.place c cell value = rw (on.first, on.second) struck in
+    (on.line, omega (arith, on.line_is), (on.place, omega (arith, on.place_is), here))
 
--- the sign that says that a holds the greater number has them as its ends
-greater_ends : (v : UnequalValue) (a b : ℕ) → (by : IsGreaterBy v a b) → AreEnds v by.sign (record { greater = a; lesser = b })
-greater_ends v a b by = record {
-  inside = (by.at.here_inside, by.at.there_inside);
-  is = at by.side by.says by.at.here by.at.there;
-}
-  where
-    at : (side : Side) → sign_at v by.sign ≡ greater_at side → a ≡ square_at v.size by.sign side
-        → b ≡ square_at v.size by.sign (other_side side)
-        → ((sign_at v by.sign ≡ FirstGreater) × (a ≡ first_side v.size by.sign) × (b ≡ second_side v.size by.sign))
-        ⊎ ((sign_at v by.sign ≡ SecondGreater) × (a ≡ second_side v.size by.sign) × (b ≡ first_side v.size by.sign))
-    at First says greater lesser = inl (says, greater, lesser)
-    at Second says greater lesser = inr (says, greater, lesser)
-
-struck_along : (v : UnequalValue) (c : CandidatesValue) (a b cell value : ℕ) → 3 ≤ v.size → c.size ≡ v.size → IsGreater v a b
+struck_along : (v : UnequalValue) (c : CandidatesValue) (a b cell value : ℕ) → IsUnequal v → c.size ≡ v.size → IsGreater v a b
     → IsEndStruck (record { greater = a; lesser = b }) c cell value → StruckBelow (IsStruckAlong v) (2 * c.size) c cell value
-struck_along v c a b cell value small size greater struck =
-    let by = greater_by v a b small greater in
-    let at = between_line v.size by.sign _ _ (between_at v.size by.sign small by.at.sign_inside) in
-    let P : ℕ → Type 0 = λ i. IsStruckAt v i c cell value in
-    let here : IsStruckAt v by.sign c cell value =
-    record { ends = record { greater = a; lesser = b }; are = greater_ends v a b by; struck = struck } in
-    (at.0, omega (arith, at.2), (at.1, at.3, subst P (sym at.4) here))
+struck_along v c a b cell value valid size greater struck =
+    let small : 3 ≤ v.size = valid.givens.smallest in
+    elim (greater_next v a b valid greater) [
+      | inl up ↦
+          let inside : AreInside v.size (record { greater = a; lesser = b }) = (up.0.inside, next_inside v.size a b small up.0) in
+          struck_on_line v c a b cell value small size up.0
+          (record { ends = record { greater = a; lesser = b }; are = record { inside = inside; is = inl (up.1, refl, refl) }; struck = struck })
+      | inr down ↦
+          let inside : AreInside v.size (record { greater = a; lesser = b }) = (next_inside v.size b a small down.0, down.0.inside) in
+          struck_on_line v c b a cell value small size down.0
+          (record { ends = record { greater = a; lesser = b }; are = record { inside = inside; is = inr (down.1, refl, refl) }; struck = struck })
+    ]
 
-pub unequal_by_lines : (v : UnequalValue) (c : CandidatesValue) (cell value : ℕ) → 3 ≤ v.size → c.size ≡ v.size
+pub unequal_by_lines : (v : UnequalValue) (c : CandidatesValue) (cell value : ℕ) → IsUnequal v → c.size ≡ v.size
     → IsUnequalStruck v c cell value → IsStruckByLines (IsStruckAlong v) c cell value
-unequal_by_lines v c cell value small size struck = elim struck [
+unequal_by_lines v c cell value valid size struck = elim struck [
   | inl latin ↦ inl latin
   | inr sign ↦ inr (elim sign.why [
-    | inl lower ↦ struck_along v c sign.other cell cell value small size lower.0 (inl (record { here = refl; none = lower.1 }))
-    | inr upper ↦ struck_along v c cell sign.other cell value small size upper.0 (inr (record { here = refl; none = upper.1 }))
+    | inl lower ↦ struck_along v c sign.other cell cell value valid size lower.0 (inl (record { here = refl; none = lower.1 }))
+    | inr upper ↦ struck_along v c cell sign.other cell value valid size upper.0 (inr (record { here = refl; none = upper.1 }))
   ])
 ]

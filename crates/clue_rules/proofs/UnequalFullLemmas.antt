@@ -1,56 +1,59 @@
 -- The signs of the full puzzle of a grid.
-use Rattle.std.proofs.Common.{◌≡◌, ℕ, ◌<◌, ◌≤◌, refl, sym, ◌∙◌, inl, inr, arith, ◌↔◌}
+use Rattle.std.proofs.Common.{◌≡◌, ◌↔◌, ℕ, ◌<◌, ◌≤◌, List, inl, inr, refl, sym, ◌∙◌, arith}
 use Rattle.std.proofs.lemmas.Bool.{lt-ltb, le-ltb, cases_lt}
-use Rattle.latin_board.specs.Squares.{GridValue, number_at}
+use Rattle.latin_board.specs.Squares.{GridValue, IsGrid, number_at}
+use Rattle.clue_rules.specs.declared.unequal.direction.Direction.TheVariants.{Right, Down}
+use Rattle.clue_rules.specs.declared.unequal.sign.Sign.{Sign}
 use Rattle.clue_rules.specs.declared.unequal.sign.Sign.TheVariants.{Absent, FirstGreater, SecondGreater}
-use Rattle.clue_rules.specs.Unequal.{IsGreater, AreNeighbours, sign_of, full_unequal}
-use Rattle.clue_rules.specs.Laws.UnequalItems.{full_sign}
-use Rattle.clue_rules.specs.Laws.SignSides.{Side, First, Second, other_side, square_at, greater_at, at_squares, side_between, between_at_side, greater_by, greater_from_sign}
+use Rattle.clue_rules.specs.Unequal.{IsGreater, AreNeighbours, sign_of, sign_in_grid, full_unequal}
+use Rattle.clue_rules.specs.Inner.UnequalFields.{HoldsSignsOf, unequal_value}
+use Rattle.clue_rules.specs.Laws.Neighbours.{neighbours_next, next_towards}
+use Rattle.clue_rules.specs.Laws.Signs.{signed_greater}
 
--- the sign of two numbers says of the greater one that it is
-sign_of_greater : (side : Side) (number : Side → ℕ) → sign_of (number First) (number Second) ≡ greater_at side
-    → number (other_side side) < number side
-sign_of_greater side number e = elim (cases_lt (number Second) (number First)) [
-  | inl greater ↦ first side greater (rw (lt-ltb (number Second) (number First) greater) at e)
-  | inr upper ↦ elim (cases_lt (number First) (number Second)) [
-    | inl less ↦ second side less (rw (le-ltb (number Second) (number First) upper, lt-ltb (number First) (number Second) less) at e)
-    | inr lower ↦ none side (rw (le-ltb (number Second) (number First) upper, le-ltb (number First) (number Second) lower) at e)
+first_sign : (x y : ℕ) → y < x → sign_of x y ≡ FirstGreater
+first_sign x y h = rw (lt-ltb y x h) refl
+
+second_sign : (x y : ℕ) → x < y → sign_of x y ≡ SecondGreater
+second_sign x y h = rw (le-ltb y x (omega arith), lt-ltb x y h) refl
+
+-- the greater of two numbers is the one that their sign says
+
+sign_first : (x y : ℕ) → sign_of x y ≡ FirstGreater → y < x
+sign_first x y e = elim (cases_lt y x) [
+  | inl greater ↦ greater
+  | inr upper ↦ elim (cases_lt x y) [
+    | inl less ↦ absurd (let f : SecondGreater ≡ FirstGreater = sym (second_sign x y less) ∙ e in cc)
+    | inr lower ↦ absurd (let f : Absent ≡ FirstGreater = rw (le-ltb y x upper, le-ltb x y lower) at e in cc)
   ]
 ]
-  where
-    first : (side : Side) → number Second < number First → FirstGreater ≡ greater_at side → number (other_side side) < number side
-    first First greater e = greater
-    first Second greater e = cc
 
-    second : (side : Side) → number First < number Second → SecondGreater ≡ greater_at side → number (other_side side) < number side
-    second First less e = cc
-    second Second less e = less
-
-    none : {P : Type 0} (side : Side) → Absent ≡ greater_at side → P
-    none First e = cc
-    none Second e = cc
-
-greater_sign : (side : Side) (number : Side → ℕ) → number (other_side side) < number side
-    → sign_of (number First) (number Second) ≡ greater_at side
-greater_sign First number h = rw (lt-ltb (number Second) (number First) h) refl
-greater_sign Second number h = rw (le-ltb (number Second) (number First) (omega arith), lt-ltb (number First) (number Second) h) refl
+sign_second : (x y : ℕ) → sign_of x y ≡ SecondGreater → x < y
+sign_second x y e = elim (cases_lt x y) [
+  | inl less ↦ less
+  | inr lower ↦ elim (cases_lt y x) [
+    | inl greater ↦ absurd (let f : FirstGreater ≡ SecondGreater = sym (first_sign x y greater) ∙ e in cc)
+    | inr upper ↦ absurd (let f : Absent ≡ SecondGreater = rw (le-ltb y x upper, le-ltb x y lower) at e in cc)
+  ]
+]
 
 -- the full puzzle says of each two neighbours which one the grid has greater
-pub full_greater : (g : GridValue) (a b : ℕ) → 3 ≤ g.size
+pub full_greater : (g : GridValue) (a b : ℕ) → IsGrid g
     → IsGreater (full_unequal g) a b ↔ (AreNeighbours g.size a b × (number_at g b < number_at g a))
-full_greater g a b small = (
-  λ h.
-      let by = greater_by (full_unequal g) a b small h in
-      let number : Side → ℕ = λ side. number_at g (square_at g.size by.sign side) in (
-        record { sign = by.sign; between = between_at_side g.size by.sign by.side a b small by.at },
-        at_squares (λ x y. number_at g y < number_at g x) g.size by.sign by.side a b by.at
-            (sign_of_greater by.side number (sym (full_sign g by.sign by.at.sign_inside) ∙ by.says)),
-      ),
-  λ h.
-      let beside = side_between g.size h.0.sign a b small h.0.between in
-      let number : Side → ℕ = λ side. number_at g (square_at g.size h.0.sign side) in
-      let less : number (other_side beside.0) < number beside.0 = rw (← beside.1.here, ← beside.1.there) h.1 in
-      at_squares (IsGreater (full_unequal g)) g.size h.0.sign beside.0 a b beside.1
-      (greater_from_sign (full_unequal g) h.0.sign beside.0 small beside.1.sign_inside
-      (full_sign g h.0.sign beside.1.sign_inside ∙ greater_sign beside.0 number less)),
-)
+full_greater g a b is_grid =
+    let small : 3 ≤ g.size = is_grid.smallest in
+    let rule = signed_greater g.size (sign_in_grid g) g.numbers a b is_grid in (
+      λ h. elim (rule.0 h) [
+        | inl up ↦ ((next_towards g.size a b small up.0).0, sign_first (number_at g a) (number_at g b) up.1)
+        | inr down ↦ ((next_towards g.size b a small down.0).1, sign_second (number_at g b) (number_at g a) down.1)
+      ],
+      λ h. elim (neighbours_next g.size a b small h.0) [
+        | inl next ↦ rule.1 (inl (next, first_sign (number_at g a) (number_at g b) h.1))
+        | inr next ↦ rule.1 (inr (next, second_sign (number_at g b) (number_at g a) h.1))
+      ],
+    )
+
+-- so do tables that hold its signs
+pub full_signs : (g : GridValue) (right below : List Sign) → IsGrid g → HoldsSignsOf g.size (sign_in_grid g) Right right
+    → HoldsSignsOf g.size (sign_in_grid g) Down below → (a b : ℕ)
+    → IsGreater (unequal_value right below g) a b ↔ (AreNeighbours g.size a b × (number_at g b < number_at g a))
+full_signs g right below is_grid rights lowers a b = rw (rights.front, lowers.front) (full_greater g a b is_grid)

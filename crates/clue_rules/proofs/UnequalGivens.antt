@@ -2,10 +2,10 @@
 use Rattle.std.proofs.Common.{◌≡◌, ℕ, ◌+◌, ◌<◌, ◌≤◌, true, false, List, [], ◌∷◌, ◌++◌, length, set, take, map, Option, Some, None, unwrap_or, is_some, Bor, take_all, refl, sym, ap, ◌∙◌, arith, if◌then◌else◌, slice_index_or}
 use Rattle.std.specs.List.{list_all}
 use Rattle.std.proofs.lemmas.List.{get_or-map, take_more, take_more_set, map-append}
-use Rattle.std.proofs.lemmas.List.Folds.{list_all-append, list_all_at}
+use Rattle.std.proofs.lemmas.List.Folds.{list_all-append, list_all-map, list_all_at}
 use Rattle.latin_board.specs.Squares.{GridValue}
 use Rattle.clue_rules.specs.Inner.UnequalPieces.{texts_of}
-use Rattle.clue_rules.specs.UnequalText.{number_in, has_number, grid_in}
+use Rattle.clue_rules.specs.UnequalText.{number_in, has_number, has_letters, grid_in}
 
 -- one piece more that has a number
 pub good_more : (w i n : ℕ) (pieces : List (List ℕ)) → i < length pieces → list_all (has_number w) (take i pieces) ≡ true
@@ -44,3 +44,12 @@ givens_read w i g pieces size count all good numbers =
     let each : list_all (has_number w) pieces ≡ true = rw whole at good in
     let same : g ≡ grid_in w pieces = λ j. record { size = size j; numbers = read j } in
     rw each (ap (λ x. Some x) same)
+
+-- the letters of all pieces, looked at through references
+pub letters_of_texts : (pieces : List (Bor (List ℕ))) → list_all (λ p. has_letters p.now) pieces ≡ list_all has_letters (texts_of pieces)
+letters_of_texts pieces = sym (list_all-map has_letters (λ p. p.now) pieces)
+
+-- the text of one piece
+pub text_at : (pieces : List (Bor (List ℕ))) (i : ℕ) (d : Bor (List ℕ)) → i < length pieces
+    → (slice_index_or pieces i d).now ≡ slice_index_or (texts_of pieces) i []
+text_at pieces i d inside = sym (get_or-map (λ p. p.now) pieces i d [] inside)

@@ -1,27 +1,104 @@
--- The signs of an Unequal puzzle as a table of 144 places: one item less, and the sign of the numbers on both sides.
-use Rattle.std.proofs.Common.{◌≡◌, ℕ, ◌+◌, ◌<◌, not, List, set, refl, ◌==◌}
-use Rattle.latin_board.specs.Squares.{GridValue, number_at}
+-- The signs of an Unequal puzzle as two tables of 81 places: one item less.
+use Rattle.std.proofs.Common.{◌≡◌, ℕ, ◌+◌, ◌*◌, ◌<◌, Bool, true, false, nat_lt, not, List, set, take, refl, sym, ap, ◌∙◌, inl, inr, arith, ◌==◌, slice_index_or}
+use Rattle.std.proofs.Math.Seq.{take-set-lt}
+use Rattle.std.proofs.lemmas.Bool.{eq-eqb, ne_eqb, cases_eq}
+use Rattle.std.proofs.lemmas.List.{length-take, drop-set-lt, length-set, get_or-set_same, get_or-set_other}
+use Rattle.clue_rules.specs.declared.unequal.direction.Direction.{Direction}
+use Rattle.clue_rules.specs.declared.unequal.item.Item.{Item}
+use Rattle.clue_rules.specs.declared.unequal.item.Item.TheVariants.{RightSign, LowerSign, Given}
 use Rattle.clue_rules.specs.declared.unequal.sign.Sign.{Sign}
 use Rattle.clue_rules.specs.declared.unequal.sign.Sign.TheVariants.{Absent}
-use Rattle.clue_rules.specs.Inner.UnequalFields.{unequal_value}
-use Rattle.clue_rules.specs.Unequal.{cut_unequal, sign_count, sign_of, first_side, second_side}
-use Rattle.clue_rules.proofs.KeptItemLemmas.{item_emptied, given_emptied}
+use Rattle.clue_rules.specs.Items.{kept_items}
+use Rattle.clue_rules.specs.Inner.UnequalFields.{KeepsSigns, HoldsSignsOf}
+use Rattle.clue_rules.specs.Inner.UnequalItems.{item_cell, without_item}
+use Rattle.clue_rules.specs.Unequal.{UnequalValue, IsUnequal, cut_unequal, item_at, item_number, has_item, is_present, sign_towards, signs_towards}
+use Rattle.clue_rules.specs.Laws.KeptItems.{kept-all, kept-same, not_positive}
+use Rattle.clue_rules.specs.Laws.UnequalItems.{number_of_item_at, has_is_item, not_present}
+use Rattle.clue_rules.specs.Laws.Signs.{none_at_end}
+use Rattle.clue_rules.proofs.FilledLemmas.{IsFilledBy, filled_more}
+use Rattle.clue_rules.proofs.KeptItemLemmas.{kept-but_one}
 
-pub sign_dropped : (givens : GridValue) (places : List Sign) (i : ℕ) → i < sign_count givens.size
-    → unequal_value (set places i Absent) givens ≡ cut_unequal (unequal_value places givens) (λ j. not (j == i))
-sign_dropped givens places i inside =
-    let kept = item_emptied Absent (sign_count givens.size) places givens.numbers i inside in
-    rw (kept.0, kept.1) refl
+-- a place that is emptied
+pub emptied : (w : ℕ) (d : Direction) (places : List Sign) (cell : ℕ) → KeepsSigns w d places → cell < w * w
+    → KeepsSigns w d (set places cell Absent)
+emptied w d places cell h inside = record {
+  padded = record {
+    count = length-set places cell Absent ∙ h.padded.count;
+    within = h.padded.within;
+    rest = drop-set-lt (w * w) places cell Absent inside ∙ h.padded.rest;
+  };
+  ends = λ k none. rw (take-set-lt (w * w) places cell Absent inside) (elim (cases_eq k cell) [
+    | inl same ↦ rw same (get_or-set_same (take (w * w) places) cell Absent Absent (omega (arith, length-take (w * w) places, h.padded.count, h.padded.within)))
+    | inr other ↦ get_or-set_other (take (w * w) places) cell k Absent Absent other ∙ h.ends k none
+  ]);
+}
 
-pub given_dropped : (old new : GridValue) (places : List Sign) (i k : ℕ) → sign_count old.size + k ≡ i → new.size ≡ old.size
-    → new.numbers ≡ set old.numbers k 0
-    → unequal_value places new ≡ cut_unequal (unequal_value places old) (λ j. not (j == i))
-given_dropped old new places i k e size numbers =
-    let kept = given_emptied Absent (sign_count old.size) places old.numbers i k e in
-    rw (size, numbers, kept.0, kept.1) refl
+pub emptied_front : (n : ℕ) (places : List Sign) (cell : ℕ) → cell < n → take n (set places cell Absent) ≡ set (take n places) cell Absent
+emptied_front n places cell inside = take-set-lt n places cell Absent inside
 
--- the sign that is made of the numbers on both sides
-pub sign_read : (g : GridValue) (w a b i x y : ℕ) (s : Sign) → s ≡ sign_of x y → x ≡ number_at g a → y ≡ number_at g b
-    → a ≡ first_side w i → b ≡ second_side w i → w ≡ g.size
-    → s ≡ sign_of (number_at g (first_side g.size i)) (number_at g (second_side g.size i))
-sign_read g w a b i x y s made left right first second size = rw (made, left, right, rw size at first, rw size at second) refl
+-- to take the item of a number away is to keep all others
+
+others_stay : {X : Type 0} (empty : X) (present : X → Bool) → ((x : X) → present x ≡ false → x ≡ empty) → (number : ℕ → ℕ) (i : ℕ) (xs : List X)
+    → ((cell : ℕ) → present (slice_index_or xs cell empty) ≡ true → number cell ≡ i → ⊥)
+    → kept_items empty (λ cell. not (number cell == i)) 0 xs ≡ xs
+others_stay empty present gone number i xs apart =
+    kept-same empty present gone (λ cell. not (number cell == i)) (λ cell. true) xs (λ cell inside here. ap not (ne_eqb (number cell) i (apart cell here)))
+    ∙ kept-all empty 0 xs
+
+one_goes : {X : Type 0} (empty : X) (present : X → Bool) → ((x : X) → present x ≡ false → x ≡ empty) → (number : ℕ → ℕ) (i c : ℕ) (xs : List X)
+    → number c ≡ i → ((cell : ℕ) → present (slice_index_or xs cell empty) ≡ true → number cell ≡ i → cell ≡ c)
+    → kept_items empty (λ cell. not (number cell == i)) 0 xs ≡ set xs c empty
+one_goes empty present gone number i c xs here only =
+    kept-same empty present gone (λ cell. not (number cell == i)) (λ cell. not (cell == c)) xs (λ cell inside is. one cell is)
+    ∙ kept-but_one empty 0 c c xs (omega arith)
+  where
+    one : (cell : ℕ) → present (slice_index_or xs cell empty) ≡ true → not (number cell == i) ≡ not (cell == c)
+    one cell is = elim (cases_eq cell c) [
+      | inl same ↦ rw (eq-eqb (number cell) i (ap number same ∙ here), eq-eqb cell c same) refl
+      | inr other ↦ rw (ne_eqb (number cell) i (λ e. other (only cell is e)), ne_eqb cell c other) refl
+    ]
+
+pub without_cut : (v : UnequalValue) (i : ℕ) → IsUnequal v → without_item v (item_at v.size i) ≡ cut_unequal v (λ j. not (j == i))
+without_cut v i valid = by (item_at v.size i) refl
+  where
+    only : (it other : Item) → it ≡ item_at v.size i → has_item v other ≡ true → item_number v.size other ≡ i → other ≡ it
+    only it other is here e = sym (has_is_item v other valid here).back ∙ ap (item_at v.size) e ∙ sym is
+
+    number : (it : Item) → it ≡ item_at v.size i → item_number v.size it ≡ i
+    number it is = ap (item_number v.size) is ∙ number_of_item_at v.size i valid.givens.smallest
+
+    by : (it : Item) → it ≡ item_at v.size i → without_item v it ≡ cut_unequal v (λ j. not (j == i))
+    by (RightSign c) is =
+        let one = one_goes Absent is_present not_present (λ k. item_number v.size (RightSign k)) i c v.right (number (RightSign c) is) (λ k here e. ap item_cell (only (RightSign c) (RightSign k) is here e)) in
+        let below = others_stay Absent is_present not_present (λ k. item_number v.size (LowerSign k)) i v.below (λ k here e. let f = only (RightSign c) (LowerSign k) is here e in cc) in
+        let givens = others_stay 0 (nat_lt 0) not_positive (λ k. item_number v.size (Given k)) i v.givens (λ k here e. let f = only (RightSign c) (Given k) is here e in cc) in
+        rw (one, below, givens) refl
+    by (LowerSign c) is =
+        let right = others_stay Absent is_present not_present (λ k. item_number v.size (RightSign k)) i v.right (λ k here e. let f = only (LowerSign c) (RightSign k) is here e in cc) in
+        let one = one_goes Absent is_present not_present (λ k. item_number v.size (LowerSign k)) i c v.below (number (LowerSign c) is) (λ k here e. ap item_cell (only (LowerSign c) (LowerSign k) is here e)) in
+        let givens = others_stay 0 (nat_lt 0) not_positive (λ k. item_number v.size (Given k)) i v.givens (λ k here e. let f = only (LowerSign c) (Given k) is here e in cc) in
+        rw (right, one, givens) refl
+    by (Given c) is =
+        let right = others_stay Absent is_present not_present (λ k. item_number v.size (RightSign k)) i v.right (λ k here e. let f = only (Given c) (RightSign k) is here e in cc) in
+        let below = others_stay Absent is_present not_present (λ k. item_number v.size (LowerSign k)) i v.below (λ k here e. let f = only (Given c) (LowerSign k) is here e in cc) in
+        let one = one_goes 0 (nat_lt 0) not_positive (λ k. item_number v.size (Given k)) i c v.givens (number (Given c) is) (λ k here e. ap item_cell (only (Given c) (Given k) is here e)) in
+        rw (right, below, one) refl
+
+-- a table that is filled from the front: one sign more, and all signs
+
+pub sign_filled : (w : ℕ) (sign : ℕ → ℕ → Sign) (d : Direction) (cell : ℕ) (places : List Sign) (s : Sign) → cell < 81
+    → s ≡ sign_towards w sign d cell → IsFilledBy Absent 81 (sign_towards w sign d) cell places
+    → IsFilledBy Absent 81 (sign_towards w sign d) (cell + 1) (set places cell s)
+sign_filled w sign d cell places s room is h = filled_more Absent 81 (sign_towards w sign d) cell places s room is h
+
+pub signs_filled : (w : ℕ) (sign : ℕ → ℕ → Sign) (d : Direction) (cell : ℕ) (places : List Sign) → cell ≡ w * w
+    → IsFilledBy Absent 81 (sign_towards w sign d) cell places → HoldsSignsOf w sign d places
+signs_filled w sign d cell places all h =
+    let front : take (w * w) places ≡ signs_towards w sign d = rw (← all) h.front in
+    record {
+      kept = record {
+        padded = rw (← all) h.filled;
+        ends = λ k none. rw front (none_at_end w sign d k none);
+      };
+      front = front;
+    }

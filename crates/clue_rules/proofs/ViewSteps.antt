@@ -12,7 +12,7 @@ use Rattle.trail_solver.specs.Pairs.{IsPair}
 use Rattle.trail_solver.specs.Candidates.{CandidatesValue, IsEarlier, IsWithin, may_be}
 use Rattle.trail_solver.specs.Puzzles.{Solves}
 use Rattle.trail_solver.proofs.Earlier.{was_left}
-use Rattle.clue_rules.specs.Inner.Narrowing.{AreSetsOf, IsSquare, IsStruckByLines, KeepsAlong, Narrows}
+use Rattle.clue_rules.specs.Inner.Narrowing.{AreSetsOf, IsSquare, IsStruckByLines, KeepsInView, Narrows}
 use Rattle.clue_rules.specs.Laws.TowersItems.{length-view_of, clues_decide}
 use Rattle.clue_rules.specs.Towers.{towers_puzzle, TowersValue, clue_of}
 use Rattle.clue_rules.specs.Struck.{IsViewFilling, IsViewStruck, IsTowersStruck}
@@ -156,7 +156,7 @@ view_struck c place clue sets kept is small supported first e cell v s = (
 
 pub view_narrows : (old new : CandidatesValue) (place clue : ℕ) (sets kept : List ℕ) (left : Bool) → place < 4 * old.size
     → AreSetsOf old place sets → old.size ≤ 9
-    → AreSupported old.size clue sets kept → KeepSupported old.size clue sets kept → KeepsAlong place kept old new left
+    → AreSupported old.size clue sets kept → KeepSupported old.size clue sets kept → KeepsInView place kept old new left
     → Narrows (ShowsClue place clue) (IsViewStruck place clue) old new left
 view_narrows old new place clue sets kept left inside is small supported keeps h =
     along_narrows (λ g s size w k low. view_solved old place clue sets kept g inside is small keeps s.0 s.1 size w k low)

@@ -6,5 +6,6 @@ pub mod Narrowing
 pub mod TowersFields
 pub mod TowersLines
 pub mod UnequalFields
+pub mod UnequalItems
 pub mod UnequalLines
 pub mod UnequalPieces

@@ -1,18 +1,16 @@
 -- Lemmas for the laws of the traits that the games keep: items and cuts, and texts that are read and written.
 pub mod CluePart
-pub mod Contradiction
 pub mod Edges
 pub mod Exactly
 pub mod GameIds
 pub mod GoodPieces
 pub mod KeptItems
 pub mod Letters
+pub mod Neighbours
 pub mod Pieces
 pub mod RangeTests
 pub mod Refusals
 pub mod SaidSigns
-pub mod SignPlaces
-pub mod SignSides
 pub mod Signs
 pub mod SparedMemory
 pub mod SquarePart

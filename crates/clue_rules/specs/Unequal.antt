@@ -1,86 +1,88 @@
 -- Unequal puzzles: signs between neighbouring squares and givens, the grids that hold the signs, and the items.
 --
--- Each two neighbours have a place for a sign. The places are numbered, and so the signs: each row's from the top and the
--- left, then those below each square.
+-- A sign stands between a square and its right or its lower neighbour. That square is the sign's first one.
 use Rattle.std.specs.Prelude.{◌≡◌, ℕ, ◌+◌, ◌-◌, ◌*◌, ◌/◌, ◌%◌, ◌<◌, ◌⊎◌, ◌==◌, ◌&&◌, ◌||◌, nat_lt, Bool, true, false, if◌then◌else◌, List, length, slice_index_or, Option, Some, None, zero, map, slice_index}
 use Rattle.std.specs.Option.{option_map_or}
 use Rattle.std.specs.List.{range_with_len, list_all}
 use Rattle.latin_board.specs.Squares.{GridValue, IsGrid, number_at}
+use Rattle.clue_rules.specs.declared.unequal.direction.Direction.{Direction}
+use Rattle.clue_rules.specs.declared.unequal.direction.Direction.TheVariants.{Up, Right, Down, Left}
+use Rattle.clue_rules.specs.declared.unequal.item.Item.{Item}
+use Rattle.clue_rules.specs.declared.unequal.item.Item.TheVariants.{RightSign, LowerSign, Given}
 use Rattle.clue_rules.specs.declared.unequal.sign.Sign.{Sign}
 use Rattle.clue_rules.specs.declared.unequal.sign.Sign.TheVariants.{Absent, FirstGreater, SecondGreater}
 use Rattle.clue_rules.specs.Items.{kept_items}
 use Rattle.trail_solver.specs.Puzzles.{Puzzle}
 
--- a width, a sign for each two neighbouring squares, and a number for each square, 0 where none is given
+-- a width, and for each square the sign towards its right neighbour, that towards its lower neighbour, and its number, 0 where
+-- none is given
 pub record UnequalValue : Type 0 where
   pub size : ℕ
-  pub signs : List Sign
+  pub right : List Sign
+  pub below : List Sign
   pub givens : List ℕ
 
 -- the givens as a grid, blank where none is
 abbrev pub given_grid : UnequalValue → GridValue
 given_grid v = record { size = v.size; numbers = v.givens }
 
--- how many pairs of neighbours the rows have, and as many have the columns
-abbrev pub pairs_across : ℕ → ℕ
-pairs_across w = w * (w - 1)
+-- the neighbour of a square in a direction, where the grid has one
+abbrev pub neighbour : ℕ → ℕ → Direction → Option ℕ
+neighbour w cell Up = if nat_lt cell w then None else Some (cell - w)
+neighbour w cell Right = if cell % w + 1 == w then None else Some (cell + 1)
+neighbour w cell Down = if nat_lt (cell + w) (w * w) then Some (cell + w) else None
+neighbour w cell Left = if cell % w == 0 then None else Some (cell - 1)
 
--- how many signs a grid of a width has room for
-abbrev pub sign_count : ℕ → ℕ
-sign_count w = 2 * pairs_across w
+-- b is a square beside, above or below the square a
+pub record AreNeighbours (w a b : ℕ) : Type 0 where
+  pub inside : a < w * w
+  pub direction : Direction
+  pub points : neighbour w a direction ≡ Some b
 
--- what each puzzle of the program keeps
+-- the sign between a square and its right neighbour
+abbrev pub right_sign : UnequalValue → ℕ → Sign
+right_sign v cell = slice_index_or v.right cell Absent
+
+-- the sign between a square and its lower neighbour
+abbrev pub lower_sign : UnequalValue → ℕ → Sign
+lower_sign v cell = slice_index_or v.below cell Absent
+
+-- what each puzzle of the program keeps: where the grid ends no sign stands
 pub record IsUnequal (v : UnequalValue) : Type 0 where
   pub givens : IsGrid (given_grid v)
-  pub signs : length v.signs ≡ sign_count v.size
+  pub right_count : length v.right ≡ v.size * v.size
+  pub right_ends : (cell : ℕ) → neighbour v.size cell Right ≡ None → right_sign v cell ≡ Absent
+  pub below_count : length v.below ≡ v.size * v.size
+  pub below_ends : (cell : ℕ) → neighbour v.size cell Down ≡ None → lower_sign v cell ≡ Absent
 
--- the sign stands in a row, between its squares in a column and the next one
-pub record IsAcross (w sign first second : ℕ) : Type 0 where
-  pub row : ℕ
-  pub column : ℕ
-  pub row_inside : row < w
-  pub column_inside : column + 1 < w
-  pub sign_is : sign ≡ row * (w - 1) + column
-  pub first_is : first ≡ row * w + column
-  pub second_is : second ≡ row * w + (column + 1)
+-- the sign between two squares, absent where the second is neither the right nor the lower neighbour of the first
+abbrev pub sign_between : UnequalValue → ℕ → ℕ → Sign
+sign_between v first second =
+    if second == first + 1 then right_sign v first else (if second == first + v.size then lower_sign v first else Absent)
 
--- the sign stands in a column, between its squares in a row and the next one
-pub record IsDown (w sign first second : ℕ) : Type 0 where
-  pub row : ℕ
-  pub column : ℕ
-  pub row_inside : row + 1 < w
-  pub column_inside : column < w
-  pub sign_is : sign ≡ pairs_across w + (row * w + column)
-  pub first_is : first ≡ row * w + column
-  pub second_is : second ≡ (row + 1) * w + column
+-- the sign between the squares a and b, of which either may be the first, says that a holds the greater number
+abbrev pub IsGreater : UnequalValue → ℕ → ℕ → Type 0
+IsGreater v a b = (sign_between v a b ≡ FirstGreater) ⊎ (sign_between v b a ≡ SecondGreater)
 
--- the sign stands between two neighbours, of which the left or the upper one is the first
-abbrev pub IsBetween : ℕ → ℕ → ℕ → ℕ → Type 0
-IsBetween w sign first second = IsAcross w sign first second ⊎ IsDown w sign first second
+-- the sign says that its first square holds the greater number
+abbrev pub says_first : Sign → Bool
+says_first FirstGreater = true
+says_first Absent = false
+says_first SecondGreater = false
 
--- the squares a and b are neighbours, whichever is the first
-pub record AreNeighbours (w a b : ℕ) : Type 0 where
-  pub sign : ℕ
-  pub between : IsBetween w sign a b ⊎ IsBetween w sign b a
+-- the sign says that its second square holds the greater number
+abbrev pub says_second : Sign → Bool
+says_second SecondGreater = true
+says_second Absent = false
+says_second FirstGreater = false
 
--- the sign of this number, absent past the last
-abbrev pub sign_at : UnequalValue → ℕ → Sign
-sign_at v sign = slice_index_or v.signs sign Absent
+-- `IsGreater` as a test that computes
+abbrev pub is_greater : UnequalValue → ℕ → ℕ → Bool
+is_greater v a b = says_first (sign_between v a b) || says_second (sign_between v b a)
 
--- the squares a and b are neighbours, and the sign between them says that a holds the greater number
-pub record IsGreater (v : UnequalValue) (a b : ℕ) : Type 0 where
-  pub sign : ℕ
-  pub says : (IsBetween v.size sign a b × (sign_at v sign ≡ FirstGreater))
-      ⊎ (IsBetween v.size sign b a × (sign_at v sign ≡ SecondGreater))
-
--- the square on a sign's first side, the left or the upper one
-abbrev pub first_side : ℕ → ℕ → ℕ
-first_side w sign =
-    if nat_lt sign (pairs_across w) then sign / (w - 1) * w + sign % (w - 1) else sign - pairs_across w
-
--- the square on a sign's second side, the right or the lower one
-abbrev pub second_side : ℕ → ℕ → ℕ
-second_side w sign = if nat_lt sign (pairs_across w) then first_side w sign + 1 else first_side w sign + w
+-- the grid's number at a is greater than that at b wherever the puzzle says so
+pub record HoldsSigns (v : UnequalValue) (g : GridValue) : Type 0 where
+  pub each : (a b : ℕ) → IsGreater v a b → number_at g b < number_at g a
 
 -- two numbers are as the sign between them says
 abbrev pub holds_sign : Sign → ℕ → ℕ → Bool
@@ -88,43 +90,14 @@ holds_sign Absent x y = true
 holds_sign FirstGreater x y = nat_lt y x
 holds_sign SecondGreater x y = nat_lt x y
 
--- the grid's number at a is greater than that at b wherever the puzzle says so
-pub record HoldsSigns (v : UnequalValue) (g : GridValue) : Type 0 where
-  pub each : (a b : ℕ) → IsGreater v a b → number_at g b < number_at g a
-
--- the numbers of a grid on both sides of a sign are as it says
-abbrev pub holds_sign_at : UnequalValue → GridValue → ℕ → Bool
-holds_sign_at v g sign = holds_sign (sign_at v sign) (number_at g (first_side v.size sign)) (number_at g (second_side v.size sign))
+-- the numbers of a square and of its neighbour in a direction, where it has one, are as the sign between them says
+abbrev pub holds_towards : UnequalValue → GridValue → ℕ → Direction → Bool
+holds_towards v g cell d =
+    option_map_or (λ other. holds_sign (sign_between v cell other) (number_at g cell) (number_at g other)) (neighbour v.size cell d) true
 
 -- `HoldsSigns` as a test that computes
 abbrev pub holds_signs : UnequalValue → GridValue → Bool
-holds_signs v g = list_all (holds_sign_at v g) (range_with_len 0 (sign_count v.size))
-
--- the number of the sign between two neighbours, of which the left or the upper one is the first
-abbrev pub sign_between : ℕ → ℕ → ℕ → Option ℕ
-sign_between w first second =
-    if (second == first + 1) && nat_lt 0 (second % w) then Some (first / w * (w - 1) + first % w)
-    else (if second == first + w then Some (pairs_across w + first) else None)
-
--- the sign says that the square on its first side holds the greater number
-abbrev pub says_first : Sign → Bool
-says_first FirstGreater = true
-says_first Absent = false
-says_first SecondGreater = false
-
--- the sign says that the square on its second side holds the greater number
-abbrev pub says_second : Sign → Bool
-says_second SecondGreater = true
-says_second Absent = false
-says_second FirstGreater = false
-
--- the sign between two squares, absent where the first isn't the left or the upper neighbour of the second
-abbrev pub sign_of_pair : UnequalValue → ℕ → ℕ → Sign
-sign_of_pair v first second = option_map_or (λ sign. sign_at v sign) (sign_between v.size first second) Absent
-
--- `IsGreater` as a test that computes
-abbrev pub is_greater : UnequalValue → ℕ → ℕ → Bool
-is_greater v a b = says_first (sign_of_pair v a b) || says_second (sign_of_pair v b a)
+holds_signs v g = list_all (λ cell. holds_towards v g cell Right && holds_towards v g cell Down) (range_with_len 0 (v.size * v.size))
 
 -- what generic code knows of the puzzle: no edge has a clue
 abbrev pub unequal_puzzle : UnequalValue → Puzzle
@@ -135,9 +108,25 @@ unequal_puzzle v = record {
   clued = λ place. false;
 }
 
--- how many items a puzzle of a width can have: its signs, and behind them its givens
+-- how many pairs of neighbours the rows have, and as many have the columns
+abbrev pub pairs_across : ℕ → ℕ
+pairs_across w = w * (w - 1)
+
+-- how many items a puzzle of a width can have: its signs, and after them its givens
 abbrev pub unequal_items : ℕ → ℕ
-unequal_items w = sign_count w + w * w
+unequal_items w = 2 * pairs_across w + w * w
+
+-- the item of a number: the signs in each row from the top and the left, then those below each square, then the givens
+abbrev pub item_at : ℕ → ℕ → Item
+item_at w i =
+    if nat_lt i (pairs_across w) then RightSign (i / (w - 1) * w + i % (w - 1))
+    else (if nat_lt i (2 * pairs_across w) then LowerSign (i - pairs_across w) else Given (i - 2 * pairs_across w))
+
+-- the number of an item
+abbrev pub item_number : ℕ → Item → ℕ
+item_number w (RightSign cell) = cell / w * (w - 1) + cell % w
+item_number w (LowerSign cell) = pairs_across w + cell
+item_number w (Given cell) = 2 * pairs_across w + cell
 
 -- the sign says something
 abbrev pub is_present : Sign → Bool
@@ -146,28 +135,53 @@ is_present FirstGreater = true
 is_present SecondGreater = true
 
 -- whether the puzzle has the item
+abbrev pub has_item : UnequalValue → Item → Bool
+has_item v (RightSign cell) = is_present (right_sign v cell)
+has_item v (LowerSign cell) = is_present (lower_sign v cell)
+has_item v (Given cell) = nat_lt 0 (slice_index v.givens cell)
+
+-- whether the puzzle has the item of a number
 abbrev pub has_unequal : UnequalValue → ℕ → Bool
-has_unequal v item =
-    if nat_lt item (sign_count v.size) then is_present (sign_at v item)
-    else nat_lt 0 (slice_index v.givens (item - sign_count v.size))
+has_unequal v i = has_item v (item_at v.size i)
+
+-- of which squares the item of a kind is in a set of numbers
+abbrev pub keeps_kind : ℕ → (ℕ → Bool) → (ℕ → Item) → ℕ → Bool
+keeps_kind w keep kind cell = keep (item_number w (kind cell))
 
 -- the puzzle without its items outside a set
 abbrev pub cut_unequal : UnequalValue → (ℕ → Bool) → UnequalValue
 cut_unequal v keep = record {
   size = v.size;
-  signs = kept_items Absent keep 0 v.signs;
-  givens = kept_items zero keep (sign_count v.size) v.givens;
+  right = kept_items Absent (keeps_kind v.size keep RightSign) 0 v.right;
+  below = kept_items Absent (keeps_kind v.size keep LowerSign) 0 v.below;
+  givens = kept_items zero (keeps_kind v.size keep Given) 0 v.givens;
+}
+
+-- the sign between a square and its neighbour in a direction, where there is one, by a rule
+abbrev pub sign_towards : ℕ → (ℕ → ℕ → Sign) → Direction → ℕ → Sign
+sign_towards w sign d cell = option_map_or (sign cell) (neighbour w cell d) Absent
+
+-- those signs of all squares
+abbrev pub signs_towards : ℕ → (ℕ → ℕ → Sign) → Direction → List Sign
+signs_towards w sign d = map (sign_towards w sign d) (range_with_len 0 (w * w))
+
+-- the puzzle with these givens and the signs that a rule gives between each two neighbours
+abbrev pub signed_puzzle : ℕ → (ℕ → ℕ → Sign) → List ℕ → UnequalValue
+signed_puzzle w sign givens = record {
+  size = w;
+  right = signs_towards w sign Right;
+  below = signs_towards w sign Down;
+  givens = givens;
 }
 
 -- the sign that two numbers give
 abbrev pub sign_of : ℕ → ℕ → Sign
 sign_of x y = if nat_lt y x then FirstGreater else (if nat_lt x y then SecondGreater else Absent)
 
+-- the sign that the numbers of two squares give
+abbrev pub sign_in_grid : GridValue → ℕ → ℕ → Sign
+sign_in_grid g a b = sign_of (number_at g a) (number_at g b)
+
 -- the puzzle that has every item of a grid: the sign of each two neighbours, and each square's number
 abbrev pub full_unequal : GridValue → UnequalValue
-full_unequal g = record {
-  size = g.size;
-  signs = map (λ sign. sign_of (number_at g (first_side g.size sign)) (number_at g (second_side g.size sign)))
-      (range_with_len 0 (sign_count g.size));
-  givens = g.numbers;
-}
+full_unequal g = signed_puzzle g.size (sign_in_grid g) g.numbers

@@ -1,10 +1,10 @@
 -- The descriptions of Unequal puzzles: the grammar, the written form, and reading one.
-use Rattle.std.specs.Prelude.{◌≡◌, ◌↔◌, ℕ, ◌+◌, ◌-◌, ◌*◌, ◌%◌, ◌⊎◌, ◌==◌, nat_lt, Bool, false, if◌then◌else◌, List, [], ◌∷◌, ◌++◌, map, filter, slice_index, slice_index_or, Option, Some, None, Contains, IsSome, unwrap_or, ◌&&◌, nat_le, true, not, drop, is_some, option_and_then, Result, Ok, Err}
+use Rattle.std.specs.Prelude.{◌≡◌, ◌↔◌, ℕ, ◌+◌, ◌-◌, ◌*◌, ◌⊎◌, ◌==◌, Bool, false, if◌then◌else◌, List, [], ◌∷◌, ◌++◌, map, filter, slice_index, slice_index_or, Option, Some, None, Contains, IsSome, unwrap_or, ◌&&◌, nat_le, true, not, drop, is_some, option_and_then, Result, Ok, Err}
 use Rattle.std.specs.Option.{option_map_or}
 use Rattle.std.specs.List.{join_with_byte, flat_map, range_with_len, list_all, list_any, slice_split}
 use Rattle.clue_rules.specs.declared.unequal.direction.Direction.{Direction}
 use Rattle.clue_rules.specs.declared.unequal.direction.Direction.TheVariants.{Up, Right, Down, Left}
-use Rattle.clue_rules.specs.Unequal.{UnequalValue, IsUnequal, IsGreater, is_greater, pairs_across, sign_count, first_side, second_side}
+use Rattle.clue_rules.specs.Unequal.{UnequalValue, IsUnequal, IsGreater, is_greater, neighbour, signed_puzzle}
 use Rattle.byte_text.specs.Decimals.{begins_digit}
 use Rattle.byte_text.specs.Reading.{◌>>=◌}
 use Rattle.latin_board.specs.Squares.{GridValue}
@@ -21,13 +21,6 @@ letter_of Up = capital_u
 letter_of Right = capital_r
 letter_of Down = capital_d
 letter_of Left = capital_l
-
--- the neighbour of a square in a direction, where the grid has one
-abbrev pub neighbour : ℕ → ℕ → Direction → Option ℕ
-neighbour w cell Up = if nat_lt cell w then None else Some (cell - w)
-neighbour w cell Right = if cell % w + 1 == w then None else Some (cell + 1)
-neighbour w cell Down = if nat_lt (cell + w) (w * w) then Some (cell + w) else None
-neighbour w cell Left = if cell % w == 0 then None else Some (cell - 1)
 
 -- what a text says of a square: its number, 0 for a blank, and in which directions it is the greater one
 pub record Piece : Type 0 where
@@ -134,22 +127,6 @@ points_inside w pieces cell = list_all (is_inside w cell) (drop 1 (piece_at piec
 abbrev pub says : List (List ℕ) → ℕ → Direction → Bool
 says pieces cell d = list_any (λ b. b == letter_of d) (drop 1 (piece_at pieces cell))
 
--- the direction from the square on a sign's first side to that on its second side
-abbrev pub forth : ℕ → ℕ → Direction
-forth w sign = if nat_lt sign (pairs_across w) then Right else Down
-
--- the direction from the square on a sign's second side to that on its first side
-abbrev pub back : ℕ → ℕ → Direction
-back w sign = if nat_lt sign (pairs_across w) then Left else Up
-
--- a letter says that the square on a sign's first side is the greater one
-abbrev pub first_says : ℕ → List (List ℕ) → ℕ → Bool
-first_says w pieces sign = says pieces (first_side w sign) (forth w sign)
-
--- a letter says that the square on a sign's second side is the greater one
-abbrev pub second_says : ℕ → List (List ℕ) → ℕ → Bool
-second_says w pieces sign = says pieces (second_side w sign) (back w sign)
-
 -- the sign of two neighbours by whether the first is said to be the greater one, and whether the second is
 abbrev pub said_sign : Bool → Bool → Sign
 said_sign true second = FirstGreater
@@ -171,13 +148,13 @@ contradicts w pieces =
 abbrev pub grid_in : ℕ → List (List ℕ) → GridValue
 grid_in w pieces = record { size = w; numbers = map (λ piece. unwrap_or (number_in w piece) 0) pieces }
 
+-- the sign between two neighbours that pieces say
+abbrev pub sign_said : ℕ → List (List ℕ) → ℕ → ℕ → Sign
+sign_said w pieces a b = said_sign (says_greater w pieces a b) (says_greater w pieces b a)
+
 -- the puzzle that pieces describe
 abbrev pub puzzle_in : ℕ → List (List ℕ) → UnequalValue
-puzzle_in w pieces = record {
-  size = w;
-  signs = map (λ sign. said_sign (first_says w pieces sign) (second_says w pieces sign)) (range_with_len 0 (sign_count w));
-  givens = (grid_in w pieces).numbers;
-}
+puzzle_in w pieces = signed_puzzle w (sign_said w pieces) (grid_in w pieces).numbers
 
 -- the puzzle that pieces describe, or the first of the faults that lie in them
 abbrev pub puzzle_at : ℕ → List (List ℕ) → Result UnequalValue IdFault

@@ -7,48 +7,35 @@ use thiserror::Error;
 
 /// Why a parameter string, a description or a game ID is refused, or a description couldn't be written.
 #[derive(Clone, Copy, Debug, PartialEq, Eq, Error)]
+#[error("{}", self.name())]
 pub enum IdFault {
     /// The run of digits at the front isn't one digit from 3 to 9.
-    #[error("the size isn't one digit from 3 to 9")]
     BadSize,
     /// The byte behind `d` is missing or isn't a letter of the game.
-    #[error("the difficulty isn't a letter of the game")]
     BadLetter,
     /// Unequal's adjacent mode, which isn't supported.
-    #[error("the adjacent mode isn't supported")]
     AdjacentMode,
     /// Anything else that the parameters' grammar doesn't have.
-    #[error("the parameters aren't a size and a difficulty")]
     BadParams,
     /// A seed of the collection's own generator, behind `#`.
-    #[error("a seed behind # belongs to another generator")]
     ForeignSeed,
     /// No separator, and so no description and no seed.
-    #[error("there is no description and no seed")]
     NoDescription,
     /// The seed behind `!` isn't a decimal number without leading zeros below 2 to the 64.
-    #[error("the seed isn't a decimal number below 2^64")]
     BadSeed,
     /// Towers: a clue that isn't empty or one digit from 1 to the width. Unequal: a byte that is no sign.
-    #[error("a clue can't be read")]
     BadClue,
     /// A square's number that isn't a digit in range, or a byte that stands for no square.
-    #[error("a square can't be read")]
     BadSquares,
     /// Fewer clues or squares than the size has.
-    #[error("there are too few clues or squares")]
     TooFew,
     /// More clues or squares than the size has.
-    #[error("there are too many clues or squares")]
     TooMany,
     /// A sign that points out of the grid.
-    #[error("a sign points out of the grid")]
     OffGrid,
     /// Two squares of which each is said to be the greater.
-    #[error("two signs contradict each other")]
     Contradiction,
     /// Memory was refused.
-    #[error("out of memory")]
     OutOfMemory,
 }
 

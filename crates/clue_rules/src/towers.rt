@@ -1,8 +1,8 @@
 //! The puzzles of Towers: a Latin square whose edge clues count the towers that are seen from there.
 
-ghost use Rattle.std.specs.Prelude.{◌≡◌, ◌↔◌, IsTrue};
+ghost use Rattle.std.specs.Prelude.{◌≡◌, ◌*◌, ◌<◌, ◌≤◌, ◌↔◌, IsTrue};
 ghost use Rattle.std.specs.Cmp.{decided, partial_equiv_from_equiv};
-ghost use Rattle.clue_rules.specs.Towers.{IsTowers};
+ghost use Rattle.clue_rules.specs.Towers.{IsTowers, given_grid, clue_of};
 ghost use Rattle.clue_rules.specs.Laws.TowersSameness.{same_towers, same_towers_decides};
 
 mod description;
@@ -14,14 +14,14 @@ use latin_board::Grid;
 use std::marker::Model;
 
 /// How many edge places the largest puzzle has.
-pub(crate) const PLACES: usize = 36;
+const PLACES: usize = 36;
 
 /// A Towers puzzle: a size, a clue or none at each edge place, and a given or none at each square.
 #[derive(Clone, Copy, Debug)]
 pub struct Towers {
     // In description order, 0 for none, then 0.
-    pub(crate) clues: [u8; PLACES],
-    pub(crate) givens: Grid,
+    clues: [u8; PLACES],
+    givens: Grid,
 }
 
 impl Model for Towers {
@@ -48,8 +48,25 @@ impl Model for Towers {
 }
 
 impl Towers {
+    /// The clue at an edge place, 0 for none; the place is below four times the width.
+    ///
+    /// Places are numbered in description order, as `latin_board::edge_place` does.
+    pub fn clue(&self, place: u8) -> u8
+        requires { place < 4 * self.now.size }
+        ensures value { result ≡ clue_of self.now place }
+        ensures within { result ≤ self.now.size }
+    {
+        self.clues()[place as usize]
+    }
+
+    fn givens(&self) -> &Grid
+        ensures { result.now ≡ given_grid self.now }
+    {
+        &self.givens
+    }
+
     // The clues in description order, 0 for none.
-    pub(crate) fn clues(&self) -> &[u8]
+    fn clues(&self) -> &[u8]
         ensures value { result.now ≡ self.now.clues }
         ensures valid { IsTowers self.now }
     {

@@ -1,64 +1,65 @@
 //! The puzzles of Unequal: a Latin square with signs between neighbours that say which of the two is the greater.
 
-ghost use Rattle.std.specs.Prelude.{◌≡◌, ◌*◌, ◌<◌, ◌↔◌, IsTrue};
+ghost use Rattle.std.specs.Prelude.{◌≡◌, ◌*◌, ◌<◌, ◌≤◌, ◌↔◌, IsTrue};
 ghost use Rattle.std.specs.Cmp.{decided, partial_equiv_from_equiv};
-ghost use Rattle.latin_board.specs.Squares.{IsGrid};
-ghost use Rattle.clue_rules.specs.Unequal.{IsUnequal, given_grid, IsGreater, is_greater, sign_count, sign_of_pair};
+ghost use Rattle.clue_rules.specs.Unequal.{IsUnequal, IsGreater, given_grid, is_greater, sign_between};
 ghost use Rattle.clue_rules.specs.Laws.UnequalSameness.{same_unequal, same_unequal_decides};
 
 mod description;
 mod direction;
 mod game;
+mod item;
 mod lines;
 mod pieces;
 mod rules;
 mod sign;
 
-use crate::game::Game;
-use latin_board::Grid;
-use sign::{Sign, sign_between, sign_count, squares};
+use latin_board::{Grid, Size};
+use sign::Sign;
 use std::marker::Model;
 
-/// How many signs the largest puzzle has room for.
-const SIGNS: usize = 144;
+/// How many squares the largest puzzle has.
+const SQUARES: usize = 81;
 
 /// An Unequal puzzle: a size, a sign or none between each two neighbouring squares, and a given or none at each square.
 #[derive(Clone, Copy, Debug)]
 pub struct Unequal {
-    // Those of each row from the top, then those below each row; past the last, none.
-    signs: [Sign; SIGNS],
+    // For each square in reading order, absent where the grid ends and past its last square.
+    right: [Sign; SQUARES],
+    below: [Sign; SQUARES],
     givens: Grid,
 }
 
 impl Model for Unequal {
-    ghost use Rattle.std.specs.Prelude.{◌-◌, ◌++◌, List, replicate};
-    ghost use Rattle.std.proofs.Common.{ap};
-    ghost use Rattle.clue_rules.specs.declared.unequal.sign.Sign.{Sign as SignValue};
+    ghost use Rattle.std.specs.Prelude.{◌-◌, ◌*◌, ◌++◌, replicate};
     ghost use Rattle.clue_rules.specs.declared.unequal.sign.Sign.TheVariants.{Absent};
-    ghost use Rattle.clue_rules.specs.Unequal.{UnequalValue, sign_count};
+    ghost use Rattle.clue_rules.specs.Unequal.{UnequalValue};
     ghost use Rattle.clue_rules.specs.Inner.Filled.{places_and_rest};
     ghost use Rattle.clue_rules.specs.Inner.UnequalFields.{KeepsUnequal, unequal_value};
 
     ghost Value = { UnequalValue };
 
-    ghost view = { λ p. unequal_value p.signs p.givens };
+    ghost view = { λ p. unequal_value p.right p.below p.givens };
 
-    ghost invariant = { λ p. KeepsUnequal p.signs p.givens };
+    ghost invariant = { λ p. KeepsUnequal p.right p.below p.givens };
 
     ghost inverse = { λ v. record {
-      signs = v.signs ++ replicate (144 - sign_count v.size) Absent;
+      right = v.right ++ replicate (81 - v.size * v.size) Absent;
+      below = v.below ++ replicate (81 - v.size * v.size) Absent;
       givens = record { size = v.size; numbers = v.givens };
     } };
 
     ghost inverse_ok = { λ p h.
-        let f : List SignValue → Inside = λ xs. record { signs = xs; givens = p.givens } in
-        ap f (places_and_rest Absent 144 (sign_count p.givens.size) p.signs h.padded) };
+        let right = places_and_rest Absent 81 (p.givens.size * p.givens.size) p.right h.right_kept.padded in
+        let below = places_and_rest Absent 81 (p.givens.size * p.givens.size) p.below h.below_kept.padded in
+        λ i. record { right = right i; below = below i; givens = p.givens } };
 }
 
 impl Unequal {
     /// Whether the squares a and b are neighbours, and the sign between them says that a holds the greater number.
     ///
     /// Squares are counted from 0 in reading order; both are squares of the grid.
+    #[tactic(auto, using(crate::specs::Laws::Signs::greater_tested, crate::specs::Laws::Signs::never_both))]
     pub fn greater(&self, a: usize, b: usize) -> bool
         requires first { a < self.now.size * self.now.size }
         requires second { b < self.now.size * self.now.size }
@@ -70,42 +71,63 @@ impl Unequal {
         self.is_greater(a, b)
     }
 
+    // A function of its own, so that `greater` need only prove that the test decides which is the greater.
     fn is_greater(&self, a: usize, b: usize) -> bool
         requires first { a < self.now.size * self.now.size }
         requires second { b < self.now.size * self.now.size }
         ensures value { result ≡ is_greater self.now a b }
         ensures valid { IsUnequal self.now }
     {
-        self.sign_of_pair(a, b) == Sign::FirstGreater
-            || self.sign_of_pair(b, a) == Sign::SecondGreater
+        self.sign_between(a, b) == Sign::FirstGreater
+            || self.sign_between(b, a) == Sign::SecondGreater
     }
 
-    // The sign from a square to its right or lower neighbour, absent where the second square is no such neighbour.
-    fn sign_of_pair(&self, first: usize, second: usize) -> Sign
-        requires first { first < self.now.size * self.now.size }
-        requires second { second < self.now.size * self.now.size }
-        ensures value { result ≡ sign_of_pair self.now first second }
+    // The sign between two squares, absent where the second is neither the right nor the lower neighbour of the first.
+    fn sign_between(&self, first: usize, second: usize) -> Sign
+        requires { first < self.now.size * self.now.size }
+        ensures value { result ≡ sign_between self.now first second }
         ensures valid { IsUnequal self.now }
     {
-        match sign_between(self.givens.size(), first, second) {
-            Some(sign) => self.signs[sign],
-            None => Sign::Absent,
+        let width = self.givens.size().get() as usize;
+        if second == first + 1 {
+            self.right[first]
+        } else if second == first + width {
+            self.below[first]
+        } else {
+            Sign::Absent
         }
+    }
+
+    // A function of its own, so that `eq` need only prove that the test decides equality.
+    fn is_same(&self, other: &Unequal) -> bool
+        ensures { result ≡ same_unequal self.now other.now }
+    {
+        self.givens == other.givens
+            && self.right() == other.right()
+            && self.below() == other.below()
     }
 
     fn givens(&self) -> &Grid
         ensures value { result.now ≡ given_grid self.now }
-        ensures valid { IsGrid result.now }
+        ensures valid { IsUnequal self.now }
     {
         &self.givens
     }
 
-    // The signs of the places that the grid has.
-    fn signs(&self) -> &[Sign]
-        ensures value { result.now ≡ self.now.signs }
+    // The signs of the grid's squares towards their right neighbours.
+    fn right(&self) -> &[Sign]
+        ensures value { result.now ≡ self.now.right }
         ensures valid { IsUnequal self.now }
     {
-        &self.signs[..sign_count(self.givens.size())]
+        &self.right[..square_count(self.givens.size())]
+    }
+
+    // The signs of the grid's squares towards their lower neighbours.
+    fn below(&self) -> &[Sign]
+        ensures value { result.now ≡ self.now.below }
+        ensures valid { IsUnequal self.now }
+    {
+        &self.below[..square_count(self.givens.size())]
     }
 }
 
@@ -115,14 +137,24 @@ impl PartialEq for Unequal {
 
     ghost laws = { partial_equiv_from_equiv (decided same_unequal same_unequal_decides) };
 
+    #[tactic(auto, using(crate::specs::Laws::UnequalSameness::same_unequal_tested))]
     fn eq(&self, other: &Unequal) -> bool
         ensures value { result ≡ same_unequal self.now other.now }
         ensures same { IsTrue result ↔ (self.now ≡ other.now) }
     {
-        self.givens == other.givens && self.signs() == other.signs()
+        self.is_same(other)
     }
 }
 
 impl Eq for Unequal {
     ghost laws = { decided same_unequal same_unequal_decides };
+}
+
+// How many squares a grid has.
+fn square_count(size: Size) -> usize
+    ensures value { result ≡ size * size }
+    ensures bound { result ≤ 81 }
+{
+    let width = size.get() as usize;
+    width * width
 }

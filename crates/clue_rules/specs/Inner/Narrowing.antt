@@ -39,7 +39,7 @@ pub record IsSquare (g : GridValue) : Type 0 where
   pub latin : IsLatin g
 
 -- new is old with only the values of a set kept in the cell
-pub record KeepsOf (old new : CandidatesValue) (cell kept : ℕ) : Type 0 where
+pub record KeepsInSquare (old new : CandidatesValue) (cell kept : ℕ) : Type 0 where
   pub less : IsEarlier old new
   pub gone : (v : ℕ) → IsPair old.size cell v → has_mark kept v ≡ false → may_be new cell v ≡ false
   pub rest : (c v : ℕ) → (c ≢ cell) ⊎ (has_mark kept v ≡ true) → may_be new c v ≡ may_be old c v
@@ -58,7 +58,7 @@ abbrev pub AreSetsOf : CandidatesValue → ℕ → List ℕ → Type 0
 AreSetsOf c place sets = AreSetsTo c place c.size sets
 
 -- new is old with only the values of these sets kept in the squares from a place; by the answer, one of the sets is empty
-pub record KeepsAlong (place : ℕ) (kept : List ℕ) (old new : CandidatesValue) (left : Bool) : Type 0 where
+pub record KeepsInView (place : ℕ) (kept : List ℕ) (old new : CandidatesValue) (left : Bool) : Type 0 where
   pub less : IsEarlier old new
   pub keeps : (g : GridValue) → g.size ≡ old.size
       → ((k : ℕ) → k < old.size → has_mark (slice_index kept k) (number_at g (view_cell old.size place k)) ≡ true) → IsWithin old g

@@ -1,21 +1,34 @@
 -- What the fields of an Unequal puzzle keep, and what they stand for.
-use Rattle.std.specs.Prelude.{◌≡◌, ℕ, List, take}
+use Rattle.std.specs.Prelude.{◌≡◌, ℕ, ◌*◌, List, None, slice_index_or, take}
 use Rattle.latin_board.specs.Squares.{GridValue, IsGrid}
+use Rattle.clue_rules.specs.declared.unequal.direction.Direction.{Direction}
+use Rattle.clue_rules.specs.declared.unequal.direction.Direction.TheVariants.{Right, Down}
 use Rattle.clue_rules.specs.declared.unequal.sign.Sign.{Sign}
 use Rattle.clue_rules.specs.declared.unequal.sign.Sign.TheVariants.{Absent}
 use Rattle.clue_rules.specs.Inner.Filled.{IsFilledTo}
-use Rattle.clue_rules.specs.Unequal.{UnequalValue, sign_count}
+use Rattle.clue_rules.specs.Unequal.{UnequalValue, neighbour, signs_towards}
 
--- 144 places for signs, of which those past the last sign are absent, and a grid of givens
-pub record KeepsUnequal (places : List Sign) (givens : GridValue) : Type 0 where
-  pub padded : IsFilledTo Absent 144 (sign_count givens.size) places
+-- 81 places for the signs of squares towards their neighbours in a direction: absent where the grid ends, and past its last square
+pub record KeepsSigns (w : ℕ) (d : Direction) (places : List Sign) : Type 0 where
+  pub padded : IsFilledTo Absent 81 (w * w) places
+  pub ends : (cell : ℕ) → neighbour w cell d ≡ None → slice_index_or (take (w * w) places) cell Absent ≡ Absent
+
+-- signs to the right, signs below, and a grid of givens
+pub record KeepsUnequal (right below : List Sign) (givens : GridValue) : Type 0 where
+  pub right_kept : KeepsSigns givens.size Right right
+  pub below_kept : KeepsSigns givens.size Down below
   pub grid : IsGrid givens
 
 -- the puzzle that they stand for
-abbrev pub unequal_value : List Sign → GridValue → UnequalValue
-unequal_value places givens = record { size = givens.size; signs = take (sign_count givens.size) places; givens = givens.numbers }
+abbrev pub unequal_value : List Sign → List Sign → GridValue → UnequalValue
+unequal_value right below givens = record {
+  size = givens.size;
+  right = take (givens.size * givens.size) right;
+  below = take (givens.size * givens.size) below;
+  givens = givens.numbers;
+}
 
--- the first n places hold these signs, the others none
-pub record HoldsPlaces (n : ℕ) (signs places : List Sign) : Type 0 where
-  pub padded : IsFilledTo Absent 144 n places
-  pub front : take n places ≡ signs
+-- the places hold the signs that a rule gives between neighbours in a direction
+pub record HoldsSignsOf (w : ℕ) (sign : ℕ → ℕ → Sign) (d : Direction) (places : List Sign) : Type 0 where
+  pub kept : KeepsSigns w d places
+  pub front : take (w * w) places ≡ signs_towards w sign d

@@ -1,10 +1,11 @@
 -- What the signs of Unequal rule out along one line, sign by sign.
-use Rattle.std.specs.Prelude.{◌≡◌, ℕ, ◌+◌, ◌-◌, ◌*◌, ◌<◌, ◌⊎◌, nat_lt, if◌then◌else◌}
+use Rattle.std.specs.Prelude.{◌≡◌, ℕ, ◌+◌, ◌-◌, ◌*◌, ◌<◌, ◌⊎◌}
+use Rattle.latin_board.specs.Lines.{line_cell}
 use Rattle.trail_solver.specs.Candidates.{CandidatesValue}
 use Rattle.clue_rules.specs.declared.unequal.sign.Sign.TheVariants.{FirstGreater, SecondGreater}
 use Rattle.clue_rules.specs.Inner.Narrowing.{StruckBelow, IsSquare}
 use Rattle.clue_rules.specs.Struck.{HasNoneAbove, HasNoneBelow}
-use Rattle.clue_rules.specs.Unequal.{UnequalValue, pairs_across, sign_at, first_side, second_side}
+use Rattle.clue_rules.specs.Unequal.{UnequalValue, sign_between}
 use Rattle.latin_board.specs.Squares.{GridValue, number_at}
 use Rattle.clue_rules.specs.declared.unequal.lines.Ends.{Ends}
 
@@ -12,11 +13,11 @@ use Rattle.clue_rules.specs.declared.unequal.lines.Ends.{Ends}
 abbrev pub AreInside : ℕ → Ends → Type 0
 AreInside w ends = (ends.greater < w * w) × (ends.lesser < w * w)
 
--- the ends are the squares on both sides of a sign, the greater end being the one that it says holds the greater number
-pub record AreEnds (v : UnequalValue) (sign : ℕ) (ends : Ends) : Type 0 where
+-- the ends are two squares with a sign between them, the greater end being the one that it says holds the greater number
+pub record AreEnds (v : UnequalValue) (first second : ℕ) (ends : Ends) : Type 0 where
   pub inside : AreInside v.size ends
-  pub is : ((sign_at v sign ≡ FirstGreater) × (ends.greater ≡ first_side v.size sign) × (ends.lesser ≡ second_side v.size sign))
-      ⊎ ((sign_at v sign ≡ SecondGreater) × (ends.greater ≡ second_side v.size sign) × (ends.lesser ≡ first_side v.size sign))
+  pub is : ((sign_between v first second ≡ FirstGreater) × (ends.greater ≡ first) × (ends.lesser ≡ second))
+      ⊎ ((sign_between v first second ≡ SecondGreater) × (ends.greater ≡ second) × (ends.lesser ≡ first))
 
 -- what the lesser end can't hold
 pub record IsLesserStruck (ends : Ends) (c : CandidatesValue) (cell value : ℕ) : Type 0 where
@@ -32,19 +33,19 @@ pub record IsGreaterStruck (ends : Ends) (c : CandidatesValue) (cell value : ℕ
 abbrev pub IsEndStruck : Ends → CandidatesValue → ℕ → ℕ → Type 0
 IsEndStruck ends c cell value = IsLesserStruck ends c cell value ⊎ IsGreaterStruck ends c cell value
 
--- what a sign rules out at its ends
-pub record IsStruckAt (v : UnequalValue) (sign : ℕ) (c : CandidatesValue) (cell value : ℕ) : Type 0 where
+-- what the sign between two squares rules out in them
+pub record IsStruckAt (v : UnequalValue) (first second : ℕ) (c : CandidatesValue) (cell value : ℕ) : Type 0 where
   pub ends : Ends
-  pub are : AreEnds v sign ends
+  pub are : AreEnds v first second ends
   pub struck : IsEndStruck ends c cell value
 
--- the sign between the k-th and the next square of a line
-abbrev pub line_sign : ℕ → ℕ → ℕ → ℕ
-line_sign w line k = if nat_lt line w then line * (w - 1) + k else pairs_across w + (k * w + (line - w))
+-- what the sign between the k-th and the next square of a line rules out
+abbrev pub IsStruckOn : UnequalValue → ℕ → ℕ → CandidatesValue → ℕ → ℕ → Type 0
+IsStruckOn v line k = IsStruckAt v (line_cell v.size line k) (line_cell v.size line (k + 1))
 
 -- what the signs along a line rule out
 abbrev pub IsStruckAlong : UnequalValue → ℕ → CandidatesValue → ℕ → ℕ → Type 0
-IsStruckAlong v line c cell value = StruckBelow (λ k. IsStruckAt v (line_sign v.size line k)) (v.size - 1) c cell value
+IsStruckAlong v line = StruckBelow (IsStruckOn v line) (v.size - 1)
 
 -- a Latin square whose number is greater at the greater end
 abbrev pub HoldsGreater : Ends → GridValue → Type 0

@@ -1,10 +1,10 @@
 -- What the steps of reading pieces give.
-use Rattle.std.specs.Prelude.{Bool, ◌≡◌, ◌≢◌, ◌⊎◌, ◌++◌, ℕ, ◌&&◌, if◌then◌else◌, List, [], ◌∷◌, map, Option, Some, None}
+use Rattle.std.specs.Prelude.{Bool, false, ◌≡◌, ◌≢◌, ◌⊎◌, ◌++◌, ℕ, ◌&&◌, List, [], ◌∷◌, map}
 use Rattle.std.specs.Borrow.{Bor}
-use Rattle.clue_rules.specs.declared.unequal.sign.Sign.{Sign}
-use Rattle.clue_rules.specs.UnequalText.{first_says, second_says, said_sign}
-use Rattle.std.specs.List.{list_any, range_with_len}
-use Rattle.clue_rules.specs.Unequal.{sign_count}
+use Rattle.std.specs.Option.{option_map_or}
+use Rattle.clue_rules.specs.declared.unequal.direction.Direction.{Direction}
+use Rattle.clue_rules.specs.Unequal.{neighbour}
+use Rattle.clue_rules.specs.UnequalText.{says_greater}
 use Rattle.byte_text.specs.Bytes.{comma}
 
 -- the texts that references point to
@@ -16,12 +16,7 @@ abbrev pub IsWithoutLastComma : List ℕ → List ℕ → Type 0
 IsWithoutLastComma text rest =
     (text ≡ rest ++ comma ∷ []) ⊎ ((text ≡ rest) × ((front : List ℕ) → text ≢ front ++ comma ∷ []))
 
--- the sign that the pieces on both sides say, unless each says that its square is the greater one
-abbrev pub sign_in : ℕ → List (List ℕ) → ℕ → Option Sign
-sign_in w pieces sign =
-    if first_says w pieces sign && second_says w pieces sign then None
-    else Some (said_sign (first_says w pieces sign) (second_says w pieces sign))
-
--- the letters on both sides of some sign each say that their square is the greater one
-abbrev pub signs_contradict : ℕ → List (List ℕ) → Bool
-signs_contradict w pieces = list_any (λ i. first_says w pieces i && second_says w pieces i) (range_with_len 0 (sign_count w))
+-- the letters of a square and of its neighbour in a direction each say that their square is the greater one
+abbrev pub contradicts_towards : ℕ → List (List ℕ) → Direction → ℕ → Bool
+contradicts_towards w pieces d cell =
+    option_map_or (λ other. says_greater w pieces cell other && says_greater w pieces other cell) (neighbour w cell d) false

@@ -5,17 +5,17 @@ use Rattle.std.specs.Option.{IsSome}
 use Rattle.std.proofs.lemmas.Bool.{and_parts, not-false}
 use Rattle.std.proofs.lemmas.List.{length-map}
 use Rattle.std.proofs.lemmas.List.Elements.{All-from_recursion}
-use Rattle.std.proofs.lemmas.List.FromFn.{length-map-range_with_len}
 use Rattle.std.proofs.lemmas.List.Splits.{join_with_byte-slice_split}
 use Rattle.byte_text.specs.Cuts.{Lacks}
 use Rattle.byte_text.specs.Bytes.{comma}
 use Rattle.clue_rules.specs.declared.id_fault.IdFault.TheVariants.{BadClue, BadSquares, OffGrid, Contradiction}
 use Rattle.clue_rules.specs.declared.unequal.direction.Direction.{Direction}
-use Rattle.clue_rules.specs.Unequal.{UnequalValue, IsUnequal, sign_count}
-use Rattle.clue_rules.specs.UnequalText.{Piece, letter_of, neighbour, piece_text, without_empty_last, pieces_of, number_in, has_number, direction_of, has_letters, is_inside, points_inside, contradicts, puzzle_in, puzzle_at, ArePiecesOf}
+use Rattle.clue_rules.specs.Unequal.{UnequalValue, IsUnequal, neighbour}
+use Rattle.clue_rules.specs.UnequalText.{Piece, letter_of, piece_text, without_empty_last, pieces_of, number_in, has_number, direction_of, has_letters, is_inside, points_inside, sign_said, contradicts, grid_in, puzzle_in, puzzle_at, ArePiecesOf}
 use Rattle.clue_rules.specs.Laws.Pieces.{comma_pieces, pieces-join, join-push, dropped_last, drop-push, pieces-push}
 use Rattle.clue_rules.specs.Laws.Letters.{direction_of-letter, contains_here, contains_there, contains_cases, number_in-piece, letters_piece, lacks_comma, read_piece, read_piece_written, number_small}
 use Rattle.clue_rules.specs.Laws.Refusals.{refused_then}
+use Rattle.clue_rules.specs.Laws.Signs.{signed_valid}
 
 -- reading that succeeds
 
@@ -58,15 +58,12 @@ numbers_within w [] = tt
 numbers_within w (p ∷ ps) = (number_small w p, numbers_within w ps)
 
 pub read_valid : (w : ℕ) (bytes : List (List ℕ)) → 3 ≤ w → w ≤ 9 → length bytes ≡ w * w → IsUnequal (puzzle_in w bytes)
-read_valid w bytes small large count = record {
-  givens = record {
-    smallest = small;
-    largest = large;
-    count = length-map bytes _ ∙ count;
-    within = All-from_recursion (λ n. n ≤ w) _ (numbers_within w bytes);
-  };
-  signs = length-map-range_with_len _ 0 (sign_count w);
-}
+read_valid w bytes small large count = signed_valid w (sign_said w bytes) (grid_in w bytes).numbers (record {
+  smallest = small;
+  largest = large;
+  count = length-map bytes _ ∙ count;
+  within = All-from_recursion (λ n. n ≤ w) _ (numbers_within w bytes);
+})
 
 -- the letters of the pieces point to squares of the grid
 pub letters_inside : (w cell : ℕ) (ds : List Direction) (d : Direction) → list_all (is_inside w cell) (map letter_of ds) ≡ true

@@ -58,6 +58,12 @@ kept-agrees {X} empty present gone a b i (x ∷ xs) h =
     later : (k : ℕ) → a (i + suc k) ≡ b (i + suc k) → a (i + 1 + k) ≡ b (i + 1 + k)
     later k same = let e : i + 1 + k ≡ i + suc k = omega arith in rw e same
 
+-- the same where the list is numbered from 0
+pub kept-same : {X : Type 0} (empty : X) (present : X → Bool) → ((x : X) → present x ≡ false → x ≡ empty) → (a b : ℕ → Bool) (xs : List X)
+    → ((k : ℕ) → k < length xs → present (slice_index_or xs k empty) ≡ true → a k ≡ b k) → kept_items empty a 0 xs ≡ kept_items empty b 0 xs
+kept-same empty present gone a b xs h =
+    kept-agrees empty present gone a b 0 xs (λ k inside here. let back : 0 + k ≡ k = omega arith in rw back (h k inside here))
+
 kept-within : (w : ℕ) (keep : ℕ → Bool) (i : ℕ) (xs : List ℕ) → AllByRecursion (λ n. n ≤ w) xs
     → AllByRecursion (λ n. n ≤ w) (kept_items zero keep i xs)
 kept-within w keep i [] h = tt
@@ -95,7 +101,7 @@ still_asked keep i xs k number asks = rw (entry-kept zero keep i xs k (i + k) re
 abbrev pub has_item : {X : Type 0} → (X → Bool) → X → ℕ → List X → List ℕ → ℕ → Bool
 has_item present empty n xs givens i = if nat_lt i n then present (slice_index_or xs i empty) else nat_lt 0 (slice_index givens (i - n))
 
-present_kept : {X : Type 0} (present : X → Bool) (empty : X) → present empty ≡ false → (b : Bool) (x : X)
+pub present_kept : {X : Type 0} (present : X → Bool) (empty : X) → present empty ≡ false → (b : Bool) (x : X)
     → present (if b then x else empty) ≡ (present x && b)
 present_kept present empty none true x = elim (present x) as (λ t. t ≡ (t && true)) [ true ↦ refl | false ↦ refl ]
 present_kept present empty none false x = none ∙ sym (and_right (present x) false refl)
@@ -125,14 +131,11 @@ pub items_agree : {X : Type 0} (present : X → Bool) (empty : X) → ((x : X) �
     → ((i : ℕ) → i < n + length givens → has_item present empty n xs givens i ≡ true → a i ≡ b i)
     → (kept_items empty a 0 xs ≡ kept_items empty b 0 xs) × (kept_items zero a n givens ≡ kept_items zero b n givens)
 items_agree present empty gone n xs givens a b count same = (
-  kept-agrees empty present gone a b 0 xs (λ k inside here. at_zero k (same k (omega arith) (rw (lt-ltb k n (omega arith)) here))),
+  kept-same empty present gone a b xs (λ k inside here. same k (omega arith) (rw (lt-ltb k n (omega arith)) here)),
   kept-agrees zero (nat_lt 0) not_positive a b n givens (λ k inside here.
       let back : n + k - n ≡ k = omega arith in
       same (n + k) (omega arith) (rw (le-ltb (n + k) n (omega arith), back) here)),
 )
-  where
-    at_zero : (k : ℕ) → a k ≡ b k → a (0 + k) ≡ b (0 + k)
-    at_zero k e = let back : 0 + k ≡ k = omega arith in rw back e
 
 -- a puzzle has every item that gives each number of a Latin square
 pub has_item-full : {X : Type 0} (present : X → Bool) (empty : X) (n : ℕ) (xs : List X) (g : GridValue) (i : ℕ) → IsLatin g

@@ -1,59 +1,101 @@
--- What the letters of pieces say of a sign, and of which of two squares is the greater.
-use Rattle.std.proofs.Common.{◌≡◌, ◌↔◌, ℕ, ◌*◌, ◌<◌, ◌≤◌, Bool, true, List, length, map, arith}
-use Rattle.clue_rules.specs.Unequal.{UnequalValue, IsGreater, sign_count, sign_at}
-use Rattle.clue_rules.specs.UnequalText.{Piece, Says, piece_text, says}
-use Rattle.clue_rules.specs.Laws.SignSides.{Side, other_side, square_at, way_from, greater_at, standing, at_squares, towards, way_is, greater_by, greater_from_sign, sign_from_greater}
-use Rattle.clue_rules.specs.Laws.Letters.{says_contains, contains_says, directions_inside}
+-- What the letters of pieces say of which of two squares is the greater, and that no two squares contradict each other where no
+-- two neighbours do.
+use Rattle.std.proofs.Common.{◌≡◌, ℕ, ◌*◌, ◌<◌, ◌≤◌, true, false, ◌&&◌, List, map, Option, Some, None, refl, sym, ap, ◌∙◌, inl, inr, arith, ◌==◌}
+use Rattle.std.specs.Option.{option_map_or}
+use Rattle.std.specs.List.{list_any, range_with_len, Contains}
+use Rattle.std.proofs.lemmas.Bool.{eqb-true, eq-eqb, false≢true, false_from_ne_true, and_parts, and_from}
+use Rattle.std.proofs.lemmas.List.Folds.{Any-from_list_any, list_any_at}
+use Rattle.clue_rules.specs.declared.unequal.direction.Direction.{Direction}
+use Rattle.clue_rules.specs.declared.unequal.direction.Direction.TheVariants.{Up, Right, Down, Left}
+use Rattle.clue_rules.specs.Unequal.{neighbour}
+use Rattle.clue_rules.specs.UnequalText.{Piece, Says, piece_text, directions, says, says_greater, contradicts}
+use Rattle.clue_rules.specs.Inner.UnequalPieces.{contradicts_towards}
+use Rattle.clue_rules.specs.Laws.RangeTests.{range_some, none_in_range, range_none}
+use Rattle.clue_rules.specs.Laws.Neighbours.{IsNext, towards, next_inside}
+use Rattle.clue_rules.specs.Laws.Letters.{says_contains, contains_says}
 
--- a letter says that the square on this side is the greater one
-abbrev pub side_says : ℕ → List (List ℕ) → ℕ → Side → Bool
-side_says w pieces sign side = says pieces (square_at w sign side) (way_from w sign side)
+pub all_has : (d : Direction) → Contains directions d
+all_has Up = (0, omega arith, refl)
+all_has Right = (1, omega arith, refl)
+all_has Down = (2, omega arith, refl)
+all_has Left = (3, omega arith, refl)
 
-side_from_says : (w i : ℕ) (side : Side) (pieces : List Piece) → 3 ≤ w → i < sign_count w
-    → Says w pieces (square_at w i side) (square_at w i (other_side side)) → side_says w (map piece_text pieces) i side ≡ true
-side_from_says w i side pieces small inside h =
-    let way = way_is w i side _ _ h.direction small (standing w i side small inside) h.points in
-    rw (← way) (contains_says pieces _ h.direction h.letter)
+points_to : (o : Option ℕ) (b : ℕ) → option_map_or (λ c. c == b) o false ≡ true → o ≡ Some b
+points_to None b e = absurd (false≢true e)
+points_to (Some c) b e = ap (λ n. Some n) (eqb-true c b e)
 
-says_from_side : (w i : ℕ) (side : Side) (pieces : List Piece) → 3 ≤ w → i < sign_count w
-    → side_says w (map piece_text pieces) i side ≡ true → Says w pieces (square_at w i side) (square_at w i (other_side side))
-says_from_side w i side pieces small inside h = record {
-  direction = way_from w i side;
-  letter = says_contains pieces _ _ h;
-  points = (standing w i side small inside).points;
-}
+-- the letter by which a square is said to be greater than another
+said_by : (w : ℕ) (pieces : List (List ℕ)) (a b : ℕ) → says_greater w pieces a b ≡ true
+    → (d : Direction) × (says pieces a d ≡ true) × (neighbour w a d ≡ Some b)
+said_by w pieces a b e =
+    let there = Any-from_list_any (λ d. says pieces a d && option_map_or (λ c. c == b) (neighbour w a d) false) directions e in
+    let both = and_parts (says pieces a there.1) (option_map_or (λ c. c == b) (neighbour w a there.1) false) there.4 in
+    (there.1, both.0, points_to (neighbour w a there.1) b both.1)
 
--- the signs of a puzzle are those that pieces say
-pub record SaysSigns (v : UnequalValue) (pieces : List Piece) : Type 0 where
-  pub said : (i : ℕ) (side : Side) → i < sign_count v.size → sign_at v i ≡ greater_at side
-      → side_says v.size (map piece_text pieces) i side ≡ true
-  pub there : (i : ℕ) (side : Side) → i < sign_count v.size → side_says v.size (map piece_text pieces) i side ≡ true
-      → sign_at v i ≡ greater_at side
+said : (w : ℕ) (pieces : List (List ℕ)) (a b : ℕ) (d : Direction) → says pieces a d ≡ true → neighbour w a d ≡ Some b
+    → says_greater w pieces a b ≡ true
+said w pieces a b d letter points =
+    let at = all_has d in
+    list_any_at (λ d. says pieces a d && option_map_or (λ c. c == b) (neighbour w a d) false) directions at.0 d at.1
+    (rw at.2 (and_from (says pieces a d) (option_map_or (λ c. c == b) (neighbour w a d) false) letter (rw points (eq-eqb b b refl))))
 
--- they are so exactly where the pieces say of each two squares which is the greater
-pub signs_said : (v : UnequalValue) (pieces : List Piece) → 3 ≤ v.size → ((a b : ℕ) → IsGreater v a b ↔ Says v.size pieces a b)
-    → SaysSigns v pieces
-signs_said v pieces small h = record {
-  said = λ i side inside e. side_from_says v.size i side pieces small inside ((h _ _).0 (greater_from_sign v i side small inside e));
-  there = λ i side inside e. sign_from_greater v i side small inside ((h _ _).1 (says_from_side v.size i side pieces small inside e));
-}
+-- a letter says of two squares which is the greater exactly where the test finds one
+pub says_tested : (w : ℕ) (pieces : List Piece) (a b : ℕ) → Says w pieces a b → says_greater w (map piece_text pieces) a b ≡ true
+says_tested w pieces a b h = said w (map piece_text pieces) a b h.direction (contains_says pieces a h.direction h.letter) h.points
 
-greater_says : (v : UnequalValue) (pieces : List Piece) → 3 ≤ v.size → SaysSigns v pieces → (a b : ℕ) → IsGreater v a b
-    → Says v.size pieces a b
-greater_says v pieces small h a b greater =
-    let by = greater_by v a b small greater in
-    at_squares (Says v.size pieces) v.size by.sign by.side a b by.at
-    (says_from_side v.size by.sign by.side pieces small by.at.sign_inside (h.said by.sign by.side by.at.sign_inside by.says))
+pub tested_says : (w : ℕ) (pieces : List Piece) (a b : ℕ) → says_greater w (map piece_text pieces) a b ≡ true → Says w pieces a b
+tested_says w pieces a b e =
+    let by = said_by w (map piece_text pieces) a b e in
+    record { direction = by.0; letter = says_contains pieces a by.0 by.1; points = by.2 }
 
-said_greater : (v : UnequalValue) (pieces : List Piece) → 3 ≤ v.size → length pieces ≡ v.size * v.size → SaysSigns v pieces
-    → (a b : ℕ) → Says v.size pieces a b → IsGreater v a b
-said_greater v pieces small count h a b s =
-    let there = towards v.size a b s.direction small (omega (arith, directions_inside pieces a s.direction s.letter)) s.points in
-    let letter : side_says v.size (map piece_text pieces) there.sign there.side ≡ true =
-    rw (← there.at.here, ← there.way) (contains_says pieces a s.direction s.letter) in
-    at_squares (IsGreater v) v.size there.sign there.side a b there.at
-    (greater_from_sign v there.sign there.side small there.at.sign_inside (h.there there.sign there.side there.at.sign_inside letter))
+-- ---- squares that contradict each other
 
-pub greater_said : (v : UnequalValue) (pieces : List Piece) → 3 ≤ v.size → length pieces ≡ v.size * v.size → SaysSigns v pieces
-    → (a b : ℕ) → IsGreater v a b ↔ Says v.size pieces a b
-greater_said v pieces small count h a b = (greater_says v pieces small h a b, said_greater v pieces small count h a b)
+pub never_contradict : (w : ℕ) (pieces : List (List ℕ))
+    → ((a b : ℕ) → a < w * w → says_greater w pieces a b ≡ true → says_greater w pieces b a ≡ true → ⊥) → contradicts w pieces ≡ false
+unfolding contradicts
+never_contradict w pieces apart =
+    range_none _ 0 (w * w) (λ a low a_in. range_none _ 0 (w * w) (λ b low b_in.
+    false_from_ne_true (says_greater w pieces a b && says_greater w pieces b a) (λ both.
+    let parts = and_parts (says_greater w pieces a b) (says_greater w pieces b a) both in
+    apart a b (omega arith) parts.0 parts.1)))
+
+pub contradict_never : (w : ℕ) (pieces : List (List ℕ)) (a b : ℕ) → contradicts w pieces ≡ false → a < w * w → b < w * w
+    → (says_greater w pieces a b && says_greater w pieces b a) ≡ false
+unfolding contradicts
+contradict_never w pieces a b agree a_in b_in =
+    none_in_range _ 0 (w * w) b (none_in_range _ 0 (w * w) a agree (omega arith) (omega arith)) (omega arith) (omega arith)
+
+-- where no square contradicts its right or its lower neighbour, no two squares do
+pub neighbours_agree : (w : ℕ) (pieces : List (List ℕ)) → 3 ≤ w
+    → list_any (contradicts_towards w pieces Right) (range_with_len 0 (w * w)) ≡ false
+    → list_any (contradicts_towards w pieces Down) (range_with_len 0 (w * w)) ≡ false → contradicts w pieces ≡ false
+neighbours_agree w pieces small right below = never_contradict w pieces (λ a b inside first second.
+    let by = said_by w pieces a b first in
+    elim (towards w a b by.0 small inside by.2) [
+      | inl next ↦ apart a b next first second
+      | inr next ↦ apart b a next second first
+    ])
+  where
+    apart : (a b : ℕ) → IsNext w a b → says_greater w pieces a b ≡ true → says_greater w pieces b a ≡ true → ⊥
+    apart a b next first second = elim next.points [
+      | inl points ↦ none a b Right points (none_in_range (contradicts_towards w pieces Right) 0 (w * w) a right (omega arith) (omega (arith, next.inside))) first second
+      | inr points ↦ none a b Down points (none_in_range (contradicts_towards w pieces Down) 0 (w * w) a below (omega arith) (omega (arith, next.inside))) first second
+    ]
+      where
+        none : (a b : ℕ) (d : Direction) → neighbour w a d ≡ Some b → contradicts_towards w pieces d a ≡ false
+            → says_greater w pieces a b ≡ true → says_greater w pieces b a ≡ true → ⊥
+        none a b d points agree first second =
+            let both : contradicts_towards w pieces d a ≡ true = rw (points, first, second) refl in
+            false≢true (sym agree ∙ both)
+
+-- a square that contradicts a neighbour is one of two
+pub squares_contradict : (w : ℕ) (pieces : List (List ℕ)) (cell : ℕ) (d : Direction) → 3 ≤ w → cell < w * w
+    → contradicts_towards w pieces d cell ≡ true → contradicts w pieces ≡ true
+unfolding contradicts
+squares_contradict w pieces cell d small inside both =
+    elim (neighbour w cell d) as (λ o. neighbour w cell d ≡ o → option_map_or (λ b. says_greater w pieces cell b && says_greater w pieces b cell) o false ≡ true → contradicts w pieces ≡ true) [
+      | None ↦ λ e none. absurd (false≢true none)
+      | Some b ↦ λ e both.
+          let b_in : b < w * w = elim (towards w cell b d small inside e) [ inl next ↦ next_inside w cell b small next | inr next ↦ next.inside ] in
+          range_some _ 0 (w * w) cell (omega arith) (omega arith) (range_some _ 0 (w * w) b (omega arith) (omega arith) both)
+    ] refl both

@@ -1,9 +1,9 @@
 -- The laws of Towers items: what a cut keeps, what two cuts make, and that the full puzzle of a Latin square is solved by it.
-use Rattle.std.proofs.Common.{◌≡◌, ℕ, zero, ◌+◌, ◌-◌, ◌*◌, ◌<◌, ◌≤◌, Bool, true, ◌&&◌, ◌||◌, [], length, refl, sym, ◌∙◌, inl, inr, arith, nat_lt, ◌==◌, slice_index, slice_index_or}
-use Rattle.std.specs.Bool.{Decides}
+use Rattle.std.proofs.Common.{◌≡◌, ◌↔◌, ℕ, zero, ◌+◌, ◌-◌, ◌*◌, ◌<◌, ◌≤◌, Bool, true, ◌&&◌, ◌||◌, [], length, refl, sym, ◌∙◌, inl, inr, arith, nat_lt, ◌==◌, slice_index, slice_index_or}
+use Rattle.std.specs.Bool.{Decides, IsTrue}
 use Rattle.std.specs.List.{range_with_len}
 use Rattle.std.proofs.lemmas.Bool.{lt-ltb, cases_lt}
-use Rattle.std.proofs.lemmas.Bool.Decides.{Decides-like, Decides-or, Decides-eqb}
+use Rattle.std.proofs.lemmas.Bool.Decides.{Decides-at, Decides-like, Decides-or, Decides-eqb}
 use Rattle.std.proofs.lemmas.List.{length-reverse}
 use Rattle.std.proofs.lemmas.List.Elements.{All-map}
 use Rattle.std.proofs.lemmas.List.FromFn.{length-map-range_with_len, get_or-map-range_with_len}
@@ -35,6 +35,9 @@ clues_decide v g =
     (λ h place low inside. h.each place (omega arith))
     (all_in_range (holds_clue v g) (λ place. 0 < clue_of v place → seen (view_of g place) ≡ clue_of v place)
     (λ place. one_clue_decides (clue_of v place) (seen (view_of g place))) 0 (4 * v.size))
+
+pub clues_tested : (v : TowersValue) (g : GridValue) (t : Bool) → t ≡ holds_clues v g → IsTrue t ↔ HoldsClues v g
+clues_tested v g t value = Decides-at _ _ value (clues_decide v g)
 
 -- ---- what holds of every puzzle
 

@@ -1,72 +1,72 @@
 -- The laws of Unequal descriptions: what is read describes the puzzle, and what describes it is read.
-use Rattle.std.proofs.Common.{◌≡◌, ℕ, ◌*◌, ◌<◌, ◌≤◌, Bool, true, false, ◌&&◌, List, length, map, unwrap_or, Ok, refl, sym, ap, subst, ◌∙◌, arith}
+use Rattle.std.proofs.Common.{◌≡◌, ◌↔◌, ℕ, ◌*◌, ◌<◌, ◌≤◌, Bool, true, false, ◌&&◌, List, length, map, Some, None, unwrap_or, Ok, refl, sym, ap, subst, ◌∙◌, inl, inr, arith, slice_index_or}
 use Rattle.std.specs.List.{AllByRecursion}
+use Rattle.std.specs.Option.{option_map_or}
 use Rattle.std.proofs.lemmas.Bool.{false≢true}
 use Rattle.std.proofs.lemmas.List.{length-map, ext_get_or}
 use Rattle.std.proofs.lemmas.List.Elements.{recursion_from_All}
-use Rattle.std.proofs.lemmas.List.FromFn.{length-map-range_with_len, get_or-map-range_with_len}
+use Rattle.std.proofs.lemmas.List.FromFn.{length-map-range_with_len}
+use Rattle.clue_rules.specs.declared.unequal.direction.Direction.{Direction}
+use Rattle.clue_rules.specs.declared.unequal.direction.Direction.TheVariants.{Right, Down}
 use Rattle.clue_rules.specs.declared.unequal.sign.Sign.{Sign}
 use Rattle.clue_rules.specs.declared.unequal.sign.Sign.TheVariants.{Absent, FirstGreater, SecondGreater}
 use Rattle.clue_rules.specs.IdFaults.{exactly}
-use Rattle.clue_rules.specs.Unequal.{UnequalValue, IsUnequal, sign_count, sign_at}
-use Rattle.clue_rules.specs.UnequalText.{Piece, IsUnequalText, piece_text, directions_at, pieces_of, number_in, points_inside, first_says, second_says, said_sign, contradicts, puzzle_in, unequal_at, puzzle_at}
-use Rattle.clue_rules.specs.Laws.RangeTests.{all_in_range, range_all, none_in_range, range_none}
-use Rattle.clue_rules.specs.Laws.Contradiction.{contradicts_signs}
+use Rattle.clue_rules.specs.Unequal.{UnequalValue, IsUnequal, IsGreater, neighbour, sign_between, sign_towards, signs_towards}
+use Rattle.clue_rules.specs.UnequalText.{Piece, IsUnequalText, piece_text, directions_at, pieces_of, number_in, points_inside, says_greater, said_sign, sign_said, contradicts, puzzle_in, unequal_at, puzzle_at, Says}
+use Rattle.clue_rules.specs.Laws.RangeTests.{all_in_range, range_all}
+use Rattle.clue_rules.specs.Laws.Neighbours.{IsNext, towards, right_of, below_of}
+use Rattle.clue_rules.specs.Laws.Signs.{right_between, below_between, greater_first, greater_second, never_both, sign_at, signed_greater}
 use Rattle.clue_rules.specs.Laws.Letters.{letters_at, directions_inside, read_piece}
 use Rattle.clue_rules.specs.Laws.GoodPieces.{AreGood, good_taken, good_again, read_pieces, map-number, read_valid, letters_inside, inside_letters, some_pieces, pieces_some, square_some, good_numbers, good_letters, numbers_again}
 use Rattle.clue_rules.specs.Laws.Exactly.{exactly_taken, exactly_again}
-use Rattle.clue_rules.specs.Laws.SignSides.{Side, First, Second, greater_at}
-use Rattle.clue_rules.specs.Laws.SaidSigns.{side_says, SaysSigns, signs_said, greater_said}
+use Rattle.clue_rules.specs.Laws.SaidSigns.{says_tested, tested_says, never_contradict, contradict_never}
 use Rattle.byte_text.proofs.ReadingLaws.{bind_taken}
 
--- the sign that two letters make, one on each side, says what they say
-said_side : (says : Side → Bool) (side : Side) → said_sign (says First) (says Second) ≡ greater_at side → says side ≡ true
-said_side says side = by (says First) (says Second) side refl refl
-  where
-    by : (s t : Bool) (side : Side) → says First ≡ s → says Second ≡ t → said_sign s t ≡ greater_at side → says side ≡ true
-    by true t First first second e = first
-    by true t Second first second e = absurd (let f : FirstGreater ≡ SecondGreater = e in cc)
-    by false true First first second e = absurd (cc)
-    by false true Second first second e = second
-    by false false First first second e = absurd (cc)
-    by false false Second first second e = absurd (cc)
+-- the sign that is said of two squares, by which of them is said to be the greater one
 
-side_said : (says : Side → Bool) (side : Side) → (says First && says Second) ≡ false → says side ≡ true
-    → said_sign (says First) (says Second) ≡ greater_at side
-side_said says First apart e = rw e refl
-side_said says Second apart e = by (says First) (rw e at apart)
-  where
-    by : (s : Bool) → (s && true) ≡ false → said_sign s (says Second) ≡ SecondGreater
-    by true none = absurd (false≢true (sym none))
-    by false none = rw e refl
+said_first : (s t : Bool) → said_sign s t ≡ FirstGreater → s ≡ true
+said_first true t e = refl
+said_first false true e = absurd (cc)
+said_first false false e = absurd (cc)
 
-sign_matches : (s : Sign) (says : Side → Bool) → ((side : Side) → s ≡ greater_at side → says side ≡ true)
-    → ((side : Side) → says side ≡ true → s ≡ greater_at side) → said_sign (says First) (says Second) ≡ s
-sign_matches s says said there = by (says First) (says Second) s refl refl (said First) (said Second) (there First) (there Second)
-  where
-    by : (first second : Bool) (s : Sign) → says First ≡ first → says Second ≡ second
-        → (s ≡ FirstGreater → says First ≡ true) → (s ≡ SecondGreater → says Second ≡ true)
-        → (says First ≡ true → s ≡ FirstGreater) → (says Second ≡ true → s ≡ SecondGreater) → said_sign first second ≡ s
-    by true second s one two a b c d = sym (c one)
-    by false true s one two a b c d = sym (d two)
-    by false false Absent one two a b c d = refl
-    by false false FirstGreater one two a b c d = absurd (false≢true (sym one ∙ a refl))
-    by false false SecondGreater one two a b c d = absurd (false≢true (sym two ∙ b refl))
+said_second : (s t : Bool) → said_sign s t ≡ SecondGreater → t ≡ true
+said_second true t e = absurd (let f : FirstGreater ≡ SecondGreater = e in cc)
+said_second false true e = refl
+said_second false false e = absurd (cc)
 
-read_sign : (w i : ℕ) (bytes : List (List ℕ)) → i < sign_count w
-    → sign_at (puzzle_in w bytes) i ≡ said_sign (first_says w bytes i) (second_says w bytes i)
-read_sign w i bytes inside = get_or-map-range_with_len _ 0 (sign_count w) i i Absent inside (omega arith)
+second_said : (s t : Bool) → (t && s) ≡ false → t ≡ true → said_sign s t ≡ SecondGreater
+second_said true t apart e = absurd (false≢true (sym apart ∙ (rw e refl)))
+second_said false t apart e = rw e refl
 
--- what was read says the signs of its puzzle
-read_signs : (w : ℕ) (pieces : List Piece) → 3 ≤ w → contradicts w (map piece_text pieces) ≡ false
-    → SaysSigns (puzzle_in w (map piece_text pieces)) pieces
-read_signs w pieces small agree =
+sign_matches : (s : Sign) (first second : Bool) → (s ≡ FirstGreater → first ≡ true) → (s ≡ SecondGreater → second ≡ true)
+    → (first ≡ true → s ≡ FirstGreater) → (second ≡ true → s ≡ SecondGreater) → said_sign first second ≡ s
+sign_matches s true second a b c d = sym (c refl)
+sign_matches s false true a b c d = sym (d refl)
+sign_matches Absent false false a b c d = refl
+sign_matches FirstGreater false false a b c d = absurd (false≢true (a refl))
+sign_matches SecondGreater false false a b c d = absurd (false≢true (b refl))
+
+-- the puzzle that pieces describe has the greater square where they say so
+greater_said : (w : ℕ) (pieces : List Piece) (a b : ℕ) → IsUnequal (puzzle_in w (map piece_text pieces)) → length pieces ≡ w * w
+    → contradicts w (map piece_text pieces) ≡ false → IsGreater (puzzle_in w (map piece_text pieces)) a b ↔ Says w pieces a b
+greater_said w pieces a b valid count agree =
     let bytes : List (List ℕ) = map piece_text pieces in
-    record {
-      said = λ i side inside e. said_side (side_says w bytes i) side (sym (read_sign w i bytes inside) ∙ e);
-      there = λ i side inside e. read_sign w i bytes inside
-          ∙ side_said (side_says w bytes i) side (none_in_range _ 0 (sign_count w) i (sym (contradicts_signs w bytes small) ∙ agree) (omega arith) (omega arith)) e;
-    }
+    let small : 3 ≤ w = valid.givens.smallest in
+    let rule = signed_greater w (sign_said w bytes) (puzzle_in w bytes).givens a b valid.givens in (
+      λ h. elim (rule.0 h) [
+        | inl up ↦ tested_says w pieces a b (said_first (says_greater w bytes a b) (says_greater w bytes b a) up.1)
+        | inr down ↦ tested_says w pieces a b (said_second (says_greater w bytes b a) (says_greater w bytes a b) down.1)
+      ],
+      λ h.
+          let test : says_greater w bytes a b ≡ true = says_tested w pieces a b h in
+          let inside : a < w * w = omega (arith, directions_inside pieces a h.direction h.letter) in
+          elim (towards w a b h.direction small inside h.points) [
+            | inl next ↦ rule.1 (inl (next, rw test refl))
+            | inr next ↦
+                let apart = contradict_never w bytes a b agree inside next.inside in
+                rule.1 (inr (next, second_said (says_greater w bytes b a) (says_greater w bytes a b) apart test))
+          ],
+    )
 
 -- what is read describes the puzzle
 
@@ -75,10 +75,9 @@ read_text : (w : ℕ) (text : List ℕ) (pieces : List Piece) → 3 ≤ w → w 
     → map (λ p. p.number) pieces ≡ (puzzle_in w (map piece_text pieces)).givens
     → IsUnequalText (puzzle_in w (map piece_text pieces)) text
 read_text w text pieces small large count split good numbers =
-    let signs = read_signs w pieces small good.agree in
-    let v : UnequalValue = puzzle_in w (map piece_text pieces) in
+    let valid = read_valid w (map piece_text pieces) small large (length-map pieces piece_text ∙ count) in
     record {
-      puzzle = read_valid w (map piece_text pieces) small large (length-map pieces piece_text ∙ count);
+      puzzle = valid;
       pieces = pieces;
       written = some_pieces text pieces (omega (arith, square_some w small)) split;
       numbers = numbers;
@@ -86,7 +85,7 @@ read_text w text pieces small large count split good numbers =
           let inside : cell < w * w = omega (arith, directions_inside pieces cell d h) in
           let letters = all_in_range (points_inside w (map piece_text pieces)) 0 (w * w) cell good.inside (omega arith) (omega arith) in
           letters_inside w cell (directions_at pieces cell) d (rw (letters_at pieces cell) at letters) h;
-      signs = greater_said v pieces small count signs;
+      signs = λ a b. greater_said w pieces a b valid count good.agree;
     }
 
 taken_pieces : (w : ℕ) (text : List ℕ) (bytes : List (List ℕ)) → 3 ≤ w → w ≤ 9 → length bytes ≡ w * w → pieces_of text ≡ bytes
@@ -110,10 +109,40 @@ unequal_taken w text v small large h =
     let described = taken_pieces w text read.0 small large (sym (ap length count.0) ∙ count.1) count.0 good.0 in
     subst (λ u. IsUnequalText u text × IsUnequal u × (u.size ≡ w)) good.1 (described, described.puzzle, refl)
 
-not_both : (s t : Bool) → (s ≡ true → t ≡ true → ⊥) → (s && t) ≡ false
-not_both true true h = absurd (h refl refl)
-not_both true false h = refl
-not_both false t h = refl
+-- what pieces that describe a puzzle say of two neighbours is the sign between them
+sign_again : (v : UnequalValue) (text : List ℕ) (h : IsUnequalText v text) (a b : ℕ) → IsNext v.size a b
+    → sign_said v.size (map piece_text h.pieces) a b ≡ sign_between v a b
+sign_again v text h a b next =
+    let pieces : List Piece = h.pieces in
+    sign_matches (sign_between v a b) (says_greater v.size (map piece_text pieces) a b) (says_greater v.size (map piece_text pieces) b a)
+    (λ e. says_tested v.size pieces a b ((h.signs a b).0 (inl e)))
+    (λ e. says_tested v.size pieces b a ((h.signs b a).0 (inr e)))
+    (λ t. greater_first v a b h.puzzle next ((h.signs a b).1 (tested_says v.size pieces a b t)))
+    (λ t. greater_second v a b h.puzzle next ((h.signs b a).1 (tested_says v.size pieces b a t)))
+
+-- so the lists of signs that are read are the puzzle's
+signs_again : (v : UnequalValue) (text : List ℕ) (h : IsUnequalText v text) (d : Direction) (signs : List Sign)
+    → length signs ≡ v.size * v.size
+    → ((cell : ℕ) → neighbour v.size cell d ≡ None → slice_index_or signs cell Absent ≡ Absent)
+    → ((cell b : ℕ) → cell < v.size * v.size → neighbour v.size cell d ≡ Some b
+    → IsNext v.size cell b × (sign_between v cell b ≡ slice_index_or signs cell Absent))
+    → signs_towards v.size (sign_said v.size (map piece_text h.pieces)) d ≡ signs
+signs_again v text h d signs count ends between =
+    let w : ℕ = v.size in
+    let sign : ℕ → ℕ → Sign = sign_said w (map piece_text h.pieces) in
+    let whole = length-map-range_with_len (sign_towards w sign d) 0 (w * w) in
+    ext_get_or Absent (signs_towards w sign d) signs (whole ∙ sym count) (λ cell low.
+    let inside : cell < w * w = omega (arith, whole) in
+    sign_at w sign d cell inside ∙ here cell inside)
+  where
+    here : (cell : ℕ) → cell < v.size * v.size
+        → sign_towards v.size (sign_said v.size (map piece_text h.pieces)) d cell ≡ slice_index_or signs cell Absent
+    here cell inside =
+        let sign : ℕ → ℕ → Sign = sign_said v.size (map piece_text h.pieces) in
+        elim (neighbour v.size cell d) as (λ o. neighbour v.size cell d ≡ o → option_map_or (sign cell) o Absent ≡ slice_index_or signs cell Absent) [
+          | None ↦ λ e. sym (ends cell e)
+          | Some b ↦ λ e. let there = between cell b inside e in sign_again v text h cell b there.0 ∙ there.1
+        ] refl
 
 again_pieces : (v : UnequalValue) (text : List ℕ) → (h : IsUnequalText v text)
     → AreGood v.size (map piece_text h.pieces) × (puzzle_in v.size (map piece_text h.pieces) ≡ v)
@@ -124,14 +153,16 @@ again_pieces v text h =
     let small : 3 ≤ v.size = h.puzzle.givens.smallest in
     let Within : List ℕ → Type 0 = λ ns. AllByRecursion (λ n. n ≤ v.size) ns in
     let within = subst Within (sym h.numbers) (recursion_from_All (λ n. n ≤ v.size) v.givens h.puzzle.givens.within) in
-    let said = signs_said v pieces small h.signs in
-    let signs : (puzzle_in w bytes).signs ≡ v.signs =
-    ext_get_or Absent (puzzle_in w bytes).signs v.signs (length-map-range_with_len _ 0 (sign_count w) ∙ sym h.puzzle.signs)
-    (λ i low.
-    let inside : i < sign_count v.size =
-    omega (arith, length-map-range_with_len (λ j. said_sign (first_says w bytes j) (second_says w bytes j)) 0 (sign_count w)) in
-    read_sign w i bytes inside
-    ∙ sign_matches (sign_at v i) (side_says w bytes i) (λ side e. said.said i side inside e) (λ side e. said.there i side inside e)) in
+    let right =
+    signs_again v text h Right v.right h.puzzle.right_count h.puzzle.right_ends (λ cell b inside e. (
+      record { inside = inside; points = inl e },
+      rw (right_of w cell b e).1 (right_between v cell),
+    )) in
+    let below =
+    signs_again v text h Down v.below h.puzzle.below_count h.puzzle.below_ends (λ cell b inside e. (
+      record { inside = inside; points = inr e },
+      rw (below_of w cell b e).1 (below_between v cell small),
+    )) in
     let givens : (puzzle_in w bytes).givens ≡ v.givens = numbers_again w pieces within ∙ h.numbers in (
       record {
         numbers = good_numbers w pieces within;
@@ -139,13 +170,10 @@ again_pieces v text h =
         inside =
             range_all (points_inside w bytes) 0 (w * w)
             (λ cell low high. rw (letters_at pieces cell) (inside_letters w cell (directions_at pieces cell) (h.inside cell)));
-        agree = contradicts_signs w bytes small ∙ range_none _ 0 (sign_count w) (λ i low high.
-            not_both (first_says w bytes i) (second_says w bytes i) (λ f g.
-            let one = said.there i First (omega arith) f in
-            let two = said.there i Second (omega arith) g in
-            cc));
+        agree = never_contradict w bytes (λ a b inside first second.
+            never_both v a b h.puzzle ((h.signs a b).1 (tested_says w pieces a b first)) ((h.signs b a).1 (tested_says w pieces b a second)));
       },
-      λ j. record { size = w; signs = signs j; givens = givens j },
+      λ j. record { size = w; right = right j; below = below j; givens = givens j },
     )
 
 pub unequal_again : (text : List ℕ) (v : UnequalValue) → IsUnequalText v text → unequal_at v.size text ≡ Ok v

@@ -1,17 +1,17 @@
 -- The written form of an Unequal puzzle describes it.
-use Rattle.std.proofs.Common.{◌≡◌, ℕ, zero, suc, ◌+◌, ◌*◌, ◌<◌, ◌≤◌, Bool, true, false, List, [], ◌∷◌, ◌++◌, length, map, Option, Some, None, is_some, refl, sym, ap, ◌∙◌, inr, arith, append-nil, append_assoc, slice_index, slice_index_or}
+use Rattle.std.proofs.Common.{◌≡◌, ℕ, zero, suc, ◌+◌, ◌*◌, ◌<◌, ◌≤◌, Bool, true, false, List, [], ◌∷◌, ◌++◌, length, map, Option, Some, None, is_some, refl, sym, ap, ◌∙◌, inl, inr, arith, append-nil, append_assoc, slice_index, slice_index_or}
 use Rattle.std.specs.List.{flat_map, range_with_len, join_with_byte, Contains}
 use Rattle.std.specs.Option.{option_map_or}
 use Rattle.std.proofs.lemmas.Bool.{false≢true}
 use Rattle.std.proofs.lemmas.List.FromFn.{length-map-range_with_len, get_or-map-range_with_len, fill_by_all}
 use Rattle.clue_rules.specs.declared.unequal.direction.Direction.{Direction}
-use Rattle.clue_rules.specs.declared.unequal.direction.Direction.TheVariants.{Up, Right, Down, Left}
-use Rattle.clue_rules.specs.Unequal.{UnequalValue, IsUnequal, IsGreater, is_greater}
-use Rattle.clue_rules.specs.UnequalText.{directions, Piece, Says, IsUnequalText, neighbour, piece_text, directions_at, is_greater_towards, piece_of, unequal_text}
-use Rattle.clue_rules.specs.Laws.Signs.{greater_found, greater_tested}
+use Rattle.clue_rules.specs.Unequal.{UnequalValue, IsUnequal, IsGreater, AreNeighbours, neighbour, is_greater}
+use Rattle.clue_rules.specs.UnequalText.{directions, Piece, Says, IsUnequalText, piece_text, directions_at, is_greater_towards, piece_of, unequal_text}
+use Rattle.clue_rules.specs.Laws.SaidSigns.{all_has}
+use Rattle.clue_rules.specs.Laws.Neighbours.{next_towards}
+use Rattle.clue_rules.specs.Laws.Signs.{greater_next, greater_decides}
 use Rattle.clue_rules.specs.Laws.Letters.{contains_filter, filter_contains, directions_inside}
 use Rattle.clue_rules.specs.Laws.GoodPieces.{square_some}
-use Rattle.clue_rules.specs.Laws.SignSides.{way_from, towards, greater_by}
 use Rattle.byte_text.specs.Bytes.{comma}
 
 -- the written form describes
@@ -33,12 +33,6 @@ commas-range : (f : ℕ → List ℕ) (n : ℕ) → 0 < n
 commas-range f zero some = absurd (omega arith)
 commas-range f (suc n) some = commas-join f 0 (range_with_len (0 + 1) n)
 
-all_has : (d : Direction) → Contains directions d
-all_has Up = (0, omega arith, refl)
-all_has Right = (1, omega arith, refl)
-all_has Down = (2, omega arith, refl)
-all_has Left = (3, omega arith, refl)
-
 some_from_map_or : (g : ℕ → Bool) (o : Option ℕ) → option_map_or g o false ≡ true → is_some o ≡ true
 some_from_map_or g None e = absurd (false≢true e)
 some_from_map_or g (Some b) e = refl
@@ -58,10 +52,10 @@ count_written v = length-map-range_with_len (piece_of v) 0 (v.size * v.size)
 
 -- a letter is written exactly where the square is the greater one
 
-letter_written : (v : UnequalValue) (a b : ℕ) (d : Direction) → 3 ≤ v.size → a < v.size * v.size → neighbour v.size a d ≡ Some b
+letter_written : (v : UnequalValue) (a b : ℕ) (d : Direction) → a < v.size * v.size → neighbour v.size a d ≡ Some b
     → IsGreater v a b → Contains (directions_at (pieces_written v) a) d
-letter_written v a b d small inside points h =
-    let test : is_greater_towards v a d ≡ true = rw points (greater_tested v a b small h) in
+letter_written v a b d inside points h =
+    let test : is_greater_towards v a d ≡ true = rw points ((greater_decides v a b).1 h) in
     rw (written_directions v a inside) (contains_filter (is_greater_towards v a) d directions (all_has d) test)
 
 written_letter : (v : UnequalValue) (a : ℕ) (d : Direction) → Contains (directions_at (pieces_written v) a) d
@@ -70,19 +64,17 @@ written_letter v a d h =
     let inside : a < v.size * v.size = omega (arith, directions_inside (pieces_written v) a d h, count_written v) in
     (inside, filter_contains (is_greater_towards v a) d directions (rw (written_directions v a inside) at h))
 
-written_says : (v : UnequalValue) (a b : ℕ) → 3 ≤ v.size → IsGreater v a b → Says v.size (pieces_written v) a b
-written_says v a b small h =
-    let by = greater_by v a b small h in
-    record {
-      direction = way_from v.size by.sign by.side;
-      letter = letter_written v a b (way_from v.size by.sign by.side) small by.at.here_inside by.at.points h;
-      points = by.at.points;
-    }
+written_says : (v : UnequalValue) (a b : ℕ) → IsUnequal v → IsGreater v a b → Says v.size (pieces_written v) a b
+written_says v a b valid h = elim (greater_next v a b valid h) [
+  | inl up ↦ at (next_towards v.size a b valid.givens.smallest up.0).0
+  | inr down ↦ at (next_towards v.size b a valid.givens.smallest down.0).1
+]
+  where
+    at : AreNeighbours v.size a b → Says v.size (pieces_written v) a b
+    at there = record { direction = there.direction; letter = letter_written v a b there.direction there.inside there.points h; points = there.points }
 
-says_written : (v : UnequalValue) (a b : ℕ) → 3 ≤ v.size → Says v.size (pieces_written v) a b → IsGreater v a b
-says_written v a b small h =
-    let there = written_letter v a h.direction h.letter in
-    greater_found v a b small there.0 (towards v.size a b h.direction small there.0 h.points).at.there_inside (rw h.points at there.1)
+says_written : (v : UnequalValue) (a b : ℕ) → Says v.size (pieces_written v) a b → IsGreater v a b
+says_written v a b h = (greater_decides v a b).0 (rw h.points at (written_letter v a h.direction h.letter).1)
 
 pub unequal_canonical : (v : UnequalValue) → IsUnequal v → IsUnequalText v (unequal_text v)
 unequal_canonical v valid =
@@ -99,5 +91,5 @@ unequal_canonical v valid =
           ∙ sym (fill_by_all (λ cell. slice_index v.givens cell) v.givens n 0 valid.givens.count (λ k inside. refl));
       inside = λ cell d h.
           some_from_map_or (is_greater v cell) (neighbour v.size cell d) (written_letter v cell d h).1;
-      signs = λ a b. (written_says v a b small, says_written v a b small);
+      signs = λ a b. (written_says v a b valid, says_written v a b);
     }

@@ -8,7 +8,7 @@ ghost use Rattle.clue_rules.specs.Views.{front_place};
 
 use crate::lines::changed::ChangedLines;
 use crate::lines::value_sets::{is_single, without};
-use crate::lines::view_candidates::{keep_fewer, view_sets};
+use crate::lines::view_candidates::{keep_fewer_in_view, view_sets};
 use crate::lines::views::{LINE, front_place};
 use trail_solver::Candidates;
 
@@ -78,8 +78,8 @@ fn strike_line(candidates: &mut Candidates, line: u8, changed: &mut ChangedLines
     let Some(tally) = tally_of(&sets, width) else {
         return false;
     };
-    let kept = tally.kept_along(&sets, width);
-    keep_fewer(candidates, place, &sets, &kept, changed)
+    let kept = tally.kept_in_line(&sets, width);
+    keep_fewer_in_view(candidates, place, &sets, &kept, changed)
 }
 
 // What the sets of candidates of a line say together: the values of which one of them has one, of which two have one,
@@ -134,7 +134,7 @@ impl Tally {
     }
 
     // The values that may stay in each square.
-    fn kept_along(self, sets: &[u16; LINE], width: usize) -> [u16; LINE]
+    fn kept_in_line(self, sets: &[u16; LINE], width: usize) -> [u16; LINE]
         requires { width ≤ 9 }
         ensures { (k : ℕ) → k < width
             → IsKeptOf self (slice_index sets.now k) (slice_index result k) }

@@ -2,7 +2,7 @@
 
 ghost use Rattle.std.specs.Prelude.{◌≡◌, ℕ, ◌*◌, ◌<◌, ◌≤◌, ◌==◌, not, slice_index};
 ghost use Rattle.std.specs.Bool.{OnFalse, OnTrue};
-ghost use Rattle.clue_rules.specs.Inner.Narrowing.{AreSetsOf, KeepsAlong, KeepsOf};
+ghost use Rattle.clue_rules.specs.Inner.Narrowing.{AreSetsOf, KeepsInView, KeepsInSquare};
 ghost use Rattle.clue_rules.specs.Views.{view_cell};
 
 use crate::lines::changed::ChangedLines;
@@ -23,8 +23,8 @@ pub(crate) fn view_sets(candidates: &Candidates, place: u8) -> [u16; LINE]
     sets
 }
 
-/// As `keep_along`, where the squares have these sets now: there is nothing to do where they keep all of them.
-pub(crate) fn keep_fewer(
+/// As `keep_in_view`, where the squares have these sets now: there is nothing to do where they keep all of them.
+pub(crate) fn keep_fewer_in_view(
     candidates: &mut Candidates,
     place: u8,
     sets: &[u16; LINE],
@@ -33,12 +33,12 @@ pub(crate) fn keep_fewer(
 ) -> bool
     requires place { place < 4 * candidates.old.size }
     requires sets { AreSetsOf candidates.old place sets.now }
-    ensures { KeepsAlong place kept.now candidates.old candidates.new result }
+    ensures { KeepsInView place kept.now candidates.old candidates.new result }
 {
     if are_same(sets, kept, candidates.size().get() as usize) {
         return true;
     }
-    keep_along(candidates, place, kept, changed)
+    keep_in_view(candidates, place, kept, changed)
 }
 
 // Whether the first sets of two rows are the same.
@@ -56,18 +56,18 @@ fn are_same(sets: &[u16; LINE], others: &[u16; LINE], width: usize) -> bool
 }
 
 /// Takes all values but those of these sets from the squares from an edge place. Stops with false at an empty set.
-pub(crate) fn keep_along(
+pub(crate) fn keep_in_view(
     candidates: &mut Candidates,
     place: u8,
     kept: &[u16; LINE],
     changed: &mut ChangedLines,
 ) -> bool
     requires { place < 4 * candidates.old.size }
-    ensures { KeepsAlong place kept.now candidates.old candidates.new result }
+    ensures { KeepsInView place kept.now candidates.old candidates.new result }
 {
     let size = candidates.size();
     for k in 0..size.get() as usize {
-        if !keep_of(candidates, view_cell(size, place, k), kept[k], changed) {
+        if !keep_in_square(candidates, view_cell(size, place, k), kept[k], changed) {
             return false;
         }
     }
@@ -76,14 +76,14 @@ pub(crate) fn keep_along(
 
 /// Takes all values but those of a set from a square, notes its lines where it had others, and tells whether the set has
 /// any.
-pub(crate) fn keep_of(
+pub(crate) fn keep_in_square(
     candidates: &mut Candidates,
     cell: usize,
     kept: u16,
     changed: &mut ChangedLines,
 ) -> bool
     requires { cell < candidates.old.size * candidates.old.size }
-    ensures kept { KeepsOf candidates.old candidates.new cell kept }
+    ensures kept { KeepsInSquare candidates.old candidates.new cell kept }
     ensures some { result ≡ not (kept == 0) }
 {
     let size = candidates.size();
@@ -96,7 +96,7 @@ pub(crate) fn keep_of(
 /// Takes the values that a set lacks from a square, and tells whether there were any.
 pub(crate) fn strike_missing(candidates: &mut Candidates, cell: usize, kept: u16) -> bool
     requires { cell < candidates.old.size * candidates.old.size }
-    ensures kept { KeepsOf candidates.old candidates.new cell kept }
+    ensures kept { KeepsInSquare candidates.old candidates.new cell kept }
     ensures same { OnFalse result (candidates.new ≡ candidates.old) }
 {
     let set = candidates.values(cell);
@@ -110,7 +110,7 @@ pub(crate) fn strike_missing(candidates: &mut Candidates, cell: usize, kept: u16
 // Takes the values that a set lacks from a square.
 fn strike_others(candidates: &mut Candidates, cell: usize, kept: u16)
     requires { cell < candidates.old.size * candidates.old.size }
-    ensures { KeepsOf candidates.old candidates.new cell kept }
+    ensures { KeepsInSquare candidates.old candidates.new cell kept }
 {
     let width = candidates.size().get();
     for value in 1..width + 1 {

@@ -5,7 +5,7 @@
 //! givens that stand side by side. This is the collection's form.
 
 ghost use Rattle.byte_text.specs.Bytes.{slash};
-ghost use Rattle.std.specs.Prelude.{◌≡◌, ◌+◌, ◌*◌, ◌<◌, ◌≤◌, ◌==◌, ◌++◌, ◌&&◌, not, false, IsOkUnless, count_by, true, take, length, if◌then◌else◌, Some, None, Result, Ok, Err, IfOk, OnOk, IfSome, IfNone, All};
+ghost use Rattle.std.specs.Prelude.{◌≡◌, ◌+◌, ◌*◌, ◌<◌, ◌≤◌, ◌==◌, ◌++◌, ◌&&◌, not, false, count_by, true, take, length, if◌then◌else◌, Some, None, Result, Ok, Err, IfOk, IfErr, OnOk, IfSome, IfNone, All};
 ghost use Rattle.std.specs.List.{flat_map, list_any};
 ghost use Rattle.byte_text.specs.Reading.{Gives};
 ghost use Rattle.clue_rules.specs.IdFaults.{exactly};
@@ -180,16 +180,18 @@ fn put_squares(givens: &mut Grid, cell: usize, byte: u8) -> Option<usize>
 // The longest text that is written: 36 clues with 35 slashes, a comma, and 81 squares, each a given behind `_`.
 const LONGEST: usize = 36 + 35 + 1 + 2 * 81;
 
-/// The written form of the puzzle's description; the only refusal is `OutOfMemory`.
-pub(crate) fn write_towers(alloc: Global, towers: &Towers) -> Result<Vec<u8>, IdFault>
-    ensures written { IfOk result (λ text. text.items ≡ towers_text towers.now) }
-    ensures memory { IsOkUnless result IdFault.OutOfMemory }
+/// The written form of a puzzle's description.
+///
+/// `OutOfMemory` where there is no memory for the text.
+pub(crate) fn write_towers(alloc: Global, puzzle: &Towers) -> Result<Vec<u8>, IdFault>
+    ensures written { IfOk result (λ text. text.items ≡ towers_text puzzle.now) }
+    ensures refused { IfErr result (λ fault. fault ≡ IdFault.OutOfMemory) }
 {
     let mut text = Vec::with_capacity(alloc, LONGEST)?;
-    push_clues(&mut text, towers.clues())?;
-    if has_given(&towers.givens) {
+    push_clues(&mut text, puzzle.clues())?;
+    if has_given(puzzle.givens()) {
         text.push(b',')?;
-        push_squares(&mut text, &towers.givens)?;
+        push_squares(&mut text, puzzle.givens())?;
     }
     Ok(text)
 }

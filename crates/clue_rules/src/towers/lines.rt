@@ -13,7 +13,7 @@ ghost use Rattle.clue_rules.specs.Inner.LineTallies.{HoldValuesTo};
 use crate::lines::changed::ChangedLines;
 use crate::lines::narrowing::LineRules;
 use crate::lines::value_sets::is_single;
-use crate::lines::view_candidates::{keep_fewer, view_sets};
+use crate::lines::view_candidates::{keep_fewer_in_view, view_sets};
 use crate::lines::views::{LINE, front_place};
 use crate::towers::Towers;
 use tower_lines::{seen, supported};
@@ -105,7 +105,7 @@ fn narrow_view(candidates: &mut Candidates, place: u8, clue: u8, changed: &mut C
         return true;
     }
     let kept = supported(&sets[..width], clue);
-    keep_fewer(candidates, place, &sets, &kept, changed)
+    keep_fewer_in_view(candidates, place, &sets, &kept, changed)
 }
 
 // Whether each set has one value, all different, and these show as many towers as the clue says.

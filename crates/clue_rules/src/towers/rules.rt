@@ -7,7 +7,7 @@ ghost use Rattle.tower_lines.specs.TowersSeen.{seen};
 ghost use Rattle.clue_rules.specs.Views.{view_of};
 ghost use Rattle.trail_solver.specs.Candidates.{IsEarlier};
 ghost use Rattle.trail_solver.specs.Solutions.{HasNoSolutionWithin, KeepsSolutions};
-ghost use Rattle.clue_rules.specs.Towers.{IsTowers, given_grid, clue_of, holds_clue, holds_clues, HoldsClues, towers_puzzle, towers_items, has_towers, cut_towers, full_towers};
+ghost use Rattle.clue_rules.specs.Towers.{IsTowers, holds_clue, holds_clues, HoldsClues, towers_puzzle, towers_items, has_towers, cut_towers, full_towers};
 ghost use Rattle.clue_rules.specs.Struck.{IsTowersStruck, NoneLeft};
 
 use crate::lines::given_squares::keep_givens;
@@ -34,23 +34,6 @@ fn seen_from(grid: &Grid, place: u8) -> u8
 }
 
 impl Towers {
-    /// The clue at an edge place, 0 for none; the place is below four times the width.
-    ///
-    /// Places are numbered in description order, as `latin_board::edge_place` does.
-    pub fn clue(&self, place: u8) -> u8
-        requires { place < 4 * self.now.size }
-        ensures value { result ≡ clue_of self.now place }
-        ensures within { result ≤ self.now.size }
-    {
-        self.clues()[place as usize]
-    }
-
-    fn givens(&self) -> &Grid
-        ensures { result.now ≡ given_grid self.now }
-    {
-        &self.givens
-    }
-
     // Whether as many towers are seen from a place as its clue says.
     fn holds_clue(&self, grid: &Grid, place: u8) -> bool
         requires size { grid.now.size ≡ self.now.size }
@@ -95,6 +78,7 @@ impl Rules for Towers {
         self.givens.get(cell)
     }
 
+    #[tactic(auto, using(crate::specs::Laws::TowersItems::clues_tested))]
     fn holds(&self, grid: &Grid) -> bool
         requires size { grid.now.size ≡ self.now.size }
         requires full { IsFull grid.now }
@@ -137,6 +121,7 @@ impl Rules for Towers {
         }
     }
 
+    #[tactic(auto, using(crate::proofs::TowersTables::clue_dropped))]
     fn drop_item(&mut self, i: usize) {
         let count = self.clues().len();
         if i < count {

@@ -4,17 +4,17 @@
 //! each neighbour than which it is greater. Commas separate the pieces. This is the collection's form.
 
 ghost use Rattle.std.specs.Prelude.{◌≡◌, ◌*◌, ◌<◌, ◌++◌, [], ◌∷◌, true, false, length, IfSome, IfNone, Some, None, IfOk, IfErr, OnOk, Ok, if◌then◌else◌};
-ghost use Rattle.std.specs.List.{list_all, range_with_len};
-ghost use Rattle.clue_rules.specs.Unequal.{sign_count};
-ghost use Rattle.clue_rules.specs.Inner.UnequalFields.{HoldsPlaces};
-ghost use Rattle.clue_rules.specs.UnequalText.{letter_of, is_greater_towards, piece_written, unequal_text, has_number, grid_in, has_letters, points_inside, piece_at, contradicts, puzzle_in, puzzle_at, unequal_at};
-ghost use Rattle.clue_rules.specs.Inner.UnequalPieces.{texts_of, sign_in};
+ghost use Rattle.std.specs.List.{list_all, list_any, range_with_len};
+ghost use Rattle.clue_rules.specs.Unequal.{sign_towards};
+ghost use Rattle.clue_rules.specs.Inner.UnequalFields.{HoldsSignsOf};
+ghost use Rattle.clue_rules.specs.UnequalText.{letter_of, is_greater_towards, piece_written, unequal_text, has_number, grid_in, has_letters, points_inside, piece_at, says_greater, sign_said, contradicts, puzzle_at, unequal_at};
+ghost use Rattle.clue_rules.specs.Inner.UnequalPieces.{texts_of, contradicts_towards};
 
-use super::direction::Direction;
-use super::pieces::{has_letters, number_in, pieces_of, points_inside, says};
-use super::sign::{Sign, pairs_across, sign_count, squares};
-use super::{SIGNS, Unequal};
 use crate::id_fault::IdFault;
+use crate::unequal::direction::Direction;
+use crate::unequal::pieces::{has_letters, number_in, pieces_of, points_inside, says};
+use crate::unequal::sign::Sign;
+use crate::unequal::{SQUARES, Unequal, square_count};
 use latin_board::{Grid, Size};
 use std::alloc::{AllocError, Global};
 use trail_solver::Rules;
@@ -29,12 +29,12 @@ use trail_solver::Rules;
 pub(crate) fn read_unequal(size: Size, text: &[u8]) -> Result<Unequal, IdFault>
     ensures { result ≡ unequal_at size text.now }
 {
-    let width = size.get() as usize;
-    let pieces = pieces_of(text, width * width)?;
+    let pieces = pieces_of(text, square_count(size))?;
     puzzle_in(size, pieces.as_slice())
 }
 
 // Each class of faults is looked for in all pieces before the next.
+#[tactic(auto, using(crate::proofs::UnequalGivens::letters_of_texts, crate::specs::Laws::SaidSigns::neighbours_agree))]
 fn puzzle_in(size: Size, pieces: &[&[u8]]) -> Result<Unequal, IdFault>
     requires { length pieces.now ≡ size * size }
     ensures { result ≡ puzzle_at size (texts_of pieces.now) }
@@ -48,10 +48,17 @@ fn puzzle_in(size: Size, pieces: &[&[u8]]) -> Result<Unequal, IdFault>
     if !point_inside(size, pieces) {
         return Err(IdFault::OffGrid);
     }
-    let Some(signs) = signs_in(size, pieces) else {
+    let Some(right) = signs_in(size, pieces, Direction::Right) else {
         return Err(IdFault::Contradiction);
     };
-    Ok(Unequal { signs, givens })
+    let Some(below) = signs_in(size, pieces, Direction::Down) else {
+        return Err(IdFault::Contradiction);
+    };
+    Ok(Unequal {
+        right,
+        below,
+        givens,
+    })
 }
 
 // The grid of the pieces' numbers, or `None` where some piece begins with none.
@@ -68,7 +75,7 @@ fn givens_in(size: Size, pieces: &[&[u8]]) -> Option<Grid>
 }
 
 fn have_letters(pieces: &[&[u8]]) -> bool
-    ensures { result ≡ list_all has_letters (texts_of pieces.now) }
+    ensures { result ≡ list_all (λ piece. has_letters piece.now) pieces.now }
 {
     pieces.iter().all(|piece| has_letters(piece))
 }
@@ -81,6 +88,7 @@ fn point_inside(size: Size, pieces: &[&[u8]]) -> bool
     (0..pieces.len()).all(|cell| points_inside(size, cell, piece_at(pieces, cell)))
 }
 
+#[tactic(auto, using(crate::proofs::UnequalGivens::text_at))]
 fn piece_at<'a>(pieces: &[&'a [u8]], cell: usize) -> &'a [u8]
     requires { cell < length pieces.now }
     ensures { result.now ≡ piece_at (texts_of pieces.now) cell }
@@ -88,36 +96,42 @@ fn piece_at<'a>(pieces: &[&'a [u8]], cell: usize) -> &'a [u8]
     pieces[cell]
 }
 
-// The signs of all places, or `None` where the pieces contradict each other.
-fn signs_in(size: Size, pieces: &[&[u8]]) -> Option<[Sign; SIGNS]>
+// The signs towards the neighbours in a direction, or `None` where the pieces of two of them contradict each other.
+#[tactic(auto, using(crate::proofs::UnequalTables::signs_filled, crate::specs::Laws::SaidSigns::squares_contradict))]
+fn signs_in(size: Size, pieces: &[&[u8]], direction: Direction) -> Option<[Sign; SQUARES]>
     requires { length pieces.now ≡ size * size }
-    ensures agree { IfSome result (λ signs. contradicts size (texts_of pieces.now) ≡ false) }
-    ensures places { IfSome result (λ signs.
-        HoldsPlaces (sign_count size) (puzzle_in size (texts_of pieces.now)).signs signs) }
+    ensures agree { IfSome result (λ signs. list_any
+        (contradicts_towards size (texts_of pieces.now) direction)
+        (range_with_len 0 (size * size)) ≡ false) }
+    ensures signs { IfSome result
+        (HoldsSignsOf size (sign_said size (texts_of pieces.now)) direction) }
     ensures none { IfNone result (contradicts size (texts_of pieces.now) ≡ true) }
 {
-    let mut signs = [Sign::Absent; SIGNS];
-    for sign in 0..sign_count(size) {
-        signs[sign] = sign_in(size, pieces, sign)?;
+    let mut signs = [Sign::Absent; SQUARES];
+    for cell in 0..square_count(size) {
+        signs[cell] = sign_in(size, pieces, cell, direction)?;
     }
     Some(signs)
 }
 
-// The sign that the pieces on both sides say, or `None` where each says that its square is the greater one.
-fn sign_in(size: Size, pieces: &[&[u8]], sign: usize) -> Option<Sign>
+// The sign that the pieces of a square and of its neighbour, where it has one, say, or `None` where each says that its
+// square is the greater one.
+fn sign_in(size: Size, pieces: &[&[u8]], cell: usize, direction: Direction) -> Option<Sign>
     requires size { length pieces.now ≡ size * size }
-    requires sign { sign < sign_count size }
-    ensures { result ≡ sign_in size (texts_of pieces.now) sign }
+    requires inside { cell < size * size }
+    ensures agree { IfSome result (λ sign.
+        contradicts_towards size (texts_of pieces.now) direction cell ≡ false) }
+    ensures sign { IfSome result (λ sign.
+        sign ≡ sign_towards size (sign_said size (texts_of pieces.now)) direction cell) }
+    ensures none { IfNone result
+        (contradicts_towards size (texts_of pieces.now) direction cell ≡ true) }
 {
-    let (first, second) = squares(size, sign);
-    let (forth, back) = if sign < pairs_across(size) {
-        (Direction::Right, Direction::Left)
-    } else {
-        (Direction::Down, Direction::Up)
+    let Some(other) = direction.neighbour(size, cell) else {
+        return Some(Sign::Absent);
     };
     match (
-        says(piece_at(pieces, first), forth),
-        says(piece_at(pieces, second), back),
+        says_greater(size, pieces, cell, other),
+        says_greater(size, pieces, other, cell),
     ) {
         (true, true) => None,
         (true, false) => Some(Sign::FirstGreater),
@@ -126,26 +140,33 @@ fn sign_in(size: Size, pieces: &[&[u8]], sign: usize) -> Option<Sign>
     }
 }
 
+// Whether a letter at the square a says that it is greater than b.
+fn says_greater(size: Size, pieces: &[&[u8]], a: usize, b: usize) -> bool
+    requires size { length pieces.now ≡ size * size }
+    requires inside { a < size * size }
+    ensures { result ≡ says_greater size (texts_of pieces.now) a b }
+{
+    let piece = piece_at(pieces, a);
+    Direction::ALL.iter().any(|direction| {
+        says(piece, *direction)
+            && match direction.neighbour(size, a) {
+                Some(other) => other == b,
+                None => false,
+            }
+    })
+}
+
 /// The written form of a puzzle's description: for each square its number and, at the greater square of each sign, its
 /// letter, in the order `U`, `R`, `D`, `L`, and a comma.
 ///
 /// `OutOfMemory` where there is no memory for the text.
+#[tactic(auto, using(crate::proofs::UnequalWritten::pieces_more))]
 pub(crate) fn write_unequal(alloc: Global, puzzle: &Unequal) -> Result<Vec<u8>, IdFault>
     ensures written { IfOk result (λ text. text.items ≡ unequal_text puzzle.now) }
     ensures refused { IfErr result (λ fault. fault ≡ IdFault.OutOfMemory) }
 {
-    match written(alloc, puzzle) {
-        Ok(text) => Ok(text),
-        Err(_) => Err(IdFault::OutOfMemory),
-    }
-}
-
-fn written(alloc: Global, puzzle: &Unequal) -> Result<Vec<u8>, AllocError>
-    ensures { IfOk result (λ text. text.items ≡ unequal_text puzzle.now) }
-{
-    let width = puzzle.size().get() as usize;
     let mut text = Vec::new(alloc);
-    for cell in 0..width * width {
+    for cell in 0..square_count(puzzle.size()) {
         push_piece(&mut text, puzzle, cell)?;
     }
     Ok(text)

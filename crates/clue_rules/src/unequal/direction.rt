@@ -1,7 +1,8 @@
 //! The four directions from a square to its neighbours, and the letters that stand for them.
 
 ghost use Rattle.std.specs.Prelude.{◌≡◌, ◌*◌, ◌<◌, IfSome};
-ghost use Rattle.clue_rules.specs.UnequalText.{letter_of, neighbour, direction_of};
+ghost use Rattle.clue_rules.specs.Unequal.{neighbour};
+ghost use Rattle.clue_rules.specs.UnequalText.{letter_of, direction_of};
 
 use latin_board::Size;
 

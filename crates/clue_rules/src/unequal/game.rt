@@ -41,6 +41,7 @@ impl Game for Unequal {
         true
     }
 
+    #[tactic(auto, using(crate::specs::Laws::UnequalSameness::same_unequal_tested))]
     fn same(&self, other: &Unequal) -> bool {
         self == other
     }

@@ -1,19 +1,19 @@
 //! What the signs of Unequal rule out along a line.
 
-ghost use Rattle.std.specs.Prelude.{◌≡◌, ◌+◌, ◌-◌, ◌*◌, ◌<◌, MatchOption};
+ghost use Rattle.std.specs.Prelude.{◌≡◌, ◌+◌, ◌*◌, ◌<◌, MatchOption};
 ghost use Rattle.trail_solver.specs.Puzzles.{Solves};
 ghost use Rattle.clue_rules.specs.declared.unequal.sign.Sign.TheVariants.{Absent};
 ghost use Rattle.clue_rules.specs.Inner.Narrowing.{Narrows};
-ghost use Rattle.clue_rules.specs.Unequal.{sign_at, sign_count, unequal_puzzle};
-ghost use Rattle.clue_rules.specs.Inner.UnequalLines.{AreEnds, IsStruckAt, IsStruckAlong, line_sign};
+ghost use Rattle.clue_rules.specs.Unequal.{IsUnequal, sign_between, unequal_puzzle};
+ghost use Rattle.clue_rules.specs.Inner.UnequalLines.{AreEnds, IsStruckAt, IsStruckOn, IsStruckAlong};
 
 use crate::lines::changed::ChangedLines;
 use crate::lines::narrowing::LineRules;
 use crate::lines::value_sets::{above_least, below_greatest};
-use crate::lines::view_candidates::keep_of;
+use crate::lines::view_candidates::keep_in_square;
 use crate::unequal::Unequal;
-use crate::unequal::sign::{Sign, pairs_across, squares};
-use latin_board::Size;
+use crate::unequal::sign::Sign;
+use latin_board::line_cell;
 use trail_solver::Candidates;
 
 impl LineRules for Unequal {
@@ -34,8 +34,8 @@ impl LineRules for Unequal {
         changed: &mut ChangedLines,
     ) -> bool {
         let size = candidates.size();
-        for k in 0..size.get() as usize - 1 {
-            if !self.strike_sign(candidates, line_sign(size, line, k), changed) {
+        for k in 0..size.get() - 1 {
+            if !self.strike_after(candidates, line, k, changed) {
                 return false;
             }
         }
@@ -46,33 +46,55 @@ impl LineRules for Unequal {
 }
 
 impl Unequal {
-    // Takes away what a sign rules out, if there is one.
-    fn strike_sign(
+    // Takes away what the sign between the k-th and the next square of a line rules out, if there is one.
+    fn strike_after(
         &self,
         candidates: &mut Candidates,
-        sign: usize,
+        line: u8,
+        k: u8,
         changed: &mut ChangedLines,
     ) -> bool
         requires size { candidates.old.size ≡ self.now.size }
-        requires sign { sign < sign_count self.now.size }
-        ensures { Narrows (Solves (unequal_puzzle self.now)) (IsStruckAt self.now sign)
+        requires line { line < 2 * self.now.size }
+        requires inside { k + 1 < self.now.size }
+        ensures { Narrows (Solves (unequal_puzzle self.now)) (IsStruckOn self.now line k)
             candidates.old candidates.new result }
     {
-        // The proof learns here that the width is from 3 to 9.
-        let _size = candidates.size();
-        match self.ends(sign) {
+        let size = candidates.size();
+        let first = line_cell(size, line, k);
+        let second = line_cell(size, line, k + 1);
+        self.strike_sign(candidates, first, second, changed)
+    }
+
+    // Takes away what the sign between two squares rules out, if there is one.
+    fn strike_sign(
+        &self,
+        candidates: &mut Candidates,
+        first: usize,
+        second: usize,
+        changed: &mut ChangedLines,
+    ) -> bool
+        requires size { candidates.old.size ≡ self.now.size }
+        requires first { first < self.now.size * self.now.size }
+        requires second { second < self.now.size * self.now.size }
+        ensures { Narrows (Solves (unequal_puzzle self.now)) (IsStruckAt self.now first second)
+            candidates.old candidates.new result }
+    {
+        match self.ends(first, second) {
             Some(ends) => ends.strike(candidates, changed),
             None => true,
         }
     }
 
-    // The squares on both sides of a sign, or none where there is no sign.
-    fn ends(&self, sign: usize) -> Option<Ends>
-        requires { sign < sign_count self.now.size }
-        ensures { MatchOption result (sign_at self.now sign ≡ Absent) (AreEnds self.now sign) }
+    // Two squares as the ends of the sign between them, or none where there is no sign.
+    fn ends(&self, first: usize, second: usize) -> Option<Ends>
+        requires first { first < self.now.size * self.now.size }
+        requires second { second < self.now.size * self.now.size }
+        ensures ends { MatchOption result (sign_between self.now first second ≡ Absent)
+            (AreEnds self.now first second) }
+        ensures valid { IsUnequal self.now }
     {
-        let (first, second) = squares(self.givens.size(), sign);
-        match self.signs[sign] {
+        match self.sign_between(first, second) {
             Sign::Absent => None,
             Sign::FirstGreater => Some(Ends {
                 greater: first,
@@ -83,22 +105,6 @@ impl Unequal {
                 lesser: first,
             }),
         }
-    }
-}
-
-// The sign between the k-th and the next square of a line.
-fn line_sign(size: Size, line: u8, k: usize) -> usize
-    requires line { line < 2 * size }
-    requires inside { k + 1 < size }
-    ensures value { result ≡ line_sign size line k }
-    ensures inside { result < sign_count size }
-{
-    let width = size.get() as usize;
-    let line = line as usize;
-    if line < width {
-        line * (width - 1) + k
-    } else {
-        pairs_across(size) + (k * width + (line - width))
     }
 }
 
@@ -128,7 +134,7 @@ impl Ends {
             candidates.old candidates.new result }
     {
         let kept = below_greatest(candidates.values(self.greater));
-        keep_of(candidates, self.lesser, kept, changed)
+        keep_in_square(candidates, self.lesser, kept, changed)
     }
 
     // Keeps in the greater end what is above some candidate of the lesser one.
@@ -140,6 +146,6 @@ impl Ends {
         // The proof learns here that the width is from 3 to 9.
         let _size = candidates.size();
         let kept = above_least(candidates.values(self.lesser));
-        keep_of(candidates, self.greater, kept, changed)
+        keep_in_square(candidates, self.greater, kept, changed)
     }
 }

@@ -8,8 +8,8 @@ ghost use Rattle.clue_rules.specs.IdFaults.{exactly};
 ghost use Rattle.clue_rules.specs.UnequalText.{letter_of, pieces_of, number_in, has_letters, is_inside};
 ghost use Rattle.clue_rules.specs.Inner.UnequalPieces.{IsWithoutLastComma, texts_of};
 
-use super::direction::Direction;
 use crate::id_fault::IdFault;
+use crate::unequal::direction::Direction;
 use arrayvec::ArrayVec;
 use byte_text::{begins_with_digit, cut};
 use latin_board::Size;
@@ -20,6 +20,7 @@ pub(super) type Pieces<'a> = ArrayVec<&'a [u8], 81>;
 /// What commas separate, where it is as many pieces as are wanted; one comma at the end is dropped.
 ///
 /// Refused as `TooFew` or `TooMany`.
+#[tactic(auto, using(crate::proofs::PieceLemmas::pieces_without_comma))]
 pub(super) fn pieces_of(text: &[u8], wanted: usize) -> Result<Pieces<'_>, IdFault>
     requires some { 1 < wanted }
     requires few { wanted ≤ 81 }

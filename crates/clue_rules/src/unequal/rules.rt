@@ -5,53 +5,86 @@ ghost use Rattle.std.specs.Bool.{OnFalse, OnTrue};
 ghost use Rattle.latin_board.specs.Squares.{IsFull, IsLatin, number_at};
 ghost use Rattle.trail_solver.specs.Candidates.{IsEarlier};
 ghost use Rattle.trail_solver.specs.Solutions.{HasNoSolutionWithin, KeepsSolutions};
-ghost use Rattle.clue_rules.specs.Unequal.{IsUnequal, IsGreater, AreNeighbours, holds_signs, HoldsSigns, holds_sign_at, sign_count, unequal_puzzle, full_unequal};
-ghost use Rattle.clue_rules.specs.Inner.UnequalFields.{HoldsPlaces};
+ghost use Rattle.clue_rules.specs.Unequal.{IsUnequal, IsGreater, AreNeighbours, HoldsSigns, holds_signs, holds_towards, unequal_puzzle, sign_towards, sign_in_grid, full_unequal};
+ghost use Rattle.clue_rules.specs.Inner.UnequalFields.{HoldsSignsOf};
+ghost use Rattle.clue_rules.specs.Inner.UnequalItems.{item_cell, without_item};
 ghost use Rattle.clue_rules.specs.Struck.{IsUnequalStruck, NoneLeft};
 
 use crate::lines::given_squares::keep_givens;
 use crate::lines::narrowing::{narrow_by_lines, narrow_by_lines_of};
-use crate::unequal::sign::{Sign, sign_count, squares};
-use crate::unequal::{SIGNS, Unequal};
+use crate::unequal::direction::Direction;
+use crate::unequal::item::{Item, item_at, item_count};
+use crate::unequal::sign::Sign;
+use crate::unequal::{SQUARES, Unequal, square_count};
 use latin_board::{Grid, Size};
 use trail_solver::{Candidates, Rules};
 
 impl Unequal {
+    // A function of its own, so that `holds` need only prove that the test decides the rule.
     fn holds_signs(&self, grid: &Grid) -> bool
         requires { grid.now.size ≡ self.now.size }
         ensures value { result ≡ holds_signs self.now grid.now }
         ensures valid { IsUnequal self.now }
     {
-        let count = sign_count(self.givens.size());
-        (0..count).all(|sign| self.holds_sign(grid, sign))
+        (0..square_count(self.givens.size())).all(|cell| {
+            self.holds_towards(grid, cell, Direction::Right)
+                && self.holds_towards(grid, cell, Direction::Down)
+        })
     }
 
-    // Whether the grid's numbers on both sides of a sign are as it says.
-    fn holds_sign(&self, grid: &Grid, sign: usize) -> bool
+    // Whether the grid's numbers at a square and at its neighbour, where it has one, are as the sign between them says.
+    fn holds_towards(&self, grid: &Grid, cell: usize, direction: Direction) -> bool
         requires size { grid.now.size ≡ self.now.size }
-        requires inside { sign < sign_count self.now.size }
-        ensures { result ≡ holds_sign_at self.now grid.now sign }
+        requires inside { cell < self.now.size * self.now.size }
+        ensures { result ≡ holds_towards self.now grid.now cell direction }
     {
-        let (first, second) = squares(self.givens.size(), sign);
-        match self.signs[sign] {
-            Sign::Absent => true,
-            Sign::FirstGreater => grid.get(first) > grid.get(second),
-            Sign::SecondGreater => grid.get(first) < grid.get(second),
+        match direction.neighbour(self.givens.size(), cell) {
+            Some(other) => {
+                let sign = self.sign_between(cell, other);
+                sign.holds(grid.get(cell), grid.get(other))
+            }
+            None => true,
         }
     }
 }
 
-// The signs that the numbers of a grid give, at all places.
-fn signs_of(grid: &Grid) -> [Sign; SIGNS]
-    ensures { HoldsPlaces (sign_count grid.now.size) (full_unequal grid.now).signs result }
+impl Unequal {
+    // Takes an item away, where it is there.
+    #[tactic(auto, using(crate::proofs::UnequalTables::emptied_front))]
+    fn take_away(&mut self, item: Item)
+        requires { item_cell item < self.old.size * self.old.size }
+        ensures value { self.new ≡ without_item self.old item }
+        ensures valid { IsUnequal self.old }
+    {
+        match item {
+            Item::RightSign(cell) => self.right[cell] = Sign::Absent,
+            Item::LowerSign(cell) => self.below[cell] = Sign::Absent,
+            Item::Given(cell) => self.givens.set(cell, 0),
+        }
+    }
+}
+
+// The signs that the numbers of a grid give towards the neighbours in a direction.
+#[tactic(auto, using(crate::proofs::UnequalTables::signs_filled))]
+fn signs_of(grid: &Grid, direction: Direction) -> [Sign; SQUARES]
+    ensures { HoldsSignsOf grid.now.size (sign_in_grid grid.now) direction result }
 {
-    let size = grid.size();
-    let mut signs = [Sign::Absent; SIGNS];
-    for sign in 0..sign_count(size) {
-        let (first, second) = squares(size, sign);
-        signs[sign] = Sign::between(grid.get(first), grid.get(second));
+    let mut signs = [Sign::Absent; SQUARES];
+    for cell in 0..square_count(grid.size()) {
+        signs[cell] = sign_towards(grid, cell, direction);
     }
     signs
+}
+
+// The sign that the grid's numbers give between a square and its neighbour, where it has one.
+fn sign_towards(grid: &Grid, cell: usize, direction: Direction) -> Sign
+    requires { cell < grid.now.size * grid.now.size }
+    ensures { result ≡ sign_towards grid.now.size (sign_in_grid grid.now) direction cell }
+{
+    match direction.neighbour(grid.size(), cell) {
+        Some(other) => Sign::between(grid.get(cell), grid.get(other)),
+        None => Sign::Absent,
+    }
 }
 
 /// The items are the signs, each row's from the top and the left, then those below each square, and then the givens in
@@ -81,6 +114,7 @@ impl Rules for Unequal {
         self.givens.get(cell)
     }
 
+    #[tactic(auto, using(crate::proofs::SignLemmas::holds_tested))]
     fn holds(&self, grid: &Grid) -> bool
         requires size { grid.now.size ≡ self.now.size }
         requires full { IsFull grid.now }
@@ -110,26 +144,21 @@ impl Rules for Unequal {
     }
 
     fn item_count(size: Size) -> usize {
-        let width = size.get() as usize;
-        sign_count(size) + width * width
+        item_count(size)
     }
 
     fn has_item(&self, i: usize) -> bool {
-        let count = sign_count(self.givens.size());
-        if i < count {
-            self.signs[i] != Sign::Absent
-        } else {
-            self.givens.get(i - count) > 0
+        match item_at(self.givens.size(), i) {
+            Item::RightSign(cell) => self.right[cell] != Sign::Absent,
+            Item::LowerSign(cell) => self.below[cell] != Sign::Absent,
+            Item::Given(cell) => self.givens.get(cell) > 0,
         }
     }
 
+    #[tactic(auto, using(crate::proofs::UnequalTables::without_cut))]
     fn drop_item(&mut self, i: usize) {
-        let count = sign_count(self.givens.size());
-        if i < count {
-            self.signs[i] = Sign::Absent;
-        } else {
-            self.givens.set(i - count, 0);
-        }
+        let item = item_at(self.givens.size(), i);
+        self.take_away(item);
     }
 
     fn full(grid: &Grid) -> Unequal
@@ -143,7 +172,8 @@ impl Rules for Unequal {
         // The proof learns here that the width is from 3 to 9.
         let _size = grid.size();
         Unequal {
-            signs: signs_of(grid),
+            right: signs_of(grid, Direction::Right),
+            below: signs_of(grid, Direction::Down),
             givens: *grid,
         }
     }
@@ -156,7 +186,7 @@ impl Rules for Unequal {
 
     ghost cut_size = { λ p keep h. refl };
 
-    ghost cut_has = { λ p keep i h inside. laws.cut_has p keep i };
+    ghost cut_has = { λ p keep i h inside. laws.cut_has p keep i h };
 
     ghost cut_all = { λ p h. laws.cut_all p };
 

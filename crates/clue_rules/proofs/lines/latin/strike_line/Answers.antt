@@ -11,10 +11,10 @@ returns-in_default c =
 
 pub returns : goal.returns
 returns c =
-    line_narrows c.args.candidates.now c.keep_fewer.new.candidates c.args.line c.front_place-place.result
-    c.view_sets-sets.result c.kept_along-kept.result c.in-Some.tally c.keep_fewer.result
+    line_narrows c.args.candidates.now c.keep_fewer_in_view.new.candidates c.args.line c.front_place-place.result
+    c.view_sets-sets.result c.kept_in_line-kept.result c.in-Some.tally c.keep_fewer_in_view.result
     (record { line_is = c.requires; cells = rw c.size-size.ensures.value at c.front_place-place.ensures.cells })
     c.view_sets-sets.ensures
     (rw (c.get-width.ensures.value ∙ c.size-size.ensures.value) at c.in-Some.ensures)
-    (rw (c.get-width.ensures.value ∙ c.size-size.ensures.value) at c.kept_along-kept.ensures)
-    c.keep_fewer.ensures
+    (rw (c.get-width.ensures.value ∙ c.size-size.ensures.value) at c.kept_in_line-kept.ensures)
+    c.keep_fewer_in_view.ensures

@@ -1,10 +1,7 @@
-use Rattle.latin_board.specs.Squares.{number_at}
-use Rattle.clue_rules.specs.Unequal.{first_side, second_side, sign_of}
+use Rattle.clue_rules.specs.Unequal.{sign_towards, sign_in_grid}
 use Rattle.clue_rules.proofs.FilledLemmas.{IsFilledBy}
 use Rattle.clue_rules.specs.declared.unequal.sign.Sign.TheVariants.{Absent}
 use Rattle.clue_rules.proofs.unequal.rules.signs_of.Given as goal
 
-abbrev pub invariant-loop-sign : goal.invariant-loop-sign
-invariant-loop-sign l =
-    IsFilledBy Absent 144
-    (λ i. sign_of (number_at l.grid (first_side l.grid.size i)) (number_at l.grid (second_side l.grid.size i))) l.sign l.signs
+abbrev pub invariant-loop-cell : goal.invariant-loop-cell
+invariant-loop-cell l = IsFilledBy Absent 81 (sign_towards l.grid.size (sign_in_grid l.grid) l.direction) l.cell l.signs

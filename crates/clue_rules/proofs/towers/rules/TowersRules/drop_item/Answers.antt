@@ -1,10 +1,7 @@
 use Rattle.std.proofs.Common.{length, ap, arith}
 use Rattle.clue_rules.specs.Towers.{TowersValue}
-use Rattle.clue_rules.proofs.TowersTables.{clue_dropped, given_dropped}
+use Rattle.clue_rules.proofs.TowersTables.{given_dropped}
 use Rattle.clue_rules.proofs.towers.rules.TowersRules.drop_item.Goals as goal
-
-pub returns-then-i-count : goal.returns-then-i-count
-returns-then-i-count c = rw (← c.self.view_is) (clue_dropped c.self.inside.givens c.self.inside.clues c.args.i (omega (arith, ap length c.clues-count.ensures.value, ap (λ (v : TowersValue). v.size) c.self.view_is)))
 
 pub returns-else-i-count : goal.returns-else-i-count
 returns-else-i-count c =

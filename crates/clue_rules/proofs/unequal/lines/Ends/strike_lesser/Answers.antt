@@ -3,5 +3,5 @@ use Rattle.clue_rules.proofs.unequal.lines.Ends.strike_lesser.Goals as goal
 
 pub returns : goal.returns
 returns c =
-    lesser_narrows c.args.candidates.now c.keep_of.new.candidates c.args.self c.values.result c.below_greatest-kept.result c.keep_of.result
-    c.requires c.values.ensures c.below_greatest-kept.ensures c.keep_of.ensures.kept c.keep_of.ensures.some
+    lesser_narrows c.args.candidates.now c.keep_in_square.new.candidates c.args.self c.values.result c.below_greatest-kept.result c.keep_in_square.result
+    c.requires c.values.ensures c.below_greatest-kept.ensures c.keep_in_square.ensures.kept c.keep_in_square.ensures.some

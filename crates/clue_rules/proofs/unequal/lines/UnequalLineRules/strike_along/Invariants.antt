@@ -2,10 +2,9 @@ use Rattle.std.proofs.Common.{true}
 use Rattle.trail_solver.specs.Puzzles.{Solves}
 use Rattle.clue_rules.specs.Inner.Narrowing.{Narrows, StruckBelow}
 use Rattle.clue_rules.specs.Unequal.{unequal_puzzle}
-use Rattle.clue_rules.specs.Inner.UnequalLines.{IsStruckAt, line_sign}
+use Rattle.clue_rules.specs.Inner.UnequalLines.{IsStruckOn}
 use Rattle.clue_rules.proofs.unequal.lines.UnequalLineRules.strike_along.Given as goal
 
 abbrev pub invariant-loop-k : goal.invariant-loop-k
 invariant-loop-k l =
-    Narrows (λ g. Solves (unequal_puzzle l.self) g) (StruckBelow (λ k. IsStruckAt l.self (line_sign l.self.size l.line k)) l.k)
-    l.initial.candidates l.candidates true
+    Narrows (λ g. Solves (unequal_puzzle l.self) g) (StruckBelow (IsStruckOn l.self l.line) l.k) l.initial.candidates l.candidates true

@@ -1,6 +1,6 @@
 use Rattle.std.proofs.Common.{◌∙◌}
 use Rattle.clue_rules.proofs.KeptCandidates.{along_whole}
-use Rattle.clue_rules.proofs.lines.view_candidates.keep_fewer.Goals as goal
+use Rattle.clue_rules.proofs.lines.view_candidates.keep_fewer_in_view.Goals as goal
 
 pub returns-then-are_same : goal.returns-then-are_same
 returns-then-are_same c =

@@ -1,6 +1,6 @@
 use Rattle.std.proofs.Common.{arith}
 use Rattle.clue_rules.proofs.LineTallying.{kept_more}
-use Rattle.clue_rules.proofs.lines.latin.Tally.kept_along.Goals as goal
+use Rattle.clue_rules.proofs.lines.latin.Tally.kept_in_line.Goals as goal
 
 pub loop-k-preserved : goal.loop-k-preserved
 loop-k-preserved c =
