@@ -9,7 +9,6 @@ ghost use Rattle.clue_rules.specs.Inner.UnequalLines.{AreEnds, IsStruckAt, IsStr
 
 use crate::lines::changed::ChangedLines;
 use crate::lines::narrowing::LineRules;
-use crate::lines::value_sets::{above_least, below_greatest};
 use crate::lines::view_candidates::keep_of;
 use crate::unequal::Unequal;
 use crate::unequal::sign::{Sign, pairs_across, squares};
@@ -127,7 +126,7 @@ impl Ends {
         ensures { Narrows (HoldsGreater self) (IsLesserStruck self)
             candidates.old candidates.new result }
     {
-        let kept = below_greatest(candidates.values(self.greater));
+        let kept = candidates.values(self.greater).below_greatest();
         keep_of(candidates, self.lesser, kept, changed)
     }
 
@@ -139,7 +138,7 @@ impl Ends {
     {
         // The proof learns here that the width is from 3 to 9.
         let _size = candidates.size();
-        let kept = above_least(candidates.values(self.lesser));
+        let kept = candidates.values(self.lesser).above_least();
         keep_of(candidates, self.greater, kept, changed)
     }
 }
