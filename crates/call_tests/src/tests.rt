@@ -10,6 +10,7 @@ mod parameters;
 mod saving;
 mod seeded_games;
 mod sessions;
+mod sets_of_numbers;
 mod texts;
 mod towers_lines;
 mod towers_puzzles;

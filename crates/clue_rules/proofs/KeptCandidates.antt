@@ -1,13 +1,12 @@
 -- The values of a set are kept in a square, and those of a row of sets along a line.
-use Rattle.std.proofs.Common.{◌≡◌, ◌≢◌, ℕ, ◌*◌, ◌<◌, ◌≤◌, ◌⊎◌, true, false, List, set, inl, inr, refl, sym, ◌∙◌, subst, ⊎_elim, arith, bit_and, slice_index}
-use Rattle.std.proofs.lemmas.Bool.{cases_eq, both_ways, false_from_ne_true, and_parts}
-use Rattle.latin_board.specs.Marks.{has_mark}
+use Rattle.std.proofs.Common.{◌≡◌, ◌≢◌, ℕ, ◌*◌, ◌<◌, ◌≤◌, ◌⊎◌, true, false, List, set, inl, inr, refl, sym, ◌∙◌, subst, ⊎_elim, arith, slice_index}
+use Rattle.std.proofs.lemmas.Bool.{cases_eq, both_ways, false_from_ne_true}
+use Rattle.number_sets.specs.Sets.{has_number, IsSubset}
 use Rattle.latin_board.specs.Squares.{GridValue, number_at}
-use Rattle.tower_lines.proofs.MarkLemmas.{mark-and}
 use Rattle.trail_solver.specs.Pairs.{IsPair}
-use Rattle.trail_solver.specs.Candidates.{CandidatesValue, IsEarlier, IsWithin, may_be}
+use Rattle.trail_solver.specs.Candidates.{CandidatesValue, IsSetOf, IsEarlier, IsWithin, may_be}
 use Rattle.trail_solver.proofs.Earlier.{earlier_refl}
-use Rattle.clue_rules.specs.Inner.Narrowing.{KeepsInSquare, KeepsInView, Agrees, IsSetOf, AreSetsOf, KeepsEach}
+use Rattle.clue_rules.specs.Inner.Narrowing.{KeepsInSquare, KeepsInView, Agrees, AreSetsOf, KeepsEach}
 use Rattle.clue_rules.specs.Views.{view_cell}
 
 -- ---- one square, value by value
@@ -15,17 +14,15 @@ use Rattle.clue_rules.specs.Views.{view_cell}
 -- now is first without the values below n that the set lacks
 pub record KeepsBelow (first now : CandidatesValue) (cell kept n : ℕ) : Type 0 where
   pub less : IsEarlier first now
-  pub gone : (v : ℕ) → 1 ≤ v → v < n → has_mark kept v ≡ false → may_be now cell v ≡ false
-  pub rest : (c v : ℕ) → (c ≢ cell) ⊎ (has_mark kept v ≡ true) → may_be now c v ≡ may_be first c v
+  pub gone : (v : ℕ) → 1 ≤ v → v < n → has_number kept v ≡ false → may_be now cell v ≡ false
+  pub rest : (c v : ℕ) → (c ≢ cell) ⊎ (has_number kept v ≡ true) → may_be now c v ≡ may_be first c v
 
 -- a square whose candidates are all in the set
-pub kept_whole : (c : CandidatesValue) (cell kept set : ℕ) → IsSetOf c cell set → bit_and set kept ≡ set → KeepsInSquare c c cell kept
+pub kept_whole : (c : CandidatesValue) (cell kept set : ℕ) → IsSetOf c cell set → IsSubset set kept → KeepsInSquare c c cell kept
 kept_whole c cell kept set is whole = record {
   less = earlier_refl c;
   gone = λ v pair lacks. false_from_ne_true (may_be c cell v) (λ left.
-      let P : ℕ → Type 0 = λ m. has_mark m v ≡ true in
-      let both = and_parts _ _ (sym (mark-and set kept v) ∙ subst P (sym whole) ((is v).1 (pair, left))) in
-      both_ways (has_mark kept v) lacks both.1);
+      both_ways (has_number kept v) lacks (whole v ((is v).1 (pair, left))));
   rest = λ d v h. refl;
 }
 
@@ -35,18 +32,18 @@ kept_whole c cell kept set is whole = record {
 pub record KeepsUpTo (place : ℕ) (kept : List ℕ) (n : ℕ) (first now : CandidatesValue) : Type 0 where
   pub less : IsEarlier first now
   pub keeps : (g : GridValue) → g.size ≡ first.size
-      → ((k : ℕ) → k < first.size → has_mark (slice_index kept k) (number_at g (view_cell first.size place k)) ≡ true)
+      → ((k : ℕ) → k < first.size → has_number (slice_index kept k) (number_at g (view_cell first.size place k)) ≡ true)
       → IsWithin first g → IsWithin now g
-  pub gone : (k v : ℕ) → k < n → IsPair first.size (view_cell first.size place k) v → has_mark (slice_index kept k) v ≡ false
+  pub gone : (k v : ℕ) → k < n → IsPair first.size (view_cell first.size place k) v → has_number (slice_index kept k) v ≡ false
       → may_be now (view_cell first.size place k) v ≡ false
 
 -- a grid that has a value of the set in the square is still within
 pub within_kept : (old new : CandidatesValue) (cell kept : ℕ) (g : GridValue) → KeepsInSquare old new cell kept → IsWithin old g
-    → has_mark kept (number_at g cell) ≡ true → IsWithin new g
+    → has_number kept (number_at g cell) ≡ true → IsWithin new g
 within_kept old new cell kept g k w has = record {
   each = λ c inside.
       let inside' : c < old.size * old.size = subst (λ (n : ℕ). c < n * n) k.less.size inside in
-      let P : ℕ → Type 0 = λ i. has_mark kept (number_at g i) ≡ true in
+      let P : ℕ → Type 0 = λ i. has_number kept (number_at g i) ≡ true in
       k.rest c (number_at g c) (⊎_elim (λ same. inr (subst P (sym same) has)) (λ n. inl n) (cases_eq c cell)) ∙ w.each c inside';
 }
 
@@ -67,8 +64,8 @@ along_whole place sets kept c is same = record {
   keeps = λ g size has w. w;
   empty = tt;
   gone = λ k v inside pair lacks. false_from_ne_true (may_be c (view_cell c.size place k) v) (λ left.
-      let P : ℕ → Type 0 = λ m. has_mark m v ≡ true in
-      both_ways (has_mark (slice_index kept k) v) lacks (subst P (same k inside) ((is.each k inside v).1 (pair, left))));
+      let P : ℕ → Type 0 = λ m. has_number m v ≡ true in
+      both_ways (has_number (slice_index kept k) v) lacks (subst P (same k inside) ((is.each k inside v).1 (pair, left))));
 }
 
 -- ---- the sets of a line

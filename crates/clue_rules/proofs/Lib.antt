@@ -13,7 +13,6 @@ pub mod RangeLemmas
 pub mod SettledLines
 pub mod SignLemmas
 pub mod SignSteps
-pub mod SingleSets
 pub mod TowersKept
 pub mod TowersTables
 pub mod UnequalFullLemmas

@@ -1,16 +1,16 @@
 -- What one row or column rules out: its squares' candidates as sets, and a Latin square among them.
 use Rattle.std.proofs.Common.{◌≡◌, ℕ, ◌*◌, ◌<◌, Bool, true, false, List, inl, inr, sym, ap, ◌∙◌, subst, arith, slice_index}
 use Rattle.std.proofs.lemmas.Bool.{both_ways, false_from_ne_true}
-use Rattle.latin_board.specs.Marks.{has_mark}
+use Rattle.number_sets.specs.Sets.{IsSingle, has_number}
 use Rattle.latin_board.specs.Squares.{GridValue, number_at}
 use Rattle.latin_board.specs.Lines.{line_cell}
 use Rattle.latin_board.proofs.LatinLines.{latin_full, line_cell_inside, line_differs, value_at, peers_on_line}
 use Rattle.latin_board.proofs.Numbers.{number_within}
 use Rattle.trail_solver.specs.Pairs.{IsPair}
-use Rattle.trail_solver.specs.Candidates.{CandidatesValue, IsEarlier, IsOnly, IsWithin, may_be}
+use Rattle.trail_solver.specs.Candidates.{CandidatesValue, IsSetOf, IsEarlier, IsOnly, IsWithin, may_be}
 use Rattle.trail_solver.proofs.Earlier.{earlier_refl, only_later, was_left}
-use Rattle.clue_rules.specs.Inner.Narrowing.{AreSetsOf, IsSquare, KeepsInView, Narrows, StruckBelow, IsSetOf}
-use Rattle.clue_rules.specs.Inner.LineTallies.{IsSingle, IsPossible, IsWholeTally, IsKeptOf, IsLineStruck, HoldValuesTo}
+use Rattle.clue_rules.specs.Inner.Narrowing.{AreSetsOf, IsSquare, KeepsInView, Narrows, StruckBelow}
+use Rattle.clue_rules.specs.Inner.LineTallies.{IsPossible, IsWholeTally, IsKeptOf, IsLineStruck, HoldValuesTo}
 use Rattle.clue_rules.specs.Struck.{IsOnePlace, IsPeerStruck, IsPlaceStruck, IsLatinStruck}
 use Rattle.clue_rules.specs.Views.{view_cell}
 use Rattle.clue_rules.specs.declared.lines.latin.Tally.{Tally}
@@ -22,16 +22,16 @@ use Rattle.clue_rules.proofs.LineTallying.{possible_stays, taken_goes, displaced
 pub along_narrows : {S : GridValue → Type 0} {T : CandidatesValue → ℕ → ℕ → Type 0} {place : ℕ} {kept : List ℕ}
     {old new : CandidatesValue} {r : Bool}
     → ((g : GridValue) → S g → g.size ≡ old.size → IsWithin old g → (k : ℕ) → k < old.size
-    → has_mark (slice_index kept k) (number_at g (view_cell old.size place k)) ≡ true)
+    → has_number (slice_index kept k) (number_at g (view_cell old.size place k)) ≡ true)
     → ((first : CandidatesValue) → IsEarlier first old → (cell v : ℕ) → T first cell v
-    → (k : ℕ) × (k < old.size) × (view_cell old.size place k ≡ cell) × (has_mark (slice_index kept k) v ≡ false))
+    → (k : ℕ) × (k < old.size) × (view_cell old.size place k ≡ cell) × (has_number (slice_index kept k) v ≡ false))
     → KeepsInView place kept old new r → Narrows S T old new r
 along_narrows {kept = kept} {old = old} {new = new} {r = r} solved struck h = record {
   less = h.less;
   keeps = λ g s size w. h.keeps g size (λ k inside. solved g s size w k inside) w;
   refutes =
       on_false r
-      (λ empty g s size w. both_ways (has_mark (slice_index kept empty.0) _) (empty.2 _) (solved g s size w empty.0 empty.1))
+      (λ empty g s size w. both_ways (has_number (slice_index kept empty.0) _) (empty.2 _) (solved g s size w empty.0 empty.1))
       h.empty;
   struck = on_true r (λ gone. record {
     each = λ first e cell v pair s.
@@ -60,7 +60,7 @@ grid_pair g w cell s size inside =
 
 -- a grid within the candidates has a number of the cell's set
 pub in_set : (c : CandidatesValue) (cell set : ℕ) (g : GridValue) → IsSetOf c cell set → IsSquare g → g.size ≡ c.size → IsWithin c g
-    → cell < c.size * c.size → has_mark set (number_at g cell) ≡ true
+    → cell < c.size * c.size → has_number set (number_at g cell) ≡ true
 in_set c cell set g is s size w inside = (is (number_at g cell)).1 (grid_pair g c.size cell s size inside, w.each cell inside)
 
 along_inside : (w line place k : ℕ) → IsAlong w line place → k < w → view_cell w place k < w * w
@@ -93,7 +93,7 @@ sets_values c place sets is k v inside has = let p = ((is.each k inside v).0 has
 pub line_solved : (c : CandidatesValue) (line place : ℕ) (sets kept : List ℕ) (t : Tally) → IsAlong c.size line place
     → AreSetsOf c place sets → IsWholeTally sets c.size t
     → ((k : ℕ) → k < c.size → IsKeptOf t (slice_index sets k) (slice_index kept k)) → (g : GridValue) → IsSquare g → g.size ≡ c.size
-    → IsWithin c g → (k : ℕ) → k < c.size → has_mark (slice_index kept k) (number_at g (view_cell c.size place k)) ≡ true
+    → IsWithin c g → (k : ℕ) → k < c.size → has_number (slice_index kept k) (number_at g (view_cell c.size place k)) ≡ true
 line_solved c line place sets kept t a is whole keeps g s size within k inside =
     let p = square_possible c line place sets g a is s size within in
     (keeps k inside).all _ (p.within k inside) (possible_stays sets c.size t (λ k. number_at g (view_cell c.size place k)) k whole p (sets_values c place sets is) inside)
@@ -117,7 +117,7 @@ taken_single first c line place by v sets t e a is whole inside only =
 
 -- a value that had one place has no other still
 one_place : (first c : CandidatesValue) (line place k v : ℕ) (sets : List ℕ) → IsEarlier first c → IsAlong c.size line place
-    → AreSetsOf c place sets → IsOnePlace first line v k → (j : ℕ) → j < c.size → has_mark (slice_index sets j) v ≡ true → j ≡ k
+    → AreSetsOf c place sets → IsOnePlace first line v k → (j : ℕ) → j < c.size → has_number (slice_index sets j) v ≡ true → j ≡ k
 one_place first c line place k v sets e a is one j inside has =
     let left = ((is.each j inside v).0 has).1 in
     let same : view_cell c.size place j ≡ line_cell first.size line j = a.cells j ∙ ap (λ (w : ℕ). line_cell w line j) e.size in
@@ -128,7 +128,7 @@ pub line_struck : (c : CandidatesValue) (line place : ℕ) (sets kept : List ℕ
     → AreSetsOf c place sets → IsWholeTally sets c.size t
     → ((k : ℕ) → k < c.size → IsKeptOf t (slice_index sets k) (slice_index kept k)) → (first : CandidatesValue) → IsEarlier first c
     → (cell v : ℕ) → IsLineStruck line first cell v
-    → (k : ℕ) × (k < c.size) × (view_cell c.size place k ≡ cell) × (has_mark (slice_index kept k) v ≡ false)
+    → (k : ℕ) × (k < c.size) × (view_cell c.size place k ≡ cell) × (has_number (slice_index kept k) v ≡ false)
 line_struck c line place sets kept t a is whole keeps first e cell v struck =
     let k = struck.index in
     let inside : k < c.size = omega (arith, struck.inside, e.size) in
@@ -136,7 +136,7 @@ line_struck c line place sets kept t a is whole keeps first e cell v struck =
       k,
       inside,
       here,
-      false_from_ne_true (has_mark (slice_index kept k) v) (λ has.
+      false_from_ne_true (has_number (slice_index kept k) v) (λ has.
           let stays = ((keeps k inside).only v has).1 in
           elim struck.why [
             | inl taken ↦

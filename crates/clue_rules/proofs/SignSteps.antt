@@ -1,15 +1,15 @@
 -- What a sign rules out in the squares on both its sides, and along a line.
 use Rattle.std.proofs.Common.{◌≡◌, ℕ, ◌*◌, ◌<◌, ◌≤◌, ◌↔◌, Bool, true, false, not, inl, inr, refl, sym, ap, ◌∙◌, subst, arith, ◌==◌}
 use Rattle.std.specs.Bool.{OnTrue, OnFalse}
-use Rattle.std.proofs.lemmas.Bool.{both_ways, false_from_ne_true, cases_eq, eq-eqb, ne_eqb}
-use Rattle.latin_board.specs.Marks.{has_mark}
+use Rattle.std.proofs.lemmas.Bool.{both_ways, false_from_ne_true, cases_eq, eq-eqb, ne_eqb, lt-ltb, le-ltb}
+use Rattle.number_sets.specs.Sets.{has_number}
 use Rattle.latin_board.specs.Squares.{GridValue, number_at}
-use Rattle.tower_lines.proofs.MarkLemmas.{mark-zero}
+use Rattle.number_sets.proofs.Members.{has_number-none}
 use Rattle.trail_solver.specs.Pairs.{IsPair}
-use Rattle.trail_solver.specs.Candidates.{CandidatesValue, IsEarlier, IsWithin, may_be}
+use Rattle.trail_solver.specs.Candidates.{CandidatesValue, IsSetOf, IsEarlier, IsWithin, may_be}
 use Rattle.trail_solver.specs.Puzzles.{Solves}
 use Rattle.trail_solver.proofs.Earlier.{was_left}
-use Rattle.clue_rules.specs.Inner.Narrowing.{IsStruckByLines, KeepsInSquare, Narrows, StruckBelow, IsSetOf}
+use Rattle.clue_rules.specs.Inner.Narrowing.{IsStruckByLines, KeepsInSquare, Narrows, StruckBelow}
 use Rattle.clue_rules.specs.Unequal.{UnequalValue, IsUnequal, IsGreater, unequal_puzzle}
 use Rattle.clue_rules.specs.Laws.Neighbours.{IsNext, next_line, next_inside}
 use Rattle.clue_rules.specs.Laws.Signs.{greater_next}
@@ -37,16 +37,16 @@ on_either true p = p
 on_either false p = tt
 
 square_narrows : {S : GridValue → Type 0} {T : CandidatesValue → ℕ → ℕ → Type 0} (old new : CandidatesValue) (cell kept : ℕ) (left : Bool)
-    → ((g : GridValue) → S g → g.size ≡ old.size → IsWithin old g → has_mark kept (number_at g cell) ≡ true)
+    → ((g : GridValue) → S g → g.size ≡ old.size → IsWithin old g → has_number kept (number_at g cell) ≡ true)
     → ((first : CandidatesValue) → IsEarlier first old → (at v : ℕ) → IsPair first.size at v → T first at v
-    → (at ≡ cell) × (has_mark kept v ≡ false))
+    → (at ≡ cell) × (has_number kept v ≡ false))
     → KeepsInSquare old new cell kept → left ≡ not (kept == 0) → Narrows S T old new left
 square_narrows old new cell kept left solved struck k is = record {
   less = k.less;
   keeps = λ g s size w. within_kept old new cell kept g k w (solved g s size w);
   refutes = by_answer kept left is (λ none g s size w.
-      let P : ℕ → Type 0 = λ m. has_mark m (number_at g cell) ≡ true in
-      both_ways (has_mark 0 (number_at g cell)) (mark-zero (number_at g cell)) (subst P none (solved g s size w)));
+      let P : ℕ → Type 0 = λ m. has_number m (number_at g cell) ≡ true in
+      both_ways (has_number 0 (number_at g cell)) (has_number-none (number_at g cell)) (subst P none (solved g s size w)));
   struck = on_either left (record {
     each = λ first e at v pair s.
         let gone = struck first e at v pair s in
@@ -59,7 +59,7 @@ square_narrows old new cell kept left solved struck k is = record {
 -- ---- both squares of a sign
 
 pub lesser_narrows : (old new : CandidatesValue) (ends : Ends) (set kept : ℕ) (left : Bool) → AreInside old.size ends
-    → IsSetOf old ends.greater set → ((v : ℕ) → (has_mark kept v ≡ true) ↔ ((u : ℕ) × (v < u) × (has_mark set u ≡ true)))
+    → IsSetOf old ends.greater set → ((v : ℕ) → (has_number kept v ≡ true) ↔ ((u : ℕ) × (v < u) × (has_number set u ≡ true)))
     → KeepsInSquare old new ends.lesser kept → left ≡ not (kept == 0)
     → Narrows (HoldsGreater ends) (IsLesserStruck ends) old new left
 lesser_narrows old new ends set kept left inside is below k answer =
@@ -68,7 +68,7 @@ lesser_narrows old new ends set kept left inside is below k answer =
     (below (number_at g ends.lesser)).1 (number_at g ends.greater, s.1, in_set old ends.greater set g is s.0 size w inside.0))
     (λ first e cell v pair s. (
       s.here,
-      false_from_ne_true (has_mark kept v) (λ has.
+      false_from_ne_true (has_number kept v) (λ has.
           let u = (below v).0 has in
           let left = (is u.0).0 u.2 in
           both_ways (may_be first ends.greater u.0) (s.none u.0 u.1 (omega (arith, left.0.high, e.size)))
@@ -78,7 +78,7 @@ lesser_narrows old new ends set kept left inside is below k answer =
 
 pub greater_narrows : (old new : CandidatesValue) (ends : Ends) (set kept : ℕ) (left : Bool) → old.size ≤ 9
     → AreInside old.size ends → IsSetOf old ends.lesser set
-    → ((v : ℕ) → v < 16 → (has_mark kept v ≡ true) ↔ ((u : ℕ) × (u < v) × (has_mark set u ≡ true)))
+    → ((v : ℕ) → v < 16 → (has_number kept v ≡ true) ↔ ((u : ℕ) × (u < v) × (has_number set u ≡ true)))
     → KeepsInSquare old new ends.greater kept → left ≡ not (kept == 0)
     → Narrows (HoldsGreater ends) (IsGreaterStruck ends) old new left
 greater_narrows old new ends set kept left small inside is above k answer =
@@ -89,7 +89,7 @@ greater_narrows old new ends set kept left small inside is above k answer =
     (number_at g ends.lesser, s.1, in_set old ends.lesser set g is s.0 size w inside.1))
     (λ first e cell v pair s. (
       s.here,
-      false_from_ne_true (has_mark kept v) (λ has.
+      false_from_ne_true (has_number kept v) (λ has.
           let u = (above v (omega (arith, pair.high, e.size))).0 has in
           let left = (is u.0).0 u.2 in
           both_ways (may_be first ends.lesser u.0) (s.none u.0 left.0.low u.1) (was_left first old ends.lesser u.0 e left.1)),

@@ -3,7 +3,7 @@ use Rattle.std.proofs.Common.{◌≡◌, ◌≢◌, ℕ, ◌+◌, ◌*◌, ◌<�
 use Rattle.std.proofs.lemmas.Bool.{false_from_ne_true, cases_lt, lt-ltb, le-ltb}
 use Rattle.std.proofs.lemmas.List.{get_or-take, length-take-le}
 use Rattle.std.proofs.lemmas.List.FromFn.{get_or-map-range_with_len}
-use Rattle.latin_board.specs.Marks.{has_mark}
+use Rattle.number_sets.specs.Sets.{has_number}
 use Rattle.latin_board.specs.Squares.{GridValue, number_at}
 use Rattle.latin_board.proofs.LatinLines.{line_differs, line_cell_inside}
 use Rattle.tower_lines.specs.TowersSeen.{seen}
@@ -95,8 +95,8 @@ view_filling c place clue sets g inside is small s size within shown =
             let has =
             in_set c (view_cell c.size place j) (slice_index sets j) g (is.each j in_c) s size within
             (view_inside c.size place j inside in_c) in
-            let P : ℕ → Type 0 = λ m. has_mark m (slice_index (view_of g place) j) ≡ true in
-            let Q : ℕ → Type 0 = λ v. has_mark (slice_index sets j) v ≡ true in
+            let P : ℕ → Type 0 = λ m. has_number m (slice_index (view_of g place) j) ≡ true in
+            let Q : ℕ → Type 0 = λ v. has_number (slice_index sets j) v ≡ true in
             subst P (sym (get_or-take c.size sets j 0 in_c)) (subst Q (sym here) has);
         apart = λ i j before low same.
             let i_in : i < g.size = omega arith in
@@ -110,7 +110,7 @@ view_filling c place clue sets g inside is small s size within shown =
 view_solved : (c : CandidatesValue) (place clue : ℕ) (sets kept : List ℕ) (g : GridValue) → place < 4 * c.size
     → AreSetsOf c place sets → c.size ≤ 9 → KeepSupported c.size clue sets kept → IsSquare g → seen (view_of g place) ≡ clue
     → g.size ≡ c.size → IsWithin c g → (k : ℕ) → k < c.size
-    → has_mark (slice_index kept k) (number_at g (view_cell c.size place k)) ≡ true
+    → has_number (slice_index kept k) (number_at g (view_cell c.size place k)) ≡ true
 view_solved c place clue sets kept g inside is small supported s shown size within k low =
     let long : length (take c.size sets) ≡ c.size = length-take-le c.size sets (omega (arith, is.count)) in
     supported k (number_at g (view_cell c.size place k)) (record {
@@ -129,7 +129,7 @@ filling_earlier first c place clue sets line e is small f =
     let whole : length line ≡ c.size = f.whole ∙ long in
     let left : (k : ℕ) → k < c.size → IsPair c.size (view_cell c.size place k) (slice_index line k) × (may_be c (view_cell c.size place k) (slice_index line k) ≡ true) =
     λ k low.
-    let P : ℕ → Type 0 = λ m. has_mark m (slice_index line k) ≡ true in
+    let P : ℕ → Type 0 = λ m. has_number m (slice_index line k) ≡ true in
     (is.each k low (slice_index line k)).0 (subst P (get_or-take c.size sets k 0 low) (f.start.candidates k (omega arith))) in
     let Left : ℕ → Type 0 = λ w. (k : ℕ) → k < w → IsPair w (view_cell w place k) (slice_index line k) × (may_be c (view_cell w place k) (slice_index line k) ≡ true) in
     let there : Left first.size = subst Left e.size left in
@@ -144,12 +144,12 @@ filling_earlier first c place clue sets line e is small f =
 view_struck : (c : CandidatesValue) (place clue : ℕ) (sets kept : List ℕ) → AreSetsOf c place sets → c.size ≤ 9
     → AreSupported c.size clue sets kept → (first : CandidatesValue) → IsEarlier first c → (cell v : ℕ)
     → IsViewStruck place clue first cell v
-    → (k : ℕ) × (k < c.size) × (view_cell c.size place k ≡ cell) × (has_mark (slice_index kept k) v ≡ false)
+    → (k : ℕ) × (k < c.size) × (view_cell c.size place k ≡ cell) × (has_number (slice_index kept k) v ≡ false)
 view_struck c place clue sets kept is small supported first e cell v s = (
   s.index,
   omega (arith, s.inside, e.size),
   ap (λ (w : ℕ). view_cell w place s.index) e.size ∙ s.here,
-  false_from_ne_true (has_mark (slice_index kept s.index) v) (λ has.
+  false_from_ne_true (has_number (slice_index kept s.index) v) (λ has.
       let found = supported s.index v (omega (arith, s.inside, e.size)) has in
       s.unfilled.none found.line (filling_earlier first c place clue sets found.line e is small found.filling) found.here),
 )

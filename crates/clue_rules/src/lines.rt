@@ -4,6 +4,5 @@ pub(crate) mod changed;
 pub(crate) mod given_squares;
 pub(crate) mod latin;
 pub(crate) mod narrowing;
-pub(crate) mod value_sets;
 pub(crate) mod view_candidates;
 pub(crate) mod views;

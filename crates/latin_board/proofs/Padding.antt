@@ -5,9 +5,10 @@ use Rattle.std.proofs.lemmas.List.Elements.{All-replicate}
 use Rattle.std.proofs.lemmas.Nat.{mul-le}
 use Rattle.std.proofs.lemmas.Bool.{false≢true}
 use Rattle.latin_board.specs.declared.grid.TheConstants.{CELLS}
-use Rattle.latin_board.specs.Fields.{IsPadded, KeepsNumbers, KeepsMarks}
-use Rattle.latin_board.specs.Marks.{no_marks, IsMarkSet}
-use Rattle.latin_board.proofs.MarkSets.{IsMarkSet-no_marks, has_mark-no_marks}
+use Rattle.latin_board.specs.Inner.Fields.{IsPadded, KeepsNumbers, KeepsMarks}
+use Rattle.number_sets.specs.Sets.{no_numbers}
+use Rattle.number_sets.proofs.Members.{has_number-none}
+use Rattle.latin_board.specs.Marks.{IsMarkSet}
 
 pub IsPadded-empty : (w : ℕ) → IsPadded w (replicate CELLS 0)
 IsPadded-empty w = record { count = refl; rest = drop-replicate (w * w) CELLS 0 }
@@ -20,11 +21,11 @@ KeepsNumbers-empty w low high = record {
   within = All-replicate (λ n. n ≤ w) CELLS 0 (omega arith);
 }
 
-pub KeepsMarks-empty : (w : ℕ) → KeepsMarks w (replicate CELLS 0) no_marks
+pub KeepsMarks-empty : (w : ℕ) → KeepsMarks w (replicate CELLS 0) no_numbers
 KeepsMarks-empty w = record {
   padded = IsPadded-empty w;
-  within = All-replicate (IsMarkSet w) CELLS 0 (IsMarkSet-no_marks w);
-  done_within = λ place h. absurd (false≢true (sym (has_mark-no_marks place) ∙ h));
+  within = All-replicate (IsMarkSet w) CELLS 0 (record { each = λ n h. absurd (false≢true (sym (has_number-none n) ∙ h)) });
+  done_within = λ place h. absurd (false≢true (sym (has_number-none place) ∙ h));
 }
 
 -- the squares of an empty list are empty

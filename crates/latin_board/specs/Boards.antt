@@ -1,7 +1,8 @@
 -- The board of a game: numbers, pencil marks, two flags and the done marks of edge clues.
 use Rattle.std.specs.Prelude.{◌≡◌, ℕ, ◌*◌, ◌<◌, Bool, true, false, List, length, slice_index, replicate, All}
 use Rattle.latin_board.specs.Squares.{GridValue, IsGrid}
-use Rattle.latin_board.specs.Marks.{has_mark, no_marks, flip_mark, IsMarkSet}
+use Rattle.number_sets.specs.Sets.{has_number, no_numbers, flip_number}
+use Rattle.latin_board.specs.Marks.{IsMarkSet}
 
 pub record BoardValue : Type 0 where
   pub size : ℕ
@@ -21,7 +22,7 @@ marks_at b cell = slice_index b.marks cell
 
 -- whether the edge clue at a place is marked as done
 abbrev pub is_done : BoardValue → ℕ → Bool
-is_done b place = has_mark b.done place
+is_done b place = has_number b.done place
 
 -- what each board of the program keeps
 pub record IsBoard (b : BoardValue) : Type 0 where
@@ -35,12 +36,12 @@ abbrev pub start_board : GridValue → BoardValue
 start_board g = record {
   size = g.size;
   numbers = g.numbers;
-  marks = replicate (g.size * g.size) no_marks;
+  marks = replicate (g.size * g.size) no_numbers;
   completed = false;
   cheated = false;
-  done = no_marks;
+  done = no_numbers;
 }
 
 -- the board with the done mark of one edge clue flipped
 abbrev pub with_done_flipped : BoardValue → ℕ → BoardValue
-with_done_flipped b place = record b { done = flip_mark b.done place }
+with_done_flipped b place = record b { done = flip_number b.done place }

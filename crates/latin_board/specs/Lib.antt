@@ -1,4 +1,4 @@
--- Grids, lines, marks, boards, changes and edge places as values, and what the fields of the types keep of them.
+-- Grids, lines, marks, boards, changes and edge places as values.
 pub mod Squares
 pub mod Lines
 pub mod Marks
@@ -6,5 +6,5 @@ pub mod Boards
 pub mod Changes
 pub mod Edges
 pub mod Sameness
-pub mod Fields
-pub mod Contents
+-- what the fields of the types keep of them
+pub mod Inner

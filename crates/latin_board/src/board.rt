@@ -4,8 +4,9 @@
 
 ghost use Rattle.std.specs.Prelude.{◌≡◌, ℕ, ◌+◌, ◌*◌, ◌<◌, ◌≤◌, ◌↔◌, ◌==◌, not, IsTrue, if◌then◌else◌, slice_set, replicate};
 ghost use Rattle.std.specs.Cmp.{decided, partial_equiv_from_equiv};
+ghost use Rattle.number_sets.specs.Sets.{no_numbers};
 ghost use Rattle.latin_board.specs.Squares.{number_at};
-ghost use Rattle.latin_board.specs.Marks.{IsMarkSet, no_marks};
+ghost use Rattle.latin_board.specs.Marks.{IsMarkSet};
 ghost use Rattle.latin_board.specs.Boards.{IsBoard, grid_of, marks_at, is_done, start_board, with_done_flipped};
 ghost use Rattle.latin_board.specs.Changes.{FitsBoard, board_after, change_after};
 ghost use Rattle.latin_board.specs.Sameness.{same_board, same_board_decides};
@@ -37,7 +38,7 @@ impl Model for Board {
     ghost use Rattle.std.proofs.Common.{ap};
     ghost use Rattle.latin_board.specs.declared.grid.TheConstants.{CELLS};
     ghost use Rattle.latin_board.specs.Boards.{BoardValue};
-    ghost use Rattle.latin_board.specs.Fields.{KeepsMarks, front_and_rest};
+    ghost use Rattle.latin_board.specs.Inner.Fields.{KeepsMarks, front_and_rest};
 
     ghost Value = { BoardValue };
 
@@ -233,7 +234,7 @@ impl Board {
 
 // The places of a board without pencil marks.
 fn empty_marks() -> [Marks; CELLS]
-    ensures { result ≡ replicate CELLS no_marks }
+    ensures { result ≡ replicate CELLS no_numbers }
 {
     [Marks::empty(); CELLS]
 }

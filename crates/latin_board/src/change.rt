@@ -38,7 +38,7 @@ impl Model for Change {
 
     ghost Value = { ChangeValue };
 
-    ghost use Rattle.latin_board.specs.Contents.{change_value};
+    ghost use Rattle.latin_board.specs.Inner.Contents.{change_value};
 
     ghost view = { λ c. change_value c.content };
 }

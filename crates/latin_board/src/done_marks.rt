@@ -1,7 +1,7 @@
 //! The edge clues of a board that are marked as done, as a set of places.
 
 ghost use Rattle.std.specs.Prelude.{◌≡◌, ℕ, ◌<◌, ◌==◌, not, if◌then◌else◌};
-ghost use Rattle.latin_board.specs.Marks.{has_mark, no_marks, flip_mark};
+ghost use Rattle.number_sets.specs.Sets.{has_number, no_numbers, flip_number};
 
 use std::marker::Model;
 
@@ -21,23 +21,23 @@ impl Model for DoneMarks {
 
 impl DoneMarks {
     pub fn empty() -> DoneMarks
-        ensures { result ≡ no_marks }
+        ensures { result ≡ no_numbers }
     {
         DoneMarks { bits: 0 }
     }
 
     pub fn has(self, place: u8) -> bool
         requires { place < 64 }
-        ensures { result ≡ has_mark self place }
+        ensures { result ≡ has_number self place }
     {
         (self.bits >> place) & 1 == 1
     }
 
     pub fn flip(&mut self, place: u8)
         requires { place < 64 }
-        ensures value { self.new ≡ flip_mark self.old place }
-        ensures members { (other : ℕ) → has_mark self.new other
-            ≡ (if other == place then not (has_mark self.old other) else has_mark self.old other) }
+        ensures value { self.new ≡ flip_number self.old place }
+        ensures members { (other : ℕ) → has_number self.new other
+            ≡ (if other == place then not (has_number self.old other) else has_number self.old other) }
     {
         self.bits ^= 1 << place;
     }

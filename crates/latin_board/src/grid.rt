@@ -29,7 +29,7 @@ impl Model for Grid {
     ghost use Rattle.std.proofs.Common.{ap};
     ghost use Rattle.latin_board.specs.declared.grid.TheConstants.{CELLS};
     ghost use Rattle.latin_board.specs.Squares.{GridValue};
-    ghost use Rattle.latin_board.specs.Fields.{KeepsNumbers, front_and_rest};
+    ghost use Rattle.latin_board.specs.Inner.Fields.{KeepsNumbers, front_and_rest};
 
     ghost Value = { GridValue };
 

@@ -7,7 +7,7 @@ use Rattle.std.proofs.lemmas.List.FromFn.{fill_by_all}
 use Rattle.std.proofs.lemmas.Grind.{same_number_lists}
 use Rattle.trail_solver.specs.Puzzles.{Puzzle}
 use Rattle.latin_board.specs.Squares.{GridValue, IsGrid, number_at}
-use Rattle.latin_board.specs.Marks.{no_marks}
+use Rattle.number_sets.specs.Sets.{no_numbers}
 use Rattle.latin_board.specs.Boards.{BoardValue, grid_of}
 use Rattle.latin_board.specs.Changes.{OneSquare, board_after}
 use Rattle.play_midend.specs.Steps.{marks_of_all, all_marked, filled, givens_of}
@@ -55,7 +55,7 @@ pub record HasNumbers (board next : BoardValue) (grid : GridValue) (i : ℕ) : T
   pub size : next.size ≡ board.size
   pub done : next.done ≡ board.done
   pub numbers : PlacesHold (number_at grid) (board.size * board.size) i next.numbers
-  pub marks : PlacesHold (λ _. no_marks) (board.size * board.size) i next.marks
+  pub marks : PlacesHold (λ _. no_numbers) (board.size * board.size) i next.marks
   pub completed : 0 < i → next.completed ≡ true
   pub cheated : 0 < i → next.cheated ≡ true
 
@@ -99,7 +99,7 @@ numbers_all board next grid i h valid size all =
     let some : 0 < i = grind arith in
     let long : length grid.numbers ≡ n = valid.count ∙ ap (λ w. w * w) size in
     let numbers = places_same n i grid.numbers next.numbers h.numbers all long in
-    let marks = places_alike n i no_marks next.marks h.marks all in
+    let marks = places_alike n i no_numbers next.marks h.marks all in
     let completed = h.completed some in
     let cheated = h.cheated some in
     λ k. record {

@@ -4,7 +4,7 @@ use Rattle.std.specs.Option.{option_map_or, option_or}
 use Rattle.std.specs.List.{range_with_len}
 use Rattle.std.specs.Result.{result_unwrap_or}
 use Rattle.latin_board.specs.Squares.{GridValue, number_at}
-use Rattle.latin_board.specs.Marks.{no_marks, full_marks, flip_mark}
+use Rattle.number_sets.specs.Sets.{no_numbers, numbers_to, flip_number}
 use Rattle.latin_board.specs.Boards.{BoardValue, grid_of, marks_at, start_board, with_done_flipped}
 use Rattle.latin_board.specs.Changes.{ChangeValue, FitsBoard, board_after, change_after}
 use Rattle.latin_board.specs.Edges.{edge_place}
@@ -46,17 +46,17 @@ refusal_of p b (Done x y) = if has_clue p x y then None else Some OffGrid
 abbrev pub with_number : Puzzle → BoardValue → ℕ → ℕ → BoardValue
 with_number p b cell n = record b {
   numbers = slice_set b.numbers cell n;
-  marks = slice_set b.marks cell no_marks;
+  marks = slice_set b.marks cell no_numbers;
   completed = b.completed || solves_test p (record { size = b.size; numbers = slice_set b.numbers cell n });
 }
 
 -- the board with one pencil mark flipped
 abbrev pub with_mark_flipped : BoardValue → ℕ → ℕ → BoardValue
-with_mark_flipped b cell n = record b { marks = slice_set b.marks cell (flip_mark (marks_at b cell) n) }
+with_mark_flipped b cell n = record b { marks = slice_set b.marks cell (flip_number (marks_at b cell) n) }
 
 -- the board with all marks at each square without a number
 abbrev pub marks_of_all : BoardValue → ℕ → ℕ
-marks_of_all b cell = if number_at (grid_of b) cell == 0 then full_marks b.size else marks_at b cell
+marks_of_all b cell = if number_at (grid_of b) cell == 0 then numbers_to b.size else marks_at b cell
 
 abbrev pub all_marked : BoardValue → BoardValue
 all_marked b = record b { marks = map (marks_of_all b) (range_with_len 0 (b.size * b.size)) }
@@ -65,7 +65,7 @@ all_marked b = record b { marks = map (marks_of_all b) (range_with_len 0 (b.size
 abbrev pub filled : BoardValue → GridValue → BoardValue
 filled b g = record b {
   numbers = g.numbers;
-  marks = replicate (b.size * b.size) no_marks;
+  marks = replicate (b.size * b.size) no_numbers;
   completed = true;
   cheated = true;
 }

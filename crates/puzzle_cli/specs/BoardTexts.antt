@@ -2,7 +2,7 @@
 use Rattle.std.specs.Prelude.{ℕ, ◌*◌, ◌/◌, ◌%◌, ◌==◌, if◌then◌else◌, List, [], ◌∷◌, ◌++◌, length, map, filter, codes}
 use Rattle.std.specs.List.{range_with_len, flat_map}
 use Rattle.std.specs.Fmt.{decimal}
-use Rattle.latin_board.specs.Marks.{has_mark}
+use Rattle.number_sets.specs.Sets.{has_number}
 use Rattle.latin_board.specs.Boards.{BoardValue, marks_at, is_done}
 use Rattle.latin_board.specs.Edges.{edge_xy}
 use Rattle.play_midend.specs.MoveTexts.{coordinate_text}
@@ -14,7 +14,7 @@ lines_or sentence lines = if length lines == 0 then sentence ++ line_feed ∷ []
 
 -- the numbers of a set of marks, as digits in rising order
 abbrev pub mark_digits : ℕ → List ℕ
-mark_digits marks = map digit (filter (has_mark marks) (range_with_len 1 9))
+mark_digits marks = map digit (filter (has_number marks) (range_with_len 1 9))
 
 -- the line of a square, if it has marks: its place and its marks
 abbrev pub marks_line : BoardValue → ℕ → List ℕ

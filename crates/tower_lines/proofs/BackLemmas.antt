@@ -4,36 +4,39 @@ use Rattle.std.proofs.lemmas.Bool.{cases_eq, both_ways, or_cases, or_left, or_ri
 use Rattle.std.proofs.lemmas.Nat.{ones-le}
 use Rattle.std.proofs.lemmas.List.{append-nil, nil_from_length, get_or-set_same, get_or-set_other}
 use Rattle.tower_lines.specs.TowersSeen.{seen, seen_after}
-use Rattle.tower_lines.specs.LineFillings.{has_bit, IsStart}
-use Rattle.tower_lines.specs.LineMasks.{IsMask, AreFrontCounts, IsEnd, AreBackCounts, IsPassed}
-use Rattle.tower_lines.proofs.MarkLemmas.{added_with, added_without, added_other, added_ones, added_below, mark-zero, mark-or, mark-pow, mark-pow_same, below_from_marks, IsShared}
+use Rattle.number_sets.specs.Sets.{has_number}
+use Rattle.tower_lines.specs.LineFillings.{IsStart}
+use Rattle.tower_lines.specs.Inner.LineMasks.{AreNextValues, IsMask, AreFrontCounts, IsEnd, AreBackCounts, IsPassed}
+use Rattle.number_sets.proofs.OneMore.{added_with, added_without, added_other, added_ones, added_below}
+use Rattle.number_sets.proofs.Members.{has_number-none, has_number-or, number_of_one, has_number-one_same, below_from_numbers}
+use Rattle.number_sets.specs.Sets.{IsShared}
 use Rattle.tower_lines.proofs.MaskLemmas.{mask_more, mask-ones, tower, seen-next, seen-more}
-use Rattle.tower_lines.proofs.NextValues.{IsNext, AreNextValues, next_in, next_from_bit, next_rest, bit_from_start}
+use Rattle.tower_lines.proofs.NextValues.{IsNext, next_in, next_from_bit, next_rest, bit_from_start}
 use Rattle.tower_lines.proofs.SeenLemmas.{seen-append}
 use Rattle.tower_lines.proofs.StartLemmas.{IsNextValue, start_front, start_next, start_more}
 
 -- the counts from which a start with the mask can go on with k + 1 and show the clue
 pub record IsBackBy (sets : List ℕ) (clue mask k counts : ℕ) : Type 0 where
-  pub only : (p : List ℕ) → IsStart sets p → IsMask mask p → (c : ℕ) → has_bit counts c ≡ true
+  pub only : (p : List ℕ) → IsStart sets p → IsMask mask p → (c : ℕ) → has_number counts c ≡ true
       → (s : List ℕ) × IsEnd sets clue c p ((k + 1) ∷ s)
-  pub all : (p s : List ℕ) → IsMask mask p → IsEnd sets clue (seen p) p ((k + 1) ∷ s) → has_bit counts (seen p) ≡ true
+  pub all : (p s : List ℕ) → IsMask mask p → IsEnd sets clue (seen p) p ((k + 1) ∷ s) → has_number counts (seen p) ≡ true
 
 -- the same for every next value that isn't left, and those of these values that a filling has
 pub record IsBackBut (sets : List ℕ) (clue mask left counts passed : ℕ) : Type 0 where
-  pub next : (k : ℕ) → has_bit left k ≡ true → IsNext sets mask k
-  pub only : (p : List ℕ) → IsStart sets p → IsMask mask p → (c : ℕ) → has_bit counts c ≡ true → (s : List ℕ) × IsEnd sets clue c p s
-  pub all : (p s : List ℕ) (k : ℕ) → has_bit left k ≡ false → IsMask mask p → IsEnd sets clue (seen p) p ((k + 1) ∷ s)
-      → has_bit counts (seen p) ≡ true
-  pub passed_only : (k : ℕ) → has_bit passed k ≡ true → IsPassed sets clue mask (k + 1)
-  pub passed_all : (k : ℕ) → has_bit left k ≡ false → IsPassed sets clue mask (k + 1) → has_bit passed k ≡ true
+  pub next : (k : ℕ) → has_number left k ≡ true → IsNext sets mask k
+  pub only : (p : List ℕ) → IsStart sets p → IsMask mask p → (c : ℕ) → has_number counts c ≡ true → (s : List ℕ) × IsEnd sets clue c p s
+  pub all : (p s : List ℕ) (k : ℕ) → has_number left k ≡ false → IsMask mask p → IsEnd sets clue (seen p) p ((k + 1) ∷ s)
+      → has_number counts (seen p) ≡ true
+  pub passed_only : (k : ℕ) → has_number passed k ≡ true → IsPassed sets clue mask (k + 1)
+  pub passed_all : (k : ℕ) → has_number left k ≡ false → IsPassed sets clue mask (k + 1) → has_number passed k ≡ true
 
 pub back_step : {sets : List ℕ} {clue mask k after counts : ℕ} (value : ℕ) → mask < 2 ^ length sets → IsNext sets mask k → value ≡ 2 ^ k
     → AreBackCounts sets clue (mask + value) after
-    → ((c : ℕ) → has_bit counts c ≡ has_bit after (c + cond (ltb mask value) 1 0)) → IsBackBy sets clue mask k counts
+    → ((c : ℕ) → has_number counts c ≡ has_number after (c + cond (ltb mask value) 1 0)) → IsBackBy sets clue mask k counts
 back_step {sets} {clue} {mask} {k} {after} {counts} value inside next is table lowered =
     let a = added_with mask k (mask + 2 ^ k) next.fresh refl in
     let back : AreBackCounts sets clue (mask + 2 ^ k) after = rw is at table in
-    let down : (c : ℕ) → has_bit counts c ≡ has_bit after (c + tower mask k) = rw is at lowered in
+    let down : (c : ℕ) → has_number counts c ≡ has_number after (c + tower mask k) = rw is at lowered in
     let n = added_ones a in
     let most = ones-le (length sets) (mask + 2 ^ k) (added_below a (length sets) inside next.small) in
     record {
@@ -64,7 +67,7 @@ back_step {sets} {clue} {mask} {k} {after} {counts} value inside next is table l
             whole = rw whole end.whole;
             shown = omega (arith, more, seen-next p s k used, end.shown);
           } in
-          down (seen p) ∙ ap (λ n. has_bit after n) (sym more) ∙ there;
+          down (seen p) ∙ ap (λ n. has_number after n) (sym more) ∙ there;
     }
 
 -- a line without squares left
@@ -72,7 +75,7 @@ pub back_full : {sets : List ℕ} {clue mask counts : ℕ} → count_ones mask �
     → AreBackCounts sets clue mask counts
 back_full {sets} {clue} {mask} {counts} full is = record {
   only = λ p start used c e.
-      let same = mark-pow clue c (rw is at e) in
+      let same = number_of_one clue c (rw is at e) in
       let n = mask-ones p start used in
       ([], record { start = rw append-nil start; whole = rw append-nil (sym n ∙ full); shown = omega arith });
   all = λ p s used end.
@@ -80,23 +83,23 @@ back_full {sets} {clue} {mask} {counts} full is = record {
       let none : s ≡ [] = nil_from_length s (omega (arith, length-append p s, end.whole)) in
       let shown : seen p + 0 ≡ clue = rw none at end.shown in
       let same : seen p ≡ clue = omega arith in
-      rw (is, same) (mark-pow_same clue);
+      rw (is, same) (has_number-one_same clue);
 }
 
 -- a mask that no start has
 pub back_unreached : {sets : List ℕ} {clue mask : ℕ} → AreFrontCounts sets clue mask 0 → AreBackCounts sets clue mask 0
 back_unreached {sets} {clue} {mask} front = record {
-  only = λ p start used c e. absurd (both_ways (has_bit 0 c) (mark-zero c) e);
-  all = λ p s used end. absurd (both_ways (has_bit 0 (seen p)) (mark-zero (seen p)) (front.all p (start_front p s end.start) used (omega (arith, end.shown))));
+  only = λ p start used c e. absurd (both_ways (has_number 0 c) (has_number-none c) e);
+  all = λ p s used end. absurd (both_ways (has_number 0 (seen p)) (has_number-none (seen p)) (front.all p (start_front p s end.start) used (omega (arith, end.shown))));
 }
 
 pub back_none : {sets : List ℕ} {clue mask left : ℕ} → AreNextValues sets mask left → IsBackBut sets clue mask left 0 0
 back_none {sets} {clue} {mask} {left} bits = record {
   next = next_from_bit bits;
-  only = λ p start used c e. absurd (both_ways (has_bit 0 c) (mark-zero c) e);
-  all = λ p s k e used end. absurd (both_ways (has_bit left k) e (bit_from_start bits p k s end.start used));
-  passed_only = λ k e. absurd (both_ways (has_bit 0 k) (mark-zero k) e);
-  passed_all = λ k e h. absurd (both_ways (has_bit left k) e (bit_from_start bits h.before k h.after h.filling.start h.used));
+  only = λ p start used c e. absurd (both_ways (has_number 0 c) (has_number-none c) e);
+  all = λ p s k e used end. absurd (both_ways (has_number left k) e (bit_from_start bits p k s end.start used));
+  passed_only = λ k e. absurd (both_ways (has_number 0 k) (has_number-none k) e);
+  passed_all = λ k e h. absurd (both_ways (has_number left k) e (bit_from_start bits h.before k h.after h.filling.start h.used));
 }
 
 -- the starts that show a count, and the counts from which the clue can be shown, meet in a filling
@@ -129,30 +132,30 @@ shared_from_passed {sets} {clue} {mask} {k} front back h =
       },
     )
 
-pub back_more : {sets : List ℕ} {clue mask left counts passed k more rest reached : ℕ} (value shared : ℕ) → has_bit left k ≡ true
+pub back_more : {sets : List ℕ} {clue mask left counts passed k more rest reached : ℕ} (value shared : ℕ) → has_number left k ≡ true
     → value ≡ 2 ^ k → rest + value ≡ left
     → IsBackBut sets clue mask left counts passed → AreFrontCounts sets clue mask reached → IsBackBy sets clue mask k more
-    → ((j : ℕ) → (has_bit shared j ≡ true) ↔ ((has_bit value j ≡ true) × IsShared reached more))
+    → ((j : ℕ) → (has_number shared j ≡ true) ↔ ((has_number value j ≡ true) × IsShared reached more))
     → IsBackBut sets clue mask rest (bit_or counts more) (bit_or passed shared)
 back_more {sets} {clue} {mask} {left} {counts} {passed} {k} {more} {rest} {reached} value shared used is sum back front by met =
     let a = added_without rest k left used (rw is at sum) in
-    let value_is = λ (j : ℕ) (e : has_bit value j ≡ true). mark-pow k j (rw is at e) in
+    let value_is = λ (j : ℕ) (e : has_number value j ≡ true). number_of_one k j (rw is at e) in
     record {
       next = next_rest k rest used (rw is at sum) back.next;
-      only = λ p start m c e. elim (or_cases _ _ (sym (mark-or counts more c) ∙ e)) [
+      only = λ p start m c e. elim (or_cases _ _ (sym (has_number-or counts more c) ∙ e)) [
         | inl f ↦ back.only p start m c f
         | inr f ↦ (let r = by.only p start m c f in ((k + 1) ∷ r.0, r.1))
       ];
-      all = λ p s j e m end. mark-or counts more (seen p) ∙ elim (cases_eq j k) [
+      all = λ p s j e m end. has_number-or counts more (seen p) ∙ elim (cases_eq j k) [
         | inl same ↦ or_right _ _ (by.all p s m (let P : ℕ → Type 0 = λ i. IsEnd sets clue (seen p) p ((i + 1) ∷ s) in subst P same end))
         | inr other ↦ or_left _ _ (back.all p s j (added_other a j other ∙ e) m end)
       ];
-      passed_only = λ j e. elim (or_cases _ _ (sym (mark-or passed shared j) ∙ e)) [
+      passed_only = λ j e. elim (or_cases _ _ (sym (has_number-or passed shared j) ∙ e)) [
         | inl f ↦ back.passed_only j f
         | inr f ↦ (let r = (met j).0 f in let P : ℕ → Type 0 = λ i. IsPassed sets clue mask (i + 1) in subst P (sym (value_is j r.0)) (passed_from_shared front by r.1))
       ];
-      passed_all = λ j e h. mark-or passed shared j ∙ elim (cases_eq j k) [
-        | inl same ↦ or_right _ _ ((met j).1 (rw (same, is) (mark-pow_same k), shared_from_passed front by (let P : ℕ → Type 0 = λ i. IsPassed sets clue mask (i + 1) in subst P same h)))
+      passed_all = λ j e h. has_number-or passed shared j ∙ elim (cases_eq j k) [
+        | inl same ↦ or_right _ _ ((met j).1 (rw (same, is) (has_number-one_same k), shared_from_passed front by (let P : ℕ → Type 0 = λ i. IsPassed sets clue mask (i + 1) in subst P same h)))
         | inr other ↦ or_left _ _ (back.passed_all j (added_other a j other ∙ e) h)
       ];
     }
@@ -164,7 +167,7 @@ back_all {sets} {clue} {mask} {counts} {passed} room back = record {
   all = λ p s used end. each p s used end;
 }
   where
-    each : (p s : List ℕ) → IsMask mask p → IsEnd sets clue (seen p) p s → has_bit counts (seen p) ≡ true
+    each : (p s : List ℕ) → IsMask mask p → IsEnd sets clue (seen p) p s → has_number counts (seen p) ≡ true
     each p [] used end =
         let n = mask-ones p (start_front p [] end.start) used in
         absurd (omega (arith, rw append-nil at end.whole))
@@ -172,12 +175,12 @@ back_all {sets} {clue} {mask} {counts} {passed} room back = record {
         let low = (start_next p v s end.start).low in
         let e : v ≡ (v - 1) + 1 = omega arith in
         let P : ℕ → Type 0 = λ i. IsEnd sets clue (seen p) p (i ∷ s) in
-        back.all p s (v - 1) (mark-zero (v - 1)) used (subst P e end)
+        back.all p s (v - 1) (has_number-none (v - 1)) used (subst P e end)
 
 pub passed_values_small : {sets : List ℕ} {clue mask counts passed : ℕ} → IsBackBut sets clue mask 0 counts passed
     → passed < 2 ^ length sets
 passed_values_small {sets} {clue} {mask} {counts} {passed} back =
-    below_from_marks passed (length sets) (λ j l. false_from_ne_true (has_bit passed j) (λ e.
+    below_from_numbers passed (length sets) (λ j l. false_from_ne_true (has_number passed j) (λ e.
     let h = back.passed_only j e in
     absurd (omega (arith, (next_in h.before j h.after h.filling.start h.used).small))))
 

@@ -4,17 +4,19 @@ use Rattle.std.proofs.lemmas.Bool.{cases_eq, cases_lt, both_ways, or_cases, or_l
 use Rattle.std.proofs.lemmas.Nat.{ones-le}
 use Rattle.std.proofs.lemmas.List.{get_or-set_same, get_or-set_other}
 use Rattle.tower_lines.specs.TowersSeen.{seen}
-use Rattle.tower_lines.specs.LineFillings.{has_bit, IsStart}
-use Rattle.tower_lines.specs.LineMasks.{IsMask, AreFrontCounts, AreCountsSoFar, AreDoneBelow}
-use Rattle.tower_lines.proofs.MarkLemmas.{added_with, added_without, added_above, added_below, added_other, mark-zero, mark-or, added_ones, below_from_mark}
+use Rattle.number_sets.specs.Sets.{has_number}
+use Rattle.tower_lines.specs.LineFillings.{IsStart}
+use Rattle.tower_lines.specs.Inner.LineMasks.{AreNextValues, IsMask, AreFrontCounts, AreCountsSoFar, AreDoneBelow}
+use Rattle.number_sets.proofs.OneMore.{added_with, added_without, added_above, added_below, added_other, added_ones}
+use Rattle.number_sets.proofs.Members.{has_number-none, has_number-or, below_from_number}
 use Rattle.tower_lines.proofs.MaskLemmas.{mask_none, mask_more, mask_of, mask_unique, mask-ones, tower, seen-more}
-use Rattle.tower_lines.proofs.NextValues.{IsNext, AreNextValues, bit_from_start}
+use Rattle.tower_lines.proofs.NextValues.{IsNext, bit_from_start}
 use Rattle.tower_lines.proofs.SeenLemmas.{seen-append}
 use Rattle.tower_lines.proofs.StartLemmas.{IsNextValue, start_front, start_next, start_more}
 
 -- what is done while the values of a mask are gone through: the masks below it, and its values that aren't left
 abbrev pub IsDone : ℕ → ℕ → ℕ → ℕ → Type 0
-IsDone mask left rest k = (rest < mask) ⊎ ((rest ≡ mask) × (has_bit left k ≡ false))
+IsDone mask left rest k = (rest < mask) ⊎ ((rest ≡ mask) × (has_number left k ≡ false))
 
 -- the same for a whole table
 pub record AreDoneBut (sets : List ℕ) (clue mask left : ℕ) (front : List ℕ) : Type 0 where
@@ -45,7 +47,7 @@ front_done {sets} {clue} {mask} {from} {counts} below h = record {
     last_split x [] = ([], x, refl)
     last_split x (y ∷ p) = let r = last_split y p in (x ∷ r.0, r.1, ap (λ s. x ∷ s) r.2)
 
-    each : (p : List ℕ) → IsStart sets p → IsMask mask p → seen p ≤ clue → has_bit counts (seen p) ≡ true
+    each : (p : List ℕ) → IsStart sets p → IsMask mask p → seen p ≤ clue → has_number counts (seen p) ≡ true
     each [] start used few = h.first (mask_unique [] used mask_none)
     each (x ∷ p) start used few =
         let r = last_split x p in
@@ -59,26 +61,26 @@ front_done {sets} {clue} {mask} {from} {counts} below h = record {
         let fresh = before.used.bits k ∙ (start_next r.0 (k + 1) [] start').fresh in
         let a = added_with before.mask k (before.mask + 2 ^ k) fresh refl in
         let is : mask ≡ before.mask + 2 ^ k = mask_unique {m = mask} {n = before.mask + 2 ^ k} (r.0 ++ (k + 1) ∷ []) used' (mask_more r.0 before.used a) in
-        let P : List ℕ → Type 0 = λ l. IsStart sets l → IsMask mask l → seen l ≤ clue → has_bit counts (seen l) ≡ true in
+        let P : List ℕ → Type 0 = λ l. IsStart sets l → IsMask mask l → seen l ≤ clue → has_number counts (seen l) ≡ true in
         subst P (sym whole) (h.all r.0 k before.mask before.used (omega (arith, added_above a))) start used few
 
 -- ---- one value more
 
 -- what the starts with the mask show with the value k + 1
 pub record AreCountsBy (sets : List ℕ) (clue mask k counts : ℕ) : Type 0 where
-  pub only : (c : ℕ) → has_bit counts c ≡ true → (p : List ℕ) × IsStart sets p × IsMask (mask + 2 ^ k) p × (seen p ≡ c)
+  pub only : (c : ℕ) → has_number counts c ≡ true → (p : List ℕ) × IsStart sets p × IsMask (mask + 2 ^ k) p × (seen p ≡ c)
   pub all : (q : List ℕ) → IsMask mask q → IsStart sets (q ++ (k + 1) ∷ []) → seen (q ++ (k + 1) ∷ []) ≤ clue
-      → has_bit counts (seen (q ++ (k + 1) ∷ [])) ≡ true
+      → has_number counts (seen (q ++ (k + 1) ∷ [])) ≡ true
 
 pub front_step : {sets : List ℕ} {clue mask k counts more : ℕ} (value : ℕ) → mask < 2 ^ length sets → IsNext sets mask k → value ≡ 2 ^ k
     → AreFrontCounts sets clue mask counts
-    → ((c : ℕ) → has_bit more c ≡ true → (b : ℕ) × (b + cond (ltb mask value) 1 0 ≡ c) × (has_bit counts b ≡ true))
-    → ((b : ℕ) → b + cond (ltb mask value) 1 0 ≤ clue → has_bit counts b ≡ true → has_bit more (b + cond (ltb mask value) 1 0) ≡ true)
+    → ((c : ℕ) → has_number more c ≡ true → (b : ℕ) × (b + cond (ltb mask value) 1 0 ≡ c) × (has_number counts b ≡ true))
+    → ((b : ℕ) → b + cond (ltb mask value) 1 0 ≤ clue → has_number counts b ≡ true → has_number more (b + cond (ltb mask value) 1 0) ≡ true)
     → AreCountsBy sets clue mask k more
 front_step {sets} {clue} {mask} {k} {counts} {more} value inside next is front only all =
     let a = added_with mask k (mask + 2 ^ k) next.fresh refl in
-    let lower : (c : ℕ) → has_bit more c ≡ true → (b : ℕ) × (b + tower mask k ≡ c) × (has_bit counts b ≡ true) = rw is at only in
-    let raise : (b : ℕ) → b + tower mask k ≤ clue → has_bit counts b ≡ true → has_bit more (b + tower mask k) ≡ true = rw is at all in
+    let lower : (c : ℕ) → has_number more c ≡ true → (b : ℕ) × (b + tower mask k ≡ c) × (has_number counts b ≡ true) = rw is at only in
+    let raise : (b : ℕ) → b + tower mask k ≤ clue → has_number counts b ≡ true → has_number more (b + tower mask k) ≡ true = rw is at all in
     let n = added_ones a in
     let most = ones-le (length sets) (mask + 2 ^ k) (added_below a (length sets) inside next.small) in
     record {
@@ -99,22 +101,22 @@ front_step {sets} {clue} {mask} {k} {counts} {more} value inside next is front o
           let first = start_front q ((k + 1) ∷ []) start in
           let is = seen-more q k used in
           let there = raise (seen q) (omega arith) (front.all q first used (omega arith)) in
-          ap (λ n. has_bit more n) is ∙ there;
+          ap (λ n. has_number more n) is ∙ there;
     }
 
 -- the entry of the mask with the value
-counts_here : {sets : List ℕ} {clue mask left counts k more : ℕ} (next : ℕ) → has_bit left k ≡ true → next + 2 ^ k ≡ left
+counts_here : {sets : List ℕ} {clue mask left counts k more : ℕ} (next : ℕ) → has_number left k ≡ true → next + 2 ^ k ≡ left
     → AreCountsSoFar sets clue (mask + 2 ^ k) counts (IsDone mask left) → AreCountsBy sets clue mask k more
     → AreCountsSoFar sets clue (mask + 2 ^ k) (bit_or counts more) (IsDone mask next)
 counts_here {sets} {clue} {mask} {left} {counts} {k} {more} next used sum h by =
     let a = added_without next k left used sum in
     record {
-      only = λ c e. elim (or_cases _ _ (sym (mark-or counts more c) ∙ e)) [ inl f ↦ h.only c f | inr f ↦ by.only c f ];
-      first = λ z. mark-or counts more 0 ∙ or_left _ _ (h.first z);
-      all = λ q j rest m done start u few. mark-or counts more _ ∙ elim done [
+      only = λ c e. elim (or_cases _ _ (sym (has_number-or counts more c) ∙ e)) [ inl f ↦ h.only c f | inr f ↦ by.only c f ];
+      first = λ z. has_number-or counts more 0 ∙ or_left _ _ (h.first z);
+      all = λ q j rest m done start u few. has_number-or counts more _ ∙ elim done [
         | inl l ↦ or_left _ _ (h.all q j rest m (inl l) start u few)
         | inr d ↦ elim (cases_eq j k) [
-          | inl same ↦ (or_right _ _ (let P : ℕ → Type 0 = λ i. IsStart sets (q ++ (i + 1) ∷ []) → seen (q ++ (i + 1) ∷ []) ≤ clue → has_bit more (seen (q ++ (i + 1) ∷ [])) ≡ true in
+          | inl same ↦ (or_right _ _ (let P : ℕ → Type 0 = λ i. IsStart sets (q ++ (i + 1) ∷ []) → seen (q ++ (i + 1) ∷ []) ≤ clue → has_number more (seen (q ++ (i + 1) ∷ [])) ≡ true in
               subst P (sym same) (by.all q (rw d.0 at m)) start few))
           | inr other ↦ or_left _ _ (h.all q j rest m (inr (d.0, added_other a j other ∙ d.1)) start u few)
         ]
@@ -122,7 +124,7 @@ counts_here {sets} {clue} {mask} {left} {counts} {k} {more} next used sum h by =
     }
 
 -- and every other entry
-counts_there : {sets : List ℕ} {clue mask left m counts : ℕ} (next k : ℕ) → has_bit left k ≡ true → next + 2 ^ k ≡ left → m ≢ mask + 2 ^ k
+counts_there : {sets : List ℕ} {clue mask left m counts : ℕ} (next k : ℕ) → has_number left k ≡ true → next + 2 ^ k ≡ left → m ≢ mask + 2 ^ k
     → AreCountsSoFar sets clue m counts (IsDone mask left) → AreCountsSoFar sets clue m counts (IsDone mask next)
 counts_there {sets} {clue} {mask} {left} {m} {counts} next k used sum other h =
     let a = added_without next k left used sum in
@@ -148,7 +150,7 @@ counts_there {sets} {clue} {mask} {left} {m} {counts} next k used sum other h =
 first_entry : {sets : List ℕ} {clue : ℕ} → AreCountsSoFar sets clue 0 1 (λ rest k. rest < 0)
 first_entry {sets} {clue} = record {
   only = λ c e.
-      let none : c ≡ 0 = omega (arith, below_from_mark 1 1 c (omega arith) e) in
+      let none : c ≡ 0 = omega (arith, below_from_number 1 1 c (omega arith) e) in
       ([], record { room = omega arith; values = λ j l. absurd (omega arith); candidates = λ j l. absurd (omega arith); apart = λ i j o l. absurd (omega arith) }, mask_none, sym none);
   first = λ z. refl;
   all = λ q k rest used done start m few. absurd (omega arith);
@@ -156,7 +158,7 @@ first_entry {sets} {clue} = record {
 
 no_entry : {sets : List ℕ} {clue : ℕ} (mask : ℕ) → mask ≢ 0 → AreCountsSoFar sets clue mask 0 (λ rest k. rest < 0)
 no_entry {sets} {clue} mask some = record {
-  only = λ c e. absurd (both_ways (has_bit 0 c) (mark-zero c) e);
+  only = λ c e. absurd (both_ways (has_number 0 c) (has_number-none c) e);
   first = λ z. absurd (some z);
   all = λ q k rest used done start m few. absurd (omega arith);
 }
@@ -176,12 +178,12 @@ pub table_at : {sets : List ℕ} {clue mask left : ℕ} (front : List ℕ) → A
 table_at {sets} {clue} {mask} {left} front bits h = record {
   each = λ m small. so_far_same (λ q k rest used done start few. elim done [
     | inl l ↦ l
-    | inr d ↦ absurd (both_ways (has_bit left k) d.1 (bit_from_start bits q k [] start (rw d.0 at used)))
+    | inr d ↦ absurd (both_ways (has_number left k) d.1 (bit_from_start bits q k [] start (rw d.0 at used)))
   ]) (h.each m small);
 }
 
 -- one value more
-pub table_more : {sets : List ℕ} {clue mask left k more : ℕ} (next value : ℕ) (front : List ℕ) → has_bit left k ≡ true → value ≡ 2 ^ k
+pub table_more : {sets : List ℕ} {clue mask left k more : ℕ} (next value : ℕ) (front : List ℕ) → has_number left k ≡ true → value ≡ 2 ^ k
     → next + value ≡ left → mask + value < length front
     → AreCountsBy sets clue mask k more → AreDoneBut sets clue mask left front
     → AreDoneBut sets clue mask next (set front (mask + value) (bit_or (get_or front (mask + value) 0) more))
@@ -204,7 +206,7 @@ pub table_next : {sets : List ℕ} {clue mask : ℕ} (front : List ℕ) → AreD
 table_next {sets} {clue} {mask} front h = record {
   each = λ m small. so_far_same (λ q k rest used done start few. elim (cases_lt rest mask) [
     | inl l ↦ inl l
-    | inr n ↦ inr (omega arith, mark-zero k)
+    | inr n ↦ inr (omega arith, has_number-none k)
   ]) (h.each m small);
 }
 
@@ -222,7 +224,7 @@ table_past {sets} {clue} {mask} front none h = record {
 pub none_unreached : {sets : List ℕ} {clue mask : ℕ} → AreFrontCounts sets clue mask 0 → (q : List ℕ) (k : ℕ) → IsMask mask q
     → IsStart sets (q ++ (k + 1) ∷ []) → seen (q ++ (k + 1) ∷ []) ≤ clue → ⊥
 none_unreached {sets} {clue} {mask} front q k used start few =
-    both_ways (has_bit 0 (seen q)) (mark-zero (seen q)) (front.all q (start_front q ((k + 1) ∷ []) start) used (omega (arith, seen-append q ((k + 1) ∷ []))))
+    both_ways (has_number 0 (seen q)) (has_number-none (seen q)) (front.all q (start_front q ((k + 1) ∷ []) start) used (omega (arith, seen-append q ((k + 1) ∷ []))))
 
 pub none_full : {sets : List ℕ} {clue mask : ℕ} → count_ones mask ≡ length sets → (q : List ℕ) (k : ℕ) → IsMask mask q
     → IsStart sets (q ++ (k + 1) ∷ []) → seen (q ++ (k + 1) ∷ []) ≤ clue → ⊥

@@ -3,10 +3,11 @@ use Rattle.std.proofs.Common.{◌≡◌, ◌≢◌, ℕ, ◌+◌, ◌-◌, ◌^�
 use Rattle.std.proofs.lemmas.Bool.{cases_eq, cases_lt, both_ways, or_cases, or_left, or_right}
 use Rattle.std.proofs.lemmas.List.{get_or_at, get_or_past, get_or-replicate, length-replicate, get_or-set_same, get_or-set_other, take-append-drop, drop_more, length-take-le}
 use Rattle.tower_lines.specs.TowersSeen.{seen}
-use Rattle.tower_lines.specs.LineFillings.{has_bit, IsFilling, IsSupported}
-use Rattle.tower_lines.specs.LineMasks.{AreFrontCounts, IsPassed, AreKeptValues}
+use Rattle.number_sets.specs.Sets.{has_number}
+use Rattle.tower_lines.specs.LineFillings.{IsFilling, IsSupported}
+use Rattle.tower_lines.specs.Inner.LineMasks.{AreFrontCounts, IsPassed, AreKeptValues}
 use Rattle.tower_lines.proofs.BackLemmas.{IsBackBut}
-use Rattle.tower_lines.proofs.MarkLemmas.{mark-zero, mark-or}
+use Rattle.number_sets.proofs.Members.{has_number-none, has_number-or}
 use Rattle.tower_lines.proofs.MaskLemmas.{mask_of, mask-ones, mask_small}
 use Rattle.tower_lines.proofs.SeenLemmas.{seen-append}
 use Rattle.tower_lines.proofs.StartLemmas.{start_front, start_next}
@@ -42,7 +43,7 @@ passed_mask_small {sets} {clue} {mask} {value} h = mask_small h.before (start_fr
 pub kept_values_none : {sets : List ℕ} {clue : ℕ} (kept : List ℕ) → ((place : ℕ) → get_or kept place 0 ≡ 0)
     → AreKeptValues sets clue (2 ^ length sets) kept
 kept_values_none {sets} {clue} kept none = record {
-  only = λ place value e. absurd (both_ways (has_bit 0 value) (mark-zero value) (rw (none place) at e));
+  only = λ place value e. absurd (both_ways (has_number 0 value) (has_number-none value) (rw (none place) at e));
   all = λ mask value from h. absurd (omega (arith, passed_mask_small h));
 }
 
@@ -64,35 +65,35 @@ unpassed_full {sets} {clue} {mask} full value h =
 
 pub unpassed_unreached : {sets : List ℕ} {clue mask : ℕ} → AreFrontCounts sets clue mask 0 → (value : ℕ) → IsPassed sets clue mask value → ⊥
 unpassed_unreached {sets} {clue} {mask} front value h =
-    both_ways (has_bit 0 (seen h.before)) (mark-zero (seen h.before))
+    both_ways (has_number 0 (seen h.before)) (has_number-none (seen h.before))
     (front.all h.before (start_front h.before (value ∷ h.after) h.filling.start) h.used (omega (arith, seen-append h.before (value ∷ h.after), h.filling.shown)))
 
 passed_all : {sets : List ℕ} {clue mask counts passed : ℕ} → IsBackBut sets clue mask 0 counts passed → (value : ℕ)
-    → IsPassed sets clue mask value → (k : ℕ) × (value ≡ k + 1) × (has_bit passed k ≡ true)
+    → IsPassed sets clue mask value → (k : ℕ) × (value ≡ k + 1) × (has_number passed k ≡ true)
 passed_all {sets} {clue} {mask} {counts} {passed} back value h =
     let low = (start_next h.before value h.after h.filling.start).low in
     let e : value ≡ (value - 1) + 1 = omega arith in
     let P : ℕ → Type 0 = λ i. IsPassed sets clue mask i in
-    (value - 1, e, back.passed_all (value - 1) (mark-zero (value - 1)) (subst P e h))
+    (value - 1, e, back.passed_all (value - 1) (has_number-none (value - 1)) (subst P e h))
 
 pub kept_values_more : {sets kept : List ℕ} {clue mask counts passed place : ℕ} (values : ℕ) → place ≡ count_ones mask → place < length kept
     → IsBackBut sets clue mask 0 counts passed
-    → ((value : ℕ) → (has_bit values value ≡ true) ↔ ((k : ℕ) × (value ≡ k + 1) × (has_bit passed k ≡ true)))
+    → ((value : ℕ) → (has_number values value ≡ true) ↔ ((k : ℕ) × (value ≡ k + 1) × (has_number passed k ≡ true)))
     → AreKeptValues sets clue (mask + 1) kept → AreKeptValues sets clue mask (set kept place (bit_or (get_or kept place 0) values))
 kept_values_more {sets} {kept} {clue} {mask} {counts} {passed} {place} values at inside back is h =
     let more = set kept place (bit_or (get_or kept place 0) values) in
     let here : get_or more place 0 ≡ bit_or (get_or kept place 0) values = get_or-set_same kept place _ 0 inside in
     let other = λ (j : ℕ) (ne : j ≢ place). get_or-set_other kept place j (bit_or (get_or kept place 0) values) 0 ne in
-    let both = λ (v : ℕ). ap (λ n. has_bit n v) here ∙ mark-or (get_or kept place 0) values v in
+    let both = λ (v : ℕ). ap (λ n. has_number n v) here ∙ has_number-or (get_or kept place 0) values v in
     record {
       only = λ j value e. elim (cases_eq j place) [
         | inl same ↦ (let P : ℕ → Type 0 = λ i. IsSupported sets clue i value in
-            let e' : has_bit (get_or more place 0) value ≡ true = rw same at e in
+            let e' : has_number (get_or more place 0) value ≡ true = rw same at e in
             subst P (sym same) (elim (or_cases _ _ (sym (both value) ∙ e')) [
               | inl f ↦ h.only place value f
               | inr f ↦ (let r = (is value).0 f in subst P (sym at) (supported_from_passed (let Q : ℕ → Type 0 = λ i. IsPassed sets clue mask i in subst Q (sym r.1) (back.passed_only r.0 r.2))))
             ]))
-        | inr ne ↦ h.only j value (ap (λ n. has_bit n value) (sym (other j ne)) ∙ e)
+        | inr ne ↦ h.only j value (ap (λ n. has_number n value) (sym (other j ne)) ∙ e)
       ];
       all = λ m value from p. elim (cases_eq m mask) [
         | inl same ↦ (let P : ℕ → Type 0 = λ i. IsPassed sets clue i value in
@@ -100,14 +101,14 @@ kept_values_more {sets} {kept} {clue} {mask} {counts} {passed} {place} values at
             rw place_is (both value ∙ or_right _ _ ((is value).1 (passed_all back value (subst P same p)))))
         | inr ne ↦ (let old = h.all m value (omega arith) p in
             elim (cases_eq (count_ones m) place) [
-              | inl same ↦ (let old' : has_bit (get_or kept place 0) value ≡ true = rw same at old in rw same (both value ∙ or_left _ _ old'))
-              | inr apart ↦ ap (λ n. has_bit n value) (other (count_ones m) apart) ∙ old
+              | inl same ↦ (let old' : has_number (get_or kept place 0) value ≡ true = rw same at old in rw same (both value ∙ or_left _ _ old'))
+              | inr apart ↦ ap (λ n. has_number n value) (other (count_ones m) apart) ∙ old
             ])
       ];
     }
 
 pub kept_values_all : {sets kept : List ℕ} {clue : ℕ} → AreKeptValues sets clue 0 kept → (place value : ℕ)
-    → (has_bit (get_or kept place 0) value ≡ true) ↔ IsSupported sets clue place value
+    → (has_number (get_or kept place 0) value ≡ true) ↔ IsSupported sets clue place value
 kept_values_all {sets} {kept} {clue} h place value = (
   h.only place value,
   λ s. (let r = passed_from_supported s in

@@ -1,8 +1,8 @@
--- Lemmas on bits and masks, and on what both passes over the masks of a line find.
+-- Lemmas on masks, and on what both passes over the masks of a line find.
 pub mod BackLemmas
 pub mod FrontLemmas
 pub mod KeptLemmas
-pub mod MarkLemmas
+pub mod MaskBits
 pub mod MaskLemmas
 pub mod NextValues
 pub mod SeenLemmas

@@ -8,9 +8,11 @@ use Rattle.std.proofs.lemmas.Nat.{pow_pos, ones_le_self}
 use Rattle.std.proofs.lemmas.List.{append-nil, length_push}
 use Rattle.std.proofs.lemmas.List.Folds.{list_any-append}
 use Rattle.tower_lines.specs.TowersSeen.{seen, seen_after}
-use Rattle.tower_lines.specs.LineFillings.{has_bit, IsStart}
-use Rattle.tower_lines.specs.LineMasks.{is_in, IsMask}
-use Rattle.tower_lines.proofs.MarkLemmas.{IsAdded, added_with, added_has, added_other, added_ones, added_below, mark-zero, below_from_mark, below_from_marks, same_from_marks}
+use Rattle.number_sets.specs.Sets.{has_number}
+use Rattle.tower_lines.specs.LineFillings.{IsStart}
+use Rattle.tower_lines.specs.Inner.LineMasks.{is_in, IsMask}
+use Rattle.number_sets.proofs.OneMore.{IsAdded, added_with, added_has, added_other, added_ones, added_below}
+use Rattle.number_sets.proofs.Members.{has_number-none, below_from_number, below_from_numbers, same_set}
 use Rattle.tower_lines.proofs.SeenLemmas.{seen-append}
 use Rattle.tower_lines.proofs.StartLemmas.{start_next}
 
@@ -24,7 +26,7 @@ is_in-push_other : (p : List ℕ) (k j : ℕ) → j ≢ k → is_in (j + 1) (p +
 is_in-push_other p k j ne = is_in-push p (k + 1) (j + 1) ∙ ap (λ b. is_in (j + 1) p || b) (ne_eqb (k + 1) (j + 1) (λ e. ne (omega arith))) ∙ or-false (is_in (j + 1) p)
 
 pub mask_none : IsMask 0 []
-mask_none = record { bits = λ k. mark-zero k }
+mask_none = record { bits = λ k. has_number-none k }
 
 pub mask_more : {m k n : ℕ} (p : List ℕ) → IsMask m p → IsAdded m k n → IsMask n (p ++ (k + 1) ∷ [])
 mask_more {m} {k} {n} p h a = record {
@@ -35,7 +37,7 @@ mask_more {m} {k} {n} p h a = record {
 }
 
 pub mask_unique : {m n : ℕ} (p : List ℕ) → IsMask m p → IsMask n p → m ≡ n
-mask_unique {m} {n} p h i = same_from_marks m n (λ k. h.bits k ∙ sym (i.bits k))
+mask_unique {m} {n} p h i = same_set m n (λ k. h.bits k ∙ sym (i.bits k))
 
 -- a list with its mask
 pub record IsMasked (sets p : List ℕ) : Type 0 where
@@ -50,7 +52,7 @@ masked_along sets (x ∷ s) q h b =
     let next = start_next q x s h in
     let low = next.low in let high = next.high in
     let e : x ≡ (x - 1) + 1 = omega arith in
-    let fresh : has_bit b.mask (x - 1) ≡ false = b.used.bits (x - 1) ∙ ap (λ y. is_in y q) (sym e) ∙ next.fresh in
+    let fresh : has_number b.mask (x - 1) ≡ false = b.used.bits (x - 1) ∙ ap (λ y. is_in y q) (sym e) ∙ next.fresh in
     let a = added_with b.mask (x - 1) (b.mask + 2 ^ (x - 1)) fresh refl in
     let used = mask_more q b.used a in
     let whole : (q ++ x ∷ []) ++ s ≡ q ++ x ∷ s = append_assoc q (x ∷ []) s in
@@ -76,7 +78,7 @@ mask-ones {sets} {m} p h used = let b = mask_of p h in rw (mask_unique p used b.
 pub mask_small : {sets : List ℕ} {m : ℕ} (p : List ℕ) → IsStart sets p → IsMask m p → m < 2 ^ length sets
 mask_small {sets} {m} p h used = let b = mask_of p h in rw (mask_unique p used b.used) b.small
 
--- all of a list below k + 1, from its marks below k
+-- all of a list below k + 1, from its bits below k
 all_below : (p : List ℕ) (k : ℕ) → ((j : ℕ) → is_in (j + 1) p ≡ true → j < k) → list_all (λ y. ltb y (k + 1)) p ≡ true
 all_below [] k h = refl
 all_below (x ∷ p) k h =
@@ -100,9 +102,9 @@ some_above (x ∷ p) k j l e =
 pub tower_is : {mask : ℕ} (p : List ℕ) (k : ℕ) → IsMask mask p → list_all (λ y. ltb y (k + 1)) p ≡ ltb mask (2 ^ k)
 tower_is {mask} p k h =
     elim (cases_lt mask (2 ^ k)) [
-      | inl small ↦ all_below p k (λ j e. below_from_mark mask k j small (h.bits j ∙ e)) ∙ sym (lt-ltb mask (2 ^ k) small)
+      | inl small ↦ all_below p k (λ j e. below_from_number mask k j small (h.bits j ∙ e)) ∙ sym (lt-ltb mask (2 ^ k) small)
       | inr large ↦ (elim (cases_Bool (list_all (λ y. ltb y (k + 1)) p)) [
-        | inl all ↦ absurd (let small = below_from_marks mask k (λ j l. elim (cases_Bool (is_in (j + 1) p)) [
+        | inl all ↦ absurd (let small = below_from_numbers mask k (λ j l. elim (cases_Bool (is_in (j + 1) p)) [
           | inl e ↦ absurd (both_ways _ (some_above p k j l e) all)
           | inr e ↦ h.bits j ∙ e
         ]) in omega arith)

@@ -3,8 +3,9 @@ use Rattle.std.proofs.Common.{◌≡◌, ◌≢◌, ℕ, ◌+◌, ◌<◌, ◌�
 use Rattle.std.proofs.lemmas.Bool.{eqb-true, eq-eqb, cases_lt, cases_Bool, false≢true, false_from_ne_true, both_ways}
 use Rattle.std.proofs.lemmas.List.{get_or_append_left, get_or_at, length_push}
 use Rattle.std.proofs.lemmas.List.Folds.{list_any_at}
-use Rattle.tower_lines.specs.LineFillings.{has_bit, IsStart}
-use Rattle.tower_lines.specs.LineMasks.{is_in}
+use Rattle.number_sets.specs.Sets.{has_number}
+use Rattle.tower_lines.specs.LineFillings.{IsStart}
+use Rattle.tower_lines.specs.Inner.LineMasks.{is_in}
 
 -- the place of a value that is in a list
 pub is_in-place : (x : ℕ) (p : List ℕ) → is_in x p ≡ true → (i : ℕ) × (i < length p) × (get_or p i 0 ≡ x)
@@ -34,7 +35,7 @@ pub record IsNextValue (sets p : List ℕ) (v : ℕ) : Type 0 where
   pub room : length p < length sets
   pub low : 1 ≤ v
   pub high : v ≤ length sets
-  pub candidate : has_bit (get_or sets (length p) 0) v ≡ true
+  pub candidate : has_number (get_or sets (length p) 0) v ≡ true
   pub fresh : is_in v p ≡ false
 
 pub start_next : {sets : List ℕ} (p : List ℕ) (v : ℕ) (s : List ℕ) → IsStart sets (p ++ v ∷ s) → IsNextValue sets p v
@@ -68,7 +69,7 @@ start_more {sets} p v h next =
     record {
       room = omega (arith, length_push p v, next.room);
       values = push_each (λ j x. (1 ≤ x) × (x ≤ length sets)) p v h.values (next.low, next.high);
-      candidates = push_each (λ j x. has_bit (get_or sets j 0) x ≡ true) p v h.candidates next.candidate;
+      candidates = push_each (λ j x. has_number (get_or sets j 0) x ≡ true) p v h.candidates next.candidate;
       apart = λ i j o l. push_each (λ j x. i < j → get_or (p ++ v ∷ []) i 0 ≢ x) p v
           (λ j l o e. h.apart i j o l (sym (get_or_append_left p (v ∷ []) 0 i (omega arith)) ∙ e))
           (λ o e. both_ways (is_in v p) next.fresh (is_in-at v p i o (sym (get_or_append_left p (v ∷ []) 0 i o) ∙ e)))

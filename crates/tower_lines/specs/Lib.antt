@@ -1,4 +1,5 @@
--- What the towers seen along a line are, the fillings of a line, and the private words of their search.
-pub mod LineFillings
-pub mod LineMasks
+-- What the towers seen along a line are, and the fillings of a line.
 pub mod TowersSeen
+pub mod LineFillings
+-- words that the contracts of private functions alone use
+pub mod Inner

@@ -1,17 +1,13 @@
--- The fillings of a line: candidates are sets of numbers, each a number whose bit n stands for n.
-use Rattle.std.specs.Prelude.{◌≡◌, ◌≢◌, ℕ, ◌<◌, ◌≤◌, Bool, true, List, length, slice_index, ◌==◌}
-use Rattle.std.specs.Int.{bit_at}
+-- The fillings of a line, whose squares have sets of numbers as candidates.
+use Rattle.std.specs.Prelude.{◌≡◌, ◌≢◌, ℕ, ◌<◌, ◌≤◌, true, List, length, slice_index}
+use Rattle.number_sets.specs.Sets.{has_number}
 use Rattle.tower_lines.specs.TowersSeen.{seen}
-
--- whether a number is in a set
-abbrev pub has_bit : ℕ → ℕ → Bool
-has_bit m n = bit_at m n == 1
 
 -- values for the first squares of a line: each from 1 to the line's length and a candidate of its square, none twice
 pub record IsStart (sets line : List ℕ) : Type 0 where
   pub room : length line ≤ length sets
   pub values : (j : ℕ) → j < length line → (1 ≤ slice_index line j) × (slice_index line j ≤ length sets)
-  pub candidates : (j : ℕ) → j < length line → has_bit (slice_index sets j) (slice_index line j) ≡ true
+  pub candidates : (j : ℕ) → j < length line → has_number (slice_index sets j) (slice_index line j) ≡ true
   pub apart : (i j : ℕ) → i < j → j < length line → slice_index line i ≢ slice_index line j
 
 -- values for all squares of the line, which show as many towers as the clue says

@@ -1,50 +1,76 @@
-//! Sets of counts: bit c of such a set stands for the count c.
+//! Sets of counts of towers, and tables that have one for each mask.
 
-ghost use Rattle.std.specs.Prelude.{◌≡◌, ℕ, ◌+◌, ◌<◌, ◌≤◌, ◌↔◌, true, if◌then◌else◌};
-ghost use Rattle.tower_lines.specs.LineFillings.{has_bit};
+ghost use Rattle.std.specs.Prelude.{◌≡◌, ℕ, ◌+◌, ◌<◌, ◌≤◌, ◌↔◌, true, bit_or, if◌then◌else◌, slice_index, slice_set, replicate};
+ghost use Rattle.number_sets.specs.Sets.{has_number, no_numbers, IsShared};
 
-// Each count, one more where a tower comes next.
-fn raised(counts: u16, tower: bool) -> u16
-    ensures only { (c : ℕ) → has_bit result c ≡ true
-        → (b : ℕ) × (b + (if tower then 1 else 0) ≡ c) × (has_bit counts b ≡ true) }
-    ensures all { (b : ℕ) → b < 15 → has_bit counts b ≡ true
-        → has_bit result (b + (if tower then 1 else 0)) ≡ true }
+use number_sets::NumberSet;
+
+/// The table that has the count 0 for the mask of no value, and no other.
+pub fn first_counts() -> [NumberSet; 512]
+    ensures { result ≡ slice_set (replicate 512 no_numbers) 0 1 }
 {
-    if tower { counts << 1 } else { counts }
+    let mut table = no_counts();
+    table[0] = NumberSet::one(0);
+    table
 }
 
-// The counts up to the clue.
-fn up_to(counts: u16, clue: u8) -> u16
-    requires { clue ≤ 9 }
-    ensures only { (c : ℕ) → has_bit result c ≡ true → has_bit counts c ≡ true }
-    ensures all { (c : ℕ) → c ≤ clue → has_bit counts c ≡ true → has_bit result c ≡ true }
+/// The table that has no count.
+pub fn no_counts() -> [NumberSet; 512]
+    ensures { result ≡ replicate 512 no_numbers }
 {
-    counts & ((1 << (clue + 1)) - 1)
+    [NumberSet::empty(); 512]
+}
+
+/// The counts of a mask.
+pub fn counts_of(table: &[NumberSet; 512], mask: usize) -> NumberSet
+    requires { mask < 512 }
+    ensures { result ≡ slice_index table.now mask }
+{
+    table[mask]
+}
+
+/// Adds counts to those of a mask.
+pub fn add_counts(table: &mut [NumberSet; 512], mask: usize, counts: NumberSet)
+    requires { mask < 512 }
+    ensures { table.new
+        ≡ slice_set table.old mask (bit_or (slice_index table.old mask) counts) }
+{
+    table[mask] = table[mask].union(counts);
 }
 
 /// Each count, one more where a tower comes next, up to the clue.
-pub fn raised_up_to(counts: u16, tower: bool, clue: u8) -> u16
+pub fn raised_up_to(counts: NumberSet, tower: bool, clue: u8) -> NumberSet
     requires { clue ≤ 9 }
-    ensures only { (c : ℕ) → has_bit result c ≡ true
-        → (b : ℕ) × (b + (if tower then 1 else 0) ≡ c) × (has_bit counts b ≡ true) }
-    ensures all { (b : ℕ) → b + (if tower then 1 else 0) ≤ clue → has_bit counts b ≡ true
-        → has_bit result (b + (if tower then 1 else 0)) ≡ true }
+    ensures only { (c : ℕ) → has_number result c ≡ true
+        → (b : ℕ) × (b + (if tower then 1 else 0) ≡ c) × (has_number counts b ≡ true) }
+    ensures all { (b : ℕ) → b + (if tower then 1 else 0) ≤ clue → has_number counts b ≡ true
+        → has_number result (b + (if tower then 1 else 0)) ≡ true }
 {
-    up_to(raised(counts, tower), clue)
+    raised(counts, tower).at_most(clue)
+}
+
+// Each count, one more where a tower comes next.
+fn raised(counts: NumberSet, tower: bool) -> NumberSet
+    ensures only { (c : ℕ) → has_number result c ≡ true
+        → (b : ℕ) × (b + (if tower then 1 else 0) ≡ c) × (has_number counts b ≡ true) }
+    ensures all { (b : ℕ) → b < 15 → has_number counts b ≡ true
+        → has_number result (b + (if tower then 1 else 0)) ≡ true }
+{
+    if tower { counts.raised() } else { counts }
 }
 
 /// The counts that come to one of these, where a tower comes next or none.
-pub fn lowered(counts: u16, tower: bool) -> u16
-    ensures { (c : ℕ) → has_bit result c ≡ has_bit counts (c + (if tower then 1 else 0)) }
+pub fn lowered(counts: NumberSet, tower: bool) -> NumberSet
+    ensures { (c : ℕ) → has_number result c
+        ≡ has_number counts (c + (if tower then 1 else 0)) }
 {
-    if tower { counts >> 1 } else { counts }
+    if tower { counts.lowered() } else { counts }
 }
 
 /// A value if the two sets share a count, and else none.
-pub fn value_if_shared(left: u16, right: u16, value: usize) -> usize
-    ensures { (k : ℕ) → (has_bit result k ≡ true)
-        ↔ ((has_bit value k ≡ true)
-        × ((c : ℕ) × (has_bit left c ≡ true) × (has_bit right c ≡ true))) }
+pub fn value_if_shared(left: NumberSet, right: NumberSet, value: usize) -> usize
+    ensures { (k : ℕ) → (has_number result k ≡ true)
+        ↔ ((has_number value k ≡ true) × IsShared left right) }
 {
-    if left & right != 0 { value } else { 0 }
+    if left.is_disjoint(right) { 0 } else { value }
 }

@@ -8,7 +8,7 @@
 //!
 //! ```
 //! let shown = seen(&[2, 1, 3]);                       // 2
-//! let left = supported(&[0b1110, 0b1110, 0b1110], 3); // 1, 2 and 3 alone: [0b0010, 0b0100, 0b1000, 0, ..]
+//! let left = supported(&[NumberSet::up_to(3); 3], 3); // 1, 2 and 3 alone, and then empty sets
 //! ```
 #![tactic(auto)]
 

@@ -1,45 +1,63 @@
 //! The values that each square of a line with a clue can take.
 
-ghost use Rattle.std.specs.Prelude.{◌≡◌, ℕ, ◌+◌, ◌^◌, ◌<◌, ◌≤◌, ◌↔◌, true, length, slice_index};
-ghost use Rattle.tower_lines.specs.LineFillings.{has_bit, IsSupported};
-ghost use Rattle.tower_lines.specs.LineMasks.{AreFrontCounts, AreDoneBelow, AreBackCounts, AreKeptValues};
+ghost use Rattle.std.specs.Prelude.{◌≡◌, ℕ, ◌+◌, ◌^◌, ◌<◌, ◌≤◌, ◌↔◌, true, bit_or, length, replicate, slice_index, slice_set};
+ghost use Rattle.number_sets.specs.Sets.{has_number, no_numbers};
+ghost use Rattle.tower_lines.specs.LineFillings.{IsSupported};
+ghost use Rattle.tower_lines.specs.Inner.LineMasks.{AreFrontCounts, AreDoneBelow, AreBackCounts, AreKeptValues};
 
-use crate::counts::{lowered, raised_up_to, value_if_shared};
+use crate::counts::{
+    add_counts, counts_of, first_counts, lowered, no_counts, raised_up_to, value_if_shared,
+};
 use crate::masks::{candidates_of, is_tower, lowest, next_values};
+use number_sets::NumberSet;
 
 /// For each square of a line, from the clue on, the values that it has in some filling of the line:
 /// a filling takes each square's value from its candidates and from 1 to the line's length, has no
-/// value twice, and shows as many towers as the clue says. Bit n of a set stands for the value n,
-/// for candidates and results alike. What is past the line is empty.
+/// value twice, and shows as many towers as the clue says. What is past the line is empty.
 ///
 /// Masks of used values stand for the starts of the line. A first pass finds how many towers the
 /// starts of a mask show, a second pass, from the full line back, how many they may show. Both go
 /// through the masks that some start has, and no start is followed that shows more than the clue.
-pub fn supported(sets: &[u16], clue: u8) -> [u16; 9]
+pub fn supported(sets: &[NumberSet], clue: u8) -> [NumberSet; 9]
     requires short { length sets.now ≤ 9 }
     requires clue { clue ≤ 9 }
-    ensures { (place value : ℕ) → (has_bit (slice_index result place) value ≡ true)
+    ensures { (place value : ℕ) → (has_number (slice_index result place) value ≡ true)
         ↔ IsSupported sets.now clue place value }
 {
     let front = counts_before(sets, clue);
-    let mut back = [0; 512];
-    let mut kept = [0; 9];
+    let mut back = no_counts();
+    let mut kept = no_values();
     for mask in (0..1 << sets.len()).rev() {
         back[mask] = counts_after(sets, clue, &front, &back, mask, &mut kept);
     }
     kept
 }
 
+// No value for any square.
+fn no_values() -> [NumberSet; 9]
+    ensures { result ≡ replicate 9 no_numbers }
+{
+    [NumberSet::empty(); 9]
+}
+
+// Adds values to those of a square.
+fn add_values(kept: &mut [NumberSet; 9], place: usize, values: NumberSet)
+    requires { place < 9 }
+    ensures { kept.new
+        ≡ slice_set kept.old place (bit_or (slice_index kept.old place) values) }
+{
+    kept[place] = kept[place].union(values);
+}
+
 /// For each mask, the counts of towers seen along the starts that use just its values, up to the
 /// clue.
-fn counts_before(sets: &[u16], clue: u8) -> [u16; 512]
+fn counts_before(sets: &[NumberSet], clue: u8) -> [NumberSet; 512]
     requires short { length sets.now ≤ 9 }
     requires clue { clue ≤ 9 }
     ensures { (m : ℕ) → m < 2 ^ length sets.now
         → AreFrontCounts sets.now clue m (slice_index result m) }
 {
-    let mut front = [0; 512];
-    front[0] = 1;
+    let mut front = first_counts();
     for mask in 0..1 << sets.len() {
         go_on(sets, clue, mask, &mut front);
     }
@@ -47,25 +65,25 @@ fn counts_before(sets: &[u16], clue: u8) -> [u16; 512]
 }
 
 /// Adds what the starts with a mask show with one value more.
-fn go_on(sets: &[u16], clue: u8, mask: usize, front: &mut [u16; 512])
+fn go_on(sets: &[NumberSet], clue: u8, mask: usize, front: &mut [NumberSet; 512])
     requires short { length sets.now ≤ 9 }
     requires clue { clue ≤ 9 }
     requires inside { mask < 2 ^ length sets.now }
     requires below { AreDoneBelow sets.now clue mask front.old }
     ensures { AreDoneBelow sets.now clue (mask + 1) front.new }
 {
-    let reached = front[mask];
-    if reached == 0 {
+    let reached = counts_of(front, mask);
+    if reached.is_empty() {
         return;
     }
-    let place = mask.count_ones() as usize;
-    if place == sets.len() {
+    if mask.count_ones() as usize == sets.len() {
         return;
     }
-    let mut left = next_values(sets[place], mask, sets.len());
+    let mut left = next_values(sets, mask);
     while left != 0 {
         let value = lowest(left);
-        front[mask + value] |= raised_up_to(reached, is_tower(mask, value), clue);
+        let more = raised_up_to(reached, is_tower(mask, value), clue);
+        add_counts(front, mask + value, more);
         left -= value;
     }
 }
@@ -73,13 +91,13 @@ fn go_on(sets: &[u16], clue: u8, mask: usize, front: &mut [u16; 512])
 /// The counts of towers seen along a start that uses just the values of a mask, from which the line
 /// can go on to show its clue. The values that can come next are added to `kept`.
 fn counts_after(
-    sets: &[u16],
+    sets: &[NumberSet],
     clue: u8,
-    front: &[u16; 512],
-    back: &[u16; 512],
+    front: &[NumberSet; 512],
+    back: &[NumberSet; 512],
     mask: usize,
-    kept: &mut [u16; 9],
-) -> u16
+    kept: &mut [NumberSet; 9],
+) -> NumberSet
     requires short { length sets.now ≤ 9 }
     requires clue { clue ≤ 9 }
     requires inside { mask < 2 ^ length sets.now }
@@ -93,22 +111,23 @@ fn counts_after(
 {
     let place = mask.count_ones() as usize;
     if place == sets.len() {
-        return 1 << clue;
+        return NumberSet::one(clue);
     }
-    let reached = front[mask];
-    if reached == 0 {
-        return 0;
+    let reached = counts_of(front, mask);
+    if reached.is_empty() {
+        return NumberSet::empty();
     }
-    let mut left = next_values(sets[place], mask, sets.len());
-    let mut counts = 0;
+    let mut left = next_values(sets, mask);
+    let mut counts = NumberSet::empty();
     let mut passed = 0;
     while left != 0 {
         let value = lowest(left);
-        let before = lowered(back[mask + value], is_tower(mask, value));
-        counts |= before;
+        let after = counts_of(back, mask + value);
+        let before = lowered(after, is_tower(mask, value));
+        counts = counts.union(before);
         passed |= value_if_shared(reached, before, value);
         left -= value;
     }
-    kept[place] |= candidates_of(passed);
+    add_values(kept, place, candidates_of(passed));
     counts
 }

@@ -1,8 +1,10 @@
 //! Masks of values: bit k of a mask stands for the value k + 1. A value by itself is a mask too.
 
-ghost use Rattle.std.specs.Prelude.{◌≡◌, ℕ, ◌+◌, ◌^◌, ◌<◌, ◌≤◌, ◌↔◌, true, not, ◌&&◌, nat_lt};
-ghost use Rattle.tower_lines.specs.LineFillings.{has_bit};
-ghost use Rattle.tower_lines.specs.LineMasks.{IsValueOf};
+ghost use Rattle.std.specs.Prelude.{◌≡◌, ℕ, ◌+◌, ◌^◌, ◌<◌, ◌≤◌, ◌↔◌, true, nat_lt, count_ones, length};
+ghost use Rattle.number_sets.specs.Sets.{has_number};
+ghost use Rattle.tower_lines.specs.Inner.LineMasks.{AreNextValues, IsValueOf};
+
+use number_sets::NumberSet;
 
 /// The least value of a mask.
 pub fn lowest(mask: usize) -> usize
@@ -20,22 +22,23 @@ pub fn is_tower(mask: usize, value: usize) -> bool
     mask < value
 }
 
-/// The candidates from 1 to the line's length that aren't in a mask.
-pub fn next_values(candidates: u16, mask: usize, length: usize) -> usize
-    requires short { length ≤ 9 }
-    requires inside { mask < 2 ^ length }
-    ensures { (k : ℕ) → has_bit result k
-        ≡ (has_bit candidates (k + 1) && (nat_lt k length && not (has_bit mask k))) }
+/// The candidates of the square after a mask's, from 1 to the line's length, that aren't in the mask.
+pub fn next_values(sets: &[NumberSet], mask: usize) -> usize
+    requires short { length sets.now ≤ 9 }
+    requires inside { mask < 2 ^ length sets.now }
+    requires place { count_ones mask < length sets.now }
+    ensures { AreNextValues sets.now mask result }
 {
-    let every = (1 << length) - 1;
-    usize::from(candidates) >> 1 & (every ^ mask)
+    let candidates = sets[mask.count_ones() as usize];
+    let every = (1 << sets.len()) - 1;
+    usize::from(candidates.lowered().bits()) & (every ^ mask)
 }
 
-/// The values of a mask as candidates, of which bit n stands for n.
-pub fn candidates_of(mask: usize) -> u16
+/// The values of a mask as candidates.
+pub fn candidates_of(mask: usize) -> NumberSet
     requires { mask < 512 }
-    ensures { (value : ℕ) → (has_bit result value ≡ true)
-        ↔ ((k : ℕ) × (value ≡ k + 1) × (has_bit mask k ≡ true)) }
+    ensures { (value : ℕ) → (has_number result value ≡ true)
+        ↔ ((k : ℕ) × (value ≡ k + 1) × (has_number mask k ≡ true)) }
 {
-    (mask << 1) as u16
+    NumberSet::from_bits(mask as u16).raised()
 }

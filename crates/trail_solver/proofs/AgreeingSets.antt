@@ -1,17 +1,17 @@
 -- The fields of `Candidates` agree as pairs go and come back.
-use Rattle.std.proofs.Common.{◌≡◌, ℕ, ◌+◌, ◌-◌, ◌*◌, ◌%◌, ◌^◌, ◌<◌, ◌≤◌, eqb, leb, cond, Bool, true, false, not, ◌&&◌, List, [], ◌∷◌, ◌++◌, length, replicate, get_or, Some, slice_get, refl, sym, ap, ◌∙◌, subst, inl, inr, le-leb, arith}
+use Rattle.std.proofs.Common.{◌≡◌, ℕ, ◌*◌, ◌<◌, ◌≤◌, eqb, leb, cond, Bool, true, false, not, ◌&&◌, List, [], ◌∷◌, ◌++◌, length, replicate, get_or, Some, slice_get, refl, sym, ap, ◌∙◌, subst, inl, inr, le-leb, arith}
 use Rattle.std.proofs.lemmas.Bool.{false≢true, and_from, cases_Bool, or_cases, or_left, or_right}
 use Rattle.std.proofs.Math.Bool.{and-true, or-false}
 use Rattle.std.proofs.lemmas.List.{get_or-replicate, length-append}
 use Rattle.std.proofs.lemmas.List.Folds.{list_any_at}
-use Rattle.std.proofs.lemmas.Nat.{mul-le, one_shl}
+use Rattle.std.proofs.lemmas.Nat.{mul-le}
 use Rattle.std.proofs.lemmas.Option.{get_or_from_slice_get, slice_get_within}
 use Rattle.latin_board.specs.declared.grid.TheConstants.{CELLS}
 use Rattle.trail_solver.specs.declared.candidates.TheConstants.{PAIRS}
-use Rattle.latin_board.specs.Marks.{has_mark, full_marks}
-use Rattle.latin_board.proofs.MarkSets.{has_mark-full_marks}
+use Rattle.number_sets.specs.Sets.{has_number, numbers_to}
+use Rattle.number_sets.proofs.Members.{has_number-numbers_to}
 use Rattle.trail_solver.specs.Pairs.{IsPair, AreApart, has_pair}
-use Rattle.trail_solver.specs.Inner.Fields.{AgreesWithTrail, FlipsBit}
+use Rattle.trail_solver.specs.Inner.Fields.{AgreesWithTrail, FlipsValue}
 use Rattle.trail_solver.proofs.Trails.{same_pair, pair_from_test, test_from_pair, has_pair-push, apart_push, apart_front, length-le_from_apart}
 
 -- a grid of the size has at most `CELLS` squares
@@ -22,23 +22,16 @@ squares_fit w high = mul-le w w 9 9 high high
 pub pairs_fit : (w : ℕ) → w ≤ 9 → w * w * w ≤ PAIRS
 pairs_fit w high = mul-le (w * w) w CELLS 9 (squares_fit w high) high
 
--- what the code computes of the values from 1 to w
-abbrev full_set : ℕ → ℕ
-full_set w = 1 * 2 ^ (w + 1) % 65536 - 2
-
-full_set-is : (w : ℕ) → w ≤ 9 → full_set w ≡ full_marks w
-full_set-is w high = let small : w + 1 < 16 = omega arith in ap (λ (k : ℕ). k - 2) (one_shl (w + 1) 16 small)
-
 -- at the start no pair has gone
-pub agrees_at_start : (w : ℕ) → 3 ≤ w → w ≤ 9 → AgreesWithTrail w (replicate CELLS (full_set w)) []
+pub agrees_at_start : (w : ℕ) → 3 ≤ w → w ≤ 9 → AgreesWithTrail w (replicate CELLS (numbers_to w)) []
 agrees_at_start w low high = record {
   smallest = low;
   largest = high;
   places = refl;
   agree = λ cell value inside.
       let near : cell < CELLS = omega (arith, squares_fit w high) in
-      ap (λ m. has_mark m value) (get_or-replicate CELLS cell (full_set w) 0 near ∙ full_set-is w high)
-      ∙ has_mark-full_marks w value
+      ap (λ m. has_number m value) (get_or-replicate CELLS cell (numbers_to w) 0 near)
+      ∙ has_number-numbers_to w value
       ∙ sym (and-true (leb 1 value && leb value w));
   in_range = λ cell value h. absurd (false≢true h);
   apart = tt;
@@ -56,10 +49,10 @@ turned_back true a b is = rw is (sym (not_not b))
     not_not false = refl
 turned_back false a b is = sym is
 
--- a bit is turned over as its pair goes or comes back, if its value is one of the size's
-turned_bit : (s r gone : Bool) → (s ≡ true → r ≡ true) → turned_where s (r && not gone) ≡ (r && not (turned_where s gone))
-turned_bit true r gone in_range = rw (in_range refl) refl
-turned_bit false r gone in_range = refl
+-- a value is turned over as its pair goes or comes back, if its value is one of the size's
+turned_value : (s r gone : Bool) → (s ≡ true → r ≡ true) → turned_where s (r && not gone) ≡ (r && not (turned_where s gone))
+turned_value true r gone in_range = rw (in_range refl) refl
+turned_value false r gone in_range = refl
 
 -- a pair that isn't in the trail goes: it alone is then in the trail where it wasn't
 turned_by_pair : (trail : List (ℕ × ℕ)) (cell value : ℕ) → has_pair trail cell value ≡ false → (c v : ℕ)
@@ -93,9 +86,9 @@ record DiffersByPair (w : ℕ) (trail next : List (ℕ × ℕ)) (cell value : �
   pub in_range : (c v : ℕ) → has_pair next c v ≡ true → IsPair w c v
   pub apart : AreApart next
 
--- the bit of that pair is turned over
+-- that pair is turned over
 agrees_turned : (w : ℕ) (old new : List ℕ) (trail next : List (ℕ × ℕ)) (cell value : ℕ) → AgreesWithTrail w old trail
-    → FlipsBit old new cell value → DiffersByPair w trail next cell value → AgreesWithTrail w new next
+    → FlipsValue old new cell value → DiffersByPair w trail next cell value → AgreesWithTrail w new next
 agrees_turned w old new trail next cell value k f d = record {
   smallest = k.smallest;
   largest = k.largest;
@@ -106,17 +99,17 @@ agrees_turned w old new trail next cell value k f d = record {
       let in_range : s ≡ true → r ≡ true = λ same.
       let p = pair_from_test c cell v value same in
       and_from (leb 1 v) (leb v w) (le-leb 1 v (omega (arith, d.pair.low, p.1))) (le-leb v w (omega (arith, d.pair.high, p.1))) in
-      f.bits c v
+      f.values c v
       ∙ ap (turned_where s) (k.agree c v inside)
-      ∙ turned_bit s r (has_pair trail c v) in_range
+      ∙ turned_value s r (has_pair trail c v) in_range
       ∙ ap (λ gone. r && not gone) (sym (d.turned c v));
   in_range = d.in_range;
   apart = d.apart;
 }
 
--- a pair goes: it joins the trail, and its bit is turned over
+-- a pair goes: it joins the trail, and its value is turned over
 pub agrees_removed : (w : ℕ) (old new : List ℕ) (trail : List (ℕ × ℕ)) (cell value : ℕ) → AgreesWithTrail w old trail → IsPair w cell value
-    → has_pair trail cell value ≡ false → FlipsBit old new cell value → AgreesWithTrail w new (trail ++ (cell, value) ∷ [])
+    → has_pair trail cell value ≡ false → FlipsValue old new cell value → AgreesWithTrail w new (trail ++ (cell, value) ∷ [])
 agrees_removed w old new trail cell value k i absent f =
     agrees_turned w old new trail (trail ++ (cell, value) ∷ []) cell value k f (record {
       pair = i;
@@ -140,9 +133,9 @@ trail_pair_at w sets trail k p h e =
     let here : test (get_or trail k p) ≡ true = ap test at ∙ test_from_pair p.0 p.0 p.1 p.1 refl refl in
     h.in_range p.0 p.1 (list_any_at test trail k p (slice_get_within trail k p e) here)
 
--- the last pair comes back: it leaves the trail, and its bit is turned over
+-- the last pair comes back: it leaves the trail, and its value is turned over
 pub agrees_undone : (w : ℕ) (old new : List ℕ) (trail : List (ℕ × ℕ)) (cell value : ℕ) → AgreesWithTrail w old (trail ++ (cell, value) ∷ [])
-    → FlipsBit old new cell value → AgreesWithTrail w new trail
+    → FlipsValue old new cell value → AgreesWithTrail w new trail
 agrees_undone w old new trail cell value k f =
     let front = apart_front trail (cell, value) k.apart in
     agrees_turned w old new (trail ++ (cell, value) ∷ []) trail cell value k f (record {

@@ -1,8 +1,8 @@
 -- Lemmas on trails and candidates, and on the steps of the search and of the listing.
 pub mod Trails
-pub mod BitSets
+pub mod FlippedValues
 pub mod AgreeingSets
-pub mod OneBit
+pub mod SquareSets
 pub mod Earlier
 pub mod SolutionTests
 pub mod OneKept

@@ -1,7 +1,7 @@
 -- What contracts see of the candidates of a puzzle's squares.
 use Rattle.std.specs.Prelude.{◌≡◌, ◌↔◌, ℕ, ◌*◌, ◌<◌, ◌≤◌, Bool, true, not, List}
 use Rattle.latin_board.specs.Squares.{GridValue, number_at}
-use Rattle.latin_board.specs.Marks.{has_mark}
+use Rattle.number_sets.specs.Sets.{has_number}
 use Rattle.trail_solver.specs.Pairs.{IsPair, IsPrefix, AreApart, has_pair}
 
 -- all pairs of the size are candidates, but for those that the trail lists in the order in which they went
@@ -22,7 +22,7 @@ pub record IsCandidates (c : CandidatesValue) : Type 0 where
 
 -- the set is that of the cell's candidates
 abbrev pub IsSetOf : CandidatesValue → ℕ → ℕ → Type 0
-IsSetOf c cell set = (v : ℕ) → (has_mark set v ≡ true) ↔ (IsPair c.size cell v × (may_be c cell v ≡ true))
+IsSetOf c cell set = (v : ℕ) → (has_number set v ≡ true) ↔ (IsPair c.size cell v × (may_be c cell v ≡ true))
 
 -- the value is the cell's only candidate
 pub record IsOnly (c : CandidatesValue) (cell value : ℕ) : Type 0 where

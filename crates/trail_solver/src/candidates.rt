@@ -3,10 +3,11 @@ ghost use Rattle.std.specs.Prelude.{◌≡◌, ℕ, ◌+◌, ◌-◌, ◌*◌, �
 ghost use Rattle.latin_board.specs.declared.grid.TheConstants.{CELLS};
 ghost use Rattle.trail_solver.specs.Pairs.{IsPair, with_pair};
 ghost use Rattle.trail_solver.specs.Candidates.{CandidatesValue, IsCandidates, IsSetOf, IsOnly, IsEarlier, may_be};
-ghost use Rattle.trail_solver.specs.Inner.Fields.{FlipsBit};
+ghost use Rattle.trail_solver.specs.Inner.Fields.{FlipsValue};
 
 use arrayvec::ArrayVec;
 use latin_board::{CELLS, Size};
+use number_sets::NumberSet;
 use std::marker::Model;
 
 /// The pairs of a square and a value in the largest grid, and so the longest trail.
@@ -38,13 +39,13 @@ impl Mark {
 
 /// Which values each square of a grid may still take.
 ///
-/// Each square has a bit set of its candidates. The trail lists the pairs that were removed, in that order,
+/// Each square has the set of its candidates. The trail lists the pairs that were removed, in that order,
 /// so what was removed since a mark can be given back without a copy. It never allocates.
 #[derive(Debug, Drop)]
 pub struct Candidates {
     size: Size,
-    // bit v of a cell's set: v may stand there
-    sets: [u16; CELLS],
+    // the values that may stand in each cell
+    sets: [NumberSet; CELLS],
     trail: ArrayVec<(u8, u8), PAIRS>,
 }
 
@@ -65,10 +66,9 @@ impl Candidates {
         ensures size { result.size ≡ size }
         ensures trail { result.trail ≡ [] }
     {
-        let full = (1 << (size.get() + 1)) - 2;
         Candidates {
             size,
-            sets: [full; CELLS],
+            sets: [NumberSet::up_to(size.get()); CELLS],
             trail: ArrayVec::new(),
         }
     }
@@ -87,11 +87,11 @@ impl Candidates {
         ensures { result ≡ may_be self.now cell value }
     {
         let sets = &self.sets;
-        sets[cell] >> value & 1 == 1
+        sets[cell].has(value)
     }
 
-    /// The candidates of the cell, a square of the grid, as a bit set: bit v is set where v is one.
-    pub fn values(&self, cell: usize) -> u16
+    /// The set of the candidates of the cell, a square of the grid.
+    pub fn values(&self, cell: usize) -> NumberSet
         requires { cell < self.now.size * self.now.size }
         ensures { IsSetOf self.now cell result }
     {
@@ -104,12 +104,7 @@ impl Candidates {
         requires { cell < self.now.size * self.now.size }
         ensures { MatchOption result ((v : ℕ) → IsOnly self.now cell v → ⊥) (IsOnly self.now cell) }
     {
-        let set = self.values(cell);
-        if set == 0 {
-            return None;
-        }
-        let value = set.trailing_zeros() as u8;
-        if set == 1 << value { Some(value) } else { None }
+        self.values(cell).single()
     }
 
     /// The place in the trail that `give_back` restores; no pencil mark.
@@ -179,10 +174,12 @@ impl Candidates {
 }
 
 // Takes the value into the cell's set, or out of it.
-fn flip(sets: &mut [u16; CELLS], cell: usize, value: u8)
+fn flip(sets: &mut [NumberSet; CELLS], cell: usize, value: u8)
     requires inside { cell < CELLS }
     requires small { value < 16 }
-    ensures { FlipsBit sets.old sets.new cell value }
+    ensures { FlipsValue sets.old sets.new cell value }
 {
-    sets[cell] ^= 1 << value;
+    let mut set = sets[cell];
+    set.flip(value);
+    sets[cell] = set;
 }

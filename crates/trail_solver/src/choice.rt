@@ -52,12 +52,10 @@ fn lowest_at(candidates: &Candidates, cell: usize) -> Choice
     requires { IsOpen candidates.now cell }
     ensures { IsChoice candidates.now result }
 {
-    let set = candidates.values(cell);
-    if set == 0 {
-        return Choice::Dead;
+    match candidates.values(cell).least() {
+        Some(value) => Choice::Branch { cell, value },
+        None => Choice::Dead,
     }
-    let value = set.trailing_zeros() as u8;
-    Choice::Branch { cell, value }
 }
 
 /// The first open square in reading order.

@@ -9,6 +9,7 @@ use crate::candidates::Candidates;
 use crate::failures::Failures;
 use crate::place_counts::PlaceCounts;
 use latin_board::line_cell;
+use number_sets::NumberSet;
 
 /// What a square or a value weighs in whose lines nothing failed: a few failures don't make much of it.
 const WEIGHT: u32 = 4;
@@ -52,7 +53,7 @@ fn best_square(
     for column in 0..width {
         let cell = line_cell(size, row, column);
         let set = candidates.values(cell);
-        let ways = set.count_ones();
+        let ways = set.len();
         let weight = WEIGHT + row_failures + failures.of_line(width + column);
         if ways > 1 && is_better(best, ways, weight) {
             best = Some(Proposal {
@@ -67,11 +68,8 @@ fn best_square(
 }
 
 // The greatest value of a set: tall towers, and the ends of signs, say most.
-fn greatest(set: u16) -> u8 {
-    if set == 0 {
-        return 0;
-    }
-    set.ilog2() as u8
+fn greatest(set: NumberSet) -> u8 {
+    set.greatest().unwrap_or(0)
 }
 
 // The best, or the value of a line with the fewest places, where that is better.
@@ -128,7 +126,7 @@ fn first_place(candidates: &Candidates, line: u8, value: u8) -> Option<usize>
     let size = candidates.size();
     for place in 0..size.get() {
         let cell = line_cell(size, line, place);
-        if u32::from(candidates.values(cell)) >> value.min(15) & 1 == 1 {
+        if candidates.values(cell).has(value.min(15)) {
             return Some(cell);
         }
     }

@@ -170,7 +170,7 @@ fn trail_of_width_3(rt: HostRuntime) -> Result<(), Fail> {
     assert_eq!(rt; candidates.size(), size);
     assert_eq!(rt; candidates.size().get(), 3);
     assert_eq!(rt; candidates.trail_len(), 0);
-    assert_eq!(rt; candidates.values(0), 0b1110);
+    assert_eq!(rt; candidates.values(0).bits(), 0b1110);
     candidates.remove(0, 1);
     let mark = candidates.mark();
     assert_eq!(rt; mark.len(), 1);
@@ -178,7 +178,7 @@ fn trail_of_width_3(rt: HostRuntime) -> Result<(), Fail> {
     candidates.remove(0, 2);
     assert_eq!(rt; candidates.trail_len(), 2);
     assert_eq!(rt; candidates.only(0), Some(3));
-    assert_eq!(rt; candidates.values(0), 0b1000);
+    assert_eq!(rt; candidates.values(0).bits(), 0b1000);
     candidates.give_back(mark);
     assert_eq!(rt; candidates.trail_len(), 1);
     assert!(rt; candidates.may(0, 2));
@@ -199,11 +199,11 @@ fn all_pairs_of_width_9(rt: HostRuntime) -> Result<(), Fail> {
     assert_eq!(rt; candidates.trail_len(), 729);
     candidates.remove(40, 5);
     assert_eq!(rt; candidates.trail_len(), 729);
-    assert_eq!(rt; candidates.values(40), 0);
+    assert_eq!(rt; candidates.values(40).bits(), 0);
     assert_eq!(rt; candidates.only(40), None);
     candidates.give_back(start);
     assert_eq!(rt; candidates.trail_len(), 0);
-    assert_eq!(rt; candidates.values(80), 0b11_1111_1110);
+    assert_eq!(rt; candidates.values(80).bits(), 0b11_1111_1110);
     Ok(())
 }
 

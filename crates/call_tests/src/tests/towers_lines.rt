@@ -1,9 +1,10 @@
 //! The towers seen along worked lines, and the values that a clue leaves there.
 
+use number_sets::NumberSet;
 use std::process::Abort;
 use tower_lines::{seen, supported};
 
-// The sets of a line of w squares, each with every number from 1 to w.
+// The sets of a line of w squares, each with every number from 1 to w, as bits.
 const THREE: [u16; 3] = [0b1110; 3];
 
 const NINE: [u16; 9] = [0b11_1111_1110; 9];
@@ -13,9 +14,24 @@ type Row<'a> = (&'a [u16], u8, [u16; 9]);
 
 fn compare(rt: &impl Abort, rows: &[Row]) {
     for (sets, clue, left) in rows {
-        assert!(rt; sets.len() <= 9 && *clue <= 9);
-        assert_eq!(rt; supported(sets, *clue), *left, "{sets:?} at {clue}");
+        assert_eq!(rt; supported_bits(rt, sets, *clue), *left, "{sets:?} at {clue}");
     }
+}
+
+// `supported` with its sets as bits.
+fn supported_bits(rt: &impl Abort, sets: &[u16], clue: u8) -> [u16; 9] {
+    let length = sets.len();
+    assert!(rt; length <= 9 && clue <= 9);
+    let mut numbers = [NumberSet::empty(); 9];
+    for k in 0..length {
+        numbers[k] = NumberSet::from_bits(sets[k]);
+    }
+    let kept = supported(&numbers[..length], clue);
+    let mut bits = [0; 9];
+    for k in 0..9 {
+        bits[k] = kept[k].bits();
+    }
+    bits
 }
 
 #[test]
@@ -75,7 +91,7 @@ fn candidates_count(rt: HostRuntime) {
 
 #[test]
 fn nine_squares(rt: HostRuntime) {
-    let four = supported(&NINE, 4);
+    let four = supported_bits(&rt, &NINE, 4);
     assert_eq!(rt; four[0], 0b0111_1110);
     assert_eq!(rt; four[8], 0b11_1111_1110);
     let rising = [

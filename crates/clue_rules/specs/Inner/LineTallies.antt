@@ -1,23 +1,18 @@
 -- What the squares of a row or column say together, as sets of candidates.
 use Rattle.std.specs.Prelude.{◌≡◌, ◌≢◌, ℕ, ◌<◌, ◌≤◌, ◌⊎◌, ◌↔◌, true, false, List, slice_index}
 use Rattle.latin_board.specs.Lines.{line_cell}
-use Rattle.latin_board.specs.Marks.{has_mark}
+use Rattle.number_sets.specs.Sets.{has_number, IsSingle}
 use Rattle.trail_solver.specs.Candidates.{CandidatesValue, IsOnly}
 use Rattle.clue_rules.specs.Struck.{IsOnePlace}
 use Rattle.clue_rules.specs.declared.lines.latin.Tally.{Tally}
 
 -- the values of the first w sets are from 1 to w
 abbrev pub HoldValuesTo : ℕ → List ℕ → Type 0
-HoldValuesTo w sets = (k v : ℕ) → k < w → has_mark (slice_index sets k) v ≡ true → (1 ≤ v) × (v ≤ w)
-
--- the value is the set's only one
-pub record IsSingle (set value : ℕ) : Type 0 where
-  pub has : has_mark set value ≡ true
-  pub alone : (u : ℕ) → has_mark set u ≡ true → u ≡ value
+HoldValuesTo w sets = (k v : ℕ) → k < w → has_number (slice_index sets k) v ≡ true → (1 ≤ v) × (v ≤ w)
 
 -- numbers from the first n sets, of which no two are the same and none from 1 to n is missing
 pub record IsPossible (sets : List ℕ) (n : ℕ) (number : ℕ → ℕ) : Type 0 where
-  pub within : (k : ℕ) → k < n → has_mark (slice_index sets k) (number k) ≡ true
+  pub within : (k : ℕ) → k < n → has_number (slice_index sets k) (number k) ≡ true
   pub apart : (i j : ℕ) → i < n → j < n → i ≢ j → number i ≢ number j
   pub all : (v : ℕ) → 1 ≤ v → v ≤ n → (k : ℕ) × (k < n) × (number k ≡ v)
 
@@ -28,48 +23,48 @@ AreImpossible sets n = (number : ℕ → ℕ) → IsPossible sets n number → �
 -- the tally of the first n sets: which values are in one of them, in two, and alone in one; none of the sets is empty,
 -- and no value is alone in two
 pub record IsTally (sets : List ℕ) (n : ℕ) (t : Tally) : Type 0 where
-  pub once : (v : ℕ) → (has_mark t.once v ≡ true) ↔ ((k : ℕ) × (k < n) × (has_mark (slice_index sets k) v ≡ true))
+  pub once : (v : ℕ) → (has_number t.once v ≡ true) ↔ ((k : ℕ) × (k < n) × (has_number (slice_index sets k) v ≡ true))
   pub twice : (v : ℕ)
-      → (has_mark t.twice v ≡ true)
-      ↔ ((i : ℕ) × (j : ℕ) × (i < j) × (j < n) × (has_mark (slice_index sets i) v ≡ true) × (has_mark (slice_index sets j) v ≡ true))
-  pub singles : (v : ℕ) → (has_mark t.singles v ≡ true) ↔ ((k : ℕ) × (k < n) × IsSingle (slice_index sets k) v)
-  pub some : (k : ℕ) → k < n → (v : ℕ) × (has_mark (slice_index sets k) v ≡ true)
+      → (has_number t.twice v ≡ true)
+      ↔ ((i : ℕ) × (j : ℕ) × (i < j) × (j < n) × (has_number (slice_index sets i) v ≡ true) × (has_number (slice_index sets j) v ≡ true))
+  pub singles : (v : ℕ) → (has_number t.singles v ≡ true) ↔ ((k : ℕ) × (k < n) × IsSingle (slice_index sets k) v)
+  pub some : (k : ℕ) → k < n → (v : ℕ) × (has_number (slice_index sets k) v ≡ true)
   pub apart : (i j v : ℕ) → i < j → j < n → IsSingle (slice_index sets i) v → IsSingle (slice_index sets j) v → ⊥
 
 -- the tally of a whole line: each value is in one of the sets
 pub record IsWholeTally (sets : List ℕ) (n : ℕ) (t : Tally) : Type 0 where
   pub tally : IsTally sets n t
-  pub placed : (v : ℕ) → 1 ≤ v → v ≤ n → has_mark t.once v ≡ true
+  pub placed : (v : ℕ) → 1 ≤ v → v ≤ n → has_number t.once v ≡ true
 
 -- new is the tally with one set more
 pub record IsCounted (old : Tally) (set : ℕ) (new : Tally) : Type 0 where
-  pub once : (v : ℕ) → (has_mark new.once v ≡ true) ↔ ((has_mark old.once v ≡ true) ⊎ (has_mark set v ≡ true))
+  pub once : (v : ℕ) → (has_number new.once v ≡ true) ↔ ((has_number old.once v ≡ true) ⊎ (has_number set v ≡ true))
   pub twice : (v : ℕ)
-      → (has_mark new.twice v ≡ true) ↔ ((has_mark old.twice v ≡ true) ⊎ ((has_mark old.once v ≡ true) × (has_mark set v ≡ true)))
-  pub singles : (v : ℕ) → (has_mark new.singles v ≡ true) ↔ ((has_mark old.singles v ≡ true) ⊎ IsSingle set v)
-  pub some : (v : ℕ) × (has_mark set v ≡ true)
-  pub fresh : (v : ℕ) → IsSingle set v → has_mark old.singles v ≡ false
+      → (has_number new.twice v ≡ true) ↔ ((has_number old.twice v ≡ true) ⊎ ((has_number old.once v ≡ true) × (has_number set v ≡ true)))
+  pub singles : (v : ℕ) → (has_number new.singles v ≡ true) ↔ ((has_number old.singles v ≡ true) ⊎ IsSingle set v)
+  pub some : (v : ℕ) × (has_number set v ≡ true)
+  pub fresh : (v : ℕ) → IsSingle set v → has_number old.singles v ≡ false
 
 -- the set is empty, or its only value is alone in an earlier one
 abbrev pub IsClash : Tally → ℕ → Type 0
-IsClash t set = ((v : ℕ) → has_mark set v ≡ false) ⊎ ((v : ℕ) × IsSingle set v × (has_mark t.singles v ≡ true))
+IsClash t set = ((v : ℕ) → has_number set v ≡ false) ⊎ ((v : ℕ) × IsSingle set v × (has_number t.singles v ≡ true))
 
 -- the value is in just one of the sets
 pub record IsHidden (t : Tally) (value : ℕ) : Type 0 where
-  pub once : has_mark t.once value ≡ true
-  pub lone : has_mark t.twice value ≡ false
+  pub once : has_number t.once value ≡ true
+  pub lone : has_number t.twice value ≡ false
 
 -- the value of one of the sets may stay: it is alone there; or no other value has its one place there, and the value is
 -- alone in no set
 abbrev pub MayStay : Tally → ℕ → ℕ → Type 0
 MayStay t set value =
     IsSingle set value
-    ⊎ (((u : ℕ) → has_mark set u ≡ true → IsHidden t u → u ≡ value) × (has_mark t.singles value ≡ false))
+    ⊎ (((u : ℕ) → has_number set u ≡ true → IsHidden t u → u ≡ value) × (has_number t.singles value ≡ false))
 
 -- the values of one of the sets that may stay
 pub record IsKeptOf (t : Tally) (set kept : ℕ) : Type 0 where
-  pub only : (v : ℕ) → has_mark kept v ≡ true → (has_mark set v ≡ true) × MayStay t set v
-  pub all : (v : ℕ) → has_mark set v ≡ true → MayStay t set v → has_mark kept v ≡ true
+  pub only : (v : ℕ) → has_number kept v ≡ true → (has_number set v ≡ true) × MayStay t set v
+  pub all : (v : ℕ) → has_number set v ≡ true → MayStay t set v → has_number kept v ≡ true
 
 -- another square of the line has the value as its only one
 pub record IsTaken (c : CandidatesValue) (line index value : ℕ) : Type 0 where

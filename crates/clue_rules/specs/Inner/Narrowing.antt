@@ -1,10 +1,10 @@
 -- Steps that take candidates away and lose no grid that is sought.
-use Rattle.std.specs.Prelude.{◌≡◌, ◌≢◌, ℕ, ◌*◌, ◌<◌, ◌⊎◌, ◌↔◌, Bool, true, false, List, length, slice_index}
+use Rattle.std.specs.Prelude.{◌≡◌, ◌≢◌, ℕ, ◌*◌, ◌<◌, ◌⊎◌, Bool, true, false, List, length, slice_index}
 use Rattle.std.specs.Bool.{OnTrue, OnFalse}
-use Rattle.latin_board.specs.Marks.{has_mark}
+use Rattle.number_sets.specs.Sets.{has_number}
 use Rattle.latin_board.specs.Squares.{GridValue, IsGrid, IsLatin, number_at}
 use Rattle.trail_solver.specs.Pairs.{IsPair}
-use Rattle.trail_solver.specs.Candidates.{CandidatesValue, IsEarlier, IsWithin, may_be}
+use Rattle.trail_solver.specs.Candidates.{CandidatesValue, IsEarlier, IsSetOf, IsWithin, may_be}
 use Rattle.clue_rules.specs.Struck.{IsLatinStruck}
 use Rattle.clue_rules.specs.Views.{view_cell}
 
@@ -41,12 +41,8 @@ pub record IsSquare (g : GridValue) : Type 0 where
 -- new is old with only the values of a set kept in the cell
 pub record KeepsInSquare (old new : CandidatesValue) (cell kept : ℕ) : Type 0 where
   pub less : IsEarlier old new
-  pub gone : (v : ℕ) → IsPair old.size cell v → has_mark kept v ≡ false → may_be new cell v ≡ false
-  pub rest : (c v : ℕ) → (c ≢ cell) ⊎ (has_mark kept v ≡ true) → may_be new c v ≡ may_be old c v
-
--- the set is that of the cell's candidates
-abbrev pub IsSetOf : CandidatesValue → ℕ → ℕ → Type 0
-IsSetOf c cell set = (v : ℕ) → (has_mark set v ≡ true) ↔ (IsPair c.size cell v × (may_be c cell v ≡ true))
+  pub gone : (v : ℕ) → IsPair old.size cell v → has_number kept v ≡ false → may_be new cell v ≡ false
+  pub rest : (c v : ℕ) → (c ≢ cell) ⊎ (has_number kept v ≡ true) → may_be new c v ≡ may_be old c v
 
 -- the first n sets are those of the first n squares from a place
 pub record AreSetsTo (c : CandidatesValue) (place n : ℕ) (sets : List ℕ) : Type 0 where
@@ -61,11 +57,11 @@ AreSetsOf c place sets = AreSetsTo c place c.size sets
 pub record KeepsInView (place : ℕ) (kept : List ℕ) (old new : CandidatesValue) (left : Bool) : Type 0 where
   pub less : IsEarlier old new
   pub keeps : (g : GridValue) → g.size ≡ old.size
-      → ((k : ℕ) → k < old.size → has_mark (slice_index kept k) (number_at g (view_cell old.size place k)) ≡ true) → IsWithin old g
+      → ((k : ℕ) → k < old.size → has_number (slice_index kept k) (number_at g (view_cell old.size place k)) ≡ true) → IsWithin old g
       → IsWithin new g
-  pub empty : OnFalse left ((k : ℕ) × (k < old.size) × ((v : ℕ) → has_mark (slice_index kept k) v ≡ false))
+  pub empty : OnFalse left ((k : ℕ) × (k < old.size) × ((v : ℕ) → has_number (slice_index kept k) v ≡ false))
   pub gone : OnTrue left ((k v : ℕ) → k < old.size → IsPair old.size (view_cell old.size place k) v
-      → has_mark (slice_index kept k) v ≡ false → may_be new (view_cell old.size place k) v ≡ false)
+      → has_number (slice_index kept k) v ≡ false → may_be new (view_cell old.size place k) v ≡ false)
 
 -- what rows and columns strike, and what a rule strikes along one of the lines
 abbrev pub IsStruckByLines : (ℕ → CandidatesValue → ℕ → ℕ → Type 0) → CandidatesValue → ℕ → ℕ → Type 0

@@ -4,7 +4,7 @@ use Rattle.trail_solver.specs.Candidates.{CandidatesValue}
 use Rattle.clue_rules.specs.Struck.{IsViewStruck}
 use Rattle.clue_rules.specs.Towers.{TowersValue, clue_of}
 use Rattle.clue_rules.specs.Views.{view_line, view_of}
-use Rattle.latin_board.specs.Marks.{has_mark}
+use Rattle.number_sets.specs.Sets.{has_number}
 use Rattle.latin_board.specs.Squares.{GridValue}
 use Rattle.tower_lines.specs.TowersSeen.{seen}
 use Rattle.tower_lines.specs.LineFillings.{IsSupported}
@@ -28,8 +28,8 @@ ShowsClue place clue g = IsSquare g × (seen (view_of g place) ≡ clue)
 
 -- each value that is kept of the first w sets stands in its square in some filling
 abbrev pub AreSupported : ℕ → ℕ → List ℕ → List ℕ → Type 0
-AreSupported w clue sets kept = (k v : ℕ) → k < w → has_mark (slice_index kept k) v ≡ true → IsSupported (take w sets) clue k v
+AreSupported w clue sets kept = (k v : ℕ) → k < w → has_number (slice_index kept k) v ≡ true → IsSupported (take w sets) clue k v
 
 -- each value that some filling has is kept
 abbrev pub KeepSupported : ℕ → ℕ → List ℕ → List ℕ → Type 0
-KeepSupported w clue sets kept = (k v : ℕ) → IsSupported (take w sets) clue k v → has_mark (slice_index kept k) v ≡ true
+KeepSupported w clue sets kept = (k v : ℕ) → IsSupported (take w sets) clue k v → has_number (slice_index kept k) v ≡ true

@@ -2,12 +2,13 @@
 
 ghost use Rattle.clue_rules.specs.Inner.ChangedLines.{GainsLine, GainsLinesOf, LosesLine};
 ghost use Rattle.std.specs.Prelude.{◌≡◌, ℕ, ◌+◌, ◌*◌, ◌/◌, ◌%◌, ◌<◌, ◌==◌};
-ghost use Rattle.latin_board.specs.Marks.{has_mark, no_marks};
+ghost use Rattle.number_sets.specs.Sets.{has_number, no_numbers};
 
 use latin_board::Size;
 use std::marker::Model;
 
-/// A set of lines, the rows from the top and then the columns from the left. Contracts see it as `Marks`.
+/// A set of lines, the rows from the top and then the columns from the left. Contracts see it as a number of which
+/// `has_number` tells the members.
 #[derive(Clone, Copy)]
 pub(crate) struct Lines {
     bits: u32,
@@ -23,20 +24,20 @@ impl Model for Lines {
 
 impl Lines {
     fn none() -> Lines
-        ensures { result ≡ no_marks }
+        ensures { result ≡ no_numbers }
     {
         Lines { bits: 0 }
     }
 
     fn is_empty(self) -> bool
-        ensures { result ≡ (self == no_marks) }
+        ensures { result ≡ (self == no_numbers) }
     {
         self.bits == 0
     }
 
     fn has(self, line: u8) -> bool
         requires { line < 32 }
-        ensures { result ≡ has_mark self line }
+        ensures { result ≡ has_number self line }
     {
         self.bits >> line & 1 == 1
     }
@@ -51,7 +52,7 @@ impl Lines {
     // Takes the line out of the set, and tells whether it was in.
     fn take(&mut self, line: u8) -> bool
         requires { line < 32 }
-        ensures was { result ≡ has_mark self.old line }
+        ensures was { result ≡ has_number self.old line }
         ensures rest { LosesLine line self.old self.new }
     {
         if !self.has(line) {
@@ -72,8 +73,8 @@ pub(crate) struct ChangedLines {
 
 impl ChangedLines {
     pub fn none() -> ChangedLines
-        ensures latin { result.latin ≡ no_marks }
-        ensures rule { result.rule ≡ no_marks }
+        ensures latin { result.latin ≡ no_numbers }
+        ensures rule { result.rule ≡ no_numbers }
     {
         ChangedLines {
             latin: Lines::none(),
@@ -98,14 +99,14 @@ impl ChangedLines {
 
     /// Whether what rows and columns say is to be looked at again in some line.
     pub fn latin_is_settled(&self) -> bool
-        ensures { result ≡ (self.now.latin == no_marks) }
+        ensures { result ≡ (self.now.latin == no_numbers) }
     {
         self.latin.is_empty()
     }
 
     /// Whether the game's own rule is to be looked at again in some line.
     pub fn rule_is_settled(&self) -> bool
-        ensures { result ≡ (self.now.rule == no_marks) }
+        ensures { result ≡ (self.now.rule == no_numbers) }
     {
         self.rule.is_empty()
     }
@@ -113,7 +114,7 @@ impl ChangedLines {
     /// Whether the line is to be looked at again for what it says as a row or column; from now on it isn't.
     pub fn take_latin(&mut self, line: u8) -> bool
         requires { line < 32 }
-        ensures was { result ≡ has_mark self.old.latin line }
+        ensures was { result ≡ has_number self.old.latin line }
         ensures rest { LosesLine line self.old.latin self.new.latin }
         ensures rule { self.new.rule ≡ self.old.rule }
     {
@@ -123,7 +124,7 @@ impl ChangedLines {
     /// Whether the line is to be looked at again for the game's own rule; from now on it isn't.
     pub fn take_rule(&mut self, line: u8) -> bool
         requires { line < 32 }
-        ensures was { result ≡ has_mark self.old.rule line }
+        ensures was { result ≡ has_number self.old.rule line }
         ensures rest { LosesLine line self.old.rule self.new.rule }
         ensures latin { self.new.latin ≡ self.old.latin }
     {

@@ -7,6 +7,7 @@ ghost use Rattle.clue_rules.specs.Inner.Narrowing.{Agrees, KeepsEach};
 
 use crate::lines::view_candidates::strike_missing;
 use latin_board::Grid;
+use number_sets::NumberSet;
 use trail_solver::Candidates;
 
 /// Takes all values but its given from each given square.
@@ -30,6 +31,6 @@ fn keep_given(candidates: &mut Candidates, cell: usize, given: u8)
         candidates.old candidates.new }
 {
     if given > 0 {
-        let _struck = strike_missing(candidates, cell, 1 << given);
+        let _struck = strike_missing(candidates, cell, NumberSet::one(given));
     }
 }

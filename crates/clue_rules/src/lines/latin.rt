@@ -7,9 +7,9 @@ ghost use Rattle.clue_rules.specs.Struck.{IsLatinStruck};
 ghost use Rattle.clue_rules.specs.Views.{front_place};
 
 use crate::lines::changed::ChangedLines;
-use crate::lines::value_sets::{is_single, without};
 use crate::lines::view_candidates::{keep_fewer_in_view, view_sets};
 use crate::lines::views::{LINE, front_place};
+use number_sets::NumberSet;
 use trail_solver::Candidates;
 
 /// Takes away what rows and columns rule out, until they say no more: the value of a square that has just one goes from
@@ -86,26 +86,26 @@ fn strike_line(candidates: &mut Candidates, line: u8, changed: &mut ChangedLines
 // and those that are alone in one.
 #[derive(Clone, Copy)]
 struct Tally {
-    once: u16,
-    twice: u16,
-    singles: u16,
+    once: NumberSet,
+    twice: NumberSet,
+    singles: NumberSet,
 }
 
 // The tally of a line's sets, or none where they can't be the candidates of a row or column.
-fn tally_of(sets: &[u16; LINE], width: usize) -> Option<Tally>
+fn tally_of(sets: &[NumberSet; LINE], width: usize) -> Option<Tally>
     requires { width ≤ 9 }
     ensures { MatchOption result (AreImpossible sets.now width) (IsWholeTally sets.now width) }
 {
     let mut tally = Tally {
-        once: 0,
-        twice: 0,
-        singles: 0,
+        once: NumberSet::empty(),
+        twice: NumberSet::empty(),
+        singles: NumberSet::empty(),
     };
     for k in 0..width {
         tally = tally.with(sets[k])?;
     }
-    let every = (1 << (width + 1)) - 2;
-    if tally.once & every != every {
+    let every = NumberSet::up_to(width as u8);
+    if !every.is_subset(tally.once) {
         return None;
     }
     Some(tally)
@@ -116,30 +116,34 @@ impl Tally {
     ghost use Rattle.clue_rules.specs.Inner.LineTallies.{IsCounted, IsClash, IsKeptOf};
 
     // The tally with one set more, or none where the set is empty or its only value is alone in another set.
-    fn with(self, set: u16) -> Option<Tally>
+    fn with(self, set: NumberSet) -> Option<Tally>
         ensures { MatchOption result (IsClash self set) (IsCounted self set) }
     {
-        if set == 0 {
+        if set.is_empty() {
             return None;
         }
-        let single = if is_single(set) { set } else { 0 };
-        if self.singles & single != 0 {
+        let single = if set.is_single() {
+            set
+        } else {
+            NumberSet::empty()
+        };
+        if !self.singles.is_disjoint(single) {
             return None;
         }
         Some(Tally {
-            once: self.once | set,
-            twice: self.twice | self.once & set,
-            singles: self.singles | single,
+            once: self.once.union(set),
+            twice: self.twice.union(self.once.intersection(set)),
+            singles: self.singles.union(single),
         })
     }
 
     // The values that may stay in each square.
-    fn kept_in_line(self, sets: &[u16; LINE], width: usize) -> [u16; LINE]
+    fn kept_in_line(&self, sets: &[NumberSet; LINE], width: usize) -> [NumberSet; LINE]
         requires { width ≤ 9 }
         ensures { (k : ℕ) → k < width
-            → IsKeptOf self (slice_index sets.now k) (slice_index result k) }
+            → IsKeptOf self.now (slice_index sets.now k) (slice_index result k) }
     {
-        let mut kept = [0; LINE];
+        let mut kept = [NumberSet::empty(); LINE];
         for k in 0..width {
             kept[k] = self.kept(sets[k]);
         }
@@ -147,20 +151,20 @@ impl Tally {
     }
 
     // The values of a set that may stay.
-    fn kept(self, set: u16) -> u16
+    fn kept(self, set: NumberSet) -> NumberSet
         ensures { IsKeptOf self set result }
     {
-        if is_single(set) {
+        if set.is_single() {
             return set;
         }
-        let forced = without(set & self.once, self.twice);
-        let free = without(set, self.singles);
-        if forced == 0 {
+        let forced = set.intersection(self.once).difference(self.twice);
+        let free = set.difference(self.singles);
+        if forced.is_empty() {
             return free;
         }
-        if is_single(forced) {
-            return forced & free;
+        if forced.is_single() {
+            return forced.intersection(free);
         }
-        0
+        NumberSet::empty()
     }
 }

@@ -6,17 +6,17 @@ ghost use Rattle.clue_rules.specs.Inner.Narrowing.{AreSetsOf, KeepsInView, Keeps
 ghost use Rattle.clue_rules.specs.Views.{view_cell};
 
 use crate::lines::changed::ChangedLines;
-use crate::lines::value_sets::has_value;
 use crate::lines::views::{LINE, view_cell};
+use number_sets::NumberSet;
 use trail_solver::Candidates;
 
-/// The candidates of each square from an edge place, the nearest first, as bit sets: bit v is set where v is one.
-pub(crate) fn view_sets(candidates: &Candidates, place: u8) -> [u16; LINE]
+/// The candidates of each square from an edge place, the nearest first, as sets.
+pub(crate) fn view_sets(candidates: &Candidates, place: u8) -> [NumberSet; LINE]
     requires { place < 4 * candidates.now.size }
     ensures { AreSetsOf candidates.now place result }
 {
     let size = candidates.size();
-    let mut sets = [0; LINE];
+    let mut sets = [NumberSet::empty(); LINE];
     for k in 0..size.get() as usize {
         sets[k] = candidates.values(view_cell(size, place, k));
     }
@@ -27,8 +27,8 @@ pub(crate) fn view_sets(candidates: &Candidates, place: u8) -> [u16; LINE]
 pub(crate) fn keep_fewer_in_view(
     candidates: &mut Candidates,
     place: u8,
-    sets: &[u16; LINE],
-    kept: &[u16; LINE],
+    sets: &[NumberSet; LINE],
+    kept: &[NumberSet; LINE],
     changed: &mut ChangedLines,
 ) -> bool
     requires place { place < 4 * candidates.old.size }
@@ -42,7 +42,7 @@ pub(crate) fn keep_fewer_in_view(
 }
 
 // Whether the first sets of two rows are the same.
-fn are_same(sets: &[u16; LINE], others: &[u16; LINE], width: usize) -> bool
+fn are_same(sets: &[NumberSet; LINE], others: &[NumberSet; LINE], width: usize) -> bool
     requires { width ≤ 9 }
     ensures { OnTrue result
         ((k : ℕ) → k < width → slice_index sets.now k ≡ slice_index others.now k) }
@@ -59,7 +59,7 @@ fn are_same(sets: &[u16; LINE], others: &[u16; LINE], width: usize) -> bool
 pub(crate) fn keep_in_view(
     candidates: &mut Candidates,
     place: u8,
-    kept: &[u16; LINE],
+    kept: &[NumberSet; LINE],
     changed: &mut ChangedLines,
 ) -> bool
     requires { place < 4 * candidates.old.size }
@@ -79,7 +79,7 @@ pub(crate) fn keep_in_view(
 pub(crate) fn keep_in_square(
     candidates: &mut Candidates,
     cell: usize,
-    kept: u16,
+    kept: NumberSet,
     changed: &mut ChangedLines,
 ) -> bool
     requires { cell < candidates.old.size * candidates.old.size }
@@ -90,17 +90,16 @@ pub(crate) fn keep_in_square(
     if strike_missing(candidates, cell, kept) {
         changed.note(size, cell);
     }
-    kept != 0
+    !kept.is_empty()
 }
 
 /// Takes the values that a set lacks from a square, and tells whether there were any.
-pub(crate) fn strike_missing(candidates: &mut Candidates, cell: usize, kept: u16) -> bool
+pub(crate) fn strike_missing(candidates: &mut Candidates, cell: usize, kept: NumberSet) -> bool
     requires { cell < candidates.old.size * candidates.old.size }
     ensures kept { KeepsInSquare candidates.old candidates.new cell kept }
     ensures same { OnFalse result (candidates.new ≡ candidates.old) }
 {
-    let set = candidates.values(cell);
-    if set & kept == set {
+    if candidates.values(cell).is_subset(kept) {
         return false;
     }
     strike_others(candidates, cell, kept);
@@ -108,13 +107,13 @@ pub(crate) fn strike_missing(candidates: &mut Candidates, cell: usize, kept: u16
 }
 
 // Takes the values that a set lacks from a square.
-fn strike_others(candidates: &mut Candidates, cell: usize, kept: u16)
+fn strike_others(candidates: &mut Candidates, cell: usize, kept: NumberSet)
     requires { cell < candidates.old.size * candidates.old.size }
     ensures { KeepsInSquare candidates.old candidates.new cell kept }
 {
     let width = candidates.size().get();
     for value in 1..width + 1 {
-        if !has_value(kept, value) {
+        if !kept.has(value) {
             candidates.remove(cell, value);
         }
     }

@@ -12,10 +12,10 @@ ghost use Rattle.clue_rules.specs.Inner.LineTallies.{HoldValuesTo};
 
 use crate::lines::changed::ChangedLines;
 use crate::lines::narrowing::LineRules;
-use crate::lines::value_sets::is_single;
 use crate::lines::view_candidates::{keep_fewer_in_view, view_sets};
 use crate::lines::views::{LINE, front_place};
 use crate::towers::Towers;
+use number_sets::NumberSet;
 use tower_lines::{seen, supported};
 use trail_solver::Candidates;
 
@@ -109,20 +109,23 @@ fn narrow_view(candidates: &mut Candidates, place: u8, clue: u8, changed: &mut C
 }
 
 // Whether each set has one value, all different, and these show as many towers as the clue says.
-fn shows_alone(sets: &[u16; LINE], width: usize, clue: u8) -> bool
+fn shows_alone(sets: &[NumberSet; LINE], width: usize, clue: u8) -> bool
     requires width { width ≤ 9 }
     requires values { HoldValuesTo width sets.now }
     ensures { OnTrue result (AreSupported width clue sets.now sets.now) }
 {
     let mut line = [0; LINE];
-    let mut used = 0;
+    let mut used = NumberSet::empty();
     for k in 0..width {
         let set = sets[k];
-        if !is_single(set) || used & set != 0 {
+        let Some(value) = set.single() else {
+            return false;
+        };
+        if !used.is_disjoint(set) {
             return false;
         }
-        used |= set;
-        line[k] = set.trailing_zeros() as u8;
+        used = used.union(set);
+        line[k] = value;
     }
     seen(&line[..width]) as u8 == clue
 }

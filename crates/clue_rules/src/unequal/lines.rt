@@ -9,7 +9,6 @@ ghost use Rattle.clue_rules.specs.Inner.UnequalLines.{AreEnds, IsStruckAt, IsStr
 
 use crate::lines::changed::ChangedLines;
 use crate::lines::narrowing::LineRules;
-use crate::lines::value_sets::{above_least, below_greatest};
 use crate::lines::view_candidates::keep_in_square;
 use crate::unequal::Unequal;
 use crate::unequal::sign::Sign;
@@ -133,7 +132,7 @@ impl Ends {
         ensures { Narrows (HoldsGreater self) (IsLesserStruck self)
             candidates.old candidates.new result }
     {
-        let kept = below_greatest(candidates.values(self.greater));
+        let kept = candidates.values(self.greater).below_greatest();
         keep_in_square(candidates, self.lesser, kept, changed)
     }
 
@@ -145,7 +144,7 @@ impl Ends {
     {
         // The proof learns here that the width is from 3 to 9.
         let _size = candidates.size();
-        let kept = above_least(candidates.values(self.lesser));
+        let kept = candidates.values(self.lesser).above_least();
         keep_in_square(candidates, self.greater, kept, changed)
     }
 }

@@ -12,13 +12,16 @@ loop-mask-init c =
     record {
       back = λ m from l. absurd (omega arith);
       long = search rules;
-      kept = rw all (kept_values_none _ (get_or-zeros 9));
+      kept = rw (all, c.no_values-kept.ensures) (kept_values_none _ (get_or-zeros 9));
     }
 
 pub bounds-back-mask : goal.bounds-back-mask
 bounds-back-mask c =
     let all = one_shl (length c.args.sets.now) 64 (omega (arith, c.requires.short)) in
     mask_in_table (length c.args.sets.now) (c.loop-mask.mask - 1) c.requires.short (omega arith)
+
+pub listed : goal.listed
+listed c = rw c.loop-mask.invariant.long (bounds-back-mask c)
 
 pub loop-mask-preserved : goal.loop-mask-preserved
 loop-mask-preserved c =

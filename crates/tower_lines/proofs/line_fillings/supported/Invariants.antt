@@ -1,5 +1,5 @@
 use Rattle.std.proofs.Common.{◌≡◌, ℕ, ◌^◌, ◌<◌, ◌≤◌, length, slice_index}
-use Rattle.tower_lines.specs.LineMasks.{AreBackCounts, AreKeptValues}
+use Rattle.tower_lines.specs.Inner.LineMasks.{AreBackCounts, AreKeptValues}
 use Rattle.tower_lines.proofs.line_fillings.supported.Given as goal
 
 abbrev pub invariant-loop-mask : goal.invariant-loop-mask

@@ -1,4 +1,4 @@
-use Rattle.tower_lines.proofs.MarkLemmas.{lowest_value}
+use Rattle.tower_lines.proofs.MaskBits.{lowest_value}
 use Rattle.tower_lines.proofs.masks.lowest.Goals as goal
 
 pub returns-clause-value : goal.returns-clause-value

@@ -1,10 +1,10 @@
-use Rattle.trail_solver.proofs.OneBit.{lowest_branch, dead_from_empty}
+use Rattle.trail_solver.proofs.SquareSets.{branch_from_number, dead_from_empty}
 use Rattle.trail_solver.proofs.choice.lowest_at.Goals as goal
 
-pub returns-then-set-eq0 : goal.returns-then-set-eq0
-returns-then-set-eq0 c =
-    (c.args.cell, dead_from_empty c.args.candidates.now c.args.cell c.values-set.result c.requires.inside c.values-set.ensures c.if-set-eq0.true)
+pub returns-in-Some : goal.returns-in-Some
+returns-in-Some c =
+    branch_from_number c.args.candidates.now c.args.cell c.values.result c.in-Some.value c.requires c.values.ensures c.in-Some.ensures.value.has
 
-pub returns : goal.returns
-returns c =
-    lowest_branch c.args.candidates.now c.args.cell c.values-set.result c.requires c.values-set.ensures c.if-set-eq0.false c.values-set.type_inv
+pub returns-in-None : goal.returns-in-None
+returns-in-None c =
+    (c.args.cell, dead_from_empty c.args.candidates.now c.args.cell c.values.result c.requires.inside c.values.ensures c.in-None.ensures.value)

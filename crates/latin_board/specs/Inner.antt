@@ -1,0 +1,3 @@
+-- Words that the types' own fields and private functions alone use.
+pub mod Fields
+pub mod Contents

@@ -1,0 +1,2 @@
+-- Sets of numbers, and what is said of them.
+pub mod Sets
