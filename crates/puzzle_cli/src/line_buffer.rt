@@ -8,7 +8,7 @@ ghost use Rattle.puzzle_cli.specs.LineBuffer.{pushed};
 use std::marker::Model;
 
 /// The most bytes that a line may have, its LF not counted.
-const LINE_BYTES: usize = 1_024;
+pub(crate) const LINE_BYTES: usize = 1_024;
 
 /// A line, or the part of one that has come so far. Of one that is too long no byte is kept.
 #[derive(Drop)]
@@ -20,12 +20,13 @@ pub(crate) struct LineBuffer {
 
 impl Model for LineBuffer {
     ghost use Rattle.std.specs.Prelude.{ℕ, ◌≤◌, List, Option, Some, None, take, if◌then◌else◌};
+    ghost use Rattle.puzzle_cli.specs.declared.line_buffer.TheConstants.{LINE_BYTES};
 
     ghost Value = { Option (List ℕ) };
 
     ghost view = { λ l. if l.is_long then None else Some (take l.len l.bytes) };
 
-    ghost invariant = { λ l. l.len ≤ 1024 };
+    ghost invariant = { λ l. l.len ≤ LINE_BYTES };
 }
 
 impl LineBuffer {

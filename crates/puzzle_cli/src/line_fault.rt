@@ -8,7 +8,7 @@ use thiserror::Error;
 /// Why a line was refused before its command was tried. It comes as a reply alone.
 #[derive(Clone, Copy, Debug, PartialEq, Eq, Error)]
 pub enum LineFault {
-    /// The line has more than 1,024 bytes.
+    /// The line has more than `LINE_BYTES` bytes.
     #[error("the line is too long")]
     LongLine,
     /// The line is no command.

@@ -24,8 +24,8 @@ pub(crate) trait Machine {
     // Whether a line ends the run.
     ghost is_quit: { Option (List ℕ) → Bool };
 
-    /// The answer to a line, which comes without its LF and without one CR at its end; `None` is one of more than 1,024
-    /// bytes.
+    /// The answer to a line, which comes without its LF and without one CR at its end; `None` is one that is
+    /// too long.
     fn answer(&mut self, alloc: Global, line: Option<&[u8]>) -> Answer
         ensures { IsAnswer reply is_quit self.old (option_copied line.entry) result self.new };
 }
