@@ -3,9 +3,9 @@ use Rattle.std.specs.Prelude.{ℕ, ◌==◌, if◌then◌else◌, List, [], ◌�
 use Rattle.std.specs.Option.{option_or}
 use Rattle.byte_text.specs.Decimals.{decimal_value}
 use Rattle.puzzle_cli.specs.declared.command.Command.{Command}
-use Rattle.puzzle_cli.specs.declared.command.Command.TheVariants.{New, Quit, Ask}
-use Rattle.puzzle_cli.specs.declared.command.Request.TheVariants.{Move, Solutions, Plain}
-use Rattle.puzzle_cli.specs.declared.command.Word.{Word}
+use Rattle.puzzle_cli.specs.declared.command.Command.TheVariants.{New, Ask}
+use Rattle.puzzle_cli.specs.declared.command.Request.TheVariants.{Act, Listing}
+use Rattle.puzzle_cli.specs.declared.command.Action.TheVariants.{Play}
 use Rattle.puzzle_cli.specs.declared.line_fault.LineFault.TheVariants.{LongLine, BadCommand}
 use Rattle.puzzle_cli.specs.Lines.{Line}
 use Rattle.puzzle_cli.specs.Commands.{Reading, words}
@@ -19,7 +19,7 @@ abbrev pub entry_at : {A : Type 0} → List (List ℕ × A) → List ℕ → Opt
 entry_at [] line = None
 entry_at (row ∷ rows) line = if bytes_eq line row.0 then Some row.1 else entry_at rows line
 
-abbrev pub word_at : List ℕ → Option Word
+abbrev pub word_at : List ℕ → Option (Command (List ℕ))
 word_at line = entry_at words line
 
 -- how many solutions a text asks for
@@ -29,17 +29,16 @@ nonzero n = if n == 0 then None else Some n
 abbrev pub limit_at : List ℕ → Option ℕ
 limit_at text = option_and_then nonzero (decimal_value 100 text)
 
--- the command of a text that is no word of a session's
-abbrev pub other_command_at : List ℕ → Option (Command (List ℕ))
-other_command_at line =
-    option_or (if bytes_eq line (codes "quit") then Some Quit else None)
-    (option_or (option_map New (rest_behind (codes "new ") line))
-    (option_or (option_map (λ text. Ask (Move text)) (rest_behind (codes "move ") line))
-    (option_map (λ n. Ask (Solutions n)) (option_and_then limit_at (rest_behind (codes "list ") line)))))
+-- the command of a word and its argument
+abbrev pub argument_at : List ℕ → Option (Command (List ℕ))
+argument_at line =
+    option_or (option_map New (rest_behind (codes "new ") line))
+    (option_or (option_map (λ text. Ask (Act (Play text))) (rest_behind (codes "move ") line))
+    (option_map (λ n. Ask (Listing n)) (option_and_then limit_at (rest_behind (codes "list ") line))))
 
 -- the command that a text is, if any
 unfoldable pub command_at : List ℕ → Option (Command (List ℕ))
-command_at line = option_or (option_map (λ word. Ask (Plain word)) (word_at line)) (other_command_at line)
+command_at line = option_or (word_at line) (argument_at line)
 
 -- what a line is read as
 abbrev pub read_at : Line → Reading (List ℕ)

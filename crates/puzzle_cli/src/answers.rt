@@ -3,13 +3,13 @@ ghost use Rattle.std.specs.Prelude.{◌≡◌, Some, Ok, IfOk, IfErr, OnErr};
 ghost use Rattle.std.specs.Option.{option_copied};
 ghost use Rattle.play_save.specs.Written.{save_of};
 ghost use Rattle.puzzle_cli.specs.Text.{text_bytes};
-ghost use Rattle.puzzle_cli.specs.Commands.{is_quit, request_copied, IsInRange};
-ghost use Rattle.puzzle_cli.specs.SessionReplies.{id_line, call_of, view_text, ViewTakesMemory, CallReplies, CallTakesMemory, RequestGives, RequestTakesMemory};
+ghost use Rattle.puzzle_cli.specs.Commands.{is_quit, action_copied, request_copied, IsInRange};
+ghost use Rattle.puzzle_cli.specs.SessionReplies.{id_line, view_text, ViewTakesMemory, ActionAnswered, RequestGives, RequestTakesMemory};
 ghost use Rattle.puzzle_cli.specs.Replies.{Reply, Explains};
 ghost use Rattle.puzzle_cli.specs.Answers.{Says, IsLineRefusal};
 ghost use Rattle.puzzle_cli.specs.Machines.{IsAnswer};
 
-use crate::command::{Action, Command, Request, View, Word, read_command};
+use crate::command::{Action, Command, Request, View, read_command};
 use crate::done_clues::done_text;
 use crate::draw::{Draw, picture};
 use crate::facts::Facts;
@@ -24,7 +24,7 @@ use crate::status::status_text;
 use crate::text::Text;
 use clue_rules::Game;
 use latin_board::OutOfMemory;
-use play_midend::{Session, read_move};
+use play_midend::{PlayFault, Session, read_move};
 use play_save::save;
 use std::alloc::Global;
 
@@ -42,6 +42,7 @@ impl<P: Draw> Machine for Option<Session<P>> {
 }
 
 // What is answered to a line, or why it is refused.
+#[tactic(auto, using(crate::proofs::CommandLaws::goes_on))]
 fn obey<P: Draw>(
     alloc: Global,
     session: &mut Option<Session<P>>,
@@ -82,36 +83,44 @@ fn ask<P: Draw>(
         (RequestTakesMemory ⟦<P as Facts>⟧.facts session.old (request_copied request.entry))) }
 {
     match request {
-        Request::Move(text) => play_text(session, text),
-        Request::Solutions(limit) => Ok(Text::Long(solution_list(alloc, session, limit)?)),
-        Request::Plain(Word::Act(action)) => act(session, action),
-        Request::Plain(Word::Tell(view)) => Ok(tell(alloc, session, view)?),
+        Request::Act(action) => act(session, action),
+        Request::Tell(view) => Ok(tell(alloc, session, view)?),
+        Request::Listing(limit) => Ok(Text::Long(solution_list(alloc, session, limit)?)),
     }
 }
 
 // What a session says to a call.
-fn act<P: Draw>(session: &mut Session<P>, action: Action) -> Result<Text, Refusal>
-    ensures ok { IfOk result (λ text. CallReplies (P.puzzle session.old.puzzle) session.old
-        (call_of action) (Ok (text_bytes text, Some session.new))) }
+fn act<P: Draw>(session: &mut Session<P>, action: Action<&[u8]>) -> Result<Text, Refusal>
+    ensures ok { IfOk result (λ text. RequestGives ⟦<P as Facts>⟧.facts session.old
+        (Request.Act (action_copied action.entry)) (Ok (text_bytes text, Some session.new))) }
     ensures err { OnErr result (session.new ≡ session.old) }
     ensures why { IfErr result (Explains
-        (CallReplies (P.puzzle session.old.puzzle) session.old (call_of action))
-        (CallTakesMemory (P.puzzle session.old.puzzle) session.old (call_of action))) }
+        (RequestGives ⟦<P as Facts>⟧.facts session.old (Request.Act (action_copied action.entry)))
+        (RequestTakesMemory ⟦<P as Facts>⟧.facts session.old
+        (Request.Act (action_copied action.entry)))) }
+{
+    let answer = call(session, action);
+    match action {
+        Action::Solve => solve_reply(session, answer),
+        _ => {
+            answer?;
+            Ok(Text::line("ok"))
+        }
+    }
+}
+
+// Makes a call of the session.
+fn call<P: Draw>(session: &mut Session<P>, action: Action<&[u8]>) -> Result<(), PlayFault>
+    ensures answered { ActionAnswered (P.puzzle session.old.puzzle) session.old
+        (action_copied action.entry) result session.new }
+    ensures err { OnErr result (session.new ≡ session.old) }
 {
     match action {
-        Action::Undo => {
-            session.undo()?;
-            Ok(Text::line("ok"))
-        }
-        Action::Redo => {
-            session.redo()?;
-            Ok(Text::line("ok"))
-        }
-        Action::Restart => {
-            session.restart()?;
-            Ok(Text::line("ok"))
-        }
-        Action::Solve => solve_reply(session),
+        Action::Play(text) => session.play(read_move(text)?),
+        Action::Undo => session.undo(),
+        Action::Redo => session.redo(),
+        Action::Restart => session.restart(),
+        Action::Solve => session.solve(),
     }
 }
 
@@ -129,19 +138,6 @@ fn tell<P: Draw>(alloc: Global, session: &Session<P>, view: View) -> Result<Text
         View::Done => Ok(Text::Clues(done_text(session))),
         View::Save => Ok(Text::Long(save_text(alloc, session)?)),
     }
-}
-
-// Makes the move that a text spells.
-fn play_text<P: Draw>(session: &mut Session<P>, text: &[u8]) -> Result<Text, Refusal>
-    ensures ok { IfOk result (λ said. RequestGives ⟦<P as Facts>⟧.facts session.old
-        (Request.Move text.now) (Ok (text_bytes said, Some session.new))) }
-    ensures err { OnErr result (session.new ≡ session.old) }
-    ensures why { IfErr result (Explains
-        (RequestGives ⟦<P as Facts>⟧.facts session.old (Request.Move text.now))
-        (RequestTakesMemory ⟦<P as Facts>⟧.facts session.old (Request.Move text.now))) }
-{
-    session.play(read_move(text)?)?;
-    Ok(Text::line("ok"))
 }
 
 // The ID of the game that is played, as a line.

@@ -1,12 +1,9 @@
 //! What `solve` makes of a session, and what is said of it.
-ghost use Rattle.std.specs.Prelude.{◌≡◌, ◌-◌, ◌++◌, ◌∷◌, [], List, Some, Ok, length, slice_get, IfOk, OnErr, IfErr};
-ghost use Rattle.latin_board.specs.Squares.{GridValue};
-ghost use Rattle.play_midend.specs.declared.moves.Move.{Move};
-ghost use Rattle.play_midend.specs.Laws.{ToSolution};
+ghost use Rattle.std.specs.Prelude.{◌≡◌, Some, None, Err, IfOk, IfErr, OnOk};
+ghost use Rattle.play_midend.specs.declared.fault.PlayFault.{PlayFault};
 ghost use Rattle.puzzle_cli.specs.Text.{text_bytes};
-ghost use Rattle.puzzle_cli.specs.SolutionTexts.{move_line};
-ghost use Rattle.puzzle_cli.specs.SessionReplies.{CallReplies, CallTakesMemory};
-ghost use Rattle.puzzle_cli.specs.Replies.{Explains};
+ghost use Rattle.latin_board.specs.Squares.{GridValue};
+ghost use Rattle.puzzle_cli.specs.SolutionTexts.{move_line, solve_sentence, EndsInSolution, IsLastMove};
 
 use crate::refusal::Refusal;
 use crate::symbols::grid_digits;
@@ -19,36 +16,34 @@ use play_midend::{Move, PlayFault, Session};
 // `S`, at most 81 digits and a line feed.
 type SolveLine = ArrayVec<u8, 83>;
 
-/// Plays the only solution of the starting puzzle and writes that move, or says why there is none to play.
+/// What is said of the answer to `solve`: the move that was made, or why there is none to make.
 ///
 /// The text takes no memory, as the session has changed by then.
-pub(crate) fn solve_reply<P: Game>(session: &mut Session<P>) -> Result<Text, Refusal>
-    ensures ok { IfOk result (λ text. CallReplies (P.puzzle session.old.puzzle) session.old
-        ToSolution (Ok (text_bytes text, Some session.new))) }
-    ensures err { OnErr result (session.new ≡ session.old) }
-    ensures why { IfErr result (Explains
-        (CallReplies (P.puzzle session.old.puzzle) session.old ToSolution)
-        (CallTakesMemory (P.puzzle session.old.puzzle) session.old ToSolution)) }
+pub(crate) fn solve_reply<P: Game>(
+    session: &Session<P>,
+    answer: Result<(), PlayFault>,
+) -> Result<Text, Refusal>
+    requires { OnOk answer ((g : GridValue) × EndsInSolution session.now g) }
+    ensures made { OnOk answer (IfOk result (λ text. IsLastMove session.now (text_bytes text))) }
+    ensures ok { IfErr answer (λ fault. IfOk result (λ text.
+        solve_sentence fault ≡ Some (text_bytes text))) }
+    ensures err { IfErr result (λ refusal. (fault : PlayFault) × (answer ≡ Err fault)
+        × (solve_sentence fault ≡ None) × (refusal ≡ Refusal.Play fault)) }
 {
-    match session.solve() {
+    match answer {
         Ok(()) => Ok(Text::Solved(solution_line(session))),
-        Err(fault) => match fault {
-            PlayFault::NoSolution => Ok(Text::line("No solution exists for this puzzle")),
-            PlayFault::SeveralSolutions => {
-                Ok(Text::line("Multiple solutions exist for this puzzle"))
-            }
-            _ => Err(Refusal::Play(fault)),
-        },
+        Err(PlayFault::NoSolution) => Ok(Text::line("No solution exists for this puzzle")),
+        Err(PlayFault::SeveralSolutions) => {
+            Ok(Text::line("Multiple solutions exist for this puzzle"))
+        }
+        Err(fault) => Err(Refusal::Play(fault)),
     }
 }
 
 // The line of the move to the last state, which fills in a solution.
 fn solution_line<P: Game>(session: &Session<P>) -> SolveLine
-    requires { (before : List Move) × (g : GridValue)
-        × (session.now.moves ≡ before ++ Move.Solve g ∷ []) }
-    ensures { (g : GridValue)
-        × (slice_get session.now.moves (length session.now.moves - 1) ≡ Some (Move.Solve g))
-        × (result.items ≡ move_line (Move.Solve g)) }
+    requires { (g : GridValue) × EndsInSolution session.now g }
+    ensures { IsLastMove session.now result.items }
 {
     match session.move_at(session.states() - 1) {
         Move::Solve(grid) => grid_line(grid),
