@@ -12,14 +12,15 @@ use Rattle.play_midend.specs.Laws.{Call, ToSolution, CallGives, Answered, may_wa
 use Rattle.puzzle_cli.specs.declared.command.Request.TheVariants.{Act}
 use Rattle.puzzle_cli.specs.declared.command.Action.{Action}
 use Rattle.puzzle_cli.specs.declared.command.Action.TheVariants.{Play, Solve}
-use Rattle.puzzle_cli.specs.declared.refusal.Refusal.{Refusal}
-use Rattle.puzzle_cli.specs.declared.refusal.Refusal.TheVariants
+use Rattle.puzzle_cli.specs.declared.reply.refusal.Refusal.{Refusal}
+use Rattle.puzzle_cli.specs.declared.reply.refusal.Refusal.TheVariants
 use Rattle.puzzle_cli.specs.Commands.{action_copied}
 use Rattle.puzzle_cli.specs.GameFacts.{GameFacts}
 use Rattle.puzzle_cli.specs.Refusals.{refusal_name}
 use Rattle.puzzle_cli.specs.Replies.{Explains}
 use Rattle.puzzle_cli.specs.SolutionTexts.{solve_sentence}
-use Rattle.puzzle_cli.specs.SessionReplies.{IsCallRead, call_sentence, sentence_outcome, ReadAnswered, ActionAnswered, RequestGives, RequestTakesMemory}
+use Rattle.puzzle_cli.specs.SessionReplies.{IsCallRead, call_sentence, sentence_outcome, RequestGives, RequestTakesMemory}
+use Rattle.puzzle_cli.specs.Inner.Answers.{ReadAnswered, ActionAnswered}
 
 module _ {P : Type 0} (p : Puzzle) (h new : History P) where
   -- a call's answer, out of what the call promises

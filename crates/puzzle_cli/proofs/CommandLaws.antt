@@ -10,10 +10,10 @@ use Rattle.puzzle_cli.specs.declared.command.Command.{Command}
 use Rattle.puzzle_cli.specs.declared.command.Command.TheVariants.{New, Quit, Ask}
 use Rattle.puzzle_cli.specs.declared.command.Request.TheVariants.{Act, Listing}
 use Rattle.puzzle_cli.specs.declared.command.Action.TheVariants.{Play}
-use Rattle.puzzle_cli.specs.declared.line_fault.LineFault.TheVariants.{LongLine, BadCommand, NoGame}
+use Rattle.puzzle_cli.specs.declared.command.line_fault.LineFault.TheVariants.{LongLine, BadCommand, NoGame}
 use Rattle.puzzle_cli.specs.Lines.{Line}
 use Rattle.puzzle_cli.specs.Commands.{Reading, words, IsEntry, HasArgument, is_quit, IsCommandLine, IsRead, read_map}
-use Rattle.puzzle_cli.specs.CommandReading.{rest_behind, entry_at, nonzero, limit_at, word_at, argument_at, command_at, read_at}
+use Rattle.puzzle_cli.specs.Inner.CommandReading.{rest_behind, entry_at, nonzero, limit_at, word_at, argument_at, command_at, read_at}
 
 -- ---- tables
 

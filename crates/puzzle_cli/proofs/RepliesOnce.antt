@@ -17,7 +17,7 @@ use Rattle.play_midend.specs.Histories.{History, with_move, full_refusal, SolveG
 use Rattle.play_midend.specs.Steps.{unless_refused}
 use Rattle.play_midend.specs.Laws.{Call, ToSolution, CallGives}
 use Rattle.play_midend.proofs.MoveTextLaws.{move_again}
-use Rattle.puzzle_cli.specs.declared.start_fault.StartFault.{StartFault}
+use Rattle.puzzle_cli.specs.declared.start.start_fault.StartFault.{StartFault}
 use Rattle.puzzle_cli.specs.declared.command.Command.TheVariants.{New, Ask}
 use Rattle.puzzle_cli.specs.declared.command.Request.{Request}
 use Rattle.puzzle_cli.specs.declared.command.Request.TheVariants.{Act, Tell, Listing}

@@ -9,8 +9,8 @@ use Rattle.puzzle_cli.specs.declared.command.Request.TheVariants.{Act, Tell, Lis
 use Rattle.puzzle_cli.specs.declared.command.Action.{Action}
 use Rattle.puzzle_cli.specs.declared.command.Action.TheVariants.{Play, Undo, Redo, Restart, Solve}
 use Rattle.puzzle_cli.specs.declared.command.View.TheVariants.{Show, Marks, Status, Id, Done, Save}
-use Rattle.puzzle_cli.specs.declared.line_fault.LineFault.{LineFault}
-use Rattle.puzzle_cli.specs.declared.line_fault.LineFault.TheVariants.{LongLine, BadCommand, NoGame}
+use Rattle.puzzle_cli.specs.declared.command.line_fault.LineFault.{LineFault}
+use Rattle.puzzle_cli.specs.declared.command.line_fault.LineFault.TheVariants.{LongLine, BadCommand, NoGame}
 use Rattle.puzzle_cli.specs.Lines.{Line}
 
 -- the commands of a word alone

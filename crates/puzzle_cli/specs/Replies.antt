@@ -3,10 +3,10 @@ use Rattle.std.specs.Prelude.{◌≡◌, ◌⊎◌, ℕ, List, [], ◌∷◌, �
 use Rattle.play_midend.specs.Histories.{History}
 use Rattle.puzzle_cli.specs.declared.command.Command.{Command}
 use Rattle.puzzle_cli.specs.declared.command.Command.TheVariants.{New, Quit, Ask}
-use Rattle.puzzle_cli.specs.declared.line_fault.LineFault.TheVariants.{NoGame}
-use Rattle.puzzle_cli.specs.declared.refusal.Refusal.{Refusal}
-use Rattle.puzzle_cli.specs.declared.refusal.Refusal.TheVariants.{Line as OfLine, Start}
-use Rattle.puzzle_cli.specs.declared.start_fault.StartFault.{StartFault}
+use Rattle.puzzle_cli.specs.declared.command.line_fault.LineFault.TheVariants.{NoGame}
+use Rattle.puzzle_cli.specs.declared.reply.refusal.Refusal.{Refusal}
+use Rattle.puzzle_cli.specs.declared.reply.refusal.Refusal.TheVariants.{Line as OfLine, Start}
+use Rattle.puzzle_cli.specs.declared.start.start_fault.StartFault.{StartFault}
 use Rattle.puzzle_cli.specs.Lines.{Line}
 use Rattle.puzzle_cli.specs.Commands.{Reading, IsRead}
 use Rattle.puzzle_cli.specs.Refusals.{refusal_name}

@@ -10,15 +10,15 @@ use Rattle.play_midend.specs.declared.moves.Move.{Move}
 use Rattle.play_midend.specs.MoveTexts.{IsMoveText, move_fault}
 use Rattle.play_midend.specs.Histories.{History, shown}
 use Rattle.play_midend.specs.Laws
-use Rattle.play_midend.specs.Laws.{Call, FromStart, ToSolution, CallGives, Answered, may_want_memory}
+use Rattle.play_midend.specs.Laws.{Call, FromStart, ToSolution, CallGives, may_want_memory}
 use Rattle.puzzle_cli.specs.declared.command.Request.{Request}
 use Rattle.puzzle_cli.specs.declared.command.Request.TheVariants.{Act, Tell, Listing}
 use Rattle.puzzle_cli.specs.declared.command.Action.{Action}
 use Rattle.puzzle_cli.specs.declared.command.Action.TheVariants.{Play, Undo, Redo, Restart, Solve}
 use Rattle.puzzle_cli.specs.declared.command.View.{View}
 use Rattle.puzzle_cli.specs.declared.command.View.TheVariants.{Show, Marks, Status, Id, Done, Save}
-use Rattle.puzzle_cli.specs.declared.refusal.Refusal.{Refusal}
-use Rattle.puzzle_cli.specs.declared.refusal.Refusal.TheVariants
+use Rattle.puzzle_cli.specs.declared.reply.refusal.Refusal.{Refusal}
+use Rattle.puzzle_cli.specs.declared.reply.refusal.Refusal.TheVariants
 use Rattle.puzzle_cli.specs.BoardTexts.{marks_lines, status_words, done_lines}
 use Rattle.puzzle_cli.specs.SolutionTexts.{listed_lines, IsLastMove, solve_sentence}
 use Rattle.play_save.specs.Written.{save_of}
@@ -87,14 +87,6 @@ CallTakesMemory {P} p h call = (new : History P) × CallGives p h call (Ok new) 
 abbrev pub ReadReplies : {P : Type 0} → Puzzle → History P → Result Call PlayFault → Outcome P → Type 0
 ReadReplies p h (Ok call) outcome = CallReplies p h call outcome
 ReadReplies p h (Err fault) outcome = outcome ≡ Err (TheVariants.Play fault)
-
--- what a call that is asked for answers, and the session that it leaves
-abbrev pub ReadAnswered : {P : Type 0} → Puzzle → History P → Result Call PlayFault → Result (Unit {0}) PlayFault → History P → Type 0
-ReadAnswered p h (Ok call) answer new = Answered p h call answer new
-ReadAnswered p h (Err fault) answer new = (new ≡ h) × (answer ≡ Err fault)
-
-abbrev pub ActionAnswered : {P : Type 0} → Puzzle → History P → Action (List ℕ) → Result (Unit {0}) PlayFault → History P → Type 0
-ActionAnswered p h action answer new = (read : Result Call PlayFault) × IsCallRead action read × ReadAnswered p h read answer new
 
 -- ---- views
 

@@ -2,9 +2,11 @@
 ghost use Rattle.std.specs.Prelude.{◌≡◌, ◌≤◌, IfOk, IfSome, option_map};
 ghost use Rattle.std.specs.Option.{option_copied};
 ghost use Rattle.puzzle_cli.specs.Commands.{command_copied, read_copied, IsRead, IsCommandInRange};
-ghost use Rattle.puzzle_cli.specs.CommandReading.{command_at, read_at, limit_at, word_at};
+ghost use Rattle.puzzle_cli.specs.Inner.CommandReading.{command_at, read_at, limit_at, word_at};
 
-use crate::line_fault::LineFault;
+pub(crate) mod line_fault;
+
+use crate::command::line_fault::LineFault;
 use byte_text::number;
 
 /// A command, whose argument is a text of type `T`.
@@ -119,7 +121,7 @@ fn parse_line(line: Option<&[u8]>) -> Result<Option<Command<&[u8]>>, LineFault>
     }
 }
 
-#[tactic(auto, unfolding(crate::specs::CommandReading::command_at))]
+#[tactic(auto, unfolding(crate::specs::Inner::CommandReading::command_at))]
 fn parse_command(line: &[u8]) -> Option<Command<&[u8]>>
     ensures command { option_map command_copied result ≡ command_at line.now }
     ensures range { IfSome result IsCommandInRange }
