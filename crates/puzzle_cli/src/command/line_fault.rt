@@ -7,15 +7,13 @@ use thiserror::Error;
 
 /// Why a line was refused before its command was tried. It comes as a reply alone.
 #[derive(Clone, Copy, Debug, PartialEq, Eq, Error)]
+#[error("{}", self.name())]
 pub enum LineFault {
     /// The line has more than `LINE_BYTES` bytes.
-    #[error("the line is too long")]
     LongLine,
     /// The line is no command.
-    #[error("the line is no command")]
     BadCommand,
     /// The command needs a session, and there is none.
-    #[error("there is no game")]
     NoGame,
 }
 

@@ -1,6 +1,6 @@
 //! The loop of a run: bytes are read, cut into lines, and each line is answered by a machine.
 
-ghost use Rattle.std.specs.Prelude.{◌≡◌, ℕ, ◌+◌, ◌≤◌, ◌∷◌, [], Some, true, false, length, take, is_err, IfOk, OnOk, OnErr};
+ghost use Rattle.std.specs.Prelude.{◌≡◌, ℕ, ◌+◌, ◌≤◌, ◌∷◌, [], Some, false, length, take, is_err, IfOk, OnOk, OnErr};
 ghost use Rattle.std.specs.Option.{option_copied};
 ghost use Rattle.std.specs.Io.KnownBytes.{Appends, Consumes, IsAtEnd, Keeps};
 ghost use Rattle.puzzle_cli.specs.Lines.{as_line};
@@ -9,7 +9,7 @@ ghost use Rattle.puzzle_cli.specs.Runs.{point_at, progress_at, Ends};
 ghost use Rattle.puzzle_cli.specs.Inner.Steps.{Goes};
 
 use crate::line::line_buffer::LineBuffer;
-use crate::line::machine::{Answer, Machine};
+use crate::line::machine::{Machine, Response};
 use crate::run_end::End;
 use puzzle_io::{DeviceFault, Sink, Source};
 use std::alloc::Global;
@@ -157,9 +157,9 @@ fn answer_line<M: Machine, W: Sink>(
         (progress_at W.Sink machine.old sink.old) (progress_at W.Sink machine.new sink.new) }
 {
     match machine.answer(alloc, line) {
-        Answer::Quit => return Flow::Quit,
-        Answer::Silence => return Flow::More,
-        Answer::Reply(text) => match send(sink, text.as_bytes()) {
+        Response::Quit => return Flow::Quit,
+        Response::Silence => return Flow::More,
+        Response::Reply(text) => match send(sink, text.as_bytes()) {
             Ok(()) => return Flow::More,
             Err(_) => return Flow::Unsent,
         },

@@ -1,14 +1,14 @@
 //! What answers lines, as the loop over them sees it.
-ghost use Rattle.std.specs.Prelude.{◌≡◌, ℕ, Bool, Option, List};
+ghost use Rattle.std.specs.Prelude.{ℕ, Bool, Option, List};
 ghost use Rattle.std.specs.Option.{option_copied};
-ghost use Rattle.puzzle_cli.specs.Inner.Machines.{IsAnswer};
+ghost use Rattle.puzzle_cli.specs.Inner.Machines.{IsResponse};
 
 use crate::reply::text::Text;
 use std::alloc::Global;
 
 /// What a machine answers to a line.
 #[derive(Drop)]
-pub(crate) enum Answer {
+pub(crate) enum Response {
     Reply(Text),
     /// The line has no reply.
     Silence,
@@ -26,6 +26,6 @@ pub(crate) trait Machine {
 
     /// The answer to a line, which comes without its LF and without one CR at its end; `None` is one that is
     /// too long.
-    fn answer(&mut self, alloc: Global, line: Option<&[u8]>) -> Answer
-        ensures { IsAnswer reply is_quit self.old (option_copied line.entry) result self.new };
+    fn answer(&mut self, alloc: Global, line: Option<&[u8]>) -> Response
+        ensures { IsResponse reply is_quit self.old (option_copied line.entry) result self.new };
 }

@@ -7,12 +7,12 @@ ghost use Rattle.puzzle_cli.specs.Commands.{is_quit, action_copied, request_copi
 ghost use Rattle.puzzle_cli.specs.SessionReplies.{id_line, view_text, ViewTakesMemory, RequestGives, RequestTakesMemory};
 ghost use Rattle.puzzle_cli.specs.Replies.{Reply, Explains};
 ghost use Rattle.puzzle_cli.specs.Inner.Answers.{Says, IsLineRefusal, ActionAnswered};
-ghost use Rattle.puzzle_cli.specs.Inner.Machines.{IsAnswer};
+ghost use Rattle.puzzle_cli.specs.Inner.Machines.{IsResponse};
 
 use crate::command::line_fault::LineFault;
 use crate::command::{Action, Command, Request, View, read_command};
 use crate::draw::{Draw, picture};
-use crate::line::machine::{Answer, Machine};
+use crate::line::machine::{Machine, Response};
 use crate::reply::facts::Facts;
 use crate::reply::new_session::new_session;
 use crate::reply::refusal::Refusal;
@@ -33,10 +33,10 @@ impl<P: Draw> Machine for Option<Session<P>> {
 
     ghost is_quit = { is_quit };
 
-    fn answer(&mut self, alloc: Global, line: Option<&[u8]>) -> Answer {
+    fn answer(&mut self, alloc: Global, line: Option<&[u8]>) -> Response {
         match obey(alloc, self, line) {
             Ok(answer) => answer,
-            Err(refusal) => Answer::Reply(Text::refused(refusal.name())),
+            Err(refusal) => Response::Reply(Text::refused(refusal.name())),
         }
     }
 }
@@ -47,23 +47,23 @@ fn obey<P: Draw>(
     alloc: Global,
     session: &mut Option<Session<P>>,
     line: Option<&[u8]>,
-) -> Result<Answer, Refusal>
-    ensures ok { IfOk result (λ answer. IsAnswer (Says ⟦<P as Facts>⟧.facts) is_quit
+) -> Result<Response, Refusal>
+    ensures ok { IfOk result (λ answer. IsResponse (Says ⟦<P as Facts>⟧.facts) is_quit
         session.old (option_copied line.entry) answer session.new) }
     ensures err { OnErr result (session.new ≡ session.old) }
     ensures why { IfErr result
         (IsLineRefusal ⟦<P as Facts>⟧.facts session.old (option_copied line.entry)) }
 {
     match read_command(line)? {
-        None => Ok(Answer::Silence),
-        Some(Command::Quit) => Ok(Answer::Quit),
+        None => Ok(Response::Silence),
+        Some(Command::Quit) => Ok(Response::Quit),
         Some(Command::New(id)) => {
             *session = Some(new_session(alloc, id)?);
-            Ok(Answer::Reply(Text::line("ok")))
+            Ok(Response::Reply(Text::line("ok")))
         }
         Some(Command::Ask(request)) => match session {
             None => Err(Refusal::Line(LineFault::NoGame)),
-            Some(session) => Ok(Answer::Reply(ask(alloc, session, request)?)),
+            Some(session) => Ok(Response::Reply(ask(alloc, session, request)?)),
         },
     }
 }

@@ -1,6 +1,6 @@
 //! The first solutions of the starting puzzle, as lines.
 
-ghost use Rattle.std.specs.Prelude.{◌≡◌, ◌≤◌, ℕ, List, IfOk};
+ghost use Rattle.std.specs.Prelude.{◌≡◌, ◌≤◌, List, IfOk};
 ghost use Rattle.latin_board.specs.Squares.{GridValue};
 ghost use Rattle.trail_solver.specs.Puzzles.{Solves};
 ghost use Rattle.trail_solver.specs.Listings.{AreFirst};

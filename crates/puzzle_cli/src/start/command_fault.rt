@@ -8,15 +8,13 @@ use thiserror::Error;
 
 /// Why a command line gives no game. The texts are whole, with their last LF, as `clap` wrote them.
 #[derive(Debug, PartialEq, Eq, Drop, Error)]
+#[error("{}", self.name())]
 pub enum CommandFault {
     /// The words are refused. The text says what was wrong, and what would be right.
-    #[error("the command line is refused")]
     BadWords(String),
     /// Help or the version was asked for. It is the text.
-    #[error("help was asked for")]
     HelpAsked(String),
     /// A growth was refused.
-    #[error("out of memory")]
     OutOfMemory,
 }
 

@@ -12,18 +12,15 @@ use thiserror::Error;
 
 /// Why a first session is refused.
 #[derive(Clone, Copy, Debug, PartialEq, Eq, Error)]
+#[error("{}", self.name())]
 pub enum StartFault {
     /// The game ID can't be read.
-    #[error("the game ID is refused: {0}")]
     Id(IdFault),
     /// The seeded game isn't made.
-    #[error("the seeded game is refused: {0}")]
     Gen(GenFault),
     /// The file isn't a save of the game.
-    #[error("the file is refused: {0}")]
     Load(LoadFault),
     /// A growth was refused.
-    #[error("out of memory")]
     OutOfMemory,
 }
 
