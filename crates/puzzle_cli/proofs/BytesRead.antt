@@ -4,11 +4,11 @@ use Rattle.std.proofs.lemmas.List.{take_more}
 use Rattle.std.proofs.KnownBytes.{Consumes-kept, Consumes-trans}
 use Rattle.std.specs.Io.KnownBytes.{Consumes, IsAtEnd, Keeps}
 use Rattle.puzzle_cli.specs.Lines.{Line, ReplyRule, as_line, all_lines, ended_lines}
-use Rattle.puzzle_cli.specs.LineBuffer.{ended_from, last_from}
+use Rattle.puzzle_cli.specs.Inner.LineBuffer.{ended_from, last_from}
 use Rattle.puzzle_cli.specs.Runs.{longest_input, Point, Progress, progress_of, before_quit, Served, WereRead, AreAll, Ends}
-use Rattle.puzzle_cli.specs.Steps.{Goes}
-use Rattle.puzzle_cli.specs.declared.line_loop.Flow.{Flow}
-use Rattle.puzzle_cli.specs.declared.line_loop.Flow.TheVariants.{More, Quit, Unsent}
+use Rattle.puzzle_cli.specs.Inner.Steps.{Goes}
+use Rattle.puzzle_cli.specs.declared.line.line_loop.Flow.{Flow}
+use Rattle.puzzle_cli.specs.declared.line.line_loop.Flow.TheVariants.{More, Quit, Unsent}
 use Rattle.puzzle_cli.specs.declared.run_end.End.TheVariants.{Finished, ReadFault, WriteFault}
 use Rattle.puzzle_cli.proofs.LinesCut.{ended_from-append, last_from-append, all_lines-by-parts, ended_lines-by-parts}
 use Rattle.puzzle_cli.proofs.LinesInTurn.{before_quit-all, Goes-after, Quit-more, Unsent-more}

@@ -3,49 +3,41 @@ use Rattle.std.proofs.Common.{◌≡◌, ◌≢◌, ◌⊎◌, ℕ, Bool, true, 
 use Rattle.std.specs.Bool.{MatchBool}
 use Rattle.play_midend.specs.declared.fault.PlayFault.{PlayFault}
 use Rattle.play_midend.specs.declared.fault.PlayFault.TheVariants.{OutOfMemory}
-use Rattle.play_midend.specs.declared.moves.Move.TheVariants.{Solve as Filling}
 use Rattle.play_midend.specs.Faults.{play_fault_name}
-use Rattle.play_midend.specs.Histories.{History, IsRefusal, SolveGives}
-use Rattle.play_midend.specs.Laws.{Call, Play, ToSolution, CallGives, may_want_memory}
+use Rattle.play_midend.specs.Histories.{History, IsRefusal}
+use Rattle.play_midend.specs.Laws.{Call, ToSolution, CallGives, may_want_memory}
 use Rattle.play_midend.proofs.SparedMemory.{call_spares, exact_refusal}
 use Rattle.puzzle_cli.specs.declared.command.Command.TheVariants.{Ask}
 use Rattle.puzzle_cli.specs.declared.command.Request.{Request}
-use Rattle.puzzle_cli.specs.declared.command.Request.TheVariants.{Move as Make, Solutions, Plain}
-use Rattle.puzzle_cli.specs.declared.command.Word.TheVariants.{Act, Tell}
-use Rattle.puzzle_cli.specs.declared.refusal.Refusal.{Refusal}
-use Rattle.puzzle_cli.specs.declared.refusal.Refusal.TheVariants.{Play as OfPlay}
+use Rattle.puzzle_cli.specs.declared.command.Request.TheVariants.{Act, Tell, Listing}
 use Rattle.puzzle_cli.specs.Lines.{Line}
 use Rattle.puzzle_cli.specs.Commands.{Reading, IsRead}
 use Rattle.puzzle_cli.specs.GameFacts.{GameFacts}
-use Rattle.puzzle_cli.specs.SolutionTexts.{move_line, solve_sentence, listed_lines}
-use Rattle.puzzle_cli.specs.SessionReplies.{sentence_outcome, ok_line, CallSays, CallReplies, CallTakesMemory, call_of, view_text}
-use Rattle.puzzle_cli.specs.Refusals.{refusal_name}
-use Rattle.puzzle_cli.specs.Replies.{refusal_line, Writes, ReadGives, ReadTakesMemory, Reply}
+use Rattle.puzzle_cli.specs.SessionReplies.{Outcome, sentence_outcome, call_sentence, IsSaidOf, CallSays, CallTakesMemory}
+use Rattle.puzzle_cli.specs.Replies.{refusal_line, written, ReadSays, Reply}
 use Rattle.puzzle_cli.specs.RunLaws.{AnswersCall, IsCallOf, IsMade, IsRefused, RepliesAreCalls, OtherRequestsLeave}
 use Rattle.puzzle_cli.proofs.CommandLaws.{read_once}
-use Rattle.puzzle_cli.proofs.RepliesOnce.{move_read_once, outcome_parts, said_or_refused, refusal_parts}
+use Rattle.puzzle_cli.proofs.RepliesOnce.{call_read_once}
 
--- ---- a reply by its reading
+-- what is said to a line, by its reading
+pub said_to : {P : Type 0} (f : GameFacts P) (old : Option (History P)) (line : Line) (read : Reading (List ℕ)) (bytes : List ℕ)
+    (new : Option (History P)) → IsRead line read → Reply f old line bytes new → ReadSays f old read bytes new
+said_to f old line read bytes new is (r, scan, says) =
+    subst (λ (x : Reading (List ℕ)). ReadSays f old x bytes new) (read_once line r scan ∙ sym (read_once line read is)) says
 
--- what is said to what was read, or want of memory
-abbrev pub ReadSays : {P : Type 0} → GameFacts P → Option (History P) → Reading (List ℕ) → List ℕ
-    → Option (History P) → Type 0
-ReadSays f old read bytes new =
-    Writes (ReadGives f old read) old bytes new ⊎ (ReadTakesMemory f old read × (bytes ≡ refusal_line (codes "OutOfMemory")) × (new ≡ old))
-
-pub said_to : {P : Type 0} (f : GameFacts P) (old : Option (History P)) (line : Line)
-    (read : Reading (List ℕ)) (bytes : List ℕ) (new : Option (History P))
-    → IsRead line read → Reply f old line bytes new → ReadSays f old read bytes new
-said_to {P} f old line read bytes new is (inl (r, scan, w)) =
-    let same : r ≡ read = read_once line r scan ∙ sym (read_once line read is) in
-    inl (subst (λ (x : Reading (List ℕ)). Writes (ReadGives f old x) old bytes new) same w)
-said_to {P} f old line read bytes new is (inr (r, scan, takes, name, stays)) =
-    let same : r ≡ read = read_once line r scan ∙ sym (read_once line read is) in
-    inr (subst (λ (x : Reading (List ℕ)). ReadTakesMemory f old x) same takes, name, stays)
-
--- ---- a call
+-- what is written of an outcome, and what it leaves
+pub written_by : {P : Type 0} (old new : Option (History P)) (bytes : List ℕ) (outcome exact : Outcome P) → outcome ≡ exact
+    → written old outcome ≡ (bytes, new) → (bytes ≡ (written old exact).0) × (new ≡ (written old exact).1)
+written_by {P} old new bytes outcome exact is e =
+    let pair = sym e ∙ ap (written old) is in
+    (ap (λ (w : List ℕ × Option (History P)). w.0) pair, ap (λ (w : List ℕ × Option (History P)). w.1) pair)
 
 module _ {P : Type 0} (f : GameFacts P) (h : History P) where
+  -- ---- a call
+
+  abbrev Answers : Call → List ℕ × Option (History P) → Type 0
+  Answers call w = AnswersCall f h call w.0 w.1
+
   -- an exact refusal is one, whether the call takes memory or not
   refused_so : (call : Call) (fault : PlayFault) → fault ≢ OutOfMemory
       → (let exact : Result (History P) PlayFault = Err fault in
@@ -57,63 +49,36 @@ module _ {P : Type 0} (f : GameFacts P) (h : History P) where
         | false ↦ refl
       ]
 
-  refused_call : (call : Call) (fault : PlayFault) (bytes : List ℕ) (new : Option (History P))
-      → CallGives (f.rules.puzzle h.puzzle) h call (Err fault) → IsRefused call fault bytes → new ≡ Some h → AnswersCall f h call bytes new
-  refused_call call fault bytes new gives told stays =
-      let spares : fault ≢ OutOfMemory = λ is.
-      call_spares (f.rules.puzzle h.puzzle) h call
-      (subst (λ (e : PlayFault). CallGives (f.rules.puzzle h.puzzle) h call (Err e)) is gives) in
-      subst (λ (s : Option (History P)). AnswersCall f h call bytes s) (sym stays)
-      (Err fault, (refl, (Err fault, gives, refused_so call fault spares)), told)
+  sentence_written : (sentence : Option (List ℕ)) (fault : PlayFault) → written (Some h) (sentence_outcome h sentence fault)
+      ≡ (unwrap_or sentence (refusal_line (play_fault_name fault)), Some h)
+  sentence_written None fault = refl
+  sentence_written (Some sentence) fault = refl
 
-  made_call : (call : Call) (k : History P) (bytes : List ℕ) (new : Option (History P))
-      → CallGives (f.rules.puzzle h.puzzle) h call (Ok k) → IsMade call bytes → Some k ≡ new → AnswersCall f h call bytes new
-  made_call call k bytes new gives made left =
-      subst (λ (s : Option (History P)). AnswersCall f h call bytes s) left (Ok tt, gives, made)
+  said_made : (call : Call) (k : History P) (text : List ℕ) → IsSaidOf call k text → IsMade call text
+  said_made ToSolution k text (g, last, is) = (g, is)
+  said_made call k text is = is
 
-  lack_told : (call : Call) (bytes : List ℕ) → bytes ≡ refusal_line (codes "OutOfMemory") → IsRefused call OutOfMemory bytes
-  lack_told ToSolution bytes name = name
-  lack_told call bytes name = name
+  exactly_answered : (call : Call) (exact : Result (History P) PlayFault) (outcome : Outcome P)
+      → CallGives (f.rules.puzzle h.puzzle) h call exact → CallSays h call exact outcome → Answers call (written (Some h) outcome)
+  exactly_answered call (Ok k) outcome gives (text, said, is) =
+      subst (λ (o : Outcome P). Answers call (written (Some h) o)) (sym is) (Ok tt, gives, said_made call k text said)
+  exactly_answered call (Err fault) outcome gives is =
+      let spares : fault ≢ OutOfMemory = λ e. call_spares (f.rules.puzzle h.puzzle) h call
+      (subst (λ (e : PlayFault). CallGives (f.rules.puzzle h.puzzle) h call (Err e)) e gives) in
+      subst (Answers call) (sym (ap (written (Some h)) is ∙ sentence_written (call_sentence call fault) fault))
+      (Err fault, (refl, (Err fault, gives, refused_so call fault spares)), refl)
+
+  lack_told : (call : Call) → IsRefused call OutOfMemory (refusal_line (codes "OutOfMemory"))
+  lack_told ToSolution = refl
+  lack_told call = refl
 
   -- want of memory in place of success
-  lacking : (call : Call) (bytes : List ℕ) (new : Option (History P)) → CallTakesMemory (f.rules.puzzle h.puzzle) h call
-      → bytes ≡ refusal_line (codes "OutOfMemory") → new ≡ Some h → AnswersCall f h call bytes new
-  lacking call bytes new (k, gives, wants) name stays =
+  lacking : (call : Call) → CallTakesMemory (f.rules.puzzle h.puzzle) h call → Answers call (refusal_line (codes "OutOfMemory"), Some h)
+  lacking call (k, gives, wants) =
       let exact : Result (History P) PlayFault = Ok k in
       let why : MatchBool (may_want_memory call) (IsRefusal exact OutOfMemory) (exact ≡ Err OutOfMemory) =
       subst (λ (b : Bool). MatchBool b (IsRefusal exact OutOfMemory) (exact ≡ Err OutOfMemory)) (sym wants) refl in
-      subst (λ (s : Option (History P)). AnswersCall f h call bytes s) (sym stays)
-      (Err OutOfMemory, (refl, (exact, gives, why)), lack_told call bytes name)
-
-  unsolved : (fault : PlayFault) (sentence : Option (List ℕ)) → solve_sentence fault ≡ sentence
-      → (bytes : List ℕ) (new : Option (History P)) → SolveGives (f.rules.puzzle h.puzzle) h (Err fault)
-      → Writes (λ o. sentence_outcome h sentence fault ≡ o) (Some h) bytes new → AnswersCall f h ToSolution bytes new
-  unsolved fault (Some text) is bytes new gives (inl e) =
-      let parts = outcome_parts text bytes (Some h) new e in
-      refused_call ToSolution fault bytes new gives
-      (sym parts.0 ∙ ap (λ (s : Option (List ℕ)). unwrap_or s (refusal_line (play_fault_name fault))) (sym is)) (sym parts.1)
-  unsolved fault (Some text) is bytes new gives (inr (refusal, e, name, stays)) = absurd (said_or_refused text (Some h) refusal e)
-  unsolved fault None is bytes new gives (inl e) = absurd (said_or_refused bytes new (OfPlay fault) (sym e))
-  unsolved fault None is bytes new gives (inr (refusal, e, name, stays)) =
-      refused_call ToSolution fault bytes new gives
-      (name ∙ ap (λ (r : Refusal). refusal_line (refusal_name r)) (sym (refusal_parts P (OfPlay fault) refusal e))
-      ∙ ap (λ (s : Option (List ℕ)). unwrap_or s (refusal_line (play_fault_name fault))) (sym is)) stays
-
-  written : (call : Call) (exact : Result (History P) PlayFault) (bytes : List ℕ) (new : Option (History P))
-      → CallGives (f.rules.puzzle h.puzzle) h call exact → Writes (CallSays h call exact) (Some h) bytes new → AnswersCall f h call bytes new
-  written ToSolution (Ok k) bytes new gives (inl (g, with, e)) =
-      let parts = outcome_parts (move_line (Filling g)) bytes (Some k) new e in
-      made_call ToSolution k bytes new gives (g, sym parts.0) parts.1
-  written ToSolution (Ok k) bytes new gives (inr (refusal, (g, with, e), name, stays)) =
-      absurd (said_or_refused (move_line (Filling g)) (Some k) refusal e)
-  written ToSolution (Err fault) bytes new gives out = unsolved fault (solve_sentence fault) refl bytes new gives out
-  written call (Ok k) bytes new gives (inl e) =
-      let parts = outcome_parts ok_line bytes (Some k) new e in made_call call k bytes new gives (sym parts.0) parts.1
-  written call (Ok k) bytes new gives (inr (refusal, e, name, stays)) = absurd (said_or_refused ok_line (Some k) refusal e)
-  written call (Err fault) bytes new gives (inl e) = absurd (said_or_refused bytes new (OfPlay fault) (sym e))
-  written call (Err fault) bytes new gives (inr (refusal, e, name, stays)) =
-      refused_call call fault bytes new gives
-      (name ∙ ap (λ (r : Refusal). refusal_line (refusal_name r)) (sym (refusal_parts P (OfPlay fault) refusal e))) stays
+      (Err OutOfMemory, (refl, (exact, gives, why)), lack_told call)
 
   -- ---- a request: a call is answered, or the session left
 
@@ -122,47 +87,29 @@ module _ {P : Type 0} (f : GameFacts P) (h : History P) where
       ((call : Call) × IsCallOf request call × AnswersCall f h call bytes new)
       ⊎ (((call : Call) → IsCallOf request call → ⊥) × (new ≡ Some h))
 
-  -- what is said to a call, or want of memory
-  answered : (call : Call) (bytes : List ℕ) (new : Option (History P))
-      → Writes (CallReplies (f.rules.puzzle h.puzzle) h call) (Some h) bytes new
-      ⊎ (CallTakesMemory (f.rules.puzzle h.puzzle) h call × (bytes ≡ refusal_line (codes "OutOfMemory")) × (new ≡ Some h))
-      → AnswersCall f h call bytes new
-  answered call bytes new (inl (inl (exact, gives, says))) = written call exact bytes new gives (inl says)
-  answered call bytes new (inl (inr (refusal, (exact, gives, says), name, stays))) =
-      written call exact bytes new gives (inr (refusal, says, name, stays))
-  answered call bytes new (inr (takes, name, stays)) = lacking call bytes new takes name stays
-
   pub request_told : (request : Request (List ℕ)) (bytes : List ℕ) (new : Option (History P))
       → ReadSays f (Some h) (Ok (Some (Ask request))) bytes new → IsTold request bytes new
-  request_told (Make text) bytes new (inl (inl (Ok m, is, e))) = inl (Play m, (m, is, refl), answered (Play m) bytes new (inl (inl e)))
-  request_told (Make text) bytes new (inl (inl (Err fault, is, e))) = absurd (said_or_refused bytes new (OfPlay fault) (sym e))
-  request_told (Make text) bytes new (inl (inr (refusal, (Ok m, is, e), name, stays))) =
-      inl (Play m, (m, is, refl), answered (Play m) bytes new (inl (inr (refusal, e, name, stays))))
-  request_told (Make text) bytes new (inl (inr (refusal, (Err fault, is, e), name, stays))) =
-      inr ((λ call calls. is.0 calls.0 calls.1), stays)
-  request_told (Make text) bytes new (inr ((m, is, takes), name, stays)) =
-      inl (Play m, (m, is, refl), answered (Play m) bytes new (inr (takes, name, stays)))
-  request_told (Plain (Act action)) bytes new says = inl (call_of action, refl, answered (call_of action) bytes new says)
-  request_told (Plain (Tell view)) bytes new (inl (inl e)) =
-      inr ((λ call never. never), sym (outcome_parts (view_text f h view) bytes (Some h) new e).1)
-  request_told (Solutions n) bytes new (inl (inl (listed, first, e))) =
-      inr ((λ call never. never), sym (outcome_parts (listed_lines listed) bytes (Some h) new e).1)
-  request_told request bytes new (inl (inr (refusal, e, name, stays))) = inr ((λ call never. never), stays)
+  request_told (Act action) bytes new (inl (outcome, (Ok call, is, (exact, gives, says)), e)) =
+      inl (call, is, subst (Answers call) e (exactly_answered call exact outcome gives says))
+  request_told (Act action) bytes new (inl (outcome, (Err fault, is, out), e)) =
+      inr (
+        (λ call calls. let same : Err fault ≡ Ok call = call_read_once action (Err fault) (Ok call) is calls in cc),
+        (written_by (Some h) new bytes outcome _ out e).1,
+      )
+  request_told (Act action) bytes new (inr ((call, is, takes), name, stays)) =
+      inl (call, is, subst (Answers call) (let said : (refusal_line (codes "OutOfMemory"), Some h) ≡ (bytes, new) = cc in said) (lacking call takes))
+  request_told (Tell view) bytes new (inl (outcome, out, e)) = inr ((λ call never. never), (written_by (Some h) new bytes outcome _ out e).1)
+  request_told (Listing n) bytes new (inl (outcome, (listed, first, out), e)) =
+      inr ((λ call never. never), (written_by (Some h) new bytes outcome _ out e).1)
   request_told request bytes new (inr (takes, name, stays)) = inr ((λ call never. never), stays)
-
-  -- a request is one call at most
-  one_call : (request : Request (List ℕ)) (one other : Call) → IsCallOf request one → IsCallOf request other → one ≡ other
-  one_call (Make text) one other (m, a, is) (k, b, so) =
-      let same : Ok m ≡ Ok k = move_read_once text (Ok m) (Ok k) a b in let moves : m ≡ k = cc in is ∙ ap Play moves ∙ sym so
-  one_call (Plain (Act action)) one other is so = is ∙ sym so
-  one_call (Plain (Tell view)) one other is so = absurd is
-  one_call (Solutions n) one other is so = absurd is
 
   call_answered : (request : Request (List ℕ)) (call : Call) (bytes : List ℕ) (new : Option (History P)) → IsCallOf request call
       → IsTold request bytes new → AnswersCall f h call bytes new
-  call_answered request call bytes new is (inl (other, so, answers)) =
-      subst (λ (c : Call). AnswersCall f h c bytes new) (one_call request other call so is) answers
+  call_answered (Act action) call bytes new is (inl (other, so, answers)) =
+      let same : Ok other ≡ Ok call = call_read_once action (Ok other) (Ok call) so is in
+      let calls : other ≡ call = cc in subst (λ (c : Call). AnswersCall f h c bytes new) calls answers
   call_answered request call bytes new is (inr (none, stays)) = absurd (none call is)
+  call_answered request call bytes new is told = absurd is
 
   other_leaves : (request : Request (List ℕ)) (bytes : List ℕ) (new : Option (History P))
       → ((call : Call) → IsCallOf request call → ⊥) → IsTold request bytes new → new ≡ Some h

@@ -7,13 +7,12 @@ pub mod LinesCut
 pub mod BytesRead
 pub mod LinesInTurn
 pub mod BytesSent
-pub mod SolveRefusals
+pub mod ActionReplies
 pub mod Starting
-pub mod RefusedLines
 pub mod ListedOnce
 pub mod RepliesOnce
 pub mod ReplyTexts
 pub mod CallReplies
-pub mod RefusedReplies
+pub mod ReplySteps
 pub mod UndoReplies
 pub mod StorableReplies

@@ -4,9 +4,9 @@ use Rattle.std.proofs.KnownBytes.{Appends-nil, Appends-trans}
 use Rattle.std.specs.Io.KnownBytes.{Appends}
 use Rattle.puzzle_cli.specs.Lines.{Line, ReplyRule}
 use Rattle.puzzle_cli.specs.Runs.{Progress, RepliesInTurn, has_quit, before_quit, Served, Breaks}
-use Rattle.puzzle_cli.specs.Steps.{Goes}
-use Rattle.puzzle_cli.specs.declared.line_loop.Flow.{Flow}
-use Rattle.puzzle_cli.specs.declared.line_loop.Flow.TheVariants.{More, Quit, Unsent}
+use Rattle.puzzle_cli.specs.Inner.Steps.{Goes}
+use Rattle.puzzle_cli.specs.declared.line.line_loop.Flow.{Flow}
+use Rattle.puzzle_cli.specs.declared.line.line_loop.Flow.TheVariants.{More, Quit, Unsent}
 
 -- ---- the lines before quit
 

@@ -6,10 +6,10 @@ use Rattle.clue_rules.specs.declared.game_id.GameId.TheVariants.{Described, Seed
 use Rattle.puzzle_gen.specs.Generating.{Generates}
 use Rattle.play_midend.specs.Histories.{History}
 use Rattle.puzzle_cli.specs.declared.command.Command.TheVariants.{New}
-use Rattle.puzzle_cli.specs.declared.refusal.Refusal.{Refusal}
-use Rattle.puzzle_cli.specs.declared.refusal.Refusal.TheVariants.{Start}
-use Rattle.puzzle_cli.specs.declared.start_fault.StartFault.{StartFault}
-use Rattle.puzzle_cli.specs.declared.start_fault.StartFault.TheVariants.{OutOfMemory}
+use Rattle.puzzle_cli.specs.declared.reply.refusal.Refusal.{Refusal}
+use Rattle.puzzle_cli.specs.declared.reply.refusal.Refusal.TheVariants.{Start}
+use Rattle.puzzle_cli.specs.declared.start.start_fault.StartFault.{StartFault}
+use Rattle.puzzle_cli.specs.declared.start.start_fault.StartFault.TheVariants.{OutOfMemory}
 use Rattle.puzzle_cli.specs.GameFacts.{GameFacts}
 use Rattle.puzzle_cli.specs.NewSessions.{IsIdRead, new_game, TextBegins, IsStartRefusal}
 use Rattle.puzzle_cli.specs.Refusals.{refusal_name}

@@ -1,5 +1,5 @@
 -- `undo` and `redo` in a run take back what was made, and what was undone.
-use Rattle.std.proofs.Common.{◌≡◌, ℕ, true, List, codes, Option, Some, None, Result, Ok, Err, IsOk, refl, sym, ap, ◌∙◌, subst, inl, inr}
+use Rattle.std.proofs.Common.{◌≡◌, ℕ, true, List, codes, Option, Some, None, Result, Ok, Err, IsOk, refl, sym, ap, ◌∙◌, subst}
 use Rattle.std.specs.Option.{IsSomeAnd}
 use Rattle.std.specs.Result.{IsOkAnd}
 use Rattle.trail_solver.specs.Puzzles.{Puzzle}
@@ -9,23 +9,24 @@ use Rattle.play_midend.specs.Histories.{History, IsValid, undone, redone}
 use Rattle.play_midend.specs.Laws.{Call, Play, FromStart, ToSolution, CallGives, IsSameBack, may_want_memory}
 use Rattle.play_midend.specs.Laws
 use Rattle.play_midend.proofs.SessionLaws.{undo_takes_back, undo_takes_restart_back, undo_takes_solve_back, redo_takes_undo_back}
-use Rattle.puzzle_cli.specs.declared.command.Request.TheVariants.{Plain}
-use Rattle.puzzle_cli.specs.declared.command.Word.TheVariants.{Act}
+use Rattle.puzzle_cli.specs.declared.command.Command.TheVariants.{Ask}
+use Rattle.puzzle_cli.specs.declared.command.Request.TheVariants.{Act}
 use Rattle.puzzle_cli.specs.declared.command.Action.TheVariants.{Undo, Redo}
 use Rattle.puzzle_cli.specs.GameFacts.{GameFacts}
 use Rattle.puzzle_cli.specs.SessionReplies.{ok_line}
 use Rattle.puzzle_cli.specs.Replies.{Reply}
 use Rattle.puzzle_cli.specs.RunLaws.{AnswersCall, Asks, IsMade, undo_line, redo_line, UndoLineTakesBack, RedoLineTakesUndoBack}
+use Rattle.puzzle_cli.proofs.CommandLaws.{word_read}
 use Rattle.puzzle_cli.proofs.ReplyTexts.{not_ok, told_made}
 use Rattle.puzzle_cli.proofs.CallReplies.{replies_are_calls}
 
 -- ---- undo and redo
 
-undo_asks : Asks undo_line (Plain (Act Undo))
-undo_asks = (codes "undo", refl, inl (refl, refl))
+undo_asks : Asks undo_line (Act Undo)
+undo_asks = (codes "undo", refl, word_read (codes "undo") (Ask (Act Undo)) refl)
 
-redo_asks : Asks redo_line (Plain (Act Redo))
-redo_asks = (codes "redo", refl, inr (inl (refl, refl)))
+redo_asks : Asks redo_line (Act Redo)
+redo_asks = (codes "redo", refl, word_read (codes "redo") (Ask (Act Redo)) refl)
 
 -- a call that is made and then undone
 taken_back : {P : Type 0} (f : GameFacts P) (h k : History P) (call : Call) → IsValid (f.rules.puzzle h.puzzle) h
@@ -51,7 +52,7 @@ after_made : {P : Type 0} (f : GameFacts P) (h : History P) (call : Call) (bytes
 after_made f h call bytes said None last valid wants made answer reply = absurd answer
 after_made f h call bytes said (Some k) last valid wants made (Ok u, gives, told) reply =
     undo_said f (f.rules.puzzle h.puzzle) h k said last (taken_back f h k call valid wants gives)
-    (replies_are_calls f k undo_line (Plain (Act Undo)) Laws.Undo said last undo_asks refl reply)
+    (replies_are_calls f k undo_line (Act Undo) Laws.Undo said last undo_asks refl reply)
 after_made f h call bytes said (Some k) last valid wants made (Err fault, gives, told) reply =
     let no_ok : IsOk {T = Unit {0}} {E = PlayFault} (Err fault) = told_made call (Err fault) bytes told made in cc
 
@@ -72,9 +73,9 @@ after_undo : {P : Type 0} (f : GameFacts P) (h : History P) (said : List ℕ) (n
 after_undo f h said None last valid answer reply = absurd answer
 after_undo f h said (Some k) last valid (Ok u, gives, told) reply =
     redo_said f h k said last (redo_takes_undo_back f.rules.puzzle h k valid (sym gives))
-    (replies_are_calls f k redo_line (Plain (Act Redo)) Laws.Redo said last redo_asks refl reply)
+    (replies_are_calls f k redo_line (Act Redo) Laws.Redo said last redo_asks refl reply)
 after_undo f h said (Some k) last valid (Err fault, gives, told) reply = absurd (not_ok ok_line (play_fault_name fault) refl told)
 
 pub redo_line_takes_undo_back : {P : Type 0} (f : GameFacts P) → RedoLineTakesUndoBack f
 redo_line_takes_undo_back f h said new last valid reply again =
-    after_undo f h said new last valid (replies_are_calls f h undo_line (Plain (Act Undo)) Laws.Undo ok_line new undo_asks refl reply) again
+    after_undo f h said new last valid (replies_are_calls f h undo_line (Act Undo) Laws.Undo ok_line new undo_asks refl reply) again

@@ -1,7 +1,7 @@
 -- The numbers, the names and the statuses of what a command line gives in place of a game.
 use Rattle.std.specs.Prelude.{ℕ, List, codes}
-use Rattle.puzzle_cli.specs.declared.command_fault.CommandFault.{CommandFault}
-use Rattle.puzzle_cli.specs.declared.command_fault.CommandFault.TheVariants.{BadWords, HelpAsked, OutOfMemory}
+use Rattle.puzzle_cli.specs.declared.start.command_fault.CommandFault.{CommandFault}
+use Rattle.puzzle_cli.specs.declared.start.command_fault.CommandFault.TheVariants.{BadWords, HelpAsked, OutOfMemory}
 
 abbrev pub command_fault_number : CommandFault → ℕ
 command_fault_number (BadWords text) = 1

@@ -1,7 +1,7 @@
 -- What a command line says: the words of the games, and at most one way to begin.
 use Rattle.std.specs.Prelude.{◌≡◌, ℕ, ◌&&◌, false, List, codes, Option, is_some}
-use Rattle.puzzle_cli.specs.declared.command_line.GameName.{GameName}
-use Rattle.puzzle_cli.specs.declared.command_line.GameName.TheVariants.{Towers, Unequal}
+use Rattle.puzzle_cli.specs.declared.start.command_line.GameName.{GameName}
+use Rattle.puzzle_cli.specs.declared.start.command_line.GameName.TheVariants.{Towers, Unequal}
 
 -- the word that names a game
 abbrev pub game_word : GameName → List ℕ

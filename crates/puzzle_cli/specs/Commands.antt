@@ -6,46 +6,45 @@ use Rattle.trail_solver.specs.declared.listing.TheConstants.{MOST_LISTED}
 use Rattle.puzzle_cli.specs.declared.command.Command.{Command}
 use Rattle.puzzle_cli.specs.declared.command.Command.TheVariants.{New, Quit, Ask}
 use Rattle.puzzle_cli.specs.declared.command.Request.{Request}
-use Rattle.puzzle_cli.specs.declared.command.Request.TheVariants.{Move, Solutions, Plain}
-use Rattle.puzzle_cli.specs.declared.command.Word.{Word}
-use Rattle.puzzle_cli.specs.declared.command.Word.TheVariants.{Act, Tell}
-use Rattle.puzzle_cli.specs.declared.command.Action.TheVariants.{Undo, Redo, Restart, Solve}
+use Rattle.puzzle_cli.specs.declared.command.Request.TheVariants.{Act, Tell, Listing}
+use Rattle.puzzle_cli.specs.declared.command.Action.{Action}
+use Rattle.puzzle_cli.specs.declared.command.Action.TheVariants.{Play, Undo, Redo, Restart, Solve}
 use Rattle.puzzle_cli.specs.declared.command.View.TheVariants.{Show, Marks, Status, Id, Done, Save}
-use Rattle.puzzle_cli.specs.declared.line_fault.LineFault.{LineFault}
-use Rattle.puzzle_cli.specs.declared.line_fault.LineFault.TheVariants.{LongLine, BadCommand, NoGame}
+use Rattle.puzzle_cli.specs.declared.command.line_fault.LineFault.{LineFault}
+use Rattle.puzzle_cli.specs.declared.command.line_fault.LineFault.TheVariants.{LongLine, BadCommand, NoGame}
 use Rattle.puzzle_cli.specs.Lines.{Line}
 
--- what is asked of a session by a word alone
-abbrev pub words : List (List ℕ × Word)
+-- the commands of a word alone
+abbrev pub words : List (List ℕ × Command (List ℕ))
 words =
-    (codes "undo", Act Undo)
-    ∷ (codes "redo", Act Redo)
-    ∷ (codes "restart", Act Restart)
-    ∷ (codes "show", Tell Show)
-    ∷ (codes "marks", Tell Marks)
-    ∷ (codes "status", Tell Status)
-    ∷ (codes "id", Tell Id)
-    ∷ (codes "done", Tell Done)
-    ∷ (codes "solve", Act Solve)
-    ∷ (codes "save", Tell Save)
+    (codes "undo", Ask (Act Undo))
+    ∷ (codes "redo", Ask (Act Redo))
+    ∷ (codes "restart", Ask (Act Restart))
+    ∷ (codes "solve", Ask (Act Solve))
+    ∷ (codes "show", Ask (Tell Show))
+    ∷ (codes "marks", Ask (Tell Marks))
+    ∷ (codes "status", Ask (Tell Status))
+    ∷ (codes "id", Ask (Tell Id))
+    ∷ (codes "done", Ask (Tell Done))
+    ∷ (codes "save", Ask (Tell Save))
+    ∷ (codes "quit", Quit)
     ∷ []
 
--- the table has the entry under this line
+-- the first entry of the table under this line
 abbrev pub IsEntry : {A : Type 0} → List (List ℕ × A) → List ℕ → A → Type 0
 IsEntry [] line a = ⊥
-IsEntry (row ∷ rows) line a = ((line ≡ row.0) × (a ≡ row.1)) ⊎ IsEntry rows line a
+IsEntry (row ∷ rows) line a = ((line ≡ row.0) × (a ≡ row.1)) ⊎ ((line ≢ row.0) × IsEntry rows line a)
 
--- the line asks this of a session: a list is of 1 to `MOST_LISTED` solutions
-abbrev pub IsRequestLine : Request (List ℕ) → List ℕ → Type 0
-IsRequestLine (Move text) line = line ≡ codes "move " ++ text
-IsRequestLine (Solutions n) line = (1 ≤ n) × (n ≤ MOST_LISTED) × (line ≡ codes "list " ++ decimal n)
-IsRequestLine (Plain word) line = IsEntry words line word
+-- the line is a word and its argument: a list is of 1 to `MOST_LISTED` solutions
+abbrev pub HasArgument : Command (List ℕ) → List ℕ → Type 0
+HasArgument (New id) line = line ≡ codes "new " ++ id
+HasArgument (Ask (Act (Play text))) line = line ≡ codes "move " ++ text
+HasArgument (Ask (Listing n)) line = (1 ≤ n) × (n ≤ MOST_LISTED) × (line ≡ codes "list " ++ decimal n)
+HasArgument _ line = ⊥
 
 -- the line is that of the command
 abbrev pub IsCommandLine : Command (List ℕ) → List ℕ → Type 0
-IsCommandLine (New id) line = line ≡ codes "new " ++ id
-IsCommandLine Quit line = line ≡ codes "quit"
-IsCommandLine (Ask request) line = IsRequestLine request line
+IsCommandLine command line = IsEntry words line command ⊎ HasArgument command line
 
 -- whether a line ends the run
 abbrev pub is_quit : Line → Bool
@@ -67,14 +66,21 @@ IsRead line (Err NoGame) = ⊥
 
 -- how many solutions a list has at most
 abbrev pub IsInRange : {T : Type 0} → Request T → Type 0
-IsInRange (Solutions n) = (1 ≤ n) × (n ≤ MOST_LISTED)
+IsInRange (Listing n) = (1 ≤ n) × (n ≤ MOST_LISTED)
 IsInRange _ = Unit {0}
 
 -- the same with its argument seen by f
+abbrev pub action_map : {X Y : Type 0} → (X → Y) → Action X → Action Y
+action_map f (Play text) = Play (f text)
+action_map f Undo = Undo
+action_map f Redo = Redo
+action_map f Restart = Restart
+action_map f Solve = Solve
+
 abbrev pub request_map : {X Y : Type 0} → (X → Y) → Request X → Request Y
-request_map f (Move text) = Move (f text)
-request_map f (Solutions n) = Solutions n
-request_map f (Plain word) = Plain word
+request_map f (Act action) = Act (action_map f action)
+request_map f (Tell view) = Tell view
+request_map f (Listing n) = Listing n
 
 abbrev pub command_map : {X Y : Type 0} → (X → Y) → Command X → Command Y
 command_map f (New id) = New (f id)
@@ -87,6 +93,9 @@ read_map f (Ok (Some command)) = Ok (Some (command_map f command))
 read_map f (Err fault) = Err fault
 
 -- the same, where the argument is a reference to a text, with that text
+abbrev pub action_copied : {X : Type 0} → Action (Bor X) → Action X
+action_copied action = action_map (λ text. text.now) action
+
 abbrev pub request_copied : {X : Type 0} → Request (Bor X) → Request X
 request_copied request = request_map (λ text. text.now) request
 

@@ -1,5 +1,5 @@
 -- What the contracts of this crate cite. A line and its command: Lines, Commands; what is said and left: GameFacts, NewSessions,
--- SessionReplies, Replies; the run: Runs; its laws: RunLaws. The others are texts, faults and private steps.
+-- SessionReplies, Replies; the run: Runs; its laws: RunLaws. The others are texts and faults, and Inner the words of private steps.
 pub mod Symbols
 pub mod TowersPicture
 pub mod UnequalPicture
@@ -8,21 +8,16 @@ pub mod SolutionTexts
 pub mod Commands
 pub mod CommandFault
 pub mod CommandLine
-pub mod CommandReading
 pub mod GameFacts
 pub mod Refusals
 pub mod NewSessions
 pub mod SessionReplies
 pub mod Replies
-pub mod Answers
 pub mod End
-pub mod LineBuffer
 pub mod LineFault
 pub mod Lines
-pub mod Machines
 pub mod Runs
 pub mod StartFault
 pub mod Starts
-pub mod Steps
 pub mod RunLaws
-pub mod Text
+pub mod Inner

@@ -1,7 +1,7 @@
 -- The numbers and the names of the faults of a line.
 use Rattle.std.specs.Prelude.{ℕ, List, codes}
-use Rattle.puzzle_cli.specs.declared.line_fault.LineFault.{LineFault}
-use Rattle.puzzle_cli.specs.declared.line_fault.LineFault.TheVariants.{LongLine, BadCommand, NoGame}
+use Rattle.puzzle_cli.specs.declared.command.line_fault.LineFault.{LineFault}
+use Rattle.puzzle_cli.specs.declared.command.line_fault.LineFault.TheVariants.{LongLine, BadCommand, NoGame}
 
 abbrev pub line_fault_number : LineFault → ℕ
 line_fault_number LongLine = 1

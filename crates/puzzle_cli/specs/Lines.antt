@@ -1,6 +1,7 @@
 -- The lines of an input, and what a rule of replies to them is.
 use Rattle.std.specs.Prelude.{ℕ, ◌-◌, ◌==◌, if◌then◌else◌, nat_le, Option, Some, None, List, [], ◌∷◌, length, map, take, slice_index}
 use Rattle.std.specs.Option.{option_map}
+use Rattle.puzzle_cli.specs.declared.line.line_buffer.TheConstants.{LINE_BYTES}
 use Rattle.byte_text.specs.Bytes.{line_feed, carriage_return}
 
 -- a line, or None for one that is too long
@@ -21,9 +22,9 @@ abbrev pub segments : List ℕ → List (List ℕ)
 segments [] = [] ∷ []
 segments (b ∷ bs) = if b == line_feed then [] ∷ segments bs else onto b (segments bs)
 
--- the bytes, or None where they are more than 1,024
+-- the bytes, or None where they are more than a line may have
 abbrev pub unless_long : List ℕ → Line
-unless_long bytes = if nat_le (length bytes) 1024 then Some bytes else None
+unless_long bytes = if nat_le (length bytes) LINE_BYTES then Some bytes else None
 
 -- the bytes without one CR at their end
 abbrev pub without_cr : List ℕ → List ℕ

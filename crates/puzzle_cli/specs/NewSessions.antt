@@ -10,8 +10,8 @@ use Rattle.puzzle_gen.specs.declared.gen_fault.GenFault.{GenFault}
 use Rattle.puzzle_gen.specs.Generating.{Generates}
 use Rattle.play_midend.specs.declared.extras.Extras.{Extras}
 use Rattle.play_midend.specs.Histories.{History, started}
-use Rattle.puzzle_cli.specs.declared.start_fault.StartFault.{StartFault}
-use Rattle.puzzle_cli.specs.declared.start_fault.StartFault.TheVariants.{Id, Gen, OutOfMemory}
+use Rattle.puzzle_cli.specs.declared.start.start_fault.StartFault.{StartFault}
+use Rattle.puzzle_cli.specs.declared.start.start_fault.StartFault.TheVariants.{Id, Gen, OutOfMemory}
 use Rattle.puzzle_cli.specs.GameFacts.{GameFacts}
 
 -- the text says the ID, or has this fault first

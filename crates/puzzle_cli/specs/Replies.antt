@@ -3,10 +3,10 @@ use Rattle.std.specs.Prelude.{◌≡◌, ◌⊎◌, ℕ, List, [], ◌∷◌, �
 use Rattle.play_midend.specs.Histories.{History}
 use Rattle.puzzle_cli.specs.declared.command.Command.{Command}
 use Rattle.puzzle_cli.specs.declared.command.Command.TheVariants.{New, Quit, Ask}
-use Rattle.puzzle_cli.specs.declared.line_fault.LineFault.TheVariants.{NoGame}
-use Rattle.puzzle_cli.specs.declared.refusal.Refusal.{Refusal}
-use Rattle.puzzle_cli.specs.declared.refusal.Refusal.TheVariants.{Line as OfLine, Start}
-use Rattle.puzzle_cli.specs.declared.start_fault.StartFault.{StartFault}
+use Rattle.puzzle_cli.specs.declared.command.line_fault.LineFault.TheVariants.{NoGame}
+use Rattle.puzzle_cli.specs.declared.reply.refusal.Refusal.{Refusal}
+use Rattle.puzzle_cli.specs.declared.reply.refusal.Refusal.TheVariants.{Line as OfLine, Start}
+use Rattle.puzzle_cli.specs.declared.start.start_fault.StartFault.{StartFault}
 use Rattle.puzzle_cli.specs.Lines.{Line}
 use Rattle.puzzle_cli.specs.Commands.{Reading, IsRead}
 use Rattle.puzzle_cli.specs.Refusals.{refusal_name}
@@ -25,16 +25,16 @@ begun (Err fault) = Err (Start fault)
 
 -- what a command makes of a session or none, with ample memory
 abbrev pub CommandGives : {P : Type 0} → GameFacts P → Option (History P) → Command (List ℕ) → Outcome P → Type 0
-CommandGives {P} f old (New id) outcome = (exact : Result (History P) StartFault) × TextBegins f id exact × (begun exact ≡ outcome)
-CommandGives f old Quit outcome = Ok ([], old) ≡ outcome
-CommandGives f None (Ask request) outcome = Err (OfLine NoGame) ≡ outcome
+CommandGives {P} f old (New id) outcome = (exact : Result (History P) StartFault) × TextBegins f id exact × (outcome ≡ begun exact)
+CommandGives f old Quit outcome = outcome ≡ Ok ([], old)
+CommandGives f None (Ask request) outcome = outcome ≡ Err (OfLine NoGame)
 CommandGives f (Some h) (Ask request) outcome = RequestGives f h request outcome
 
 -- the same of a line that was read: an empty one has no reply
 abbrev pub ReadGives : {P : Type 0} → GameFacts P → Option (History P) → Reading (List ℕ) → Outcome P → Type 0
-ReadGives f old (Ok None) outcome = Ok ([], old) ≡ outcome
+ReadGives f old (Ok None) outcome = outcome ≡ Ok ([], old)
 ReadGives f old (Ok (Some command)) outcome = CommandGives f old command outcome
-ReadGives f old (Err fault) outcome = Err (OfLine fault) ≡ outcome
+ReadGives f old (Err fault) outcome = outcome ≡ Err (OfLine fault)
 
 -- The command takes memory, and nothing else refuses it.
 abbrev pub CommandTakesMemory : {P : Type 0} → GameFacts P → Option (History P) → Command (List ℕ) → Type 0
@@ -52,23 +52,25 @@ ReadTakesMemory f old (Err fault) = ⊥
 abbrev pub Explains : {A : Type 0} → (Result A Refusal → Type 0) → Type 0 → Refusal → Type 0
 Explains gives takes_memory refusal = gives (Err refusal) ⊎ (takes_memory × (refusal_name refusal ≡ codes "OutOfMemory"))
 
--- what is written and left of an outcome: a refusal leaves the session
+-- what is written of an outcome, and the session that is left: a refusal leaves the one before
+abbrev pub written : {P : Type 0} → Option (History P) → Outcome P → List ℕ × Option (History P)
+written old (Ok said) = said
+written old (Err refusal) = (refusal_line (refusal_name refusal), old)
+
 abbrev pub Writes : {P : Type 0} → (Outcome P → Type 0) → Option (History P) → List ℕ → Option (History P) → Type 0
-Writes gives old bytes new =
-    gives (Ok (bytes, new))
-    ⊎ ((refusal : Refusal) × gives (Err refusal) × (bytes ≡ refusal_line (refusal_name refusal)) × (new ≡ old))
+Writes {P} gives old bytes new = (outcome : Outcome P) × gives outcome × (written old outcome ≡ (bytes, new))
+
+-- what is said to a line that was read, or want of memory in place of an answer that takes some
+abbrev pub ReadSays : {P : Type 0} → GameFacts P → Option (History P) → Reading (List ℕ) → List ℕ → Option (History P) → Type 0
+ReadSays f old read bytes new =
+    Writes (ReadGives f old read) old bytes new
+    ⊎ (ReadTakesMemory f old read × (bytes ≡ refusal_line (codes "OutOfMemory")) × (new ≡ old))
 
 -- the reply to a line and the session that it leaves, with ample memory
 abbrev pub AmpleReply : {P : Type 0} → GameFacts P → Option (History P) → Line → List ℕ → Option (History P) → Type 0
 AmpleReply f old line bytes new =
     (read : Reading (List ℕ)) × IsRead line read × Writes (ReadGives f old read) old bytes new
 
--- the line takes memory and nothing else refuses it, and it is refused for want of that
-abbrev pub LacksMemory : {P : Type 0} → GameFacts P → Option (History P) → Line → List ℕ → Option (History P) → Type 0
-LacksMemory f old line bytes new =
-    (read : Reading (List ℕ)) × IsRead line read × ReadTakesMemory f old read
-    × (bytes ≡ refusal_line (codes "OutOfMemory")) × (new ≡ old)
-
 -- The reply to a line and the session that it leaves. The one choice is want of memory.
 abbrev pub Reply : {P : Type 0} → GameFacts P → Option (History P) → Line → List ℕ → Option (History P) → Type 0
-Reply f old line bytes new = AmpleReply f old line bytes new ⊎ LacksMemory f old line bytes new
+Reply f old line bytes new = (read : Reading (List ℕ)) × IsRead line read × ReadSays f old read bytes new

@@ -3,21 +3,18 @@ use Rattle.std.specs.Prelude.{◌≡◌, ℕ, true, codes, List, Option, Some, N
 use Rattle.std.specs.Option.{IsSomeAnd}
 use Rattle.latin_board.specs.Squares.{GridValue}
 use Rattle.play_midend.specs.declared.fault.PlayFault.{PlayFault}
-use Rattle.play_midend.specs.declared.moves.Move.{Move}
 use Rattle.play_midend.specs.declared.moves.Move.TheVariants.{Solve as Filling}
 use Rattle.play_midend.specs.Faults.{play_fault_name}
-use Rattle.play_midend.specs.MoveTexts.{IsMoveText}
 use Rattle.play_midend.specs.Histories.{History, IsValid, IsStorable}
-use Rattle.play_midend.specs.Laws.{Call, Play, ToSolution, IsSameBack, Answered, may_want_memory}
+use Rattle.play_midend.specs.Laws.{Call, ToSolution, IsSameBack, Answered, may_want_memory}
 use Rattle.puzzle_cli.specs.declared.command.Command.TheVariants.{Ask}
 use Rattle.puzzle_cli.specs.declared.command.Request.{Request}
-use Rattle.puzzle_cli.specs.declared.command.Request.TheVariants.{Move as Make, Solutions, Plain}
-use Rattle.puzzle_cli.specs.declared.command.Word.TheVariants.{Act, Tell}
+use Rattle.puzzle_cli.specs.declared.command.Request.TheVariants.{Act}
 use Rattle.puzzle_cli.specs.Lines.{Line}
 use Rattle.puzzle_cli.specs.Commands.{Reading, IsRead}
 use Rattle.puzzle_cli.specs.GameFacts.{GameFacts}
-use Rattle.puzzle_cli.specs.SolutionTexts.{move_line, solve_sentence}
-use Rattle.puzzle_cli.specs.SessionReplies.{ok_line, call_of}
+use Rattle.puzzle_cli.specs.SolutionTexts.{move_line}
+use Rattle.puzzle_cli.specs.SessionReplies.{ok_line, IsCallRead, call_sentence}
 use Rattle.puzzle_cli.specs.Replies.{refusal_line, AmpleReply, Reply}
 use Rattle.puzzle_cli.specs.Runs.{RepliesInTurn}
 
@@ -66,10 +63,8 @@ RepliesStayStorable {P} f =
 
 -- the call of a session that a request is, if any
 abbrev pub IsCallOf : Request (List ℕ) → Call → Type 0
-IsCallOf (Make text) call = (m : Move) × IsMoveText m text × (call ≡ Play m)
-IsCallOf (Solutions n) call = ⊥
-IsCallOf (Plain (Act action)) call = call ≡ call_of action
-IsCallOf (Plain (Tell view)) call = ⊥
+IsCallOf (Act action) call = IsCallRead action (Ok call)
+IsCallOf _ call = ⊥
 
 -- what is said of a call: of a solution its move, else `ok`; the name of a refusal, or why there is no solution to fill in
 abbrev pub IsMade : Call → List ℕ → Type 0
@@ -77,8 +72,7 @@ IsMade ToSolution bytes = (g : GridValue) × (bytes ≡ move_line (Filling g))
 IsMade _ bytes = bytes ≡ ok_line
 
 abbrev pub IsRefused : Call → PlayFault → List ℕ → Type 0
-IsRefused ToSolution fault bytes = bytes ≡ unwrap_or (solve_sentence fault) (refusal_line (play_fault_name fault))
-IsRefused _ fault bytes = bytes ≡ refusal_line (play_fault_name fault)
+IsRefused call fault bytes = bytes ≡ unwrap_or (call_sentence call fault) (refusal_line (play_fault_name fault))
 
 abbrev pub IsToldOf : Call → Result (Unit {0}) PlayFault → List ℕ → Type 0
 IsToldOf call (Ok u) bytes = IsMade call bytes

@@ -1,11 +1,13 @@
 -- What the commands `solve` and `list` print.
-use Rattle.std.specs.Prelude.{ℕ, List, [], ◌∷◌, ◌++◌, map, codes, Option, Some, None}
+use Rattle.std.specs.Prelude.{◌≡◌, ℕ, ◌-◌, List, [], ◌∷◌, ◌++◌, length, slice_get, map, codes, Option, Some, None}
 use Rattle.std.specs.List.{flat_map}
 use Rattle.latin_board.specs.Squares.{GridValue}
 use Rattle.play_midend.specs.declared.moves.Move.{Move}
+use Rattle.play_midend.specs.declared.moves.Move.TheVariants.{Solve}
 use Rattle.play_midend.specs.declared.fault.PlayFault.{PlayFault}
 use Rattle.play_midend.specs.declared.fault.PlayFault.TheVariants.{NoSolution, SeveralSolutions}
 use Rattle.play_midend.specs.MoveTexts.{move_text}
+use Rattle.play_midend.specs.Histories.{History}
 use Rattle.puzzle_cli.specs.BoardTexts.{lines_or}
 use Rattle.byte_text.specs.Bytes.{line_feed, digit}
 
@@ -22,6 +24,13 @@ listed_lines listed = lines_or (codes "none") (flat_map grid_line listed)
 -- the text of a move, as a line
 abbrev pub move_line : Move → List ℕ
 move_line m = move_text m ++ line_feed ∷ []
+
+-- the last move of a session fills in a solution, or the text is that of this move
+abbrev pub EndsInSolution : {P : Type 0} → History P → GridValue → Type 0
+EndsInSolution h g = slice_get h.moves (length h.moves - 1) ≡ Some (Solve g)
+
+abbrev pub IsLastMove : {P : Type 0} → History P → List ℕ → Type 0
+IsLastMove h text = (g : GridValue) × EndsInSolution h g × (text ≡ move_line (Solve g))
 
 abbrev pub no_solution_line : List ℕ
 no_solution_line = codes "No solution exists for this puzzle" ++ line_feed ∷ []

@@ -5,8 +5,8 @@ use Rattle.clue_rules.specs.IdFaults.{id_fault_name}
 use Rattle.puzzle_gen.specs.GenFaults.{gen_fault_name}
 use Rattle.play_save.specs.declared.fault.LoadFault.TheVariants.{BadState}
 use Rattle.play_save.specs.Faults.{load_fault_name}
-use Rattle.puzzle_cli.specs.declared.start_fault.StartFault.{StartFault}
-use Rattle.puzzle_cli.specs.declared.start_fault.StartFault.TheVariants.{Id, Gen, Load, OutOfMemory}
+use Rattle.puzzle_cli.specs.declared.start.start_fault.StartFault.{StartFault}
+use Rattle.puzzle_cli.specs.declared.start.start_fault.StartFault.TheVariants.{Id, Gen, Load, OutOfMemory}
 
 abbrev pub start_fault_number : StartFault → ℕ
 start_fault_number (Id fault) = 1

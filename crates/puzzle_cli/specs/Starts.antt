@@ -4,8 +4,8 @@ use Rattle.play_midend.specs.Histories.{History}
 use Rattle.play_save.specs.SaveTexts.{SavedGame, saved_game}
 use Rattle.play_save.specs.declared.fault.LoadFault.{LoadFault}
 use Rattle.play_save.specs.declared.fault.LoadFault.TheVariants.{OutOfMemory as LoadMemory}
-use Rattle.puzzle_cli.specs.declared.start_fault.StartFault.{StartFault}
-use Rattle.puzzle_cli.specs.declared.start_fault.StartFault.TheVariants.{Load, OutOfMemory}
+use Rattle.puzzle_cli.specs.declared.start.start_fault.StartFault.{StartFault}
+use Rattle.puzzle_cli.specs.declared.start.start_fault.StartFault.TheVariants.{Load, OutOfMemory}
 use Rattle.puzzle_cli.specs.GameFacts.{GameFacts}
 
 -- what saves ask of a game

@@ -1,10 +1,13 @@
 //! Commands: a line says what to begin, what to ask of a session, or to end the run.
-ghost use Rattle.std.specs.Prelude.{◌≡◌, IfOk, IfSome, option_map};
+ghost use Rattle.std.specs.Prelude.{◌≡◌, ◌≤◌, IfOk, IfSome, option_map};
 ghost use Rattle.std.specs.Option.{option_copied};
 ghost use Rattle.puzzle_cli.specs.Commands.{command_copied, read_copied, IsRead, IsCommandInRange};
-ghost use Rattle.puzzle_cli.specs.CommandReading.{command_at, read_at, limit_at, word_at};
+ghost use Rattle.trail_solver.specs.declared.listing.TheConstants.{MOST_LISTED};
+ghost use Rattle.puzzle_cli.specs.Inner.CommandReading.{command_at, read_at, limit_at, word_at};
 
-use crate::line_fault::LineFault;
+pub(crate) mod line_fault;
+
+use crate::command::line_fault::LineFault;
 use byte_text::number;
 use trail_solver::MOST_LISTED;
 
@@ -15,33 +18,26 @@ pub(crate) enum Command<T> {
     New(T),
     /// End the run.
     Quit,
-    /// Do this in the session.
+    /// Ask this of the session.
     Ask(Request<T>),
 }
 
-/// What is asked of a session.
+/// What is asked of a session: a call of it, a view of it, or a listing.
 #[derive(Clone, Copy)]
 pub(crate) enum Request<T> {
-    /// Make the move that a text spells.
-    Move(T),
-    /// List the first solutions of the starting puzzle, so many at most: from 1 to `MOST_LISTED`.
-    Solutions(u8),
-    /// What a word says alone.
-    Plain(Word),
-}
-
-/// What is asked of a session by a word alone.
-#[derive(Clone, Copy)]
-pub(crate) enum Word {
-    /// Call the session.
-    Act(Action),
-    /// Tell something of the session, which stays as it is.
+    /// Call it.
+    Act(Action<T>),
+    /// Tell something of it, which stays as it is.
     Tell(View),
+    /// List the first solutions of the starting puzzle, so many at most: from 1 to `MOST_LISTED`.
+    Listing(u8),
 }
 
 /// A call of a session.
 #[derive(Clone, Copy)]
-pub(crate) enum Action {
+pub(crate) enum Action<T> {
+    /// Make the move that a text spells.
+    Play(T),
     Undo,
     Redo,
     Restart,
@@ -65,34 +61,37 @@ pub(crate) enum View {
     Save,
 }
 
-/// What is asked of a session by a word alone, or `None` where the line is no such word.
-fn read_word(line: &[u8]) -> Option<Word>
-    ensures { result ≡ word_at line.now }
+/// The command of a word alone, or `None` where the line is no such word.
+fn read_word(line: &[u8]) -> Option<Command<&[u8]>>
+    ensures word { option_map command_copied result ≡ word_at line.now }
+    ensures range { IfSome result IsCommandInRange }
 {
-    let word = if line == b"undo".as_slice() {
-        Word::Act(Action::Undo)
+    let command = if line == b"undo".as_slice() {
+        Command::Ask(Request::Act(Action::Undo))
     } else if line == b"redo".as_slice() {
-        Word::Act(Action::Redo)
+        Command::Ask(Request::Act(Action::Redo))
     } else if line == b"restart".as_slice() {
-        Word::Act(Action::Restart)
-    } else if line == b"show".as_slice() {
-        Word::Tell(View::Show)
-    } else if line == b"marks".as_slice() {
-        Word::Tell(View::Marks)
-    } else if line == b"status".as_slice() {
-        Word::Tell(View::Status)
-    } else if line == b"id".as_slice() {
-        Word::Tell(View::Id)
-    } else if line == b"done".as_slice() {
-        Word::Tell(View::Done)
+        Command::Ask(Request::Act(Action::Restart))
     } else if line == b"solve".as_slice() {
-        Word::Act(Action::Solve)
+        Command::Ask(Request::Act(Action::Solve))
+    } else if line == b"show".as_slice() {
+        Command::Ask(Request::Tell(View::Show))
+    } else if line == b"marks".as_slice() {
+        Command::Ask(Request::Tell(View::Marks))
+    } else if line == b"status".as_slice() {
+        Command::Ask(Request::Tell(View::Status))
+    } else if line == b"id".as_slice() {
+        Command::Ask(Request::Tell(View::Id))
+    } else if line == b"done".as_slice() {
+        Command::Ask(Request::Tell(View::Done))
     } else if line == b"save".as_slice() {
-        Word::Tell(View::Save)
+        Command::Ask(Request::Tell(View::Save))
+    } else if line == b"quit".as_slice() {
+        Command::Quit
     } else {
         return None;
     };
-    Some(word)
+    Some(command)
 }
 
 /// The command that a line is, or `None` where the line is empty.
@@ -108,8 +107,10 @@ pub(crate) fn read_command(line: Option<&[u8]>) -> Result<Option<Command<&[u8]>>
     parse_line(line)
 }
 
+// The same as a function on lists, apart from the grammar, which follows from it.
 fn parse_line(line: Option<&[u8]>) -> Result<Option<Command<&[u8]>>, LineFault>
-    ensures { read_copied result ≡ read_at (option_copied line.entry) }
+    ensures read { read_copied result ≡ read_at (option_copied line.entry) }
+    ensures range { IfOk result (λ read. IfSome read IsCommandInRange) }
 {
     let Some(line) = line else {
         return Err(LineFault::LongLine);
@@ -123,31 +124,30 @@ fn parse_line(line: Option<&[u8]>) -> Result<Option<Command<&[u8]>>, LineFault>
     }
 }
 
-#[tactic(auto, unfolding(crate::specs::CommandReading::command_at))]
+#[tactic(auto, unfolding(crate::specs::Inner::CommandReading::command_at))]
 fn parse_command(line: &[u8]) -> Option<Command<&[u8]>>
-    ensures { option_map command_copied result ≡ command_at line.now }
+    ensures command { option_map command_copied result ≡ command_at line.now }
+    ensures range { IfSome result IsCommandInRange }
 {
-    if let Some(word) = read_word(line) {
-        return Some(Command::Ask(Request::Plain(word)));
-    }
-    if line == b"quit".as_slice() {
-        return Some(Command::Quit);
+    if let Some(command) = read_word(line) {
+        return Some(command);
     }
     if let Some(id) = line.strip_prefix(b"new ") {
         return Some(Command::New(id));
     }
     if let Some(text) = line.strip_prefix(b"move ") {
-        return Some(Command::Ask(Request::Move(text)));
+        return Some(Command::Ask(Request::Act(Action::Play(text))));
     }
     if let Some(text) = line.strip_prefix(b"list ") {
-        return Some(Command::Ask(Request::Solutions(read_limit(text)?)));
+        return Some(Command::Ask(Request::Listing(read_limit(text)?)));
     }
     None
 }
 
 // The number of solutions that a text asks for.
 fn read_limit(text: &[u8]) -> Option<u8>
-    ensures { result ≡ limit_at text.now }
+    ensures limit { result ≡ limit_at text.now }
+    ensures range { IfSome result (λ n. (1 ≤ n) × (n ≤ MOST_LISTED)) }
 {
     let limit = number(text, u64::from(MOST_LISTED))?;
     if limit == 0 {

@@ -4,6 +4,10 @@ ghost use Rattle.std.specs.Prelude.{◌≡◌, ℕ, List, IfOk};
 ghost use Rattle.latin_board.specs.Boards.{BoardValue};
 ghost use Rattle.play_midend.specs.Histories.{shown};
 
+pub(crate) mod symbols;
+pub(crate) mod towers_picture;
+pub(crate) mod unequal_picture;
+
 use clue_rules::Game;
 use latin_board::{Board, OutOfMemory};
 use play_midend::Session;

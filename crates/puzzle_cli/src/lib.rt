@@ -14,44 +14,25 @@
 //! ```
 #![tactic(auto)]
 
-mod answers;
 mod command;
-mod command_fault;
-mod command_line;
-mod decimal_text;
-mod done_clues;
 mod draw;
-mod facts;
-mod help;
-mod line_buffer;
-mod line_fault;
-mod line_loop;
-mod machine;
-mod new_session;
-mod pencil_marks;
-mod refusal;
+mod line;
+mod reply;
 mod run_end;
 mod run_laws;
 mod session_run;
-mod solution_list;
-mod solve_reply;
 mod start;
-mod start_fault;
-mod status;
-mod symbols;
-mod text;
-mod towers_picture;
-mod unequal_picture;
+mod view;
 
-pub use command_fault::CommandFault;
-pub use command_line::{Args, GameName, read_words};
-pub use done_clues::done_text;
+pub use command::line_fault::LineFault;
 pub use draw::{Draw, picture};
-pub use line_fault::LineFault;
-pub use pencil_marks::marks_text;
 pub use run_end::End;
 pub use run_laws::laws;
 pub use session_run::run;
 pub use start::begin;
-pub use start_fault::StartFault;
-pub use status::status_text;
+pub use start::command_fault::CommandFault;
+pub use start::command_line::{Args, GameName, read_words};
+pub use start::start_fault::StartFault;
+pub use view::done_clues::done_text;
+pub use view::pencil_marks::marks_text;
+pub use view::status::status_text;

@@ -8,15 +8,13 @@ use thiserror::Error;
 
 /// How a run ended.
 #[derive(Clone, Copy, Debug, PartialEq, Eq, Error)]
+#[error("{}", self.name())]
 pub enum End {
     /// The input was at its end, or a line was `quit`.
-    #[error("finished")]
     Finished,
     /// A read failed, or 1,000,000,000 bytes were read and neither the end nor `quit` had been met.
-    #[error("cannot read the input")]
     ReadFault,
     /// A write or a flush failed, or a write took no byte.
-    #[error("cannot write the output")]
     WriteFault,
 }
 

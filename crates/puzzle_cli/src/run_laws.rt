@@ -2,7 +2,7 @@
 ghost use Rattle.puzzle_cli.specs.RunLaws.{LinesAreReadOnce, RefusedLinesLeave, OutputIsOne, RepliesStayStorable, RepliesAreCalls, OtherRequestsLeave, UndoLineTakesBack, RedoLineTakesUndoBack};
 
 use crate::draw::Draw;
-use crate::facts::Facts;
+use crate::reply::facts::Facts;
 
 /// The laws of the replies that `run` gives to lines, in any game.
 ///

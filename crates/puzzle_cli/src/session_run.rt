@@ -5,8 +5,8 @@ ghost use Rattle.puzzle_cli.specs.Replies.{Reply};
 ghost use Rattle.puzzle_cli.specs.Runs.{point_at, Ends};
 
 use crate::draw::Draw;
-use crate::facts::Facts;
-use crate::line_loop::run_machine;
+use crate::line::line_loop::run_machine;
+use crate::reply::facts::Facts;
 use crate::run_end::End;
 use play_midend::Session;
 use puzzle_io::{Sink, Source};

@@ -7,10 +7,15 @@ ghost use Rattle.puzzle_cli.specs.CommandLine.{NotBoth};
 ghost use Rattle.puzzle_cli.specs.NewSessions.{TextBegins, IsStartRefusal};
 ghost use Rattle.puzzle_cli.specs.Starts.{saved_facts, IsFileRefusal};
 
+pub(crate) mod command_fault;
+pub(crate) mod command_line;
+pub(crate) mod help;
+pub(crate) mod start_fault;
+
 use crate::draw::Draw;
-use crate::facts::Facts;
-use crate::new_session::new_session;
-use crate::start_fault::StartFault;
+use crate::reply::facts::Facts;
+use crate::reply::new_session::new_session;
+use crate::start::start_fault::StartFault;
 use play_midend::Session;
 use play_save::load;
 use std::alloc::Global;

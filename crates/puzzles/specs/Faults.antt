@@ -1,7 +1,7 @@
 -- The statuses of the program, and its lines on standard error.
 use Rattle.std.specs.Prelude.{ℕ, List, [], codes}
-use Rattle.puzzle_cli.specs.declared.command_fault.CommandFault.TheVariants.{BadWords, HelpAsked}
-use Rattle.puzzle_cli.specs.declared.command_fault.CommandFault.TheVariants.{OutOfMemory as WordsMemory}
+use Rattle.puzzle_cli.specs.declared.start.command_fault.CommandFault.TheVariants.{BadWords, HelpAsked}
+use Rattle.puzzle_cli.specs.declared.start.command_fault.CommandFault.TheVariants.{OutOfMemory as WordsMemory}
 use Rattle.puzzle_cli.specs.CommandFault.{command_fault_status}
 use Rattle.puzzle_cli.specs.StartFault.{start_fault_status, start_fault_line}
 use Rattle.puzzle_cli.specs.End.{end_status, end_fault_line}

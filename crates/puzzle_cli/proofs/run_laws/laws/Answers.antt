@@ -2,10 +2,10 @@ use Rattle.clue_rules.specs.GameIds.{describes_at}
 use Rattle.clue_rules.proofs.GameIdLemmas.{id_again, game_reads}
 use Rattle.puzzle_gen.proofs.ItemLaws.{laws_of}
 use Rattle.puzzle_cli.specs.GameFacts.{facts_of}
-use Rattle.puzzle_cli.specs.CommandReading.{read_at}
+use Rattle.puzzle_cli.specs.Inner.CommandReading.{read_at}
 use Rattle.puzzle_cli.proofs.CommandLaws.{line_is_read, read_once}
 use Rattle.puzzle_cli.proofs.RepliesOnce.{ids_once, output_once}
-use Rattle.puzzle_cli.proofs.RefusedReplies.{refused_lines_leave}
+use Rattle.puzzle_cli.proofs.ReplySteps.{refused_lines_leave}
 use Rattle.puzzle_cli.proofs.StorableReplies.{replies_stay_storable}
 use Rattle.puzzle_cli.proofs.CallReplies.{replies_are_calls, other_requests_leave}
 use Rattle.puzzle_cli.proofs.UndoReplies.{undo_line_takes_back, redo_line_takes_undo_back}

@@ -1,0 +1,17 @@
+use Rattle.std.proofs.Common.{◌≡◌, ◌-◌, ◌≤◌, false}
+use Rattle.puzzle_cli.specs.Runs.{longest_input, point_at}
+use Rattle.puzzle_cli.proofs.BytesRead.{HasRead}
+use Rattle.puzzle_cli.proofs.line.line_loop.run_machine.Given as goal
+
+-- the lines that ended in what was read were answered
+abbrev pub invariant-loop-count : goal.invariant-loop-count
+invariant-loop-count g l = record {
+  within : l.count ≤ longest_input;
+  works : g.R.Source.has_failed l.source ≡ false;
+  so_far : HasRead g.M.Machine.reply g.M.Machine.is_quit
+      (point_at g.R.Source g.W.Sink l.fn.machine l.fn.source l.fn.sink)
+      (point_at g.R.Source g.W.Sink l.machine l.source l.sink) l.count l.line;
+}
+
+abbrev pub decreases-loop-count : goal.decreases-loop-count
+decreases-loop-count g l = longest_input - l.count

@@ -1,0 +1,7 @@
+-- Words that the contracts of private functions alone use.
+pub mod Answers
+pub mod CommandReading
+pub mod LineBuffer
+pub mod Machines
+pub mod Steps
+pub mod Text

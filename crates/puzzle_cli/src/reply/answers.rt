@@ -1,0 +1,161 @@
+//! The answers to lines: what a line makes of a session, or of none, and what is said to it.
+ghost use Rattle.std.specs.Prelude.{◌≡◌, Some, Ok, IfOk, IfErr, OnErr};
+ghost use Rattle.std.specs.Option.{option_copied};
+ghost use Rattle.play_save.specs.Written.{save_of};
+ghost use Rattle.puzzle_cli.specs.Inner.Text.{text_bytes};
+ghost use Rattle.puzzle_cli.specs.Commands.{is_quit, action_copied, request_copied, IsInRange};
+ghost use Rattle.puzzle_cli.specs.SessionReplies.{id_line, view_text, ViewTakesMemory, RequestGives, RequestTakesMemory};
+ghost use Rattle.puzzle_cli.specs.Replies.{Reply, Explains};
+ghost use Rattle.puzzle_cli.specs.Inner.Answers.{Says, IsLineRefusal, ActionAnswered};
+ghost use Rattle.puzzle_cli.specs.Inner.Machines.{IsResponse};
+
+use crate::command::line_fault::LineFault;
+use crate::command::{Action, Command, Request, View, read_command};
+use crate::draw::{Draw, picture};
+use crate::line::machine::{Machine, Response};
+use crate::reply::facts::Facts;
+use crate::reply::new_session::new_session;
+use crate::reply::refusal::Refusal;
+use crate::reply::solution_list::solution_list;
+use crate::reply::solve_reply::solve_reply;
+use crate::reply::text::Text;
+use crate::view::done_clues::done_text;
+use crate::view::pencil_marks::marks_text;
+use crate::view::status::status_text;
+use clue_rules::Game;
+use latin_board::OutOfMemory;
+use play_midend::{PlayFault, Session, read_move};
+use play_save::save;
+use std::alloc::Global;
+
+impl<P: Draw> Machine for Option<Session<P>> {
+    ghost reply = { Reply ⟦<P as Facts>⟧.facts };
+
+    ghost is_quit = { is_quit };
+
+    fn answer(&mut self, alloc: Global, line: Option<&[u8]>) -> Response {
+        match obey(alloc, self, line) {
+            Ok(answer) => answer,
+            Err(refusal) => Response::Reply(Text::refused(refusal.name())),
+        }
+    }
+}
+
+// What is answered to a line, or why it is refused.
+#[tactic(auto, using(crate::proofs::CommandLaws::goes_on))]
+fn obey<P: Draw>(
+    alloc: Global,
+    session: &mut Option<Session<P>>,
+    line: Option<&[u8]>,
+) -> Result<Response, Refusal>
+    ensures ok { IfOk result (λ answer. IsResponse (Says ⟦<P as Facts>⟧.facts) is_quit
+        session.old (option_copied line.entry) answer session.new) }
+    ensures err { OnErr result (session.new ≡ session.old) }
+    ensures why { IfErr result
+        (IsLineRefusal ⟦<P as Facts>⟧.facts session.old (option_copied line.entry)) }
+{
+    match read_command(line)? {
+        None => Ok(Response::Silence),
+        Some(Command::Quit) => Ok(Response::Quit),
+        Some(Command::New(id)) => {
+            *session = Some(new_session(alloc, id)?);
+            Ok(Response::Reply(Text::line("ok")))
+        }
+        Some(Command::Ask(request)) => match session {
+            None => Err(Refusal::Line(LineFault::NoGame)),
+            Some(session) => Ok(Response::Reply(ask(alloc, session, request)?)),
+        },
+    }
+}
+
+// What a session says to a request.
+fn ask<P: Draw>(
+    alloc: Global,
+    session: &mut Session<P>,
+    request: Request<&[u8]>,
+) -> Result<Text, Refusal>
+    requires { IsInRange request }
+    ensures ok { IfOk result (λ text. RequestGives ⟦<P as Facts>⟧.facts session.old
+        (request_copied request.entry) (Ok (text_bytes text, Some session.new))) }
+    ensures err { OnErr result (session.new ≡ session.old) }
+    ensures why { IfErr result (Explains
+        (RequestGives ⟦<P as Facts>⟧.facts session.old (request_copied request.entry))
+        (RequestTakesMemory ⟦<P as Facts>⟧.facts session.old (request_copied request.entry))) }
+{
+    match request {
+        Request::Act(action) => act(session, action),
+        Request::Tell(view) => Ok(tell(alloc, session, view)?),
+        Request::Listing(limit) => Ok(Text::Long(solution_list(alloc, session, limit)?)),
+    }
+}
+
+// What a session says to a call.
+fn act<P: Draw>(session: &mut Session<P>, action: Action<&[u8]>) -> Result<Text, Refusal>
+    ensures ok { IfOk result (λ text. RequestGives ⟦<P as Facts>⟧.facts session.old
+        (Request.Act (action_copied action.entry)) (Ok (text_bytes text, Some session.new))) }
+    ensures err { OnErr result (session.new ≡ session.old) }
+    ensures why { IfErr result (Explains
+        (RequestGives ⟦<P as Facts>⟧.facts session.old (Request.Act (action_copied action.entry)))
+        (RequestTakesMemory ⟦<P as Facts>⟧.facts session.old
+        (Request.Act (action_copied action.entry)))) }
+{
+    let answer = call(session, action);
+    match action {
+        Action::Solve => solve_reply(session, answer),
+        _ => {
+            answer?;
+            Ok(Text::line("ok"))
+        }
+    }
+}
+
+// Makes a call of the session.
+fn call<P: Draw>(session: &mut Session<P>, action: Action<&[u8]>) -> Result<(), PlayFault>
+    ensures answered { ActionAnswered (P.puzzle session.old.puzzle) session.old
+        (action_copied action.entry) result session.new }
+    ensures err { OnErr result (session.new ≡ session.old) }
+{
+    match action {
+        Action::Play(text) => session.play(read_move(text)?),
+        Action::Undo => session.undo(),
+        Action::Redo => session.redo(),
+        Action::Restart => session.restart(),
+        Action::Solve => session.solve(),
+    }
+}
+
+// What is told of a session.
+fn tell<P: Draw>(alloc: Global, session: &Session<P>, view: View) -> Result<Text, OutOfMemory>
+    ensures ok { IfOk result (λ text.
+        text_bytes text ≡ view_text ⟦<P as Facts>⟧.facts session.now view) }
+    ensures err { OnErr result (ViewTakesMemory view) }
+{
+    match view {
+        View::Show => Ok(Text::Long(picture(alloc, session)?)),
+        View::Marks => Ok(Text::Long(marks_text(alloc, session)?)),
+        View::Status => Ok(Text::line(status_text(session).as_str())),
+        View::Id => Ok(Text::Long(id_text(alloc, session)?)),
+        View::Done => Ok(Text::Clues(done_text(session))),
+        View::Save => Ok(Text::Long(save_text(alloc, session)?)),
+    }
+}
+
+// The ID of the game that is played, as a line.
+fn id_text<P: Draw>(alloc: Global, session: &Session<P>) -> Result<Vec<u8>, OutOfMemory>
+    ensures { IfOk result (λ text. text.items ≡ id_line ⟦<P as Facts>⟧.facts session.now) }
+{
+    let mut text = Vec::new(alloc);
+    text.extend_from_slice(&session.params().write())?;
+    text.push(b':')?;
+    let description = session.puzzle().write_desc(alloc).map_err(|_| OutOfMemory)?;
+    text.extend_from_slice(&description)?;
+    text.push(b'\n')?;
+    Ok(text)
+}
+
+// The save text of the session.
+fn save_text<P: Draw>(alloc: Global, session: &Session<P>) -> Result<Vec<u8>, OutOfMemory>
+    ensures { IfOk result (λ text. text.items ≡ save_of P.title P.desc_of session.now) }
+{
+    save(alloc, session).map_err(|_| OutOfMemory)
+}

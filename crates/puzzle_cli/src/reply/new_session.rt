@@ -1,0 +1,47 @@
+//! The session that a game ID begins.
+ghost use Rattle.std.specs.Prelude.{◌≡◌, Ok, IfOk, IfErr};
+ghost use Rattle.puzzle_cli.specs.NewSessions.{no_extras, new_game, TextBegins, IsStartRefusal};
+
+use crate::draw::Draw;
+use crate::reply::facts::Facts;
+use crate::start::start_fault::StartFault;
+use clue_rules::{GameId, Params, read_id};
+use play_midend::{Extras, Session};
+use puzzle_gen::generate;
+use std::alloc::Global;
+
+/// The new session of a game ID: of the puzzle that is described, or of the one that is generated from the seed.
+///
+/// Refused as `read_id` refuses the text, then as `generate` refuses the seed; `OutOfMemory`.
+pub(crate) fn new_session<P: Draw>(alloc: Global, id: &[u8]) -> Result<Session<P>, StartFault>
+    ensures ok { IfOk result (λ session. TextBegins ⟦<P as Facts>⟧.facts id.now (Ok session)) }
+    ensures why { IfErr result (IsStartRefusal (TextBegins ⟦<P as Facts>⟧.facts id.now)) }
+{
+    match read_id::<P>(id)? {
+        GameId::Described(params, puzzle) => begin_game(alloc, params, puzzle),
+        GameId::Seeded(params, seed) => begin_game(alloc, params, generate(&params, seed)?),
+    }
+}
+
+// A session at the start of a puzzle of the size of these parameters. Nothing but memory refuses it.
+fn begin_game<P: Draw>(alloc: Global, params: Params, puzzle: P) -> Result<Session<P>, StartFault>
+    requires { params.size ≡ (P.puzzle puzzle).size }
+    ensures ok { IfOk result (λ session. session ≡ new_game params puzzle) }
+    ensures why { IfErr result (λ fault. fault ≡ StartFault.OutOfMemory) }
+{
+    let next_params = params;
+    Session::new(alloc, params, next_params, puzzle, no_extras()).map_err(
+        |_| StartFault::OutOfMemory,
+    )
+}
+
+fn no_extras() -> Extras
+    ensures { result ≡ no_extras }
+{
+    Extras {
+        seed: None,
+        auxinfo: None,
+        ui: None,
+        time: None,
+    }
+}

@@ -1,0 +1,62 @@
+//! What `solve` makes of a session, and what is said of it.
+ghost use Rattle.std.specs.Prelude.{◌≡◌, Some, None, Err, IfOk, IfErr, OnOk};
+ghost use Rattle.play_midend.specs.declared.fault.PlayFault.{PlayFault};
+ghost use Rattle.puzzle_cli.specs.Inner.Text.{text_bytes};
+ghost use Rattle.latin_board.specs.Squares.{GridValue};
+ghost use Rattle.puzzle_cli.specs.SolutionTexts.{move_line, solve_sentence, EndsInSolution, IsLastMove};
+
+use crate::draw::symbols::grid_digits;
+use crate::reply::refusal::Refusal;
+use crate::reply::text::Text;
+use arrayvec::ArrayVec;
+use clue_rules::Game;
+use latin_board::Grid;
+use play_midend::{Move, PlayFault, Session};
+
+// `S`, at most 81 digits and a line feed.
+type SolveLine = ArrayVec<u8, 83>;
+
+/// What is said of the answer to `solve`: the move that was made, or why there is none to make.
+///
+/// The text takes no memory, as the session has changed by then.
+pub(crate) fn solve_reply<P: Game>(
+    session: &Session<P>,
+    answer: Result<(), PlayFault>,
+) -> Result<Text, Refusal>
+    requires { OnOk answer ((g : GridValue) × EndsInSolution session.now g) }
+    ensures made { OnOk answer (IfOk result (λ text. IsLastMove session.now (text_bytes text))) }
+    ensures ok { IfErr answer (λ fault. IfOk result (λ text.
+        solve_sentence fault ≡ Some (text_bytes text))) }
+    ensures err { IfErr result (λ refusal. (fault : PlayFault) × (answer ≡ Err fault)
+        × (solve_sentence fault ≡ None) × (refusal ≡ Refusal.Play fault)) }
+{
+    match answer {
+        Ok(()) => Ok(Text::Solved(solution_line(session))),
+        Err(PlayFault::NoSolution) => Ok(Text::line("No solution exists for this puzzle")),
+        Err(PlayFault::SeveralSolutions) => {
+            Ok(Text::line("Multiple solutions exist for this puzzle"))
+        }
+        Err(fault) => Err(Refusal::Play(fault)),
+    }
+}
+
+// The line of the move to the last state, which fills in a solution.
+fn solution_line<P: Game>(session: &Session<P>) -> SolveLine
+    requires { (g : GridValue) × EndsInSolution session.now g }
+    ensures { IsLastMove session.now result.items }
+{
+    match session.move_at(session.states() - 1) {
+        Move::Solve(grid) => grid_line(grid),
+        _ => unreachable!(),
+    }
+}
+
+fn grid_line(grid: &Grid) -> SolveLine
+    ensures { result.items ≡ move_line (Move.Solve grid.now) }
+{
+    let mut line = ArrayVec::new();
+    line.push(b'S');
+    line.try_extend_from_slice(&grid_digits(grid)).unwrap();
+    line.push(b'\n');
+    line
+}

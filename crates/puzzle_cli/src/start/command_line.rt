@@ -1,0 +1,155 @@
+//! The command line: which game, what it begins with, and where it is saved.
+
+ghost use Rattle.std.specs.Prelude.{◌≡◌, codes, option_map, Some, IfOk};
+ghost use Rattle.std.specs.Option.{option_copied};
+ghost use Rattle.std.specs.String.{string_bytes};
+ghost use Rattle.clap.specs.Words.{first_value, found_of};
+ghost use Rattle.puzzle_cli.specs.CommandLine.{game_word, NotBoth};
+
+use crate::start::command_fault::CommandFault;
+use crate::start::help::MORE_HELP;
+use clap::error::ErrorKind;
+use clap::{Arg, ArgMatches, Command};
+use std::alloc::{AllocError, Global};
+
+/// A game that can be played.
+#[derive(Clone, Copy, Debug, PartialEq, Eq)]
+pub enum GameName {
+    Towers,
+    Unequal,
+}
+
+/// What a command line says.
+#[derive(Debug, PartialEq, Eq, Drop)]
+pub struct Args {
+    /// The game to play.
+    pub game: GameName,
+    /// The game ID to begin with.
+    pub id: Option<String>,
+    /// The path of the file to load the first session from.
+    pub load: Option<String>,
+    /// The path of the file to save the last session to.
+    pub save: Option<String>,
+}
+
+const PROGRAM: &str = "puzzles";
+
+const GAME: &str = "game";
+
+const ID: &str = "id";
+
+const LOAD: &str = "load";
+
+const SAVE: &str = "save";
+
+static GAMES: [&str; 2] = ["towers", "unequal"];
+
+static NO_WORDS: [&str; 1] = [PROGRAM];
+
+/// Reads the words of a command line, `puzzles GAME [--id ID] [--load FILE] [--save FILE]`.
+///
+/// The first word is the program's name; an empty list is read as that name alone. GAME is `towers` or `unequal`; an ID and
+/// a file to load exclude each other.
+///
+/// `BadWords` has the text of `clap` for words that it refuses, `HelpAsked` that for `--help` and `--version`, and
+/// `OutOfMemory` is want of memory.
+pub fn read_words(alloc: Global, words: &[&str]) -> Result<Args, CommandFault>
+    ensures { IfOk result (λ args. NotBoth args.id args.load) }
+{
+    match parse(alloc, words) {
+        Ok(matches) => args_of(alloc, &matches),
+        Err(error) => Err(fault_of(alloc, &error)),
+    }
+}
+
+fn parse<'a>(alloc: Global, words: &'a [&'a str]) -> Result<ArgMatches<'a>, clap::Error> {
+    let command_line = command_line(alloc)?;
+    if words.is_empty() {
+        command_line.try_get_matches_from(NO_WORDS.as_slice())
+    } else {
+        command_line.try_get_matches_from(words)
+    }
+}
+
+fn command_line<'a>(alloc: Global) -> Result<Command<'a>, AllocError> {
+    let game = Arg::new(alloc, GAME)
+        .value_name("GAME")
+        .required(true)
+        .value_parser(GAMES.as_slice())
+        .help("The game to play");
+    let id = Arg::new(alloc, ID)
+        .long("id")
+        .value_name("ID")
+        .conflicts_with(LOAD)?
+        .help("Begin with the puzzle of this game ID");
+    let load = Arg::new(alloc, LOAD)
+        .long("load")
+        .value_name("FILE")
+        .help("Begin with the session that was saved to this file");
+    let save = Arg::new(alloc, SAVE).long("save").value_name("FILE").help(
+        "Save the session to this file once the commands are at their end",
+    );
+    Command::new(alloc, PROGRAM)
+        .bin_name(PROGRAM)?
+        .version("1.0")
+        .about(
+            "Towers and Unequal, two puzzles played by commands, one a line, from standard input",
+        )
+        .after_help(MORE_HELP)
+        .arg(game)?
+        .arg(id)?
+        .arg(load)?
+        .arg(save)
+}
+
+// What the words said, once they are parsed.
+fn args_of(alloc: Global, matches: &ArgMatches<'_>) -> Result<Args, CommandFault>
+    ensures game { IfOk result (λ args. Some (game_word args.game)
+        ≡ first_value (found_of matches.now) (codes "game")) }
+    ensures id { IfOk result (λ args. option_map string_bytes args.id
+        ≡ first_value (found_of matches.now) (codes "id")) }
+    ensures load { IfOk result (λ args. option_map string_bytes args.load
+        ≡ first_value (found_of matches.now) (codes "load")) }
+    ensures save { IfOk result (λ args. option_map string_bytes args.save
+        ≡ first_value (found_of matches.now) (codes "save")) }
+    ensures one_start { IfOk result (λ args. NotBoth args.id args.load) }
+{
+    // Neither refusal below can be met: the words were parsed as the command line above says.
+    let game = match matches.get_str(GAME) {
+        Some("towers") => GameName::Towers,
+        Some("unequal") => GameName::Unequal,
+        _ => return Err(CommandFault::BadWords(String::new(alloc))),
+    };
+    let id = matches.get_str(ID);
+    let load = matches.get_str(LOAD);
+    if id.is_some() && load.is_some() {
+        return Err(CommandFault::BadWords(String::new(alloc)));
+    }
+    Ok(Args {
+        game,
+        id: owned(alloc, id)?,
+        load: owned(alloc, load)?,
+        save: owned(alloc, matches.get_str(SAVE))?,
+    })
+}
+
+fn owned(alloc: Global, text: Option<&str>) -> Result<Option<String>, AllocError>
+    ensures { IfOk result (λ copy. option_map string_bytes copy ≡ option_copied text.entry) }
+{
+    match text {
+        Some(text) => Ok(Some(String::from_str(alloc, text)?)),
+        None => Ok(None),
+    }
+}
+
+// The fault for what `clap` answers in place of matches. Its text is whole, its last LF included.
+fn fault_of(alloc: Global, error: &clap::Error) -> CommandFault {
+    if error.kind() == ErrorKind::OutOfMemory {
+        return CommandFault::OutOfMemory;
+    }
+    match error.to_string(alloc) {
+        Ok(text) if error.use_stderr() => CommandFault::BadWords(text),
+        Ok(text) => CommandFault::HelpAsked(text),
+        Err(_) => CommandFault::OutOfMemory,
+    }
+}

@@ -1,0 +1,6 @@
+//! What is told of a board: pencil marks, done clues, the status.
+
+pub(crate) mod decimal_text;
+pub(crate) mod done_clues;
+pub(crate) mod pencil_marks;
+pub(crate) mod status;
