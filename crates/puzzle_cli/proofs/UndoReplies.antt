@@ -6,9 +6,9 @@ use Rattle.trail_solver.specs.Puzzles.{Puzzle}
 use Rattle.play_midend.specs.declared.fault.PlayFault.{PlayFault}
 use Rattle.play_midend.specs.Faults.{play_fault_name}
 use Rattle.play_midend.specs.Histories.{History, IsValid, undone, redone}
-use Rattle.play_midend.specs.Laws.{Call, Play, FromStart, ToSolution, CallGives, IsSameBack, may_want_memory}
+use Rattle.play_midend.specs.Laws.{Call, IsSameBack, may_want_memory}
 use Rattle.play_midend.specs.Laws
-use Rattle.play_midend.proofs.SessionLaws.{undo_takes_back, undo_takes_restart_back, undo_takes_solve_back, redo_takes_undo_back}
+use Rattle.play_midend.proofs.SessionLaws.{call_taken_back, redo_takes_undo_back}
 use Rattle.puzzle_cli.specs.declared.command.Command.TheVariants.{Ask}
 use Rattle.puzzle_cli.specs.declared.command.Request.TheVariants.{Act}
 use Rattle.puzzle_cli.specs.declared.command.Action.TheVariants.{Undo, Redo}
@@ -28,15 +28,6 @@ undo_asks = (codes "undo", refl, word_read (codes "undo") (Ask (Act Undo)) refl)
 redo_asks : Asks redo_line (Act Redo)
 redo_asks = (codes "redo", refl, word_read (codes "redo") (Ask (Act Redo)) refl)
 
--- a call that is made and then undone
-taken_back : {P : Type 0} (f : GameFacts P) (h k : History P) (call : Call) → IsValid (f.rules.puzzle h.puzzle) h
-    → may_want_memory call ≡ true
-    → CallGives (f.rules.puzzle h.puzzle) h call (Ok k) → IsOkAnd (undone k) (IsSameBack (f.rules.puzzle h.puzzle) h)
-taken_back f h k (Play m) valid wants gives = undo_takes_back f.rules.puzzle h k m valid (sym gives)
-taken_back f h k FromStart valid wants gives = undo_takes_restart_back f.rules.puzzle h k valid (sym gives)
-taken_back f h k ToSolution valid wants gives = undo_takes_solve_back f.rules.puzzle h k valid gives
-taken_back f h k call valid wants gives = cc
-
 -- what is said of an undo that succeeds
 undo_said : {P : Type 0} (f : GameFacts P) (p : Puzzle) (h k : History P) (said : List ℕ) (last : Option (History P))
     → IsOkAnd (undone k) (IsSameBack p h) → AnswersCall f k Laws.Undo said last → (said ≡ ok_line) × IsSomeAnd last (IsSameBack p h)
@@ -51,7 +42,7 @@ after_made : {P : Type 0} (f : GameFacts P) (h : History P) (call : Call) (bytes
     → Reply f new undo_line said last → (said ≡ ok_line) × IsSomeAnd last (IsSameBack (f.rules.puzzle h.puzzle) h)
 after_made f h call bytes said None last valid wants made answer reply = absurd answer
 after_made f h call bytes said (Some k) last valid wants made (Ok u, gives, told) reply =
-    undo_said f (f.rules.puzzle h.puzzle) h k said last (taken_back f h k call valid wants gives)
+    undo_said f (f.rules.puzzle h.puzzle) h k said last (call_taken_back f.rules.puzzle h k call valid wants gives)
     (replies_are_calls f k undo_line (Act Undo) Laws.Undo said last undo_asks refl reply)
 after_made f h call bytes said (Some k) last valid wants made (Err fault, gives, told) reply =
     let no_ok : IsOk {T = Unit {0}} {E = PlayFault} (Err fault) = told_made call (Err fault) bytes told made in cc

@@ -123,6 +123,9 @@ fn numbers_and_names(rt: HostRuntime) {
         (PlayFault::SeveralSolutions, 14, "SeveralSolutions"),
     ];
     for (fault, number, name) in rows {
-        assert!(rt; fault.number() == number && fault.name() == name, "{fault}");
+        assert!(rt;
+            fault.number() == number && fault.name() == name,
+            "{fault:?}"
+        );
     }
 }
