@@ -4,7 +4,7 @@ use Rattle.std.specs.Prelude.{MatchOption}
 use Rattle.std.proofs.lemmas.Bool.{both_ways, false_from_ne_true}
 use Rattle.number_sets.specs.Sets.{has_number, IsEmpty, IsSingle}
 use Rattle.trail_solver.specs.Candidates.{CandidatesValue, IsSetOf, IsOnly, may_be}
-use Rattle.trail_solver.specs.Squares.{IsBranch, IsDead, IsOpen}
+use Rattle.trail_solver.specs.Inner.Squares.{IsBranch, IsDead, IsOpen}
 
 only_from_single : (c : CandidatesValue) (cell set value : ℕ) → cell < c.size * c.size → IsSetOf c cell set → IsSingle set value
     → IsOnly c cell value
