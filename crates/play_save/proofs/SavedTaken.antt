@@ -264,12 +264,12 @@ load_taken {P} game text h owes is =
     let all = bind_taken (needed game [] (records_of head.0)) _ some.0 some.1 in
     let need = needed_taken game [] (records_of head.0) all.0 all.1 in
     let met_is : met all.0 ≡ some.0 = cc all.2 in
-    let same : met need.more ≡ some.0 = ap met (sym need.all_is) ∙ met_is in
+    let same : met need.more ≡ some.0 = rw need.all_is at met_is in
     record {
       small = ltb-false MOST_BYTES (length text) fits.0;
       behind_head = head.0;
       head = behind_head_taken text head.0 (record_at text) refl head.1;
       records = need.more;
       begins = records_taken need.more head.0 need.follow;
-      saved = saved_taken game need.more h owes need.right (ap (session_of game) same ∙ some.2);
+      saved = saved_taken game need.more h owes need.right (rw (sym same) at some.2);
     }

@@ -58,7 +58,7 @@ values_tail title desc h (ParamsOf Next) =
 values_tail title desc h (Kept Seed) =
     let states = states_none (Kept Seed) desc h.moves in simp (values_of-append, kept_values, states, append-nil)
 values_tail title desc h (Count States) =
-    let states = states_none (Count States) desc h.moves in simp (values_of-append, kept_values, states, append-nil)
+    let states = states_none (Count States) desc h.moves in simp (values_of-append, kept_values, states)
 values_tail title desc h k =
     let states = states_none k desc h.moves in simp (values_of-append, kept_values, states, append-nil)
 
