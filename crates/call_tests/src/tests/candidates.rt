@@ -17,7 +17,7 @@ struct Plain {
 impl Rules for Plain {
     ghost use Rattle.std.specs.Prelude.{◌≡◌, ◌*◌, ℕ, Bool, true, false, not, ◌&&◌, refl};
     ghost use Rattle.std.proofs.Common.{ap, arith};
-    ghost use Rattle.latin_board.specs.Squares.{GridValue, IsGrid, number_at};
+    ghost use Rattle.latin_board.specs.Squares.{IsGrid, number_at};
     ghost use Rattle.latin_board.proofs.Numbers.{number_within};
 
     ghost puzzle = { λ p. record {
