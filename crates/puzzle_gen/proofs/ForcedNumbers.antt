@@ -169,6 +169,8 @@ find_keeps p old new before size keeps = record {
   each = λ h s. keeps h s.is_grid s.latin (s.same_size ∙ sym before.size) (before.each h s);
 }
 
-pub on_true : (b : Bool) (A B : Type 0) → OnTrue b A → (A → B) → OnTrue b B
-on_true true A B h f = f h
-on_true false A B h f = h
+-- where that is the whole grid, there is no second solution
+pub whole_is_only : (p : Puzzle) (found : GridValue) (full : Bool) → FoundOf p found → OnTrue full (IsFull found)
+    → OnTrue full (HasSeveralSolutions p → ⊥)
+whole_is_only p found true h all = full_is_only p found all h.size h.each
+whole_is_only p found false h none = none

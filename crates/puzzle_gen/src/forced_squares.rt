@@ -7,17 +7,18 @@ ghost use Rattle.trail_solver.specs.Puzzles.{Solves};
 ghost use Rattle.trail_solver.specs.Solutions.{HasSeveralSolutions};
 ghost use Rattle.puzzle_gen.specs.Inner.ForcedSquares.{HasFound, IsForced, StandsAtPeer};
 
-use latin_board::Grid;
+use latin_board::{CELLS, Grid};
 use trail_solver::Rules;
 
 /// Whether the givens force every other number, each by the numbers of its row and its column; the known grid is a
 /// solution. Then it is the only one.
+#[tactic(auto, using(crate::proofs::ForcedNumbers::find_keeps, crate::proofs::ForcedNumbers::whole_is_only))]
 pub(crate) fn is_forced<P: Rules>(puzzle: &P, known: &Grid) -> bool
     requires { Solves (P.puzzle puzzle.now) known.now }
     ensures { OnTrue result (HasSeveralSolutions (P.puzzle puzzle.now) → ⊥) }
 {
     let mut found = givens_of(puzzle);
-    for _pass in 0..81 {
+    for _pass in 0..CELLS {
         if !find_more(known, &mut found) {
             break;
         }

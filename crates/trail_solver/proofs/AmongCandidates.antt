@@ -2,9 +2,10 @@
 use Rattle.std.proofs.Common.{◌≡◌, ℕ, ◌*◌, ◌<◌, true, false, subst}
 use Rattle.std.proofs.lemmas.Bool.{both_ways}
 use Rattle.latin_board.specs.Squares.{GridValue}
-use Rattle.trail_solver.specs.Candidates.{CandidatesValue, IsEarlier, IsWithin, may_be}
+use Rattle.trail_solver.specs.Candidates.{CandidatesValue, IsEarlier, may_be}
 use Rattle.trail_solver.specs.Inner.Squares.{IsFilled, KeepsOnly}
 use Rattle.trail_solver.specs.Puzzles.{Puzzle, Solves}
+use Rattle.trail_solver.specs.Solutions.{KeepsSolutions}
 use Rattle.trail_solver.specs.Inner.Among.{IsAmong, IsAmongAt}
 use Rattle.trail_solver.proofs.Earlier.{within_earlier}
 use Rattle.trail_solver.proofs.FilledGrids.{solution_pair, only_filled}
@@ -15,7 +16,7 @@ pub among_earlier : (p : Puzzle) (old new : CandidatesValue) → IsEarlier old n
 among_earlier p old new less h s = (s.0, within_earlier old new h less s.1)
 
 -- and where narrowing loses none, the other way round
-pub among_narrowed : (p : Puzzle) (old new : CandidatesValue) → ((h : GridValue) → Solves p h → IsWithin old h → IsWithin new h)
+pub among_narrowed : (p : Puzzle) (old new : CandidatesValue) → KeepsSolutions p old new
     → (h : GridValue) → IsAmong p old h → IsAmong p new h
 among_narrowed p old new keeps h s = (s.0, keeps h s.0 s.1)
 
