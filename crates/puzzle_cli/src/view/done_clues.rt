@@ -4,15 +4,18 @@ ghost use Rattle.std.specs.Prelude.{◌≡◌, ◌+◌, ◌*◌, ◌<◌, ◌≤
 ghost use Rattle.arrayvec.specs.ArrayVec.{array_vec_len};
 ghost use Rattle.play_midend.specs.Histories.{shown};
 ghost use Rattle.play_midend.specs.MoveTexts.{coordinate_text};
-ghost use Rattle.puzzle_cli.specs.BoardTexts.{done_line, done_lines};
+ghost use Rattle.puzzle_cli.specs.BoardTexts.{place_text, done_line, done_lines};
 
 use arrayvec::ArrayVec;
 use clue_rules::Game;
-use latin_board::{Board, edge_xy};
+use latin_board::{Board, Size, edge_xy};
 use play_midend::Session;
 
 // At most 36 lines of five bytes.
 type DoneText = ArrayVec<u8, 180>;
+
+// Two coordinates and a comma: no place has -1 twice.
+type PlaceText = ArrayVec<u8, 4>;
 
 /// The edge clues that are marked as done on the shown board: a line `x,y` for each, in the order of descriptions, or
 /// the line `no done clues`.
@@ -42,18 +45,28 @@ fn push_done_line(text: &mut DoneText, board: &Board, place: u8)
     ensures short { array_vec_len text.new ≤ array_vec_len text.old + 5 }
 {
     if board.done(place) {
-        let (x, y) = edge_xy(board.size(), place);
-        push_coordinate(text, x);
-        text.push(b',');
-        push_coordinate(text, y);
+        text.try_extend_from_slice(&place_text(board.size(), place))
+            .unwrap();
         text.push(b'\n');
     }
 }
 
-fn push_coordinate(text: &mut DoneText, coordinate: i8)
+fn place_text(size: Size, place: u8) -> PlaceText
+    requires { place < 4 * size }
+    ensures { result.items ≡ place_text size place }
+{
+    let (x, y) = edge_xy(size, place);
+    let mut text = ArrayVec::new();
+    push_coordinate(&mut text, x);
+    text.push(b',');
+    push_coordinate(&mut text, y);
+    text
+}
+
+fn push_coordinate(text: &mut PlaceText, coordinate: i8)
     requires low { negsuc zero ≤ℤ coordinate }
     requires high { coordinate ≤ℤ pos 9 }
-    requires room { array_vec_len text.old + length (coordinate_text coordinate) ≤ 180 }
+    requires room { array_vec_len text.old + length (coordinate_text coordinate) ≤ 4 }
     ensures { text.new.items ≡ text.old.items ++ coordinate_text coordinate }
 {
     if coordinate < 0 {
