@@ -46,9 +46,7 @@ impl Unequal {
             None => true,
         }
     }
-}
 
-impl Unequal {
     // Takes an item away, where it is there.
     #[tactic(auto, using(crate::proofs::UnequalTables::emptied_front))]
     fn take_away(&mut self, item: Item)
