@@ -5,7 +5,6 @@ use Rattle.trail_solver.specs.Puzzles.{Puzzle, Solves}
 use Rattle.clue_rules.specs.declared.id_fault.IdFault.{IdFault}
 use Rattle.clue_rules.specs.declared.game_id.GameId.{GameId}
 use Rattle.clue_rules.specs.declared.game_id.GameId.TheVariants.{Described, Seeded}
-use Rattle.clue_rules.specs.Parameters.{has_adjacent}
 use Rattle.clue_rules.specs.GameIds.{IsIdText, id_at, describes_at}
 use Rattle.puzzle_gen.specs.declared.gen_fault.GenFault.{GenFault}
 use Rattle.puzzle_gen.proofs.ItemLaws.{ItemLaws}
