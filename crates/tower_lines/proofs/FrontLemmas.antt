@@ -4,7 +4,7 @@ use Rattle.std.proofs.lemmas.Bool.{cases_eq, cases_lt, both_ways, or_cases, or_l
 use Rattle.std.proofs.lemmas.Nat.{ones-le}
 use Rattle.std.proofs.lemmas.List.{get_or-set_same, get_or-set_other}
 use Rattle.tower_lines.specs.TowersSeen.{seen}
-use Rattle.number_sets.specs.Sets.{has_number}
+use Rattle.number_sets.specs.Sets.{has_number, no_numbers}
 use Rattle.tower_lines.specs.LineFillings.{IsStart}
 use Rattle.tower_lines.specs.Inner.LineMasks.{AreNextValues, IsMask, AreFrontCounts, AreCountsSoFar, AreDoneBelow}
 use Rattle.number_sets.proofs.OneMore.{added_with, added_without, added_above, added_below, added_other, added_ones}
@@ -211,7 +211,7 @@ table_next {sets} {clue} {mask} front h = record {
 }
 
 -- past a mask whose starts have nothing next
-pub table_past : {sets : List ℕ} {clue mask : ℕ} (front : List ℕ)
+table_past : {sets : List ℕ} {clue mask : ℕ} (front : List ℕ)
     → ((q : List ℕ) (k : ℕ) → IsMask mask q → IsStart sets (q ++ (k + 1) ∷ []) → seen (q ++ (k + 1) ∷ []) ≤ clue → ⊥)
     → AreDoneBelow sets clue mask front → AreDoneBelow sets clue (mask + 1) front
 table_past {sets} {clue} {mask} front none h = record {
@@ -221,13 +221,23 @@ table_past {sets} {clue} {mask} front none h = record {
   ]) (h.each m small);
 }
 
-pub none_unreached : {sets : List ℕ} {clue mask : ℕ} → AreFrontCounts sets clue mask 0 → (q : List ℕ) (k : ℕ) → IsMask mask q
+none_unreached : {sets : List ℕ} {clue mask : ℕ} → AreFrontCounts sets clue mask 0 → (q : List ℕ) (k : ℕ) → IsMask mask q
     → IsStart sets (q ++ (k + 1) ∷ []) → seen (q ++ (k + 1) ∷ []) ≤ clue → ⊥
 none_unreached {sets} {clue} {mask} front q k used start few =
     both_ways (has_number 0 (seen q)) (has_number-none (seen q)) (front.all q (start_front q ((k + 1) ∷ []) start) used (omega (arith, seen-append q ((k + 1) ∷ []))))
 
-pub none_full : {sets : List ℕ} {clue mask : ℕ} → count_ones mask ≡ length sets → (q : List ℕ) (k : ℕ) → IsMask mask q
+none_full : {sets : List ℕ} {clue mask : ℕ} → count_ones mask ≡ length sets → (q : List ℕ) (k : ℕ) → IsMask mask q
     → IsStart sets (q ++ (k + 1) ∷ []) → seen (q ++ (k + 1) ∷ []) ≤ clue → ⊥
 none_full {sets} {clue} {mask} full q k used start few =
     let n = mask-ones q (start_front q ((k + 1) ∷ []) start) used in
     absurd (omega (arith, (start_next q (k + 1) [] start).room))
+
+-- the table goes on past a full mask, and past one that no start reaches
+pub past_full : {sets front : List ℕ} {clue mask : ℕ} → count_ones mask ≡ length sets → AreDoneBelow sets clue mask front
+    → AreDoneBelow sets clue (mask + 1) front
+past_full {sets} {front} full h = table_past front (none_full full) h
+
+pub past_unreached : {sets front : List ℕ} {clue mask : ℕ} → get_or front mask 0 ≡ no_numbers → mask < 2 ^ length sets
+    → AreDoneBelow sets clue mask front → AreDoneBelow sets clue (mask + 1) front
+past_unreached {sets} {front} {clue} {mask} none inside h =
+    table_past front (none_unreached (rw none at (front_done {from = mask} (omega arith) (h.each mask inside)))) h
