@@ -47,22 +47,24 @@ front_done {sets} {clue} {mask} {from} {counts} below h = record {
     last_split x [] = ([], x, refl)
     last_split x (y ∷ p) = let r = last_split y p in (x ∷ r.0, r.1, ap (λ s. x ∷ s) r.2)
 
+    at_last : (q : List ℕ) (k : ℕ) → IsStart sets (q ++ (k + 1) ∷ []) → IsMask mask (q ++ (k + 1) ∷ []) → seen (q ++ (k + 1) ∷ []) ≤ clue
+        → has_number counts (seen (q ++ (k + 1) ∷ [])) ≡ true
+    at_last q k start used few =
+        let before = mask_of q (start_front q ((k + 1) ∷ []) start) in
+        let fresh = before.used.bits k ∙ (start_next q (k + 1) [] start).fresh in
+        let a = added_with before.mask k (before.mask + 2 ^ k) fresh refl in
+        let is : mask ≡ before.mask + 2 ^ k = mask_unique (q ++ (k + 1) ∷ []) used (mask_more q before.used a) in
+        h.all q k before.mask before.used (omega (arith, added_above a)) start used few
+
     each : (p : List ℕ) → IsStart sets p → IsMask mask p → seen p ≤ clue → has_number counts (seen p) ≡ true
     each [] start used few = h.first (mask_unique [] used mask_none)
     each (x ∷ p) start used few =
         let r = last_split x p in
-        let k = r.1 - 1 in
         let low = (start_next r.0 r.1 [] (rw r.2 at start)).low in
-        let e : r.1 ≡ k + 1 = omega arith in
-        let whole : x ∷ p ≡ r.0 ++ (k + 1) ∷ [] = r.2 ∙ ap (λ v. r.0 ++ v ∷ []) e in
-        let start' = rw whole at start in
-        let used' = rw whole at used in
-        let before = mask_of r.0 (start_front r.0 ((k + 1) ∷ []) start') in
-        let fresh = before.used.bits k ∙ (start_next r.0 (k + 1) [] start').fresh in
-        let a = added_with before.mask k (before.mask + 2 ^ k) fresh refl in
-        let is : mask ≡ before.mask + 2 ^ k = mask_unique {m = mask} {n = before.mask + 2 ^ k} (r.0 ++ (k + 1) ∷ []) used' (mask_more r.0 before.used a) in
+        let e : r.1 ≡ (r.1 - 1) + 1 = omega arith in
+        let whole : x ∷ p ≡ r.0 ++ (r.1 - 1 + 1) ∷ [] = r.2 ∙ ap (λ v. r.0 ++ v ∷ []) e in
         let P : List ℕ → Type 0 = λ l. IsStart sets l → IsMask mask l → seen l ≤ clue → has_number counts (seen l) ≡ true in
-        subst P (sym whole) (h.all r.0 k before.mask before.used (omega (arith, added_above a))) start used few
+        subst P (sym whole) (at_last r.0 (r.1 - 1)) start used few
 
 -- ---- one value more
 
