@@ -1,5 +1,5 @@
 -- The number of an edge place leads back to that place.
-use Rattle.std.proofs.Common.{◌≡◌, ℕ, zero, suc, ◌+◌, ◌-◌, ◌*◌, ◌<◌, eqb, ltb, ℤ, pos, negsuc, inl, inr, refl, ap, sym, ◌∙◌, arith}
+use Rattle.std.proofs.Common.{◌≡◌, ℕ, zero, suc, ◌+◌, ◌-◌, ◌*◌, ◌<◌, eqb, ltb, ℤ, pos, negsuc, Some, inl, inr, refl, ap, sym, ◌∙◌, arith}
 use Rattle.std.specs.Prelude.{IfSome}
 use Rattle.std.proofs.lemmas.Bool.{cases_lt, cases_eq, lt-ltb, le-ltb, eq-eqb, ne_eqb, and_left, and_right, and_from}
 use Rattle.latin_board.specs.Edges.{edge_place, edge_xy}
@@ -55,3 +55,9 @@ edge_xy-edge_place w (pos x) (negsuc (suc y)) = tt
 edge_xy-edge_place w (negsuc zero) (negsuc y) = tt
 edge_xy-edge_place w (negsuc (suc x)) (pos y) = tt
 edge_xy-edge_place w (negsuc (suc x)) (negsuc y) = tt
+
+-- the same, of a place that was found
+pub place_leads_back : (w : ℕ) (x y : ℤ) (place : ℕ) → edge_place w x y ≡ Some place → edge_xy w place ≡ (x, y)
+place_leads_back w x y place is =
+    let back = edge_xy-edge_place w x y in
+    rw is at back

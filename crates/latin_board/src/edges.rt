@@ -9,6 +9,7 @@ use crate::size::Size;
 ///
 /// It is x for (x, -1) above the grid, w + x for (x, w) below it, 2w + y for (-1, y) left of it and 3w + y for (w, y)
 /// right of it, and `None` elsewhere, corners included.
+#[tactic(auto, using(crate::proofs::EdgePlaces::place_leads_back))]
 pub fn edge_place(size: Size, x: i8, y: i8) -> Option<u8>
     ensures value { result ≡ edge_place size x y }
     ensures within { IfSome result (λ place. place < 4 * size) }

@@ -263,13 +263,13 @@ load_taken {P} game text h owes is =
     let some = bind_taken (met_in game (records_of head.0)) _ h head.2 in
     let all = bind_taken (needed game [] (records_of head.0)) _ some.0 some.1 in
     let need = needed_taken game [] (records_of head.0) all.0 all.1 in
-    let met_is : met all.0 ≡ some.0 = cc all.2 in
-    let same : met need.more ≡ some.0 = rw need.all_is at met_is in
+    let met_is : some.0 ≡ met all.0 = cc all.2 in
+    let same : some.0 ≡ met need.more = rw need.all_is at met_is in
     record {
       small = ltb-false MOST_BYTES (length text) fits.0;
       behind_head = head.0;
       head = behind_head_taken text head.0 (record_at text) refl head.1;
       records = need.more;
       begins = records_taken need.more head.0 need.follow;
-      saved = saved_taken game need.more h owes need.right (rw (sym same) at some.2);
+      saved = saved_taken game need.more h owes need.right (rw same at some.2);
     }

@@ -20,7 +20,7 @@ use Rattle.play_midend.specs.declared.moves.Move.TheVariants.{Solve, Restart}
 use Rattle.play_midend.specs.MoveTexts.{move_text, IsMoveText}
 use Rattle.play_midend.specs.Steps.{start_of}
 use Rattle.play_midend.specs.declared.session.TheConstants.{MOST_STATES}
-use Rattle.play_midend.specs.Histories.{History, IsValid, shown}
+use Rattle.play_midend.specs.Histories.{History, IsValid, IsStorable, shown}
 use Rattle.play_save.specs.declared.fault.LoadFault.{LoadFault}
 use Rattle.play_save.specs.declared.fault.LoadFault.TheVariants.{OutOfMemory}
 use Rattle.play_save.specs.declared.key.WhoseParams.{WhoseParams}
@@ -248,19 +248,13 @@ same_history {P} a b puzzle params next extras moves position =
 one_of : {A : Type 0} {a b : A} {values : List A} → values ≡ a ∷ [] → values ≡ b ∷ [] → a ≡ b
 one_of one other = cc
 
-pub written_saves_no_other : {P : Type 0} (game : SavedGame P) (of_game : P → Type 0)
-    → Owes game of_game → WrittenSavesNoOther game of_game
-written_saves_no_other {P} game of_game owes h other valid of t =
-    let text = save_of game.title game.desc_of h in
+-- a session that the written records are a save of is the one that was written
+no_other_saved : {P : Type 0} (game : SavedGame P) (of_game : P → Type 0) → Owes game of_game → (h other : History P)
+    → IsValid (game.puzzle h.puzzle) h → of_game h.puzzle → AreSaved game other (tail_of game h) → other.position ≡ h.position
+    → (other ≡ h) × IsStorable game.puzzle of_game game.letters h
+no_other_saved {P} game of_game owes h other valid of s position =
     let desc = game.desc_of h.puzzle in
     let p = game.puzzle h.puzzle in
-    let read = read_written game h t.small in
-    let head = record_again text format_record t.behind_head t.head in
-    let own_head = record_again text format_record (behind_first game h) read.head in
-    let rest = (some_pair_parts format_record format_record t.behind_head (behind_first game h) (cc)).1 in
-    let front = begins_prefix t.records (tail_of game h) (behind_first game h) (rw rest at t.begins) read.all in
-    let same = same_save game h other t.records front.later valid front.split t.saved in
-    let s = same.saved in
     let stands = values_tail game.title desc h in
     let same_of : (whose : WhoseParams) → params_of other whose ≡ params_of h whose = λ whose.
     let own = s.values (ParamsOf whose) in
@@ -280,7 +274,7 @@ written_saves_no_other {P} game of_game owes h other valid of t =
     let other_fits = all_fit p (start_of p) other.moves largest other_valid.legal.playable in
     let states = rw (states_tail game.title desc h) at s.states in
     let moves = same_moves game other.puzzle desc p other.moves h.moves other_fits fits states in (
-      same_history other h puzzle params next extras moves same.position,
+      same_history other h puzzle params next extras moves position,
       record {
         session = valid;
         puzzle_is = of;
@@ -294,6 +288,18 @@ written_saves_no_other {P} game of_game owes h other valid of t =
         let read_p = owes.texts.reads.again w text p p_is in
         let read_q = owes.texts.reads.again w text q q_is in
         cc
+
+pub written_saves_no_other : {P : Type 0} (game : SavedGame P) (of_game : P → Type 0)
+    → Owes game of_game → WrittenSavesNoOther game of_game
+written_saves_no_other {P} game of_game owes h other valid of t =
+    let text = save_of game.title game.desc_of h in
+    let read = read_written game h t.small in
+    let head = record_again text format_record t.behind_head t.head in
+    let own_head = record_again text format_record (behind_first game h) read.head in
+    let rest = (some_pair_parts format_record format_record t.behind_head (behind_first game h) (cc)).1 in
+    let front = begins_prefix t.records (tail_of game h) (behind_first game h) (rw rest at t.begins) read.all in
+    let same = same_save game h other t.records front.later valid front.split t.saved in
+    no_other_saved game of_game owes h other valid of same.saved same.position
 
 -- the same of an answer
 pub round_same : {P : Type 0} (game : SavedGame P) (of_game : P → Type 0) (h : History P) (text : List ℕ)

@@ -59,8 +59,10 @@ values_tail title desc h (Kept Seed) =
     let states = states_none (Kept Seed) desc h.moves in simp (values_of-append, kept_values, states, append-nil)
 values_tail title desc h (Count States) =
     let states = states_none (Count States) desc h.moves in simp (values_of-append, kept_values, states)
+values_tail title desc h (Kept k) =
+    let states = states_none (Kept k) desc h.moves in simp (values_of-append, kept_values, states, append-nil)
 values_tail title desc h k =
-    let states = states_none k desc h.moves in simp (values_of-append, kept_values, states, append-nil)
+    let states = states_none k desc h.moves in simp (values_of-append, kept_values, states)
 
 -- the state records
 states_none_kept : (j : KeptKey) (kept : Option (List ℕ)) → states_in (kept_record j kept) ≡ []

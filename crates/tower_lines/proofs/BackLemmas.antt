@@ -4,12 +4,11 @@ use Rattle.std.proofs.lemmas.Bool.{cases_eq, both_ways, or_cases, or_left, or_ri
 use Rattle.std.proofs.lemmas.Nat.{ones-le}
 use Rattle.std.proofs.lemmas.List.{append-nil, nil_from_length, get_or-set_same, get_or-set_other}
 use Rattle.tower_lines.specs.TowersSeen.{seen, seen_after}
-use Rattle.number_sets.specs.Sets.{has_number}
+use Rattle.number_sets.specs.Sets.{has_number, no_numbers, IsShared}
 use Rattle.tower_lines.specs.LineFillings.{IsStart}
 use Rattle.tower_lines.specs.Inner.LineMasks.{AreNextValues, IsMask, AreFrontCounts, IsEnd, AreBackCounts, IsPassed}
 use Rattle.number_sets.proofs.OneMore.{added_with, added_without, added_other, added_ones, added_below}
 use Rattle.number_sets.proofs.Members.{has_number-none, has_number-or, number_of_one, has_number-one_same, below_from_numbers}
-use Rattle.number_sets.specs.Sets.{IsShared}
 use Rattle.tower_lines.proofs.MaskLemmas.{mask_more, mask-ones, tower, seen-next, seen-more}
 use Rattle.tower_lines.proofs.NextValues.{IsNext, next_in, next_from_bit, next_rest, bit_from_start}
 use Rattle.tower_lines.proofs.SeenLemmas.{seen-append}
@@ -87,10 +86,13 @@ back_full {sets} {clue} {mask} {counts} full is = record {
 }
 
 -- a mask that no start has
-pub back_unreached : {sets : List ℕ} {clue mask : ℕ} → AreFrontCounts sets clue mask 0 → AreBackCounts sets clue mask 0
-back_unreached {sets} {clue} {mask} front = record {
-  only = λ p start used c e. absurd (both_ways (has_number 0 c) (has_number-none c) e);
-  all = λ p s used end. absurd (both_ways (has_number 0 (seen p)) (has_number-none (seen p)) (front.all p (start_front p s end.start) used (omega (arith, end.shown))));
+-- no start with the mask shows a count that the clue allows
+pub back_unreached : {sets : List ℕ} {clue mask counts reached : ℕ} → counts ≡ no_numbers → reached ≡ no_numbers
+    → AreFrontCounts sets clue mask reached → AreBackCounts sets clue mask counts
+back_unreached {sets} {clue} {mask} {counts} {reached} is none front = record {
+  only = λ p start used c e. absurd (both_ways (has_number 0 c) (has_number-none c) (rw is at e));
+  all = λ p s used end. absurd (both_ways (has_number 0 (seen p)) (has_number-none (seen p))
+      (rw none at (front.all p (start_front p s end.start) used (omega (arith, end.shown)))));
 }
 
 pub back_none : {sets : List ℕ} {clue mask left : ℕ} → AreNextValues sets mask left → IsBackBut sets clue mask left 0 0

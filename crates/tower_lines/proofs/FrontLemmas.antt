@@ -4,7 +4,7 @@ use Rattle.std.proofs.lemmas.Bool.{cases_eq, cases_lt, both_ways, or_cases, or_l
 use Rattle.std.proofs.lemmas.Nat.{ones-le}
 use Rattle.std.proofs.lemmas.List.{get_or-set_same, get_or-set_other}
 use Rattle.tower_lines.specs.TowersSeen.{seen}
-use Rattle.number_sets.specs.Sets.{has_number}
+use Rattle.number_sets.specs.Sets.{has_number, no_numbers}
 use Rattle.tower_lines.specs.LineFillings.{IsStart}
 use Rattle.tower_lines.specs.Inner.LineMasks.{AreNextValues, IsMask, AreFrontCounts, AreCountsSoFar, AreDoneBelow}
 use Rattle.number_sets.proofs.OneMore.{added_with, added_without, added_above, added_below, added_other, added_ones}
@@ -47,22 +47,24 @@ front_done {sets} {clue} {mask} {from} {counts} below h = record {
     last_split x [] = ([], x, refl)
     last_split x (y ∷ p) = let r = last_split y p in (x ∷ r.0, r.1, ap (λ s. x ∷ s) r.2)
 
+    at_last : (q : List ℕ) (k : ℕ) → IsStart sets (q ++ (k + 1) ∷ []) → IsMask mask (q ++ (k + 1) ∷ []) → seen (q ++ (k + 1) ∷ []) ≤ clue
+        → has_number counts (seen (q ++ (k + 1) ∷ [])) ≡ true
+    at_last q k start used few =
+        let before = mask_of q (start_front q ((k + 1) ∷ []) start) in
+        let fresh = before.used.bits k ∙ (start_next q (k + 1) [] start).fresh in
+        let a = added_with before.mask k (before.mask + 2 ^ k) fresh refl in
+        let is : mask ≡ before.mask + 2 ^ k = mask_unique (q ++ (k + 1) ∷ []) used (mask_more q before.used a) in
+        h.all q k before.mask before.used (omega (arith, added_above a)) start used few
+
     each : (p : List ℕ) → IsStart sets p → IsMask mask p → seen p ≤ clue → has_number counts (seen p) ≡ true
     each [] start used few = h.first (mask_unique [] used mask_none)
     each (x ∷ p) start used few =
         let r = last_split x p in
-        let k = r.1 - 1 in
         let low = (start_next r.0 r.1 [] (rw r.2 at start)).low in
-        let e : r.1 ≡ k + 1 = omega arith in
-        let whole : x ∷ p ≡ r.0 ++ (k + 1) ∷ [] = r.2 ∙ ap (λ v. r.0 ++ v ∷ []) e in
-        let start' = rw whole at start in
-        let used' = rw whole at used in
-        let before = mask_of r.0 (start_front r.0 ((k + 1) ∷ []) start') in
-        let fresh = before.used.bits k ∙ (start_next r.0 (k + 1) [] start').fresh in
-        let a = added_with before.mask k (before.mask + 2 ^ k) fresh refl in
-        let is : mask ≡ before.mask + 2 ^ k = mask_unique {m = mask} {n = before.mask + 2 ^ k} (r.0 ++ (k + 1) ∷ []) used' (mask_more r.0 before.used a) in
+        let e : r.1 ≡ (r.1 - 1) + 1 = omega arith in
+        let whole : x ∷ p ≡ r.0 ++ (r.1 - 1 + 1) ∷ [] = r.2 ∙ ap (λ v. r.0 ++ v ∷ []) e in
         let P : List ℕ → Type 0 = λ l. IsStart sets l → IsMask mask l → seen l ≤ clue → has_number counts (seen l) ≡ true in
-        subst P (sym whole) (h.all r.0 k before.mask before.used (omega (arith, added_above a))) start used few
+        subst P (sym whole) (at_last r.0 (r.1 - 1)) start used few
 
 -- ---- one value more
 
@@ -211,7 +213,7 @@ table_next {sets} {clue} {mask} front h = record {
 }
 
 -- past a mask whose starts have nothing next
-pub table_past : {sets : List ℕ} {clue mask : ℕ} (front : List ℕ)
+table_past : {sets : List ℕ} {clue mask : ℕ} (front : List ℕ)
     → ((q : List ℕ) (k : ℕ) → IsMask mask q → IsStart sets (q ++ (k + 1) ∷ []) → seen (q ++ (k + 1) ∷ []) ≤ clue → ⊥)
     → AreDoneBelow sets clue mask front → AreDoneBelow sets clue (mask + 1) front
 table_past {sets} {clue} {mask} front none h = record {
@@ -221,13 +223,23 @@ table_past {sets} {clue} {mask} front none h = record {
   ]) (h.each m small);
 }
 
-pub none_unreached : {sets : List ℕ} {clue mask : ℕ} → AreFrontCounts sets clue mask 0 → (q : List ℕ) (k : ℕ) → IsMask mask q
+none_unreached : {sets : List ℕ} {clue mask : ℕ} → AreFrontCounts sets clue mask 0 → (q : List ℕ) (k : ℕ) → IsMask mask q
     → IsStart sets (q ++ (k + 1) ∷ []) → seen (q ++ (k + 1) ∷ []) ≤ clue → ⊥
 none_unreached {sets} {clue} {mask} front q k used start few =
     both_ways (has_number 0 (seen q)) (has_number-none (seen q)) (front.all q (start_front q ((k + 1) ∷ []) start) used (omega (arith, seen-append q ((k + 1) ∷ []))))
 
-pub none_full : {sets : List ℕ} {clue mask : ℕ} → count_ones mask ≡ length sets → (q : List ℕ) (k : ℕ) → IsMask mask q
+none_full : {sets : List ℕ} {clue mask : ℕ} → count_ones mask ≡ length sets → (q : List ℕ) (k : ℕ) → IsMask mask q
     → IsStart sets (q ++ (k + 1) ∷ []) → seen (q ++ (k + 1) ∷ []) ≤ clue → ⊥
 none_full {sets} {clue} {mask} full q k used start few =
     let n = mask-ones q (start_front q ((k + 1) ∷ []) start) used in
     absurd (omega (arith, (start_next q (k + 1) [] start).room))
+
+-- the table goes on past a full mask, and past one that no start reaches
+pub past_full : {sets front : List ℕ} {clue mask : ℕ} → count_ones mask ≡ length sets → AreDoneBelow sets clue mask front
+    → AreDoneBelow sets clue (mask + 1) front
+past_full {sets} {front} full h = table_past front (none_full full) h
+
+pub past_unreached : {sets front : List ℕ} {clue mask : ℕ} → get_or front mask 0 ≡ no_numbers → mask < 2 ^ length sets
+    → AreDoneBelow sets clue mask front → AreDoneBelow sets clue (mask + 1) front
+past_unreached {sets} {front} {clue} {mask} none inside h =
+    table_past front (none_unreached (rw none at (front_done {from = mask} (omega arith) (h.each mask inside)))) h

@@ -3,10 +3,10 @@ use Rattle.std.proofs.Common.{◌≡◌, ◌≢◌, ℕ, ◌+◌, ◌-◌, ◌^�
 use Rattle.std.proofs.lemmas.Bool.{cases_eq, cases_lt, both_ways, or_cases, or_left, or_right}
 use Rattle.std.proofs.lemmas.List.{get_or_at, get_or_past, get_or-replicate, length-replicate, get_or-set_same, get_or-set_other, take-append-drop, drop_more, length-take-le}
 use Rattle.tower_lines.specs.TowersSeen.{seen}
-use Rattle.number_sets.specs.Sets.{has_number}
+use Rattle.number_sets.specs.Sets.{has_number, no_numbers}
 use Rattle.tower_lines.specs.LineFillings.{IsFilling, IsSupported}
 use Rattle.tower_lines.specs.Inner.LineMasks.{AreFrontCounts, IsPassed, AreKeptValues}
-use Rattle.tower_lines.proofs.BackLemmas.{IsBackBut}
+use Rattle.tower_lines.proofs.BackLemmas.{IsBackBut, back_full, back_unreached}
 use Rattle.number_sets.proofs.Members.{has_number-none, has_number-or}
 use Rattle.tower_lines.proofs.MaskLemmas.{mask_of, mask-ones, mask_small}
 use Rattle.tower_lines.proofs.SeenLemmas.{seen-append}
@@ -48,7 +48,7 @@ kept_values_none {sets} {clue} kept none = record {
 }
 
 -- a mask whose starts have no value next
-pub kept_values_same : {sets kept : List ℕ} {clue mask : ℕ} → ((value : ℕ) → IsPassed sets clue mask value → ⊥)
+kept_values_same : {sets kept : List ℕ} {clue mask : ℕ} → ((value : ℕ) → IsPassed sets clue mask value → ⊥)
     → AreKeptValues sets clue (mask + 1) kept → AreKeptValues sets clue mask kept
 kept_values_same {sets} {kept} {clue} {mask} none h = record {
   only = h.only;
@@ -58,15 +58,24 @@ kept_values_same {sets} {kept} {clue} {mask} none h = record {
   ];
 }
 
-pub unpassed_full : {sets : List ℕ} {clue mask : ℕ} → count_ones mask ≡ length sets → (value : ℕ) → IsPassed sets clue mask value → ⊥
+unpassed_full : {sets : List ℕ} {clue mask : ℕ} → count_ones mask ≡ length sets → (value : ℕ) → IsPassed sets clue mask value → ⊥
 unpassed_full {sets} {clue} {mask} full value h =
     let n = mask-ones h.before (start_front h.before (value ∷ h.after) h.filling.start) h.used in
     absurd (omega (arith, (start_next h.before value h.after h.filling.start).room))
 
-pub unpassed_unreached : {sets : List ℕ} {clue mask : ℕ} → AreFrontCounts sets clue mask 0 → (value : ℕ) → IsPassed sets clue mask value → ⊥
+unpassed_unreached : {sets : List ℕ} {clue mask : ℕ} → AreFrontCounts sets clue mask 0 → (value : ℕ) → IsPassed sets clue mask value → ⊥
 unpassed_unreached {sets} {clue} {mask} front value h =
     both_ways (has_number 0 (seen h.before)) (has_number-none (seen h.before))
     (front.all h.before (start_front h.before (value ∷ h.after) h.filling.start) h.used (omega (arith, seen-append h.before (value ∷ h.after), h.filling.shown)))
+
+-- what is kept stays the same for a full mask, and for one that no start reaches
+pub kept_full : {sets kept : List ℕ} {clue mask : ℕ} → count_ones mask ≡ length sets → AreKeptValues sets clue (mask + 1) kept
+    → AreKeptValues sets clue mask kept
+kept_full full h = kept_values_same (unpassed_full full) h
+
+pub kept_unreached : {sets kept : List ℕ} {clue mask reached : ℕ} → reached ≡ no_numbers → AreFrontCounts sets clue mask reached
+    → AreKeptValues sets clue (mask + 1) kept → AreKeptValues sets clue mask kept
+kept_unreached none front h = kept_values_same (unpassed_unreached (rw none at front)) h
 
 passed_all : {sets : List ℕ} {clue mask counts passed : ℕ} → IsBackBut sets clue mask 0 counts passed → (value : ℕ)
     → IsPassed sets clue mask value → (k : ℕ) × (value ≡ k + 1) × (has_number passed k ≡ true)
@@ -122,3 +131,6 @@ get_or-zeros n i =
       | inl inside ↦ get_or-replicate n i zero zero inside
       | inr past ↦ get_or_past (replicate n zero) i zero (omega (arith, length-replicate n zero))
     ]
+
+-- where the counts of a mask are found at once
+pub ruleset at_once = (back_full, back_unreached, kept_full, kept_unreached)

@@ -65,6 +65,7 @@ fn counts_before(sets: &[NumberSet], clue: u8) -> [NumberSet; 512]
 }
 
 /// Adds what the starts with a mask show with one value more.
+#[tactic(auto, using(crate::proofs::FrontLemmas::past_full, crate::proofs::FrontLemmas::past_unreached))]
 fn go_on(sets: &[NumberSet], clue: u8, mask: usize, front: &mut [NumberSet; 512])
     requires short { length sets.now ≤ 9 }
     requires clue { clue ≤ 9 }
@@ -90,6 +91,7 @@ fn go_on(sets: &[NumberSet], clue: u8, mask: usize, front: &mut [NumberSet; 512]
 
 /// The counts of towers seen along a start that uses just the values of a mask, from which the line
 /// can go on to show its clue. The values that can come next are added to `kept`.
+#[tactic(auto, using(crate::proofs::KeptLemmas::at_once))]
 fn counts_after(
     sets: &[NumberSet],
     clue: u8,

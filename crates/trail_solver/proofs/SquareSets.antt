@@ -1,8 +1,8 @@
 -- What the set of a square's candidates says of the square.
-use Rattle.std.proofs.Common.{◌≡◌, ℕ, ◌*◌, ◌<◌, true, Option, Some, None}
+use Rattle.std.proofs.Common.{ℕ, ◌*◌, ◌<◌, Option, Some, None}
 use Rattle.std.specs.Prelude.{MatchOption}
 use Rattle.std.proofs.lemmas.Bool.{both_ways, false_from_ne_true}
-use Rattle.number_sets.specs.Sets.{has_number, IsEmpty, IsSingle}
+use Rattle.number_sets.specs.Sets.{has_number, IsEmpty, IsLeast, IsSingle}
 use Rattle.trail_solver.specs.Candidates.{CandidatesValue, IsSetOf, IsOnly, may_be}
 use Rattle.trail_solver.specs.Inner.Squares.{IsBranch, IsDead, IsOpen}
 
@@ -30,15 +30,12 @@ pub only_by_single : (c : CandidatesValue) (cell set : ℕ) (found : Option ℕ)
 only_by_single c cell set (Some v) inside h single = only_from_single c cell set v inside h single
 only_by_single c cell set None inside h none = λ v only. none v (single_from_only c cell set v inside h only)
 
--- a number of an open square's set is a branch
-pub branch_from_number : (c : CandidatesValue) (cell set value : ℕ) → IsOpen c cell → IsSetOf c cell set → has_number set value ≡ true
-    → IsBranch c cell value
-branch_from_number c cell set value unsettled h has =
-    let here = (h value).0 has in record { pair = here.0; left = here.1; unsettled = unsettled }
-
--- where the set is empty there is no candidate
-pub dead_from_empty : (c : CandidatesValue) (cell set : ℕ) → cell < c.size * c.size → IsSetOf c cell set → IsEmpty set → IsDead c cell
-dead_from_empty c cell set inside h empty = record {
-  inside = inside;
+-- a number of an open square's set is a branch, and where the set is empty there is no candidate
+pub lowest_by_least : (c : CandidatesValue) (cell set : ℕ) (found : Option ℕ) → IsOpen c cell → IsSetOf c cell set
+    → MatchOption found (IsEmpty set) (IsLeast set) → MatchOption found (IsDead c cell) (IsBranch c cell)
+lowest_by_least c cell set (Some v) unsettled h least =
+    let here = (h v).0 least.has in record { pair = here.0; left = here.1; unsettled = unsettled }
+lowest_by_least c cell set None unsettled h empty = record {
+  inside = unsettled.inside;
   none = λ v pair. false_from_ne_true (may_be c cell v) (λ left. both_ways (has_number set v) (empty v) ((h v).1 (pair, left)));
 }

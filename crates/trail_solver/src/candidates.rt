@@ -100,6 +100,7 @@ impl Candidates {
     }
 
     /// The only candidate of the cell, a square of the grid, where exactly one is left.
+    #[tactic(auto, using(crate::proofs::SquareSets::only_by_single))]
     pub fn only(&self, cell: usize) -> Option<u8>
         requires { cell < self.now.size * self.now.size }
         ensures { MatchOption result ((v : ℕ) → IsOnly self.now cell v → ⊥) (IsOnly self.now cell) }

@@ -2,7 +2,7 @@
 
 ghost use Rattle.std.specs.Prelude.{MatchOption};
 ghost use Rattle.std.specs.Bool.{OnTrue};
-ghost use Rattle.trail_solver.specs.Inner.Squares.{AreSettled, IsBranch, IsChoice, IsFirstOpen, IsOpen};
+ghost use Rattle.trail_solver.specs.Inner.Squares.{AreSettled, IsBranch, IsChoice, IsDead, IsFirstOpen, IsOpen};
 
 use crate::candidates::Candidates;
 use crate::failures::Failures;
@@ -52,10 +52,20 @@ fn lowest_at(candidates: &Candidates, cell: usize) -> Choice
     requires { IsOpen candidates.now cell }
     ensures { IsChoice candidates.now result }
 {
-    match candidates.values(cell).least() {
+    match lowest(candidates, cell) {
         Some(value) => Choice::Branch { cell, value },
         None => Choice::Dead,
     }
+}
+
+// The lowest candidate of an open square, if it has any.
+#[tactic(auto, using(crate::proofs::SquareSets::lowest_by_least))]
+fn lowest(candidates: &Candidates, cell: usize) -> Option<u8>
+    requires { IsOpen candidates.now cell }
+    ensures { MatchOption result (IsDead candidates.now cell)
+        (IsBranch candidates.now cell) }
+{
+    candidates.values(cell).least()
 }
 
 /// The first open square in reading order.

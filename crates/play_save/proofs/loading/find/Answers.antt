@@ -27,7 +27,7 @@ returns-in_err-record-clause-given g c =
     let undone : is_complete (met_of c.loop-rest.met) ≡ false = search rules in
     let none = c.in_err-record.ensures.ok_part in
     let read : record_at c.loop-rest.rest.now ≡ Ok None =
-    c.in_ok-next_record.ensures.value ∙ ap (λ o. Ok (option_map parts_of o)) none in
+    rw none at c.in_ok-next_record.ensures.value in
     let missing =
     error_of_none c.in_ok-next_record.field-0 c.in_err-record.field-0.0 Missing c.in_err-record.ensures.value none in
     let e = err_from_is_err_and c.from_residual-in_err-record.result c.from_residual-in_err-record.ensures.1 in

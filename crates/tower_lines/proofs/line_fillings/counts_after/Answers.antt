@@ -1,31 +1,15 @@
-use Rattle.std.proofs.Common.{◌+◌, ◌<◌, ◌∙◌, length, eqb-true, refl, sym, ap, arith, count_ones}
+use Rattle.std.proofs.Common.{◌+◌, ◌<◌, length, refl, ap, arith, count_ones}
 use Rattle.std.proofs.lemmas.Nat.{ones-le}
-use Rattle.tower_lines.proofs.BackLemmas.{back_full, back_unreached, back_none, back_step, back_more, back_all, passed_values_small}
-use Rattle.tower_lines.proofs.KeptLemmas.{kept_values_same, kept_values_more, unpassed_full, unpassed_unreached}
+use Rattle.tower_lines.proofs.BackLemmas.{back_none, back_step, back_more, back_all, passed_values_small}
+use Rattle.tower_lines.proofs.KeptLemmas.{kept_values_more}
 use Rattle.number_sets.proofs.OneMore.{added_with, added_above, added_below}
 use Rattle.number_sets.proofs.Members.{power_most}
 use Rattle.tower_lines.proofs.MaskLemmas.{mask_in_table}
 use Rattle.tower_lines.proofs.NextValues.{next_in_table}
 use Rattle.tower_lines.proofs.line_fillings.counts_after.Goals as goal
 
-pub returns-then-place-sets-clause-back : goal.returns-then-place-sets-clause-back
-returns-then-place-sets-clause-back c = back_full c.if-place-sets.true c.one.ensures.value
-
-pub returns-then-place-sets-clause-kept : goal.returns-then-place-sets-clause-kept
-returns-then-place-sets-clause-kept c = kept_values_same (unpassed_full c.if-place-sets.true) c.requires.kept
-
 pub counts_of-reached-requires : goal.counts_of-reached-requires
 counts_of-reached-requires c = mask_in_table (length c.args.sets.now) c.args.mask c.requires.short c.requires.inside
-
-pub returns-then-is_empty-clause-back : goal.returns-then-is_empty-clause-back
-returns-then-is_empty-clause-back c =
-    let none = sym c.counts_of-reached.ensures ∙ eqb-true _ _ (sym c.if-is_empty.ensures.value) in
-    rw c.empty.ensures (back_unreached (rw none at (c.requires.front c.args.mask c.requires.inside)))
-
-pub returns-then-is_empty-clause-kept : goal.returns-then-is_empty-clause-kept
-returns-then-is_empty-clause-kept c =
-    let none = sym c.counts_of-reached.ensures ∙ eqb-true _ _ (sym c.if-is_empty.ensures.value) in
-    kept_values_same (unpassed_unreached (rw none at (c.requires.front c.args.mask c.requires.inside))) c.requires.kept
 
 pub next_values-left-requires-clause-place : goal.next_values-left-requires-clause-place
 next_values-left-requires-clause-place c = omega (arith, ones-le (length c.args.sets.now) c.args.mask c.requires.inside)

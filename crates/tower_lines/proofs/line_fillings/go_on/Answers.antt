@@ -1,7 +1,7 @@
-use Rattle.std.proofs.Common.{◌≡◌, ◌+◌, ◌-◌, ◌∙◌, length, eqb-true, sym, arith}
+use Rattle.std.proofs.Common.{◌≡◌, ◌+◌, ◌-◌, ◌∙◌, length, arith}
 use Rattle.std.proofs.lemmas.List.{length-set}
 use Rattle.std.proofs.lemmas.Nat.{ones-le}
-use Rattle.tower_lines.proofs.FrontLemmas.{front_done, front_step, table_at, table_more, table_next, table_past, none_unreached, none_full}
+use Rattle.tower_lines.proofs.FrontLemmas.{front_done, front_step, table_at, table_more, table_next}
 use Rattle.number_sets.proofs.Members.{power_most}
 use Rattle.tower_lines.proofs.MaskLemmas.{mask_in_table}
 use Rattle.tower_lines.proofs.NextValues.{next_from_bit, next_in_table, next_rest}
@@ -9,15 +9,6 @@ use Rattle.tower_lines.proofs.line_fillings.go_on.Goals as goal
 
 pub counts_of-reached-requires : goal.counts_of-reached-requires
 counts_of-reached-requires c = mask_in_table (length c.args.sets.now) c.args.mask c.requires.short c.requires.inside
-
-pub returns-then-is_empty : goal.returns-then-is_empty
-returns-then-is_empty c =
-    let reached = front_done {from = c.args.mask} (omega arith) (c.requires.below.each c.args.mask c.requires.inside) in
-    let none = sym c.counts_of-reached.ensures ∙ eqb-true _ _ (sym c.if-is_empty.ensures.value) in
-    table_past c.args.front.now (none_unreached (rw none at reached)) c.requires.below
-
-pub returns-then-mask-sets : goal.returns-then-mask-sets
-returns-then-mask-sets c = table_past c.args.front.now (none_full c.if-mask-sets.true) c.requires.below
 
 pub next_values-left-requires-clause-place : goal.next_values-left-requires-clause-place
 next_values-left-requires-clause-place c = omega (arith, ones-le (length c.args.sets.now) c.args.mask c.requires.inside)
