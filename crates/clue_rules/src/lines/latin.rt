@@ -34,6 +34,7 @@ fn strike_lines(candidates: &mut Candidates, changed: &mut ChangedLines) -> bool
 }
 
 /// Looks at the lines that changed, until none does.
+#[tactic(auto, using(crate::proofs::Narrowings::trail_nearer))]
 pub(crate) fn settle_latin(candidates: &mut Candidates, changed: &mut ChangedLines) -> bool
     ensures { Narrows IsSquare NoneStruck candidates.old candidates.new result }
 {
