@@ -152,7 +152,7 @@ impl Tally {
     }
 
     // The values of a set that may stay.
-    #[tactic(auto, using(crate::proofs::LineTallying::kept_free, crate::proofs::LineTallying::kept_forced, crate::proofs::LineTallying::kept_nothing))]
+    #[tactic(auto, using(crate::proofs::LineTallying::kept_free))]
     fn kept(&self, set: NumberSet) -> NumberSet
         ensures { IsKeptOf self.now set result }
     {
