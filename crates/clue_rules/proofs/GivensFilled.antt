@@ -1,14 +1,41 @@
 -- The givens of a Towers description, filled byte by byte.
-use Rattle.std.proofs.Common.{◌≡◌, ℕ, ◌-◌, ◌*◌, ◌≤◌, true, List, [], ◌++◌, take, subst, All}
+use Rattle.std.proofs.Common.{◌≡◌, ℕ, ◌+◌, ◌-◌, ◌*◌, ◌<◌, ◌≤◌, true, List, [], ◌++◌, take, set, replicate, subst, sym, ap, ◌∙◌, arith, All}
 use Rattle.std.specs.List.{flat_map}
 use Rattle.std.proofs.lemmas.List.Elements.{All-head}
 use Rattle.clue_rules.specs.Inner.Filled.{IsFilledTo}
-use Rattle.clue_rules.specs.TowersText.{is_square_part, squares_of}
-use Rattle.clue_rules.specs.Laws.SquarePart.{squares_of_digit}
-use Rattle.byte_text.specs.Bytes.{digit_zero, digit_nine}
+use Rattle.clue_rules.specs.TowersText.{blanks_of, is_square_part, squares_of}
+use Rattle.clue_rules.specs.Laws.SquarePart.{squares_of_digit, squares_of_letter}
+use Rattle.byte_text.specs.Bytes.{digit_zero, digit_nine, letter_a, letter_z}
+use Rattle.clue_rules.proofs.FilledLemmas.{filled_one, filled_run}
 
 pub digit_within : (w b : ℕ) → digit_zero ≤ b → b ≤ digit_nine → All (λ n. n ≤ w) (squares_of b) → b - digit_zero ≤ w
 digit_within w b low high within = All-head (λ n. n ≤ w) (b - digit_zero) [] (subst (All (λ n. n ≤ w)) (squares_of_digit b low high) within)
+
+-- a digit sets one square
+pub digit_filled : (w n place v : ℕ) (xs ys : List ℕ) → ys ≡ set xs place v → IsFilledTo 0 (w * w) place xs → n ≡ w
+    → 0 < n * n - place → IsFilledTo 0 (w * w) (place + 1) ys
+digit_filled w n place v xs ys is filled width room =
+    let area : n * n ≡ w * w = ap (λ k. k * k) width in
+    rw is (filled_one 0 (w * w) place v xs filled (omega arith)).0
+
+-- a letter leaves its run of squares at 0
+pub letter_filled : (w n place k : ℕ) (xs : List ℕ) → IsFilledTo 0 (w * w) place xs → n ≡ w → k ≤ n * n - place
+    → IsFilledTo 0 (w * w) (place + k) xs
+letter_filled w n place k xs filled width fits =
+    let area : n * n ≡ w * w = ap (λ k. k * k) width in
+    let within = filled.within in
+    (filled_run 0 (w * w) place k xs filled (omega arith)).0
+
+pub letter_taken : (w n place byte : ℕ) (xs : List ℕ) → IsFilledTo 0 (w * w) place xs → n ≡ w
+    → byte - letter_a + 1 ≤ n * n - place → letter_a ≤ byte → byte ≤ letter_z
+    → take (place + (byte - letter_a + 1)) xs ≡ take place xs ++ squares_of byte
+letter_taken w n place byte xs filled width fits low high =
+    let k = byte - letter_a + 1 in
+    let area : n * n ≡ w * w = ap (λ k. k * k) width in
+    let within = filled.within in
+    let blanks : blanks_of byte ≡ k = omega arith in
+    let squares : squares_of byte ≡ replicate k 0 = squares_of_letter byte low high ∙ ap (λ m. replicate m 0) blanks in
+    (filled_run 0 (w * w) place k xs filled (omega arith)).1 ∙ ap (λ ys. take place xs ++ ys) (sym squares)
 
 -- what is known while the givens are filled: the squares so far, and the part that is left
 pub record FillsGivens (w : ℕ) (part rest : List ℕ) (cell : ℕ) (numbers : List ℕ) : Type 0 where

@@ -4,7 +4,7 @@ use Rattle.std.proofs.lemmas.Bool.{cases_Bool, cases_lt, cases_eq, cases_order, 
 use Rattle.std.proofs.Math.ListN.{length-set}
 use Rattle.number_sets.specs.Sets.{has_number, no_numbers, IsEmpty, IsShared, IsSingle, IsSubset}
 use Rattle.number_sets.proofs.Members.{has_number-none}
-use Rattle.clue_rules.specs.Inner.LineTallies.{IsPossible, IsTally, IsWholeTally, IsCounted, IsClash, IsHidden, MayStay, IsKeptOf, HoldValuesTo}
+use Rattle.clue_rules.specs.Inner.LineTallies.{IsPossible, IsTally, IsWholeTally, IsCounted, IsClash, IsForced, IsFree, IsHidden, MayStay, IsKeptOf, HoldValuesTo}
 use Rattle.clue_rules.specs.declared.lines.latin.Tally.{Tally}
 use Rattle.clue_rules.proofs.FilledLemmas.{entries_more}
 use Rattle.clue_rules.proofs.RangeLemmas.{below_one_more}
@@ -152,14 +152,6 @@ displaced_goes sets w t k v other h inside apart low high one stays =
 
 -- ---- the values that are kept
 
--- the values of the set that have their one place in it
-pub record IsForced (t : Tally) (set forced : ℕ) : Type 0 where
-  pub is : (u : ℕ) → has_number forced u ≡ ((has_number set u && has_number t.once u) && not (has_number t.twice u))
-
--- the values of the set that are alone in no set
-pub record IsFree (t : Tally) (set free : ℕ) : Type 0 where
-  pub is : (v : ℕ) → has_number free v ≡ (has_number set v && not (has_number t.singles v))
-
 forced_from : (t : Tally) (set forced u : ℕ) → IsForced t set forced → has_number forced u ≡ true → (has_number set u ≡ true) × IsHidden t u
 forced_from t set forced u f e =
     let parts = and_parts _ _ (sym (f.is u) ∙ e) in
@@ -219,9 +211,9 @@ kept_forced t set forced free kept value many f r one is = record {
   ];
 }
 
-pub kept_nothing : (t : Tally) (set forced : ℕ) → ((v : ℕ) → IsSingle set v → ⊥) → IsForced t set forced
-    → (v : ℕ) × (has_number forced v ≡ true) → ((v : ℕ) → IsSingle forced v → ⊥) → IsKeptOf t set no_numbers
-kept_nothing t set forced many f there two = record {
+pub kept_nothing : (t : Tally) (set forced kept : ℕ) → ((v : ℕ) → IsSingle set v → ⊥) → IsForced t set forced
+    → (v : ℕ) × (has_number forced v ≡ true) → ((v : ℕ) → IsSingle forced v → ⊥) → kept ≡ no_numbers → IsKeptOf t set kept
+kept_nothing t set forced kept many f there two none = rw none (record {
   only = λ v e. absurd (both_ways (has_number 0 v) (has_number-none v) e);
   all = λ v has stays. elim stays [
     | inl single ↦ absurd (many v single)
@@ -231,7 +223,7 @@ kept_nothing t set forced many f there two = record {
         let P : ℕ → Type 0 = λ u. has_number forced u ≡ true in
         absurd (two v (record { has = subst P (is there.0 there.1) there.1; alone = is }))
   ];
-}
+})
 
 -- ---- one set counted
 

@@ -1,5 +1,5 @@
 -- What the squares of a row or column say together, as sets of candidates.
-use Rattle.std.specs.Prelude.{◌≡◌, ◌≢◌, ℕ, ◌<◌, ◌≤◌, ◌⊎◌, ◌↔◌, true, false, List, slice_index}
+use Rattle.std.specs.Prelude.{◌≡◌, ◌≢◌, ℕ, ◌<◌, ◌≤◌, ◌⊎◌, ◌↔◌, true, false, not, ◌&&◌, List, slice_index}
 use Rattle.latin_board.specs.Lines.{line_cell}
 use Rattle.number_sets.specs.Sets.{has_number, IsSingle}
 use Rattle.trail_solver.specs.Candidates.{CandidatesValue, IsOnly}
@@ -53,6 +53,14 @@ IsClash t set = ((v : ℕ) → has_number set v ≡ false) ⊎ ((v : ℕ) × IsS
 pub record IsHidden (t : Tally) (value : ℕ) : Type 0 where
   pub once : has_number t.once value ≡ true
   pub lone : has_number t.twice value ≡ false
+
+-- the values of one of the sets that are in no other
+pub record IsForced (t : Tally) (set forced : ℕ) : Type 0 where
+  pub is : (u : ℕ) → has_number forced u ≡ ((has_number set u && has_number t.once u) && not (has_number t.twice u))
+
+-- the values of one of the sets that are alone in none
+pub record IsFree (t : Tally) (set free : ℕ) : Type 0 where
+  pub is : (v : ℕ) → has_number free v ≡ (has_number set v && not (has_number t.singles v))
 
 -- the value of one of the sets may stay: it is alone there; or no other value has its one place there, and the value is
 -- alone in no set

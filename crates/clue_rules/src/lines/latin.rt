@@ -2,7 +2,7 @@
 
 ghost use Rattle.std.specs.Prelude.{ℕ, ◌+◌, ◌-◌, ◌*◌, ◌<◌, ◌≤◌, ◌&&◌, true, false, MatchOption, slice_index};
 ghost use Rattle.clue_rules.specs.Inner.Narrowing.{IsSquare, Narrows, NoneStruck};
-ghost use Rattle.clue_rules.specs.Inner.LineTallies.{AreImpossible, IsWholeTally, IsCounted, IsClash, IsKeptOf, IsLineStruck};
+ghost use Rattle.clue_rules.specs.Inner.LineTallies.{AreImpossible, IsWholeTally, IsCounted, IsClash, IsForced, IsFree, IsKeptOf, IsLineStruck};
 ghost use Rattle.clue_rules.specs.Struck.{IsLatinStruck};
 ghost use Rattle.clue_rules.specs.Views.{front_place};
 
@@ -34,6 +34,7 @@ fn strike_lines(candidates: &mut Candidates, changed: &mut ChangedLines) -> bool
 }
 
 /// Looks at the lines that changed, until none does.
+#[tactic(auto, using(crate::proofs::Narrowings::trail_nearer))]
 pub(crate) fn settle_latin(candidates: &mut Candidates, changed: &mut ChangedLines) -> bool
     ensures { Narrows IsSquare NoneStruck candidates.old candidates.new result }
 {
@@ -113,7 +114,7 @@ fn tally_of(sets: &[NumberSet; LINE], width: usize) -> Option<Tally>
 
 impl Tally {
     ghost use Rattle.std.specs.Prelude.{ℕ, ◌<◌, MatchOption, slice_index};
-    ghost use Rattle.clue_rules.specs.Inner.LineTallies.{IsCounted, IsClash, IsKeptOf};
+    ghost use Rattle.clue_rules.specs.Inner.LineTallies.{IsCounted, IsClash, IsForced, IsFree, IsKeptOf};
 
     // The tally with one set more, or none where the set is empty or its only value is alone in another set.
     fn with(self, set: NumberSet) -> Option<Tally>
@@ -151,14 +152,15 @@ impl Tally {
     }
 
     // The values of a set that may stay.
-    fn kept(self, set: NumberSet) -> NumberSet
-        ensures { IsKeptOf self set result }
+    #[tactic(auto, using(crate::proofs::LineTallying::kept_free))]
+    fn kept(&self, set: NumberSet) -> NumberSet
+        ensures { IsKeptOf self.now set result }
     {
         if set.is_single() {
             return set;
         }
-        let forced = set.intersection(self.once).difference(self.twice);
-        let free = set.difference(self.singles);
+        let forced = self.forced(set);
+        let free = self.free(set);
         if forced.is_empty() {
             return free;
         }
@@ -166,5 +168,19 @@ impl Tally {
             return forced.intersection(free);
         }
         NumberSet::empty()
+    }
+
+    // The values of a set that are in no other one.
+    fn forced(&self, set: NumberSet) -> NumberSet
+        ensures { IsForced self.now set result }
+    {
+        set.intersection(self.once).difference(self.twice)
+    }
+
+    // The values of a set that are alone in none.
+    fn free(&self, set: NumberSet) -> NumberSet
+        ensures { IsFree self.now set result }
+    {
+        set.difference(self.singles)
     }
 }

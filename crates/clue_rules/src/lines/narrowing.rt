@@ -90,6 +90,7 @@ fn strike_rules<P: LineRules>(
 }
 
 // Looks at the game's rule along the lines that changed, until none does.
+#[tactic(auto, using(crate::proofs::Narrowings::trail_nearer))]
 fn settle_rules<P: LineRules>(
     p: &P,
     candidates: &mut Candidates,

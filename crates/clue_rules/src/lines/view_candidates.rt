@@ -24,6 +24,7 @@ pub(crate) fn view_sets(candidates: &Candidates, place: u8) -> [NumberSet; LINE]
 }
 
 /// As `keep_in_view`, where the squares have these sets now: there is nothing to do where they keep all of them.
+#[tactic(auto, using(crate::proofs::KeptCandidates::along_whole))]
 pub(crate) fn keep_fewer_in_view(
     candidates: &mut Candidates,
     place: u8,
@@ -94,6 +95,7 @@ pub(crate) fn keep_in_square(
 }
 
 /// Takes the values that a set lacks from a square, and tells whether there were any.
+#[tactic(auto, using(crate::proofs::KeptCandidates::kept_whole))]
 pub(crate) fn strike_missing(candidates: &mut Candidates, cell: usize, kept: NumberSet) -> bool
     requires { cell < candidates.old.size * candidates.old.size }
     ensures kept { KeepsInSquare candidates.old candidates.new cell kept }

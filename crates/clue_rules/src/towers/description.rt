@@ -147,6 +147,7 @@ fn fill_givens(size: Size, part: &[u8]) -> Result<Grid, IdFault>
 }
 
 // Puts the squares of a byte from `cell` on, and gives the cell behind them; `None` where they don't fit.
+#[tactic(auto, using(crate::proofs::GivensFilled::digit_filled, crate::proofs::GivensFilled::letter_filled, crate::proofs::GivensFilled::letter_taken))]
 fn put_squares(givens: &mut Grid, cell: usize, byte: u8) -> Option<usize>
     requires filled { IsFilledTo 0 (givens.old.size * givens.old.size) cell givens.old.numbers }
     requires within { All (λ n. n ≤ givens.old.size) (squares_of byte) }

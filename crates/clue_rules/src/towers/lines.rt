@@ -109,6 +109,7 @@ fn narrow_view(candidates: &mut Candidates, place: u8, clue: u8, changed: &mut C
 }
 
 // Whether each set has one value, all different, and these show as many towers as the clue says.
+#[tactic(auto, using(crate::proofs::SettledLines::settled_more))]
 fn shows_alone(sets: &[NumberSet; LINE], width: usize, clue: u8) -> bool
     requires width { width ≤ 9 }
     requires values { HoldValuesTo width sets.now }
