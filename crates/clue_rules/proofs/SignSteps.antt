@@ -1,7 +1,7 @@
 -- What a sign rules out in the squares on both its sides, and along a line.
 use Rattle.std.proofs.Common.{◌≡◌, ℕ, ◌*◌, ◌<◌, ◌≤◌, ◌↔◌, Bool, true, false, not, inl, inr, refl, sym, ap, ◌∙◌, subst, arith, ◌==◌}
 use Rattle.std.specs.Bool.{OnTrue, OnFalse}
-use Rattle.std.proofs.lemmas.Bool.{both_ways, false_from_ne_true, cases_eq, eq-eqb, ne_eqb, lt-ltb, le-ltb}
+use Rattle.std.proofs.lemmas.Bool.{both_ways, false_from_ne_true, cases_eq, eq-eqb, ne_eqb}
 use Rattle.number_sets.specs.Sets.{has_number}
 use Rattle.latin_board.specs.Squares.{GridValue, number_at}
 use Rattle.number_sets.proofs.Members.{has_number-none}

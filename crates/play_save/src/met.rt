@@ -1,10 +1,10 @@
 //! What the records of a save file say, met one by one.
 
-ghost use Rattle.std.specs.Prelude.{◌≡◌, Some, None, ok_or, option_and_then, [], OnOk, IfErr};
-ghost use Rattle.std.specs.Result.{result_ok, result_err};
+ghost use Rattle.std.specs.Prelude.{◌≡◌, Some, None, [], OnOk, IfErr};
+ghost use Rattle.std.specs.Result.{result_err};
 ghost use Rattle.play_save.specs.declared.key.Key.TheVariants.{Header, State};
 ghost use Rattle.play_save.specs.SaveTexts.{saves_of};
-ghost use Rattle.play_save.specs.FirstFaults.{met, params_met, count_met, is_complete, count_at, fault_unless, go_together, count_fault, other_count, state_fault, value_fault, saved_params_at};
+ghost use Rattle.play_save.specs.FirstFaults.{met, params_met, count_met, is_complete, count_at, fault_unless, go_together, count_fault, other_count, state_fault, value_fault};
 ghost use Rattle.play_save.specs.Inner.Taking.{bytes_of, met_of, added, Taken};
 
 use crate::fault::LoadFault;
