@@ -1,4 +1,4 @@
--- Want of memory in place of the session of an ID, and what a line with an ID is refused for.
+-- OutOfMemory in place of the session of an ID, and what a line with an ID is refused for.
 use Rattle.std.proofs.Common.{◌≡◌, ℕ, List, Result, Ok, Err, IfErr, inr, refl, subst}
 use Rattle.clue_rules.specs.declared.params.Params.{Params}
 use Rattle.clue_rules.specs.declared.game_id.GameId.{GameId}
