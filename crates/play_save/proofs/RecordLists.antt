@@ -7,7 +7,7 @@ use Rattle.play_save.specs.declared.key.KeptKey.TheVariants.{Seed, AuxInfo, Ui, 
 use Rattle.play_save.specs.declared.key.WhoseParams.TheVariants.{Next, Current}
 use Rattle.play_save.specs.declared.key.WhichCount.TheVariants.{States, Position}
 use Rattle.play_save.specs.declared.key.HeaderKey.{HeaderKey}
-use Rattle.play_save.specs.declared.key.HeaderKey.TheVariants.{SaveFile, FormatVersion, GameName, ParamsOf, Desc, PrivateDesc, Kept, Count}
+use Rattle.play_save.specs.declared.key.HeaderKey.TheVariants.{SaveFile, FormatVersion, Title, ParamsOf, Desc, PrivateDesc, Kept, Count}
 use Rattle.play_save.specs.declared.key.Key.{Key}
 use Rattle.play_save.specs.declared.key.Key.TheVariants.{Header, State}
 use Rattle.play_save.specs.Keys.{rank, kept_at, each_kept}
@@ -18,7 +18,7 @@ use Rattle.play_save.specs.FirstFaults.{first_of}
 -- at for the other one, and so computed.)
 headers : List HeaderKey
 headers =
-    SaveFile ∷ FormatVersion ∷ GameName ∷ ParamsOf Next ∷ ParamsOf Current ∷ Kept Seed ∷ Desc ∷ Kept AuxInfo ∷ Kept Ui ∷ Kept Time
+    SaveFile ∷ FormatVersion ∷ Title ∷ ParamsOf Next ∷ ParamsOf Current ∷ Kept Seed ∷ Desc ∷ Kept AuxInfo ∷ Kept Ui ∷ Kept Time
     ∷ Count States ∷ Count Position ∷ PrivateDesc ∷ []
 
 at_place : (k : HeaderKey) → get_or headers (rank k) SaveFile ≡ k

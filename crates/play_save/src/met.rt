@@ -178,7 +178,7 @@ impl<'a> Met<'a> {
         match key {
             HeaderKey::SaveFile => Err(LoadFault::Repeated),
             HeaderKey::FormatVersion => refuse_unless(value == b"1".as_slice(), LoadFault::Version),
-            HeaderKey::GameName => {
+            HeaderKey::Title => {
                 refuse_unless(value == P::name().as_bytes(), LoadFault::WrongGame)
             }
             HeaderKey::ParamsOf(_) => match Params::read::<P>(value) {

@@ -1,7 +1,7 @@
 use Rattle.std.proofs.Common.{◌&&◌, ◌∙◌, not, ap}
 use Rattle.number_sets.specs.Sets.{has_number}
 use Rattle.clue_rules.proofs.LineTallying.{IsForced, kept_free, kept_forced, kept_nothing}
-use Rattle.clue_rules.proofs.lines.latin.Tally.kept.Goals as goal
+use Rattle.clue_rules.proofs.lines.latin.LineTally.kept.Goals as goal
 
 pub returns-then-is_empty : goal.returns-then-is_empty
 returns-then-is_empty c =
