@@ -78,7 +78,7 @@ class Calls:
 
 
 def wrong_answer(found: Answer, ample: Answer) -> List[str]:
-    """What is wrong with an answer: it has to be want of memory, in an unchanged session, or that with ample memory."""
+    """What is wrong with an answer: it has to be OutOfMemory, in an unchanged session, or that with ample memory."""
     wrong = []
     if found.lines[0] != b'OutOfMemory':
         if found.output != ample.output:

@@ -84,7 +84,7 @@ MOVE    :1:M
 
 
 class Game(NamedTuple):
-    """A game, and the words of the commands that are answered with want of memory in some round."""
+    """A game, and the words of the commands that are answered with OutOfMemory in some round."""
 
     name: str
     words: List[str]
@@ -199,12 +199,12 @@ def parts(output: bytes) -> List[List[bytes]]:
 
 
 def refused(output: bytes) -> Numbers:
-    """The numbers of the commands, from 0, that were answered with want of memory."""
+    """The numbers of the commands, from 0, that were answered with OutOfMemory."""
     return tuple(number for number, reply in enumerate(parts(output)) if reply == [REFUSAL])
 
 
 def spliced(output: bytes, gone: Numbers, count: int) -> bytes:
-    """The replies of a run without some commands, with want of memory in the places of those."""
+    """The replies of a run without some commands, with OutOfMemory in the places of those."""
     replies = iter(parts(output))
     lines: List[bytes] = []
     for number in range(count):

@@ -1,4 +1,4 @@
--- Game IDs: what is read has the grammar, what has the grammar is read, and reading spares memory.
+-- Game IDs: what is read has the grammar, what has the grammar is read, and reading is not refused for memory.
 use Rattle.std.specs.Prelude.{◌≡◌, ℕ, ◌≤◌, Bool, false, ◌==◌, ◌||◌, List, [], ◌∷◌, Option, Some, None, Result, Ok, Err}
 use Rattle.byte_text.specs.Decimals.{decimal_value}
 use Rattle.clue_rules.specs.declared.id_fault.IdFault.{IdFault}
@@ -19,8 +19,8 @@ use Rattle.byte_text.proofs.ReadingLaws.{bind_taken, bind_again}
 use Rattle.clue_rules.proofs.ParameterLemmas.{params_taken, params_again}
 use Rattle.byte_text.specs.Cuts.{behind}
 use Rattle.byte_text.specs.Bytes.{digit_zero, colon, hash, exclamation, letter_a, letter_d}
-use Rattle.clue_rules.specs.IdFaults.{SparesMemory}
-use Rattle.clue_rules.specs.Laws.SparedMemory.{spares-then, spares-if}
+use Rattle.clue_rules.specs.IdFaults.{NotForMemory}
+use Rattle.clue_rules.specs.Laws.NotForMemory.{not_for_memory-then, not_for_memory-if}
 use Rattle.clue_rules.specs.Laws.Refusals.{refused_then}
 
 -- Reading gives the puzzles that the grammar of descriptions has, at each size.
@@ -207,48 +207,48 @@ game_reads D puzzle valid describes desc_at taken again = record {
   again = λ w text d is. subst (λ n. desc_at n text ≡ Ok d) is.2 (again text d is.1 is.0);
 }
 
-spares-more : (p : Params) (bs : List ℕ) → SparesMemory (if_no_more p bs)
-spares-more p [] = tt
-spares-more p (b ∷ bs) = λ e. cc
+not_for_memory-more : (p : Params) (bs : List ℕ) → NotForMemory (if_no_more p bs)
+not_for_memory-more p [] = tt
+not_for_memory-more p (b ∷ bs) = λ e. cc
 
-letter_spares : (letters : List ℕ) (w : ℕ) (bs : List ℕ) → SparesMemory (letter_at letters w bs)
-letter_spares letters w [] = λ e. cc
-letter_spares letters w (b ∷ bs) =
-    spares-if (list_any (λ l. l == b) letters) _ (Err BadLetter) (spares-more (record { size = w; letter = Some b }) bs) (λ e. cc)
+letter_not_for_memory : (letters : List ℕ) (w : ℕ) (bs : List ℕ) → NotForMemory (letter_at letters w bs)
+letter_not_for_memory letters w [] = λ e. cc
+letter_not_for_memory letters w (b ∷ bs) =
+    not_for_memory-if (list_any (λ l. l == b) letters) _ (Err BadLetter) (not_for_memory-more (record { size = w; letter = Some b }) bs) (λ e. cc)
 
-size_spares : (letters : List ℕ) (adjacent : Bool) (w : ℕ) (bs : List ℕ) → SparesMemory (behind_size letters adjacent w bs)
-size_spares letters adjacent w [] = tt
-size_spares letters adjacent w (b ∷ bs) =
-    spares-if (adjacent && (b == letter_a)) (Err AdjacentMode) _ (λ e. cc)
-    (spares-if (b == letter_d) _ (Err BadParams) (letter_spares letters w bs) (λ e. cc))
+size_not_for_memory : (letters : List ℕ) (adjacent : Bool) (w : ℕ) (bs : List ℕ) → NotForMemory (behind_size letters adjacent w bs)
+size_not_for_memory letters adjacent w [] = tt
+size_not_for_memory letters adjacent w (b ∷ bs) =
+    not_for_memory-if (adjacent && (b == letter_a)) (Err AdjacentMode) _ (λ e. cc)
+    (not_for_memory-if (b == letter_d) _ (Err BadParams) (letter_not_for_memory letters w bs) (λ e. cc))
 
-pub params_spare : (letters : List ℕ) (adjacent : Bool) (text : List ℕ) → SparesMemory (params_at letters adjacent text)
+pub params_not_for_memory : (letters : List ℕ) (adjacent : Bool) (text : List ℕ) → NotForMemory (params_at letters adjacent text)
 unfolding params_at
-params_spare letters adjacent [] = λ e. cc
-params_spare letters adjacent (b ∷ bs) =
-    spares-if (is_size b bs) _ (Err BadSize) (size_spares letters adjacent (b - digit_zero) bs) (λ e. cc)
+params_not_for_memory letters adjacent [] = λ e. cc
+params_not_for_memory letters adjacent (b ∷ bs) =
+    not_for_memory-if (is_size b bs) _ (Err BadSize) (size_not_for_memory letters adjacent (b - digit_zero) bs) (λ e. cc)
 
-seed_spares : (p : Params) (seed : Option ℕ) → SparesMemory (seeded p seed)
-seed_spares p None = λ e. cc
-seed_spares p (Some seed) = tt
+seed_not_for_memory : (p : Params) (seed : Option ℕ) → NotForMemory (seeded p seed)
+seed_not_for_memory p None = λ e. cc
+seed_not_for_memory p (Some seed) = tt
 
-parts_spare : (p : Params) (bs : List ℕ) → SparesMemory (behind_params p bs)
-parts_spare p [] = λ e. cc
-parts_spare p (b ∷ bs) =
-    spares-if (b == hash) (Err ForeignSeed) _ (λ e. cc)
-    (spares-if (b == exclamation) _ (Ok (Described p bs)) (seed_spares p (decimal_value largest_seed bs)) tt)
+parts_not_for_memory : (p : Params) (bs : List ℕ) → NotForMemory (behind_params p bs)
+parts_not_for_memory p [] = λ e. cc
+parts_not_for_memory p (b ∷ bs) =
+    not_for_memory-if (b == hash) (Err ForeignSeed) _ (λ e. cc)
+    (not_for_memory-if (b == exclamation) _ (Ok (Described p bs)) (seed_not_for_memory p (decimal_value largest_seed bs)) tt)
 
-description_spares : {D : Type 0} (desc_at : ℕ → List ℕ → Result D IdFault)
-    → ((w : ℕ) (text : List ℕ) → SparesMemory (desc_at w text)) → (id : GameId (List ℕ))
-    → SparesMemory (with_description desc_at id)
-description_spares desc_at spares (Described p desc) = spares-then (desc_at p.size desc) _ (spares p.size desc) (λ d. tt)
-description_spares desc_at spares (Seeded p seed) = tt
+description_not_for_memory : {D : Type 0} (desc_at : ℕ → List ℕ → Result D IdFault)
+    → ((w : ℕ) (text : List ℕ) → NotForMemory (desc_at w text)) → (id : GameId (List ℕ))
+    → NotForMemory (with_description desc_at id)
+description_not_for_memory desc_at not_for_memory (Described p desc) = not_for_memory-then (desc_at p.size desc) _ (not_for_memory p.size desc) (λ d. tt)
+description_not_for_memory desc_at not_for_memory (Seeded p seed) = tt
 
-pub id_spares : {D : Type 0} (letters : List ℕ) (adjacent : Bool) (desc_at : ℕ → List ℕ → Result D IdFault)
-    → ((w : ℕ) (text : List ℕ) → SparesMemory (desc_at w text)) → (text : List ℕ)
-    → SparesMemory (id_at letters adjacent desc_at text)
+pub id_not_for_memory : {D : Type 0} (letters : List ℕ) (adjacent : Bool) (desc_at : ℕ → List ℕ → Result D IdFault)
+    → ((w : ℕ) (text : List ℕ) → NotForMemory (desc_at w text)) → (text : List ℕ)
+    → NotForMemory (id_at letters adjacent desc_at text)
 unfolding id_parts_at id_at
-id_spares letters adjacent desc_at spares text =
-    spares-then (id_parts_at letters adjacent text) (with_description desc_at)
-    (spares-then (params_at letters adjacent (params_part text)) _ (params_spare letters adjacent (params_part text)) (λ p. parts_spare p (from_separator text)))
-    (description_spares desc_at spares)
+id_not_for_memory letters adjacent desc_at not_for_memory text =
+    not_for_memory-then (id_parts_at letters adjacent text) (with_description desc_at)
+    (not_for_memory-then (params_at letters adjacent (params_part text)) _ (params_not_for_memory letters adjacent (params_part text)) (λ p. parts_not_for_memory p (from_separator text)))
+    (description_not_for_memory desc_at not_for_memory)

@@ -1,5 +1,5 @@
 -- The values of a set are kept in a square, and those of a row of sets along a line.
-use Rattle.std.proofs.Common.{◌≡◌, ◌≢◌, ℕ, ◌*◌, ◌<◌, ◌≤◌, ◌⊎◌, true, false, List, set, inl, inr, refl, sym, ◌∙◌, subst, ⊎_elim, arith, slice_index}
+use Rattle.std.proofs.Common.{◌≡◌, ◌≢◌, ℕ, ◌*◌, ◌<◌, ◌≤◌, ◌⊎◌, true, false, List, set, inl, inr, refl, sym, ◌∙◌, subst, ⊎_elim, slice_index}
 use Rattle.std.proofs.lemmas.Bool.{cases_eq, both_ways, false_from_ne_true}
 use Rattle.number_sets.specs.Sets.{has_number, IsSubset}
 use Rattle.latin_board.specs.Squares.{GridValue, number_at}
@@ -45,15 +45,6 @@ within_kept old new cell kept g k w has = record {
       let inside' : c < old.size * old.size = subst (λ (n : ℕ). c < n * n) k.less.size inside in
       let P : ℕ → Type 0 = λ i. has_number kept (number_at g i) ≡ true in
       k.rest c (number_at g c) (⊎_elim (λ same. inr (subst P (sym same) has)) (λ n. inl n) (cases_eq c cell)) ∙ w.each c inside';
-}
-
-pub up_to_all : (place : ℕ) (kept : List ℕ) (n : ℕ) (first now : CandidatesValue) → KeepsUpTo place kept n first now
-    → n ≡ first.size → KeepsInView place kept first now true
-up_to_all place kept n first now h all = record {
-  less = h.less;
-  keeps = h.keeps;
-  empty = tt;
-  gone = λ k v inside pair lacks. h.gone k v (omega arith) pair lacks;
 }
 
 -- where the sets are those of the candidates, nothing goes

@@ -13,7 +13,7 @@ use Rattle.clue_rules.specs.Inner.Narrowing.{AreSetsOf, IsSquare, KeepsInView, N
 use Rattle.clue_rules.specs.Inner.LineTallies.{IsPossible, IsWholeTally, IsKeptOf, IsLineStruck, HoldValuesTo}
 use Rattle.clue_rules.specs.Struck.{IsOnePlace, IsPeerStruck, IsPlaceStruck, IsLatinStruck}
 use Rattle.clue_rules.specs.Views.{view_cell}
-use Rattle.clue_rules.specs.declared.lines.latin.Tally.{Tally}
+use Rattle.clue_rules.specs.declared.lines.latin.LineTally.{LineTally}
 use Rattle.clue_rules.proofs.Narrowings.{on_true, on_false, narrows_by}
 use Rattle.clue_rules.proofs.LineTallying.{possible_stays, taken_goes, displaced_goes}
 
@@ -90,7 +90,7 @@ square_possible c line place sets g a is s size within =
 sets_values : (c : CandidatesValue) (place : ℕ) (sets : List ℕ) → AreSetsOf c place sets → HoldValuesTo c.size sets
 sets_values c place sets is k v inside has = let p = ((is.each k inside v).0 has).0 in (p.low, p.high)
 
-pub line_solved : (c : CandidatesValue) (line place : ℕ) (sets kept : List ℕ) (t : Tally) → IsAlong c.size line place
+pub line_solved : (c : CandidatesValue) (line place : ℕ) (sets kept : List ℕ) (t : LineTally) → IsAlong c.size line place
     → AreSetsOf c place sets → IsWholeTally sets c.size t
     → ((k : ℕ) → k < c.size → IsKeptOf t (slice_index sets k) (slice_index kept k)) → (g : GridValue) → IsSquare g → g.size ≡ c.size
     → IsWithin c g → (k : ℕ) → k < c.size → has_number (slice_index kept k) (number_at g (view_cell c.size place k)) ≡ true
@@ -99,7 +99,7 @@ line_solved c line place sets kept t a is whole keeps g s size within k inside =
     (keeps k inside).all _ (p.within k inside) (possible_stays sets c.size t (λ k. number_at g (view_cell c.size place k)) k whole p (sets_values c place sets is) inside)
 
 -- a square that had one candidate has that one still
-taken_single : (first c : CandidatesValue) (line place by v : ℕ) (sets : List ℕ) (t : Tally) → IsEarlier first c
+taken_single : (first c : CandidatesValue) (line place by v : ℕ) (sets : List ℕ) (t : LineTally) → IsEarlier first c
     → IsAlong c.size line place → AreSetsOf c place sets → IsWholeTally sets c.size t → by < c.size
     → IsOnly first (line_cell first.size line by) v → IsSingle (slice_index sets by) v
 taken_single first c line place by v sets t e a is whole inside only =
@@ -124,7 +124,7 @@ one_place first c line place k v sets e a is one j inside has =
     let P : ℕ → Type 0 = λ i. may_be c i v ≡ true in
     one.alone j (omega (arith, e.size)) (was_left first c (line_cell first.size line j) v e (subst P same left))
 
-pub line_struck : (c : CandidatesValue) (line place : ℕ) (sets kept : List ℕ) (t : Tally) → IsAlong c.size line place
+pub line_struck : (c : CandidatesValue) (line place : ℕ) (sets kept : List ℕ) (t : LineTally) → IsAlong c.size line place
     → AreSetsOf c place sets → IsWholeTally sets c.size t
     → ((k : ℕ) → k < c.size → IsKeptOf t (slice_index sets k) (slice_index kept k)) → (first : CandidatesValue) → IsEarlier first c
     → (cell v : ℕ) → IsLineStruck line first cell v
@@ -202,7 +202,7 @@ line_refuted c line place sets a is none = record {
   struck = tt;
 }
 
-pub line_narrows : (old new : CandidatesValue) (line place : ℕ) (sets kept : List ℕ) (t : Tally) (left : Bool)
+pub line_narrows : (old new : CandidatesValue) (line place : ℕ) (sets kept : List ℕ) (t : LineTally) (left : Bool)
     → IsAlong old.size line place → AreSetsOf old place sets → IsWholeTally sets old.size t
     → ((k : ℕ) → k < old.size → IsKeptOf t (slice_index sets k) (slice_index kept k)) → KeepsInView place kept old new left
     → Narrows IsSquare (IsLineStruck line) old new left

@@ -5,13 +5,13 @@ use Rattle.std.proofs.Math.ListN.{length-set}
 use Rattle.number_sets.specs.Sets.{has_number, no_numbers, IsEmpty, IsShared, IsSingle, IsSubset}
 use Rattle.number_sets.proofs.Members.{has_number-none}
 use Rattle.clue_rules.specs.Inner.LineTallies.{IsPossible, IsTally, IsWholeTally, IsCounted, IsClash, IsForced, IsFree, IsHidden, MayStay, IsKeptOf, HoldValuesTo}
-use Rattle.clue_rules.specs.declared.lines.latin.Tally.{Tally}
+use Rattle.clue_rules.specs.declared.lines.latin.LineTally.{LineTally}
 use Rattle.clue_rules.proofs.FilledLemmas.{entries_more}
 use Rattle.clue_rules.proofs.RangeLemmas.{below_one_more}
 
 -- ---- one set more
 
-pub tally_more : (sets : List ℕ) (n : ℕ) (t u : Tally) → IsTally sets n t → IsCounted t (slice_index sets n) u → IsTally sets (n + 1) u
+pub tally_more : (sets : List ℕ) (n : ℕ) (t u : LineTally) → IsTally sets n t → IsCounted t (slice_index sets n) u → IsTally sets (n + 1) u
 tally_more sets n t u h more =
     let At : ℕ → ℕ → Type 0 = λ k v. has_number (slice_index sets k) v ≡ true in
     let Alone : ℕ → ℕ → Type 0 = λ k v. IsSingle (slice_index sets k) v in
@@ -49,7 +49,7 @@ tally_more sets n t u h more =
 
 -- ---- what is refuted
 
-pub clash_refutes : (sets : List ℕ) (n w : ℕ) (t : Tally) → IsTally sets n t → n < w → IsClash t (slice_index sets n)
+pub clash_refutes : (sets : List ℕ) (n w : ℕ) (t : LineTally) → IsTally sets n t → n < w → IsClash t (slice_index sets n)
     → (number : ℕ → ℕ) → IsPossible sets w number → ⊥
 clash_refutes sets n w t h inside clash number p =
     elim clash [
@@ -67,14 +67,14 @@ clash_refutes sets n w t h inside clash number p =
 pub record AreAll (every w : ℕ) : Type 0 where
   pub is : (v : ℕ) → has_number every v ≡ (nat_le 1 v && nat_le v w)
 
-pub whole_tally : (sets : List ℕ) (w every : ℕ) (t : Tally) → IsTally sets w t → AreAll every w → IsSubset every t.once
+pub whole_tally : (sets : List ℕ) (w every : ℕ) (t : LineTally) → IsTally sets w t → AreAll every w → IsSubset every t.once
     → IsWholeTally sets w t
 whole_tally sets w every t h all placed = record {
   tally = h;
   placed = λ v low high. placed v (all.is v ∙ and_from (nat_le 1 v) (nat_le v w) (le-leb 1 v low) (le-leb v w high));
 }
 
-pub lacking_refutes : (sets : List ℕ) (w every : ℕ) (t : Tally) → IsTally sets w t → AreAll every w → (IsSubset every t.once → ⊥)
+pub lacking_refutes : (sets : List ℕ) (w every : ℕ) (t : LineTally) → IsTally sets w t → AreAll every w → (IsSubset every t.once → ⊥)
     → (number : ℕ → ℕ) → IsPossible sets w number → ⊥
 lacking_refutes sets w every t h all lacks number p =
     lacks (λ v has.
@@ -86,7 +86,7 @@ lacking_refutes sets w every t h all lacks number p =
 -- ---- what may stay
 
 -- numbers that the line can hold may stay
-pub possible_stays : (sets : List ℕ) (w : ℕ) (t : Tally) (number : ℕ → ℕ) (k : ℕ) → IsWholeTally sets w t → IsPossible sets w number
+pub possible_stays : (sets : List ℕ) (w : ℕ) (t : LineTally) (number : ℕ → ℕ) (k : ℕ) → IsWholeTally sets w t → IsPossible sets w number
     → HoldValuesTo w sets → k < w → MayStay t (slice_index sets k) (number k)
 possible_stays sets w t number k h p values inside =
     elim (cases_Bool (has_number t.singles (number k))) [
@@ -117,7 +117,7 @@ possible_stays sets w t number k h p values inside =
     ]
 
 -- a value that is alone in another set may not stay
-pub taken_goes : (sets : List ℕ) (w : ℕ) (t : Tally) (k by v : ℕ) → IsWholeTally sets w t → k < w → by < w → by ≢ k
+pub taken_goes : (sets : List ℕ) (w : ℕ) (t : LineTally) (k by v : ℕ) → IsWholeTally sets w t → k < w → by < w → by ≢ k
     → IsSingle (slice_index sets by) v → MayStay t (slice_index sets k) v → ⊥
 taken_goes sets w t k by v h inside there apart single stays =
     elim stays [
@@ -132,7 +132,7 @@ taken_goes sets w t k by v h inside there apart single stays =
     ]
 
 -- nor may a value where another has its one place
-pub displaced_goes : (sets : List ℕ) (w : ℕ) (t : Tally) (k v other : ℕ) → IsWholeTally sets w t → k < w → v ≢ other → 1 ≤ other
+pub displaced_goes : (sets : List ℕ) (w : ℕ) (t : LineTally) (k v other : ℕ) → IsWholeTally sets w t → k < w → v ≢ other → 1 ≤ other
     → other ≤ w → ((j : ℕ) → j < w → has_number (slice_index sets j) other ≡ true → j ≡ k) → MayStay t (slice_index sets k) v → ⊥
 displaced_goes sets w t k v other h inside apart low high one stays =
     let once = h.placed other low high in
@@ -152,26 +152,26 @@ displaced_goes sets w t k v other h inside apart low high one stays =
 
 -- ---- the values that are kept
 
-forced_from : (t : Tally) (set forced u : ℕ) → IsForced t set forced → has_number forced u ≡ true → (has_number set u ≡ true) × IsHidden t u
+forced_from : (t : LineTally) (set forced u : ℕ) → IsForced t set forced → has_number forced u ≡ true → (has_number set u ≡ true) × IsHidden t u
 forced_from t set forced u f e =
     let parts = and_parts _ _ (sym (f.is u) ∙ e) in
     let both = and_parts _ _ parts.0 in
     (both.0, record { once = both.1; lone = not-true (has_number t.twice u) parts.1 })
 
-forced_to : (t : Tally) (set forced u : ℕ) → IsForced t set forced → has_number set u ≡ true → IsHidden t u → has_number forced u ≡ true
+forced_to : (t : LineTally) (set forced u : ℕ) → IsForced t set forced → has_number set u ≡ true → IsHidden t u → has_number forced u ≡ true
 forced_to t set forced u f has hidden =
     f.is u ∙ and_from _ _ (and_from _ _ has hidden.once) (ap not hidden.lone)
 
-free_from : (t : Tally) (set free v : ℕ) → IsFree t set free → has_number free v ≡ true
+free_from : (t : LineTally) (set free v : ℕ) → IsFree t set free → has_number free v ≡ true
     → (has_number set v ≡ true) × (has_number t.singles v ≡ false)
 free_from t set free v f e =
     let parts = and_parts _ _ (sym (f.is v) ∙ e) in
     (parts.0, not-true (has_number t.singles v) parts.1)
 
-free_to : (t : Tally) (set free v : ℕ) → IsFree t set free → has_number set v ≡ true → has_number t.singles v ≡ false → has_number free v ≡ true
+free_to : (t : LineTally) (set free v : ℕ) → IsFree t set free → has_number set v ≡ true → has_number t.singles v ≡ false → has_number free v ≡ true
 free_to t set free v f has none = f.is v ∙ and_from _ _ has (ap not none)
 
-pub kept_free : (t : Tally) (set forced free : ℕ) → ((v : ℕ) → IsSingle set v → ⊥) → IsForced t set forced → IsFree t set free
+pub kept_free : (t : LineTally) (set forced free : ℕ) → ((v : ℕ) → IsSingle set v → ⊥) → IsForced t set forced → IsFree t set free
     → IsEmpty forced → IsKeptOf t set free
 kept_free t set forced free many f r none = record {
   only = λ v e.
@@ -188,7 +188,7 @@ kept_free t set forced free many f r none = record {
   ];
 }
 
-pub kept_forced : (t : Tally) (set forced free kept value : ℕ) → ((v : ℕ) → IsSingle set v → ⊥) → IsForced t set forced
+pub kept_forced : (t : LineTally) (set forced free kept value : ℕ) → ((v : ℕ) → IsSingle set v → ⊥) → IsForced t set forced
     → IsFree t set free → IsSingle forced value → ((v : ℕ) → has_number kept v ≡ (has_number forced v && has_number free v))
     → IsKeptOf t set kept
 kept_forced t set forced free kept value many f r one is = record {
@@ -211,7 +211,7 @@ kept_forced t set forced free kept value many f r one is = record {
   ];
 }
 
-pub kept_nothing : (t : Tally) (set forced kept : ℕ) → ((v : ℕ) → IsSingle set v → ⊥) → IsForced t set forced
+pub kept_nothing : (t : LineTally) (set forced kept : ℕ) → ((v : ℕ) → IsSingle set v → ⊥) → IsForced t set forced
     → (v : ℕ) × (has_number forced v ≡ true) → ((v : ℕ) → IsSingle forced v → ⊥) → kept ≡ no_numbers → IsKeptOf t set kept
 kept_nothing t set forced kept many f there two none = rw none (record {
   only = λ v e. absurd (both_ways (has_number 0 v) (has_number-none v) e);
@@ -247,7 +247,7 @@ singles_none set many = record {
   );
 }
 
-pub clash_twice : (t : Tally) (set single : ℕ) → IsSinglesOf set single → IsShared t.singles single → IsClash t set
+pub clash_twice : (t : LineTally) (set single : ℕ) → IsSinglesOf set single → IsShared t.singles single → IsClash t set
 clash_twice t set single s shared = inr (shared.0, (s.is shared.0).0 shared.2, shared.1)
 
 -- what is so of one of two
@@ -258,12 +258,12 @@ either a b c is = (
 )
 
 -- new's sets are the old ones with one set more
-pub record IsJoined (t : Tally) (set single : ℕ) (u : Tally) : Type 0 where
+pub record IsJoined (t : LineTally) (set single : ℕ) (u : LineTally) : Type 0 where
   pub once : (v : ℕ) → has_number u.once v ≡ (has_number t.once v || has_number set v)
   pub twice : (v : ℕ) → has_number u.twice v ≡ (has_number t.twice v || (has_number t.once v && has_number set v))
   pub singles : (v : ℕ) → has_number u.singles v ≡ (has_number t.singles v || has_number single v)
 
-pub counted_more : (t u : Tally) (set single : ℕ) → IsSinglesOf set single → (v : ℕ) × (has_number set v ≡ true)
+pub counted_more : (t u : LineTally) (set single : ℕ) → IsSinglesOf set single → (v : ℕ) × (has_number set v ≡ true)
     → (IsShared t.singles single → ⊥) → IsJoined t set single u → IsCounted t set u
 counted_more t u set single s some apart h =
     let twice = λ (v : ℕ). either (has_number t.twice v) (has_number t.once v && has_number set v) (has_number u.twice v) (h.twice v) in
@@ -283,7 +283,7 @@ counted_more t u set single s some apart h =
     }
 
 -- one set more is kept
-pub kept_more : (t : Tally) (sets kept : List ℕ) (n found : ℕ) → n < 9
+pub kept_more : (t : LineTally) (sets kept : List ℕ) (n found : ℕ) → n < 9
     → (length kept ≡ 9) × ((j : ℕ) → j < n → IsKeptOf t (slice_index sets j) (slice_index kept j))
     → IsKeptOf t (slice_index sets n) found
     → (length (set kept n found) ≡ 9) × ((j : ℕ) → j < n + 1 → IsKeptOf t (slice_index sets j) (slice_index (set kept n found) j))

@@ -64,11 +64,6 @@ pub below_more : {S : GridValue → Type 0} {T : ℕ → CandidatesValue → ℕ
     → Narrows S (StruckBelow T n) a b true → Narrows S (T n) b c true → Narrows S (StruckBelow T (n + 1)) a c true
 below_more {T = T} {n = n} one two = narrows_then (λ first cell v s. below_cases (λ k. T k first cell v) n s) one two
 
--- steps of which nothing is known to be struck
-pub nothing_more : {S : GridValue → Type 0} {U : CandidatesValue → ℕ → ℕ → Type 0} {a b c : CandidatesValue} {r : Bool}
-    → Narrows S NoneStruck a b true → Narrows S U b c r → Narrows S NoneStruck a c r
-nothing_more one two = narrows_then (λ first cell v none. inl none) one two
-
 -- what rows and columns strike, what a rule does along every line, and then a step of which nothing is known
 pub lines_narrow : {S R : GridValue → Type 0} {T : ℕ → CandidatesValue → ℕ → ℕ → Type 0} {a b c d : CandidatesValue} {r : Bool}
     → ((g : GridValue) → S g → R g) → Narrows R IsLatinStruck a b true → Narrows S (StruckBelow T (2 * b.size)) b c true

@@ -20,7 +20,7 @@ use Rattle.clue_rules.specs.declared.unequal.sign.Sign.TheVariants.{FirstGreater
 use Rattle.clue_rules.proofs.KeptCandidates.{within_kept}
 use Rattle.clue_rules.proofs.LineSteps.{grid_pair, in_set}
 use Rattle.clue_rules.proofs.Narrowings.{narrows_by, narrows_for}
-use Rattle.clue_rules.specs.declared.unequal.lines.Ends.{Ends}
+use Rattle.clue_rules.specs.declared.unequal.lines.SignEnds.{SignEnds}
 
 -- ---- a step at one square
 
@@ -58,7 +58,7 @@ square_narrows old new cell kept left solved struck k is = record {
 
 -- ---- both squares of a sign
 
-pub lesser_narrows : (old new : CandidatesValue) (ends : Ends) (set kept : ℕ) (left : Bool) → AreInside old.size ends
+pub lesser_narrows : (old new : CandidatesValue) (ends : SignEnds) (set kept : ℕ) (left : Bool) → AreInside old.size ends
     → IsSetOf old ends.greater set → ((v : ℕ) → (has_number kept v ≡ true) ↔ ((u : ℕ) × (v < u) × (has_number set u ≡ true)))
     → KeepsInSquare old new ends.lesser kept → left ≡ not (kept == 0)
     → Narrows (HoldsGreater ends) (IsLesserStruck ends) old new left
@@ -76,7 +76,7 @@ lesser_narrows old new ends set kept left inside is below k answer =
     ))
     k answer
 
-pub greater_narrows : (old new : CandidatesValue) (ends : Ends) (set kept : ℕ) (left : Bool) → old.size ≤ 9
+pub greater_narrows : (old new : CandidatesValue) (ends : SignEnds) (set kept : ℕ) (left : Bool) → old.size ≤ 9
     → AreInside old.size ends → IsSetOf old ends.lesser set
     → ((v : ℕ) → v < 16 → (has_number kept v ≡ true) ↔ ((u : ℕ) × (u < v) × (has_number set u ≡ true)))
     → KeepsInSquare old new ends.greater kept → left ≡ not (kept == 0)
@@ -99,14 +99,14 @@ greater_narrows old new ends set kept left small inside is above k answer =
 -- ---- the sign between two squares of a puzzle
 
 -- the greater end is the greater square
-ends_greater : (v : UnequalValue) (a b : ℕ) (ends : Ends) → AreEnds v a b ends → IsGreater v ends.greater ends.lesser
+ends_greater : (v : UnequalValue) (a b : ℕ) (ends : SignEnds) → AreEnds v a b ends → IsGreater v ends.greater ends.lesser
 ends_greater v a b ends are = elim are.is [
   | inl first ↦ inl (rw (first.1, first.2) first.0)
   | inr second ↦ inr (rw (second.1, second.2) second.0)
 ]
 
 -- a sign has its ends but once
-same_ends : (v : UnequalValue) (a b : ℕ) (one two : Ends) → AreEnds v a b one → AreEnds v a b two → one ≡ two
+same_ends : (v : UnequalValue) (a b : ℕ) (one two : SignEnds) → AreEnds v a b one → AreEnds v a b two → one ≡ two
 same_ends v a b one two h k = elim h.is [
   | inl first ↦ elim k.is [
     | inl other ↦ λ i. record { greater = (first.1 ∙ sym other.1) i; lesser = (first.2 ∙ sym other.2) i }
@@ -118,14 +118,14 @@ same_ends v a b one two h k = elim h.is [
   ]
 ]
 
-pub sign_narrows : (v : UnequalValue) (a b : ℕ) (ends : Ends) (old new : CandidatesValue) (left : Bool) → IsUnequal v → AreEnds v a b ends
+pub sign_narrows : (v : UnequalValue) (a b : ℕ) (ends : SignEnds) (old new : CandidatesValue) (left : Bool) → IsUnequal v → AreEnds v a b ends
     → Narrows (HoldsGreater ends) (IsEndStruck ends) old new left → Narrows (Solves (unequal_puzzle v)) (IsStruckAt v a b) old new left
 sign_narrows v a b ends old new left valid are h =
     narrows_for (λ g s. (
       record { is_grid = s.is_grid; latin = s.latin },
       (signs_held v g valid s.clues).each ends.greater ends.lesser (ends_greater v a b ends are),
     ))
-    (narrows_by (λ first e cell value pair s. subst (λ (x : Ends). IsEndStruck x first cell value) (same_ends v a b s.ends ends s.are are) s.struck) h)
+    (narrows_by (λ first e cell value pair s. subst (λ (x : SignEnds). IsEndStruck x first cell value) (same_ends v a b s.ends ends s.are are) s.struck) h)
 
 -- ---- all that a puzzle strikes
 

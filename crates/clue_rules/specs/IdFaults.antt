@@ -38,9 +38,9 @@ id_fault_name OffGrid = codes "OffGrid"
 id_fault_name Contradiction = codes "Contradiction"
 id_fault_name OutOfMemory = codes "OutOfMemory"
 
--- the answer is no refusal for want of memory
-abbrev pub SparesMemory : {A : Type 0} → Result A IdFault → Type 0
-SparesMemory answer = IfErr answer (λ fault. fault ≢ OutOfMemory)
+-- the answer is no refusal for memory
+abbrev pub NotForMemory : {A : Type 0} → Result A IdFault → Type 0
+NotForMemory answer = IfErr answer (λ fault. fault ≢ OutOfMemory)
 
 -- the list, where it has exactly n members
 abbrev pub exactly : {X : Type 0} → ℕ → List X → Result (List X) IdFault

@@ -12,7 +12,7 @@ pub mod RangeTests
 pub mod Refusals
 pub mod SaidSigns
 pub mod Signs
-pub mod SparedMemory
+pub mod NotForMemory
 pub mod SquarePart
 pub mod SquaresWritten
 pub mod TowersItems

@@ -17,12 +17,12 @@ pub record TowersValue : Type 0 where
   pub givens : List ℕ
 
 -- the givens as a grid, blank where none is
-abbrev pub given_grid : TowersValue → GridValue
-given_grid v = record { size = v.size; numbers = v.givens }
+abbrev pub towers_given_grid : TowersValue → GridValue
+towers_given_grid v = record { size = v.size; numbers = v.givens }
 
 -- what each Towers puzzle of the program keeps
 pub record IsTowers (v : TowersValue) : Type 0 where
-  pub givens : IsGrid (given_grid v)
+  pub givens : IsGrid (towers_given_grid v)
   pub clue_count : length v.clues ≡ 4 * v.size
   pub clues_within : All (λ clue. clue ≤ v.size) v.clues
 

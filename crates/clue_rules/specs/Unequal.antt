@@ -23,8 +23,8 @@ pub record UnequalValue : Type 0 where
   pub givens : List ℕ
 
 -- the givens as a grid, blank where none is
-abbrev pub given_grid : UnequalValue → GridValue
-given_grid v = record { size = v.size; numbers = v.givens }
+abbrev pub unequal_given_grid : UnequalValue → GridValue
+unequal_given_grid v = record { size = v.size; numbers = v.givens }
 
 -- the neighbour of a square in a direction, where the grid has one
 abbrev pub neighbour : ℕ → ℕ → Direction → Option ℕ
@@ -49,7 +49,7 @@ lower_sign v cell = slice_index_or v.below cell Absent
 
 -- what each puzzle of the program keeps: where the grid ends no sign stands
 pub record IsUnequal (v : UnequalValue) : Type 0 where
-  pub givens : IsGrid (given_grid v)
+  pub givens : IsGrid (unequal_given_grid v)
   pub right_count : length v.right ≡ v.size * v.size
   pub right_ends : (cell : ℕ) → neighbour v.size cell Right ≡ None → right_sign v cell ≡ Absent
   pub below_count : length v.below ≡ v.size * v.size

@@ -5,7 +5,7 @@ ghost use Rattle.latin_board.specs.Edges.{edge_place};
 ghost use Rattle.clue_rules.specs.declared.game.TheConstants.{MOST_ITEMS};
 ghost use Rattle.clue_rules.specs.declared.id_fault.IdFault.{IdFault};
 ghost use Rattle.clue_rules.specs.GameIds.{LacksSeparators};
-ghost use Rattle.clue_rules.specs.IdFaults.{SparesMemory};
+ghost use Rattle.clue_rules.specs.IdFaults.{NotForMemory};
 
 use crate::id_fault::IdFault;
 use latin_board::Size;
@@ -78,7 +78,7 @@ pub trait Game: Rules {
         describes text p × Self.valid p × ((Self.puzzle p).size ≡ w) };
 
     // Reading takes no memory, so it never lacks any.
-    ghost desc_spares: { (w : ℕ) (text : List ℕ) → SparesMemory (desc_at w text) };
+    ghost desc_not_for_memory: { (w : ℕ) (text : List ℕ) → NotForMemory (desc_at w text) };
 
     // What describes a puzzle is read as that puzzle.
     ghost desc_again: { (text : List ℕ) (p : Self) → Self.valid p → describes text p →

@@ -4,7 +4,7 @@ ghost use Rattle.std.specs.Prelude.{◌≡◌, Ok, Err, IfOk, Result};
 ghost use Rattle.byte_text.specs.Reading.{Gives};
 ghost use Rattle.clue_rules.specs.declared.game_id.GameId.{GameId};
 ghost use Rattle.clue_rules.specs.GameIds.{IsIdText, id_at, describes_at, is_separator, params_part, from_separator, id_parts_at, id_map};
-ghost use Rattle.clue_rules.specs.IdFaults.{SparesMemory};
+ghost use Rattle.clue_rules.specs.IdFaults.{NotForMemory};
 
 use crate::game::Game;
 use crate::id_fault::IdFault;
@@ -32,7 +32,7 @@ pub fn read_id<P: Game>(text: &[u8]) -> Result<GameId<P>, IdFault>
     ensures only { (id : GameId P)
         → IsIdText P.letter_codes (describes_at P.puzzle P.valid P.describes) id text.now
         → result ≡ Ok id }
-    ensures without_memory { SparesMemory result }
+    ensures not_for_memory { NotForMemory result }
 {
     parse_id(text)
 }

@@ -2,7 +2,7 @@
 
 ghost use Rattle.std.specs.Prelude.{◌≡◌, ◌*◌, ◌<◌, ◌≤◌, ◌↔◌, IsTrue};
 ghost use Rattle.std.specs.Cmp.{decided, partial_equiv_from_equiv};
-ghost use Rattle.clue_rules.specs.Towers.{IsTowers, given_grid, clue_of};
+ghost use Rattle.clue_rules.specs.Towers.{IsTowers, towers_given_grid, clue_of};
 ghost use Rattle.clue_rules.specs.Laws.TowersSameness.{same_towers, same_towers_decides};
 
 mod description;
@@ -60,7 +60,7 @@ impl Towers {
     }
 
     fn givens(&self) -> &Grid
-        ensures { result.now ≡ given_grid self.now }
+        ensures { result.now ≡ towers_given_grid self.now }
     {
         &self.givens
     }

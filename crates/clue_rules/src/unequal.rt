@@ -2,7 +2,7 @@
 
 ghost use Rattle.std.specs.Prelude.{◌≡◌, ◌*◌, ◌<◌, ◌≤◌, ◌↔◌, IsTrue};
 ghost use Rattle.std.specs.Cmp.{decided, partial_equiv_from_equiv};
-ghost use Rattle.clue_rules.specs.Unequal.{IsUnequal, IsGreater, given_grid, is_greater, sign_between};
+ghost use Rattle.clue_rules.specs.Unequal.{IsUnequal, IsGreater, unequal_given_grid, is_greater, sign_between};
 ghost use Rattle.clue_rules.specs.Laws.UnequalSameness.{same_unequal, same_unequal_decides};
 
 mod description;
@@ -108,7 +108,7 @@ impl Unequal {
     }
 
     fn givens(&self) -> &Grid
-        ensures value { result.now ≡ given_grid self.now }
+        ensures value { result.now ≡ unequal_given_grid self.now }
         ensures valid { IsUnequal self.now }
     {
         &self.givens

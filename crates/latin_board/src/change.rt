@@ -1,7 +1,7 @@
 //! Changes: what a board exchanges, one square with both flags or a whole board.
 
 ghost use Rattle.std.specs.Prelude.{◌≡◌, IfOk};
-ghost use Rattle.latin_board.specs.Changes.{SquareValue, OneSquare, WholeBoard};
+ghost use Rattle.latin_board.specs.Changes.{OneSquare, WholeBoard};
 
 use crate::board::Board;
 use crate::marks::Marks;

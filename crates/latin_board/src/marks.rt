@@ -1,6 +1,6 @@
 //! The pencil marks at a square, as a set of numbers.
 
-ghost use Rattle.std.specs.Prelude.{◌≡◌, ℕ, ◌<◌, ◌≤◌, ◌==◌, ◌&&◌, false, not, nat_le, if◌then◌else◌};
+ghost use Rattle.std.specs.Prelude.{◌≡◌, ℕ, ◌≤◌, ◌==◌, ◌&&◌, false, not, nat_le, if◌then◌else◌};
 ghost use Rattle.number_sets.specs.Sets.{has_number, no_numbers, numbers_to, flip_number};
 ghost use Rattle.latin_board.specs.Marks.{IsMarkSet};
 

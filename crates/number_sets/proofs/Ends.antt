@@ -8,7 +8,7 @@ use Rattle.std.proofs.lemmas.Bool.{cases_Bool, cases_lt, cases_eq, both_ways, fa
 use Rattle.std.proofs.lemmas.Nat.{pow_pos, shr_split, div-add-mod', mod_below, and_le_l, and_block}
 use Rattle.std.proofs.lemmas.Nat.Bits.{bit_at-trailing_zeros}
 use Rattle.number_sets.specs.Sets.{has_number, IsSingle, IsLeast, IsGreatest}
-use Rattle.number_sets.proofs.Members.{number-from_bit, no_number-from_bit, has_number-none, has_number-above, has_number-mod, has_number-one, has_number-one_same, number_of_one, has_number-below, none_from_numbers, below_from_numbers, same_set}
+use Rattle.number_sets.proofs.Members.{number-from_bit, no_number-from_bit, has_number-above, has_number-mod, has_number-one, has_number-one_same, number_of_one, has_number-below, none_from_numbers, below_from_numbers, same_set}
 use Rattle.number_sets.proofs.OneMore.{odd_multiple}
 
 -- ---- the least number, and what is above it
@@ -81,11 +81,6 @@ single_is set n single =
           false_from_ne_true (has_number set k) (λ h. other (single.alone k h))
           ∙ sym (has_number-one n k ∙ ne_eqb k n other)
     ])
-
-pub single_some : (set n : ℕ) → IsSingle set n → set ≢ 0
-single_some set n single none =
-    let P : ℕ → Type 0 = λ m. has_number m n ≡ true in
-    both_ways (has_number 0 n) (has_number-none n) (subst P none single.has)
 
 -- an odd multiple of a power of two, and the number before it
 and_before : (a p k : ℕ) → p ≡ 2 ^ k → bit_and ((a * 2 + 1) * p) ((a * 2 + 1) * p - 1) ≡ (a * 2) * p

@@ -13,4 +13,4 @@ pub mod SessionLaws
 pub mod MoveListLaws
 pub mod StorableLaws
 pub mod LegalMoves
-pub mod SparedMemory
+pub mod NotForMemory

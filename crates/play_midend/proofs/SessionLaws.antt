@@ -10,7 +10,7 @@ use Rattle.play_midend.specs.declared.fault.PlayFault.{PlayFault}
 use Rattle.play_midend.specs.declared.fault.PlayFault.TheVariants.{NothingToUndo, NothingToRedo}
 use Rattle.play_midend.specs.Steps.{start_of, replay_from}
 use Rattle.play_midend.specs.Histories.{History, IsValid, past, shown, refusal_in, with_move, at_position, played, SolveGives, undone, redone}
-use Rattle.play_midend.specs.Laws.{Call, Play, FromStart, ToSolution, Undo, Redo, CallGives, may_want_memory, Answered, AnsweredInTurn, RunsStayValid, IsSameBack, UndoTakesBack, UndoTakesRestartBack, UndoTakesSolveBack, RedoTakesUndoBack}
+use Rattle.play_midend.specs.Laws.{Call, Play, FromStart, ToSolution, Undo, Redo, CallGives, may_take_memory, Answered, AnsweredInTurn, RunsStayValid, IsSameBack, UndoTakesBack, UndoTakesRestartBack, UndoTakesSolveBack, RedoTakesUndoBack}
 use Rattle.play_midend.proofs.Making.{step_allowed}
 use Rattle.play_midend.proofs.Replaying.{ArePlayable-append, ArePlayable-take, restart_first-take, restart_first-push}
 use Rattle.play_midend.proofs.Playing.{Allowed, allowed_in, accepted, solved_as_played}
@@ -144,7 +144,7 @@ undo_takes_solve_back puzzle old new v (inr (inr one)) =
 
 -- a call that may take memory adds a state, and an undo shows the one before
 pub call_taken_back : {P : Type 0} (puzzle : P → Puzzle) (h new : History P) (call : Call) → IsValid (puzzle h.puzzle) h
-    → may_want_memory call ≡ true → CallGives (puzzle h.puzzle) h call (Ok new)
+    → may_take_memory call ≡ true → CallGives (puzzle h.puzzle) h call (Ok new)
     → IsOkAnd (undone new) (IsSameBack (puzzle h.puzzle) h)
 call_taken_back puzzle h new (Play m) v takes is = undo_takes_back puzzle h new m v (sym is)
 call_taken_back puzzle h new FromStart v takes is = undo_takes_restart_back puzzle h new v (sym is)

@@ -29,19 +29,19 @@ CallGives p h ToSolution exact = SolveGives p h exact
 CallGives p h Undo exact = exact ≡ undone h
 CallGives p h Redo exact = exact ≡ redone h
 
-abbrev pub may_want_memory : Call → Bool
-may_want_memory (Play m) = true
-may_want_memory FromStart = true
-may_want_memory ToSolution = true
-may_want_memory Undo = false
-may_want_memory Redo = false
+abbrev pub may_take_memory : Call → Bool
+may_take_memory (Play m) = true
+may_take_memory FromStart = true
+may_take_memory ToSolution = true
+may_take_memory Undo = false
+may_take_memory Redo = false
 
 -- a call, its answer and the value that it leaves: a refused call changes nothing
 abbrev pub Answered : {P : Type 0} → Puzzle → History P → Call → Result (Unit {0}) PlayFault → History P → Type 0
 Answered p old call (Ok u) new = CallGives p old call (Ok new)
 Answered {P} p old call (Err fault) new =
     (new ≡ old) × ((exact : Result (History P) PlayFault) × CallGives p old call exact
-    × MatchBool (may_want_memory call) (IsRefusal exact fault) (exact ≡ Err fault))
+    × MatchBool (may_take_memory call) (IsRefusal exact fault) (exact ≡ Err fault))
 
 -- calls in turn, each with its answer
 abbrev pub AnsweredInTurn : {P : Type 0} → Puzzle → History P → List (Call × Result (Unit {0}) PlayFault) → History P → Type 0

@@ -1,7 +1,7 @@
 -- Lemmas on the texts of save files.
 pub mod OptionSteps
 pub mod RecordLaws
-pub mod RecordAnswers
+pub mod NextRecord
 pub mod RecordLists
 pub mod Meeting
 pub mod RightLists

@@ -30,11 +30,6 @@ pub where_taken : {A : Type 0} (test : Bool) (o : Option A) (y : A)
 where_taken true o y is = (refl, is)
 where_taken false o y is = cc
 
-pub else_taken : {A : Type 0} (test : Bool) (o : Option A) (y : A)
-    → cond test None o ≡ Some y → (test ≡ false) × (o ≡ Some y)
-else_taken true o y is = cc
-else_taken false o y is = (refl, is)
-
 pub ok_else : {A E : Type 0} (test : Bool) (fault : E) (r : Result A E) (y : A)
     → cond test (Err fault) r ≡ Ok y → (test ≡ false) × (r ≡ Ok y)
 ok_else true fault r y is = cc

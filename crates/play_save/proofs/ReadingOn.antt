@@ -89,7 +89,7 @@ reads_broken {P} {game} {text} {rest} {m} {fault} r undone read =
     let o = onward (Err fault) r undone read in
     met_by_needed game text (Err Malformed) (rw o.undone at o.same) ∙ ap Err (sym (record_fault rest fault read))
 
--- a record that is refused, with its fault or for want of memory
+-- a record that is refused, with its fault or for memory
 pub reads_fault : {P : Type 0} {game : SavedGame P} {text rest : List ℕ} {m : MetValue} {e : Entry} {after : List ℕ} (fault : LoadFault)
     → Reads game text rest m → is_complete m ≡ false → record_at rest ≡ Ok (Some (e, after))
     → (fault ≡ OutOfMemory) ⊎ (fault_by game m (key_of e.key) e.value ≡ Some fault)

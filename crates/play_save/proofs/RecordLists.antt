@@ -1,5 +1,5 @@
 -- Lists of records: the values of a key, and the state records, along a list that is put together.
-use Rattle.std.proofs.Common.{◌≡◌, ℕ, Bool, true, false, ◌==◌, List, [], ◌∷◌, ◌++◌, get_or, Option, Some, None, is_some, cond, refl, sym, ap, ◌∙◌}
+use Rattle.std.proofs.Common.{◌≡◌, ℕ, Bool, true, false, ◌==◌, List, [], ◌∷◌, ◌++◌, get_or, Option, is_some, cond, refl, sym, ap, ◌∙◌}
 use borrow.Author.Tests.{eqb-true, eq-eqb}
 use Rattle.play_midend.specs.declared.extras.Extras.{Extras}
 use Rattle.play_save.specs.declared.key.KeptKey.{KeptKey}
@@ -7,7 +7,7 @@ use Rattle.play_save.specs.declared.key.KeptKey.TheVariants.{Seed, AuxInfo, Ui, 
 use Rattle.play_save.specs.declared.key.WhoseParams.TheVariants.{Next, Current}
 use Rattle.play_save.specs.declared.key.WhichCount.TheVariants.{States, Position}
 use Rattle.play_save.specs.declared.key.HeaderKey.{HeaderKey}
-use Rattle.play_save.specs.declared.key.HeaderKey.TheVariants.{SaveFile, FormatVersion, GameName, ParamsOf, Desc, PrivateDesc, Kept, Count}
+use Rattle.play_save.specs.declared.key.HeaderKey.TheVariants.{SaveFile, FormatVersion, Title, ParamsOf, Desc, PrivateDesc, Kept, Count}
 use Rattle.play_save.specs.declared.key.Key.{Key}
 use Rattle.play_save.specs.declared.key.Key.TheVariants.{Header, State}
 use Rattle.play_save.specs.Keys.{rank, kept_at, each_kept}
@@ -18,7 +18,7 @@ use Rattle.play_save.specs.FirstFaults.{first_of}
 -- at for the other one, and so computed.)
 headers : List HeaderKey
 headers =
-    SaveFile ∷ FormatVersion ∷ GameName ∷ ParamsOf Next ∷ ParamsOf Current ∷ Kept Seed ∷ Desc ∷ Kept AuxInfo ∷ Kept Ui ∷ Kept Time
+    SaveFile ∷ FormatVersion ∷ Title ∷ ParamsOf Next ∷ ParamsOf Current ∷ Kept Seed ∷ Desc ∷ Kept AuxInfo ∷ Kept Ui ∷ Kept Time
     ∷ Count States ∷ Count Position ∷ PrivateDesc ∷ []
 
 at_place : (k : HeaderKey) → get_or headers (rank k) SaveFile ≡ k
@@ -127,10 +127,6 @@ first_at k value more (r ∷ rs) is = by_key r.key refl is (λ e. first_at k val
     by_key _ key e along = behind_one (along e)
 
 -- the first of some values
-pub is_some_taken : {A : Type 0} (o : Option A) → is_some o ≡ true → (a : A) × (o ≡ Some a)
-is_some_taken None some = cc
-is_some_taken (Some a) some = (a, refl)
-
 pub no_first : {A : Type 0} (xs : List A) → is_some (first_of xs) ≡ false → xs ≡ []
 no_first [] none = refl
 no_first (x ∷ xs) none = cc

@@ -23,7 +23,7 @@ use Rattle.play_save.specs.declared.key.WhoseParams.TheVariants.{Next, Current}
 use Rattle.play_save.specs.declared.key.WhichCount.{WhichCount}
 use Rattle.play_save.specs.declared.key.WhichCount.TheVariants.{States, Position}
 use Rattle.play_save.specs.declared.key.HeaderKey.{HeaderKey}
-use Rattle.play_save.specs.declared.key.HeaderKey.TheVariants.{SaveFile, FormatVersion, GameName, ParamsOf, Desc, PrivateDesc, Kept, Count}
+use Rattle.play_save.specs.declared.key.HeaderKey.TheVariants.{SaveFile, FormatVersion, Title, ParamsOf, Desc, PrivateDesc, Kept, Count}
 use Rattle.play_save.specs.declared.key.Key.{Key}
 use Rattle.play_save.specs.declared.key.Key.TheVariants.{Header, State, Other}
 use Rattle.play_save.specs.declared.save_format.TheConstants.{MOST_BYTES}
@@ -135,7 +135,7 @@ value_good game h before later SaveFile value valid side has = cc
 value_good game h before later PrivateDesc value valid side has = cc
 value_good game h before later FormatVersion value valid side has =
     ap (λ t. fault_unless t Version) (same_bytes value (codes "1") (head_same value (codes "1") has))
-value_good game h before later GameName value valid side has =
+value_good game h before later Title value valid side has =
     ap (λ t. fault_unless t WrongGame) (same_bytes value game.title (head_same value game.title has))
 value_good game h before later (ParamsOf whose) value valid side has =
     ap params_fault (ap (saved_params_at game) (head_same value has.0 has.1)
@@ -297,7 +297,7 @@ session_again {P} game rs h owes s =
     let m = met rs in
     let text = s.values Desc in
     let version : is_some (m.first FormatVersion) ≡ true = ap (λ vs. is_some (first_of vs)) (s.values FormatVersion) in
-    let name : is_some (m.first GameName) ≡ true = ap (λ vs. is_some (first_of vs)) (s.values GameName) in
+    let name : is_some (m.first Title) ≡ true = ap (λ vs. is_some (first_of vs)) (s.values Title) in
     let next = params_saved game rs h s Next in
     let now = params_saved game rs h s Current in
     let desc : m.first Desc ≡ Some text.0 = ap first_of text.1 in

@@ -19,7 +19,7 @@ use Rattle.play_save.specs.declared.key.KeptKey.TheVariants.{Seed}
 use Rattle.play_save.specs.declared.key.WhichCount.{WhichCount}
 use Rattle.play_save.specs.declared.key.WhichCount.TheVariants.{States, Position}
 use Rattle.play_save.specs.declared.key.HeaderKey.{HeaderKey}
-use Rattle.play_save.specs.declared.key.HeaderKey.TheVariants.{SaveFile, FormatVersion, GameName, ParamsOf, Desc, PrivateDesc, Kept, Count}
+use Rattle.play_save.specs.declared.key.HeaderKey.TheVariants.{SaveFile, FormatVersion, Title, ParamsOf, Desc, PrivateDesc, Kept, Count}
 use Rattle.play_save.specs.declared.key.Key.{Key}
 use Rattle.play_save.specs.declared.key.Key.TheVariants.{Header, State}
 use Rattle.play_save.specs.declared.save_format.TheConstants.{MOST_BYTES}
@@ -40,7 +40,7 @@ use Rattle.play_save.proofs.StatesPlayed.{IsDescribed, ok_taken, states_taken, h
 -- What a session was made of.
 record Parts {P : Type 0} (game : SavedGame P) (m : MetValue) (h : History P) : Type 0 where
   version : is_some (m.first FormatVersion) ≡ true
-  name : is_some (m.first GameName) ≡ true
+  name : is_some (m.first Title) ≡ true
   next_params : Params
   next_read : params_met game m Next ≡ Some next_params
   params : Params
@@ -148,7 +148,7 @@ unless_taken (Some fault) r a is = cc
 parts_taken : {P : Type 0} (game : SavedGame P) (m : MetValue) (h : History P) → session_of game m ≡ Ok h → Parts game m h
 unfolding session_of
 parts_taken {P} game m h is =
-    let stand = is_some (m.first FormatVersion) && is_some (m.first GameName) in
+    let stand = is_some (m.first FormatVersion) && is_some (m.first Title) in
     let both = unless_taken (fault_unless stand Missing) _ h is in
     let names = and_parts _ _ (fault_unless_taken stand Missing both.0) in
     let next = bind_taken (ok_or (params_met game m Next) Missing) _ h both.1 in
@@ -206,7 +206,7 @@ saved_taken {P} game rs h owes right is =
       values = λ k. elim k as (λ j. HasValues game whole_h j (values_of j rs)) [
         | SaveFile ↦ never game rs SaveFile right (λ n v none. cc)
         | FormatVersion ↦ fixed_value game rs FormatVersion (codes "1") Version right (λ n v none. none) parts.version
-        | GameName ↦ fixed_value game rs GameName game.title WrongGame right (λ n v none. none) parts.name
+        | Title ↦ fixed_value game rs Title game.title WrongGame right (λ n v none. none) parts.name
         | ParamsOf whose ↦ elim whose as (λ w. HasValues game whole_h (ParamsOf w) (values_of (ParamsOf w) rs)) [
           | Next ↦ next
           | Current ↦ now

@@ -28,7 +28,7 @@ use Rattle.play_save.specs.declared.key.WhoseParams.TheVariants.{Next, Current}
 use Rattle.play_save.specs.declared.key.WhichCount.{WhichCount}
 use Rattle.play_save.specs.declared.key.WhichCount.TheVariants.{States, Position}
 use Rattle.play_save.specs.declared.key.HeaderKey.{HeaderKey}
-use Rattle.play_save.specs.declared.key.HeaderKey.TheVariants.{SaveFile, FormatVersion, GameName, ParamsOf, Desc, PrivateDesc, Kept, Count}
+use Rattle.play_save.specs.declared.key.HeaderKey.TheVariants.{SaveFile, FormatVersion, Title, ParamsOf, Desc, PrivateDesc, Kept, Count}
 use Rattle.play_save.specs.declared.save_format.TheConstants.{MOST_BYTES}
 use Rattle.play_save.specs.Records.{BeginsWith}
 use Rattle.play_save.specs.Keys.{kept_at}
@@ -157,7 +157,7 @@ written_is_saved {P} game of_game owes h storable grids small =
         values = λ k. elim k as (λ j. HasValues game h j (values_of j (tail_of game h))) [
           | SaveFile ↦ stands SaveFile
           | FormatVersion ↦ stands FormatVersion
-          | GameName ↦ stands GameName
+          | Title ↦ stands Title
           | ParamsOf whose ↦ (
             params_text (params_of h whose),
             stands (ParamsOf whose),

@@ -11,7 +11,7 @@ use Rattle.play_save.specs.declared.key.KeptKey.TheVariants.{Seed, AuxInfo, Ui, 
 use Rattle.play_save.specs.declared.key.WhoseParams.TheVariants.{Next}
 use Rattle.play_save.specs.declared.key.WhichCount.TheVariants.{States, Position}
 use Rattle.play_save.specs.declared.key.HeaderKey.{HeaderKey}
-use Rattle.play_save.specs.declared.key.HeaderKey.TheVariants.{SaveFile, FormatVersion, GameName, ParamsOf, Desc, PrivateDesc, Kept, Count}
+use Rattle.play_save.specs.declared.key.HeaderKey.TheVariants.{SaveFile, FormatVersion, Title, ParamsOf, Desc, PrivateDesc, Kept, Count}
 use Rattle.play_save.specs.declared.key.Key.{Key}
 use Rattle.play_save.specs.declared.key.Key.TheVariants.{State}
 use Rattle.play_save.specs.Keys.{rank, kept_at}
@@ -44,7 +44,7 @@ kept_values k j (Some v) = refl
 abbrev pub values_written : {P : Type 0} → List ℕ → List ℕ → History P → HeaderKey → List (List ℕ)
 values_written title desc h SaveFile = []
 values_written title desc h FormatVersion = codes "1" ∷ []
-values_written title desc h GameName = title ∷ []
+values_written title desc h Title = title ∷ []
 values_written title desc h (ParamsOf whose) = params_text (params_of h whose) ∷ []
 values_written title desc h Desc = desc ∷ []
 values_written title desc h PrivateDesc = []

@@ -23,7 +23,7 @@ use Rattle.play_save.specs.declared.key.WhoseParams.TheVariants.{Next, Current}
 use Rattle.play_save.specs.declared.key.WhichCount.{WhichCount}
 use Rattle.play_save.specs.declared.key.WhichCount.TheVariants.{States, Position}
 use Rattle.play_save.specs.declared.key.HeaderKey.{HeaderKey}
-use Rattle.play_save.specs.declared.key.HeaderKey.TheVariants.{SaveFile, FormatVersion, GameName, ParamsOf, Desc, PrivateDesc, Kept, Count}
+use Rattle.play_save.specs.declared.key.HeaderKey.TheVariants.{SaveFile, FormatVersion, Title, ParamsOf, Desc, PrivateDesc, Kept, Count}
 use Rattle.play_save.specs.declared.key.Key.{Key}
 use Rattle.play_save.specs.declared.key.Key.TheVariants.{Header, State, Other}
 use Rattle.play_save.specs.declared.save_format.TheConstants.{MOST_BYTES}
@@ -111,7 +111,7 @@ behind_counts m fault = if is_some (count_met m States) && is_some (count_met m 
 abbrev pub value_fault : {P : Type 0} → SavedGame P → MetValue → HeaderKey → List ℕ → Option LoadFault
 value_fault game m SaveFile value = Some Repeated
 value_fault game m FormatVersion value = fault_unless (bytes_eq value (codes "1")) Version
-value_fault game m GameName value = fault_unless (bytes_eq value game.title) WrongGame
+value_fault game m Title value = fault_unless (bytes_eq value game.title) WrongGame
 value_fault game m (ParamsOf whose) value = params_fault (saved_params_at game value)
 value_fault game m Desc value = None
 value_fault game m PrivateDesc value = Some Unsupported
@@ -204,7 +204,7 @@ session_at game m params next_params desc position =
 -- the session of what was met, or the first thing that is missing or wrong
 unfoldable pub session_of : {P : Type 0} → SavedGame P → MetValue → Result (History P) LoadFault
 session_of game m =
-    unless (fault_unless (is_some (m.first FormatVersion) && is_some (m.first GameName)) Missing)
+    unless (fault_unless (is_some (m.first FormatVersion) && is_some (m.first Title)) Missing)
     (ok_or (params_met game m Next) Missing >>= λ next_params. ok_or (params_met game m Current) Missing >>= λ params.
     ok_or (m.first Desc) Missing >>= λ desc. ok_or (count_met m Position) Missing >>= λ position.
     session_at game m params next_params desc position)

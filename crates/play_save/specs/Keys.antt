@@ -10,7 +10,7 @@ use Rattle.play_save.specs.declared.key.KeptKey.TheVariants.{Seed, AuxInfo, Ui, 
 use Rattle.play_save.specs.declared.key.WhichCount.{WhichCount}
 use Rattle.play_save.specs.declared.key.WhichCount.TheVariants.{States, Position}
 use Rattle.play_save.specs.declared.key.HeaderKey.{HeaderKey}
-use Rattle.play_save.specs.declared.key.HeaderKey.TheVariants.{SaveFile, FormatVersion, GameName, ParamsOf, Desc, PrivateDesc, Kept, Count}
+use Rattle.play_save.specs.declared.key.HeaderKey.TheVariants.{SaveFile, FormatVersion, Title, ParamsOf, Desc, PrivateDesc, Kept, Count}
 use Rattle.play_save.specs.declared.key.Key.{Key}
 use Rattle.play_save.specs.declared.key.Key.TheVariants.{Header, State, Other}
 use Rattle.byte_text.specs.Bytes.{space}
@@ -33,7 +33,7 @@ count_rank Position = 11
 abbrev pub rank : HeaderKey → ℕ
 rank SaveFile = 0
 rank FormatVersion = 1
-rank GameName = 2
+rank Title = 2
 rank (ParamsOf whose) = params_rank whose
 rank Desc = 6
 rank (Kept k) = kept_rank k
@@ -63,7 +63,7 @@ count_name Position = codes "STATEPOS"
 abbrev pub header_name : HeaderKey → List ℕ
 header_name SaveFile = codes "SAVEFILE"
 header_name FormatVersion = codes "VERSION"
-header_name GameName = codes "GAME"
+header_name Title = codes "GAME"
 header_name (ParamsOf whose) = params_name whose
 header_name Desc = codes "DESC"
 header_name (Kept k) = kept_name k
@@ -95,7 +95,7 @@ pair_key_of name =
 abbrev pub header_key_of : List ℕ → Key
 header_key_of name =
     if bytes_eq name (codes "SAVEFILE") then Header SaveFile else (if bytes_eq name (codes "VERSION") then Header FormatVersion
-    else (if bytes_eq name (codes "GAME") then Header GameName else (if bytes_eq name (codes "DESC") then Header Desc
+    else (if bytes_eq name (codes "GAME") then Header Title else (if bytes_eq name (codes "DESC") then Header Desc
     else (if bytes_eq name (codes "PRIVDESC") then Header PrivateDesc else pair_key_of name))))
 
 unfoldable pub key_of : List ℕ → Key

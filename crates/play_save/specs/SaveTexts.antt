@@ -20,7 +20,7 @@ use Rattle.play_save.specs.declared.key.WhoseParams.TheVariants.{Next, Current}
 use Rattle.play_save.specs.declared.key.WhichCount.{WhichCount}
 use Rattle.play_save.specs.declared.key.WhichCount.TheVariants.{States, Position}
 use Rattle.play_save.specs.declared.key.HeaderKey.{HeaderKey}
-use Rattle.play_save.specs.declared.key.HeaderKey.TheVariants.{SaveFile, FormatVersion, GameName, ParamsOf, Desc, PrivateDesc, Kept, Count}
+use Rattle.play_save.specs.declared.key.HeaderKey.TheVariants.{SaveFile, FormatVersion, Title, ParamsOf, Desc, PrivateDesc, Kept, Count}
 use Rattle.play_save.specs.Keys.{kept_at}
 use Rattle.play_save.specs.Records.{Entry, BeginsWith}
 use Rattle.play_save.specs.KeyedRecords.{KeyedRecord, KeyedState, BeginsWithAll, values_of, states_in, IsOne, once_if_kept, CountsStandFirst, EndsWithState}
@@ -93,7 +93,7 @@ count_of h Position = h.position
 abbrev pub HasValues : {P : Type 0} → SavedGame P → History P → HeaderKey → List (List ℕ) → Type 0
 HasValues game h SaveFile values = values ≡ []
 HasValues game h FormatVersion values = values ≡ codes "1" ∷ []
-HasValues game h GameName values = values ≡ game.title ∷ []
+HasValues game h Title values = values ≡ game.title ∷ []
 HasValues game h (ParamsOf whose) values = IsOne (IsParamText game.letters (params_of h whose)) values
 HasValues game h Desc values = IsOne (game.Describes h.params.size h.puzzle) values
 HasValues game h PrivateDesc values = values ≡ []

@@ -13,7 +13,7 @@ use Rattle.play_save.specs.declared.key.WhoseParams.TheVariants.{Next, Current}
 use Rattle.play_save.specs.declared.key.Key.{Key}
 use Rattle.play_save.specs.declared.key.WhichCount.TheVariants.{States, Position}
 use Rattle.play_save.specs.declared.key.HeaderKey.{HeaderKey}
-use Rattle.play_save.specs.declared.key.HeaderKey.TheVariants.{SaveFile, FormatVersion, GameName, ParamsOf, Desc, Kept, Count}
+use Rattle.play_save.specs.declared.key.HeaderKey.TheVariants.{SaveFile, FormatVersion, Title, ParamsOf, Desc, Kept, Count}
 use Rattle.play_save.specs.declared.key.Key.TheVariants.{Header, State}
 use Rattle.play_save.specs.Keys.{key_name, padded}
 use Rattle.play_save.specs.KeyedRecords.{KeyedRecord, KeyedState}
@@ -53,7 +53,7 @@ state_record desc m = with_value (State (state_value desc m).key) (state_value d
 -- the version, the game's name and the parameters
 abbrev pub game_records : {P : Type 0} → List ℕ → History P → List KeyedRecord
 game_records title h =
-    header_record FormatVersion (codes "1") ∷ header_record GameName title ∷ header_record (ParamsOf Next) (params_text h.next_params)
+    header_record FormatVersion (codes "1") ∷ header_record Title title ∷ header_record (ParamsOf Next) (params_text h.next_params)
     ∷ header_record (ParamsOf Current) (params_text h.params) ∷ []
 
 -- the same behind the record that names the format

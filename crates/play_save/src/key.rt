@@ -53,7 +53,7 @@ pub(crate) enum HeaderKey {
     /// `VERSION`, of the format.
     FormatVersion,
     /// `GAME`, the game's name.
-    GameName,
+    Title,
     /// The parameters of a game.
     ParamsOf(WhoseParams),
     /// `DESC`, the description of the puzzle.
@@ -85,7 +85,7 @@ impl HeaderKey {
         match self {
             HeaderKey::SaveFile => 0,
             HeaderKey::FormatVersion => 1,
-            HeaderKey::GameName => 2,
+            HeaderKey::Title => 2,
             HeaderKey::ParamsOf(WhoseParams::Next) => 3,
             HeaderKey::ParamsOf(WhoseParams::Current) => 4,
             HeaderKey::Kept(KeptKey::Seed) => 5,
@@ -126,7 +126,7 @@ impl Key {
         } else if name == b"VERSION".as_slice() {
             Key::Header(HeaderKey::FormatVersion)
         } else if name == b"GAME".as_slice() {
-            Key::Header(HeaderKey::GameName)
+            Key::Header(HeaderKey::Title)
         } else if name == b"DESC".as_slice() {
             Key::Header(HeaderKey::Desc)
         } else if name == b"PRIVDESC".as_slice() {
@@ -177,7 +177,7 @@ impl Key {
         match self {
             Key::Header(HeaderKey::SaveFile) => b"SAVEFILE",
             Key::Header(HeaderKey::FormatVersion) => b"VERSION ",
-            Key::Header(HeaderKey::GameName) => b"GAME    ",
+            Key::Header(HeaderKey::Title) => b"GAME    ",
             Key::Header(HeaderKey::ParamsOf(WhoseParams::Next)) => b"PARAMS  ",
             Key::Header(HeaderKey::ParamsOf(WhoseParams::Current)) => b"CPARAMS ",
             Key::Header(HeaderKey::Kept(KeptKey::Seed)) => b"SEED    ",

@@ -176,7 +176,7 @@ fn session<P: Game>(alloc: Global, met: &Met) -> Result<Session<P>, LoadFault>
     ensures { GivesUnless LoadFault.OutOfMemory (λ s. s) result
         (session_of (saves_of P.Rules P.Game.own) (met_of met.now)) }
 {
-    if met.first(HeaderKey::FormatVersion).is_none() || met.first(HeaderKey::GameName).is_none() {
+    if met.first(HeaderKey::FormatVersion).is_none() || met.first(HeaderKey::Title).is_none() {
         return Err(LoadFault::Missing);
     }
     let next_params = met

@@ -1,10 +1,10 @@
 //! What the records of a save file say, met one by one.
 
-ghost use Rattle.std.specs.Prelude.{◌≡◌, Some, None, ok_or, option_and_then, [], OnOk, IfErr};
-ghost use Rattle.std.specs.Result.{result_ok, result_err};
+ghost use Rattle.std.specs.Prelude.{◌≡◌, Some, None, [], OnOk, IfErr};
+ghost use Rattle.std.specs.Result.{result_err};
 ghost use Rattle.play_save.specs.declared.key.Key.TheVariants.{Header, State};
 ghost use Rattle.play_save.specs.SaveTexts.{saves_of};
-ghost use Rattle.play_save.specs.FirstFaults.{met, params_met, count_met, is_complete, count_at, fault_unless, go_together, count_fault, other_count, state_fault, value_fault, saved_params_at};
+ghost use Rattle.play_save.specs.FirstFaults.{met, params_met, count_met, is_complete, count_at, fault_unless, go_together, count_fault, other_count, state_fault, value_fault};
 ghost use Rattle.play_save.specs.Inner.Taking.{bytes_of, met_of, added, Taken};
 
 use crate::fault::LoadFault;
@@ -178,7 +178,7 @@ impl<'a> Met<'a> {
         match key {
             HeaderKey::SaveFile => Err(LoadFault::Repeated),
             HeaderKey::FormatVersion => refuse_unless(value == b"1".as_slice(), LoadFault::Version),
-            HeaderKey::GameName => {
+            HeaderKey::Title => {
                 refuse_unless(value == P::name().as_bytes(), LoadFault::WrongGame)
             }
             HeaderKey::ParamsOf(_) => match Params::read::<P>(value) {

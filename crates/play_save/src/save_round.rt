@@ -17,7 +17,7 @@ use trail_solver::Rules;
 /// Saves a session and loads what was written: where both succeed, it is the session again, its later moves included, and it
 /// shows the same board.
 ///
-/// A session that can be stored, and whose text is within the size that `load` takes, is refused for want of memory alone.
+/// A session that can be stored, and whose text is within the size that `load` takes, is refused for memory alone.
 pub fn saved_and_loaded<P: Game>(
     alloc: Global,
     session: &Session<P>,

@@ -57,7 +57,7 @@ fn put_head<P: Game>(text: &mut Vec<u8>, session: &Session<P>) -> Result<(), All
 {
     put(text, Key::Header(HeaderKey::SaveFile), COLLECTION)?;
     put(text, Key::Header(HeaderKey::FormatVersion), b"1")?;
-    put(text, Key::Header(HeaderKey::GameName), P::name().as_bytes())?;
+    put(text, Key::Header(HeaderKey::Title), P::name().as_bytes())?;
     put(
         text,
         Key::Header(HeaderKey::ParamsOf(WhoseParams::Next)),

@@ -8,7 +8,7 @@ use Rattle.play_midend.specs.declared.fault.PlayFault.TheVariants.{OutOfMemory}
 use Rattle.play_midend.specs.declared.moves.Move.{Move}
 use Rattle.play_midend.specs.MoveTexts.{IsMoveText, move_fault}
 use Rattle.play_midend.specs.Histories.{History, IsRefusal, IsSolveRefusal, SolveGives}
-use Rattle.play_midend.specs.Laws.{Call, ToSolution, CallGives, Answered, may_want_memory}
+use Rattle.play_midend.specs.Laws.{Call, ToSolution, CallGives, Answered, may_take_memory}
 use Rattle.puzzle_cli.specs.declared.command.Request.TheVariants.{Act}
 use Rattle.puzzle_cli.specs.declared.command.Action.{Action}
 use Rattle.puzzle_cli.specs.declared.command.Action.TheVariants.{Play, Solve}
@@ -26,7 +26,7 @@ module _ {P : Type 0} (p : Puzzle) (h new : History P) where
   -- a call's answer, out of what the call promises
   pub answered : (action : Action (List ℕ)) (call : Call) (exact : Result (History P) PlayFault) (result : Result (Unit {0}) PlayFault)
       → IsCallRead action (Ok call) → CallGives p h call exact → OnOk result (exact ≡ Ok new) → OnErr result (new ≡ h)
-      → IfErr result (λ fault. MatchBool (may_want_memory call) (IsRefusal exact fault) (exact ≡ Err fault))
+      → IfErr result (λ fault. MatchBool (may_take_memory call) (IsRefusal exact fault) (exact ≡ Err fault))
       → ActionAnswered p h action result new
   answered action call exact (Ok u) read gives ok err why = (Ok call, read, subst (λ (x : Result (History P) PlayFault). CallGives p h call x) ok gives)
   answered action call exact (Err fault) read gives ok err why = (Ok call, read, (err, (exact, gives, why)))
@@ -53,13 +53,13 @@ still_other Solve n = absurd (n refl)
 still_other action n = λ e. cc
 
 -- a call that was refused so is exactly refused so, or found no memory
-refused_or_lacks : {P : Type 0} (exact : Result (History P) PlayFault) (fault : PlayFault) (wants : Bool)
-    → MatchBool wants (IsRefusal exact fault) (exact ≡ Err fault)
-    → (exact ≡ Err fault) ⊎ ((wants ≡ true) × (fault ≡ OutOfMemory) × ((k : History P) × (exact ≡ Ok k)))
-refused_or_lacks exact fault false why = inl why
-refused_or_lacks (Ok k) OutOfMemory true why = inr (refl, refl, (k, refl))
-refused_or_lacks (Err other) OutOfMemory true why = cc
-refused_or_lacks exact fault true why = inl why
+refused_or_no_memory : {P : Type 0} (exact : Result (History P) PlayFault) (fault : PlayFault) (takes : Bool)
+    → MatchBool takes (IsRefusal exact fault) (exact ≡ Err fault)
+    → (exact ≡ Err fault) ⊎ ((takes ≡ true) × (fault ≡ OutOfMemory) × ((k : History P) × (exact ≡ Ok k)))
+refused_or_no_memory exact fault false why = inl why
+refused_or_no_memory (Ok k) OutOfMemory true why = inr (refl, refl, (k, refl))
+refused_or_no_memory (Err other) OutOfMemory true why = cc
+refused_or_no_memory exact fault true why = inl why
 
 module _ {P : Type 0} (f : GameFacts P) (h new : History P) where
   abbrev IsExplained : Action (List ℕ) → Refusal → Type 0
@@ -70,7 +70,7 @@ module _ {P : Type 0} (f : GameFacts P) (h new : History P) where
       → call_sentence call fault ≡ None → Answered (f.rules.puzzle h.puzzle) h call (Err fault) new
       → IsExplained action (TheVariants.Play fault)
   call_explained action call fault read none (stays, (exact, gives, why)) =
-      elim (refused_or_lacks exact fault (may_want_memory call) why) [
+      elim (refused_or_no_memory exact fault (may_take_memory call) why) [
         | inl is ↦ inl (
           Ok call,
           read,
@@ -80,13 +80,13 @@ module _ {P : Type 0} (f : GameFacts P) (h new : History P) where
             ap (λ (s : Option (List ℕ)). sentence_outcome h s fault) (sym none),
           ),
         )
-        | inr lacks ↦ inr (
+        | inr refused ↦ inr (
           (
             call,
             read,
-            (lacks.2.0, subst (λ (x : Result (History P) PlayFault). CallGives (f.rules.puzzle h.puzzle) h call x) lacks.2.1 gives, lacks.0),
+            (refused.2.0, subst (λ (x : Result (History P) PlayFault). CallGives (f.rules.puzzle h.puzzle) h call x) refused.2.1 gives, refused.0),
           ),
-          ap (λ (fault : PlayFault). refusal_name (TheVariants.Play fault)) lacks.1,
+          ap (λ (fault : PlayFault). refusal_name (TheVariants.Play fault)) refused.1,
         )
       ]
 

@@ -5,8 +5,8 @@ use Rattle.play_midend.specs.declared.fault.PlayFault.{PlayFault}
 use Rattle.play_midend.specs.declared.fault.PlayFault.TheVariants.{OutOfMemory}
 use Rattle.play_midend.specs.Faults.{play_fault_name}
 use Rattle.play_midend.specs.Histories.{History, IsRefusal}
-use Rattle.play_midend.specs.Laws.{Call, ToSolution, CallGives, may_want_memory}
-use Rattle.play_midend.proofs.SparedMemory.{call_spares, exact_refusal}
+use Rattle.play_midend.specs.Laws.{Call, ToSolution, CallGives, may_take_memory}
+use Rattle.play_midend.proofs.NotForMemory.{call_not_for_memory, exact_refusal}
 use Rattle.puzzle_cli.specs.declared.command.Command.TheVariants.{Ask}
 use Rattle.puzzle_cli.specs.declared.command.Request.{Request}
 use Rattle.puzzle_cli.specs.declared.command.Request.TheVariants.{Act, Tell, Listing}
@@ -41,10 +41,10 @@ module _ {P : Type 0} (f : GameFacts P) (h : History P) where
   -- an exact refusal is one, whether the call takes memory or not
   refused_so : (call : Call) (fault : PlayFault) → fault ≢ OutOfMemory
       → (let exact : Result (History P) PlayFault = Err fault in
-      MatchBool (may_want_memory call) (IsRefusal exact fault) (exact ≡ Err fault))
+      MatchBool (may_take_memory call) (IsRefusal exact fault) (exact ≡ Err fault))
   refused_so call fault n =
       let exact : Result (History P) PlayFault = Err fault in
-      elim (may_want_memory call) as (λ b. MatchBool b (IsRefusal exact fault) (exact ≡ Err fault)) [
+      elim (may_take_memory call) as (λ b. MatchBool b (IsRefusal exact fault) (exact ≡ Err fault)) [
         | true ↦ exact_refusal (History P) fault n
         | false ↦ refl
       ]
@@ -63,22 +63,22 @@ module _ {P : Type 0} (f : GameFacts P) (h : History P) where
   exactly_answered call (Ok k) outcome gives (text, said, is) =
       subst (λ (o : Outcome P). Answers call (written (Some h) o)) (sym is) (Ok tt, gives, said_made call k text said)
   exactly_answered call (Err fault) outcome gives is =
-      let spares : fault ≢ OutOfMemory = λ e. call_spares (f.rules.puzzle h.puzzle) h call
+      let not_for_memory : fault ≢ OutOfMemory = λ e. call_not_for_memory (f.rules.puzzle h.puzzle) h call
       (subst (λ (e : PlayFault). CallGives (f.rules.puzzle h.puzzle) h call (Err e)) e gives) in
       subst (Answers call) (sym (ap (written (Some h)) is ∙ sentence_written (call_sentence call fault) fault))
-      (Err fault, (refl, (Err fault, gives, refused_so call fault spares)), refl)
+      (Err fault, (refl, (Err fault, gives, refused_so call fault not_for_memory)), refl)
 
-  lack_told : (call : Call) → IsRefused call OutOfMemory (refusal_line (codes "OutOfMemory"))
-  lack_told ToSolution = refl
-  lack_told call = refl
+  no_memory_told : (call : Call) → IsRefused call OutOfMemory (refusal_line (codes "OutOfMemory"))
+  no_memory_told ToSolution = refl
+  no_memory_told call = refl
 
-  -- want of memory in place of success
-  lacking : (call : Call) → CallTakesMemory (f.rules.puzzle h.puzzle) h call → Answers call (refusal_line (codes "OutOfMemory"), Some h)
-  lacking call (k, gives, wants) =
+  -- OutOfMemory in place of success
+  no_memory_answered : (call : Call) → CallTakesMemory (f.rules.puzzle h.puzzle) h call → Answers call (refusal_line (codes "OutOfMemory"), Some h)
+  no_memory_answered call (k, gives, takes) =
       let exact : Result (History P) PlayFault = Ok k in
-      let why : MatchBool (may_want_memory call) (IsRefusal exact OutOfMemory) (exact ≡ Err OutOfMemory) =
-      subst (λ (b : Bool). MatchBool b (IsRefusal exact OutOfMemory) (exact ≡ Err OutOfMemory)) (sym wants) refl in
-      (Err OutOfMemory, (refl, (exact, gives, why)), lack_told call)
+      let why : MatchBool (may_take_memory call) (IsRefusal exact OutOfMemory) (exact ≡ Err OutOfMemory) =
+      subst (λ (b : Bool). MatchBool b (IsRefusal exact OutOfMemory) (exact ≡ Err OutOfMemory)) (sym takes) refl in
+      (Err OutOfMemory, (refl, (exact, gives, why)), no_memory_told call)
 
   -- ---- a request: a call is answered, or the session left
 
@@ -97,7 +97,7 @@ module _ {P : Type 0} (f : GameFacts P) (h : History P) where
         (written_by (Some h) new bytes outcome _ out e).1,
       )
   request_told (Act action) bytes new (inr ((call, is, takes), name, stays)) =
-      inl (call, is, subst (Answers call) (let said : (refusal_line (codes "OutOfMemory"), Some h) ≡ (bytes, new) = cc in said) (lacking call takes))
+      inl (call, is, subst (Answers call) (let said : (refusal_line (codes "OutOfMemory"), Some h) ≡ (bytes, new) = cc in said) (no_memory_answered call takes))
   request_told (Tell view) bytes new (inl (outcome, out, e)) = inr ((λ call never. never), (written_by (Some h) new bytes outcome _ out e).1)
   request_told (Listing n) bytes new (inl (outcome, (listed, first, out), e)) =
       inr ((λ call never. never), (written_by (Some h) new bytes outcome _ out e).1)

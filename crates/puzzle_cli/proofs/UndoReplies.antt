@@ -6,7 +6,7 @@ use Rattle.trail_solver.specs.Puzzles.{Puzzle}
 use Rattle.play_midend.specs.declared.fault.PlayFault.{PlayFault}
 use Rattle.play_midend.specs.Faults.{play_fault_name}
 use Rattle.play_midend.specs.Histories.{History, IsValid, undone, redone}
-use Rattle.play_midend.specs.Laws.{Call, IsSameBack, may_want_memory}
+use Rattle.play_midend.specs.Laws.{Call, IsSameBack, may_take_memory}
 use Rattle.play_midend.specs.Laws
 use Rattle.play_midend.proofs.SessionLaws.{call_taken_back, redo_takes_undo_back}
 use Rattle.puzzle_cli.specs.declared.command.Command.TheVariants.{Ask}
@@ -38,18 +38,18 @@ undo_said {P} f p h k said (Some z) back (Err fault, (stays, (exact, gives, is))
     absurd (subst (λ (r : Result (History P) PlayFault). IsOkAnd r (IsSameBack p h)) (sym gives ∙ is) back)
 
 after_made : {P : Type 0} (f : GameFacts P) (h : History P) (call : Call) (bytes said : List ℕ) (new last : Option (History P))
-    → IsValid (f.rules.puzzle h.puzzle) h → may_want_memory call ≡ true → IsMade call bytes → AnswersCall f h call bytes new
+    → IsValid (f.rules.puzzle h.puzzle) h → may_take_memory call ≡ true → IsMade call bytes → AnswersCall f h call bytes new
     → Reply f new undo_line said last → (said ≡ ok_line) × IsSomeAnd last (IsSameBack (f.rules.puzzle h.puzzle) h)
-after_made f h call bytes said None last valid wants made answer reply = absurd answer
-after_made f h call bytes said (Some k) last valid wants made (Ok u, gives, told) reply =
-    undo_said f (f.rules.puzzle h.puzzle) h k said last (call_taken_back f.rules.puzzle h k call valid wants gives)
+after_made f h call bytes said None last valid takes made answer reply = absurd answer
+after_made f h call bytes said (Some k) last valid takes made (Ok u, gives, told) reply =
+    undo_said f (f.rules.puzzle h.puzzle) h k said last (call_taken_back f.rules.puzzle h k call valid takes gives)
     (replies_are_calls f k undo_line (Act Undo) Laws.Undo said last undo_asks refl reply)
-after_made f h call bytes said (Some k) last valid wants made (Err fault, gives, told) reply =
+after_made f h call bytes said (Some k) last valid takes made (Err fault, gives, told) reply =
     let no_ok : IsOk {T = Unit {0}} {E = PlayFault} (Err fault) = told_made call (Err fault) bytes told made in cc
 
 pub undo_line_takes_back : {P : Type 0} (f : GameFacts P) → UndoLineTakesBack f
-undo_line_takes_back f h line request call bytes said new last valid asks is wants made reply again =
-    after_made f h call bytes said new last valid wants made (replies_are_calls f h line request call bytes new asks is reply) again
+undo_line_takes_back f h line request call bytes said new last valid asks is takes made reply again =
+    after_made f h call bytes said new last valid takes made (replies_are_calls f h line request call bytes new asks is reply) again
 
 -- what is said of a redo that succeeds
 redo_said : {P : Type 0} (f : GameFacts P) (h k : History P) (said : List ℕ) (last : Option (History P)) → redone k ≡ Ok h

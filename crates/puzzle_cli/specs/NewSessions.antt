@@ -1,7 +1,7 @@
 -- What a game ID gives as a session: that of the puzzle that is described, or of the one that is generated from a seed.
 use Rattle.std.specs.Prelude.{◌≡◌, ◌⊎◌, List, ℕ, None, Result, Ok, Err}
 use Rattle.clue_rules.specs.declared.id_fault.IdFault.{IdFault}
-use Rattle.clue_rules.specs.declared.id_fault.IdFault.TheVariants.{OutOfMemory as IdMemory}
+use Rattle.clue_rules.specs.declared.id_fault.IdFault.TheVariants.{OutOfMemory as IdOutOfMemory}
 use Rattle.clue_rules.specs.declared.params.Params.{Params}
 use Rattle.clue_rules.specs.declared.game_id.GameId.{GameId}
 use Rattle.clue_rules.specs.declared.game_id.GameId.TheVariants.{Described, Seeded}
@@ -31,9 +31,9 @@ abbrev pub generated_game : {P : Type 0} → Params → Result P GenFault → Re
 generated_game params (Ok puzzle) = Ok (new_game params puzzle)
 generated_game params (Err fault) = Err (Gen fault)
 
--- the refusal for a fault of an ID: want of memory is want of memory
+-- the refusal for a fault of an ID: OutOfMemory is OutOfMemory
 abbrev pub id_refusal : IdFault → StartFault
-id_refusal IdMemory = OutOfMemory
+id_refusal IdOutOfMemory = OutOfMemory
 id_refusal fault = Id fault
 
 -- what an ID gives that was read so
@@ -47,7 +47,7 @@ IdBegins f (Err fault) exact = Err (id_refusal fault) ≡ exact
 abbrev pub TextBegins : {P : Type 0} → GameFacts P → List ℕ → Result (History P) StartFault → Type 0
 TextBegins {P} f text exact = (read : Result (GameId P) IdFault) × IsIdRead f text read × IdBegins f read exact
 
--- The refusal is what comes with ample memory, or want of memory in place of a session.
+-- The refusal is what comes with ample memory, or OutOfMemory in place of a session.
 abbrev pub IsStartRefusal : {P : Type 0} → (Result (History P) StartFault → Type 0) → StartFault → Type 0
 IsStartRefusal {P} Comes fault =
     Comes (Err fault) ⊎ ((fault ≡ OutOfMemory) × ((session : History P) × Comes (Ok session)))

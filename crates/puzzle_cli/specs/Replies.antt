@@ -48,7 +48,7 @@ ReadTakesMemory f old (Ok None) = ⊥
 ReadTakesMemory f old (Ok (Some command)) = CommandTakesMemory f old command
 ReadTakesMemory f old (Err fault) = ⊥
 
--- the refusal is what is said, or want of memory in place of an answer that takes some
+-- the refusal is what is said, or OutOfMemory in place of an answer that takes some
 abbrev pub Explains : {A : Type 0} → (Result A Refusal → Type 0) → Type 0 → Refusal → Type 0
 Explains gives takes_memory refusal = gives (Err refusal) ⊎ (takes_memory × (refusal_name refusal ≡ codes "OutOfMemory"))
 
@@ -60,7 +60,7 @@ written old (Err refusal) = (refusal_line (refusal_name refusal), old)
 abbrev pub Writes : {P : Type 0} → (Outcome P → Type 0) → Option (History P) → List ℕ → Option (History P) → Type 0
 Writes {P} gives old bytes new = (outcome : Outcome P) × gives outcome × (written old outcome ≡ (bytes, new))
 
--- what is said to a line that was read, or want of memory in place of an answer that takes some
+-- what is said to a line that was read, or OutOfMemory in place of an answer that takes some
 abbrev pub ReadSays : {P : Type 0} → GameFacts P → Option (History P) → Reading (List ℕ) → List ℕ → Option (History P) → Type 0
 ReadSays f old read bytes new =
     Writes (ReadGives f old read) old bytes new
@@ -71,6 +71,6 @@ abbrev pub AmpleReply : {P : Type 0} → GameFacts P → Option (History P) → 
 AmpleReply f old line bytes new =
     (read : Reading (List ℕ)) × IsRead line read × Writes (ReadGives f old read) old bytes new
 
--- The reply to a line and the session that it leaves. The one choice is want of memory.
+-- The reply to a line and the session that it leaves. The one choice is OutOfMemory.
 abbrev pub Reply : {P : Type 0} → GameFacts P → Option (History P) → Line → List ℕ → Option (History P) → Type 0
 Reply f old line bytes new = (read : Reading (List ℕ)) × IsRead line read × ReadSays f old read bytes new

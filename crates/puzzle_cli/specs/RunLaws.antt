@@ -6,7 +6,7 @@ use Rattle.play_midend.specs.declared.fault.PlayFault.{PlayFault}
 use Rattle.play_midend.specs.declared.moves.Move.TheVariants.{Solve as Filling}
 use Rattle.play_midend.specs.Faults.{play_fault_name}
 use Rattle.play_midend.specs.Histories.{History, IsValid, IsStorable}
-use Rattle.play_midend.specs.Laws.{Call, ToSolution, IsSameBack, Answered, may_want_memory}
+use Rattle.play_midend.specs.Laws.{Call, ToSolution, IsSameBack, Answered, may_take_memory}
 use Rattle.puzzle_cli.specs.declared.command.Command.TheVariants.{Ask}
 use Rattle.puzzle_cli.specs.declared.command.Request.{Request}
 use Rattle.puzzle_cli.specs.declared.command.Request.TheVariants.{Act}
@@ -110,7 +110,7 @@ redo_line = Some (codes "redo")
 abbrev pub UndoLineTakesBack : {P : Type 0} → GameFacts P → Type 0
 UndoLineTakesBack {P} f =
     (h : History P) (line : Line) (request : Request (List ℕ)) (call : Call) (bytes said : List ℕ) (new last : Option (History P))
-    → IsValid (f.rules.puzzle h.puzzle) h → Asks line request → IsCallOf request call → may_want_memory call ≡ true → IsMade call bytes
+    → IsValid (f.rules.puzzle h.puzzle) h → Asks line request → IsCallOf request call → may_take_memory call ≡ true → IsMade call bytes
     → Reply f (Some h) line bytes new → Reply f new undo_line said last
     → (said ≡ ok_line) × IsSomeAnd last (IsSameBack (f.rules.puzzle h.puzzle) h)
 

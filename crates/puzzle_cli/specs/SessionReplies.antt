@@ -10,7 +10,7 @@ use Rattle.play_midend.specs.declared.moves.Move.{Move}
 use Rattle.play_midend.specs.MoveTexts.{IsMoveText, move_fault}
 use Rattle.play_midend.specs.Histories.{History, shown}
 use Rattle.play_midend.specs.Laws
-use Rattle.play_midend.specs.Laws.{Call, FromStart, ToSolution, CallGives, may_want_memory}
+use Rattle.play_midend.specs.Laws.{Call, FromStart, ToSolution, CallGives, may_take_memory}
 use Rattle.puzzle_cli.specs.declared.command.Request.{Request}
 use Rattle.puzzle_cli.specs.declared.command.Request.TheVariants.{Act, Tell, Listing}
 use Rattle.puzzle_cli.specs.declared.command.Action.{Action}
@@ -81,7 +81,7 @@ CallReplies {P} p h call outcome = (exact : Result (History P) PlayFault) × Cal
 
 -- The call takes memory, and nothing else refuses it.
 abbrev pub CallTakesMemory : {P : Type 0} → Puzzle → History P → Call → Type 0
-CallTakesMemory {P} p h call = (new : History P) × CallGives p h call (Ok new) × (may_want_memory call ≡ true)
+CallTakesMemory {P} p h call = (new : History P) × CallGives p h call (Ok new) × (may_take_memory call ≡ true)
 
 -- what is said to a call that was read, or to a text that is no move
 abbrev pub ReadReplies : {P : Type 0} → Puzzle → History P → Result Call PlayFault → Outcome P → Type 0

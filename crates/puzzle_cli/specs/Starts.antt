@@ -3,7 +3,7 @@ use Rattle.std.specs.Prelude.{◌≡◌, ◌⊎◌, Result, Err}
 use Rattle.play_midend.specs.Histories.{History}
 use Rattle.play_save.specs.SaveTexts.{SavedGame, saved_game}
 use Rattle.play_save.specs.declared.fault.LoadFault.{LoadFault}
-use Rattle.play_save.specs.declared.fault.LoadFault.TheVariants.{OutOfMemory as LoadMemory}
+use Rattle.play_save.specs.declared.fault.LoadFault.TheVariants.{OutOfMemory as LoadOutOfMemory}
 use Rattle.puzzle_cli.specs.declared.start.start_fault.StartFault.{StartFault}
 use Rattle.puzzle_cli.specs.declared.start.start_fault.StartFault.TheVariants.{Load, OutOfMemory}
 use Rattle.puzzle_cli.specs.GameFacts.{GameFacts}
@@ -12,11 +12,11 @@ use Rattle.puzzle_cli.specs.GameFacts.{GameFacts}
 abbrev pub saved_facts : {P : Type 0} → GameFacts P → SavedGame P
 saved_facts f = saved_game f.title f.letters f.has_adjacent f.rules.puzzle f.rules.valid f.describes f.desc_at f.desc_of
 
--- the refusal for a fault of a save: want of memory is want of memory
+-- the refusal for a fault of a save: OutOfMemory is OutOfMemory
 abbrev pub load_refusal : LoadFault → StartFault
-load_refusal LoadMemory = OutOfMemory
+load_refusal LoadOutOfMemory = OutOfMemory
 load_refusal fault = Load fault
 
--- The refusal is the first fault of a text that is no save, or want of memory.
+-- The refusal is the first fault of a text that is no save, or OutOfMemory.
 abbrev pub IsFileRefusal : {P : Type 0} → Result (History P) LoadFault → StartFault → Type 0
 IsFileRefusal read fault = (fault ≡ OutOfMemory) ⊎ ((inner : LoadFault) × (read ≡ Err inner) × (fault ≡ Load inner))

@@ -23,7 +23,7 @@ use std::alloc::Global;
 /// The first session: the new one of a game ID, the one that was saved to a file, or none where neither is there.
 ///
 /// An ID is refused as `read_id` refuses its text, or as `generate` refuses its seed; a file as `load` refuses its bytes; and
-/// either for want of memory, which is `StartFault::OutOfMemory` also where the fault inside says so.
+/// either where memory is refused, which is `StartFault::OutOfMemory` also where the fault inside says so.
 pub fn begin<P: Draw>(
     alloc: Global,
     id: Option<&[u8]>,

@@ -118,16 +118,6 @@ none_seen zero v = refl
 none_seen (suc n) zero = refl
 none_seen (suc n) (suc v) = none_seen n v
 
--- the givens are numbers of each solution
-pub givens_found : (p : Puzzle) (found : GridValue) (k : ℕ) → found.size ≡ p.size → k ≡ p.size * p.size
-    → ((j : ℕ) → j < k → number_at found j ≡ p.given j) → (h : GridValue) → Solves p h → HasFound found h
-givens_found p found k size whole given h s = record {
-  each = λ cell within some.
-      let inside : cell < p.size * p.size = subst (λ (n : ℕ). cell < n * n) size within in
-      let here = given cell (omega arith) in
-      s.givens cell inside (omega (arith, here)) ∙ sym here;
-}
-
 -- one square more is written
 pub written_more : (old new : GridValue) (f : ℕ → ℕ) (k value : ℕ) → new.numbers ≡ set old.numbers k value
     → k < length old.numbers → value ≡ f k → ((j : ℕ) → j < k → number_at old j ≡ f j) → (j : ℕ) → j < k + 1

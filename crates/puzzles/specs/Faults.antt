@@ -1,7 +1,7 @@
 -- The statuses of the program, and its lines on standard error.
 use Rattle.std.specs.Prelude.{ℕ, List, [], codes}
 use Rattle.puzzle_cli.specs.declared.start.command_fault.CommandFault.TheVariants.{BadWords, HelpAsked}
-use Rattle.puzzle_cli.specs.declared.start.command_fault.CommandFault.TheVariants.{OutOfMemory as WordsMemory}
+use Rattle.puzzle_cli.specs.declared.start.command_fault.CommandFault.TheVariants.{OutOfMemory as WordsOutOfMemory}
 use Rattle.puzzle_cli.specs.CommandFault.{command_fault_status}
 use Rattle.puzzle_cli.specs.StartFault.{start_fault_status, start_fault_line}
 use Rattle.puzzle_cli.specs.End.{end_status, end_fault_line}
@@ -21,7 +21,7 @@ fault_status OutOfMemory = 1
 abbrev pub fault_line : Fault → List ℕ
 fault_line (Words (BadWords text)) = []
 fault_line (Words (HelpAsked text)) = []
-fault_line (Words WordsMemory) = codes "out of memory"
+fault_line (Words WordsOutOfMemory) = codes "out of memory"
 fault_line (Start fault) = start_fault_line fault
 fault_line (Run end) = end_fault_line end
 fault_line LoadFile = codes "cannot read the file"

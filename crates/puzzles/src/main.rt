@@ -115,7 +115,7 @@ fn keep<P: Draw>(
     save_file(rt, path, &text).map_err(|error| file_fault(&error, Fault::SaveFile))
 }
 
-// The fault of a file's error: want of memory is said as such.
+// The fault of a file's error: `OutOfMemory` is said as such.
 fn file_fault(error: &io::Error, fault: Fault) -> Fault {
     match error.kind() {
         io::ErrorKind::OutOfMemory => Fault::OutOfMemory,

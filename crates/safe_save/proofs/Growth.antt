@@ -3,10 +3,10 @@ use Rattle.std.proofs.Common.{◌≡◌, ◌≤◌, ◌+◌, inl, inr, ℕ, List
 use Rattle.std.proofs.lemmas.List.{take_all, take-append-le}
 use Rattle.std.proofs.lemmas.Bool.{cases_eq}
 use Rattle.safe_save.specs.Changes.{image_of, ChangesGoOn}
-use Rattle.safe_save.specs.declared.changes.Change.{Change}
+use Rattle.safe_save.specs.declared.changes.FolderChange.{FolderChange}
 
-module _ (old : List Change) (change : Change) where
-  abbrev grown : List Change
+module _ (old : List FolderChange) (change : FolderChange) where
+  abbrev grown : List FolderChange
   grown = old ++ change ∷ []
 
   size : length grown ≡ length old + 1

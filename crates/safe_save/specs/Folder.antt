@@ -1,6 +1,6 @@
 -- What a folder tells of itself, and what its calls do to that.
 use Rattle.std.specs.Prelude.{◌≡◌, ◌≢◌, ◌⊎◌, ℕ, ◌≤◌, ◌<◌, List, ◌++◌, Option, Some, None, Result, IfErr}
-use Rattle.safe_save.specs.declared.folder.Call.{Call}
+use Rattle.safe_save.specs.declared.folder.FolderCall.{FolderCall}
 use Rattle.safe_save.specs.declared.folder.FolderFault.{FolderFault}
 
 -- what stands at each name: the bytes of a file, or nothing
@@ -18,7 +18,7 @@ pub record FolderState : Type 1 where
   -- what a crash at some moment from that one on might have left, during a call or between two
   pub left_since : ℕ → Image → Type 0
   -- the moment, counted from 1, at which each kind of call last failed with each fault; 0 where it never did
-  pub last_failed : Call → FolderFault → ℕ
+  pub last_failed : FolderCall → FolderFault → ℕ
 
 -- what stands for the state of a folder that tells nothing
 abbrev pub untold : FolderState
@@ -82,18 +82,18 @@ pub record LeavesOnly (old new : FolderState) (P : Image → Type 0) : Type 0 wh
   pub before : (t : ℕ) (f : Image) → t ≤ old.moment → new.left_since t f → old.left_since t f ⊎ P f
 
 -- a call of this kind has failed with this fault at the moment of the old state or later
-abbrev pub FailedWith : Call → FolderFault → FolderState → FolderState → Type 0
+abbrev pub FailedWith : FolderCall → FolderFault → FolderState → FolderState → Type 0
 FailedWith call fault old new = old.moment < new.last_failed call fault
 
 -- a call of this kind has failed at the moment of the old state or later
-abbrev pub HasFailed : Call → FolderState → FolderState → Type 0
+abbrev pub HasFailed : FolderCall → FolderState → FolderState → Type 0
 HasFailed call old new = (fault : FolderFault) × FailedWith call fault old new
 
 -- no fault is forgotten
 abbrev pub KeepsFaults : FolderState → FolderState → Type 0
-KeepsFaults old new = (call : Call) (fault : FolderFault) → old.last_failed call fault ≤ new.last_failed call fault
+KeepsFaults old new = (call : FolderCall) (fault : FolderFault) → old.last_failed call fault ≤ new.last_failed call fault
 
 -- no fault is forgotten, and a fault is told only where a call of this kind has failed with it
-pub record HasCause {T : Type 0} (call : Call) (old new : FolderState) (result : Result T FolderFault) : Type 0 where
+pub record HasCause {T : Type 0} (call : FolderCall) (old new : FolderState) (result : Result T FolderFault) : Type 0 where
   pub later : KeepsFaults old new
   pub failed : IfErr result (λ fault. FailedWith call fault old new)

@@ -1,6 +1,6 @@
 -- What a folder tells of itself and what its calls do to that, and what a save promises.
 pub mod Changes
-pub mod Failures
+pub mod FailedCalls
 pub mod Folder
 pub mod Memory
 pub mod Places

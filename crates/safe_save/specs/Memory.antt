@@ -4,8 +4,8 @@ use Rattle.std.proofs.Common.{sym, ◌∙◌, ap, arith}
 use Rattle.std.proofs.lemmas.List.{take_all}
 use Rattle.safe_save.specs.Folder.{Image, FolderState, Same}
 use Rattle.safe_save.specs.Changes.{image_of, HasStood, told}
-use Rattle.safe_save.specs.Failures.{last_failed_of, to_come}
-use Rattle.safe_save.specs.declared.changes.Change.{Change}
+use Rattle.safe_save.specs.FailedCalls.{last_failed_of, to_come}
+use Rattle.safe_save.specs.declared.changes.FolderChange.{FolderChange}
 use Rattle.safe_save.specs.declared.failures.Failing.{Failing}
 use Rattle.safe_save.specs.declared.memory.MemoryFolder.{MemoryFolder}
 
@@ -22,10 +22,10 @@ abbrev pub memory_state : MemoryFolder → FolderState
 memory_state folder = told folder.changes.items (last_failed_of folder.failures)
 
 -- what stands there now has stood there since each moment up to now
-pub stands_now : (changes : List Change) (t : ℕ) (f : Image) → t ≤ length changes → Same (image_of changes) f → HasStood changes t f
+pub stands_now : (changes : List FolderChange) (t : ℕ) (f : Image) → t ≤ length changes → Same (image_of changes) f → HasStood changes t f
 stands_now changes t f le same =
     (length changes, le, omega arith, λ name. same name ∙ ap (λ all. image_of all name) (sym (take_all (length changes) changes (omega arith))))
 
 -- since the last change nothing else has stood there
-pub only_last : (changes : List Change) (f : Image) → HasStood changes (length changes) f → Same (image_of changes) f
+pub only_last : (changes : List FolderChange) (f : Image) → HasStood changes (length changes) f → Same (image_of changes) f
 only_last changes f stood = λ name. stood.3 name ∙ ap (λ all. image_of all name) (take_all stood.0 changes (omega (arith, stood.1)))

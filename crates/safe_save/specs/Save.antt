@@ -1,8 +1,8 @@
 -- What a save promises.
 use Rattle.std.specs.Prelude.{◌≡◌, ◌⊎◌, ℕ, List, Some, Result, Err}
 use Rattle.safe_save.specs.Folder.{Image, FolderState, Touched, Follows, LeavesOnly, KeepsFaults, FailedWith, HasFailed}
-use Rattle.safe_save.specs.declared.folder.Call.{Call}
-use Rattle.safe_save.specs.declared.folder.Call.TheVariants.{OpenNew, Write, TakeAfter, Flush, Rename, Overwrite, Remove}
+use Rattle.safe_save.specs.declared.folder.FolderCall.{FolderCall}
+use Rattle.safe_save.specs.declared.folder.FolderCall.TheVariants.{OpenNew, Write, TakeAfter, Flush, Rename, Overwrite, Remove}
 use Rattle.safe_save.specs.declared.folder.FolderFault.TheVariants.{Refused}
 use Rattle.safe_save.specs.declared.saving.SaveFault.{SaveFault}
 use Rattle.safe_save.specs.declared.saving.SaveFault.TheVariants.{Taken, NotSaved, LeftBeside}
@@ -45,7 +45,7 @@ abbrev pub KeepsBeside : List ℕ → FolderState → FolderState → Type 0
 KeepsBeside beside old new = Keeps beside old new ⊎ HasFailed Remove old new
 
 -- a call is one of those that make and fill the new file
-abbrev pub IsFilling : Call → Type 0
+abbrev pub IsFilling : FolderCall → Type 0
 IsFilling OpenNew = Unit {0}
 IsFilling TakeAfter = Unit {0}
 IsFilling Write = Unit {0}
@@ -54,7 +54,7 @@ IsFilling call = ⊥
 
 -- a call that makes or fills the new file has failed
 abbrev pub FillFailed : FolderState → FolderState → Type 0
-FillFailed old new = (call : Call) × IsFilling call × HasFailed call old new
+FillFailed old new = (call : FolderCall) × IsFilling call × HasFailed call old new
 
 -- a crash could have left at the path, before, what this image has there
 abbrev pub CouldStand : List ℕ → FolderState → Image → Type 0

@@ -8,13 +8,13 @@ use std::alloc::{AllocError, Global};
 
 // A change of a folder: the content stands at `name`, or nothing where there is none, and nothing at `gone`, if that is another name.
 #[derive(Drop)]
-pub(crate) struct Change {
+pub(crate) struct FolderChange {
     pub(crate) name: String,
     pub(crate) content: Option<Vec<u8>>,
     pub(crate) gone: String,
 }
 
-impl Change {
+impl FolderChange {
     ghost use Rattle.safe_save.specs.Changes.{changed};
 
     // What stands at the name after the change, where this stood there.
@@ -37,7 +37,7 @@ impl Change {
 }
 
 // What stands at the name in a folder that was empty before these changes.
-pub(crate) fn content_of<'a>(changes: &'a [Change], name: &str) -> Option<&'a [u8]>
+pub(crate) fn content_of<'a>(changes: &'a [FolderChange], name: &str) -> Option<&'a [u8]>
     ensures { option_map (λ bytes. bytes.now) result ≡ image_of changes.now name.now }
 {
     let mut content: Option<&[u8]> = None;
@@ -50,7 +50,7 @@ pub(crate) fn content_of<'a>(changes: &'a [Change], name: &str) -> Option<&'a [u
 // Makes a change, or leaves all as it was.
 fn add(
     alloc: Global,
-    changes: &mut Vec<Change>,
+    changes: &mut Vec<FolderChange>,
     name: &str,
     content: Option<Vec<u8>>,
     gone: &str,
@@ -61,7 +61,7 @@ fn add(
     ensures kept { OnErr result (StandsSame changes.old.items changes.new.items) }
     ensures time { ChangesGoOn changes.old.items changes.new.items }
 {
-    let change = Change {
+    let change = FolderChange {
         name: String::from_str(alloc, name)?,
         content,
         gone: String::from_str(alloc, gone)?,
@@ -73,7 +73,7 @@ fn add(
 // Puts the content under the name, or nothing where there is none.
 pub(crate) fn set_content(
     alloc: Global,
-    changes: &mut Vec<Change>,
+    changes: &mut Vec<FolderChange>,
     name: &str,
     content: Option<Vec<u8>>,
 ) -> Result<(), AllocError>
@@ -92,7 +92,7 @@ pub(crate) fn set_content(
 // Puts the bytes under the name.
 pub(crate) fn put(
     alloc: Global,
-    changes: &mut Vec<Change>,
+    changes: &mut Vec<FolderChange>,
     name: &str,
     bytes: &[u8],
 ) -> Result<(), AllocError>
@@ -109,7 +109,11 @@ pub(crate) fn put(
 }
 
 // A copy of what stands under the name, as bytes that can grow; nothing stands as none.
-fn copy_of(alloc: Global, changes: &[Change], name: &str) -> Result<Option<Vec<u8>>, AllocError>
+fn copy_of(
+    alloc: Global,
+    changes: &[FolderChange],
+    name: &str,
+) -> Result<Option<Vec<u8>>, AllocError>
     ensures { IfOk result (λ copy. option_map (λ bytes. bytes.items) copy
         ≡ image_of changes.now name.now) }
 {
@@ -122,7 +126,7 @@ fn copy_of(alloc: Global, changes: &[Change], name: &str) -> Result<Option<Vec<u
 // Puts the bytes under the name, after what stands there. Where nothing stands, nothing is put there.
 pub(crate) fn append(
     alloc: Global,
-    changes: &mut Vec<Change>,
+    changes: &mut Vec<FolderChange>,
     name: &str,
     bytes: &[u8],
 ) -> Result<(), AllocError>
@@ -147,7 +151,7 @@ pub(crate) fn append(
 // Puts what stands at one name under the other, and nothing stays where it stood.
 pub(crate) fn move_content(
     alloc: Global,
-    changes: &mut Vec<Change>,
+    changes: &mut Vec<FolderChange>,
     from: &str,
     to: &str,
 ) -> Result<(), AllocError>

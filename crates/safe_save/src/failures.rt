@@ -3,7 +3,7 @@
 ghost use Rattle.std.specs.Prelude.{◌≡◌, ◌+◌, ◌-◌, ◌^◌, ◌<◌, ◌==◌, ◌||◌, ◌&&◌, false, IfErr, is_err};
 ghost use Rattle.safe_save.specs.Places.{place_of};
 
-use crate::folder::{Call, FolderFault};
+use crate::folder::{FolderCall, FolderFault};
 
 /// Which calls of a folder over memory fail.
 #[derive(Clone, Copy, Debug, PartialEq, Eq)]
@@ -18,7 +18,7 @@ pub struct Failing {
 
 // The calls that are to fail, and when each kind of call last failed with each fault.
 #[derive(Drop)]
-pub(crate) struct Failures {
+pub(crate) struct FailedCalls {
     // the number of the call that fails, counted from 1, among those to come; 0: none
     pub(crate) fails_in: u64,
     pub(crate) stops: bool,
@@ -28,14 +28,14 @@ pub(crate) struct Failures {
     pub(crate) last: [usize; 24],
 }
 
-impl Failures {
-    ghost use Rattle.safe_save.specs.Failures.{last_failed_of, KeepsLast, to_come};
+impl FailedCalls {
+    ghost use Rattle.safe_save.specs.FailedCalls.{last_failed_of, KeepsLast, to_come};
 
-    pub(crate) fn new(failing: Failing) -> Failures
+    pub(crate) fn new(failing: Failing) -> FailedCalls
         ensures to_come { to_come result ≡ failing }
         ensures works { result.stopped ≡ false }
     {
-        Failures {
+        FailedCalls {
             fails_in: failing.at,
             stops: failing.stops,
             stopped: false,
@@ -45,7 +45,12 @@ impl Failures {
     }
 
     // Notes that a call of this kind has failed at this moment with this fault, and gives the fault back.
-    pub(crate) fn fail(&mut self, call: Call, fault: FolderFault, moment: usize) -> FolderFault
+    pub(crate) fn fail(
+        &mut self,
+        call: FolderCall,
+        fault: FolderFault,
+        moment: usize,
+    ) -> FolderFault
         requires { moment + 1 < 2 ^ 64 }
         ensures fault { result ≡ fault }
         ensures noted { moment < last_failed_of self.new call fault }
@@ -60,7 +65,7 @@ impl Failures {
     }
 
     // Counts a call, and fails it where it is the one to fail, or comes after that one in a machine that has stopped.
-    pub(crate) fn count_call(&mut self, call: Call, moment: usize) -> Result<(), FolderFault>
+    pub(crate) fn count_call(&mut self, call: FolderCall, moment: usize) -> Result<(), FolderFault>
         requires { moment + 1 < 2 ^ 64 }
         ensures fails { is_err result ≡ (self.old.stopped || self.old.fails_in == 1) }
         ensures stopped { self.new.stopped
@@ -82,7 +87,7 @@ impl Failures {
 }
 
 // Where the last failure of a kind of call with a fault is kept: both are counted in the order in which they are declared.
-fn place(call: Call, fault: FolderFault) -> usize
+fn place(call: FolderCall, fault: FolderFault) -> usize
     ensures place { result ≡ place_of call fault }
     ensures bound { result < 24 }
 {

@@ -16,7 +16,7 @@ pub enum FolderFault {
 
 /// The kinds of calls of a folder, by which its failures are told apart.
 #[derive(Clone, Copy, Debug, PartialEq, Eq)]
-pub enum Call {
+pub enum FolderCall {
     /// [`Folder::open_new`]
     OpenNew,
     /// [`Folder::write`]
@@ -58,7 +58,7 @@ pub trait Folder {
         ensures others { tells → Touched name.now (state self.old).stands (state self.new).stands }
         ensures crash { tells → Follows (Touched name.now) (state self.old) (state self.new) }
         ensures time { tells → Elapses (Touched name.now) (state self.old) (state self.new) }
-        ensures cause { tells → HasCause Call.OpenNew (state self.old) (state self.new) result };
+        ensures cause { tells → HasCause FolderCall.OpenNew (state self.old) (state self.new) result };
 
     /// Writes all the bytes to the end of the new file that was opened last under the name.
     ///
@@ -69,7 +69,7 @@ pub trait Folder {
         ensures others { tells → Touched name.now (state self.old).stands (state self.new).stands }
         ensures crash { tells → Follows (Touched name.now) (state self.old) (state self.new) }
         ensures time { tells → Elapses (Touched name.now) (state self.old) (state self.new) }
-        ensures cause { tells → HasCause Call.Write (state self.old) (state self.new) result };
+        ensures cause { tells → HasCause FolderCall.Write (state self.old) (state self.new) result };
 
     /// Gives the new file under the name the owner, the group and the mode of the file at the path, where one stands.
     ///
@@ -78,7 +78,7 @@ pub trait Folder {
         ensures kept { tells → Same (state self.old).stands (state self.new).stands }
         ensures crash { tells → Follows (Touched name.now) (state self.old) (state self.new) }
         ensures time { tells → Elapses (Touched name.now) (state self.old) (state self.new) }
-        ensures cause { tells → HasCause Call.TakeAfter (state self.old) (state self.new) result };
+        ensures cause { tells → HasCause FolderCall.TakeAfter (state self.old) (state self.new) result };
 
     /// Puts what stands at the name where a crash leaves it.
     ///
@@ -89,7 +89,7 @@ pub trait Folder {
         ensures others { tells → Touched name.now (state self.old).stands (state self.new).stands }
         ensures crash { tells → Follows (Touched name.now) (state self.old) (state self.new) }
         ensures time { tells → Elapses (Touched name.now) (state self.old) (state self.new) }
-        ensures cause { tells → HasCause Call.Flush (state self.old) (state self.new) result };
+        ensures cause { tells → HasCause FolderCall.Flush (state self.old) (state self.new) result };
 
     /// Moves the file at `from` to the name `to`, in the place of what stands there, so that a crash leaves the one or the other.
     ///
@@ -107,7 +107,7 @@ pub trait Folder {
         ensures crash { tells → Follows (MayMove from.now to.now) (state self.old)
             (state self.new) }
         ensures time { tells → Elapses (MayMove from.now to.now) (state self.old) (state self.new) }
-        ensures cause { tells → HasCause Call.Rename (state self.old) (state self.new) result };
+        ensures cause { tells → HasCause FolderCall.Rename (state self.old) (state self.new) result };
 
     /// Writes the bytes over the file at the name, and puts them where a crash leaves them.
     ///
@@ -118,7 +118,7 @@ pub trait Folder {
         ensures others { tells → Touched name.now (state self.old).stands (state self.new).stands }
         ensures crash { tells → Follows (Touched name.now) (state self.old) (state self.new) }
         ensures time { tells → Elapses (Touched name.now) (state self.old) (state self.new) }
-        ensures cause { tells → HasCause Call.Overwrite (state self.old) (state self.new) result };
+        ensures cause { tells → HasCause FolderCall.Overwrite (state self.old) (state self.new) result };
 
     /// Takes the file at the name away. After a fault what stands is unchanged.
     fn remove(&mut self, name: &str) -> Result<(), FolderFault>
@@ -127,7 +127,7 @@ pub trait Folder {
         ensures others { tells → Touched name.now (state self.old).stands (state self.new).stands }
         ensures crash { tells → Follows (Touched name.now) (state self.old) (state self.new) }
         ensures time { tells → Elapses (Touched name.now) (state self.old) (state self.new) }
-        ensures cause { tells → HasCause Call.Remove (state self.old) (state self.new) result };
+        ensures cause { tells → HasCause FolderCall.Remove (state self.old) (state self.new) result };
 
     /// Puts what stands at the path, also after a rename, where a crash leaves it. No content changes, after a fault neither.
     fn flush_folder(&mut self, path: &str) -> Result<(), FolderFault>
@@ -135,7 +135,7 @@ pub trait Folder {
         ensures durable { tells → OnOk result (IsDurable path.now (state self.new)) }
         ensures crash { tells → Follows Same (state self.old) (state self.new) }
         ensures time { tells → Elapses Same (state self.old) (state self.new) }
-        ensures cause { tells → HasCause Call.FlushFolder (state self.old)
+        ensures cause { tells → HasCause FolderCall.FlushFolder (state self.old)
             (state self.new) result };
 
     // What stands is among what a crash may leave.

@@ -20,7 +20,7 @@ mod target;
 
 pub use failures::Failing;
 pub use files::{FilesFolder, Standing};
-pub use folder::{Call, Folder, FolderFault};
+pub use folder::{Folder, FolderCall, FolderFault};
 pub use memory::MemoryFolder;
 pub use saving::{SaveFault, save};
 pub use target::save_file;

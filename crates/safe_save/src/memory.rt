@@ -3,9 +3,9 @@
 ghost use Rattle.std.specs.Prelude.{◌≡◌, Some, None, option_map, OnOk, OnErr};
 ghost use Rattle.safe_save.specs.Folder.{Same, Touched};
 
-use crate::changes::{Change, append, content_of, move_content, put, set_content};
-use crate::failures::{Failing, Failures};
-use crate::folder::{Call, Folder, FolderFault};
+use crate::changes::{FolderChange, append, content_of, move_content, put, set_content};
+use crate::failures::{FailedCalls, Failing};
+use crate::folder::{Folder, FolderCall, FolderFault};
 use std::alloc::{AllocError, Global};
 
 /// A folder over memory. It keeps each change that was made, and each is made at once, so that a crash leaves what stands there.
@@ -14,8 +14,8 @@ use std::alloc::{AllocError, Global};
 #[derive(Drop)]
 pub struct MemoryFolder {
     alloc: Global,
-    changes: Vec<Change>,
-    failures: Failures,
+    changes: Vec<FolderChange>,
+    failures: FailedCalls,
 }
 
 impl MemoryFolder {
@@ -29,7 +29,7 @@ impl MemoryFolder {
         MemoryFolder {
             alloc,
             changes: Vec::new(alloc),
-            failures: Failures::new(failing),
+            failures: FailedCalls::new(failing),
         }
     }
 
@@ -68,98 +68,100 @@ impl Folder for MemoryFolder {
     ghost only_now = { λ folder f tells left. only_last folder.changes.items f left };
 
     fn open_new(&mut self, name: &str) -> Result<(), FolderFault> {
-        self.failures.count_call(Call::OpenNew, self.changes.len())?;
+        self.failures
+            .count_call(FolderCall::OpenNew, self.changes.len())?;
         if content_of(&self.changes, name).is_some() {
             return Err(
-                self.failures
-                    .fail(Call::OpenNew, FolderFault::Taken, self.changes.len()),
+                self.failures.fail(FolderCall::OpenNew, FolderFault::Taken, self.changes.len()),
             );
         }
         match put(self.alloc, &mut self.changes, name, &[]) {
             Ok(()) => Ok(()),
             Err(AllocError) => Err(
-                self.failures
-                    .fail(Call::OpenNew, FolderFault::Failed, self.changes.len()),
+                self.failures.fail(FolderCall::OpenNew, FolderFault::Failed, self.changes.len()),
             ),
         }
     }
 
     /// `Failed` also where nothing stands at the name.
     fn write(&mut self, name: &str, bytes: &[u8]) -> Result<(), FolderFault> {
-        self.failures.count_call(Call::Write, self.changes.len())?;
+        self.failures
+            .count_call(FolderCall::Write, self.changes.len())?;
         if content_of(&self.changes, name).is_none() {
             return Err(
                 self.failures
-                    .fail(Call::Write, FolderFault::Failed, self.changes.len()),
+                    .fail(FolderCall::Write, FolderFault::Failed, self.changes.len()),
             );
         }
         match append(self.alloc, &mut self.changes, name, bytes) {
             Ok(()) => Ok(()),
             Err(AllocError) => Err(
                 self.failures
-                    .fail(Call::Write, FolderFault::Failed, self.changes.len()),
+                    .fail(FolderCall::Write, FolderFault::Failed, self.changes.len()),
             ),
         }
     }
 
     fn take_after(&mut self, _name: &str, _path: &str) -> Result<(), FolderFault> {
         self.failures
-            .count_call(Call::TakeAfter, self.changes.len())
+            .count_call(FolderCall::TakeAfter, self.changes.len())
     }
 
     fn flush(&mut self, _name: &str) -> Result<(), FolderFault> {
-        self.failures.count_call(Call::Flush, self.changes.len())
+        self.failures
+            .count_call(FolderCall::Flush, self.changes.len())
     }
 
     /// `Failed` also where nothing stands at `from`.
     fn rename(&mut self, from: &str, to: &str) -> Result<(), FolderFault> {
-        self.failures.count_call(Call::Rename, self.changes.len())?;
+        self.failures
+            .count_call(FolderCall::Rename, self.changes.len())?;
         if self.failures.refuses_rename {
             return Err(
-                self.failures
-                    .fail(Call::Rename, FolderFault::Refused, self.changes.len()),
+                self.failures.fail(FolderCall::Rename, FolderFault::Refused, self.changes.len()),
             );
         }
         if content_of(&self.changes, from).is_none() {
             return Err(
-                self.failures
-                    .fail(Call::Rename, FolderFault::Failed, self.changes.len()),
+                self.failures.fail(FolderCall::Rename, FolderFault::Failed, self.changes.len()),
             );
         }
         match move_content(self.alloc, &mut self.changes, from, to) {
             Ok(()) => Ok(()),
             Err(AllocError) => Err(
-                self.failures
-                    .fail(Call::Rename, FolderFault::Failed, self.changes.len()),
+                self.failures.fail(FolderCall::Rename, FolderFault::Failed, self.changes.len()),
             ),
         }
     }
 
     fn overwrite(&mut self, name: &str, bytes: &[u8]) -> Result<(), FolderFault> {
         self.failures
-            .count_call(Call::Overwrite, self.changes.len())?;
+            .count_call(FolderCall::Overwrite, self.changes.len())?;
         match put(self.alloc, &mut self.changes, name, bytes) {
             Ok(()) => Ok(()),
             Err(AllocError) => Err(
-                self.failures
-                    .fail(Call::Overwrite, FolderFault::Failed, self.changes.len()),
+                self.failures.fail(
+                    FolderCall::Overwrite,
+                    FolderFault::Failed,
+                    self.changes.len(),
+                ),
             ),
         }
     }
 
     fn remove(&mut self, name: &str) -> Result<(), FolderFault> {
-        self.failures.count_call(Call::Remove, self.changes.len())?;
+        self.failures
+            .count_call(FolderCall::Remove, self.changes.len())?;
         match set_content(self.alloc, &mut self.changes, name, None) {
             Ok(()) => Ok(()),
             Err(AllocError) => Err(
-                self.failures
-                    .fail(Call::Remove, FolderFault::Failed, self.changes.len()),
+                self.failures.fail(FolderCall::Remove, FolderFault::Failed, self.changes.len()),
             ),
         }
     }
 
     fn flush_folder(&mut self, _path: &str) -> Result<(), FolderFault> {
         self.failures
-            .count_call(Call::FlushFolder, self.changes.len())
+            .count_call(FolderCall::FlushFolder, self.changes.len())
     }
 }

@@ -4,7 +4,7 @@ ghost use Rattle.std.specs.Prelude.{◌≡◌, ◌≢◌, ◌⊎◌, Some, None,
 ghost use Rattle.safe_save.specs.Folder.{TouchedBoth, LeavesOnly, KeepsFaults, HasFailed};
 ghost use Rattle.safe_save.specs.Save.{IsStored, IsLeftBeside, IsGivenUp, IsCleared, Keeps, KeepsPath, KeepsBeside, FillFailed, IsOldOrNew, IsAtEither, TouchesOnly};
 
-use crate::folder::{Call, Folder, FolderFault};
+use crate::folder::{Folder, FolderCall, FolderFault};
 
 /// Why a save failed, and where the bytes are.
 #[derive(Clone, Copy, Debug, PartialEq, Eq)]
@@ -61,9 +61,9 @@ pub fn save<F: Folder>(
     ensures not_saved { F.tells → IsErrOf result SaveFault.NotSaved
         → FillFailed (F.state folder.old) (F.state folder.new) }
     ensures left_beside { F.tells → IsErrOf result SaveFault.LeftBeside
-        → HasFailed Call.Rename (F.state folder.old) (F.state folder.new) }
+        → HasFailed FolderCall.Rename (F.state folder.old) (F.state folder.new) }
     ensures not_flushed { F.tells → IsErrOf result SaveFault.NotFlushed
-        → HasFailed Call.FlushFolder (F.state folder.old) (F.state folder.new) }
+        → HasFailed FolderCall.FlushFolder (F.state folder.old) (F.state folder.new) }
 {
     if beside == path {
         return Err(SaveFault::Taken);
@@ -116,14 +116,14 @@ fn replace<F: Folder>(
         → KeepsPath path.now (F.state folder.old) (F.state folder.new) }
     ensures others { F.tells → TouchedBoth beside.now path.now (F.state folder.old).stands (F.state folder.new).stands }
     ensures gone { F.tells → IsCleared result → ((F.state folder.new).stands beside.now ≡ None)
-        ⊎ HasFailed Call.Remove (F.state folder.old) (F.state folder.new) }
+        ⊎ HasFailed FolderCall.Remove (F.state folder.old) (F.state folder.new) }
     ensures any_moment { F.tells → LeavesOnly (F.state folder.old) (F.state folder.new)
         (IsOldOrNew path.now beside.now bytes.now (F.state folder.old) (F.state folder.new)) }
     ensures faults { F.tells → KeepsFaults (F.state folder.old) (F.state folder.new) }
     ensures left_beside { F.tells → IsErrOf result SaveFault.LeftBeside
-        → HasFailed Call.Rename (F.state folder.old) (F.state folder.new) }
+        → HasFailed FolderCall.Rename (F.state folder.old) (F.state folder.new) }
     ensures not_flushed { F.tells → IsErrOf result SaveFault.NotFlushed
-        → HasFailed Call.FlushFolder (F.state folder.old) (F.state folder.new) }
+        → HasFailed FolderCall.FlushFolder (F.state folder.old) (F.state folder.new) }
 {
     match folder.rename(beside, path) {
         Ok(()) => match folder.flush_folder(path) {
@@ -149,11 +149,11 @@ fn in_place<F: Folder>(
     ensures left { F.tells → OnErr result (IsStored beside.now bytes.now (F.state folder.new)) }
     ensures others { F.tells → TouchedBoth beside.now path.now (F.state folder.old).stands (F.state folder.new).stands }
     ensures gone { F.tells → OnOk result (((F.state folder.new).stands beside.now ≡ None)
-        ⊎ HasFailed Call.Remove (F.state folder.old) (F.state folder.new)) }
+        ⊎ HasFailed FolderCall.Remove (F.state folder.old) (F.state folder.new)) }
     ensures any_moment { F.tells → LeavesOnly (F.state folder.old) (F.state folder.new)
         (IsAtEither path.now beside.now bytes.now) }
     ensures faults { F.tells → KeepsFaults (F.state folder.old) (F.state folder.new) }
-    ensures cause { F.tells → OnErr result (HasFailed Call.Overwrite (F.state folder.old) (F.state folder.new)) }
+    ensures cause { F.tells → OnErr result (HasFailed FolderCall.Overwrite (F.state folder.old) (F.state folder.new)) }
 {
     if folder.overwrite(path, bytes).is_err() {
         return Err(SaveFault::LeftBeside);

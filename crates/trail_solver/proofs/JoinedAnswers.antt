@@ -27,13 +27,6 @@ adds_nothing A None n = n
 adds_nothing A (One g) n = (refl, λ h a. absurd (n h a))
 adds_nothing A (Several g h) n = refl
 
--- two solutions are enough, however many are still to join
-pub adds_several : (A B : GridValue → Type 0) (found : Answer) (k h : GridValue) → ((g : GridValue) → A g → B g)
-    → Adds A found (Several k h) → Adds B found (Several k h)
-adds_several A B None k h to f = (to k f.0, to h f.1, f.2)
-adds_several A B (One g) k h to f = (f.0, to h f.1, f.2)
-adds_several A B (Several g i) k h to f = f
-
 -- what joins after what joined before
 pub adds_then : (A B C : GridValue → Type 0) (a b c : Answer) → ((g : GridValue) → A g → C g) → ((g : GridValue) → B g → C g)
     → ((g : GridValue) → C g → A g ⊎ B g) → Adds A a b → Adds B b c → Adds C a c

@@ -1,12 +1,12 @@
 -- A square's other values go, one after another.
-use Rattle.std.proofs.Common.{◌≡◌, ◌≢◌, ℕ, ◌*◌, ◌<◌, ◌≤◌, true, false, not, ◌||◌, ◌⊎◌, List, refl, sym, ap, ◌∙◌, subst, inl, inr, ⊎_elim}
+use Rattle.std.proofs.Common.{◌≡◌, ◌≢◌, ℕ, ◌*◌, ◌<◌, ◌≤◌, true, false, not, ◌||◌, ◌⊎◌, List, sym, ap, ◌∙◌, subst, inl, inr, ⊎_elim}
 use Rattle.std.proofs.lemmas.Bool.{cases_eq, cases_Bool, both_ways, false_from_ne_true, or_right, cond_both}
 use Rattle.std.proofs.Math.Bool.{or-false}
 use Rattle.latin_board.specs.Squares.{GridValue, number_at}
 use Rattle.trail_solver.specs.Pairs.{IsPair, IsPrefix, has_pair, with_pair}
 use Rattle.trail_solver.specs.Candidates.{CandidatesValue, IsEarlier, IsWithin, may_be}
 use Rattle.trail_solver.specs.Inner.Squares.{KeepsOnly}
-use Rattle.trail_solver.proofs.Trails.{same_pair, pair_from_test, test_from_pair, has_pair-push}
+use Rattle.trail_solver.proofs.Trails.{same_pair, pair_from_test, has_pair-push}
 use Rattle.trail_solver.proofs.Earlier.{prefix_with_pair}
 
 -- a pair is gone where it was gone, or is the one that went
@@ -40,12 +40,6 @@ removed_earlier old new cell value r = record {
   size = r.size;
   adds = let P : List (ℕ × ℕ) → Type 0 = λ ps. IsPrefix old.trail ps in subst P (sym r.trail) (prefix_with_pair old.trail cell value);
 }
-
--- the pair is gone
-pub gone_removed : (old new : CandidatesValue) (cell value : ℕ) → Removes old new cell value → may_be new cell value ≡ false
-gone_removed old new cell value r =
-    may_be-removed old new cell value cell value r
-    ∙ ap not (or_right (has_pair old.trail cell value) (same_pair cell value (cell, value)) (test_from_pair cell cell value value refl refl))
 
 -- and no other went
 pub rest_removed : (old new : CandidatesValue) (cell value c v : ℕ) → Removes old new cell value → (c ≢ cell) ⊎ (v ≢ value)

@@ -8,12 +8,11 @@ use Rattle.trail_solver.specs.Puzzles.{Puzzle, Solves}
 use Rattle.trail_solver.specs.Inner.Among.{IsAmong, IsAmongAt}
 use Rattle.trail_solver.specs.Inner.Searches.{SearchValue, IsFurther, AreSame}
 use Rattle.trail_solver.specs.declared.answer.Answer.{Answer}
-use Rattle.trail_solver.specs.declared.answer.Answer.TheVariants.{Several}
 use Rattle.trail_solver.specs.Inner.Added.{Adds}
 use Rattle.trail_solver.proofs.AmongCandidates.{among_earlier, none_where_filled}
 use Rattle.trail_solver.proofs.Earlier.{earlier_trans, prefix_length}
 use Rattle.trail_solver.proofs.FilledGrids.{solution_pair, only_filled, filled_within}
-use Rattle.trail_solver.proofs.JoinedAnswers.{adds_same, adds_nothing, adds_several, adds_then}
+use Rattle.trail_solver.proofs.JoinedAnswers.{adds_same, adds_nothing, adds_then}
 use Rattle.trail_solver.proofs.OneKept.{Removes, removed_earlier, rest_removed}
 
 -- further, and further again
@@ -67,15 +66,6 @@ rest_branched p Whole first found more old new cell value l a r = record {
       (λ h s. ⊎_elim (λ e. inl (s.0, (s.1, e))) (λ n. inr (s.0, within_removed old new cell value h r s.1 n)) (cases_eq (number_at h cell) value))
       a b);
 }
-
--- one side is enough where it has two solutions
-pub rest_several : (p : Puzzle) (Whole : GridValue → Type 0) (first found more : Answer) (old : CandidatesValue) (cell value : ℕ)
-    (k h : GridValue)
-    → IsRest Whole first (IsAmong p old) found → Adds (IsAmongAt p old cell value) found more → more ≡ Several k h → Adds Whole first more
-rest_several p Whole first found more old cell value k h l a e =
-    let P : Answer → Type 0 = λ x. Adds (IsAmongAt p old cell value) found x in
-    let Q : Answer → Type 0 = λ x. Adds (IsAmong p old) found x in
-    l.joins more (subst Q (sym e) (adds_several (IsAmongAt p old cell value) (IsAmong p old) found k h (λ g s. (s.0, s.1.0)) (subst P e a)))
 
 -- no solution is left
 pub rest_none : (Whole : GridValue → Type 0) (first : Answer) (Part : GridValue → Type 0) (found : Answer) → IsRest Whole first Part found

@@ -1,5 +1,5 @@
 //! Candidates: which values each square may still have, with the trail of what was removed.
-ghost use Rattle.std.specs.Prelude.{◌≡◌, ℕ, ◌+◌, ◌-◌, ◌*◌, ◌<◌, ◌≤◌, [], length, take, MatchOption};
+ghost use Rattle.std.specs.Prelude.{◌≡◌, ℕ, ◌-◌, ◌*◌, ◌<◌, ◌≤◌, [], length, take, MatchOption};
 ghost use Rattle.latin_board.specs.declared.grid.TheConstants.{CELLS};
 ghost use Rattle.trail_solver.specs.Pairs.{IsPair, with_pair};
 ghost use Rattle.trail_solver.specs.Candidates.{CandidatesValue, IsCandidates, IsSetOf, IsOnly, IsEarlier, may_be};

@@ -4,7 +4,7 @@ use Rattle.latin_board.specs.Lines.{line_cell}
 use Rattle.number_sets.specs.Sets.{has_number, IsSingle}
 use Rattle.trail_solver.specs.Candidates.{CandidatesValue, IsOnly}
 use Rattle.clue_rules.specs.Struck.{IsOnePlace}
-use Rattle.clue_rules.specs.declared.lines.latin.Tally.{Tally}
+use Rattle.clue_rules.specs.declared.lines.latin.LineTally.{LineTally}
 
 -- the values of the first w sets are from 1 to w
 abbrev pub HoldValuesTo : ℕ → List ℕ → Type 0
@@ -22,7 +22,7 @@ AreImpossible sets n = (number : ℕ → ℕ) → IsPossible sets n number → �
 
 -- the tally of the first n sets: which values are in one of them, in two, and alone in one; none of the sets is empty,
 -- and no value is alone in two
-pub record IsTally (sets : List ℕ) (n : ℕ) (t : Tally) : Type 0 where
+pub record IsTally (sets : List ℕ) (n : ℕ) (t : LineTally) : Type 0 where
   pub once : (v : ℕ) → (has_number t.once v ≡ true) ↔ ((k : ℕ) × (k < n) × (has_number (slice_index sets k) v ≡ true))
   pub twice : (v : ℕ)
       → (has_number t.twice v ≡ true)
@@ -32,12 +32,12 @@ pub record IsTally (sets : List ℕ) (n : ℕ) (t : Tally) : Type 0 where
   pub apart : (i j v : ℕ) → i < j → j < n → IsSingle (slice_index sets i) v → IsSingle (slice_index sets j) v → ⊥
 
 -- the tally of a whole line: each value is in one of the sets
-pub record IsWholeTally (sets : List ℕ) (n : ℕ) (t : Tally) : Type 0 where
+pub record IsWholeTally (sets : List ℕ) (n : ℕ) (t : LineTally) : Type 0 where
   pub tally : IsTally sets n t
   pub placed : (v : ℕ) → 1 ≤ v → v ≤ n → has_number t.once v ≡ true
 
 -- new is the tally with one set more
-pub record IsCounted (old : Tally) (set : ℕ) (new : Tally) : Type 0 where
+pub record IsCounted (old : LineTally) (set : ℕ) (new : LineTally) : Type 0 where
   pub once : (v : ℕ) → (has_number new.once v ≡ true) ↔ ((has_number old.once v ≡ true) ⊎ (has_number set v ≡ true))
   pub twice : (v : ℕ)
       → (has_number new.twice v ≡ true) ↔ ((has_number old.twice v ≡ true) ⊎ ((has_number old.once v ≡ true) × (has_number set v ≡ true)))
@@ -46,31 +46,31 @@ pub record IsCounted (old : Tally) (set : ℕ) (new : Tally) : Type 0 where
   pub fresh : (v : ℕ) → IsSingle set v → has_number old.singles v ≡ false
 
 -- the set is empty, or its only value is alone in an earlier one
-abbrev pub IsClash : Tally → ℕ → Type 0
+abbrev pub IsClash : LineTally → ℕ → Type 0
 IsClash t set = ((v : ℕ) → has_number set v ≡ false) ⊎ ((v : ℕ) × IsSingle set v × (has_number t.singles v ≡ true))
 
 -- the value is in just one of the sets
-pub record IsHidden (t : Tally) (value : ℕ) : Type 0 where
+pub record IsHidden (t : LineTally) (value : ℕ) : Type 0 where
   pub once : has_number t.once value ≡ true
   pub lone : has_number t.twice value ≡ false
 
 -- the values of one of the sets that are in no other
-pub record IsForced (t : Tally) (set forced : ℕ) : Type 0 where
+pub record IsForced (t : LineTally) (set forced : ℕ) : Type 0 where
   pub is : (u : ℕ) → has_number forced u ≡ ((has_number set u && has_number t.once u) && not (has_number t.twice u))
 
 -- the values of one of the sets that are alone in none
-pub record IsFree (t : Tally) (set free : ℕ) : Type 0 where
+pub record IsFree (t : LineTally) (set free : ℕ) : Type 0 where
   pub is : (v : ℕ) → has_number free v ≡ (has_number set v && not (has_number t.singles v))
 
 -- the value of one of the sets may stay: it is alone there; or no other value has its one place there, and the value is
 -- alone in no set
-abbrev pub MayStay : Tally → ℕ → ℕ → Type 0
+abbrev pub MayStay : LineTally → ℕ → ℕ → Type 0
 MayStay t set value =
     IsSingle set value
     ⊎ (((u : ℕ) → has_number set u ≡ true → IsHidden t u → u ≡ value) × (has_number t.singles value ≡ false))
 
 -- the values of one of the sets that may stay
-pub record IsKeptOf (t : Tally) (set kept : ℕ) : Type 0 where
+pub record IsKeptOf (t : LineTally) (set kept : ℕ) : Type 0 where
   pub only : (v : ℕ) → has_number kept v ≡ true → (has_number set v ≡ true) × MayStay t set v
   pub all : (v : ℕ) → has_number set v ≡ true → MayStay t set v → has_number kept v ≡ true
 

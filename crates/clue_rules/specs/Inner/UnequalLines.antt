@@ -7,35 +7,35 @@ use Rattle.clue_rules.specs.Inner.Narrowing.{StruckBelow, IsSquare}
 use Rattle.clue_rules.specs.Struck.{HasNoneAbove, HasNoneBelow}
 use Rattle.clue_rules.specs.Unequal.{UnequalValue, sign_between}
 use Rattle.latin_board.specs.Squares.{GridValue, number_at}
-use Rattle.clue_rules.specs.declared.unequal.lines.Ends.{Ends}
+use Rattle.clue_rules.specs.declared.unequal.lines.SignEnds.{SignEnds}
 
 -- both ends are squares of the grid
-abbrev pub AreInside : ℕ → Ends → Type 0
+abbrev pub AreInside : ℕ → SignEnds → Type 0
 AreInside w ends = (ends.greater < w * w) × (ends.lesser < w * w)
 
 -- the ends are two squares with a sign between them, the greater end being the one that it says holds the greater number
-pub record AreEnds (v : UnequalValue) (first second : ℕ) (ends : Ends) : Type 0 where
+pub record AreEnds (v : UnequalValue) (first second : ℕ) (ends : SignEnds) : Type 0 where
   pub inside : AreInside v.size ends
   pub is : ((sign_between v first second ≡ FirstGreater) × (ends.greater ≡ first) × (ends.lesser ≡ second))
       ⊎ ((sign_between v first second ≡ SecondGreater) × (ends.greater ≡ second) × (ends.lesser ≡ first))
 
 -- what the lesser end can't hold
-pub record IsLesserStruck (ends : Ends) (c : CandidatesValue) (cell value : ℕ) : Type 0 where
+pub record IsLesserStruck (ends : SignEnds) (c : CandidatesValue) (cell value : ℕ) : Type 0 where
   pub here : cell ≡ ends.lesser
   pub none : HasNoneAbove c ends.greater value
 
 -- what the greater end can't hold
-pub record IsGreaterStruck (ends : Ends) (c : CandidatesValue) (cell value : ℕ) : Type 0 where
+pub record IsGreaterStruck (ends : SignEnds) (c : CandidatesValue) (cell value : ℕ) : Type 0 where
   pub here : cell ≡ ends.greater
   pub none : HasNoneBelow c ends.lesser value
 
 -- what either end can't hold
-abbrev pub IsEndStruck : Ends → CandidatesValue → ℕ → ℕ → Type 0
+abbrev pub IsEndStruck : SignEnds → CandidatesValue → ℕ → ℕ → Type 0
 IsEndStruck ends c cell value = IsLesserStruck ends c cell value ⊎ IsGreaterStruck ends c cell value
 
 -- what the sign between two squares rules out in them
 pub record IsStruckAt (v : UnequalValue) (first second : ℕ) (c : CandidatesValue) (cell value : ℕ) : Type 0 where
-  pub ends : Ends
+  pub ends : SignEnds
   pub are : AreEnds v first second ends
   pub struck : IsEndStruck ends c cell value
 
@@ -48,5 +48,5 @@ abbrev pub IsStruckAlong : UnequalValue → ℕ → CandidatesValue → ℕ → 
 IsStruckAlong v line = StruckBelow (IsStruckOn v line) (v.size - 1)
 
 -- a Latin square whose number is greater at the greater end
-abbrev pub HoldsGreater : Ends → GridValue → Type 0
+abbrev pub HoldsGreater : SignEnds → GridValue → Type 0
 HoldsGreater ends g = IsSquare g × (number_at g ends.lesser < number_at g ends.greater)

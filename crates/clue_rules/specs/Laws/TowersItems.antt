@@ -14,7 +14,7 @@ use Rattle.tower_lines.specs.TowersSeen.{seen}
 use Rattle.tower_lines.proofs.SeenLemmas.{seen_most, seen_some}
 use Rattle.trail_solver.specs.Puzzles.{Solves}
 use Rattle.clue_rules.specs.declared.game.TheConstants.{MOST_ITEMS}
-use Rattle.clue_rules.specs.Towers.{TowersValue, IsTowers, clue_of, HoldsClues, holds_clue, holds_clues, towers_puzzle, towers_items, has_towers, cut_towers, full_towers, given_grid}
+use Rattle.clue_rules.specs.Towers.{TowersValue, IsTowers, clue_of, HoldsClues, holds_clue, holds_clues, towers_puzzle, towers_items, has_towers, cut_towers, full_towers, towers_given_grid}
 use Rattle.clue_rules.specs.Views.{view_of}
 use Rattle.clue_rules.specs.Laws.KeptItems.{length-kept, kept-all, kept-kept, All-kept, still_asked, has_item-kept, items_agree, has_item-full, not_positive, small_widths, IsGrid-kept}
 use Rattle.clue_rules.specs.Laws.Edges.{edge_cases}
@@ -45,13 +45,13 @@ pub valid_size : (v : TowersValue) → IsTowers v → (3 ≤ v.size) × (v.size 
 valid_size v h = (h.givens.smallest, h.givens.largest)
 
 pub valid_given : (v : TowersValue) (cell : ℕ) → IsTowers v → cell < v.size * v.size → slice_index v.givens cell ≤ v.size
-valid_given v cell h inside = number_within (given_grid v) h.givens cell inside
+valid_given v cell h inside = number_within (towers_given_grid v) h.givens cell inside
 
 -- ---- cuts
 
 pub cut_valid : (v : TowersValue) (keep : ℕ → Bool) → IsTowers v → IsTowers (cut_towers v keep)
 cut_valid v keep h = record {
-  givens = IsGrid-kept (given_grid v) keep (4 * v.size) h.givens;
+  givens = IsGrid-kept (towers_given_grid v) keep (4 * v.size) h.givens;
   clue_count = length-kept zero keep 0 v.clues ∙ h.clue_count;
   clues_within = All-kept v.size keep 0 v.clues h.clues_within;
 }

@@ -16,7 +16,7 @@ use Rattle.clue_rules.specs.declared.unequal.item.Item.{Item}
 use Rattle.clue_rules.specs.declared.unequal.item.Item.TheVariants.{RightSign, LowerSign, Given}
 use Rattle.clue_rules.specs.declared.unequal.sign.Sign.{Sign}
 use Rattle.clue_rules.specs.declared.unequal.sign.Sign.TheVariants.{Absent, FirstGreater, SecondGreater}
-use Rattle.clue_rules.specs.Unequal.{UnequalValue, IsUnequal, neighbour, right_sign, lower_sign, sign_between, holds_sign, holds_towards, unequal_puzzle, pairs_across, unequal_items, item_at, item_number, is_present, has_item, has_unequal, keeps_kind, cut_unequal, sign_of, sign_in_grid, full_unequal, given_grid}
+use Rattle.clue_rules.specs.Unequal.{UnequalValue, IsUnequal, neighbour, right_sign, lower_sign, sign_between, holds_sign, holds_towards, unequal_puzzle, pairs_across, unequal_items, item_at, item_number, is_present, has_item, has_unequal, keeps_kind, cut_unequal, sign_of, sign_in_grid, full_unequal, unequal_given_grid}
 use Rattle.clue_rules.specs.Items.{kept_items}
 use Rattle.clue_rules.specs.Laws.Neighbours.{IsNext, right_of, below_of, next_line, next_inside}
 use Rattle.clue_rules.specs.Laws.Signs.{IsSaid, said_next, right_between, below_between, signed_between, signed_valid}
@@ -29,7 +29,7 @@ pub valid_size : (v : UnequalValue) → IsUnequal v → (3 ≤ v.size) × (v.siz
 valid_size v h = (h.givens.smallest, h.givens.largest)
 
 pub valid_given : (v : UnequalValue) (cell : ℕ) → IsUnequal v → cell < v.size * v.size → slice_index v.givens cell ≤ v.size
-valid_given v cell h inside = number_within (given_grid v) h.givens cell inside
+valid_given v cell h inside = number_within (unequal_given_grid v) h.givens cell inside
 
 -- ---- items and their numbers
 
@@ -132,7 +132,7 @@ has_is_item v (Given cell) valid here = elim (cases_lt cell (v.size * v.size)) [
 
 pub cut_valid : (v : UnequalValue) (keep : ℕ → Bool) → IsUnequal v → IsUnequal (cut_unequal v keep)
 cut_valid v keep h = record {
-  givens = IsGrid-kept (given_grid v) (keeps_kind v.size keep Given) 0 h.givens;
+  givens = IsGrid-kept (unequal_given_grid v) (keeps_kind v.size keep Given) 0 h.givens;
   right_count = length-kept Absent (keeps_kind v.size keep RightSign) 0 v.right ∙ h.right_count;
   right_ends = λ cell none. entry-kept Absent (keeps_kind v.size keep RightSign) 0 v.right cell cell (omega arith)
       ∙ lost (keeps_kind v.size keep RightSign cell) (right_sign v cell) (h.right_ends cell none);

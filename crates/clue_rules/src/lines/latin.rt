@@ -1,6 +1,6 @@
 //! What the squares of a row or a column rule out among themselves.
 
-ghost use Rattle.std.specs.Prelude.{ℕ, ◌+◌, ◌-◌, ◌*◌, ◌<◌, ◌≤◌, ◌&&◌, true, false, MatchOption, slice_index};
+ghost use Rattle.std.specs.Prelude.{ℕ, ◌-◌, ◌*◌, ◌<◌, ◌≤◌, ◌&&◌, true, false, MatchOption, slice_index};
 ghost use Rattle.clue_rules.specs.Inner.Narrowing.{IsSquare, Narrows, NoneStruck};
 ghost use Rattle.clue_rules.specs.Inner.LineTallies.{AreImpossible, IsWholeTally, IsCounted, IsClash, IsForced, IsFree, IsKeptOf, IsLineStruck};
 ghost use Rattle.clue_rules.specs.Struck.{IsLatinStruck};
@@ -86,18 +86,18 @@ fn strike_line(candidates: &mut Candidates, line: u8, changed: &mut ChangedLines
 // What the sets of candidates of a line say together: the values of which one of them has one, of which two have one,
 // and those that are alone in one.
 #[derive(Clone, Copy)]
-struct Tally {
+struct LineTally {
     once: NumberSet,
     twice: NumberSet,
     singles: NumberSet,
 }
 
 // The tally of a line's sets, or none where they can't be the candidates of a row or column.
-fn tally_of(sets: &[NumberSet; LINE], width: usize) -> Option<Tally>
+fn tally_of(sets: &[NumberSet; LINE], width: usize) -> Option<LineTally>
     requires { width ≤ 9 }
     ensures { MatchOption result (AreImpossible sets.now width) (IsWholeTally sets.now width) }
 {
-    let mut tally = Tally {
+    let mut tally = LineTally {
         once: NumberSet::empty(),
         twice: NumberSet::empty(),
         singles: NumberSet::empty(),
@@ -112,12 +112,12 @@ fn tally_of(sets: &[NumberSet; LINE], width: usize) -> Option<Tally>
     Some(tally)
 }
 
-impl Tally {
+impl LineTally {
     ghost use Rattle.std.specs.Prelude.{ℕ, ◌<◌, MatchOption, slice_index};
     ghost use Rattle.clue_rules.specs.Inner.LineTallies.{IsCounted, IsClash, IsForced, IsFree, IsKeptOf};
 
     // The tally with one set more, or none where the set is empty or its only value is alone in another set.
-    fn with(self, set: NumberSet) -> Option<Tally>
+    fn with(self, set: NumberSet) -> Option<LineTally>
         ensures { MatchOption result (IsClash self set) (IsCounted self set) }
     {
         if set.is_empty() {
@@ -131,7 +131,7 @@ impl Tally {
         if !self.singles.is_disjoint(single) {
             return None;
         }
-        Some(Tally {
+        Some(LineTally {
             once: self.once.union(set),
             twice: self.twice.union(self.once.intersection(set)),
             singles: self.singles.union(single),

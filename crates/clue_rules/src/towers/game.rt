@@ -14,7 +14,7 @@ impl Game for Towers {
     ghost use Rattle.std.specs.Prelude.{codes, false};
     ghost use Rattle.clue_rules.specs.TowersText.{IsTowersText, towers_text, towers_at};
     ghost use Rattle.clue_rules.specs.Laws.TowersText.{towers_taken, towers_again, towers_canonical};
-    ghost use Rattle.clue_rules.specs.Laws.SparedMemory.{towers_spares};
+    ghost use Rattle.clue_rules.specs.Laws.NotForMemory.{towers_not_for_memory};
 
     ghost title = { codes "Towers" };
 
@@ -66,7 +66,7 @@ impl Game for Towers {
 
     ghost desc_taken = { towers_taken };
 
-    ghost desc_spares = { towers_spares };
+    ghost desc_not_for_memory = { towers_not_for_memory };
 
     ghost desc_again = { λ text p valid described. towers_again text p described };
 

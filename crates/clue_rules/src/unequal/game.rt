@@ -14,7 +14,7 @@ impl Game for Unequal {
     ghost use Rattle.clue_rules.specs.UnequalText.{IsUnequalText, unequal_text, unequal_at};
     ghost use Rattle.clue_rules.specs.Laws.UnequalText.{unequal_taken, unequal_again};
     ghost use Rattle.clue_rules.specs.Laws.UnequalWritten.{unequal_canonical};
-    ghost use Rattle.clue_rules.specs.Laws.SparedMemory.{unequal_spares};
+    ghost use Rattle.clue_rules.specs.Laws.NotForMemory.{unequal_not_for_memory};
 
     ghost title = { codes "Unequal" };
 
@@ -65,7 +65,7 @@ impl Game for Unequal {
 
     ghost desc_taken = { unequal_taken };
 
-    ghost desc_spares = { unequal_spares };
+    ghost desc_not_for_memory = { unequal_not_for_memory };
 
     ghost desc_again = { λ text p valid described. unequal_again text p described };
 

@@ -86,7 +86,7 @@ impl Unequal {
     }
 
     // Two squares as the ends of the sign between them, or none where there is no sign.
-    fn ends(&self, first: usize, second: usize) -> Option<Ends>
+    fn ends(&self, first: usize, second: usize) -> Option<SignEnds>
         requires first { first < self.now.size * self.now.size }
         requires second { second < self.now.size * self.now.size }
         ensures ends { MatchOption result (sign_between self.now first second ≡ Absent)
@@ -95,11 +95,11 @@ impl Unequal {
     {
         match self.sign_between(first, second) {
             Sign::Absent => None,
-            Sign::FirstGreater => Some(Ends {
+            Sign::FirstGreater => Some(SignEnds {
                 greater: first,
                 lesser: second,
             }),
-            Sign::SecondGreater => Some(Ends {
+            Sign::SecondGreater => Some(SignEnds {
                 greater: second,
                 lesser: first,
             }),
@@ -109,12 +109,12 @@ impl Unequal {
 
 // The squares on both sides of a sign: the one that holds the greater number, and the other.
 #[derive(Clone, Copy)]
-struct Ends {
+struct SignEnds {
     greater: usize,
     lesser: usize,
 }
 
-impl Ends {
+impl SignEnds {
     ghost use Rattle.clue_rules.specs.Inner.UnequalLines.{AreInside, IsLesserStruck, IsGreaterStruck, IsEndStruck, HoldsGreater};
 
     // Takes away what doesn't let the greater end hold the greater number.

@@ -226,7 +226,7 @@ fn starts_that_are_refused(rt: HostRuntime) -> Result<(), Fail> {
 }
 
 #[test]
-fn want_of_memory(rt: HostRuntime) {
+fn out_of_memory(rt: HostRuntime) {
     assert_eq!(rt; CommandFault::OutOfMemory.number(), 3);
     assert_eq!(rt; CommandFault::OutOfMemory.name(), "OutOfMemory");
     assert_eq!(rt; CommandFault::OutOfMemory.status(), 1);

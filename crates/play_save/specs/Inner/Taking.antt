@@ -43,7 +43,7 @@ added m (Header k) value = record m { first = with_first m.first k value }
 added m (State k) value = record m { states = m.states ++ record { key = k; value = value } ∷ [] }
 added m Other value = m
 
--- A record is taken, or refused with its fault or for want of memory.
+-- A record is taken, or refused with its fault or for memory.
 abbrev pub Taken : {P : Type 0} → SavedGame P → MetValue → Key → List ℕ → Result (Unit {0}) LoadFault → MetValue → Type 0
 Taken game old k value (Ok u) new = (fault_by game old k value ≡ None) × (new ≡ added old k value)
 Taken game old k value (Err fault) new = (fault ≡ OutOfMemory) ⊎ (fault_by game old k value ≡ Some fault)

@@ -13,8 +13,8 @@ use Rattle.puzzle_cli.specs.GameFacts.{GameFacts}
 use Rattle.puzzle_cli.specs.Replies.{ReadGives, ReadTakesMemory, Explains}
 
 -- what is said to a line that isn't refused
-abbrev pub Says : {P : Type 0} → GameFacts P → Option (History P) → Line → List ℕ → Option (History P) → Type 0
-Says f old line bytes new =
+abbrev pub IsLineReply : {P : Type 0} → GameFacts P → Option (History P) → Line → List ℕ → Option (History P) → Type 0
+IsLineReply f old line bytes new =
     (read : Reading (List ℕ)) × IsRead line read × ReadGives f old read (Ok (bytes, new))
 
 -- why a line is refused, which isn't quit

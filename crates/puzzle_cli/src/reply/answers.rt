@@ -6,7 +6,7 @@ ghost use Rattle.puzzle_cli.specs.Inner.Text.{text_bytes};
 ghost use Rattle.puzzle_cli.specs.Commands.{is_quit, action_copied, request_copied, IsInRange};
 ghost use Rattle.puzzle_cli.specs.SessionReplies.{id_line, view_text, ViewTakesMemory, RequestGives, RequestTakesMemory};
 ghost use Rattle.puzzle_cli.specs.Replies.{Reply, Explains};
-ghost use Rattle.puzzle_cli.specs.Inner.Answers.{Says, IsLineRefusal, ActionAnswered};
+ghost use Rattle.puzzle_cli.specs.Inner.Answers.{IsLineReply, IsLineRefusal, ActionAnswered};
 ghost use Rattle.puzzle_cli.specs.Inner.Machines.{IsResponse};
 
 use crate::command::line_fault::LineFault;
@@ -48,7 +48,7 @@ fn obey<P: Draw>(
     session: &mut Option<Session<P>>,
     line: Option<&[u8]>,
 ) -> Result<Response, Refusal>
-    ensures ok { IfOk result (λ answer. IsResponse (Says ⟦<P as Facts>⟧.facts) is_quit
+    ensures ok { IfOk result (λ answer. IsResponse (IsLineReply ⟦<P as Facts>⟧.facts) is_quit
         session.old (option_copied line.entry) answer session.new) }
     ensures err { OnErr result (session.new ≡ session.old) }
     ensures why { IfErr result

@@ -41,7 +41,7 @@ impl CommandFault {
         }
     }
 
-    /// The status that the program ends with: 2 for refused words, 0 for help, 1 for want of memory.
+    /// The status that the program ends with: 2 for refused words, 0 for help, 1 where memory is refused.
     pub fn status(&self) -> u8
         ensures { result ≡ command_fault_status self.now }
     {

@@ -52,7 +52,7 @@ static NO_WORDS: [&str; 1] = [PROGRAM];
 /// a file to load exclude each other.
 ///
 /// `BadWords` has the text of `clap` for words that it refuses, `HelpAsked` that for `--help` and `--version`, and
-/// `OutOfMemory` is want of memory.
+/// `OutOfMemory` is a refusal of memory.
 pub fn read_words(alloc: Global, words: &[&str]) -> Result<Args, CommandFault>
     ensures { IfOk result (λ args. NotBoth args.id args.load) }
 {

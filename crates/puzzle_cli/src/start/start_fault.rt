@@ -49,7 +49,7 @@ impl StartFault {
         }
     }
 
-    /// The status that the program ends with: 3, or 1 for want of memory.
+    /// The status that the program ends with: 3, or 1 where memory is refused.
     pub fn status(&self) -> u8
         ensures { result ≡ start_fault_status self.now }
     {

@@ -3,8 +3,8 @@ use Rattle.std.proofs.Common.{◌∙◌, Result, subst, sym}
 use Rattle.clue_rules.specs.GameIds.{describes_at}
 use Rattle.clue_rules.specs.declared.id_fault.IdFault.{IdFault}
 use Rattle.clue_rules.specs.declared.game_id.GameId.{GameId}
-use Rattle.clue_rules.specs.IdFaults.{SparesMemory}
-use Rattle.clue_rules.proofs.GameIdLemmas.{id_spares, id_found, id_again, game_reads}
+use Rattle.clue_rules.specs.IdFaults.{NotForMemory}
+use Rattle.clue_rules.proofs.GameIdLemmas.{id_not_for_memory, id_found, id_again, game_reads}
 use Rattle.clue_rules.proofs.game_id.read_id.Goals as goal
 
 pub returns-clause-found : goal.returns-clause-found
@@ -26,8 +26,8 @@ returns-clause-only g c = λ id text.
     (game_reads g.row.P.Denot rules.puzzle rules.valid game.describes game.desc_at g.met.P.Game.desc_taken g.met.P.Game.desc_again)
     text
 
-pub returns-clause-without_memory : goal.returns-clause-without_memory
-returns-clause-without_memory g c =
+pub returns-clause-not_for_memory : goal.returns-clause-not_for_memory
+returns-clause-not_for_memory g c =
     let game = g.P.Game in
-    subst (λ (r : Result (GameId g.row.P.Denot) IdFault). SparesMemory r) (sym c.parse_id.ensures)
-    (id_spares game.letter_codes game.has_adjacent game.desc_at g.met.P.Game.desc_spares c.args.text.now)
+    subst (λ (r : Result (GameId g.row.P.Denot) IdFault). NotForMemory r) (sym c.parse_id.ensures)
+    (id_not_for_memory game.letter_codes game.has_adjacent game.desc_at g.met.P.Game.desc_not_for_memory c.args.text.now)

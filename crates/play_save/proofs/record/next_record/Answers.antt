@@ -1,5 +1,5 @@
 -- Both laws of records, at what was read.
-use Rattle.play_save.proofs.RecordAnswers.{record_found, record_only, record_end, record_refused}
+use Rattle.play_save.proofs.NextRecord.{record_found, record_only, record_end, record_refused}
 use Rattle.play_save.proofs.record.next_record.Goals as goal
 
 pub returns-clause-found : goal.returns-clause-found

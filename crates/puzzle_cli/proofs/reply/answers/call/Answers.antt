@@ -2,7 +2,7 @@ use Rattle.std.proofs.Common.{◌∙◌, Err, refl, ap}
 use Rattle.std.proofs.lemmas.Result.{err_from_is_err_and}
 use Rattle.play_midend.specs.Histories.{played, restarted, undone, redone}
 use Rattle.play_midend.specs.Laws
-use Rattle.play_midend.specs.Laws.{FromStart, ToSolution}
+use Rattle.play_midend.specs.Laws.{FromStart}
 use Rattle.puzzle_cli.specs.declared.command.Action.TheVariants.{Play, Undo, Redo, Restart}
 use Rattle.puzzle_cli.proofs.ActionReplies.{answered, unread_answered, solve_answered}
 use Rattle.puzzle_cli.proofs.reply.answers.call.Goals as goal

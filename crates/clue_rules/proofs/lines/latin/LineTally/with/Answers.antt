@@ -1,8 +1,8 @@
 use Rattle.std.proofs.Common.{◌||◌, ◌∙◌, ap}
 use Rattle.number_sets.specs.Sets.{has_number}
 use Rattle.clue_rules.proofs.LineTallying.{IsSinglesOf, singles_alone, singles_none, clash_twice, counted_more}
-use Rattle.clue_rules.proofs.lines.latin.Tally.with.Goals as goal
-use Rattle.clue_rules.proofs.lines.latin.Tally.with.Goals.{then-is_single, else-is_single}
+use Rattle.clue_rules.proofs.lines.latin.LineTally.with.Goals as goal
+use Rattle.clue_rules.proofs.lines.latin.LineTally.with.Goals.{then-is_single, else-is_single}
 
 pub returns-then-not-is_disjoint : goal.returns-then-not-is_disjoint
 returns-then-not-is_disjoint c =

@@ -1,4 +1,4 @@
--- The laws of records, of an answer.
+-- What reading the next record answers.
 use Rattle.std.proofs.Common.{◌≡◌, ℕ, List, Option, Some, None, option_map, Result, Ok, Err, IfOk, IfErr, MatchOption, Bor, sym, ◌∙◌}
 use Rattle.byte_text.specs.Reading.{Gives}
 use Rattle.play_save.specs.declared.fault.LoadFault.{LoadFault}

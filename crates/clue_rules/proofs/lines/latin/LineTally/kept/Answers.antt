@@ -1,5 +1,5 @@
 use Rattle.clue_rules.proofs.LineTallying.{kept_forced, kept_nothing}
-use Rattle.clue_rules.proofs.lines.latin.Tally.kept.Goals as goal
+use Rattle.clue_rules.proofs.lines.latin.LineTally.kept.Goals as goal
 
 pub returns-then-is_single-2 : goal.returns-then-is_single-2
 returns-then-is_single-2 c =

@@ -1,5 +1,5 @@
 use Rattle.clue_rules.proofs.SignSteps.{greater_narrows}
-use Rattle.clue_rules.proofs.unequal.lines.Ends.strike_greater.Goals as goal
+use Rattle.clue_rules.proofs.unequal.lines.SignEnds.strike_greater.Goals as goal
 
 pub returns : goal.returns
 returns c =

@@ -1,7 +1,7 @@
 use Rattle.std.proofs.Common.{arith}
 use Rattle.std.proofs.lemmas.Grind.{get_or_default_zero}
 use Rattle.clue_rules.proofs.LineTallying.{kept_more}
-use Rattle.clue_rules.proofs.lines.latin.Tally.kept_in_line.Goals as goal
+use Rattle.clue_rules.proofs.lines.latin.LineTally.kept_in_line.Goals as goal
 
 pub loop-k-preserved : goal.loop-k-preserved
 loop-k-preserved c =

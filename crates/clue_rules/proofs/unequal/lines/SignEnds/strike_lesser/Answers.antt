@@ -1,5 +1,5 @@
 use Rattle.clue_rules.proofs.SignSteps.{lesser_narrows}
-use Rattle.clue_rules.proofs.unequal.lines.Ends.strike_lesser.Goals as goal
+use Rattle.clue_rules.proofs.unequal.lines.SignEnds.strike_lesser.Goals as goal
 
 pub returns : goal.returns
 returns c =
