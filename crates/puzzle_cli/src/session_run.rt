@@ -1,5 +1,5 @@
 //! The run of a session: lines come in, and their replies go out.
-ghost use Rattle.std.specs.Prelude.{◌≡◌, false};
+ghost use Rattle.std.specs.Prelude.{◌≡◌, ◌≢◌, false};
 ghost use Rattle.puzzle_cli.specs.Commands.{is_quit};
 ghost use Rattle.puzzle_cli.specs.Replies.{Reply};
 ghost use Rattle.puzzle_cli.specs.RunLaws.{IsNoneOrStorable};
@@ -39,6 +39,8 @@ pub fn run<P: Draw, R: Source, W: Sink>(
     ensures ends { Ends (Reply ⟦<P as Facts>⟧.facts) is_quit result.1
         (point_at R.Source W.Sink session source.old sink.old)
         (point_at R.Source W.Sink result.0 source.new sink.new) }
+    ensures flushed { W.flushed sink.old ≡ W.taken sink.old → result.1 ≢ End.WriteFault
+        → W.flushed sink.new ≡ W.taken sink.new }
 {
     let mut session = session;
     let end = run_machine(alloc, &mut session, source, sink);
