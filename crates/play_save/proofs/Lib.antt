@@ -16,3 +16,4 @@ pub mod WrittenLists
 pub mod WrittenRecords
 pub mod SessionRecords
 pub mod SavedWritten
+pub mod SavesStorable

@@ -21,6 +21,11 @@ FaultsWhereNone {P} game =
     (text : List ℕ) → ((fault : LoadFault) × (load_at game text ≡ Err fault))
     ↔ ((h : History P) → SaveText game h text → ⊥)
 
+-- a session that a text is a save of can be stored
+abbrev pub SavesAreStorable : {P : Type 0} → SavedGame P → (P → Type 0) → Type 0
+SavesAreStorable {P} game of_game =
+    (h : History P) (text : List ℕ) → SaveText game h text → IsStorable game.puzzle of_game game.letters h
+
 -- a grid that fills in a solution is a grid
 abbrev pub HasGrid : Move → Type 0
 HasGrid (Solve g) = IsGrid g

@@ -16,3 +16,4 @@ pub mod CallReplies
 pub mod ReplySteps
 pub mod UndoReplies
 pub mod StorableReplies
+pub mod StorableRuns

@@ -1,7 +1,8 @@
 //! The run of a session: lines come in, and their replies go out.
-ghost use Rattle.std.specs.Prelude.{◌≡◌, false};
+ghost use Rattle.std.specs.Prelude.{◌≡◌, ◌≢◌, false};
 ghost use Rattle.puzzle_cli.specs.Commands.{is_quit};
 ghost use Rattle.puzzle_cli.specs.Replies.{Reply};
+ghost use Rattle.puzzle_cli.specs.RunLaws.{IsNoneOrStorable};
 ghost use Rattle.puzzle_cli.specs.Runs.{point_at, Ends};
 
 use crate::draw::Draw;
@@ -22,6 +23,8 @@ use std::alloc::Global;
 /// read and neither had come: a line that has not ended then has no reply. `WriteFault` where a write or a flush fails, or a
 /// write takes no byte: the session is the one behind the command whose reply failed.
 ///
+/// Where the session can be stored, or there is none, so it is at the end.
+///
 /// Neither device has failed before.
 pub fn run<P: Draw, R: Source, W: Sink>(
     alloc: Global,
@@ -31,9 +34,13 @@ pub fn run<P: Draw, R: Source, W: Sink>(
 ) -> (Option<Session<P>>, End)
     requires source { R.has_failed source.old ≡ false }
     requires sink { W.has_failed sink.old ≡ false }
-    ensures { Ends (Reply ⟦<P as Facts>⟧.facts) is_quit result.1
+    ensures storable { IsNoneOrStorable ⟦<P as Facts>⟧.facts session
+        → IsNoneOrStorable ⟦<P as Facts>⟧.facts result.0 }
+    ensures ends { Ends (Reply ⟦<P as Facts>⟧.facts) is_quit result.1
         (point_at R.Source W.Sink session source.old sink.old)
         (point_at R.Source W.Sink result.0 source.new sink.new) }
+    ensures flushed { W.flushed sink.old ≡ W.taken sink.old → result.1 ≢ End.WriteFault
+        → W.flushed sink.new ≡ W.taken sink.new }
 {
     let mut session = session;
     let end = run_machine(alloc, &mut session, source, sink);

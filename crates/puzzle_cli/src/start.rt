@@ -5,6 +5,7 @@ ghost use Rattle.play_save.specs.SaveTexts.{SaveText};
 ghost use Rattle.play_save.specs.FirstFaults.{load_at};
 ghost use Rattle.puzzle_cli.specs.CommandLine.{NotBoth};
 ghost use Rattle.puzzle_cli.specs.NewSessions.{TextBegins, IsStartRefusal};
+ghost use Rattle.puzzle_cli.specs.RunLaws.{IsNoneOrStorable};
 ghost use Rattle.puzzle_cli.specs.Starts.{saved_facts, IsFileRefusal};
 
 pub(crate) mod command_fault;
@@ -24,6 +25,8 @@ use std::alloc::Global;
 ///
 /// An ID is refused as `read_id` refuses its text, or as `generate` refuses its seed; a file as `load` refuses its bytes; and
 /// either where memory is refused, which is `StartFault::OutOfMemory` also where the fault inside says so.
+///
+/// A session that it gives can be stored.
 pub fn begin<P: Draw>(
     alloc: Global,
     id: Option<&[u8]>,
@@ -31,6 +34,7 @@ pub fn begin<P: Draw>(
 ) -> Result<Option<Session<P>>, StartFault>
     requires { NotBoth id file }
     ensures none { id.entry ≡ None → file.entry ≡ None → result ≡ Ok None }
+    ensures storable { IfOk result (IsNoneOrStorable ⟦<P as Facts>⟧.facts) }
     ensures of_id { IfSome id.entry (λ text. IfOk result (λ first. IsSomeAnd first (λ session.
         TextBegins ⟦<P as Facts>⟧.facts text.now (Ok session)))) }
     ensures id_refused { IfSome id.entry (λ text. IfErr result

@@ -1,6 +1,6 @@
 //! What a source and a sink of bytes have to keep, and the fault that both answer.
 
-ghost use Rattle.std.specs.Prelude.{◌≡◌, ℕ, ◌≤◌, Bool, true, Option, List, length, IfOk, IsErr, is_err, is_some, codes};
+ghost use Rattle.std.specs.Prelude.{◌≡◌, ℕ, ◌≤◌, Bool, true, Option, List, length, IfOk, OnOk, IsErr, is_err, is_some, codes};
 ghost use Rattle.std.specs.Io.KnownBytes.{Keeps, ReadConsumes, WriteAppends};
 ghost use Rattle.puzzle_io.specs.Device.{write_failed};
 
@@ -57,6 +57,9 @@ pub trait Sink {
     // The bytes that were taken, where the sink tells them. A sink tells them always or never.
     ghost taken: { Self → Option (List ℕ) };
 
+    // The bytes that had been taken when it was last flushed, told where those taken are.
+    ghost flushed: { Self → Option (List ℕ) };
+
     // Whether a write or a flush has failed, or a write of some bytes took none.
     ghost has_failed: { Self → Bool };
 
@@ -67,6 +70,7 @@ pub trait Sink {
         ensures bound { IfOk result (λ n. n ≤ length bytes.now) }
         ensures bytes { WriteAppends (taken self.old) (taken self.new) result bytes.now }
         ensures told { is_some (taken self.new) ≡ is_some (taken self.old) }
+        ensures flushed { flushed self.new ≡ flushed self.old }
         ensures failed { has_failed self.new ≡ write_failed result (length bytes.now) }
         ensures stays_failed { has_failed self.old ≡ true → IsErr result };
 
@@ -74,6 +78,7 @@ pub trait Sink {
     fn flush(&mut self) -> Result<(), DeviceFault>
         ensures bytes { Keeps (taken self.old) (taken self.new) }
         ensures told { is_some (taken self.new) ≡ is_some (taken self.old) }
+        ensures flushed { OnOk result (flushed self.new ≡ taken self.new) }
         ensures failed { has_failed self.new ≡ is_err result }
         ensures stays_failed { has_failed self.old ≡ true → IsErr result };
 }

@@ -1,6 +1,6 @@
 //! A sink over the bytes of a vector.
 
-ghost use Rattle.std.specs.Prelude.{◌≡◌, ◌+◌, ◌-◌, ◌≤◌, ◌==◌, ◌||◌, ◌&&◌, not, min, true, false, [], Some, length, take, IfOk, IsErr, is_err, vec_len};
+ghost use Rattle.std.specs.Prelude.{◌≡◌, ◌+◌, ◌-◌, ◌≤◌, ◌==◌, ◌||◌, ◌&&◌, not, min, true, false, [], Some, length, take, IfOk, OnOk, IsErr, is_err, vec_len};
 ghost use Rattle.std.specs.Io.KnownBytes.{Keeps, WriteAppends};
 ghost use Rattle.puzzle_io.specs.Device.{write_failed};
 ghost use Rattle.puzzle_io.specs.Memory.{SinkState};
@@ -14,6 +14,7 @@ use std::marker::Model;
 pub struct MemorySink {
     bytes: Vec<u8>,
     used: usize,
+    flushed: usize,
     pace: Pace,
 }
 
@@ -22,13 +23,14 @@ impl Model for MemorySink {
 
     ghost view = { λ s. record {
       taken = take s.used s.bytes.items;
+      flushed = take s.flushed (take s.used s.bytes.items);
       room = vec_len s.bytes - s.used;
       piece = s.pace.piece;
       fails_in = s.pace.fails_in;
       failed = s.pace.failed;
     } };
 
-    ghost invariant = { λ s. (s.used ≤ vec_len s.bytes) × (1 ≤ s.pace.piece) };
+    ghost invariant = { λ s. (s.used ≤ vec_len s.bytes) × (s.flushed ≤ s.used) × (1 ≤ s.pace.piece) };
 }
 
 impl MemorySink {
@@ -39,6 +41,7 @@ impl MemorySink {
         requires { 1 ≤ piece }
         ensures { result ≡ record {
           taken = [];
+          flushed = [];
           room = vec_len bytes;
           piece = piece;
           fails_in = fails_at;
@@ -48,6 +51,7 @@ impl MemorySink {
         MemorySink {
             bytes,
             used: 0,
+            flushed: 0,
             pace: Pace::new(piece, fails_at),
         }
     }
@@ -63,12 +67,15 @@ impl MemorySink {
 impl Sink for MemorySink {
     ghost taken = { λ s. Some s.taken };
 
+    ghost flushed = { λ s. Some s.flushed };
+
     ghost has_failed = { λ s. s.failed };
 
     /// `DeviceFault` also where `bytes` isn't empty and there is no room for a byte.
     fn write(&mut self, bytes: &[u8]) -> Result<usize, DeviceFault>
         ensures bound { IfOk result (λ n. n ≤ length bytes.now) }
         ensures bytes { WriteAppends (Some self.old.taken) (Some self.new.taken) result bytes.now }
+        ensures flushed { self.new.flushed ≡ self.old.flushed }
         ensures failed { self.new.failed ≡ write_failed result (length bytes.now) }
         ensures stays_failed { self.old.failed ≡ true → IsErr result }
 
@@ -94,6 +101,7 @@ impl Sink for MemorySink {
 
     fn flush(&mut self) -> Result<(), DeviceFault>
         ensures bytes { Keeps (Some self.old.taken) (Some self.new.taken) }
+        ensures flushed { OnOk result (self.new.flushed ≡ self.new.taken) }
         ensures failed { self.new.failed ≡ is_err result }
         ensures stays_failed { self.old.failed ≡ true → IsErr result }
 
@@ -102,6 +110,8 @@ impl Sink for MemorySink {
         ensures piece { self.new.piece ≡ self.old.piece }
         ensures room { self.new.room ≡ self.old.room }
     {
-        self.pace.count_call()
+        self.pace.count_call()?;
+        self.flushed = self.used;
+        Ok(())
     }
 }

@@ -1,8 +1,9 @@
 //! The file that a session is loaded from.
 
-ghost use Rattle.std.specs.Prelude.{◌≤◌, IfOk, vec_len};
+ghost use Rattle.std.specs.Prelude.{◌≡◌, ◌≤◌, IfOk, IfSome, take, vec_len};
 
 use play_save::MOST_BYTES;
+use std::alloc::Global;
 use std::fs::File;
 use std::io;
 use std::io::Read;
@@ -15,11 +16,18 @@ const BYTES_READ: u64 = MOST_BYTES as u64 + 1;
 pub(crate) fn read_file(rt: &(impl Files + AllocGlobal), path: &str) -> io::Result<Vec<u8>>
     ensures bound { IfOk result (λ bytes. vec_len bytes ≤ BYTES_READ) }
 {
-    let mut bytes = Vec::new(rt.alloc());
-    File::open(rt, path)?
-        .take(BYTES_READ)
-        .read_to_end(&mut bytes)?;
-    // It cuts nothing: no clause of `take` says so.
+    read_cut(rt.alloc(), File::open(rt, path)?)
+}
+
+/// What the reader gives, cut so.
+fn read_cut<R: Read + Drop>(alloc: Global, reader: R) -> io::Result<Vec<u8>>
+    ensures bound { IfOk result (λ bytes. vec_len bytes ≤ BYTES_READ) }
+    ensures front { IfOk result (λ bytes. IfSome (R.remaining reader)
+        (λ told. bytes.items ≡ take BYTES_READ told)) }
+{
+    let mut bytes = Vec::new(alloc);
+    reader.take(BYTES_READ).read_to_end(&mut bytes)?;
+    // It cuts nothing: no clause of `take` bounds what a reader that tells nothing gives.
     bytes.truncate(BYTES_READ as usize);
     Ok(bytes)
 }

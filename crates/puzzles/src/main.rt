@@ -8,8 +8,9 @@
 mod fault;
 mod load_file;
 
-ghost use Rattle.std.specs.Prelude.{IfOk};
+ghost use Rattle.std.specs.Prelude.{◌≡◌, ◌≢◌, ◌⊎◌, IfOk, IfErr};
 ghost use Rattle.puzzle_cli.specs.CommandLine.{NotBoth};
+ghost use Rattle.puzzles.specs.Faults.{fault_status};
 
 use crate::fault::Fault;
 use crate::load_file::read_file;
@@ -73,6 +74,7 @@ fn play<P: Draw>(
     args: &Args,
 ) -> Result<(), Fault>
     requires { NotBoth args.now.id args.now.load }
+    ensures { IfErr result (λ fault. fault_status fault ≢ 0) }
 {
     let session = first_session::<P>(rt, args)?;
     let mut source = FromRead::new(rt.reader());
@@ -92,6 +94,7 @@ fn first_session<P: Draw>(
     args: &Args,
 ) -> Result<Option<Session<P>>, Fault>
     requires { NotBoth args.now.id args.now.load }
+    ensures { IfErr result (λ fault. fault_status fault ≢ 0) }
 {
     let file = match &args.load {
         Some(path) => match read_file(rt, path.as_str()) {
@@ -110,13 +113,18 @@ fn keep<P: Draw>(
     rt: &(impl Files<File = File> + RandomSource + AllocGlobal),
     session: &Session<P>,
     path: &str,
-) -> Result<(), Fault> {
+) -> Result<(), Fault>
+    ensures { IfErr result (λ fault. fault_status fault ≢ 0) }
+{
     let text = save(rt.alloc(), session).map_err(|_| Fault::OutOfMemory)?;
     save_file(rt, path, &text).map_err(|error| file_fault(&error, Fault::SaveFile))
 }
 
 // The fault of a file's error: `OutOfMemory` is said as such.
-fn file_fault(error: &io::Error, fault: Fault) -> Fault {
+fn file_fault(error: &io::Error, fault: Fault) -> Fault
+    requires { fault_status fault ≡ 1 }
+    ensures { fault_status result ≡ 1 }
+{
     match error.kind() {
         io::ErrorKind::OutOfMemory => Fault::OutOfMemory,
         _ => fault,
@@ -124,7 +132,9 @@ fn file_fault(error: &io::Error, fault: Fault) -> Fault {
 }
 
 // Says what there is to say, and gives the program's status. Where standard error fails too, nothing is left to say.
-fn report(rt: &(impl Print + Eprint), fault: Fault) -> u8 {
+fn report(rt: &(impl Print + Eprint), fault: Fault) -> u8
+    ensures { (result ≡ fault_status fault) ⊎ (result ≡ 1) }
+{
     let fault = match fault {
         Fault::Words(CommandFault::HelpAsked(text)) => match print!(rt; "{text}") {
             Ok(()) => return 0,

@@ -1,6 +1,6 @@
 //! The loop of a run: bytes are read, cut into lines, and each line is answered by a machine.
 
-ghost use Rattle.std.specs.Prelude.{◌≡◌, ℕ, ◌+◌, ◌≤◌, ◌∷◌, [], Some, false, length, take, is_err, IfOk, OnOk, OnErr};
+ghost use Rattle.std.specs.Prelude.{◌≡◌, ◌≢◌, ℕ, ◌+◌, ◌≤◌, ◌∷◌, [], Some, false, length, take, is_err, IfOk, OnOk, OnErr};
 ghost use Rattle.std.specs.Option.{option_copied};
 ghost use Rattle.std.specs.Io.KnownBytes.{Appends, Consumes, IsAtEnd, Keeps};
 ghost use Rattle.puzzle_cli.specs.Lines.{as_line};
@@ -40,9 +40,11 @@ pub(crate) fn run_machine<M: Machine, R: Source, W: Sink>(
 ) -> End
     requires source { R.has_failed source.old ≡ false }
     requires sink { W.has_failed sink.old ≡ false }
-    ensures { Ends M.reply M.is_quit result
+    ensures ends { Ends M.reply M.is_quit result
         (point_at R.Source W.Sink machine.old source.old sink.old)
         (point_at R.Source W.Sink machine.new source.new sink.new) }
+    ensures flushed { W.flushed sink.old ≡ W.taken sink.old → result ≢ End.WriteFault
+        → W.flushed sink.new ≡ W.taken sink.new }
 {
     let mut line = LineBuffer::new();
     let mut piece = [0; PIECE_BYTES];
@@ -98,6 +100,8 @@ fn take_piece<M: Machine, W: Sink>(
     ensures goes { Goes M.reply M.is_quit result (ended_from line.old piece.now)
         (progress_at W.Sink machine.old sink.old) (progress_at W.Sink machine.new sink.new) }
     ensures line { result ≡ Flow.More → line.new ≡ last_from line.old piece.now }
+    ensures flushed { W.flushed sink.old ≡ W.taken sink.old → result ≢ Flow.Unsent
+        → W.flushed sink.new ≡ W.taken sink.new }
 {
     for byte in piece {
         match take_byte(alloc, *byte, line, machine, sink) {
@@ -120,6 +124,8 @@ fn take_byte<M: Machine, W: Sink>(
     ensures goes { Goes M.reply M.is_quit result (ended_from line.old (byte ∷ []))
         (progress_at W.Sink machine.old sink.old) (progress_at W.Sink machine.new sink.new) }
     ensures line { line.new ≡ last_from line.old (byte ∷ []) }
+    ensures flushed { W.flushed sink.old ≡ W.taken sink.old → result ≢ Flow.Unsent
+        → W.flushed sink.new ≡ W.taken sink.new }
 {
     if byte == b'\n' {
         return end_line(alloc, line, machine, sink);
@@ -139,6 +145,8 @@ fn end_line<M: Machine, W: Sink>(
     ensures goes { Goes M.reply M.is_quit result (as_line line.old ∷ [])
         (progress_at W.Sink machine.old sink.old) (progress_at W.Sink machine.new sink.new) }
     ensures line { line.new ≡ Some [] }
+    ensures flushed { W.flushed sink.old ≡ W.taken sink.old → result ≢ Flow.Unsent
+        → W.flushed sink.new ≡ W.taken sink.new }
 {
     let flow = answer_line(alloc, line.line(), machine, sink);
     line.clear();
@@ -153,8 +161,10 @@ fn answer_line<M: Machine, W: Sink>(
     sink: &mut W,
 ) -> Flow
     requires { W.has_failed sink.old ≡ false }
-    ensures { Goes M.reply M.is_quit result (option_copied line.entry ∷ [])
+    ensures goes { Goes M.reply M.is_quit result (option_copied line.entry ∷ [])
         (progress_at W.Sink machine.old sink.old) (progress_at W.Sink machine.new sink.new) }
+    ensures flushed { W.flushed sink.old ≡ W.taken sink.old → result ≢ Flow.Unsent
+        → W.flushed sink.new ≡ W.taken sink.new }
 {
     match machine.answer(alloc, line) {
         Response::Quit => return Flow::Quit,
@@ -170,6 +180,7 @@ fn answer_line<M: Machine, W: Sink>(
 fn send<W: Sink>(sink: &mut W, bytes: &[u8]) -> Result<(), DeviceFault>
     requires { W.has_failed sink.old ≡ false }
     ensures failed { W.has_failed sink.new ≡ is_err result }
+    ensures flushed { OnOk result (W.flushed sink.new ≡ W.taken sink.new) }
     ensures ok { OnOk result (Appends (W.taken sink.old) (W.taken sink.new) bytes.now) }
     ensures err { OnErr result ((count : ℕ) × Appends (W.taken sink.old) (W.taken sink.new)
         (take count bytes.now)) }

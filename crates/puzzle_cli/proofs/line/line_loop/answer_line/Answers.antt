@@ -4,8 +4,8 @@ use Rattle.puzzle_cli.specs.Inner.Text.{text_bytes}
 use Rattle.puzzle_cli.proofs.LinesInTurn.{Goes-unsent}
 use Rattle.puzzle_cli.proofs.line.line_loop.answer_line.Goals as goal
 
-pub returns-in-Err : goal.returns-in-Err
-returns-in-Err g c =
+pub returns-in-Err-clause-goes : goal.returns-in-Err-clause-goes
+returns-in-Err-clause-goes g c =
     let old = progress_at g.W.Sink c.args.machine.now c.args.sink.now in
     let new = progress_at g.W.Sink c.answer.new.self c.send.new.sink in
     let went = c.in-Err.ensures.err in

@@ -8,6 +8,7 @@ abbrev pub invariant-loop-count : goal.invariant-loop-count
 invariant-loop-count g l = record {
   within : l.count ≤ longest_input;
   works : g.R.Source.has_failed l.source ≡ false;
+  flushed : g.W.Sink.flushed l.fn.sink ≡ g.W.Sink.taken l.fn.sink → g.W.Sink.flushed l.sink ≡ g.W.Sink.taken l.sink;
   so_far : HasRead g.M.Machine.reply g.M.Machine.is_quit
       (point_at g.R.Source g.W.Sink l.fn.machine l.fn.source l.fn.sink)
       (point_at g.R.Source g.W.Sink l.machine l.source l.sink) l.count l.line;

@@ -32,5 +32,6 @@ loop-byte-preserved g c =
     record {
       answered = Goes-byte g.M.Machine.reply g.M.Machine.is_quit More part c.loop-byte.line piece i old mid new c.loop-byte-test.true
           c.loop-byte.invariant.answered c.loop-byte.invariant.rest c.in-More.ensures.goes;
+      flushed = λ before. c.in-More.ensures.flushed (c.loop-byte.invariant.flushed before) (λ e. cc);
       rest = c.in-More.ensures.line ∙ last_from-byte part c.loop-byte.line piece i c.loop-byte-test.true c.loop-byte.invariant.rest;
     }

@@ -10,5 +10,6 @@ abbrev pub invariant-loop-byte : goal.invariant-loop-byte
 invariant-loop-byte g l = record {
   answered : Goes g.M.Machine.reply g.M.Machine.is_quit More (ended_from l.fn.line (take l.byte-index l.piece))
       (progress_at g.W.Sink l.fn.machine l.fn.sink) (progress_at g.W.Sink l.machine l.sink);
+  flushed : g.W.Sink.flushed l.fn.sink ≡ g.W.Sink.taken l.fn.sink → g.W.Sink.flushed l.sink ≡ g.W.Sink.taken l.sink;
   rest : l.line ≡ last_from l.fn.line (take l.byte-index l.piece);
 }
