@@ -175,6 +175,7 @@ impl NumberSet {
     }
 
     /// Whether the set has just one number.
+    #[tactic(auto, using(crate::proofs::Ends::single_test))]
     pub fn is_single(self) -> bool
         ensures { MatchBool result ((n : ℕ) × IsSingle self n) ((n : ℕ) → IsSingle self n → ⊥) }
     {

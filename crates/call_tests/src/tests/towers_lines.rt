@@ -14,7 +14,11 @@ type Row<'a> = (&'a [u16], u8, [u16; 9]);
 
 fn compare(rt: &impl Abort, rows: &[Row]) {
     for (sets, clue, left) in rows {
-        assert_eq!(rt; supported_bits(rt, sets, *clue), *left, "{sets:?} at {clue}");
+        assert_eq!(rt;
+            supported_bits(rt, sets, *clue),
+            *left,
+            "{sets:?} at {clue}"
+        );
     }
 }
 

@@ -4,6 +4,7 @@ ghost use Rattle.byte_text.specs.Bytes.{comma};
 ghost use Rattle.std.specs.Prelude.{◌≡◌, ◌*◌, ◌<◌, ◌≤◌, ◌==◌, drop};
 ghost use Rattle.std.specs.List.{list_all, list_any, slice_split};
 ghost use Rattle.byte_text.specs.Reading.{Gives};
+ghost use Rattle.latin_board.specs.declared.grid.TheConstants.{CELLS};
 ghost use Rattle.clue_rules.specs.IdFaults.{exactly};
 ghost use Rattle.clue_rules.specs.UnequalText.{letter_of, pieces_of, number_in, has_letters, is_inside};
 ghost use Rattle.clue_rules.specs.Inner.UnequalPieces.{IsWithoutLastComma, texts_of};
@@ -12,10 +13,10 @@ use crate::id_fault::IdFault;
 use crate::unequal::direction::Direction;
 use arrayvec::ArrayVec;
 use byte_text::{begins_with_digit, cut};
-use latin_board::Size;
+use latin_board::{CELLS, Size};
 
 /// As many pieces as the largest grid has squares.
-pub(super) type Pieces<'a> = ArrayVec<&'a [u8], 81>;
+pub(super) type Pieces<'a> = ArrayVec<&'a [u8], CELLS>;
 
 /// What commas separate, where it is as many pieces as are wanted; one comma at the end is dropped.
 ///
@@ -23,7 +24,7 @@ pub(super) type Pieces<'a> = ArrayVec<&'a [u8], 81>;
 #[tactic(auto, using(crate::proofs::PieceLemmas::pieces_without_comma))]
 pub(super) fn pieces_of(text: &[u8], wanted: usize) -> Result<Pieces<'_>, IdFault>
     requires some { 1 < wanted }
-    requires few { wanted ≤ 81 }
+    requires few { wanted ≤ CELLS }
     ensures { Gives (λ v. texts_of v.items) result (exactly wanted (pieces_of text.now)) }
 {
     split_at_commas(without_last_comma(text), wanted)
@@ -39,7 +40,7 @@ fn without_last_comma(text: &[u8]) -> &[u8]
 }
 
 fn split_at_commas(text: &[u8], wanted: usize) -> Result<Pieces<'_>, IdFault>
-    requires { wanted ≤ 81 }
+    requires { wanted ≤ CELLS }
     ensures { Gives (λ v. texts_of v.items) result
         (exactly wanted (slice_split (λ b. b == comma) text.now)) }
 {

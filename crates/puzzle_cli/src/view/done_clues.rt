@@ -63,6 +63,7 @@ fn place_text(size: Size, place: u8) -> PlaceText
     text
 }
 
+#[tactic(auto, using(crate::proofs::Coordinates::negative_text, crate::proofs::Coordinates::natural_text))]
 fn push_coordinate(text: &mut PlaceText, coordinate: i8)
     requires low { negsuc zero ≤ℤ coordinate }
     requires high { coordinate ≤ℤ pos 9 }

@@ -1,9 +1,9 @@
 -- Each way out of the loop gives what is needed of the text, and each record that is taken leaves the same to read.
-use Rattle.std.proofs.Common.{◌≡◌, false, true, Some, None, option_map, Ok, ap, ◌∙◌, rules, inr}
+use Rattle.std.proofs.Common.{◌≡◌, false, true, Some, None, Ok, rules, inr}
 use Rattle.std.proofs.lemmas.Result.{err_from_is_err_and}
 use Rattle.play_save.specs.declared.fault.LoadFault.TheVariants.{Missing}
 use Rattle.play_save.specs.Records.{record_at}
-use Rattle.play_save.specs.Views.{entry_of, parts_of}
+use Rattle.play_save.specs.Views.{entry_of}
 use Rattle.play_save.specs.SaveTexts.{saves_of}
 use Rattle.play_save.specs.FirstFaults.{is_complete, records_of}
 use Rattle.play_save.specs.Inner.Taking.{met_of}
@@ -38,7 +38,7 @@ returns-in_err-take-clause-given g c =
     let undone : is_complete (met_of c.loop-rest.met) ≡ false = search rules in
     let some = c.in_ok-record.ensures.ok_part in
     let read : record_at c.loop-rest.rest.now ≡ Ok (Some (entry_of c.in_ok-record.record, c.in_ok-record.after.now)) =
-    c.in_ok-next_record.ensures.value ∙ ap (λ o. Ok (option_map parts_of o)) some in
+    rw some at c.in_ok-next_record.ensures.value in
     let e = err_from_is_err_and c.from_residual-in_err-take.result c.from_residual-in_err-take.ensures.1 in
     let has = rw c.of.ensures at c.in_err-take.ensures in
     rw (e.1, e.2) (reads_fault c.in_err-take.field-0.0 c.loop-rest.invariant undone read has)
@@ -47,7 +47,7 @@ pub loop-rest-smaller : goal.loop-rest-smaller
 loop-rest-smaller g c =
     let some = c.in_ok-record.ensures.ok_part in
     let read : record_at c.loop-rest.rest.now ≡ Ok (Some (entry_of c.in_ok-record.record, c.in_ok-record.after.now)) =
-    c.in_ok-next_record.ensures.value ∙ ap (λ o. Ok (option_map parts_of o)) some in
+    rw some at c.in_ok-next_record.ensures.value in
     record_shorter c.loop-rest.rest.now (entry_of c.in_ok-record.record) c.in_ok-record.after.now read
 
 pub loop-rest-preserved : goal.loop-rest-preserved
@@ -55,7 +55,7 @@ loop-rest-preserved g c =
     let undone : is_complete (met_of c.loop-rest.met) ≡ false = search rules in
     let some = c.in_ok-record.ensures.ok_part in
     let read : record_at c.loop-rest.rest.now ≡ Ok (Some (entry_of c.in_ok-record.record, c.in_ok-record.after.now)) =
-    c.in_ok-next_record.ensures.value ∙ ap (λ o. Ok (option_map parts_of o)) some in
+    rw some at c.in_ok-next_record.ensures.value in
     let taken = rw c.of.ensures at c.in_ok-take.ensures in
     reads_more c.loop-rest.invariant undone read taken.0 taken.1
 

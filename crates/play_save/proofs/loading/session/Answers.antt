@@ -1,5 +1,5 @@
 -- The last state is behind the position.
-use Rattle.std.proofs.Common.{length, map, sym, ◌∙◌, ap, arith}
+use Rattle.std.proofs.Common.{length, map, ap, arith}
 use Rattle.play_save.specs.SaveTexts.{saves_of}
 use Rattle.play_save.specs.Inner.Taking.{state_of}
 use Rattle.play_save.proofs.StatesPlayed.{position_played}
@@ -8,7 +8,7 @@ use Rattle.play_save.proofs.loading.session.Goals as goal
 pub go_back-requires-clause-inside : goal.go_back-requires-clause-inside
 go_back-requires-clause-inside g c =
     let game = saves_of g.P.Rules g.P.Game in
-    let inside = c.requires.inside c.in_ok-position.position (sym c.count.ensures ∙ c.in_ok-position.ensures.ok_part) in
+    let inside = c.requires.inside c.in_ok-position.position (rw c.count.ensures at c.in_ok-position.ensures.ok_part) in
     let states = map state_of c.deref.result.now in
     let last = position_played game c.in_ok-session.session c.play_states.new.session 1 states c.in_ok-play_states.ensures in
     let items = c.deref.ensures.value in

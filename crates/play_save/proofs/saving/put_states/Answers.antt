@@ -15,6 +15,6 @@ loop-i-preserved g c =
     let this = record_text (record_of c.move_at.result.now) in
     let more = state_more c.args.desc.now ms (i - 1) c.move_at.result.now (omega (arith, c.states.ensures)) c.move_at.ensures in
     let next : i - 1 + 1 ≡ i + 1 - 1 = omega arith in
-    c.in_ok-put_state.ensures.ok ∙ ap (λ t. t ++ this) c.loop-i.invariant
-    ∙ append_assoc front before this ∙ ap (λ t. front ++ t) more
-    ∙ ap (λ n. front ++ records_text (map record_of (take n ms))) next
+    rw (c.in_ok-put_state.ensures.ok, c.loop-i.invariant)
+    (append_assoc front before this ∙ ap (λ t. front ++ t) more
+    ∙ ap (λ n. front ++ records_text (map record_of (take n ms))) next)

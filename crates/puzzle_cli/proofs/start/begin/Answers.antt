@@ -1,4 +1,3 @@
-use Rattle.play_save.specs.SaveTexts.{saves_of}
 use Rattle.play_save.proofs.SavesStorable.{saves_are_storable}
 use Rattle.puzzle_cli.proofs.start.begin.Goals as goal
 

@@ -1,4 +1,4 @@
-use Rattle.std.proofs.Common.{rules, arith, ap, length}
+use Rattle.std.proofs.Common.{arith, ap, length}
 use Rattle.puzzle_cli.proofs.Coordinates.{negative_text, natural_text}
 use Rattle.puzzle_cli.proofs.view.done_clues.push_coordinate.Goals as goal
 
@@ -11,11 +11,3 @@ pub push-requires : goal.push-requires
 push-requires c =
     let one = ap length (natural_text c.args.coordinate c.ranges.coordinate c.requires.high c.if-coordinate-lt0.false) in
     (omega arith, omega (arith, one))
-
-pub returns-then-coordinate-lt0 : goal.returns-then-coordinate-lt0
-returns-then-coordinate-lt0 c =
-    rw (negative_text c.args.coordinate c.ranges.coordinate c.requires.low c.if-coordinate-lt0.true) (search rules)
-
-pub returns-else-coordinate-lt0 : goal.returns-else-coordinate-lt0
-returns-else-coordinate-lt0 c =
-    rw (natural_text c.args.coordinate c.ranges.coordinate c.requires.high c.if-coordinate-lt0.false) c.push.ensures.items
