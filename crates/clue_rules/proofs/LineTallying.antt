@@ -4,7 +4,7 @@ use Rattle.std.proofs.lemmas.Bool.{cases_Bool, cases_lt, cases_eq, cases_order, 
 use Rattle.std.proofs.Math.ListN.{length-set}
 use Rattle.number_sets.specs.Sets.{has_number, no_numbers, IsEmpty, IsShared, IsSingle, IsSubset}
 use Rattle.number_sets.proofs.Members.{has_number-none}
-use Rattle.clue_rules.specs.Inner.LineTallies.{IsPossible, IsTally, IsWholeTally, IsCounted, IsClash, IsForced, IsFree, IsHidden, MayStay, IsKeptOf, HoldValuesTo}
+use Rattle.clue_rules.specs.Inner.LineTallies.{IsPossible, IsTally, IsWholeTally, IsSinglesOf, IsCounted, IsClash, IsForced, IsFree, IsHidden, MayStay, IsKeptOf, HoldValuesTo}
 use Rattle.clue_rules.specs.declared.lines.latin.LineTally.{LineTally}
 use Rattle.clue_rules.proofs.FilledLemmas.{entries_more}
 use Rattle.clue_rules.proofs.RangeLemmas.{below_one_more}
@@ -227,10 +227,6 @@ kept_nothing t set forced kept many f there two none = rw none (record {
 
 -- ---- one set counted
 
--- the single value of a set, or none
-pub record IsSinglesOf (set single : ℕ) : Type 0 where
-  pub is : (v : ℕ) → (has_number single v ≡ true) ↔ IsSingle set v
-
 pub singles_alone : (set value : ℕ) → IsSingle set value → IsSinglesOf set set
 singles_alone set value one = record {
   is = λ v. (
@@ -258,25 +254,25 @@ either a b c is = (
 )
 
 -- new's sets are the old ones with one set more
-pub record IsJoined (t : LineTally) (set single : ℕ) (u : LineTally) : Type 0 where
-  pub once : (v : ℕ) → has_number u.once v ≡ (has_number t.once v || has_number set v)
-  pub twice : (v : ℕ) → has_number u.twice v ≡ (has_number t.twice v || (has_number t.once v && has_number set v))
-  pub singles : (v : ℕ) → has_number u.singles v ≡ (has_number t.singles v || has_number single v)
-
-pub counted_more : (t u : LineTally) (set single : ℕ) → IsSinglesOf set single → (v : ℕ) × (has_number set v ≡ true)
-    → (IsShared t.singles single → ⊥) → IsJoined t set single u → IsCounted t set u
-counted_more t u set single s some apart h =
-    let twice = λ (v : ℕ). either (has_number t.twice v) (has_number t.once v && has_number set v) (has_number u.twice v) (h.twice v) in
-    let singles = λ (v : ℕ). either (has_number t.singles v) (has_number single v) (has_number u.singles v) (h.singles v) in
+pub counted_more : (t u : LineTally) (set single both : ℕ) → IsSinglesOf set single → (v : ℕ) × (has_number set v ≡ true)
+    → (IsShared t.singles single → ⊥)
+    → ((v : ℕ) → has_number u.once v ≡ (has_number t.once v || has_number set v))
+    → ((v : ℕ) → has_number both v ≡ (has_number t.once v && has_number set v))
+    → ((v : ℕ) → has_number u.twice v ≡ (has_number t.twice v || has_number both v))
+    → ((v : ℕ) → has_number u.singles v ≡ (has_number t.singles v || has_number single v))
+    → IsCounted t set u
+counted_more t u set single both s some apart in_once in_both in_twice in_singles =
+    let more = λ (v : ℕ). either (has_number t.twice v) (has_number both v) (has_number u.twice v) (in_twice v) in
+    let alone = λ (v : ℕ). either (has_number t.singles v) (has_number single v) (has_number u.singles v) (in_singles v) in
     record {
-      once = λ v. either (has_number t.once v) (has_number set v) (has_number u.once v) (h.once v);
+      once = λ v. either (has_number t.once v) (has_number set v) (has_number u.once v) (in_once v);
       twice = λ v. (
-        λ e. elim ((twice v).0 e) [ inl old ↦ inl old | inr new ↦ inr (and_parts _ _ new) ],
-        λ e. (twice v).1 (elim e [ inl old ↦ inl old | inr new ↦ inr (and_from _ _ new.0 new.1) ]),
+        λ e. elim ((more v).0 e) [ inl old ↦ inl old | inr new ↦ inr (and_parts _ _ (sym (in_both v) ∙ new)) ],
+        λ e. (more v).1 (elim e [ inl old ↦ inl old | inr new ↦ inr (in_both v ∙ and_from _ _ new.0 new.1) ]),
       );
       singles = λ v. (
-        λ e. elim ((singles v).0 e) [ inl old ↦ inl old | inr new ↦ inr ((s.is v).0 new) ],
-        λ e. (singles v).1 (elim e [ inl old ↦ inl old | inr new ↦ inr ((s.is v).1 new) ]),
+        λ e. elim ((alone v).0 e) [ inl old ↦ inl old | inr new ↦ inr ((s.is v).0 new) ],
+        λ e. (alone v).1 (elim e [ inl old ↦ inl old | inr new ↦ inr ((s.is v).1 new) ]),
       );
       some = some;
       fresh = λ v one. false_from_ne_true (has_number t.singles v) (λ e. apart (v, e, (s.is v).1 one));

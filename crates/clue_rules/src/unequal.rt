@@ -2,6 +2,7 @@
 
 ghost use Rattle.std.specs.Prelude.{◌≡◌, ◌*◌, ◌<◌, ◌≤◌, ◌↔◌, IsTrue};
 ghost use Rattle.std.specs.Cmp.{decided, partial_equiv_from_equiv};
+ghost use Rattle.latin_board.specs.declared.grid.TheConstants.{CELLS};
 ghost use Rattle.clue_rules.specs.Unequal.{IsUnequal, IsGreater, unequal_given_grid, is_greater, sign_between};
 ghost use Rattle.clue_rules.specs.Laws.UnequalSameness.{same_unequal, same_unequal_decides};
 
@@ -14,24 +15,22 @@ mod pieces;
 mod rules;
 mod sign;
 
-use latin_board::{Grid, Size};
+use latin_board::{CELLS, Grid, Size};
 use sign::Sign;
 use std::marker::Model;
-
-/// How many squares the largest puzzle has.
-const SQUARES: usize = 81;
 
 /// An Unequal puzzle: a size, a sign or none between each two neighbouring squares, and a given or none at each square.
 #[derive(Clone, Copy, Debug)]
 pub struct Unequal {
     // For each square in reading order, absent where the grid ends and past its last square.
-    right: [Sign; SQUARES],
-    below: [Sign; SQUARES],
+    right: [Sign; CELLS],
+    below: [Sign; CELLS],
     givens: Grid,
 }
 
 impl Model for Unequal {
     ghost use Rattle.std.specs.Prelude.{◌-◌, ◌*◌, ◌++◌, replicate};
+    ghost use Rattle.latin_board.specs.declared.grid.TheConstants.{CELLS};
     ghost use Rattle.clue_rules.specs.declared.unequal.sign.Sign.TheVariants.{Absent};
     ghost use Rattle.clue_rules.specs.Unequal.{UnequalValue};
     ghost use Rattle.clue_rules.specs.Inner.Filled.{places_and_rest};
@@ -44,14 +43,14 @@ impl Model for Unequal {
     ghost invariant = { λ p. KeepsUnequal p.right p.below p.givens };
 
     ghost inverse = { λ v. record {
-      right = v.right ++ replicate (81 - v.size * v.size) Absent;
-      below = v.below ++ replicate (81 - v.size * v.size) Absent;
+      right = v.right ++ replicate (CELLS - v.size * v.size) Absent;
+      below = v.below ++ replicate (CELLS - v.size * v.size) Absent;
       givens = record { size = v.size; numbers = v.givens };
     } };
 
     ghost inverse_ok = { λ p h.
-        let right = places_and_rest Absent 81 (p.givens.size * p.givens.size) p.right h.right_kept.padded in
-        let below = places_and_rest Absent 81 (p.givens.size * p.givens.size) p.below h.below_kept.padded in
+        let right = places_and_rest Absent CELLS (p.givens.size * p.givens.size) p.right h.right_kept.padded in
+        let below = places_and_rest Absent CELLS (p.givens.size * p.givens.size) p.below h.below_kept.padded in
         λ i. record { right = right i; below = below i; givens = p.givens } };
 }
 
@@ -153,7 +152,7 @@ impl Eq for Unequal {
 // How many squares a grid has.
 fn square_count(size: Size) -> usize
     ensures value { result ≡ size * size }
-    ensures bound { result ≤ 81 }
+    ensures bound { result ≤ CELLS }
 {
     let width = size.get() as usize;
     width * width

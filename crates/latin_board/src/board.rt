@@ -1,6 +1,4 @@
 //! Boards: numbers, pencil marks, two flags and done marks, and the exchange with a change.
-//!
-//! A line `let _size = ..` is there for the contract of `size`, which tells the check that the board or grid is a valid one.
 
 ghost use Rattle.std.specs.Prelude.{◌≡◌, ℕ, ◌+◌, ◌*◌, ◌<◌, ◌≤◌, ◌↔◌, ◌==◌, not, IsTrue, if◌then◌else◌, slice_set, replicate};
 ghost use Rattle.std.specs.Cmp.{decided, partial_equiv_from_equiv};

@@ -52,7 +52,6 @@ impl Grid {
     pub fn blank(size: Size) -> Grid
         ensures { result ≡ blank_grid size }
     {
-        // `get` tells that the size is one from 3 to 9.
         let _width = size.get();
         Grid {
             size,

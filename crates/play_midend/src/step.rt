@@ -1,6 +1,4 @@
 //! One move on a board: its refusals, and the change that makes it.
-//!
-//! A line `let _size = ..` is there for the contract of `size`, which tells the check that the board or grid is a valid one.
 
 ghost use Rattle.std.specs.Prelude.{◌≡◌, ◌<◌, ◌≤◌, ◌+◌, ◌*◌, None, Some, false, IfOk, IfErr, IsOk, OnOk, MatchResult};
 ghost use Rattle.latin_board.specs.Marks.{IsMarkSet};

@@ -19,7 +19,6 @@ pub(crate) fn pruned<P: Rules>(grid: &Grid, order: &[u8]) -> P
     requires order { IsOrder (P.items_of grid.now.size) order.now }
     ensures { IsOnePruned ⟦<P as Rules>⟧ grid.now order.now result }
 {
-    // The laws of `Rules` are for grids, and that this is one is a clause of `size`.
     let _size = grid.size();
     let mut puzzle = P::full(grid);
     for k in 0..order.len() {

@@ -19,7 +19,6 @@ pub(crate) fn keep_only(candidates: &mut Candidates, cell: usize, value: u8)
             candidates.remove(cell, other);
         }
     }
-    // What a trail's length can be is a clause of `trail_len`.
     let _bound = candidates.trail_len();
 }
 
@@ -32,7 +31,6 @@ pub(crate) fn take_away(candidates: &mut Candidates, cell: usize, value: u8)
     ensures bound { length candidates.new.trail ≤ PAIRS }
 {
     candidates.remove(cell, value);
-    // What a trail's length can be is a clause of `trail_len`.
     let _size = candidates.size();
     let _bound = candidates.trail_len();
 }

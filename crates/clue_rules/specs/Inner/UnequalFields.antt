@@ -1,5 +1,6 @@
 -- What the fields of an Unequal puzzle keep, and what they stand for.
 use Rattle.std.specs.Prelude.{◌≡◌, ℕ, ◌*◌, List, None, slice_index_or, take}
+use Rattle.latin_board.specs.declared.grid.TheConstants.{CELLS}
 use Rattle.latin_board.specs.Squares.{GridValue, IsGrid}
 use Rattle.clue_rules.specs.declared.unequal.direction.Direction.{Direction}
 use Rattle.clue_rules.specs.declared.unequal.direction.Direction.TheVariants.{Right, Down}
@@ -8,9 +9,9 @@ use Rattle.clue_rules.specs.declared.unequal.sign.Sign.TheVariants.{Absent}
 use Rattle.clue_rules.specs.Inner.Filled.{IsFilledTo}
 use Rattle.clue_rules.specs.Unequal.{UnequalValue, neighbour, signs_towards}
 
--- 81 places for the signs of squares towards their neighbours in a direction: absent where the grid ends, and past its last square
+-- the signs of squares towards their neighbours in a direction, a place for each square of the largest grid: absent where the grid ends, and past its last square
 pub record KeepsSigns (w : ℕ) (d : Direction) (places : List Sign) : Type 0 where
-  pub padded : IsFilledTo Absent 81 (w * w) places
+  pub padded : IsFilledTo Absent CELLS (w * w) places
   pub ends : (cell : ℕ) → neighbour w cell d ≡ None → slice_index_or (take (w * w) places) cell Absent ≡ Absent
 
 -- signs to the right, signs below, and a grid of givens

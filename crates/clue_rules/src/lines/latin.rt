@@ -2,7 +2,7 @@
 
 ghost use Rattle.std.specs.Prelude.{ℕ, ◌-◌, ◌*◌, ◌<◌, ◌≤◌, ◌&&◌, true, false, MatchOption, slice_index};
 ghost use Rattle.clue_rules.specs.Inner.Narrowing.{IsSquare, Narrows, NoneStruck};
-ghost use Rattle.clue_rules.specs.Inner.LineTallies.{AreImpossible, IsWholeTally, IsCounted, IsClash, IsForced, IsFree, IsKeptOf, IsLineStruck};
+ghost use Rattle.clue_rules.specs.Inner.LineTallies.{AreImpossible, IsWholeTally, IsSinglesOf, IsCounted, IsClash, IsForced, IsFree, IsKeptOf, IsLineStruck};
 ghost use Rattle.clue_rules.specs.Struck.{IsLatinStruck};
 ghost use Rattle.clue_rules.specs.Views.{front_place};
 
@@ -38,7 +38,6 @@ fn strike_lines(candidates: &mut Candidates, changed: &mut ChangedLines) -> bool
 pub(crate) fn settle_latin(candidates: &mut Candidates, changed: &mut ChangedLines) -> bool
     ensures { Narrows IsSquare NoneStruck candidates.old candidates.new result }
 {
-    // The proof learns here that the width is from 3 to 9.
     let _size = candidates.size();
     loop {
         if changed.latin_is_settled() {
@@ -112,22 +111,31 @@ fn tally_of(sets: &[NumberSet; LINE], width: usize) -> Option<LineTally>
     Some(tally)
 }
 
+// The set where it has just one value, and none otherwise.
+#[tactic(auto, using(crate::proofs::LineTallying::singles_alone, crate::proofs::LineTallying::singles_none))]
+fn single_of(set: NumberSet) -> NumberSet
+    ensures { IsSinglesOf set result }
+{
+    if set.is_single() {
+        set
+    } else {
+        NumberSet::empty()
+    }
+}
+
 impl LineTally {
     ghost use Rattle.std.specs.Prelude.{ℕ, ◌<◌, MatchOption, slice_index};
     ghost use Rattle.clue_rules.specs.Inner.LineTallies.{IsCounted, IsClash, IsForced, IsFree, IsKeptOf};
 
     // The tally with one set more, or none where the set is empty or its only value is alone in another set.
+    #[tactic(auto, using(crate::proofs::LineTallying::clash_twice))]
     fn with(self, set: NumberSet) -> Option<LineTally>
         ensures { MatchOption result (IsClash self set) (IsCounted self set) }
     {
         if set.is_empty() {
             return None;
         }
-        let single = if set.is_single() {
-            set
-        } else {
-            NumberSet::empty()
-        };
+        let single = single_of(set);
         if !self.singles.is_disjoint(single) {
             return None;
         }

@@ -99,7 +99,6 @@ fn settle_rules<P: LineRules>(
     requires { candidates.old.size ≡ P.width p.now }
     ensures { Narrows (P.sought p.now) NoneStruck candidates.old candidates.new result }
 {
-    // The proof learns here that the width is from 3 to 9.
     let _size = candidates.size();
     loop {
         if changed.rule_is_settled() {

@@ -61,7 +61,6 @@ impl Towers {
         ensures { Narrows (Solves (towers_puzzle self.now)) (IsStruckAt self.now place)
             candidates.old candidates.new result }
     {
-        // The proof learns here that the width is from 3 to 9.
         let _size = candidates.size();
         let before = candidates.trail_len();
         let left = self.strike_view(candidates, place, changed);

@@ -14,8 +14,8 @@ use crate::id_fault::IdFault;
 use crate::unequal::direction::Direction;
 use crate::unequal::pieces::{has_letters, number_in, pieces_of, points_inside, says};
 use crate::unequal::sign::Sign;
-use crate::unequal::{SQUARES, Unequal, square_count};
-use latin_board::{Grid, Size};
+use crate::unequal::{Unequal, square_count};
+use latin_board::{CELLS, Grid, Size};
 use std::alloc::{AllocError, Global};
 use trail_solver::Rules;
 
@@ -98,7 +98,7 @@ fn piece_at<'a>(pieces: &[&'a [u8]], cell: usize) -> &'a [u8]
 
 // The signs towards the neighbours in a direction, or `None` where the pieces of two of them contradict each other.
 #[tactic(auto, using(crate::proofs::UnequalTables::signs_filled, crate::specs::Laws::SaidSigns::squares_contradict))]
-fn signs_in(size: Size, pieces: &[&[u8]], direction: Direction) -> Option<[Sign; SQUARES]>
+fn signs_in(size: Size, pieces: &[&[u8]], direction: Direction) -> Option<[Sign; CELLS]>
     requires { length pieces.now ≡ size * size }
     ensures agree { IfSome result (λ signs. list_any
         (contradicts_towards size (texts_of pieces.now) direction)
@@ -107,7 +107,7 @@ fn signs_in(size: Size, pieces: &[&[u8]], direction: Direction) -> Option<[Sign;
         (HoldsSignsOf size (sign_said size (texts_of pieces.now)) direction) }
     ensures none { IfNone result (contradicts size (texts_of pieces.now) ≡ true) }
 {
-    let mut signs = [Sign::Absent; SQUARES];
+    let mut signs = [Sign::Absent; CELLS];
     for cell in 0..square_count(size) {
         signs[cell] = sign_in(size, pieces, cell, direction)?;
     }
@@ -177,7 +177,6 @@ fn push_piece(text: &mut Vec<u8>, puzzle: &Unequal, cell: usize) -> Result<(), A
     requires { cell < puzzle.now.size * puzzle.now.size }
     ensures { OnOk result (text.new.items ≡ text.old.items ++ piece_written puzzle.now cell) }
 {
-    // The proof learns here that the width is from 3 to 9.
     let _size = puzzle.size().get();
     text.push(b'0' + puzzle.given(cell))?;
     for direction in Direction::ALL {

@@ -142,7 +142,6 @@ impl SignEnds {
         ensures { Narrows (HoldsGreater self) (IsGreaterStruck self)
             candidates.old candidates.new result }
     {
-        // The proof learns here that the width is from 3 to 9.
         let _size = candidates.size();
         let kept = candidates.values(self.lesser).above_least();
         keep_in_square(candidates, self.greater, kept, changed)

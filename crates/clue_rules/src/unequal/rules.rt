@@ -15,8 +15,8 @@ use crate::lines::narrowing::{narrow_by_lines, narrow_by_lines_of};
 use crate::unequal::direction::Direction;
 use crate::unequal::item::{Item, item_at, item_count};
 use crate::unequal::sign::Sign;
-use crate::unequal::{SQUARES, Unequal, square_count};
-use latin_board::{Grid, Size};
+use crate::unequal::{Unequal, square_count};
+use latin_board::{CELLS, Grid, Size};
 use trail_solver::{Candidates, Rules};
 
 impl Unequal {
@@ -64,10 +64,10 @@ impl Unequal {
 
 // The signs that the numbers of a grid give towards the neighbours in a direction.
 #[tactic(auto, using(crate::proofs::UnequalTables::signs_filled))]
-fn signs_of(grid: &Grid, direction: Direction) -> [Sign; SQUARES]
+fn signs_of(grid: &Grid, direction: Direction) -> [Sign; CELLS]
     ensures { HoldsSignsOf grid.now.size (sign_in_grid grid.now) direction result }
 {
-    let mut signs = [Sign::Absent; SQUARES];
+    let mut signs = [Sign::Absent; CELLS];
     for cell in 0..square_count(grid.size()) {
         signs[cell] = sign_towards(grid, cell, direction);
     }
@@ -167,7 +167,6 @@ impl Rules for Unequal {
             ↔ (AreNeighbours grid.now.size a b × (number_at grid.now b < number_at grid.now a)) }
         ensures givens { result.givens ≡ grid.now.numbers }
     {
-        // The proof learns here that the width is from 3 to 9.
         let _size = grid.size();
         Unequal {
             right: signs_of(grid, Direction::Right),

@@ -4,7 +4,7 @@ ghost use Rattle.puzzle_cli.specs.Symbols.{square_at, spaced_line};
 ghost use Rattle.puzzle_cli.specs.SolutionTexts.{grid_digits};
 
 use arrayvec::ArrayVec;
-use latin_board::{Board, Grid};
+use latin_board::{Board, CELLS, Grid};
 use std::alloc::AllocError;
 
 /// The symbol of a square: its number, or a dot where it is empty.
@@ -21,7 +21,7 @@ pub(crate) fn square_at(board: &Board, cell: usize) -> u8
 }
 
 /// The digits of a grid in reading order.
-pub(crate) fn grid_digits(grid: &Grid) -> ArrayVec<u8, 81>
+pub(crate) fn grid_digits(grid: &Grid) -> ArrayVec<u8, CELLS>
     ensures { result.items ≡ grid_digits grid.now }
 {
     let width = usize::from(grid.size().get());
