@@ -272,7 +272,8 @@ fn one_item_is_all_that_is_asked(rt: HostRuntime) -> Result<(), Fail> {
         assert!(rt; p.has_item(0));
         p.drop_item(0);
         assert!(rt; !p.has_item(0));
-        assert_eq!(rt; solutions(rt.alloc(), &p, 100)?.len(), 12, "hopeless: {hopeless}");
+        let squares = solutions(rt.alloc(), &p, 100)?;
+        assert_eq!(rt; squares.len(), 12, "hopeless: {hopeless}");
     }
     Ok(())
 }
