@@ -1,12 +1,13 @@
 -- The values of a set are kept in a square, and those of a row of sets along a line.
-use Rattle.std.proofs.Common.{◌≡◌, ◌≢◌, ℕ, ◌*◌, ◌<◌, ◌≤◌, ◌⊎◌, true, false, List, set, inl, inr, refl, sym, ◌∙◌, subst, ⊎_elim, slice_index}
-use Rattle.std.proofs.lemmas.Bool.{cases_eq, both_ways, false_from_ne_true}
+use Rattle.std.proofs.Common.{◌≡◌, ◌≢◌, ℕ, ◌*◌, ◌<◌, ◌≤◌, ◌⊎◌, ◌+◌, ◌==◌, true, false, List, set, inl, inr, refl, sym, ap, ◌∙◌, subst, ⊎_elim, slice_index, arith}
+use Rattle.std.proofs.lemmas.Bool.{cases_eq, cases_lt, both_ways, false_from_ne_true, ne_eqb}
 use Rattle.number_sets.specs.Sets.{has_number, IsSubset}
 use Rattle.latin_board.specs.Squares.{GridValue, number_at}
 use Rattle.trail_solver.specs.Pairs.{IsPair}
 use Rattle.trail_solver.specs.Candidates.{CandidatesValue, IsSetOf, IsEarlier, IsWithin, may_be}
-use Rattle.trail_solver.proofs.Earlier.{earlier_refl}
+use Rattle.trail_solver.proofs.Earlier.{earlier_refl, earlier_trans, stays_gone}
 use Rattle.clue_rules.specs.Inner.Narrowing.{KeepsInSquare, KeepsInView, Agrees, AreSetsOf, KeepsEach}
+use Rattle.clue_rules.specs.Struck.{IsGivenStruck}
 use Rattle.clue_rules.specs.Views.{view_cell}
 
 -- ---- one square, value by value
@@ -59,11 +60,33 @@ along_whole place sets kept c is same = record {
       both_ways (has_number (slice_index kept k) v) lacks (subst P (same k inside) ((is.each k inside v).1 (pair, left))));
 }
 
--- ---- the sets of a line
-
 -- ---- givens
 
--- a step that keeps the grids with these givens
-pub record KeepsGivens (givens : GridValue) (first now : CandidatesValue) : Type 0 where
+-- where one value is kept, the others are gone
+pub others_gone : (old new : CandidatesValue) (cell kept given v : ℕ) → KeepsInSquare old new cell kept
+    → ((k : ℕ) → has_number kept k ≡ (k == given)) → IsPair old.size cell v → v ≢ given → may_be new cell v ≡ false
+others_gone old new cell kept given v k members pair apart = k.gone v pair (members v ∙ ne_eqb v given apart)
+
+-- a step that keeps the grids with these givens, and of the first n squares takes the values that the givens rule out
+pub record KeepsGivens (givens : GridValue) (n : ℕ) (first now : CandidatesValue) : Type 0 where
   pub less : IsEarlier first now
   pub keeps : KeepsEach (Agrees givens) first now
+  pub struck : (cell v : ℕ) → cell < n → IsPair first.size cell v → IsGivenStruck givens cell v → may_be now cell v ≡ false
+
+-- one square more
+pub more_givens : (givens : GridValue) (n given : ℕ) (first now new : CandidatesValue) → n < givens.size * givens.size
+    → given ≡ number_at givens n → KeepsGivens givens n first now → IsEarlier now new
+    → KeepsEach (λ g. 0 < given → number_at g n ≡ given) now new
+    → (0 < given → (v : ℕ) → IsPair now.size n v → v ≢ given → may_be new n v ≡ false) → KeepsGivens givens (n + 1) first new
+more_givens givens n given first now new inside is h less keeps struck = record {
+  less = earlier_trans first now new h.less less;
+  keeps = λ g agrees w. keeps g (λ some. agrees.each n inside (omega arith) ∙ sym is) (h.keeps g agrees w);
+  struck = λ cell v low pair by. elim (cases_lt cell n) [
+    | inl before ↦ stays_gone now new cell v less (h.struck cell v before pair by)
+    | inr last ↦
+        let here : n ≡ cell = omega arith in
+        let value : given ≡ number_at givens cell = is ∙ ap (number_at givens) here in
+        let there : IsPair now.size n v = subst (λ (w : ℕ). IsPair w n v) (sym h.less.size) (subst (λ (i : ℕ). IsPair first.size i v) (sym here) pair) in
+        subst (λ (i : ℕ). may_be new i v ≡ false) here (struck (omega (arith, by.given)) v there (λ same. by.apart (same ∙ value)))
+  ];
+}

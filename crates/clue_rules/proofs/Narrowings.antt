@@ -4,10 +4,10 @@ use Rattle.std.specs.Bool.{OnTrue, OnFalse}
 use Rattle.std.proofs.Math.Nat.{mul-le-mul_left}
 use Rattle.latin_board.specs.Squares.{GridValue}
 use Rattle.trail_solver.specs.Pairs.{IsPair}
-use Rattle.trail_solver.specs.Candidates.{CandidatesValue, IsEarlier, may_be}
+use Rattle.trail_solver.specs.Candidates.{CandidatesValue, IsEarlier}
 use Rattle.trail_solver.proofs.Earlier.{earlier_trans, prefix_length, stays_gone}
 use Rattle.clue_rules.specs.Inner.Narrowing.{LacksStruck, Narrows, NoneStruck, StruckBelow, IsStruckByLines}
-use Rattle.clue_rules.specs.Struck.{IsLatinStruck}
+use Rattle.clue_rules.specs.Struck.{IsGivenStruck, IsLatinStruck, NoneLeft}
 use Rattle.clue_rules.proofs.RangeLemmas.{below_cases}
 
 pub on_true : (b : Bool) {P Q : Type 0} → (P → Q) → OnTrue b P → OnTrue b Q
@@ -92,8 +92,12 @@ trail_nearer old new size before after e was is grew bound small =
     let most = cube_most size small in
     omega arith
 
--- what is struck by the first candidates is gone in the end
-pub struck_gone : {S : GridValue → Type 0} {T : CandidatesValue → ℕ → ℕ → Type 0} {first old new : CandidatesValue} {r : Bool}
-    → IsEarlier first old → Narrows S T old new r
-    → OnTrue r ((cell v : ℕ) → IsPair first.size cell v → T first cell v → may_be new cell v ≡ false)
-struck_gone {first = first} {r = r} e h = on_true r (λ lacks cell v pair s. lacks.each first e cell v pair s) h.struck
+-- what the givens rule out is gone after the first step, and what is struck by the first candidates in the end
+pub struck_gone : {S : GridValue → Type 0} {T : CandidatesValue → ℕ → ℕ → Type 0} {givens : GridValue} {first old new : CandidatesValue} {r : Bool}
+    → NoneLeft (λ c. IsGivenStruck givens) first old → IsEarlier first old → Narrows S T old new r
+    → OnTrue r (NoneLeft (λ c cell v. IsGivenStruck givens cell v ⊎ T c cell v) first new)
+struck_gone {first = first} {old = old} {new = new} {r = r} given e h =
+    on_true r (λ lacks cell v pair s. elim s [
+      | inl by ↦ stays_gone old new cell v h.less (given cell v pair by)
+      | inr by ↦ lacks.each first e cell v pair by
+    ]) h.struck

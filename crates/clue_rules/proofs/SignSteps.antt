@@ -1,5 +1,5 @@
 -- What a sign rules out in the squares on both its sides, and along a line.
-use Rattle.std.proofs.Common.{◌≡◌, ℕ, ◌*◌, ◌<◌, ◌≤◌, ◌↔◌, Bool, true, false, not, inl, inr, refl, sym, ap, ◌∙◌, subst, arith, ◌==◌}
+use Rattle.std.proofs.Common.{◌≡◌, ℕ, ◌*◌, ◌<◌, ◌≤◌, ◌↔◌, ◌⊎◌, Bool, true, false, not, inl, inr, refl, sym, ap, ◌∙◌, subst, arith, ◌==◌}
 use Rattle.std.specs.Bool.{OnTrue, OnFalse}
 use Rattle.std.proofs.lemmas.Bool.{both_ways, false_from_ne_true, cases_eq, eq-eqb, ne_eqb}
 use Rattle.number_sets.specs.Sets.{has_number}
@@ -10,11 +10,11 @@ use Rattle.trail_solver.specs.Candidates.{CandidatesValue, IsSetOf, IsEarlier, I
 use Rattle.trail_solver.specs.Puzzles.{Solves}
 use Rattle.trail_solver.proofs.Earlier.{was_left}
 use Rattle.clue_rules.specs.Inner.Narrowing.{IsStruckByLines, KeepsInSquare, Narrows, StruckBelow}
-use Rattle.clue_rules.specs.Unequal.{UnequalValue, IsUnequal, IsGreater, unequal_puzzle}
+use Rattle.clue_rules.specs.Unequal.{UnequalValue, IsUnequal, IsGreater, unequal_puzzle, unequal_given_grid}
 use Rattle.clue_rules.specs.Laws.Neighbours.{IsNext, next_line, next_inside}
 use Rattle.clue_rules.specs.Laws.Signs.{greater_next}
 use Rattle.clue_rules.proofs.SignLemmas.{signs_held}
-use Rattle.clue_rules.specs.Struck.{IsUnequalStruck}
+use Rattle.clue_rules.specs.Struck.{IsGivenStruck, IsUnequalStruck}
 use Rattle.clue_rules.specs.Inner.UnequalLines.{AreEnds, IsStruckAt, IsStruckOn, IsStruckAlong, HoldsGreater, AreInside, IsLesserStruck, IsGreaterStruck, IsEndStruck}
 use Rattle.clue_rules.specs.declared.unequal.sign.Sign.TheVariants.{FirstGreater, SecondGreater}
 use Rattle.clue_rules.proofs.KeptCandidates.{within_kept}
@@ -153,11 +153,15 @@ struck_along v c a b cell value valid size greater struck =
     ]
 
 pub unequal_by_lines : (v : UnequalValue) (c : CandidatesValue) (cell value : ℕ) → IsUnequal v → c.size ≡ v.size
-    → IsUnequalStruck v c cell value → IsStruckByLines (IsStruckAlong v) c cell value
+    → IsUnequalStruck v c cell value
+    → IsGivenStruck (unequal_given_grid v) cell value ⊎ IsStruckByLines (IsStruckAlong v) c cell value
 unequal_by_lines v c cell value valid size struck = elim struck [
-  | inl latin ↦ inl latin
-  | inr sign ↦ inr (elim sign.why [
-    | inl lower ↦ struck_along v c sign.other cell cell value valid size lower.0 (inl (record { here = refl; none = lower.1 }))
-    | inr upper ↦ struck_along v c cell sign.other cell value valid size upper.0 (inr (record { here = refl; none = upper.1 }))
+  | inl given ↦ inl given
+  | inr by ↦ inr (elim by [
+    | inl latin ↦ inl latin
+    | inr sign ↦ inr (elim sign.why [
+      | inl lower ↦ struck_along v c sign.other cell cell value valid size lower.0 (inl (record { here = refl; none = lower.1 }))
+      | inr upper ↦ struck_along v c cell sign.other cell value valid size upper.0 (inr (record { here = refl; none = upper.1 }))
+    ])
   ])
 ]

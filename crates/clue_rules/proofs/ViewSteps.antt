@@ -14,8 +14,8 @@ use Rattle.trail_solver.specs.Puzzles.{Solves}
 use Rattle.trail_solver.proofs.Earlier.{was_left}
 use Rattle.clue_rules.specs.Inner.Narrowing.{AreSetsOf, IsSquare, IsStruckByLines, KeepsInView, Narrows}
 use Rattle.clue_rules.specs.Laws.TowersItems.{length-view_of, clues_decide}
-use Rattle.clue_rules.specs.Towers.{towers_puzzle, TowersValue, clue_of}
-use Rattle.clue_rules.specs.Struck.{IsViewFilling, IsViewStruck, IsTowersStruck}
+use Rattle.clue_rules.specs.Towers.{towers_puzzle, TowersValue, clue_of, towers_given_grid}
+use Rattle.clue_rules.specs.Struck.{IsGivenStruck, IsViewFilling, IsViewStruck, IsTowersStruck}
 use Rattle.clue_rules.specs.Inner.TowersLines.{IsStruckAlong, IsStruckAt, ShowsClue, AreSupported, KeepSupported}
 use Rattle.clue_rules.specs.Views.{view_of, view_cell, view_line, view_index, front_place}
 use Rattle.clue_rules.proofs.LineSteps.{along_narrows, grid_pair, in_set}
@@ -211,18 +211,21 @@ ends_narrow v line front back old between new left first second one two =
 -- ---- all that a puzzle strikes
 
 pub towers_by_lines : (v : TowersValue) (c : CandidatesValue) (cell value : ℕ) → IsTowersStruck v c cell value
-    → IsStruckByLines (IsStruckAlong v) c cell value
+    → IsGivenStruck (towers_given_grid v) cell value ⊎ IsStruckByLines (IsStruckAlong v) c cell value
 towers_by_lines v c cell value struck = elim struck [
-  | inl latin ↦ inl latin
-  | inr tower ↦ inr (
-    view_line c.size tower.place,
-    view_line_low c.size tower.place tower.place_is,
-    record {
-      place = tower.place;
-      place_is = tower.place_is;
-      line_is = refl;
-      clued = tower.clued;
-      struck = tower.struck;
-    },
-  )
+  | inl given ↦ inl given
+  | inr by ↦ inr (elim by [
+    | inl latin ↦ inl latin
+    | inr tower ↦ inr (
+      view_line c.size tower.place,
+      view_line_low c.size tower.place tower.place_is,
+      record {
+        place = tower.place;
+        place_is = tower.place_is;
+        line_is = refl;
+        clued = tower.clued;
+        struck = tower.struck;
+      },
+    )
+  ])
 ]

@@ -1,12 +1,19 @@
--- What narrowing rules out, by the candidates alone: by rows and columns, by the clues of Towers, by the signs of Unequal.
+-- What narrowing rules out, by the candidates alone: by the givens, by rows and columns, by the clues of Towers, by the signs of
+-- Unequal.
 use Rattle.std.specs.Prelude.{◌≡◌, ◌≢◌, ℕ, ◌*◌, ◌<◌, ◌≤◌, ◌⊎◌, true, List, length, slice_index, false}
 use Rattle.latin_board.specs.Lines.{line_cell, ArePeers}
+use Rattle.latin_board.specs.Squares.{GridValue, number_at}
 use Rattle.trail_solver.specs.Candidates.{CandidatesValue, IsOnly, may_be}
 use Rattle.tower_lines.specs.TowersSeen.{seen}
 use Rattle.trail_solver.specs.Pairs.{IsPair}
-use Rattle.clue_rules.specs.Towers.{TowersValue, clue_of}
+use Rattle.clue_rules.specs.Towers.{TowersValue, clue_of, towers_given_grid}
 use Rattle.clue_rules.specs.Views.{view_cell}
-use Rattle.clue_rules.specs.Unequal.{UnequalValue, IsGreater}
+use Rattle.clue_rules.specs.Unequal.{UnequalValue, IsGreater, unequal_given_grid}
+
+-- the cell has a given, and it is another value
+pub record IsGivenStruck (givens : GridValue) (cell value : ℕ) : Type 0 where
+  pub given : 0 < number_at givens cell
+  pub apart : value ≢ number_at givens cell
 
 -- the line's k-th square is the one place of the value in the line
 pub record IsOnePlace (c : CandidatesValue) (line value k : ℕ) : Type 0 where
@@ -64,7 +71,8 @@ pub record IsClueStruck (v : TowersValue) (c : CandidatesValue) (cell value : �
 
 -- what a Towers puzzle rules out
 abbrev pub IsTowersStruck : TowersValue → CandidatesValue → ℕ → ℕ → Type 0
-IsTowersStruck v c cell value = IsLatinStruck c cell value ⊎ IsClueStruck v c cell value
+IsTowersStruck v c cell value =
+    IsGivenStruck (towers_given_grid v) cell value ⊎ (IsLatinStruck c cell value ⊎ IsClueStruck v c cell value)
 
 -- no candidate of the cell is greater than the value
 abbrev pub HasNoneAbove : CandidatesValue → ℕ → ℕ → Type 0
@@ -82,7 +90,8 @@ pub record IsSignStruck (v : UnequalValue) (c : CandidatesValue) (cell value : �
 
 -- what an Unequal puzzle rules out
 abbrev pub IsUnequalStruck : UnequalValue → CandidatesValue → ℕ → ℕ → Type 0
-IsUnequalStruck v c cell value = IsLatinStruck c cell value ⊎ IsSignStruck v c cell value
+IsUnequalStruck v c cell value =
+    IsGivenStruck (unequal_given_grid v) cell value ⊎ (IsLatinStruck c cell value ⊎ IsSignStruck v c cell value)
 
 -- ---- what narrowing the old candidates to the new ones leaves
 

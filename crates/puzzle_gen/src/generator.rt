@@ -30,7 +30,8 @@ pub fn generate<P: Game>(params: &Params, seed: u64) -> Result<P, GenFault>
     ensures only_solution { IfOk result (λ p.
         IsOnlySolution (P.puzzle p) (square_of params.now.size seed)) }
 
-    // Without any one of its items it has several solutions.
+    // Without any one of its items it has several solutions. These are all that it asks: by `cut_none` of `Rules`, without
+    // any it is solved by every Latin square of its size.
     ensures all_needed { IfOk result (λ p. (i : ℕ) → i < P.items_of params.now.size
         → IsTrue (P.has p i) → HasSeveralSolutions (P.puzzle (P.cut p (all_but i)))) }
 

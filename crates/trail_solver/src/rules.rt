@@ -1,5 +1,5 @@
 //! What the rules of a game owe, and whether a grid is a solution.
-ghost use Rattle.std.specs.Prelude.{◌≡◌, ℕ, ◌*◌, ◌<◌, ◌≤◌, ◌↔◌, ◌==◌, ◌&&◌, Bool, true, not, IsTrue};
+ghost use Rattle.std.specs.Prelude.{◌≡◌, ℕ, ◌*◌, ◌<◌, ◌≤◌, ◌↔◌, ◌==◌, ◌&&◌, Bool, true, false, not, IsTrue};
 ghost use Rattle.std.specs.Bool.{OnFalse};
 ghost use Rattle.latin_board.specs.Squares.{GridValue, IsGrid, IsFull, IsLatin, number_at};
 ghost use Rattle.trail_solver.specs.Candidates.{IsEarlier};
@@ -11,8 +11,9 @@ use latin_board::{Grid, Size};
 
 /// A puzzle on a Latin square, as a solver and a generator see it.
 ///
-/// A puzzle has a size, given numbers, and clues or signs. All of these are its items, numbered from 0; which item a
-/// number stands for is the puzzle's own affair. Generic code knows of them only what the laws below say.
+/// A puzzle has a size, given numbers, and clues or signs. All of these but the size are its items, numbered from 0; which
+/// item a number stands for is the puzzle's own affair. Generic code knows of them only what the laws below say. By these
+/// a puzzle asks nothing beside its items: no game is lawful that has a given, a clue or a sign for which no item stands.
 pub trait Rules: Copy {
     // The size, the givens, which grids meet the clues or signs, and where clues stand at the edge.
     ghost puzzle: { Self → Puzzle };
@@ -118,6 +119,11 @@ pub trait Rules: Copy {
     // A cut loses no solution.
     ghost cut_solved: { (p : Self) (keep : ℕ → Bool) (g : GridValue) → valid p
         → Solves (puzzle p) g → Solves (puzzle (cut p keep)) g };
+
+    // All that a puzzle asks are its items: without any, each Latin square of its size solves it. So there is no given, clue
+    // or sign that no item stands for; of a puzzle with one, 'every item is needed' would say nothing.
+    ghost cut_none: { (p : Self) (g : GridValue) → valid p → IsGrid g → IsLatin g → g.size ≡ (puzzle p).size
+        → Solves (puzzle (cut p (λ i. false))) g };
 
     // The full puzzle of a Latin square has its size, its numbers as givens and every item, and the square solves it.
     ghost full_valid: { (g : GridValue) → IsGrid g → IsLatin g → valid (full_of g) };

@@ -1,65 +1,72 @@
 //! Candidates with their trail, and solving, over a small puzzle of the tests' own.
 
-ghost use Rattle.std.specs.Prelude.{◌≡◌, IfOk};
+ghost use Rattle.std.specs.Prelude.{◌≡◌, ◌&&◌, IfOk};
 
 use latin_board::{Grid, Size};
 use std::test::Fail;
 use trail_solver::{Answer, Candidates, Rules, solutions, solve, solves};
 
-// Givens that no item stands for, and one item that asks nothing. A hopeless puzzle has no solution, and narrowing says so.
+// A puzzle with one item, which is all that it asks: its givens, or, of a hopeless puzzle, what no grid has, and narrowing
+// says so.
 #[derive(Clone, Copy)]
 struct Plain {
     givens: Grid,
     hopeless: bool,
-    marked: bool,
+    // Whether it has its item.
+    asked: bool,
+}
+
+impl Plain {
+    fn is_refuted(&self) -> bool
+        ensures { result ≡ (self.now.asked && self.now.hopeless) }
+    {
+        self.asked && self.hopeless
+    }
 }
 
 impl Rules for Plain {
     ghost use Rattle.std.specs.Prelude.{◌≡◌, ◌*◌, ℕ, Bool, true, false, not, ◌&&◌, refl};
     ghost use Rattle.std.proofs.Common.{ap, arith};
-    ghost use Rattle.latin_board.specs.Squares.{IsGrid, number_at};
-    ghost use Rattle.latin_board.proofs.Numbers.{number_within};
+    ghost use Rattle.latin_board.specs.Squares.{IsGrid};
+    ghost use Rattle.call_tests.specs.Plain as laws;
 
-    ghost puzzle = { λ p. record {
-      size = p.givens.size;
-      given = λ cell. number_at p.givens cell;
-      meets = λ g. not p.hopeless;
-      clued = λ place. false;
-    } };
+    ghost puzzle = { λ p. laws.plain_puzzle p.givens p.hopeless p.asked };
 
     ghost valid = { λ p. IsGrid p.givens };
 
     ghost items_of = { λ n. 1 };
 
-    ghost has = { λ p i. p.marked };
+    ghost has = { λ p i. p.asked };
 
-    ghost cut = { λ p keep. record p { marked = p.marked && keep 0 } };
+    ghost cut = { λ p keep. record p { asked = p.asked && keep 0 } };
 
-    ghost full_of = { λ g. record { givens = g; hopeless = false; marked = true } };
+    ghost full_of = { λ g. record { givens = g; hopeless = false; asked = true } };
 
     ghost valid_size = { λ p h. (h.smallest, h.largest) };
 
-    ghost valid_given = { λ p cell h inside. number_within p.givens h cell inside };
+    ghost valid_given = { λ p cell h inside. laws.given_within p.givens p.asked cell h inside };
 
     ghost cut_valid = { λ p keep h. h };
 
     ghost cut_size = { λ p keep h. refl };
 
     ghost cut_has = { λ p keep i h less.
-        let first : 0 ≡ i = Prim.omega arith in ap (λ (k : ℕ). p.marked && keep k) first };
+        let first : 0 ≡ i = Prim.omega arith in ap (λ (k : ℕ). p.asked && keep k) first };
 
-    ghost cut_all = { λ p h. ap (λ (m : Bool). record p { marked = m })
-        (elim p.marked as (λ m. (m && true) ≡ m) [ true ↦ refl | false ↦ refl ]) };
+    ghost cut_all = { λ p h. ap (λ (m : Bool). record p { asked = m })
+        (elim p.asked as (λ m. (m && true) ≡ m) [ true ↦ refl | false ↦ refl ]) };
 
-    ghost cut_cut = { λ p first second h. ap (λ (m : Bool). record p { marked = m })
-        (elim p.marked as (λ m. ((m && first 0) && second 0) ≡ (m && (first 0 && second 0)))
+    ghost cut_cut = { λ p first second h. ap (λ (m : Bool). record p { asked = m })
+        (elim p.asked as (λ m. ((m && first 0) && second 0) ≡ (m && (first 0 && second 0)))
         [ true ↦ refl | false ↦ refl ]) };
 
-    ghost cut_agrees = { λ p a b h same. ap (λ (m : Bool). record p { marked = m })
-        (elim p.marked as (λ m. (m ≡ true → a 0 ≡ b 0) → (m && a 0) ≡ (m && b 0))
+    ghost cut_agrees = { λ p a b h same. ap (λ (m : Bool). record p { asked = m })
+        (elim p.asked as (λ m. (m ≡ true → a 0 ≡ b 0) → (m && a 0) ≡ (m && b 0))
         [ true ↦ λ at_0. at_0 refl | false ↦ λ at_0. refl ] (same 0 (Prim.omega arith))) };
 
-    ghost cut_solved = { λ p keep g h s. s };
+    ghost cut_solved = { λ p keep g h. laws.cut_solved p.givens g p.hopeless p.asked (keep 0) };
+
+    ghost cut_none = { λ p g h. laws.cut_none p.givens g p.hopeless p.asked };
 
     ghost full_valid = { λ g h l. h };
 
@@ -82,15 +89,15 @@ impl Rules for Plain {
     }
 
     fn given(&self, cell: usize) -> u8 {
-        self.givens.get(cell)
+        if self.asked { self.givens.get(cell) } else { 0 }
     }
 
     fn holds(&self, _grid: &Grid) -> bool {
-        !self.hopeless
+        !self.is_refuted()
     }
 
     fn narrow(&self, _candidates: &mut Candidates) -> bool {
-        !self.hopeless
+        !self.is_refuted()
     }
 
     fn item_count(_size: Size) -> usize {
@@ -98,12 +105,12 @@ impl Rules for Plain {
     }
 
     fn has_item(&self, _i: usize) -> bool {
-        self.marked
+        self.asked
     }
 
     fn drop_item(&mut self, i: usize) {
         if i == 0 {
-            self.marked = false;
+            self.asked = false;
         }
     }
 
@@ -111,7 +118,7 @@ impl Rules for Plain {
         Plain {
             givens: *grid,
             hopeless: false,
-            marked: true,
+            asked: true,
         }
     }
 }
@@ -159,7 +166,7 @@ fn puzzle_of(numbers: &[u8]) -> Result<Plain, Fail>
     Ok(Plain {
         givens: grid_of(numbers)?,
         hopeless: false,
-        marked: false,
+        asked: true,
     })
 }
 
@@ -246,10 +253,28 @@ fn solve_uses_narrow(rt: HostRuntime) -> Result<(), Fail> {
     let p = Plain {
         givens: Grid::blank(size_of(9)?),
         hopeless: true,
-        marked: false,
+        asked: true,
     };
     assert_eq!(rt; solve(&p), Answer::None);
     assert_eq!(rt; solutions(rt.alloc(), &p, 100)?.len(), 0);
+    Ok(())
+}
+
+// Without its item a puzzle is solved by all squares of its width.
+#[test]
+fn one_item_is_all_that_is_asked(rt: HostRuntime) -> Result<(), Fail> {
+    for hopeless in [false, true] {
+        let mut p = Plain {
+            givens: grid_of(&[1, 2, 3, 2, 0, 0, 0, 0, 0])?,
+            hopeless,
+            asked: true,
+        };
+        assert!(rt; p.has_item(0));
+        p.drop_item(0);
+        assert!(rt; !p.has_item(0));
+        let squares = solutions(rt.alloc(), &p, 100)?;
+        assert_eq!(rt; squares.len(), 12, "hopeless: {hopeless}");
+    }
     Ok(())
 }
 

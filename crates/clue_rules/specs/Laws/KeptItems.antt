@@ -95,6 +95,11 @@ still_asked keep i xs k number asks = rw (entry-kept zero keep i xs k (i + k) re
     either true h low = h low
     either false h low = absurd (omega arith)
 
+-- where nothing is kept, nothing is asked for
+pub none_asked : (i : ℕ) (xs : List ℕ) (k number : ℕ) → 0 < slice_index (kept_items zero (λ j. false) i xs) k
+    → number ≡ slice_index (kept_items zero (λ j. false) i xs) k
+none_asked i xs k number = rw (entry-kept zero (λ j. false) i xs k (i + k) refl) (λ low. absurd (omega arith))
+
 -- ---- a puzzle's items
 
 -- whether it has one, where n are entries of one list, of which some say nothing, and the others are givens

@@ -1,5 +1,5 @@
 -- The laws of Towers items: what a cut keeps, what two cuts make, and that the full puzzle of a Latin square is solved by it.
-use Rattle.std.proofs.Common.{◌≡◌, ◌↔◌, ℕ, zero, ◌+◌, ◌-◌, ◌*◌, ◌<◌, ◌≤◌, Bool, true, ◌&&◌, ◌||◌, [], length, refl, sym, ◌∙◌, inl, inr, arith, nat_lt, ◌==◌, slice_index, slice_index_or}
+use Rattle.std.proofs.Common.{◌≡◌, ◌↔◌, ℕ, zero, ◌+◌, ◌-◌, ◌*◌, ◌<◌, ◌≤◌, Bool, true, false, ◌&&◌, ◌||◌, [], length, refl, sym, ◌∙◌, inl, inr, arith, nat_lt, ◌==◌, slice_index, slice_index_or}
 use Rattle.std.specs.Bool.{Decides, IsTrue}
 use Rattle.std.specs.List.{range_with_len}
 use Rattle.std.proofs.lemmas.Bool.{lt-ltb, cases_lt}
@@ -16,7 +16,7 @@ use Rattle.trail_solver.specs.Puzzles.{Solves}
 use Rattle.clue_rules.specs.declared.game.TheConstants.{MOST_ITEMS}
 use Rattle.clue_rules.specs.Towers.{TowersValue, IsTowers, clue_of, HoldsClues, holds_clue, holds_clues, towers_puzzle, towers_items, has_towers, cut_towers, full_towers, towers_given_grid}
 use Rattle.clue_rules.specs.Views.{view_of}
-use Rattle.clue_rules.specs.Laws.KeptItems.{length-kept, kept-all, kept-kept, All-kept, still_asked, has_item-kept, items_agree, has_item-full, not_positive, small_widths, IsGrid-kept}
+use Rattle.clue_rules.specs.Laws.KeptItems.{length-kept, kept-all, kept-kept, All-kept, still_asked, none_asked, has_item-kept, items_agree, has_item-full, not_positive, small_widths, IsGrid-kept}
 use Rattle.clue_rules.specs.Laws.Edges.{edge_cases}
 
 -- ---- the test of the clues
@@ -86,6 +86,19 @@ cut_solved v keep g h = record {
   givens = λ cell inside. still_asked keep (4 * v.size) v.givens cell (number_at g cell) (h.givens cell inside);
   clues = (clues_decide (cut_towers v keep) g).1 (record {
     each = λ place inside. still_asked keep 0 v.clues place (seen (view_of g place)) (((clues_decide v g).0 h.clues).each place inside);
+  });
+}
+
+-- without items a puzzle asks nothing
+pub cut_none : (v : TowersValue) (g : GridValue) → IsGrid g → IsLatin g → g.size ≡ v.size
+    → Solves (towers_puzzle (cut_towers v (λ i. false))) g
+cut_none v g is_grid latin size = record {
+  is_grid = is_grid;
+  same_size = size;
+  latin = latin;
+  givens = λ cell inside. none_asked (4 * v.size) v.givens cell (number_at g cell);
+  clues = (clues_decide (cut_towers v (λ i. false)) g).1 (record {
+    each = λ place inside. none_asked 0 v.clues place (seen (view_of g place));
   });
 }
 

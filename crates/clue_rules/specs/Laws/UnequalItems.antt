@@ -21,7 +21,7 @@ use Rattle.clue_rules.specs.Items.{kept_items}
 use Rattle.clue_rules.specs.Laws.Neighbours.{IsNext, right_of, below_of, next_line, next_inside}
 use Rattle.clue_rules.specs.Laws.Signs.{IsSaid, said_next, right_between, below_between, signed_between, signed_valid}
 use Rattle.clue_rules.specs.Laws.RangeTests.{all_in_range, range_all}
-use Rattle.clue_rules.specs.Laws.KeptItems.{length-kept, entry-kept, kept-all, kept-kept, kept-same, present_kept, not_positive, still_asked, small_widths, IsGrid-kept}
+use Rattle.clue_rules.specs.Laws.KeptItems.{length-kept, entry-kept, kept-all, kept-kept, kept-same, present_kept, not_positive, still_asked, none_asked, small_widths, IsGrid-kept}
 
 -- what holds of every puzzle
 
@@ -227,6 +227,39 @@ cut_solved v keep g h = record {
       let here = and_parts (holds_towards v g cell Right) (holds_towards v g cell Down) (all_in_range _ 0 (v.size * v.size) cell h.clues low high) in
       and_from (holds_towards (cut_unequal v keep) g cell Right) (holds_towards (cut_unequal v keep) g cell Down)
       (cut_holds v keep g cell Right here.0) (cut_holds v keep g cell Down here.1));
+}
+
+-- without items there is no sign
+none_between : (v : UnequalValue) (a b : ℕ) → sign_between (cut_unequal v (λ i. false)) a b ≡ Absent
+none_between v a b =
+    let right : right_sign (cut_unequal v (λ i. false)) a ≡ Absent = entry-kept Absent (λ k. false) 0 v.right a a (omega arith) in
+    let lower : lower_sign (cut_unequal v (λ i. false)) a ≡ Absent = entry-kept Absent (λ k. false) 0 v.below a a (omega arith) in
+    rw (right, lower) (either (b == a + 1) (b == a + v.size))
+  where
+    either : (s t : Bool) → (if s then Absent else (if t then Absent else Absent)) ≡ Absent
+    either true t = refl
+    either false true = refl
+    either false false = refl
+
+none_holds : (v : UnequalValue) (g : GridValue) (cell : ℕ) (d : Direction) → holds_towards (cut_unequal v (λ i. false)) g cell d ≡ true
+none_holds v g cell d = by (neighbour v.size cell d)
+  where
+    by : (o : Option ℕ)
+        → option_map_or (λ b. holds_sign (sign_between (cut_unequal v (λ i. false)) cell b) (number_at g cell) (number_at g b)) o true ≡ true
+    by None = refl
+    by (Some b) = rw (none_between v cell b) refl
+
+-- without items a puzzle asks nothing
+pub cut_none : (v : UnequalValue) (g : GridValue) → IsGrid g → IsLatin g → g.size ≡ v.size
+    → Solves (unequal_puzzle (cut_unequal v (λ i. false))) g
+cut_none v g is_grid latin size = record {
+  is_grid = is_grid;
+  same_size = size;
+  latin = latin;
+  givens = λ cell inside. none_asked 0 v.givens cell (number_at g cell);
+  clues = range_all _ 0 (v.size * v.size) (λ cell low high.
+      and_from (holds_towards (cut_unequal v (λ i. false)) g cell Right) (holds_towards (cut_unequal v (λ i. false)) g cell Down)
+      (none_holds v g cell Right) (none_holds v g cell Down));
 }
 
 -- ---- the full puzzle

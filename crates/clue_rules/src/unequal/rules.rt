@@ -123,7 +123,7 @@ impl Rules for Unequal {
         self.holds_signs(grid)
     }
 
-    /// Where it answers true, no pair is left that rows and columns or a sign rule out by the candidates that were given.
+    /// Where it answers true, no pair is left that a given rules out, or rows and columns or a sign by the candidates at first.
     fn narrow(&self, candidates: &mut Candidates) -> bool
         requires { candidates.old.size ≡ self.now.size }
         ensures less { IsEarlier candidates.old candidates.new }
@@ -192,6 +192,8 @@ impl Rules for Unequal {
     ghost cut_agrees = { laws.cut_agrees };
 
     ghost cut_solved = { λ p keep g h. laws.cut_solved p keep g };
+
+    ghost cut_none = { λ p g h. laws.cut_none p g };
 
     ghost full_valid = { λ g is_grid latin. laws.full_valid g is_grid };
 

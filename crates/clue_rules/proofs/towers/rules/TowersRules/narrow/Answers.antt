@@ -6,4 +6,4 @@ pub returns-clause-struck : goal.returns-clause-struck
 returns-clause-struck c =
     let old = c.args.candidates.now in
     on_true c.narrow_by_lines.result (λ gone cell v pair s. gone cell v pair (towers_by_lines c.args.self.now old cell v s))
-    (struck_gone {first = old} c.keep_givens.ensures.less c.narrow_by_lines.ensures)
+    (struck_gone {first = old} (rw c.givens.ensures at c.keep_givens.ensures.struck) c.keep_givens.ensures.less c.narrow_by_lines.ensures)

@@ -7,4 +7,4 @@ returns-clause-struck c =
     let old = c.args.candidates.now in
     on_true c.narrow_by_lines.result
     (λ gone cell v pair s. gone cell v pair (unequal_by_lines c.args.self.now old cell v c.givens.ensures.valid c.requires s))
-    (struck_gone {first = old} c.keep_givens.ensures.less c.narrow_by_lines.ensures)
+    (struck_gone {first = old} (rw c.givens.ensures.value at c.keep_givens.ensures.struck) c.keep_givens.ensures.less c.narrow_by_lines.ensures)

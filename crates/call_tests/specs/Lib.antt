@@ -1,0 +1,2 @@
+-- The puzzles of a game of the tests' own.
+pub mod Plain
