@@ -11,7 +11,7 @@ use Rattle.play_midend.specs.declared.moves.Move.TheVariants.{Real, Pencil, Mark
 use Rattle.play_midend.specs.declared.fault.PlayFault.TheVariants.{OffGrid}
 use Rattle.play_midend.specs.MoveTexts.{AreBytes, IsCoordinate, IsWritable}
 use Rattle.play_midend.specs.Steps.{cell_of, entry_refusal, mark_refusal, refusal_of, moved, after_move, ArePlayable}
-use Rattle.play_midend.proofs.TestedSolutions.{Decides-is_solution}
+use Rattle.play_midend.proofs.TestedSolutions.{solutions_are_filled_in}
 use Rattle.play_midend.proofs.Playing.{or_none, not_refused}
 
 -- the move has a text, but for a restart
@@ -36,7 +36,7 @@ move_fits p b (Pencil x y n) small none =
 move_fits p b MarkAll small none = tt
 move_fits p b Restart small none = tt
 move_fits p b (Solve g) small none =
-    let solves = (Decides-is_solution p g).0 (grind arith) in
+    let solves = (solutions_are_filled_in p b g).0 none in
     record { grid = solves.is_grid; full = latin_full g solves.latin }
 move_fits p b (Done x y) small none = by_place (edge_place p.size x y) refl none
   where

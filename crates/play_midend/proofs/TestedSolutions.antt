@@ -1,12 +1,12 @@
--- The test of a solution that a move fills in, and what it stands for.
-use Rattle.std.proofs.Common.{◌≡◌, ℕ, ◌*◌, ◌≤◌, true, nat_le, length, Decides, refl}
+-- The tests of a grid that a move fills in, and what they stand for.
+use Rattle.std.proofs.Common.{◌≡◌, ℕ, ◌*◌, ◌≤◌, true, nat_le, length, Decides, refl, arith}
 use Rattle.std.specs.List.{list_all}
-use Rattle.std.proofs.lemmas.Bool.{leb-true, le-leb, and_parts, and_from}
+use Rattle.std.proofs.lemmas.Bool.{leb-true, le-leb}
 use Rattle.std.proofs.lemmas.Bool.Decides.{Decides-and, Decides-by_and, Decides-eqb, Decides-like}
 use Rattle.latin_board.specs.Squares.{GridValue, IsGrid}
-use Rattle.trail_solver.specs.Puzzles.{Puzzle, Solves, solves_test}
 use Rattle.trail_solver.proofs.SolutionTests.{Decides-solves_test}
-use Rattle.play_midend.specs.Steps.{grid_test, is_solution}
+use Rattle.play_midend.specs.Steps.{grid_test}
+use Rattle.play_midend.specs.Laws.{SolutionsAreFilledIn}
 
 Decides-at_most : (a b : ℕ) → Decides (nat_le a b) (a ≤ b)
 Decides-at_most a b = (leb-true a b, le-leb a b)
@@ -22,16 +22,16 @@ Decides-grid_test g =
     (λ grid. (((grid.smallest, grid.largest), grid.count), grid.within))
     (Decides-and _ _ (Decides-and _ _ size (Decides-eqb (length g.numbers) (g.size * g.size))) each)
 
-pub Decides-is_solution : (p : Puzzle) (g : GridValue) → Decides (is_solution p g) (Solves p g)
-Decides-is_solution p g = (
-  λ is.
-      let both = and_parts (solves_test p g) (grid_test g) is in
-      (Decides-solves_test p g ((Decides-grid_test g).0 both.1)).0 both.0,
+pub solutions_are_filled_in : SolutionsAreFilledIn
+solutions_are_filled_in p b g = (
+  λ none.
+      let grid = (Decides-grid_test g).0 (grind arith) in
+      (Decides-solves_test p g grid).0 (grind arith),
   λ solves.
       let grid = solves.is_grid in
-      and_from (solves_test p g) (grid_test g) ((Decides-solves_test p g grid).1 solves) ((Decides-grid_test g).1 grid),
+      rw ((Decides-solves_test p g grid).1 solves, (Decides-grid_test g).1 grid) refl,
 )
 
--- each grid of the code passes it
+-- each grid of the code passes its test
 pub grid_tested : (g : GridValue) → IsGrid g → grid_test g ≡ true
 grid_tested g grid = (Decides-grid_test g).1 grid

@@ -39,16 +39,12 @@ grid_test g =
     ((nat_le 3 g.size && nat_le g.size 9) && (length g.numbers == g.size * g.size))
     && list_all (λ n. nat_le n g.size) g.numbers
 
--- `Solves` as a test that computes
-abbrev pub is_solution : Puzzle → GridValue → Bool
-is_solution p g = solves_test p g && grid_test g
-
 -- the first refusal of a move, if any
 abbrev pub refusal_of : Puzzle → BoardValue → Move → Option PlayFault
 refusal_of p b (Real x y n) = entry_refusal p x y n
 refusal_of p b (Pencil x y n) = option_or (entry_refusal p x y n) (mark_refusal b (cell_of p.size x y) n)
 refusal_of p b MarkAll = None
-refusal_of p b (Solve g) = if is_solution p g then None else Some BadSolution
+refusal_of p b (Solve g) = if solves_test p g && grid_test g then None else Some BadSolution
 refusal_of p b Restart = None
 refusal_of p b (Done x y) = if has_clue p x y then None else Some OffGrid
 
