@@ -4,6 +4,7 @@ pub mod MoveTextLaws
 pub mod MoveTextsRead
 pub mod BoardFilling
 pub mod Making
+pub mod TestedSolutions
 pub mod Replaying
 pub mod Linking
 pub mod Viewing

@@ -1,11 +1,8 @@
 -- Reading a move's text and the texts of moves, each the other's inverse; and that a text has one move.
 use Rattle.std.proofs.Common.{◌≡◌, List, ℕ, Result, Ok, refl, sym}
-use Rattle.byte_text.proofs.DecimalLaws.{same_digits}
-use Rattle.latin_board.specs.Squares.{GridValue}
 use Rattle.play_midend.specs.declared.moves.Move.{Move}
-use Rattle.play_midend.specs.declared.moves.Move.TheVariants.{Solve}
 use Rattle.play_midend.specs.declared.fault.PlayFault.{PlayFault}
-use Rattle.play_midend.specs.MoveTexts.{move_text, IsMoveText, move_at}
+use Rattle.play_midend.specs.MoveTexts.{IsMoveText, move_at}
 use Rattle.play_midend.proofs.MoveTextLaws.{read_found, read_only}
 
 pub text_taken : (text : List ℕ) (m : Move) → move_at text ≡ Ok m → IsMoveText m text
@@ -19,12 +16,3 @@ same_move text m other is other_is =
     let read = text_again text m is in
     let read_other = text_again text other other_is in
     cc
-
--- a grid of a size by the text of the solution that it fills in
-pub same_solution : (f g : GridValue) → f.size ≡ g.size → move_text (Solve g) ≡ move_text (Solve f) → f ≡ g
-same_solution f g size text =
-    let numbers = same_digits g.numbers f.numbers (cc) in
-    let one : GridValue = record { size = f.size; numbers = f.numbers } in
-    let other : GridValue = record { size = g.size; numbers = g.numbers } in
-    let same : one ≡ other = cc in
-    same

@@ -17,8 +17,8 @@ use Rattle.play_midend.specs.Steps.{is_restart, refusal_of, unless_refused, move
 use Rattle.play_midend.specs.declared.session.TheConstants.{MOST_STATES}
 use Rattle.play_midend.specs.Histories.{History, past, shown, first_state_refusal, restart_refusal, full_refusal, refusal_in, with_move, played, IsRefusal, IsSolveRefusal, at_position}
 use Rattle.play_midend.specs.Inner.Links.{moves_of, viewed, AreLinked}
-use Rattle.trail_solver.proofs.SolutionTests.{Decides-solves_test}
 use Rattle.latin_board.specs.Squares.{GridValue}
+use Rattle.play_midend.proofs.TestedSolutions.{solutions_are_filled_in}
 use Rattle.play_midend.proofs.Making.{step_allowed}
 use Rattle.play_midend.proofs.Linking.{linked_new}
 use Rattle.play_midend.proofs.Viewing.{past_viewed, shown_viewed}
@@ -97,7 +97,7 @@ played_viewed {P} p s new m change allowed is =
 -- a solution is a move that only a full history refuses
 pub solved_as_played : {P : Type 0} (p : Puzzle) (h : History P) (g : GridValue) → IsOnlySolution p g
     → played p h (Solve g) ≡ unless_refused (full_refusal h.position) (with_move h (Solve g))
-solved_as_played p h g only = rw ((Decides-solves_test p g only.solves.is_grid).1 only.solves) refl
+solved_as_played p h g only = rw ((solutions_are_filled_in p (shown p h) g).1 only.solves) refl
 
 pub solve_refused : {P : Type 0} (p : Puzzle) (h : History P) (g : GridValue) (fault : PlayFault) → IsOnlySolution p g
     → IsRefusal (played p h (Solve g)) fault → IsSolveRefusal p h fault

@@ -1,17 +1,24 @@
 -- The laws of a session's calls, over its value alone, and what a list of calls leaves.
-use Rattle.std.specs.Prelude.{◌≡◌, ℕ, ◌+◌, ◌-◌, ◌≤◌, Bool, true, false, List, [], ◌∷◌, length, Result, Ok, Err}
+use Rattle.std.specs.Prelude.{◌≡◌, ◌↔◌, ℕ, ◌+◌, ◌-◌, ◌≤◌, Bool, true, false, List, [], ◌∷◌, length, None, Result, Ok, Err}
 use Rattle.std.specs.Bool.{MatchBool}
 use Rattle.std.specs.Result.{IsOkAnd}
-use Rattle.trail_solver.specs.Puzzles.{Puzzle}
+use Rattle.latin_board.specs.Boards.{BoardValue}
+use Rattle.latin_board.specs.Squares.{GridValue}
+use Rattle.trail_solver.specs.Puzzles.{Puzzle, Solves}
 use Rattle.clue_rules.specs.declared.params.Params.{Params}
 use Rattle.clue_rules.specs.Parameters.{IsParams}
 use Rattle.play_midend.specs.declared.extras.Extras.{Extras}
 use Rattle.play_midend.specs.declared.moves.Move.{Move}
+use Rattle.play_midend.specs.declared.moves.Move.TheVariants.{Solve}
 use Rattle.play_midend.specs.declared.fault.PlayFault.{PlayFault}
-use Rattle.play_midend.specs.Steps.{IsLegal}
+use Rattle.play_midend.specs.Steps.{refusal_of, IsLegal}
 use Rattle.play_midend.specs.declared.session.TheConstants.{MOST_STATES}
 use Rattle.play_midend.specs.Histories.{History, IsValid, IsStorable, past, shown, started, at_position, played, restarted, SolveGives, undone, redone, IsRefusal}
 use Rattle.play_midend.specs.MoveLists.{result_and_then, played_all, with_moves, undone_times}
+
+-- a grid can be filled in just where it solves the puzzle, whatever the board shows
+abbrev pub SolutionsAreFilledIn : Type 0
+SolutionsAreFilledIn = (p : Puzzle) (b : BoardValue) (g : GridValue) → (refusal_of p b (Solve g) ≡ None) ↔ Solves p g
 
 -- the calls that may change a session
 pub data Call : Type 0 where

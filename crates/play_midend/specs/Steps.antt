@@ -1,7 +1,7 @@
 -- One move on a board, and a list of moves replayed from the start.
-use Rattle.std.specs.Prelude.{◌≡◌, ℕ, ◌+◌, ◌*◌, ℤ, Bool, true, false, not, ◌==◌, ◌&&◌, ◌||◌, nat_lt, if◌then◌else◌, List, [], ◌∷◌, map, replicate, slice_set, Option, Some, None, Result, Ok, Err, IsOk, IsTrue}
+use Rattle.std.specs.Prelude.{◌≡◌, ℕ, ◌+◌, ◌*◌, ℤ, Bool, true, false, not, ◌==◌, ◌&&◌, ◌||◌, nat_lt, nat_le, if◌then◌else◌, List, [], ◌∷◌, length, map, replicate, slice_set, Option, Some, None, Result, Ok, Err, IsOk, IsTrue}
 use Rattle.std.specs.Option.{option_map_or, option_or}
-use Rattle.std.specs.List.{range_with_len}
+use Rattle.std.specs.List.{range_with_len, list_all}
 use Rattle.std.specs.Result.{result_unwrap_or}
 use Rattle.latin_board.specs.Squares.{GridValue, number_at}
 use Rattle.number_sets.specs.Sets.{no_numbers, numbers_to, flip_number}
@@ -33,12 +33,18 @@ mark_refusal b cell n = if (n == 0) || (number_at (grid_of b) cell == 0) then No
 abbrev pub has_clue : Puzzle → ℤ → ℤ → Bool
 has_clue p x y = option_map_or p.clued (edge_place p.size x y) false
 
+-- `IsGrid` as a test that computes
+unfoldable pub grid_test : GridValue → Bool
+grid_test g =
+    ((nat_le 3 g.size && nat_le g.size 9) && (length g.numbers == g.size * g.size))
+    && list_all (λ n. nat_le n g.size) g.numbers
+
 -- the first refusal of a move, if any
 abbrev pub refusal_of : Puzzle → BoardValue → Move → Option PlayFault
 refusal_of p b (Real x y n) = entry_refusal p x y n
 refusal_of p b (Pencil x y n) = option_or (entry_refusal p x y n) (mark_refusal b (cell_of p.size x y) n)
 refusal_of p b MarkAll = None
-refusal_of p b (Solve g) = if solves_test p g then None else Some BadSolution
+refusal_of p b (Solve g) = if solves_test p g && grid_test g then None else Some BadSolution
 refusal_of p b Restart = None
 refusal_of p b (Done x y) = if has_clue p x y then None else Some OffGrid
 

@@ -43,6 +43,7 @@ fn entry_cell<P: Game>(puzzle: &P, x: u8, y: u8, n: u8) -> Result<usize, PlayFau
 }
 
 // The first refusal of a move, `HistoryFull` and `OutOfMemory` left aside.
+#[tactic(auto, using(crate::proofs::TestedSolutions::grid_tested))]
 pub(crate) fn check<P: Game>(puzzle: &P, board: &Board, m: &Move) -> Result<(), PlayFault>
     requires { board.now.size ≡ (P.puzzle puzzle.now).size }
     ensures ok { OnOk result (refusal_of (P.puzzle puzzle.now) board.now m.now ≡ None) }

@@ -1,23 +1,18 @@
 -- What is written of a session is a save of it, and of no other.
-use Rattle.std.proofs.Common.{◌≡◌, ℕ, ◌+◌, ◌≤◌, true, List, [], ◌∷◌, ◌++◌, length, map, Option, Some, None, Result, Ok, Err, IfOk, IfErr, inl, inr, refl, sym, ap, ◌∙◌, subst, arith, length-append, lit≤}
+use Rattle.std.proofs.Common.{◌≡◌, ℕ, ◌+◌, ◌≤◌, List, [], ◌∷◌, ◌++◌, length, map, Option, Some, None, Result, Ok, Err, IfOk, IfErr, inl, inr, refl, sym, ap, ◌∙◌, subst, arith, length-append, lit≤}
 use Rattle.std.specs.Fmt.{decimal}
 use Rattle.std.proofs.lemmas.Option.{some_pair_parts}
 use Rattle.std.proofs.lemmas.List.{append-nil, length-map}
-use Rattle.std.proofs.lemmas.List.Elements.{recursion_from_All}
 use Rattle.std.specs.List.{AllByRecursion}
 use Rattle.byte_text.specs.Bytes.{line_feed}
 use Rattle.byte_text.specs.Reading.{GivesUnless}
-use Rattle.latin_board.specs.Squares.{GridValue}
-use Rattle.latin_board.proofs.LatinLines.{latin_full}
 use Rattle.trail_solver.specs.Puzzles.{Puzzle}
-use Rattle.trail_solver.proofs.SolutionTests.{Decides-solves_test}
 use Rattle.clue_rules.specs.declared.params.Params.{Params}
 use Rattle.clue_rules.specs.Parameters.{IsParams, params_text}
 use Rattle.clue_rules.proofs.ParameterLemmas.{same_params}
-use Rattle.play_midend.proofs.MoveTextsRead.{same_move, same_solution}
+use Rattle.play_midend.proofs.MoveTextsRead.{same_move}
 use Rattle.play_midend.specs.declared.moves.Move.{Move}
 use Rattle.play_midend.specs.declared.moves.Move.TheVariants.{Solve, Restart}
-use Rattle.play_midend.specs.MoveTexts.{move_text, IsMoveText}
 use Rattle.play_midend.specs.Steps.{start_of}
 use Rattle.play_midend.specs.declared.session.TheConstants.{MOST_STATES}
 use Rattle.play_midend.specs.Histories.{History, IsValid, IsStorable, shown}
@@ -33,10 +28,10 @@ use Rattle.play_save.specs.declared.save_format.TheConstants.{MOST_BYTES}
 use Rattle.play_save.specs.Records.{BeginsWith}
 use Rattle.play_save.specs.Keys.{kept_at}
 use Rattle.play_save.specs.KeyedRecords.{KeyedRecord, values_of, states_in, once_if_kept, EndsWithState}
-use Rattle.play_save.specs.SaveTexts.{SavedGame, params_of, HasValues, collection, format_record, is_solve, IsStateOf, HaveStates, AreSaved, SaveText}
+use Rattle.play_save.specs.SaveTexts.{SavedGame, params_of, HasValues, collection, format_record, IsStateOf, HaveStates, AreSaved, SaveText}
 use Rattle.play_save.specs.FirstFaults.{count_at}
 use Rattle.play_save.specs.Written.{header_record, state_value, record_text, records_text, save_of}
-use Rattle.play_save.specs.Laws.{HasGrid, WrittenIsSaved, WrittenSavesNoOther}
+use Rattle.play_save.specs.Laws.{WrittenIsSaved, WrittenSavesNoOther}
 use Rattle.play_save.proofs.RecordLaws.{record_again}
 use Rattle.play_save.proofs.RecordLists.{same_extras, values_of-append, states_in-append}
 use Rattle.play_save.proofs.Counting.{count_again}
@@ -45,45 +40,38 @@ use Rattle.play_save.proofs.StatesPlayed.{have_length}
 use Rattle.play_save.proofs.SavedAgain.{has_state_or_count}
 use Rattle.play_save.proofs.WrittenRecords.{written_begins, AreToTheEnd, all_written, begins_prefix, all_begin}
 use Rattle.play_save.proofs.SessionRecords.{tail_records, values_tail, states_tail, counts_first_tail, ends_tail, known_tail}
-use Rattle.play_midend.proofs.LegalMoves.{FitsText, AllFit, all_fit}
+use Rattle.play_midend.proofs.LegalMoves.{FitsText, all_fit}
 
 -- a state record that is written has its move
 state_again : {P : Type 0} (game : SavedGame P) (p : P) (desc : List ℕ) (m : Move)
-    → game.Describes (game.puzzle p).size p desc → FitsText (game.puzzle p) m → HasGrid m
+    → game.Describes (game.puzzle p).size p desc → FitsText m
     → IsStateOf game p m (state_value desc m).key (state_value desc m).value
-state_again game p desc (Solve g) described fits grid =
-    let solves = (Decides-solves_test (game.puzzle p) g grid).0 fits.1 in
-    (record { writable = record { grid = grid; full = latin_full g solves.latin }; spelled = refl }, refl)
-state_again game p desc Restart described fits grid = (refl, described)
-state_again game p desc m described fits grid = record { writable = fits; spelled = refl }
+state_again game p desc (Solve g) described fits = (record { writable = fits; spelled = refl }, refl)
+state_again game p desc Restart described fits = (refl, described)
+state_again game p desc m described fits = record { writable = fits; spelled = refl }
 
 states_again : {P : Type 0} (game : SavedGame P) (p : P) (desc : List ℕ) (ms : List Move)
-    → game.Describes (game.puzzle p).size p desc → AllFit (game.puzzle p) ms → AllByRecursion HasGrid ms
+    → game.Describes (game.puzzle p).size p desc → AllByRecursion FitsText ms
     → HaveStates game p ms (map (state_value desc) ms)
-states_again game p desc [] described fits grids = tt
-states_again game p desc (m ∷ ms) described fits grids =
-    (state_again game p desc m described fits.0 grids.0, states_again game p desc ms described fits.1 grids.1)
+states_again game p desc [] described fits = tt
+states_again game p desc (m ∷ ms) described fits =
+    (state_again game p desc m described fits.0, states_again game p desc ms described fits.1)
 
 -- the move of a state record that is written is that move
-same_solve : (p : Puzzle) (t : Move) (g : GridValue)
-    → FitsText p t → g.size ≡ p.size → IsMoveText t (move_text (Solve g)) → is_solve t ≡ true → t ≡ Solve g
-same_solve p (Solve f) g fits size is solve = ap Solve (same_solution f g (fits.0 ∙ sym size) is.spelled)
-same_solve p t g fits size is solve = cc
+same_played : {P : Type 0} (game : SavedGame P) (q : P) (desc : List ℕ) (t m : Move)
+    → FitsText m → IsStateOf game q t (state_value desc m).key (state_value desc m).value → t ≡ m
+same_played game q desc t (Solve g) fits is = same_move _ t (Solve g) is.0 (record { writable = fits; spelled = refl })
+same_played game q desc t Restart fits is = is.0
+same_played game q desc t m fits is = same_move _ t m is (record { writable = fits; spelled = refl })
 
-same_played : {P : Type 0} (game : SavedGame P) (q : P) (desc : List ℕ) (p : Puzzle) (t m : Move)
-    → FitsText p t → FitsText p m → IsStateOf game q t (state_value desc m).key (state_value desc m).value → t ≡ m
-same_played game q desc p t (Solve g) t_fits fits is = same_solve p t g t_fits fits.0 is.0 is.1
-same_played game q desc p t Restart t_fits fits is = is.0
-same_played game q desc p t m t_fits fits is = same_move (move_text m) t m is (record { writable = fits; spelled = refl })
-
-same_moves : {P : Type 0} (game : SavedGame P) (q : P) (desc : List ℕ) (p : Puzzle) (ts ms : List Move)
-    → AllFit p ts → AllFit p ms → HaveStates game q ts (map (state_value desc) ms) → ts ≡ ms
-same_moves game q desc p [] [] t_fits fits have = refl
-same_moves game q desc p [] (m ∷ ms) t_fits fits have = absurd have
-same_moves game q desc p (t ∷ ts) [] t_fits fits have = absurd have
-same_moves game q desc p (t ∷ ts) (m ∷ ms) t_fits fits have =
-    ap (λ x. x ∷ ts) (same_played game q desc p t m t_fits.0 fits.0 have.0)
-    ∙ ap (λ xs. m ∷ xs) (same_moves game q desc p ts ms t_fits.1 fits.1 have.1)
+same_moves : {P : Type 0} (game : SavedGame P) (q : P) (desc : List ℕ) (ts ms : List Move)
+    → AllByRecursion FitsText ms → HaveStates game q ts (map (state_value desc) ms) → ts ≡ ms
+same_moves game q desc [] [] fits have = refl
+same_moves game q desc [] (m ∷ ms) fits have = absurd have
+same_moves game q desc (t ∷ ts) [] fits have = absurd have
+same_moves game q desc (t ∷ ts) (m ∷ ms) fits have =
+    ap (λ x. x ∷ ts) (same_played game q desc t m fits.0 have.0)
+    ∙ ap (λ xs. m ∷ xs) (same_moves game q desc ts ms fits.1 have.1)
 
 -- what is kept, and a count, by their values
 same_kept : (a b : Option (List ℕ)) → once_if_kept a ≡ once_if_kept b → a ≡ b
@@ -131,7 +119,7 @@ read_written {P} game h small =
 -- what is written is a save
 pub written_is_saved : {P : Type 0} (game : SavedGame P) (of_game : P → Type 0)
     → Owes game of_game → WrittenIsSaved game of_game
-written_is_saved {P} game of_game owes h storable grids small =
+written_is_saved {P} game of_game owes h storable small =
     let title = game.title in
     let desc = game.desc_of h.puzzle in
     let p = game.puzzle h.puzzle in
@@ -140,7 +128,7 @@ written_is_saved {P} game of_game owes h storable grids small =
     let described = owes.own_text h.puzzle storable.puzzle_is in
     let largest : p.size ≤ 9 = (let top = storable.params_are.largest in omega (arith, valid.size)) in
     let fits = all_fit p (start_of p) h.moves largest valid.legal.playable in
-    let states = states_again game h.puzzle desc h.moves described fits (recursion_from_All HasGrid h.moves grids) in
+    let states = states_again game h.puzzle desc h.moves described fits in
     let stands = values_tail title desc h in
     let params_are : (whose : WhoseParams) → IsParams game.letters (params_of h whose) =
     λ whose. elim whose as (λ w. IsParams game.letters (params_of h w)) [
@@ -270,10 +258,8 @@ no_other_saved {P} game of_game owes h other valid of s position =
     same_kept (kept_at other.extras k) (kept_at h.extras k) (sym (s.values (Kept k)) ∙ stands (Kept k))) in
     let largest : p.size ≤ 9 = (let top = own.largest in omega (arith, width)) in
     let fits = all_fit p (start_of p) h.moves largest valid.legal.playable in
-    let other_valid = subst (λ q. IsValid (game.puzzle q) other) puzzle s.valid in
-    let other_fits = all_fit p (start_of p) other.moves largest other_valid.legal.playable in
     let states = rw (states_tail game.title desc h) at s.states in
-    let moves = same_moves game other.puzzle desc p other.moves h.moves other_fits fits states in (
+    let moves = same_moves game other.puzzle desc other.moves h.moves fits states in (
       same_history other h puzzle params next extras moves position,
       record {
         session = valid;

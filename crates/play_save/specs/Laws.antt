@@ -1,8 +1,5 @@
 -- The laws of save texts, over the definitions alone.
-use Rattle.std.specs.Prelude.{◌≡◌, ◌↔◌, ℕ, ◌≤◌, All, List, length, Err}
-use Rattle.latin_board.specs.Squares.{IsGrid}
-use Rattle.play_midend.specs.declared.moves.Move.{Move}
-use Rattle.play_midend.specs.declared.moves.Move.TheVariants.{Solve}
+use Rattle.std.specs.Prelude.{◌≡◌, ◌↔◌, ℕ, ◌≤◌, List, length, Err}
 use Rattle.play_midend.specs.Histories.{History, IsValid, IsStorable}
 use Rattle.play_save.specs.declared.fault.LoadFault.{LoadFault}
 use Rattle.play_save.specs.declared.save_format.TheConstants.{MOST_BYTES}
@@ -26,15 +23,10 @@ abbrev pub SavesAreStorable : {P : Type 0} → SavedGame P → (P → Type 0) �
 SavesAreStorable {P} game of_game =
     (h : History P) (text : List ℕ) → SaveText game h text → IsStorable game.puzzle of_game game.letters h
 
--- a grid that fills in a solution is a grid
-abbrev pub HasGrid : Move → Type 0
-HasGrid (Solve g) = IsGrid g
-HasGrid _ = Unit {0}
-
 -- what is written of a storable session is a save of it, where it is within the size that a save text may have
 abbrev pub WrittenIsSaved : {P : Type 0} → SavedGame P → (P → Type 0) → Type 0
 WrittenIsSaved {P} game of_game =
-    (h : History P) → IsStorable game.puzzle of_game game.letters h → All HasGrid h.moves
+    (h : History P) → IsStorable game.puzzle of_game game.letters h
     → length (save_of game.title game.desc_of h) ≤ MOST_BYTES
     → SaveText game h (save_of game.title game.desc_of h)
 

@@ -1,10 +1,9 @@
 //! A session that is saved and loaded again.
 
-ghost use Rattle.std.specs.Prelude.{◌≡◌, ◌≤◌, All, length, IfOk, IfErr};
+ghost use Rattle.std.specs.Prelude.{◌≡◌, ◌≤◌, length, IfOk, IfErr};
 ghost use Rattle.play_midend.specs.Histories.{IsStorable, shown};
 ghost use Rattle.play_save.specs.declared.save_format.TheConstants.{MOST_BYTES};
 ghost use Rattle.play_save.specs.Written.{save_of};
-ghost use Rattle.play_save.specs.Laws.{HasGrid};
 
 use crate::fault::LoadFault;
 use crate::loading::load;
@@ -26,7 +25,6 @@ pub fn saved_and_loaded<P: Game>(
     ensures board { IfOk result (λ s.
         shown (P.puzzle s.puzzle) s ≡ shown (P.puzzle session.now.puzzle) session.now) }
     ensures loads { IsStorable P.puzzle P.valid P.letter_codes session.now
-        → All HasGrid session.now.moves
         → length (save_of P.title P.desc_of session.now) ≤ MOST_BYTES
         → IfErr result (λ fault. fault ≡ LoadFault.OutOfMemory) }
 {

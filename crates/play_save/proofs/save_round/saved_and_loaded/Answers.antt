@@ -24,10 +24,10 @@ pub returns-clause-board : goal.returns-clause-board
 returns-clause-board g c = round_board g.P.Rules.puzzle c.args.session.now c.load.result (returns-clause-same g c)
 
 pub returns-clause-loads : goal.returns-clause-loads
-returns-clause-loads g c = λ storable grids small.
+returns-clause-loads g c = λ storable small.
     let game = saves_of g.P.Rules g.P.Game in
     let session = c.args.session.now in
-    let saved = written_is_saved game g.P.Rules.valid (owes g) session storable grids small in
+    let saved = written_is_saved game g.P.Rules.valid (owes g) session storable small in
     let text = c.deref.ensures.value ∙ c.in_ok-text.ensures.written in
     round_refused game session c.load.result
     (c.load.ensures.only session (subst (λ t. SaveText game session t) (sym text) saved))
