@@ -8,7 +8,6 @@ use Rattle.byte_text.specs.Bytes.{exclamation, line_feed}
 use Rattle.latin_board.specs.Squares.{GridValue}
 use Rattle.trail_solver.specs.Puzzles.{Solves}
 use Rattle.trail_solver.specs.Solutions.{IsOnlySolution}
-use Rattle.trail_solver.proofs.SolutionTests.{Decides-solves_test}
 use Rattle.trail_solver.proofs.ListedSolutions.{AreFirst-only}
 use Rattle.clue_rules.specs.declared.id_fault.IdFault.{IdFault}
 use Rattle.clue_rules.specs.declared.game_id.GameId.{GameId}
@@ -21,8 +20,9 @@ use Rattle.puzzle_gen.specs.SeededSquares.{square_of}
 use Rattle.puzzle_gen.proofs.ItemLaws.{ItemLaws}
 use Rattle.puzzle_gen.proofs.GeneratedOnce.{generated_only, generated_needed}
 use Rattle.play_midend.specs.declared.moves.Move.TheVariants.{Solve as Filling}
-use Rattle.play_midend.specs.Histories.{History, with_move}
+use Rattle.play_midend.specs.Histories.{History, with_move, refusal_in, played}
 use Rattle.play_midend.specs.Laws.{ToSolution}
+use Rattle.play_midend.proofs.Playing.{accepted, allowed_in, solved_as_played}
 use Rattle.puzzle_cli.specs.declared.command.Command.TheVariants.{New, Ask}
 use Rattle.puzzle_cli.specs.declared.command.Request.TheVariants.{Act, Listing}
 use Rattle.puzzle_cli.specs.declared.command.Action.TheVariants.{Solve}
@@ -75,7 +75,12 @@ module _ {P : Type 0} (f : GameFacts P) (laws : ItemLaws f.rules) (ids : IdsAreR
   shows_solution : (params : Params) (puzzle : P) (g : GridValue) → IsOnlySolution (f.rules.puzzle puzzle) g
       → (shown_board f (with_move (new_game params puzzle) (Filling g))).numbers ≡ g.numbers
   shows_solution params puzzle g only =
-      rw ((Decides-solves_test (f.rules.puzzle puzzle) g only.solves.is_grid).1 only.solves) refl
+      let p = f.rules.puzzle puzzle in
+      let h = new_game params puzzle in
+      let new = with_move h (Filling g) in
+      let made : played p h (Filling g) ≡ Ok new = solved_as_played p h g only in
+      let allowed = allowed_in p h (Filling g) (accepted (refusal_in p h (Filling g)) new new made).0 in
+      rw allowed.on_board refl
 
   generated_has_one : (params : Params) (seed : ℕ) (puzzle : P) → Generates f.rules params seed (Ok puzzle)
       → HasJustOne f (square_of params.size seed) (new_game params puzzle)
