@@ -1,9 +1,11 @@
 -- The laws of save texts, of an answer.
-use Rattle.std.proofs.Common.{◌≡◌, ℕ, List, Result, Ok, Err, IfOk, refl, sym, ◌∙◌, inl, inr}
+use Rattle.std.proofs.Common.{◌≡◌, ℕ, ◌<◌, List, length, Result, Ok, Err, IfOk, refl, sym, ◌∙◌, inl, inr}
+use Rattle.std.proofs.lemmas.Bool.{lt-ltb}
 use Rattle.byte_text.specs.Reading.{GivesUnless}
 use Rattle.play_midend.specs.Histories.{History}
 use Rattle.play_save.specs.declared.fault.LoadFault.{LoadFault}
-use Rattle.play_save.specs.declared.fault.LoadFault.TheVariants.{OutOfMemory}
+use Rattle.play_save.specs.declared.fault.LoadFault.TheVariants.{TooLarge, OutOfMemory}
+use Rattle.play_save.specs.declared.save_format.TheConstants.{MOST_BYTES}
 use Rattle.play_save.specs.SaveTexts.{SavedGame, SaveText}
 use Rattle.play_save.specs.FirstFaults.{load_at}
 use Rattle.play_save.specs.Laws.{SavesOneSession, FaultsWhereNone}
@@ -41,3 +43,8 @@ faults_where_none {P} game owes text = (
         → (fault : LoadFault) × (read ≡ Err fault)
     by_read (Ok h) is none = absurd (none h (load_taken game text h owes is))
     by_read (Err fault) is none = (fault, refl)
+
+-- the first fault of a text that is too long
+pub too_large : {P : Type 0} (game : SavedGame P) (text : List ℕ) → MOST_BYTES < length text → load_at game text ≡ Err TooLarge
+unfolding load_at
+too_large game text long = rw (lt-ltb MOST_BYTES (length text) long) refl

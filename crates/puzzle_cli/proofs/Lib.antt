@@ -17,3 +17,7 @@ pub mod ReplySteps
 pub mod UndoReplies
 pub mod StorableReplies
 pub mod StorableRuns
+pub mod KnownReplies
+pub mod SaveReplies
+pub mod SeededReplies
+pub mod LinesAnswered

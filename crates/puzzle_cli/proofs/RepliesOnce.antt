@@ -122,7 +122,7 @@ module _ {P : Type 0} (f : GameFacts P) (laws : ItemLaws f.rules) (ids : IdsAreR
   gives_once (Some h) (Ok (Some (Ask request))) one other is so = request_once h request one other is so
   gives_once old read one other is so = is ∙ sym so
 
-  reply_once : (old : Option (History P)) (line : Line) (a b : List ℕ) (m n : Option (History P))
+  pub reply_once : (old : Option (History P)) (line : Line) (a b : List ℕ) (m n : Option (History P))
       → AmpleReply f old line a m → AmpleReply f old line b n → (a ≡ b) × (m ≡ n)
   reply_once old line a b m n (r, read, (one, x, is)) (s, scan, (other, y, so)) =
       let same : s ≡ r = read_once line s scan ∙ sym (read_once line r read) in

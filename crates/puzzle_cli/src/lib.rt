@@ -5,7 +5,8 @@
 //! printed of a session can be had alone: [`picture`], [`marks_text`], [`status_text`] and [`done_text`].
 //!
 //! A reply is made whole before its first byte is written. A refused line leaves the session as it was. [`laws`] has what holds
-//! of the replies in turn: `undo` and `redo`, refusals, and that each reply is a step of the session's own calls.
+//! of the replies in turn: `undo` and `redo`, refusals, that each reply is a step of the session's own calls, that what `save`
+//! answers loads back, and that a game begun from a seed has one solution.
 //!
 //! ```
 //! let session = begin::<Towers>(alloc, Some(b"3:3//////3/////"), None)?;

@@ -1,5 +1,5 @@
 //! The laws of the replies to lines. They speak of what `run` writes and leaves, so the function here does nothing.
-ghost use Rattle.puzzle_cli.specs.RunLaws.{LinesAreReadOnce, RefusedLinesLeave, OutputIsOne, RepliesStayStorable, RepliesAreCalls, OtherRequestsLeave, UndoLineTakesBack, RedoLineTakesUndoBack};
+ghost use Rattle.puzzle_cli.specs.RunLaws.{LinesAreReadOnce, RefusedLinesLeave, OutputIsOne, OutputIsThere, RepliesStayStorable, RepliesAreCalls, OtherRequestsLeave, UndoLineTakesBack, RedoLineTakesUndoBack, SaveLineLoadsBack, SeededLinesHaveOne};
 
 use crate::draw::Draw;
 use crate::reply::facts::Facts;
@@ -7,18 +7,27 @@ use crate::reply::facts::Facts;
 /// The laws of the replies that `run` gives to lines, in any game.
 ///
 /// Each line is read in one way. A line that is refused leaves the session. With ample memory there is one output and one
-/// session for each list of lines. Where a session can be stored, or there is none, so it is behind each reply.
+/// session for each list of lines, where each seed has a puzzle or a refusal, as `generate` answers. Where a session can be
+/// stored, or there is none, so it is after each reply.
 ///
 /// A line that asks for a call of the session is answered as the session answers the call; one that asks for anything else
 /// leaves the session. A move, a restart or a solution that was made and then `undo` give back the board, the past, the
 /// position, the puzzle, the parameters and the kept bytes. `undo` and then `redo` give back the whole session.
+///
+/// What `save` answers of a session that can be stored, with grids for its solutions as all of the code's are, begins that session
+/// again, as a file does; only want of memory, or more bytes than a save may have, refuse it. The puzzle of a game that `new`
+/// began from a seed has one solution, and several without any one of its items; `solve` answers that solution, and `list 2` has
+/// it alone.
 pub fn laws<P: Draw>()
     ensures read_once { LinesAreReadOnce }
     ensures refused { RefusedLinesLeave ⟦<P as Facts>⟧.facts }
     ensures one_output { OutputIsOne ⟦<P as Facts>⟧.facts }
+    ensures output { OutputIsThere ⟦<P as Facts>⟧.facts }
     ensures stays_storable { RepliesStayStorable ⟦<P as Facts>⟧.facts }
     ensures calls { RepliesAreCalls ⟦<P as Facts>⟧.facts }
     ensures others { OtherRequestsLeave ⟦<P as Facts>⟧.facts }
     ensures undone { UndoLineTakesBack ⟦<P as Facts>⟧.facts }
     ensures redone { RedoLineTakesUndoBack ⟦<P as Facts>⟧.facts }
+    ensures loads_back { SaveLineLoadsBack ⟦<P as Facts>⟧.facts }
+    ensures seeded { SeededLinesHaveOne ⟦<P as Facts>⟧.facts }
 {}

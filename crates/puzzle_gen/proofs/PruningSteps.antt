@@ -300,3 +300,55 @@ pruned_needed {P} f g order p cuts pruned i small there =
       other_solves = solved two.other two.other_solves;
       differ = two.differ;
     }
+
+-- ---- the square is the only solution
+
+-- where all items of a place from k on are kept: the last one that went is the whole rest that it was tried with
+only_kept : {P : Type 0} (f : Ghosts P) (g : GridValue) (order : List ℕ) (p : P) → AreCuts f g → IsPruned f g order p
+    → (k : ℕ) → k ≤ f.items_of g.size → ((j : ℕ) → j < f.items_of g.size → k ≤ place_in j order → f.has p j ≡ true)
+    → IsOnlySolution (f.puzzle p) g
+only_kept {P} f g order p cuts pruned zero few kept =
+    let whole : f.full_of g ≡ p =
+    sym cuts.all ∙ cuts.agrees (λ i. true) (f.has p) (λ i small. sym (kept i small (omega arith))) ∙ sym pruned.is_cut in
+    subst (λ (q : P). IsOnlySolution (f.puzzle q) g) whole cuts.only_full
+only_kept {P} f g order p cuts pruned (suc k) few kept =
+    let n = f.items_of g.size in
+    let i = get_or order k 0 in
+    let within : k < n = omega arith in
+    let small : i < n = pruned.is_order.items k within in
+    let here : place_in i order ≡ k = pruned.is_order.places k within in
+    elim (f.has p i) as (λ b. f.has p i ≡ b → IsOnlySolution (f.puzzle p) g) [
+      | true ↦ λ stays. only_kept f g order p cuts pruned k (omega arith) (λ j small_j after.
+          elim (cases_eq (place_in j order) k) [
+            | inl last ↦
+                let itself : j ≡ i = place_apart n order pruned.is_order j i small_j small (last ∙ sym here) in
+                ap (λ (l : ℕ). f.has p l) itself ∙ stays
+            | inr other ↦ kept j small_j (omega arith)
+          ])
+      | false ↦ λ goes.
+          let is_rest : p ≡ rest_puzzle f g order p i =
+          pruned.is_cut ∙ cuts.agrees (f.has p) (rest order (f.has p) i) (λ j small_j.
+          elim (cases_order (place_in j order) (place_in i order)) [
+            | inl last ↦
+                let itself : j ≡ i = place_apart n order pruned.is_order j i small_j small last in
+                ap (λ (l : ℕ). f.has p l) itself ∙ goes ∙ sym (rest_itself order (f.has p) i)
+                ∙ ap (λ (l : ℕ). rest order (f.has p) i l) (sym itself)
+            | inr other ↦ elim other [
+              | inl before ↦ sym (rest_before order (f.has p) i j before)
+              | inr after ↦ kept j small_j (omega arith) ∙ sym (rest_after order (f.has p) i j after)
+            ]
+          ]) in
+          let solved : Solves (f.puzzle p) g =
+          subst (λ (q : P). Solves (f.puzzle q) g) (sym pruned.is_cut)
+          (cuts.loses_none (λ j. true) (f.has p) g (subst (λ (q : P). Solves (f.puzzle q) g) (sym cuts.all) cuts.only_full.solves)) in
+          only_of_not_two (f.puzzle p) g solved (λ two.
+          let there : f.has p i ≡ true =
+          (pruned.each i small).1 (subst (λ (q : P). HasSeveralSolutions (f.puzzle q)) is_rest two) in
+          let e : true ≡ false = sym there ∙ goes in cc)
+    ] refl
+
+pub pruned_only : {P : Type 0} (f : Ghosts P) (g : GridValue) (order : List ℕ) (p : P) → AreCuts f g → IsPruned f g order p
+    → IsOnlySolution (f.puzzle p) g
+pruned_only f g order p cuts pruned =
+    only_kept f g order p cuts pruned (f.items_of g.size) (omega arith)
+    (λ j small after. absurd (let inside = pruned.is_order.inside j small in omega arith))

@@ -13,3 +13,4 @@ pub mod SearchSteps
 pub mod SettledSquares
 pub mod ListedSolutions
 pub mod ListingSteps
+pub mod FirstSolutions

@@ -1,5 +1,5 @@
 //! The session that a game ID begins.
-ghost use Rattle.std.specs.Prelude.{◌≡◌, Ok, IfOk, IfErr};
+ghost use Rattle.std.specs.Prelude.{◌≡◌, Ok, Err, IfOk, IfErr};
 ghost use Rattle.puzzle_cli.specs.NewSessions.{no_extras, new_game, TextBegins, IsStartRefusal};
 
 use crate::draw::Draw;
@@ -17,9 +17,20 @@ pub(crate) fn new_session<P: Draw>(alloc: Global, id: &[u8]) -> Result<Session<P
     ensures ok { IfOk result (λ session. TextBegins ⟦<P as Facts>⟧.facts id.now (Ok session)) }
     ensures why { IfErr result (IsStartRefusal (TextBegins ⟦<P as Facts>⟧.facts id.now)) }
 {
+    let (params, puzzle) = read_game(id)?;
+    begin_game(alloc, params, puzzle)
+}
+
+// The parameters and the puzzle of a game ID. It takes no memory.
+fn read_game<P: Draw>(id: &[u8]) -> Result<(Params, P), StartFault>
+    ensures ok { IfOk result (λ game.
+        TextBegins ⟦<P as Facts>⟧.facts id.now (Ok (new_game game.0 game.1))) }
+    ensures size { IfOk result (λ game. game.0.size ≡ (P.puzzle game.1).size) }
+    ensures err { IfErr result (λ fault. TextBegins ⟦<P as Facts>⟧.facts id.now (Err fault)) }
+{
     match read_id::<P>(id)? {
-        GameId::Described(params, puzzle) => begin_game(alloc, params, puzzle),
-        GameId::Seeded(params, seed) => begin_game(alloc, params, generate(&params, seed)?),
+        GameId::Described(params, puzzle) => Ok((params, puzzle)),
+        GameId::Seeded(params, seed) => Ok((params, generate(&params, seed)?)),
     }
 }
 

@@ -1,28 +1,45 @@
 use Rattle.clue_rules.specs.GameIds.{describes_at}
-use Rattle.clue_rules.proofs.GameIdLemmas.{id_again, game_reads}
+use Rattle.clue_rules.proofs.GameIdLemmas.{ReadsGrammar, id_taken, id_again, game_reads}
 use Rattle.puzzle_gen.proofs.ItemLaws.{laws_of}
+use Rattle.play_save.proofs.GameTexts.{game_owes}
 use Rattle.puzzle_cli.specs.GameFacts.{facts_of}
 use Rattle.puzzle_cli.specs.Inner.CommandReading.{read_at}
 use Rattle.puzzle_cli.proofs.CommandLaws.{line_is_read, read_once}
-use Rattle.puzzle_cli.proofs.RepliesOnce.{ids_once, output_once}
+use Rattle.puzzle_cli.proofs.RepliesOnce.{IdsAreReadOnce, ids_once, output_once}
 use Rattle.puzzle_cli.proofs.ReplySteps.{refused_lines_leave}
 use Rattle.puzzle_cli.proofs.StorableReplies.{replies_stay_storable}
 use Rattle.puzzle_cli.proofs.CallReplies.{replies_are_calls, other_requests_leave}
 use Rattle.puzzle_cli.proofs.UndoReplies.{undo_line_takes_back, redo_line_takes_undo_back}
+use Rattle.puzzle_cli.proofs.LinesAnswered.{output_is_there}
+use Rattle.puzzle_cli.proofs.SaveReplies.{save_line_loads_back}
+use Rattle.puzzle_cli.proofs.SeededReplies.{seeded_lines_have_one}
+use Rattle.puzzle_cli.proofs.run_laws.laws.Given.{Over}
 use Rattle.puzzle_cli.proofs.run_laws.laws.Goals as goal
+
+-- the grammar of descriptions is what reading finds, and IDs are read in one way
+reads : (g : Over) → let f = facts_of g.P.Rules g.P.Game g.P.Draw in
+    ReadsGrammar g.row.P.Denot f.desc_at (describes_at f.rules.puzzle f.rules.valid f.describes)
+reads g =
+    let f = facts_of g.P.Rules g.P.Game g.P.Draw in
+    game_reads g.row.P.Denot f.rules.puzzle f.rules.valid f.describes f.desc_at g.met.P.Game.desc_taken g.met.P.Game.desc_again
+
+ids : (g : Over) → IdsAreReadOnce (facts_of g.P.Rules g.P.Game g.P.Draw)
+ids g =
+    let f = facts_of g.P.Rules g.P.Game g.P.Draw in
+    ids_once f (λ text id. id_again g.row.P.Denot f.letters f.has_adjacent f.desc_at
+    (describes_at f.rules.puzzle f.rules.valid f.describes) text id g.met.P.Game.plain_letters (reads g))
 
 pub returns-clause-read_once : goal.returns-clause-read_once
 returns-clause-read_once g c = λ line. (read_at line, line_is_read line, read_once line)
 
 pub returns-clause-one_output : goal.returns-clause-one_output
-returns-clause-one_output g c =
+returns-clause-one_output g c = output_once (facts_of g.P.Rules g.P.Game g.P.Draw) (laws_of g.met.P.Rules) (ids g)
+
+pub returns-clause-output : goal.returns-clause-output
+returns-clause-output g c =
     let f = facts_of g.P.Rules g.P.Game g.P.Draw in
-    let D = g.row.P.Denot in
-    let is_desc = describes_at f.rules.puzzle f.rules.valid f.describes in
-    let reads = game_reads D f.rules.puzzle f.rules.valid f.describes f.desc_at g.met.P.Game.desc_taken g.met.P.Game.desc_again in
-    let ids = ids_once f (λ text id. id_again D f.letters f.has_adjacent f.desc_at is_desc text id
-    g.met.P.Game.plain_letters reads) in
-    output_once f (laws_of g.met.P.Rules) ids
+    output_is_there f (λ text id. id_taken g.row.P.Denot f.letters f.has_adjacent f.desc_at
+    (describes_at f.rules.puzzle f.rules.valid f.describes) text id (reads g))
 
 pub returns-clause-stays_storable : goal.returns-clause-stays_storable
 returns-clause-stays_storable g c = replies_stay_storable (facts_of g.P.Rules g.P.Game g.P.Draw) (laws_of g.met.P.Rules)
@@ -41,3 +58,12 @@ returns-clause-undone g c = undo_line_takes_back (facts_of g.P.Rules g.P.Game g.
 
 pub returns-clause-redone : goal.returns-clause-redone
 returns-clause-redone g c = redo_line_takes_undo_back (facts_of g.P.Rules g.P.Game g.P.Draw)
+
+pub returns-clause-loads_back : goal.returns-clause-loads_back
+returns-clause-loads_back g c =
+    let laws = g.met.P.Game in
+    save_line_loads_back (facts_of g.P.Rules g.P.Game g.P.Draw) (laws_of g.met.P.Rules) (ids g)
+    (game_owes g.P.Rules g.P.Game laws.desc_taken laws.desc_again laws.desc_canonical)
+
+pub returns-clause-seeded : goal.returns-clause-seeded
+returns-clause-seeded g c = seeded_lines_have_one (facts_of g.P.Rules g.P.Game g.P.Draw) (laws_of g.met.P.Rules) (ids g)
