@@ -1,5 +1,5 @@
 -- Decimal numbers without leading zeros: what is read is std's `decimal` of the number, and `decimal` is read.
-use Rattle.std.proofs.Common.{◌≡◌, ◌≢◌, ℕ, ◌+◌, ◌-◌, ◌*◌, ◌^◌, ◌<◌, ◌≤◌, Bool, true, false, ◌&&◌, nat_le, List, [], ◌∷◌, length, map, get_or, Option, Some, None, option_and_then, ◌==◌, cond, refl, sym, ap, ◌∙◌, arith, rules, IfSome}
+use Rattle.std.proofs.Common.{◌≡◌, ◌≢◌, ℕ, ◌+◌, ◌-◌, ◌*◌, ◌^◌, ◌<◌, ◌≤◌, Bool, true, false, ◌&&◌, nat_le, List, [], ◌∷◌, length, get_or, Option, Some, None, option_and_then, ◌==◌, cond, refl, sym, ap, ◌∙◌, arith, rules, IfSome}
 use Rattle.std.specs.Fmt.{decimal}
 use Rattle.std.proofs.lemmas.Str.Parse.{IsNumeralModel, numerals_by_fold}
 use Rattle.std.proofs.lemmas.Fmt.{decimal-digits_value, digits_decimal, digits_value-decimal, decimal_nonempty, first_decimal, decimal_digit}
@@ -141,16 +141,6 @@ pub number_found : (greatest : ℕ) (bs : List ℕ) (answer : Option ℕ) → gr
     → IfSome answer (λ m. (bs ≡ decimal m) × (m ≤ greatest))
 number_found greatest bs None fits is = tt
 number_found greatest bs (Some m) fits is = number_taken greatest m bs fits (sym is)
-
--- single digits are told apart by their bytes
-pub same_digits : (xs ys : List ℕ) → map digit xs ≡ map digit ys → xs ≡ ys
-same_digits [] [] e = refl
-same_digits (x ∷ xs) (y ∷ ys) e =
-    let head : digit x ≡ digit y = cc in
-    let rest = same_digits xs ys (cc) in
-    let same : x ≡ y = omega arith in
-    cc
-same_digits xs ys e = cc
 
 -- what `number` promises
 pub ruleset reads = (number_found, number_again)

@@ -1,5 +1,5 @@
 -- The reply to `save` begins the session again.
-use Rattle.std.proofs.Common.{◌≡◌, ◌<◌, length, All, codes, Result, Ok, Err, inl, inr, refl, ap, ◌∙◌}
+use Rattle.std.proofs.Common.{◌≡◌, ◌<◌, length, codes, Result, Ok, Err, inl, inr, refl, ap, ◌∙◌}
 use Rattle.std.proofs.lemmas.Bool.{cases_lt}
 use Rattle.puzzle_gen.proofs.ItemLaws.{ItemLaws}
 use Rattle.play_midend.specs.Histories.{History, IsStorable}
@@ -8,7 +8,6 @@ use Rattle.play_save.specs.declared.fault.LoadFault.TheVariants.{TooLarge}
 use Rattle.play_save.specs.declared.save_format.TheConstants.{MOST_BYTES}
 use Rattle.play_save.specs.FirstFaults.{load_at}
 use Rattle.play_save.specs.Written.{save_of}
-use Rattle.play_save.specs.Laws.{HasGrid}
 use Rattle.play_save.proofs.GameTexts.{Owes}
 use Rattle.play_save.proofs.SavedAgain.{load_again}
 use Rattle.play_save.proofs.LoadAnswers.{too_large}
@@ -31,29 +30,29 @@ save_asks = (codes "save", refl, word_read (codes "save") (Ask (Tell Save)) refl
 module _ {P : Type 0} (f : GameFacts P) (owes : Owes (saved_facts f) f.rules.valid) (h : History P)
     (storable : IsStorable f.rules.puzzle f.rules.valid f.letters h) where
   -- a first fault of what is saved is its length
-  saved_fault : All HasGrid h.moves → (fault : LoadFault) → load_at (saved_facts f) (save_of f.title f.desc_of h) ≡ Err fault
+  saved_fault : (fault : LoadFault) → load_at (saved_facts f) (save_of f.title f.desc_of h) ≡ Err fault
       → (MOST_BYTES < length (save_of f.title f.desc_of h)) × (fault ≡ TooLarge)
-  saved_fault grids fault is =
+  saved_fault fault is =
       elim (cases_lt MOST_BYTES (length (save_of f.title f.desc_of h))) [
         | inl long ↦ (long, let large = too_large (saved_facts f) (save_of f.title f.desc_of h) long in cc)
         | inr small ↦
-            let saved = written_is_saved (saved_facts f) f.rules.valid owes h storable grids small in
+            let saved = written_is_saved (saved_facts f) f.rules.valid owes h storable small in
             let read = load_again (saved_facts f) (save_of f.title f.desc_of h) h owes.texts saved in cc
       ]
 
-  loaded_back : All HasGrid h.moves → (first : Result (History P) StartFault) → FileBegins f (save_of f.title f.desc_of h) first
+  loaded_back : (first : Result (History P) StartFault) → FileBegins f (save_of f.title f.desc_of h) first
       → IsLoadedBack h (save_of f.title f.desc_of h) first
-  loaded_back grids (Ok first) is =
+  loaded_back (Ok first) is =
       (written_saves_no_other (saved_facts f) f.rules.valid owes h first storable.session storable.puzzle_is is).0
-  loaded_back grids (Err fault) (inl memory) = inl memory
-  loaded_back grids (Err fault) (inr (inner, none, is)) =
-      let long = saved_fault grids inner none in inr (long.0, is ∙ ap Load long.1)
+  loaded_back (Err fault) (inl memory) = inl memory
+  loaded_back (Err fault) (inr (inner, none, is)) =
+      let long = saved_fault inner none in inr (long.0, is ∙ ap Load long.1)
 
 pub save_line_loads_back : {P : Type 0} (f : GameFacts P) → ItemLaws f.rules → IdsAreReadOnce f
     → Owes (saved_facts f) f.rules.valid → SaveLineLoadsBack f
-save_line_loads_back f laws ids owes h storable grids = (
+save_line_loads_back f laws ids owes h storable = (
   save_of f.title f.desc_of h,
   the_answer f laws ids h h save_line (Tell Save) (save_of f.title f.desc_of h) save_asks refl,
-  loaded_back f owes h storable grids,
-  λ small. written_is_saved (saved_facts f) f.rules.valid owes h storable grids small,
+  loaded_back f owes h storable,
+  λ small. written_is_saved (saved_facts f) f.rules.valid owes h storable small,
 )

@@ -1,5 +1,5 @@
 -- Laws of the replies to lines, over what is written and what is left: any run's, since a run writes nothing but replies.
-use Rattle.std.specs.Prelude.{◌≡◌, ◌⊎◌, ℕ, ◌<◌, ◌≤◌, ◌^◌, true, IsTrue, All, codes, List, ◌∷◌, ◌++◌, length, Option, Some, None, unwrap_or, Result, Ok, Err}
+use Rattle.std.specs.Prelude.{◌≡◌, ◌⊎◌, ℕ, ◌<◌, ◌≤◌, ◌^◌, true, IsTrue, codes, List, ◌∷◌, ◌++◌, length, Option, Some, None, unwrap_or, Result, Ok, Err}
 use Rattle.std.specs.Fmt.{decimal}
 use Rattle.std.specs.Option.{IsSomeAnd}
 use Rattle.byte_text.specs.Bytes.{exclamation}
@@ -18,7 +18,6 @@ use Rattle.play_midend.specs.Histories.{History, IsValid, IsStorable}
 use Rattle.play_midend.specs.Laws.{Call, ToSolution, IsSameBack, Answered, may_take_memory}
 use Rattle.play_save.specs.declared.fault.LoadFault.TheVariants.{TooLarge}
 use Rattle.play_save.specs.declared.save_format.TheConstants.{MOST_BYTES}
-use Rattle.play_save.specs.Laws.{HasGrid}
 use Rattle.puzzle_cli.specs.declared.command.Command.TheVariants.{Ask}
 use Rattle.puzzle_cli.specs.declared.command.Request.{Request}
 use Rattle.puzzle_cli.specs.declared.command.Request.TheVariants.{Act}
@@ -168,10 +167,9 @@ IsLoadedBack h bytes (Ok first) = first ≡ h
 IsLoadedBack h bytes (Err fault) = (fault ≡ OutOfMemory) ⊎ ((MOST_BYTES < length bytes) × (fault ≡ Load TooLarge))
 
 -- The reply to `save`, as a file, begins the session again, and no other; it does so where it is no longer than a save may be.
--- The grids that fill in a solution are grids, as all those of the code are.
 abbrev pub SaveLineLoadsBack : {P : Type 0} → GameFacts P → Type 0
 SaveLineLoadsBack {P} f =
-    (h : History P) → IsNoneOrStorable f (Some h) → All HasGrid h.moves
+    (h : History P) → IsNoneOrStorable f (Some h)
     → (bytes : List ℕ) × IsTheReply f (Some h) save_line bytes (Some h)
     × ((first : Result (History P) StartFault) → FileBegins f bytes first → IsLoadedBack h bytes first)
     × (length bytes ≤ MOST_BYTES → FileBegins f bytes (Ok h))

@@ -14,10 +14,9 @@ use crate::reply::facts::Facts;
 /// leaves the session. A move, a restart or a solution that was made and then `undo` give back the board, the past, the
 /// position, the puzzle, the parameters and the kept bytes. `undo` and then `redo` give back the whole session.
 ///
-/// What `save` answers of a session that can be stored, with grids for its solutions as all of the code's are, begins that session
-/// again, as a file does; only want of memory, or more bytes than a save may have, refuse it. The puzzle of a game that `new`
-/// began from a seed has one solution, and several without any one of its items; `solve` answers that solution, and `list 2` has
-/// it alone.
+/// What `save` answers of a session that can be stored begins that session again, as a file does; only want of memory, or more
+/// bytes than a save may have, refuse it. The puzzle of a game that `new` began from a seed has one solution, and several
+/// without any one of its items; `solve` answers that solution, and `list 2` has it alone.
 pub fn laws<P: Draw>()
     ensures read_once { LinesAreReadOnce }
     ensures refused { RefusedLinesLeave ⟦<P as Facts>⟧.facts }
