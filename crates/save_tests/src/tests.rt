@@ -2,6 +2,7 @@
 
 mod counts_and_keys;
 mod faults;
+mod longest_history;
 mod records;
 mod sample;
 mod sessions;

@@ -9,8 +9,8 @@ use std::alloc::Global;
 use std::test::Fail;
 use trail_solver::Rules;
 
-// A new game of Towers.
-fn new_game(alloc: Global) -> Result<Session<Towers>, Fail> {
+/// A new game of Towers.
+pub(crate) fn new_game(alloc: Global) -> Result<Session<Towers>, Fail> {
     let puzzle = Towers::read_desc(Size::new(3).ok_or("no size")?, b"3//////3/////")?;
     let params = Params {
         size: puzzle.size(),

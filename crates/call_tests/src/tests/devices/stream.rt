@@ -3,6 +3,7 @@
 ghost use Rattle.std.specs.Prelude.{◌≤◌, IfOk};
 
 use puzzle_io::{DeviceFault, FromRead, Sink, Source, ToWrite};
+use std::alloc::{AllocError, Global};
 use std::io;
 use std::io::{ErrorKind, Read, Write};
 use std::test::Fail;
@@ -145,4 +146,89 @@ fn a_write_of_no_bytes_that_failed_is_the_last(rt: HostRuntime) {
     assert_eq!(rt; sink.write(b"cd"), Err(DeviceFault::DeviceFault));
     assert_eq!(rt; sink.flush(), Err(DeviceFault::DeviceFault));
     assert_eq!(rt; writer.calls, 2);
+}
+
+// A writer that takes at most so many bytes a call, and keeps them.
+#[derive(Drop)]
+struct Pieces<'a> {
+    taken: &'a mut Vec<u8>,
+    piece: usize,
+}
+
+impl Write for Pieces<'_> {
+    fn write(&mut self, bytes: &[u8]) -> io::Result<usize> {
+        let count = self.piece.min(bytes.len());
+        self.taken.extend_from_slice(&bytes[..count])?;
+        Ok(count)
+    }
+
+    fn flush(&mut self) -> io::Result<()> {
+        Ok(())
+    }
+}
+
+// So many bytes, each unlike those near it.
+fn many_bytes(alloc: Global, count: u32) -> Result<Vec<u8>, AllocError> {
+    let mut bytes = Vec::new(alloc);
+    for i in 0..count {
+        bytes.push((i % 251) as u8)?;
+    }
+    Ok(bytes)
+}
+
+// Writes the bytes in as many calls as that takes, one for each byte at most, and flushes.
+fn write_all(sink: &mut impl Sink, bytes: &[u8]) -> Result<(), DeviceFault> {
+    let mut rest = bytes;
+    for _ in 0..bytes.len() {
+        let count = sink.write(rest)?;
+        rest = &rest[count..];
+    }
+    sink.flush()
+}
+
+#[test]
+fn more_bytes_than_a_buffer_come_in_order(rt: HostRuntime) -> Result<(), Fail> {
+    let bytes = many_bytes(rt.alloc(), 5_000)?;
+    for piece in [1, 7, 1_024, 4_096, 4_999, 5_000, 10_000] {
+        let mut taken = Vec::new(rt.alloc());
+        let mut sink = ToWrite::new(Pieces {
+            taken: &mut taken,
+            piece,
+        });
+        write_all(&mut sink, &bytes)?;
+        assert!(rt; taken.as_slice() == bytes.as_slice(), "pieces of {piece}");
+    }
+    Ok(())
+}
+
+// However many calls there were, and however long they are: where std answers each by a success, so does the device.
+#[test]
+fn a_device_fails_by_itself_never(rt: HostRuntime) -> Result<(), Fail> {
+    let mut buffer = [0u8; 5_000];
+    for most in [1usize, 3, 4_096, 10_000] {
+        let answers = vec![in rt.alloc(); Some(most); 6_000]?;
+        let mut source = FromRead::new(Scripted {
+            answers: &answers,
+            error: ErrorKind::Other,
+            calls: 0,
+        });
+        let mut sink = ToWrite::new(Scripted {
+            answers: &answers,
+            error: ErrorKind::Other,
+            calls: 0,
+        });
+        for i in 0..3_000usize {
+            let length = [0usize, 1, 5, 5_000][i % 4];
+            assert!(rt; length <= 5_000);
+            let want = Ok(most.min(length));
+            assert_eq!(rt;
+                source.read(&mut buffer[..length]),
+                want,
+                "read {i} of {most}"
+            );
+            assert_eq!(rt; sink.write(&buffer[..length]), want, "write {i} of {most}");
+            assert_eq!(rt; sink.flush(), Ok(()), "flush {i}");
+        }
+    }
+    Ok(())
 }
