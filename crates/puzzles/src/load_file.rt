@@ -25,17 +25,17 @@ fn read_cut<R: Read + Drop>(alloc: Global, reader: R) -> io::Result<Vec<u8>>
     ensures front { IfOk result (λ bytes. IfSome (R.remaining reader)
         (λ told. bytes.items ≡ take BYTES_READ told)) }
 {
-    let bytes = read_front(alloc, reader)?;
+    let bytes = read_front(alloc, reader, BYTES_READ)?;
     Ok(cut(bytes))
 }
 
-// The first bytes of a reader that tells them. Of one that tells nothing no clause of std bounds what is read.
-fn read_front<R: Read + Drop>(alloc: Global, reader: R) -> io::Result<Vec<u8>>
+// The first bytes of a reader that tells them, up to the limit. Of one that tells nothing no clause of std bounds what is read.
+fn read_front<R: Read + Drop>(alloc: Global, reader: R, limit: u64) -> io::Result<Vec<u8>>
     ensures { IfOk result (λ bytes. IfSome (R.remaining reader)
-        (λ told. bytes.items ≡ take BYTES_READ told)) }
+        (λ told. bytes.items ≡ take limit told)) }
 {
     let mut bytes = Vec::new(alloc);
-    reader.take(BYTES_READ).read_to_end(&mut bytes)?;
+    reader.take(limit).read_to_end(&mut bytes)?;
     Ok(bytes)
 }
 
