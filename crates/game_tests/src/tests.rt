@@ -9,6 +9,7 @@ mod ids;
 mod lines;
 mod moves;
 mod pictures;
+mod programs;
 mod saving;
 mod script;
 mod sessions;

@@ -1,5 +1,6 @@
 -- What the contracts of this crate cite. A line and its command: Lines, Commands; what is said and left: GameFacts, NewSessions,
--- SessionReplies, Replies; the run: Runs; its laws: RunLaws. The others are texts and faults, and Inner the words of private steps.
+-- SessionReplies, Replies; the run: Runs; its laws: RunLaws; the program: Starts, Programs. The others are texts and faults, and Inner
+-- the words of private steps.
 pub mod Symbols
 pub mod TowersPicture
 pub mod UnequalPicture
@@ -19,5 +20,7 @@ pub mod Lines
 pub mod Runs
 pub mod StartFault
 pub mod Starts
+pub mod Faults
+pub mod Programs
 pub mod RunLaws
 pub mod Inner

@@ -17,7 +17,9 @@
 
 mod command;
 mod draw;
+mod fault;
 mod line;
+mod program;
 mod reply;
 mod run_end;
 mod run_laws;
@@ -27,6 +29,9 @@ mod view;
 
 pub use command::line_fault::LineFault;
 pub use draw::{Draw, picture};
+pub use fault::Fault;
+pub use program::game_files::GameFiles;
+pub use program::play;
 pub use run_end::End;
 pub use run_laws::laws;
 pub use session_run::run;

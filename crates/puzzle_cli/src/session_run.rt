@@ -23,7 +23,8 @@ use std::alloc::Global;
 /// read and neither had come: a line that has not ended then has no reply. `WriteFault` where a write or a flush fails, or a
 /// write takes no byte: the session is the one behind the command whose reply failed.
 ///
-/// Where the session can be stored, or there is none, so it is at the end.
+/// Where the session can be stored, or there is none, so it is at the end. Where all that the sink had taken was flushed before,
+/// so it is at the end, `WriteFault` apart.
 ///
 /// Neither device has failed before.
 pub fn run<P: Draw, R: Source, W: Sink>(

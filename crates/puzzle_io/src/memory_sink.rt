@@ -9,7 +9,8 @@ use crate::device::{DeviceFault, Sink};
 use crate::pace::Pace;
 use std::marker::Model;
 
-/// The sink that writes over the bytes of a vector from its front, in pieces, and fails at one call.
+/// The sink that writes over the bytes of a vector from its front, in pieces, and fails at one call. It tells the bytes that it took
+/// and, in contracts, those of them that it had when it was last flushed.
 #[derive(Drop)]
 pub struct MemorySink {
     bytes: Vec<u8>,

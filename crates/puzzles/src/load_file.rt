@@ -25,9 +25,26 @@ fn read_cut<R: Read + Drop>(alloc: Global, reader: R) -> io::Result<Vec<u8>>
     ensures front { IfOk result (λ bytes. IfSome (R.remaining reader)
         (λ told. bytes.items ≡ take BYTES_READ told)) }
 {
+    let bytes = read_front(alloc, reader, BYTES_READ)?;
+    Ok(cut(bytes))
+}
+
+// The first bytes of a reader that tells them, up to the limit. Of one that tells nothing no clause of std bounds what is read.
+fn read_front<R: Read + Drop>(alloc: Global, reader: R, limit: u64) -> io::Result<Vec<u8>>
+    ensures { IfOk result (λ bytes. IfSome (R.remaining reader)
+        (λ told. bytes.items ≡ take limit told)) }
+{
     let mut bytes = Vec::new(alloc);
-    reader.take(BYTES_READ).read_to_end(&mut bytes)?;
-    // It cuts nothing: no clause of `take` bounds what a reader that tells nothing gives.
-    bytes.truncate(BYTES_READ as usize);
+    reader.take(limit).read_to_end(&mut bytes)?;
     Ok(bytes)
+}
+
+// The first of these bytes, no more than are read.
+fn cut(bytes: Vec<u8>) -> Vec<u8>
+    ensures bound { vec_len result ≤ BYTES_READ }
+    ensures front { result.items ≡ take BYTES_READ bytes.items }
+{
+    let mut bytes = bytes;
+    bytes.truncate(BYTES_READ as usize);
+    bytes
 }

@@ -5,8 +5,8 @@ use Rattle.puzzle_cli.specs.declared.start.command_fault.CommandFault.TheVariant
 use Rattle.puzzle_cli.specs.CommandFault.{command_fault_status}
 use Rattle.puzzle_cli.specs.StartFault.{start_fault_status, start_fault_line}
 use Rattle.puzzle_cli.specs.End.{end_status, end_fault_line}
-use Rattle.puzzles.specs.declared.fault.Fault.{Fault}
-use Rattle.puzzles.specs.declared.fault.Fault.TheVariants.{Words, Start, Run, LoadFile, SaveFile, Output, OutOfMemory}
+use Rattle.puzzle_cli.specs.declared.fault.Fault.{Fault}
+use Rattle.puzzle_cli.specs.declared.fault.Fault.TheVariants.{Words, Start, Run, LoadFile, SaveFile, Output, OutOfMemory}
 
 abbrev pub fault_status : Fault → ℕ
 fault_status (Words fault) = command_fault_status fault

@@ -1,14 +1,16 @@
 //! Why the program ends before its work is done.
 
 ghost use Rattle.std.specs.Prelude.{◌≡◌, ◌≤◌, length};
-ghost use Rattle.puzzles.specs.Faults.{fault_status, fault_line};
+ghost use Rattle.puzzle_cli.specs.Faults.{fault_status, fault_line};
 
+use crate::run_end::End;
+use crate::start::command_fault::CommandFault;
+use crate::start::start_fault::StartFault;
 use arrayvec::ArrayString;
-use puzzle_cli::{CommandFault, End, StartFault};
 
 /// Why the program ends before its work is done.
 #[derive(Drop)]
-pub(crate) enum Fault {
+pub enum Fault {
     /// The command line gives no game.
     Words(CommandFault),
     /// The first session is refused.
@@ -26,8 +28,8 @@ pub(crate) enum Fault {
 }
 
 impl Fault {
-    /// The status that the program ends with.
-    pub(crate) fn status(&self) -> u8
+    /// The status that the program ends with: that of the fault inside, or 1.
+    pub fn status(&self) -> u8
         ensures { result ≡ fault_status self.now }
     {
         match self {
@@ -39,7 +41,7 @@ impl Fault {
     }
 
     /// The line on standard error, without its LF. The text of a refused command line is no line of ours.
-    pub(crate) fn line(&self) -> ArrayString<40>
+    pub fn line(&self) -> ArrayString<40>
         ensures { result.bytes ≡ fault_line self.now }
     {
         match self {
@@ -52,6 +54,17 @@ impl Fault {
             Fault::Output => line_of("cannot write the output"),
             Fault::OutOfMemory => line_of("out of memory"),
         }
+    }
+}
+
+impl From<StartFault> for Fault {
+    ghost use Rattle.std.specs.Prelude.{◌≡◌};
+    ghost use Rattle.puzzle_cli.specs.declared.fault.Fault.TheVariants.{Start};
+
+    ghost from_gives = { λ start fault. fault ≡ Start start };
+
+    fn from(start: StartFault) -> Fault {
+        Fault::Start(start)
     }
 }
 

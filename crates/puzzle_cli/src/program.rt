@@ -1,0 +1,79 @@
+//! The program: a game from the words of its command line to the file that it is saved to.
+
+ghost use Rattle.std.specs.Prelude.{◌≡◌, ◌≢◌, false, IfErr, OnOk};
+ghost use Rattle.puzzle_cli.specs.Faults.{fault_status};
+ghost use Rattle.puzzle_cli.specs.Programs.{IsDone};
+ghost use Rattle.puzzle_cli.specs.Runs.{point_at};
+
+pub(crate) mod game_files;
+pub(crate) mod game_text;
+
+use crate::draw::Draw;
+use crate::fault::Fault;
+use crate::program::game_files::{GameFiles, load_file, save_file};
+use crate::program::game_text::game_text;
+use crate::reply::facts::Facts;
+use crate::start::command_line::{Args, GameName};
+use clue_rules::{Towers, Unequal};
+use puzzle_io::{Sink, Source};
+use std::alloc::Global;
+
+/// Plays the game that the words name, from the file to load to the file to save to.
+///
+/// The first session is that of the game ID, that of the file to load, or none. The lines of the source are answered to the sink
+/// as by [`run`](crate::run). The session that is left is saved, where there is one and the words name a file to save to.
+///
+/// `LoadFile` and `SaveFile` where a file can't be read or written, `Start` where the first session is refused, `Run` where a device
+/// failed, and `OutOfMemory`, each with a status other than 0. Nothing is saved after a fault.
+///
+/// Where the words name both an ID and a file to load, the file is read and not used. Neither device has failed before.
+pub fn play<F: GameFiles, R: Source, W: Sink>(
+    alloc: Global,
+    args: &Args,
+    files: &F,
+    source: &mut R,
+    sink: &mut W,
+) -> Result<(), Fault>
+    requires source { R.has_failed source.old ≡ false }
+    requires sink { W.has_failed sink.old ≡ false }
+    ensures towers { args.now.game ≡ GameName.Towers → OnOk result
+        (IsDone ⟦<Towers as Facts>⟧.facts (F.reads files.now) (F.writes files.now) args.now
+        (λ session. point_at R.Source W.Sink session source.old sink.old)
+        (λ session. point_at R.Source W.Sink session source.new sink.new)) }
+    ensures unequal { args.now.game ≡ GameName.Unequal → OnOk result
+        (IsDone ⟦<Unequal as Facts>⟧.facts (F.reads files.now) (F.writes files.now) args.now
+        (λ session. point_at R.Source W.Sink session source.old sink.old)
+        (λ session. point_at R.Source W.Sink session source.new sink.new)) }
+    ensures status { IfErr result (λ fault. fault_status fault ≢ 0) }
+    ensures flushed { OnOk result (W.flushed sink.old ≡ W.taken sink.old
+        → W.flushed sink.new ≡ W.taken sink.new) }
+{
+    match args.game {
+        GameName::Towers => play_as::<Towers, F, R, W>(alloc, args, files, source, sink),
+        GameName::Unequal => play_as::<Unequal, F, R, W>(alloc, args, files, source, sink),
+    }
+}
+
+// Plays this game so, whichever the words name.
+fn play_as<P: Draw, F: GameFiles, R: Source, W: Sink>(
+    alloc: Global,
+    args: &Args,
+    files: &F,
+    source: &mut R,
+    sink: &mut W,
+) -> Result<(), Fault>
+    requires source { R.has_failed source.old ≡ false }
+    requires sink { W.has_failed sink.old ≡ false }
+    ensures done { OnOk result
+        (IsDone ⟦<P as Facts>⟧.facts (F.reads files.now) (F.writes files.now) args.now
+        (λ session. point_at R.Source W.Sink session source.old sink.old)
+        (λ session. point_at R.Source W.Sink session source.new sink.new)) }
+    ensures status { IfErr result (λ fault. fault_status fault ≢ 0) }
+    ensures flushed { OnOk result (W.flushed sink.old ≡ W.taken sink.old
+        → W.flushed sink.new ≡ W.taken sink.new) }
+{
+    let bytes = load_file(files, &args.load)?;
+    let text = game_text::<P, R, W>(alloc, args, &bytes, source, sink)?;
+    save_file(files, &args.save, &text)?;
+    Ok(())
+}

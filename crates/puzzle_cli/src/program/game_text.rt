@@ -1,0 +1,105 @@
+//! A game from its first session to the text to be saved.
+
+ghost use Rattle.std.specs.Prelude.{◌≡◌, ◌≢◌, false, option_map, vec_items, IfOk, IfErr, OnOk};
+ghost use Rattle.puzzle_cli.specs.Faults.{fault_status};
+ghost use Rattle.puzzle_cli.specs.Programs.{IsFirst, IsFinished, IsPlayed, text_to_save};
+ghost use Rattle.puzzle_cli.specs.RunLaws.{IsNoneOrStorable};
+ghost use Rattle.puzzle_cli.specs.Runs.{point_at};
+
+use crate::draw::Draw;
+use crate::fault::Fault;
+use crate::reply::facts::Facts;
+use crate::run_end::End;
+use crate::session_run::run;
+use crate::start::begin;
+use crate::start::command_line::Args;
+use crate::start::start_fault::StartFault;
+use play_midend::Session;
+use play_save::save;
+use puzzle_io::{Sink, Source};
+use std::alloc::Global;
+
+/// Plays a game from the session of the ID or of the file's bytes on, or from none, and gives the text to be saved.
+pub(crate) fn game_text<P: Draw, R: Source, W: Sink>(
+    alloc: Global,
+    args: &Args,
+    bytes: &Option<Vec<u8>>,
+    source: &mut R,
+    sink: &mut W,
+) -> Result<Option<Vec<u8>>, Fault>
+    requires source { R.has_failed source.old ≡ false }
+    requires sink { W.has_failed sink.old ≡ false }
+    ensures played { IfOk result (λ text. IsPlayed ⟦<P as Facts>⟧.facts args.now.id
+        (option_map vec_items bytes.now) args.now.save
+        (λ session. point_at R.Source W.Sink session source.old sink.old)
+        (λ session. point_at R.Source W.Sink session source.new sink.new)
+        (option_map vec_items text)) }
+    ensures status { IfErr result (λ fault. fault_status fault ≢ 0) }
+    ensures flushed { OnOk result (W.flushed sink.old ≡ W.taken sink.old
+        → W.flushed sink.new ≡ W.taken sink.new) }
+{
+    let first = first_session::<P>(alloc, &args.id, bytes)?;
+    let last = run_game::<P, R, W>(alloc, first, source, sink)?;
+    let text = text_of(alloc, &last, &args.save)?;
+    Ok(text)
+}
+
+// The session that the game begins with, or none.
+fn first_session<P: Draw>(
+    alloc: Global,
+    id: &Option<String>,
+    bytes: &Option<Vec<u8>>,
+) -> Result<Option<Session<P>>, StartFault>
+    ensures first { IfOk result
+        (IsFirst ⟦<P as Facts>⟧.facts id.now (option_map vec_items bytes.now)) }
+    ensures storable { IfOk result (IsNoneOrStorable ⟦<P as Facts>⟧.facts) }
+{
+    match (id, bytes) {
+        (Some(id), _) => begin::<P>(alloc, Some(id.as_bytes()), None),
+        (None, Some(bytes)) => begin::<P>(alloc, None, Some(bytes)),
+        (None, None) => begin::<P>(alloc, None, None),
+    }
+}
+
+// Runs the game, and gives the session that is left.
+fn run_game<P: Draw, R: Source, W: Sink>(
+    alloc: Global,
+    first: Option<Session<P>>,
+    source: &mut R,
+    sink: &mut W,
+) -> Result<Option<Session<P>>, Fault>
+    requires storable { IsNoneOrStorable ⟦<P as Facts>⟧.facts first }
+    requires source { R.has_failed source.old ≡ false }
+    requires sink { W.has_failed sink.old ≡ false }
+    ensures finished { IfOk result (λ last. IsFinished ⟦<P as Facts>⟧.facts
+        (point_at R.Source W.Sink first source.old sink.old)
+        (point_at R.Source W.Sink last source.new sink.new)) }
+    ensures status { IfErr result (λ fault. fault_status fault ≢ 0) }
+    ensures flushed { OnOk result (W.flushed sink.old ≡ W.taken sink.old
+        → W.flushed sink.new ≡ W.taken sink.new) }
+{
+    let (last, end) = run::<P, R, W>(alloc, first, source, sink);
+    match end {
+        End::Finished => Ok(last),
+        End::ReadFault | End::WriteFault => Err(Fault::Run(end)),
+    }
+}
+
+// The save text of the last session, where there is one and a file to save to.
+fn text_of<P: Draw>(
+    alloc: Global,
+    last: &Option<Session<P>>,
+    path: &Option<String>,
+) -> Result<Option<Vec<u8>>, Fault>
+    ensures text { IfOk result (λ text. option_map vec_items text
+        ≡ text_to_save ⟦<P as Facts>⟧.facts path.now last.now) }
+    ensures status { IfErr result (λ fault. fault_status fault ≢ 0) }
+{
+    match (last, path) {
+        (Some(session), Some(_)) => match save(alloc, session) {
+            Ok(text) => Ok(Some(text)),
+            Err(_) => Err(Fault::OutOfMemory),
+        },
+        _ => Ok(None),
+    }
+}

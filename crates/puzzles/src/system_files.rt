@@ -1,0 +1,28 @@
+//! The files of the system, as a game loads from them and saves to them.
+
+use crate::load_file::read_file;
+use puzzle_cli::GameFiles;
+use std::fs::File;
+use std::io;
+use std::random::RandomSource;
+use std::rt::Files;
+
+/// The files of the system. No contract can say what they hold.
+#[derive(Drop)]
+pub(crate) struct SystemFiles<'a, R> {
+    pub(crate) rt: &'a R,
+}
+
+impl<R: Files<File = File> + RandomSource + AllocGlobal> GameFiles for SystemFiles<'_, R> {
+    ghost reads = { λ _ _ _. Unit {0} };
+
+    ghost writes = { λ _ _ _ _. Unit {0} };
+
+    fn read(&self, path: &str) -> io::Result<Vec<u8>> {
+        read_file(self.rt, path)
+    }
+
+    fn write(&self, path: &str, bytes: &[u8]) -> io::Result<()> {
+        safe_save::save_file(self.rt, path, bytes)
+    }
+}
