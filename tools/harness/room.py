@@ -59,6 +59,11 @@ class Folder:
         """What lies here, in order."""
         return sorted(os.listdir(self.fd))
 
+    def paths(self) -> List[str]:
+        """All that lies here and in the folders below, but those folders themselves, in order."""
+        found = [f'{way}/{name}' for way, _, names, _ in os.fwalk('.', dir_fd=self.fd) for name in names]
+        return sorted(os.path.normpath(path) for path in found)
+
     def read(self, name: Name) -> Optional[bytes]:
         """The content of a file, or nothing where there is none. A link is followed."""
         try:
@@ -95,7 +100,7 @@ class Room(Folder):
     """A new folder that every user may enter. When it is left it is gone, with all that is in it."""
 
     def __init__(self) -> None:
-        super().__init__(tempfile.mkdtemp(prefix='room.'))
+        super().__init__(tempfile.mkdtemp(prefix='room.', dir=place_for_all()))
         os.fchmod(self.fd, 0o755)
 
     def __enter__(self) -> Room:
@@ -104,6 +109,20 @@ class Room(Folder):
     def __exit__(self, *_: object) -> None:
         self.close()
         remove_tree(self.path)
+
+
+def place_for_all() -> str:
+    """Where rooms are made: where TMPDIR says, if every user may go there, or else at a usual place."""
+    own = os.path.abspath(tempfile.gettempdir())
+    return next((place for place in (own, '/tmp', '/var/tmp') if is_open_to_all(place)), own)
+
+
+def is_open_to_all(place: str) -> bool:
+    """Whether every user may search the folder and all above it, and the test may write there."""
+    way = [place]
+    while way[-1] != '/':
+        way.append(os.path.dirname(way[-1]))
+    return os.access(place, os.W_OK) and all(os.stat(folder).st_mode & stat.S_IXOTH for folder in way)
 
 
 def remove_tree(path: str) -> None:
