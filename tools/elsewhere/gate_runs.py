@@ -17,18 +17,19 @@ PART = 'tools/program_tests'
 
 
 class Gate(NamedTuple):
-    """What `rt ci` and one part of the others say and end with, and what the gate has to say: beside the passed ones of all others."""
+    """What `rt ci` and one part of the others say and end with, and what the gate has to say of those two."""
 
     name: str
     proofs: Tuple[str, int] = (PROVED, 0)
     part: Tuple[str, int] = (PASSED, 0)
     env: Mapping[str, str] = {}
-    #: Passed by those two, failed and skipped.
+    #: Passed, failed and skipped.
     counts: Tuple[int, int, int] = (6, 0, 0)
     status: int = 0
 
 
 ALLOWED = {'SKIPS_ALLOWED': '1'}
+SKIPPED = ('2 passed, 0 failed, 3 skipped', 0)
 
 ROUNDS = [
     Gate('all passes'),
@@ -41,9 +42,9 @@ ROUNDS = [
     Gate('a part says nothing', part=('', 0), counts=(5, 1, 0), status=1),
     Gate('a part says that none failed, and ends badly', part=(PASSED, 1), counts=(6, 1, 0), status=1),
     Gate('only the last count counts', part=(f'9 passed, 9 failed, 9 skipped\nonce more\n{PASSED}', 0)),
-    Gate('a part skips', part=('2 passed, 0 failed, 3 skipped', 0), counts=(7, 0, 3), status=1),
-    Gate('a part skips, and may', part=('2 passed, 0 failed, 3 skipped', 0), env=ALLOWED, counts=(7, 0, 3)),
-    Gate('a part skips, and 0 is no leave', part=('2 passed, 0 failed, 3 skipped', 0), env={'SKIPS_ALLOWED': '0'}, counts=(7, 0, 3), status=1),
+    Gate('a part skips', part=SKIPPED, counts=(7, 0, 3), status=1),
+    Gate('a part skips, which is allowed', part=SKIPPED, env=ALLOWED, counts=(7, 0, 3)),
+    Gate('a part skips, which is not allowed', part=SKIPPED, env={'SKIPS_ALLOWED': '0'}, counts=(7, 0, 3), status=1),
     Gate('a part skips and fails', part=('2 passed, 1 failed, 3 skipped', 1), env=ALLOWED, counts=(7, 1, 3), status=1),
     Gate('a part is skipped whole', part=('0 passed, 0 failed, 1 skipped', 0), env=ALLOWED, counts=(5, 0, 1)),
 ]

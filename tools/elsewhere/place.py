@@ -1,4 +1,4 @@
-"""A copy of the scripts with a command `rt` of its own, in which another user works with an environment that has next to nothing."""
+"""A copy of the scripts with a command `rt` of its own, in which another user works, with next to nothing in the environment."""
 
 from __future__ import annotations
 

@@ -44,7 +44,7 @@ class Sides:
         return (ended.output + ended.error).decode().rstrip('\n')
 
     def make_save(self, name: str, game: str, save: str, options: Sequence[str], commands: Sequence[str] = ()) -> None:
-        """Makes a save by commands; those that the puzzle refuses do nothing. The command save and the option --save write the same."""
+        """Makes a save by commands; those that the puzzle refuses do nothing. The command writes the same as the option."""
         ended = self.ours(game, [*options, f'--save={save}'], [*commands, 'save'])
         self.check(f'{name}: is made', ended.status == 0, repr(ended.error))
         written = self.room.read(save) or b''

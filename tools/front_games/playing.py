@@ -6,7 +6,7 @@ import os
 import re
 from typing import Callable, Dict, NamedTuple, Optional, Sequence
 
-from harness import Report, Room, User, run
+from harness import Report, Room, run
 from harness.program import Ended
 from harness.terminal import Terminal
 
@@ -47,10 +47,9 @@ class Refused(NamedTuple):
 class Front:
     """The front that is tested, with its program; what it does is counted in a report."""
 
-    def __init__(self, report: Report, front: str, program: str, user: Optional[User] = None) -> None:
+    def __init__(self, report: Report, front: str, program: str) -> None:
         self.report = report
         self._front = front
-        self._user = user
         self._env: Dict[str, str] = {
             'PATH': os.environ.get('PATH', os.defpath),
             'PUZZLES': program,
@@ -73,7 +72,7 @@ class Front:
             return text.replace('FOLDER', room.path)
 
         words = [self._front, *map(here, game.words)]
-        with Terminal(words, self._env, cwd=room.path, user=self._user) as terminal:
+        with Terminal(words, self._env, cwd=room.path) as terminal:
             answer = terminal.wait_for(PROMPT)
             for text in game.first:
                 self._shows(game.name, answer, here(text))

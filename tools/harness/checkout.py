@@ -5,11 +5,11 @@ from __future__ import annotations
 import os
 import shutil
 import subprocess
-from typing import Any, Dict, Mapping, Optional, Sequence
+from typing import Dict, Mapping, Optional, Sequence
 
 from harness.builds import TOP
 from harness.program import Ended
-from harness.room import Folder, Room
+from harness.room import Room
 from harness.users import User
 
 #: What of the repository is copied: folders and files.

@@ -112,7 +112,7 @@ class Room(Folder):
 
 
 def place_for_all() -> str:
-    """Where rooms are made: where TMPDIR says, if every user may go there, or else at a usual place."""
+    """Where rooms are made: where TMPDIR says, if every user may go there, or else at a usual place. If none is so, there too."""
     own = os.path.abspath(tempfile.gettempdir())
     return next((place for place in (own, '/tmp', '/var/tmp') if is_open_to_all(place)), own)
 

@@ -2,6 +2,7 @@
 
 from __future__ import annotations
 
+import contextlib
 import fcntl
 import os
 import pty
@@ -33,7 +34,6 @@ class Terminal:
         """The environment has these variables and no others. No answer takes longer than so many seconds."""
         self._seconds = seconds
         self._front, back = pty.openpty()
-        self._is_open = True
         self.shown = ''
         self._bytes = b''
         fcntl.ioctl(back, termios.TIOCSWINSZ, struct.pack('HHHH', *SIZE, 0, 0))
@@ -55,7 +55,7 @@ class Terminal:
         return self
 
     def __exit__(self, *_: object) -> None:
-        self._hang_up()
+        os.close(self._front)
         if self._process.poll() is None:
             self._process.kill()
         self._process.wait()
@@ -74,18 +74,22 @@ class Terminal:
     def answer(self, line: bytes, prompt: Pattern[str]) -> str:
         """Types a line, and gives what is shown then."""
         start = len(self.shown)
-        os.write(self._front, line + b'\n')
+        with contextlib.suppress(OSError):
+            os.write(self._front, line + b'\n')
         return self.wait_for(prompt, start)
 
-    def status(self) -> int:
-        """The status of the program, which has to end by itself."""
+    def status(self) -> Optional[int]:
+        """The status of the program; nothing where it has not ended by itself."""
         end = time.monotonic() + self._seconds
-        while self._read(max(0, end - time.monotonic())):
+        while self._read(end - time.monotonic()):
             pass
-        return self._process.wait(max(0.1, end - time.monotonic()))
+        try:
+            return self._process.wait(1)
+        except subprocess.TimeoutExpired:
+            return None
 
     def _has_more(self, seconds: float) -> bool:
-        return self._is_open and bool(select.select([self._front], [], [], seconds)[0])
+        return bool(select.select([self._front], [], [], seconds)[0])
 
     def _read(self, seconds: float) -> bool:
         """Reads what has come. False where nothing came in time, or the program has ended."""
@@ -99,8 +103,3 @@ class Terminal:
         self._bytes += came
         self.shown = self._bytes.decode(errors='replace').replace('\r', '')
         return bool(came)
-
-    def _hang_up(self) -> None:
-        if self._is_open:
-            os.close(self._front)
-            self._is_open = False

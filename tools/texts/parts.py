@@ -3,10 +3,9 @@
 from __future__ import annotations
 
 import re
-from pathlib import Path
 from typing import Collection, Iterator, List
 
-ROOT = Path(__file__).resolve().parent.parent.parent
+from harness.builds import TOP as ROOT
 
 
 def read(path: str) -> str:
