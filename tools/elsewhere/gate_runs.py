@@ -78,7 +78,7 @@ def put_part(place: Place, script: str, says: Tuple[str, int]) -> None:
 def expect(place: Place, row: Gate, others: int, words: Sequence[str], cwd: str = '') -> None:
     """Each of the other parts has passed one."""
     text, status = row.proofs
-    ended = place.run(words, cwd=cwd, RT_SAYS=text, RT_STATUS=str(status), **row.env)
+    ended = place.run(words, cwd=cwd, env={'RT_SAYS': text, 'RT_STATUS': str(status), **row.env})
     passed, failed, skipped = row.counts
     last = f'{passed + others} passed, {failed} failed, {skipped} skipped'
     place.report.check(f'the gate: {row.name}', wrong_gate(ended, last, row.status, 'make' in words))

@@ -46,14 +46,13 @@ def cases(place: Place) -> None:
     benches(place)
 
 
-def expect(place: Place, row: Make, **env: str) -> bytes:
-    """Runs the command, and looks at its status and its texts; gives all that it said."""
-    ended = place.run(row.words, cwd=row.cwd, input=row.input, **env)
+def expect(place: Place, row: Make, **env: str) -> None:
+    """Runs the command, and looks at its status and its texts. The named words are what else the environment has."""
+    ended = place.run(row.words, cwd=row.cwd, input=row.input, env=env)
     said = ended.output + ended.error
     wrong = [] if ended.status == row.status else [f'the status is {ended.status}']
     wrong += [f'it lacks {text!r}' for text in row.says if text not in said]
     place.report.check(row.name, [*wrong, repr(said[-400:])] if wrong else [])
-    return said
 
 
 def builds(place: Place) -> None:

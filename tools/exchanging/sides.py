@@ -65,7 +65,7 @@ class Sides:
         if self.room.status(picture):
             self.room.remove(picture)
         ended = self.theirs(game, kind, '--screenshot', picture, what, seconds=PICTURE_SECONDS)
-        self.check(name, bool(self.room.read(picture)), f'there is no picture: {ended and ended.error}')
+        self.check(name, bool(self.room.read(picture)), f'there is no picture: {ended}')
 
     def makes(self, name: str, game: str, *words: str) -> List[str]:
         """What the usual program prints, line by line."""

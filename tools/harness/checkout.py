@@ -51,12 +51,20 @@ class Checkout:
         """An environment with as little as may be."""
         return {'PATH': os.environ.get('PATH', os.defpath), 'HOME': os.path.dirname(self.path), **more}
 
-    def run(self, words: Sequence[str], *, cwd: str = '', seconds: float = 120, input: bytes = b'', **env: str) -> Ended:
-        """Runs a command, there or in a folder named from there. The named words are what the environment has besides."""
+    def run(
+        self,
+        words: Sequence[str],
+        *,
+        cwd: str = '',
+        input: bytes = b'',
+        env: Optional[Mapping[str, str]] = None,
+        seconds: float = 120,
+    ) -> Ended:
+        """Runs a command, there or in a folder named from there, with what else the environment has."""
         done = subprocess.run(
             words,
             cwd=os.path.join(self.path, cwd),
-            env=self.env(env),
+            env=self.env(env or {}),
             input=input,
             stdout=subprocess.PIPE,
             stderr=subprocess.PIPE,

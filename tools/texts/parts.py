@@ -5,7 +5,10 @@ from __future__ import annotations
 import re
 from typing import Collection, Iterator, List
 
-from harness.builds import TOP as ROOT
+from harness.builds import TOP
+
+#: The top of the repository.
+ROOT = TOP
 
 
 def read(path: str) -> str:
