@@ -49,6 +49,9 @@ ROUNDS = [
     Gate('a part is skipped whole', part=('0 passed, 0 failed, 1 skipped', 0), env=ALLOWED, counts=(5, 0, 1)),
 ]
 
+#: Ways to start the gate, each with the folder from which.
+WAYS = [(['make', 'test'], ''), (['.ci/run'], ''), (['../.ci/run'], 'man'), (['../../tools/gate'], 'crates/puzzles')]
+
 
 def cases(place: Place) -> None:
     scripts = part_scripts(place)
@@ -57,9 +60,9 @@ def cases(place: Place) -> None:
         for script in scripts:
             put_part(place, script, row.part if script == PART else (PASSED, 0))
         expect(place, row, len(scripts) - 1, ['tools/gate'])
-    for name, words, cwd in (('make test', ['make', 'test'], ''), ('.ci/run, from elsewhere', ['../.ci/run'], 'man')):
-        put_part(place, PART, (PASSED, 0))
-        expect(place, Gate(name), len(scripts) - 1, words, cwd)
+    put_part(place, PART, (PASSED, 0))
+    for words, cwd in WAYS:
+        expect(place, Gate(f'{words[0]}, from {cwd or "the top"}'), len(scripts) - 1, words, cwd)
     os.remove(os.path.join(place.path, PART))
     expect(place, Gate('a part is not there', counts=(5, 1, 0), status=1), len(scripts) - 1, ['tools/gate'])
 

@@ -80,10 +80,12 @@ def in_a_terminal(place: Place) -> None:
 
 
 def benches(place: Place) -> None:
-    """A file of puzzles may have a blank in its name. The bench is any program that reads them."""
+    """A file of puzzles may have a blank in its name. Any program that reads what it is given stands for those that measure."""
     puzzles = place.put('../my puzzles', f'towers {ID}\n'.encode(), 0o644)
     reader = place.put('../reader', b'#!/bin/sh\nexec cat\n')
     row = Make('make bench, a file with a blank in its name', ['make', 'bench', f'IDS={puzzles}'], says=[ID.encode()])
+    expect(place, row, RT_PROGRAM=reader)
+    row = Make('make bench', ['make', 'bench'], says=[b'Hard puzzles:', b'A list of a hundred solutions:', b'unequal'])
     expect(place, row, RT_PROGRAM=reader)
     row = Make('make bench, a file that is not there', ['make', 'bench', f'IDS={puzzles} too'], 2)
     expect(place, row, RT_PROGRAM=reader)

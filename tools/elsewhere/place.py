@@ -6,6 +6,7 @@ import os
 from typing import Dict, Mapping, Optional
 
 from harness import Report, Room, User, is_root
+from harness.builds import TOP
 from harness.checkout import Checkout
 from harness.terminal import Terminal
 from harness.users import ANNA
@@ -32,8 +33,6 @@ esac
 exit "${RT_STATUS:-0}"
 """
 
-CRATES = ['puzzles', 'refused_memory', 'clue_rules', 'solver_bench', 'gen_bench', 'save_bench']
-
 
 class Place(Checkout):
     """The copy, with crates that are empty, and a folder for TMPDIR into which nobody else may go."""
@@ -44,8 +43,8 @@ class Place(Checkout):
         self.report = report
         self.rt = self.put('../kit/rt', RT)
         self.program = program
-        for crate in CRATES:
-            self.put(f'crates/{crate}/src/lib.rt', b'', 0o644)
+        for crate in (TOP / 'crates').iterdir():
+            self.put(f'crates/{crate.name}/src/lib.rt', b'', 0o644)
         self._temporary = os.path.join(os.path.dirname(self.path), 'for a while')
         os.mkdir(self._temporary, 0o700)
         self.give()

@@ -147,7 +147,8 @@ SAVES: List[Game] = [
 def cases(front: Front) -> None:
     with Room() as room:
         for refused in REFUSED:
-            front.refuse(room, refused)
+            with front.report.unbroken(refused.name):
+                front.refuse(room, refused)
     for game in GAMES:
         play_in_turn(front, [game])
     play_in_turn(front, SAVES)
@@ -157,4 +158,5 @@ def play_in_turn(front: Front, games: List[Game]) -> None:
     """The games in a folder of their own, one after the other."""
     with Room() as room:
         for game in games:
-            front.play(room, game)
+            with front.report.unbroken(game.name):
+                front.play(room, game)
