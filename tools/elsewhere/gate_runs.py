@@ -7,7 +7,9 @@ import re
 from typing import List, Mapping, NamedTuple, Sequence, Tuple
 
 from elsewhere.place import Place
+from harness.builds import TOP
 from harness.program import Ended
+from texts.parts import lacking
 
 PROVED = '5 passed, 0 failed'
 PASSED = '1 passed, 0 failed, 0 skipped'
@@ -55,7 +57,7 @@ WAYS = [(['make', 'test'], ''), (['.ci/run'], ''), (['../.ci/run'], 'man'), (['.
 
 def cases(place: Place) -> None:
     scripts = part_scripts(place)
-    place.report.check('parts of the gate', [] if PART in scripts else [f'{PART} is none of {scripts}'])
+    place.report.check('parts of the gate', lacking(tests(), scripts))
     for row in ROUNDS:
         for script in scripts:
             put_part(place, script, row.part if script == PART else (PASSED, 0))
@@ -67,9 +69,14 @@ def cases(place: Place) -> None:
     expect(place, Gate('a part is not there', counts=(5, 1, 0), status=1), len(scripts) - 1, ['tools/gate'])
 
 
+def tests() -> List[str]:
+    """The scripts of this repository that test something, each of which has to be a part."""
+    return [PART, *sorted(f'tools/{path.name}' for path in (TOP / 'tools').glob('test_*') if path.is_file())]
+
+
 def part_scripts(place: Place) -> List[str]:
     """The scripts that the gate of this repository runs, each once."""
-    listed = re.findall(r'^    "[^"]*: (tools/\w+)', place.file('tools/gate').decode(), re.MULTILINE)
+    listed = re.findall(r'^    "[^"]*: (tools/[\w/]+)', place.file('tools/gate').decode(), re.MULTILINE)
     return sorted(set(listed))
 
 

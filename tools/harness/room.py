@@ -112,9 +112,10 @@ class Room(Folder):
 
 
 def place_for_all() -> str:
-    """Where rooms are made: where TMPDIR says, if every user may go there, or else at a usual place. If none is so, there too."""
+    """Where rooms are made: where TMPDIR says, or, where other users may not go there and the test has some, at a usual place."""
     own = os.path.abspath(tempfile.gettempdir())
-    return next((place for place in (own, '/tmp', '/var/tmp') if is_open_to_all(place)), own)
+    places = [own, '/tmp', '/var/tmp'] if os.geteuid() == 0 else []
+    return next((place for place in places if is_open_to_all(place)), own)
 
 
 def is_open_to_all(place: str) -> bool:
