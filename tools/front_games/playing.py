@@ -45,18 +45,19 @@ class Refused(NamedTuple):
 
 
 class Front:
-    """The front that is tested, with its program; what it does is counted in a report."""
+    """The front that is tested; what it does is counted in a report. Where no program is named it has to find it by itself."""
 
-    def __init__(self, report: Report, front: str, program: str) -> None:
+    def __init__(self, report: Report, front: str, program: Optional[str] = None) -> None:
         self.report = report
         self._front = front
         self._env: Dict[str, str] = {
             'PATH': os.environ.get('PATH', os.defpath),
-            'PUZZLES': program,
             'TERM': 'dumb',
             'HOME': '/',
             'LC_ALL': 'C',
         }
+        if program:
+            self._env['PUZZLES'] = program
 
     def refuse(self, room: Room, refused: Refused) -> None:
         """Without a terminal: the status, and what is said."""
