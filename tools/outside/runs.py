@@ -68,8 +68,9 @@ class Tests:
             case.same(f'the file {name[:20]}', where.read(name), content)
         for name in row.absent:
             case.expect(name not in where.names(), f'there is a file {name}')
-        new = [path for path in where.paths() if path not in [*before, *row.holds, *row.made]]
-        expect_left(case, where, new, row.left)
+        after = where.paths()
+        case.same('what is gone', [path for path in before if path not in after], [])
+        expect_left(case, where, [path for path in after if path not in [*before, *row.holds, *row.made]], row.left)
         return ended.output
 
 
