@@ -3,6 +3,7 @@
 from __future__ import annotations
 
 import os
+import shutil
 from typing import NamedTuple, Sequence
 
 from elsewhere.place import Place
@@ -89,6 +90,28 @@ def benches(place: Place) -> None:
     expect(place, row, RT_PROGRAM=reader)
     row = Make('make bench, a file that is not there', ['make', 'bench', f'IDS={puzzles} too'], 2)
     expect(place, row, RT_PROGRAM=reader)
+
+
+#: Runs a program with the library by which calls fail, and says whether the library has counted its requests for memory.
+UNDER_FIRE = """\
+import sys
+sys.path.insert(0, '../tools')
+from harness import FaultLibrary, Room, run
+with Room() as room:
+    library = FaultLibrary(room)
+    ended = run([sys.argv[1], 'towers'], room, env=library.env('memory'))
+    print(library.met().calls > 0, ended.status, ended.error)
+"""
+
+
+def under_fire(place: Place) -> None:
+    """The library is preloaded wherever TMPDIR is: there is a blank in its path here."""
+    name = 'a library is preloaded'
+    if not shutil.which('cc'):
+        place.report.skip(name, 'there is no C compiler (cc)')
+        return
+    ended = place.run(['python3', '-B', '-c', UNDER_FIRE, place.program], cwd='man')
+    place.report.check(name, [] if ended.output == b"True 0 b''\n" else [f'{ended}'])
 
 
 def tests_see(place: Place) -> None:

@@ -100,7 +100,7 @@ class Room(Folder):
     """A new folder that every user may enter. When it is left it is gone, with all that is in it."""
 
     def __init__(self) -> None:
-        super().__init__(tempfile.mkdtemp(prefix='room.', dir=place_for_all()))
+        super().__init__(tempfile.mkdtemp(prefix='room.', dir=place_of_rooms()))
         os.fchmod(self.fd, 0o755)
 
     def __enter__(self) -> Room:
@@ -111,19 +111,26 @@ class Room(Folder):
         remove_tree(self.path)
 
 
-def place_for_all() -> str:
-    """Where rooms are made: where TMPDIR says, or, where other users may not go there and the test has some, at a usual place."""
+def place_of_rooms() -> str:
+    """Where rooms are made: where TMPDIR says, or, where that isn't fit for all tests, at a usual place."""
     own = os.path.abspath(tempfile.gettempdir())
-    places = [own, '/tmp', '/var/tmp'] if os.geteuid() == 0 else []
-    return next((place for place in places if is_open_to_all(place)), own)
+    return next((place for place in (own, '/tmp', '/var/tmp') if is_fit(place)), own)
 
 
-def is_open_to_all(place: str) -> bool:
-    """Whether every user may search the folder and all above it, and the test may write there."""
-    way = [place]
-    while way[-1] != '/':
-        way.append(os.path.dirname(way[-1]))
-    return os.access(place, os.W_OK) and all(os.stat(folder).st_mode & stat.S_IXOTH for folder in way)
+def is_fit(place: str) -> bool:
+    """Whether rooms can be made there: what lies there can be preloaded, and other users may go there, where the test has some."""
+    may_all_go = os.geteuid() != 0 or all(os.stat(folder).st_mode & stat.S_IXOTH for folder in way_to(place))
+    return can_preload(place) and may_all_go and os.access(place, os.W_OK)
+
+
+def can_preload(path: str) -> bool:
+    """Whether a library there can be preloaded: blanks and colons stand between two of them."""
+    return not set(path).intersection(' \t\n:')
+
+
+def way_to(place: str) -> List[str]:
+    """A folder, and all above it."""
+    return [place] if place == '/' else [place, *way_to(os.path.dirname(place))]
 
 
 def remove_tree(path: str) -> None:
