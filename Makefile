@@ -1,9 +1,10 @@
 # make            proves and builds the program, and leaves it as build/puzzles
 # make play       a game on the terminal; GAME=towers (the default) or GAME=unequal, ID= an ID or a save file
-# make test       the gate: every proof from nothing, wrong bodies, tests, stored runs, and the program from outside and under fire
-# make test-faults the last part of it alone: memory, reads and writes that fail in turn
-# make test-saving how the program saves, wherever the file lies and whoever shares it
-# make test-tools the scripts around the program: the front, installing, and the texts for its users
+# make test       the gate: every proof from nothing, wrong bodies, tests, stored runs, the program from outside and under fire, the scripts
+#                 around it; SKIPS_ALLOWED=1 lets it pass where something can't be tried
+# make test-faults a part of it: memory, reads and writes that fail in turn
+# make test-saving a part of it: how the program saves, wherever the file lies and whoever shares it
+# make test-tools parts of it: the front, installing, the texts for users, and the scripts in another place
 # make exchange   saves and IDs against the usual programs, of Debian's package sgt-puzzles; no part of the gate
 # make bench      how long the solver and the generator take, class by class, or the solver on the lines of IDS=file; no part of the gate
 # make check      CRATE=clue_rules: proves one crate, in seconds after an edit
@@ -19,7 +20,7 @@ GAME ?= towers
 ID ?=
 IDS ?=
 CRATE ?=
-FMT ?= $(RT) fmt
+FMT ?= '$(RT)' fmt
 PREFIX ?= /usr/local
 
 .PHONY: all play test test-faults test-saving test-tools exchange bench check try must-fail fmt install uninstall clean help crate
@@ -37,35 +38,36 @@ test:
 	@RT='$(RT)' tools/gate
 
 test-faults: all
-	@cd crates/refused_memory && $(RT) run < /dev/null > /dev/null
+	@cd crates/refused_memory && '$(RT)' run < /dev/null > /dev/null
 	tools/test_faults build/puzzles crates/refused_memory/out/refused_memory
 
 test-saving: all
 	tools/test_saving build/puzzles
 
 test-tools: all
-	tools/test_texts
-	tools/test_install
 	tools/test_play
+	tools/test_install
+	tools/test_texts
+	tools/test_scripts
 
 exchange: all
 	@tools/exchange
 
 bench:
-	@RT='$(RT)' tools/bench $(IDS)
-	@[ -n '$(IDS)' ] || (cd crates/gen_bench && $(RT) run < /dev/null)
+	@RT='$(RT)' tools/bench $(if $(IDS),'$(IDS)')
+	@[ -n '$(IDS)' ] || (cd crates/gen_bench && '$(RT)' run < /dev/null)
 	@[ -n '$(IDS)' ] || crates/gen_bench/out/gen_bench < bench/generated.txt
-	@[ -n '$(IDS)' ] || (cd crates/save_bench && $(RT) run < /dev/null)
+	@[ -n '$(IDS)' ] || (cd crates/save_bench && '$(RT)' run < /dev/null)
 	@[ -n '$(IDS)' ] || crates/save_bench/out/save_bench < bench/saves.txt
 
 check: crate
-	@cd 'crates/$(CRATE)' && $(RT) check
+	@cd 'crates/$(CRATE)' && '$(RT)' check
 
 try: crate
-	@cd 'crates/$(CRATE)' && $(RT) try --test
+	@cd 'crates/$(CRATE)' && '$(RT)' try --test
 
 must-fail: crate
-	@$(RT) must-fail '$(CRATE)'
+	@'$(RT)' must-fail '$(CRATE)'
 
 crate:
 	@[ -n '$(CRATE)' ] && [ -d 'crates/$(CRATE)' ] || { echo 'make: CRATE= one of:' $(notdir $(wildcard crates/*)) >&2; exit 2; }

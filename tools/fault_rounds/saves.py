@@ -9,6 +9,7 @@ from typing import List, NamedTuple, Tuple
 from fault_rounds.devices import FIRST, whole_run
 from fault_rounds.memory import OLD_SAVE
 from fault_rounds.rounds import Limit, Round, Rounds, State, Target
+from harness import is_root
 
 
 class Save(NamedTuple):
@@ -65,6 +66,8 @@ def rounds_of_saves(rounds: Rounds) -> None:
         whole = whole_run(rounds, f'{save.name}, under a limit')
         for is_ignored in (True, False):
             size_limited(rounds, save, whole, is_ignored)
+    if not is_root():
+        rounds.report.skip('a save over another user\'s file', 'neither root, nor root of a namespace with other users')
 
 
 def errors_of(errors: List[str], save: Save, piece: int) -> List[str]:

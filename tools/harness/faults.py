@@ -9,7 +9,7 @@ from pathlib import Path
 from typing import Dict, NamedTuple
 
 from harness.report import Skip
-from harness.room import Room
+from harness.room import Room, can_preload
 
 SOURCE = Path(__file__).resolve().parent.parent / 'faults.c'
 
@@ -28,6 +28,8 @@ class FaultLibrary:
         """Raises `Skip` where it can't be built."""
         if not shutil.which('cc'):
             raise Skip('there is no C compiler (cc)')
+        if not can_preload(room.path):
+            raise Skip(f'nothing in {room.path} can be preloaded')
         self._library = os.path.join(room.path, 'faults.so')
         self._count = os.path.join(room.path, 'count')
         built = subprocess.run(

@@ -73,6 +73,14 @@ class Report:
                 case.wrong.append(f'the test broke off: {error!r}')
             self.check(name, case.wrong)
 
+    @contextlib.contextmanager
+    def unbroken(self, name: str) -> Iterator[None]:
+        """What is done here counts its own cases. Where it breaks off, that is one more, which has failed."""
+        try:
+            yield
+        except (OSError, subprocess.TimeoutExpired) as error:
+            self.check(name, [f'the test broke off: {error!r}'])
+
     def finish(self) -> int:
         """Prints the last line, and gives the status to end with."""
         print(f'{self.passed} passed, {self.failed} failed, {self.skipped} skipped', flush=True)

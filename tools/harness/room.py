@@ -59,6 +59,11 @@ class Folder:
         """What lies here, in order."""
         return sorted(os.listdir(self.fd))
 
+    def paths(self) -> List[str]:
+        """All that lies here and in the folders below, but those folders themselves, in order."""
+        found = [f'{way}/{name}' for way, _, names, _ in os.fwalk('.', dir_fd=self.fd) for name in names]
+        return sorted(os.path.normpath(path) for path in found)
+
     def read(self, name: Name) -> Optional[bytes]:
         """The content of a file, or nothing where there is none. A link is followed."""
         try:
@@ -95,7 +100,7 @@ class Room(Folder):
     """A new folder that every user may enter. When it is left it is gone, with all that is in it."""
 
     def __init__(self) -> None:
-        super().__init__(tempfile.mkdtemp(prefix='room.'))
+        super().__init__(tempfile.mkdtemp(prefix='room.', dir=place_of_rooms()))
         os.fchmod(self.fd, 0o755)
 
     def __enter__(self) -> Room:
@@ -104,6 +109,28 @@ class Room(Folder):
     def __exit__(self, *_: object) -> None:
         self.close()
         remove_tree(self.path)
+
+
+def place_of_rooms() -> str:
+    """Where rooms are made: where TMPDIR says, or, where that isn't fit for all tests, at a usual place."""
+    own = os.path.abspath(tempfile.gettempdir())
+    return next((place for place in (own, '/tmp', '/var/tmp') if is_fit(place)), own)
+
+
+def is_fit(place: str) -> bool:
+    """Whether rooms can be made there: what lies there can be preloaded, and other users may go there, where the test has some."""
+    may_all_go = os.geteuid() != 0 or all(os.stat(folder).st_mode & stat.S_IXOTH for folder in way_to(place))
+    return can_preload(place) and may_all_go and os.access(place, os.W_OK)
+
+
+def can_preload(path: str) -> bool:
+    """Whether a library there can be preloaded: blanks and colons stand between two of them."""
+    return not set(path).intersection(' \t\n:')
+
+
+def way_to(place: str) -> List[str]:
+    """A folder, and all above it."""
+    return [place] if place == '/' else [place, *way_to(os.path.dirname(place))]
 
 
 def remove_tree(path: str) -> None:

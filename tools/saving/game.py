@@ -1,22 +1,22 @@
-"""A small game, what its saves are, and the program that saves it."""
+"""The program that saves a small game, and what has to come of it."""
 
 from __future__ import annotations
 
-import os
-from typing import Any, ContextManager, List, Sequence, Union
+from typing import Any, ContextManager, Sequence, Union
 
 from harness import Case, Ended, FaultLibrary, Folder, Met, Report, Skip, run
+from harness.game import ID, MOVES, left_files, save_text
 
-MOVES = [b'R0,0,1', b'R1,0,2', b'R2,0,3']
-
-def save_text(moves: int) -> bytes:
-    """The save of the game in which so many moves were made."""
-    count = moves + 1
-    head = (
-        b"SAVEFILE:41:Simon Tatham's Portable Puzzle Collection\nVERSION :1:1\nGAME    :6:Towers\n"
-        b'PARAMS  :1:3\nCPARAMS :1:3\nDESC    :13:3//////3/////\nNSTATES :1:%d\nSTATEPOS:1:%d\n' % (count, count)
-    )
-    return head + b''.join(b'MOVE    :6:%s\n' % move for move in MOVES[:moves])
+__all__ = [
+    'Tests',
+    'expect_none_left',
+    'expect_refused',
+    'expect_saved',
+    'expect_whole_left',
+    'left_files',
+    'replies',
+    'save_text',
+]
 
 
 def replies(moves: int) -> bytes:
@@ -47,7 +47,7 @@ class Tests:
     def save(self, folder: Folder, path: str, moves: int = 0, front: Sequence[str] = (), **how: Any) -> Ended:
         """Plays the game and saves it. Words in front may start the program; what else there is goes to `run`."""
         script = b''.join(b'move %s\n' % move for move in MOVES[:moves])
-        words = [*front, self.program, 'towers', '--id', '3:3//////3/////', '--save', path]
+        words = [*front, self.program, 'towers', '--id', ID, '--save', path]
         return run(words, folder, input=script, **how)
 
 
@@ -63,12 +63,6 @@ def expect_refused(case: Case, ended: Ended, moves: int = 0) -> None:
     case.same('standard error', ended.error, b'cannot write the file\n')
     case.same('the status', ended.status, 1)
     case.same('the output', ended.output, replies(moves))
-
-
-def left_files(folder: Folder) -> List[str]:
-    """The paths of new files that a save left here, or in a folder below."""
-    found = [(way, name) for way, _, names, _ in os.fwalk('.', dir_fd=folder.fd) for name in names]
-    return [os.path.normpath(f'{way}/{name}') for way, name in found if name.startswith('.puzzles.')]
 
 
 def expect_whole_left(case: Case, folder: Folder, content: bytes) -> None:

@@ -3,15 +3,13 @@
 from __future__ import annotations
 
 import os
-import re
 from typing import Optional
 
 from harness import Case, Folder, Room, need_root
+from harness.game import NEW_NAME
 from harness.mounts import bound_file, fill, small_disk
 from harness.users import ANNA, BERT, GAMES
 from saving.game import Tests, expect_none_left, expect_refused, expect_saved, left_files, save_text
-
-NEW_NAME = re.compile(r'\.puzzles\.[0-9a-f]{16}\.tmp')
 
 #: Longer than any save here, so that a rest of it would show.
 OLD = b'an old file\n' * 100

@@ -3,10 +3,12 @@
 from __future__ import annotations
 
 import re
-from pathlib import Path
 from typing import Collection, Iterator, List
 
-ROOT = Path(__file__).resolve().parent.parent.parent
+from harness.builds import TOP
+
+#: The top of the repository.
+ROOT = TOP
 
 
 def read(path: str) -> str:

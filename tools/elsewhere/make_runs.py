@@ -1,0 +1,128 @@
+"""What `make` and the scripts do in a copy elsewhere."""
+
+from __future__ import annotations
+
+import os
+import shutil
+from typing import NamedTuple, Sequence
+
+from elsewhere.place import Place
+from front_games.playing import PROMPT
+from harness.game import ID, PICTURE
+
+
+class Make(NamedTuple):
+    """A command, from a folder of the copy, and what has to come of it. The input is that of the program."""
+
+    name: str
+    words: Sequence[str]
+    status: int = 0
+    says: Sequence[bytes] = ()
+    input: bytes = b''
+    cwd: str = ''
+
+
+ROUNDS = [
+    Make('make help', ['make', 'help'], says=[b'make play', b'make test', b'make test-tools']),
+    Make('a crate is checked', ['make', 'check', 'CRATE=clue_rules'], says=[b'asked for check in clue_rules']),
+    Make('a crate is tried', ['make', 'try', 'CRATE=clue_rules'], says=[b'asked for try --test in clue_rules']),
+    Make('its wrong bodies', ['make', 'must-fail', 'CRATE=clue_rules'], says=[b'asked for must-fail clue_rules in checkout']),
+    Make('no crate', ['make', 'check'], 2, [b'CRATE= one of:', b'clue_rules']),
+    Make('a crate that is not there', ['make', 'check', 'CRATE=chess'], 2, [b'CRATE= one of:', b'clue_rules']),
+    Make('all is laid out', ['make', 'fmt'], says=[b'asked for fmt in clue_rules', b'asked for fmt in puzzles']),
+    Make('make play, in a pipe', ['make', 'play', f'ID={ID}'], says=[PICTURE], input=b'show\n'),
+    Make('make play, the other game', ['make', 'play', 'GAME=unequal', 'ID=4!7'], says=[b'playing 1/1\n'], input=b'status\n'),
+    Make('make play, a game that is not there', ['make', 'play', 'GAME=chess'], 2, [b'GAME is towers or unequal']),
+    Make('make play, from elsewhere', ['make', '-C', '..', 'play', f'ID={ID}'], says=[b'3:3'], input=b'id\n', cwd='man'),
+    Make('install: where it goes is no whole path', ['tools/install', 'usr'], 2, [b'usage:']),
+    Make('install: nothing is named', ['../tools/install', '--remove'], 2, [b'usage:'], cwd='man'),
+]
+
+
+def cases(place: Place) -> None:
+    for row in ROUNDS:
+        expect(place, row)
+    builds(place)
+    in_a_terminal(place)
+    benches(place)
+
+
+def expect(place: Place, row: Make, **env: str) -> None:
+    """Runs the command, and looks at its status and its texts. The named words are what else the environment has."""
+    ended = place.run(row.words, cwd=row.cwd, input=row.input, env=env)
+    said = ended.output + ended.error
+    wrong = [] if ended.status == row.status else [f'the status is {ended.status}']
+    wrong += [f'it lacks {text!r}' for text in row.says if text not in said]
+    place.report.check(row.name, [*wrong, repr(said[-400:])] if wrong else [])
+
+
+def builds(place: Place) -> None:
+    """`make` leaves the program, from any folder, and says where a proof has failed."""
+    built = Make('make builds', ['tools/build'], says=[b'12 functions proved'])
+    for row in (built, built._replace(name='and from elsewhere', words=['../../tools/build'], cwd='crates/puzzles')):
+        expect(place, row)
+        is_left = bool(place.file('build/puzzles'))
+        place.report.check(f'{row.name}: the program is left', [] if is_left else ['there is none'])
+        os.remove(os.path.join(place.path, 'build', 'puzzles'))
+    failed = Make('a proof fails', ['make'], 2, [b'not built', b'an open goal'])
+    expect(place, failed, RT_SAYS='an open goal', RT_STATUS='1')
+    is_left = bool(place.file('build/puzzles'))
+    place.report.check('a proof fails: no program', ['there is one'] if is_left else [])
+
+
+def in_a_terminal(place: Place) -> None:
+    """`make play` is the front there."""
+    with place.terminal('make', 'play', f'ID={ID}') as terminal:
+        first = terminal.wait_for(PROMPT)
+        terminal.answer(b'quit', PROMPT)
+        status = terminal.status()
+    shown = [] if '0 3 . . . -' in first and status == 0 else [f'the status is {status}, shown is {first!r}']
+    place.report.check('make play, in a terminal', shown)
+
+
+def benches(place: Place) -> None:
+    """A file of puzzles may have a blank in its name. Any program that reads what it is given stands for those that measure."""
+    puzzles = place.put('../my puzzles', f'towers {ID}\n'.encode(), 0o644)
+    reader = place.put('../reader', b'#!/bin/sh\nexec cat\n')
+    row = Make('make bench, a file with a blank in its name', ['make', 'bench', f'IDS={puzzles}'], says=[ID.encode()])
+    expect(place, row, RT_PROGRAM=reader)
+    row = Make('make bench', ['make', 'bench'], says=[b'Hard puzzles:', b'A list of a hundred solutions:', b'unequal'])
+    expect(place, row, RT_PROGRAM=reader)
+    row = Make('make bench, a file that is not there', ['make', 'bench', f'IDS={puzzles} too'], 2)
+    expect(place, row, RT_PROGRAM=reader)
+
+
+#: Runs a program with the library by which calls fail, and says whether the library has counted its requests for memory.
+UNDER_FIRE = """\
+import sys
+sys.path.insert(0, '../tools')
+from harness import FaultLibrary, Room, run
+with Room() as room:
+    library = FaultLibrary(room)
+    ended = run([sys.argv[1], 'towers'], room, env=library.env('memory'))
+    print(library.met().calls > 0, ended.status, ended.error)
+"""
+
+
+def under_fire(place: Place) -> None:
+    """The library is preloaded wherever TMPDIR is: there is a blank in its path here."""
+    name = 'a library is preloaded'
+    if not shutil.which('cc'):
+        place.report.skip(name, 'there is no C compiler (cc)')
+        return
+    ended = place.run(['python3', '-B', '-c', UNDER_FIRE, place.program], cwd='man')
+    place.report.check(name, [] if ended.output == b"True 0 b''\n" else [f'{ended}'])
+
+
+def tests_see(place: Place) -> None:
+    """The tests of the program pass there as well, and fail where a run leaves a new file."""
+    ended = place.run(['../tools/program_tests', place.program], cwd='man')
+    last = ended.output.decode().splitlines()[-1:]
+    wrong = [] if last and ' 0 failed, ' in last[0] else [repr(ended.output[-400:])]
+    place.report.check('the program, tried from elsewhere', wrong)
+    leaver = f'#!/bin/sh\n"{place.program}" "$@"\nstatus=$?\n: > .puzzles.0123456789abcdef.tmp\nexit $status\n'
+    path = place.put('../leaver', leaver.encode())
+    ended = place.run(['../tools/program_tests', path], cwd='man')
+    last = ended.output.decode().splitlines()[-1:]
+    wrong = [] if last and last[0].startswith('0 passed, ') and ended.status == 1 else [repr(ended.output[-400:])]
+    place.report.check('a program that leaves a file fails each test', wrong)

@@ -1,0 +1,43 @@
+"""Builds of the program that a script is given."""
+
+from __future__ import annotations
+
+import os
+import shutil
+from pathlib import Path
+from typing import Iterator, Sequence, Tuple
+
+from harness.report import Report
+from harness.room import Room
+
+#: The top of the repository, whatever the working folder is.
+TOP = Path(__file__).resolve().parent.parent.parent
+
+
+def each_build(report: Report, builds: Sequence[str]) -> Iterator[Tuple[Room, str]]:
+    """A copy of each build, with the room that it lies in. One that isn't there is a case that has failed."""
+    for build in builds:
+        report.program = build if len(builds) > 1 else ''
+        if is_built(report, build):
+            with Room() as room:
+                yield room, copy(room, build, 'puzzles')
+
+
+def is_built(report: Report, build: str) -> bool:
+    """Whether the program is there. Where it isn't, that is a case that has failed."""
+    is_there = os.path.isfile(build)
+    if not is_there:
+        report.check(f'the program {build}', ['it is not built yet'])
+    return is_there
+
+
+def copy(room: Room, build: str, name: str) -> str:
+    """A copy, which every user may run, and which stays as it is when the program is built again."""
+    program = shutil.copyfile(build, os.path.join(room.path, name))
+    os.chmod(program, 0o755)
+    return program
+
+
+def built(words: Sequence[str]) -> str:
+    """The path of the program: the first word of a script, or PUZZLES, or what `make` leaves."""
+    return os.path.abspath(words[0] if words else os.environ.get('PUZZLES') or TOP / 'build' / 'puzzles')

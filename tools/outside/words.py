@@ -1,0 +1,73 @@
+"""Words of the command line: those that are refused, and those that ask for help."""
+
+from __future__ import annotations
+
+from harness.game import ID
+from outside.runs import Run, Tests
+
+#: Refused words, with what standard error has to name.
+REFUSED = [
+    Run('no words', [], status=2, error_has=[b'required arguments were not provided', b'<GAME>']),
+    Run('a game that is not there', ['chess'], status=2, error_has=[b'[possible values: towers, unequal]']),
+    Run('a game in capitals', ['Towers'], status=2, error_has=[b"invalid value 'Towers'"]),
+    Run('an ID and a file to load', ['towers', '--id', '3', '--load', 'f'], status=2, error_has=[b'cannot be used with']),
+    Run('a file to load and an ID', ['towers', '--load', 'f', '--id', '3'], status=2, error_has=[b'cannot be used with']),
+    Run('an option that is not there', ['towers', '--seed', '7'], status=2, error_has=[b"'--seed'"]),
+    Run('an option without its value', ['towers', '--id'], status=2, error_has=[b"'--id <ID>'"]),
+    Run('an option twice', ['towers', '--id', '3', '--id', '3'], status=2, error_has=[b"'--id <ID>'"]),
+    Run('a word too many', ['towers', 'unequal'], status=2, error_has=[b"'unequal'"]),
+    Run('a word that is no UTF-8', ['towers', '--id', b'\xff'], status=2, error_has=[b'UTF-8', b'--help']),
+    Run(
+        'refused words leave the files alone',
+        ['towers', '--id', '3', '--load', 'old.sav', '--save', 'old.sav'],
+        given={'old.sav': b'old'},
+        status=2,
+        error_has=[b'cannot be used with'],
+        holds={'old.sav': b'old'},
+    ),
+]
+
+#: What the help has to name.
+HELP = [
+    b'Usage: puzzles [OPTIONS] <GAME>',
+    b'--id',
+    b'--load',
+    b'--save',
+    b'5!7',
+    ID.encode(),
+    b'new ID',
+    b'move TEXT',
+    b'undo',
+    b'redo',
+    b'restart',
+    b'solve',
+    b'list N',
+    b'show',
+    b'marks',
+    b'done',
+    b'status',
+    b'id',
+    b'save',
+    b'quit',
+    b'Examples:',
+    b'Exit status:',
+]
+
+ASKED = [
+    Run('help', ['--help'], output_has=HELP),
+    Run('short help', ['-h'], output_has=[b'Usage: puzzles [OPTIONS] <GAME>']),
+    Run('the version', ['--version'], output=b'puzzles 1.0\n'),
+    Run('the version, in short', ['-V'], output=b'puzzles 1.0\n'),
+]
+
+CLOSED = Run('help where the output is closed', ['--help'], status=1, error=b'cannot write the output\n')
+FULL = Run('help where the output is full', ['--help'], status=1, error=b'cannot write the output\n')
+
+
+def cases(tests: Tests) -> None:
+    tests.each(REFUSED)
+    tests.each(ASKED)
+    with tests.case(CLOSED.name) as case:
+        tests.play(case, CLOSED, closed=[1])
+    with tests.case(FULL.name) as case, open('/dev/full', 'wb') as full:
+        tests.play(case, FULL, stdout=full.fileno())
