@@ -5,7 +5,7 @@
 # make test-saving how the program saves, wherever the file lies and whoever shares it
 # make test-tools the scripts around the program: the front, installing, and the texts for its users
 # make exchange   saves and IDs against the usual programs, of Debian's package sgt-puzzles; no part of the gate
-# make bench      how long the solver and the generator take, class by class, or the solver on the lines of IDS=file; no part of the gate
+# make bench      how long the solver, the generator and saves take, class by class, or the solver on the lines of IDS=file; no part of the gate
 # make check      CRATE=clue_rules: proves one crate, in seconds after an edit
 # make try        CRATE=clue_rules: runs the tests of one crate without a proof
 # make must-fail  CRATE=clue_rules: tries the wrong bodies of one crate
@@ -53,10 +53,6 @@ exchange: all
 
 bench:
 	@RT='$(RT)' tools/bench $(IDS)
-	@[ -n '$(IDS)' ] || (cd crates/gen_bench && $(RT) run < /dev/null)
-	@[ -n '$(IDS)' ] || crates/gen_bench/out/gen_bench < bench/generated.txt
-	@[ -n '$(IDS)' ] || (cd crates/save_bench && $(RT) run < /dev/null)
-	@[ -n '$(IDS)' ] || crates/save_bench/out/save_bench < bench/saves.txt
 
 check: crate
 	@cd 'crates/$(CRATE)' && $(RT) check
