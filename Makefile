@@ -4,6 +4,7 @@
 # make test-faults the last part of it alone: memory, reads and writes that fail in turn
 # make test-saving how the program saves, wherever the file lies and whoever shares it
 # make test-tools the scripts around the program: the front, installing, and the texts for its users
+# make test-reference what saves and seeds are answered, by a second implementation
 # make exchange   saves and IDs against the usual programs, of Debian's package sgt-puzzles; no part of the gate
 # make bench      how long the solver, the generator and saves take, class by class, or the solver on the lines of IDS=file; no part of the gate
 # make check      CRATE=clue_rules: proves one crate, in seconds after an edit
@@ -22,7 +23,7 @@ CRATE ?=
 FMT ?= $(RT) fmt
 PREFIX ?= /usr/local
 
-.PHONY: all play test test-faults test-saving test-tools exchange bench check try must-fail fmt install uninstall clean help crate
+.PHONY: all play test test-faults test-saving test-tools test-reference exchange bench check try must-fail fmt install uninstall clean help crate
 
 all:
 	@RT='$(RT)' tools/build
@@ -47,6 +48,9 @@ test-tools: all
 	tools/test_texts
 	tools/test_install
 	tools/test_play
+
+test-reference:
+	tools/test_reference
 
 exchange: all
 	@tools/exchange
