@@ -56,7 +56,7 @@ exchange: all
 	@tools/exchange
 
 bench:
-	@RT='$(RT)' tools/bench $(IDS)
+	@RT='$(RT)' tools/bench $(if $(IDS),'$(IDS)')
 
 check: crate
 	@cd 'crates/$(CRATE)' && $(RT) check
