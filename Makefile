@@ -5,8 +5,9 @@
 # make test-faults a part of it: memory, reads and writes that fail in turn
 # make test-saving a part of it: how the program saves, wherever the file lies and whoever shares it
 # make test-tools parts of it: the front, installing, the texts for users, and the scripts in another place
+# make test-reference what saves and seeds are answered, by a second implementation
 # make exchange   saves and IDs against the usual programs, of Debian's package sgt-puzzles; no part of the gate
-# make bench      how long the solver and the generator take, class by class, or the solver on the lines of IDS=file; no part of the gate
+# make bench      how long the solver, the generator and saves take, class by class, or the solver on the lines of IDS=file; no part of the gate
 # make check      CRATE=clue_rules: proves one crate, in seconds after an edit
 # make try        CRATE=clue_rules: runs the tests of one crate without a proof
 # make must-fail  CRATE=clue_rules: tries the wrong bodies of one crate
@@ -23,7 +24,7 @@ CRATE ?=
 FMT ?= '$(RT)' fmt
 PREFIX ?= /usr/local
 
-.PHONY: all play test test-faults test-saving test-tools exchange bench check try must-fail fmt install uninstall clean help crate
+.PHONY: all play test test-faults test-saving test-tools test-reference exchange bench check try must-fail fmt install uninstall clean help crate
 
 all:
 	@RT='$(RT)' tools/build
@@ -50,15 +51,14 @@ test-tools: all
 	tools/test_texts
 	tools/test_scripts
 
+test-reference:
+	tools/test_reference
+
 exchange: all
 	@tools/exchange
 
 bench:
 	@RT='$(RT)' tools/bench $(if $(IDS),'$(IDS)')
-	@[ -n '$(IDS)' ] || (cd crates/gen_bench && '$(RT)' run < /dev/null)
-	@[ -n '$(IDS)' ] || crates/gen_bench/out/gen_bench < bench/generated.txt
-	@[ -n '$(IDS)' ] || (cd crates/save_bench && '$(RT)' run < /dev/null)
-	@[ -n '$(IDS)' ] || crates/save_bench/out/save_bench < bench/saves.txt
 
 check: crate
 	@cd 'crates/$(CRATE)' && '$(RT)' check

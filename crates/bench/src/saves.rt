@@ -1,0 +1,118 @@
+//! Times loading and saving: a history of 100,000 states of Towers of size 9, with each kind of move in it (`history`), and a save file with
+//! 16 MiB of records that are skipped (`skipped`). It reads which of them to time, a line each, and prints the mean of some rounds in
+//! microseconds.
+
+use clue_rules::Towers;
+use play_midend::{MOST_STATES, Move, Session};
+use play_save::{load, save};
+use std::alloc::Global;
+use std::io;
+use std::rt::Clock;
+use std::time::Instant;
+
+/// How often each is done.
+const ROUNDS: u64 = 5;
+
+/// A new game of size 9 without a clue.
+const FRESH: &[u8] =
+    b"SAVEFILE:41:Simon Tatham's Portable Puzzle Collection\nVERSION :1:1\nGAME    :6:Towers\nPARAMS  :1:9\nCPARAMS :1:9\nDESC    :35:///////////////////////////////////\nNSTATES :1:1\nSTATEPOS:1:1\n";
+
+// The moves of a full history: numbers, cleared squares, and now and then all marks or a restart.
+fn made(i: usize) -> Move {
+    let x = (i % 9) as u8;
+    let y = (i / 9 % 9) as u8;
+    let n = (i / 81 % 10) as u8;
+    match i % 1000 {
+        500 => Move::MarkAll,
+        999 => Move::Restart,
+        _ if i % 3 == 0 => Move::Pencil { x, y, n: 0 },
+        _ => Move::Real { x, y, n },
+    }
+}
+
+// A full history.
+fn history(alloc: Global) -> Option<Session<Towers>> {
+    let mut session = load::<Towers>(alloc, FRESH).ok()?;
+    for i in 0..MOST_STATES - 1 {
+        session.play(made(i)).ok()?;
+    }
+    Some(session)
+}
+
+// A save file of the size that is loaded at most, where all but a few records are skipped.
+fn skipped(alloc: Global) -> Option<Vec<u8>> {
+    let front = FRESH.get(..54)?;
+    let rest = FRESH.get(54..)?;
+    let mut bytes = Vec::with_capacity(alloc, 16_777_216).ok()?;
+    bytes.extend_from_slice(front).ok()?;
+    for _ in 0..1_290_000u32 {
+        if bytes.len().saturating_add(rest.len()) > 16_777_000 {
+            break;
+        }
+        bytes.extend_from_slice(b"COMMENT :1:x\n").ok()?;
+    }
+    bytes.extend_from_slice(rest).ok()?;
+    Some(bytes)
+}
+
+fn microseconds(clock: &impl Clock, start: Instant) -> io::Result<u64> {
+    let nanoseconds = u64::try_from(start.elapsed(clock)?.as_nanos()).unwrap_or(u64::MAX);
+    Ok(nanoseconds / 1000 / ROUNDS)
+}
+
+fn time_history(rt: &(impl Print + AllocGlobal + Clock)) -> io::Result<()> {
+    let Some(session) = history(rt.alloc()) else {
+        return println!(rt; "no history");
+    };
+    let start = Instant::now(rt)?;
+    let mut size = 0usize;
+    for _ in 0..ROUNDS {
+        size = save(rt.alloc(), &session).map_or(0, |text| text.len());
+    }
+    println!(rt;
+        "save of {} states, {size} bytes: {} us",
+        session.states(),
+        microseconds(rt, start)?
+    )?;
+    let Ok(text) = save(rt.alloc(), &session) else {
+        return println!(rt; "no memory");
+    };
+    let start = Instant::now(rt)?;
+    let mut states = 0usize;
+    for _ in 0..ROUNDS {
+        states = load::<Towers>(rt.alloc(), &text).map_or(0, |again| again.states());
+    }
+    println!(rt; "load of {states} states: {} us", microseconds(rt, start)?)?;
+    Ok(())
+}
+
+fn time_skipped(rt: &(impl Print + AllocGlobal + Clock)) -> io::Result<()> {
+    let Some(long) = skipped(rt.alloc()) else {
+        return Ok(());
+    };
+    let start = Instant::now(rt)?;
+    let mut states = 0usize;
+    for _ in 0..ROUNDS {
+        states = load::<Towers>(rt.alloc(), &long).map_or(0, |again| again.states());
+    }
+    println!(rt;
+        "load of {states} state behind {} bytes: {} us",
+        long.len(),
+        microseconds(rt, start)?
+    )
+}
+
+/// Times what the lines of standard input name.
+pub(crate) fn time_saves<R: Clock + Alloc<A = Global> + Input + Print + Eprint>(
+    rt: &R,
+) -> io::Result<()> {
+    for line in rt.lines(rt.alloc()) {
+        let line = line?;
+        match line.as_str() {
+            "history" => time_history(rt)?,
+            "skipped" => time_skipped(rt)?,
+            other => eprintln!(rt; "cannot measure {other}")?,
+        }
+    }
+    Ok(())
+}

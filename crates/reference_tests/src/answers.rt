@@ -1,0 +1,173 @@
+//! Answers to texts of saves, and what is kept of many of them.
+
+use clue_rules::Game;
+use play_midend::Session;
+use play_save::{LoadFault, load, save};
+use std::alloc::{AllocError, Global};
+
+/// How many different answers there are: a text loads, the refusals by their numbers, and one that may not come.
+const ANSWERS: usize = 16;
+
+/// The number of what may not come: a session that isn't the same when it is saved and loaded again.
+const CHANGED: u8 = 15;
+
+/// A digest of bytes: FNV-1a of 64 bits.
+#[derive(Clone, Copy)]
+struct Digest(u64);
+
+impl Digest {
+    fn new() -> Digest {
+        Digest(0xcbf2_9ce4_8422_2325)
+    }
+
+    fn take(&mut self, text: &[u8]) {
+        for byte in text {
+            self.0 = (self.0 ^ u64::from(*byte)).wrapping_mul(0x100_0000_01b3);
+        }
+    }
+}
+
+/// The answer to a text: its number and name, and the answer in full. That is a refusal's name, with its index if it has one; or the
+/// status of what was loaded, and its save.
+#[derive(Drop)]
+pub(crate) struct Answer {
+    number: u8,
+    name: &'static str,
+    in_full: Vec<u8>,
+}
+
+impl Answer {
+    /// The answer to a text.
+    pub(crate) fn of<P: Game>(alloc: Global, text: &[u8]) -> Result<Answer, AllocError> {
+        let fault = match load::<P>(alloc, text) {
+            Ok(session) => return Answer::loaded(alloc, &session),
+            Err(fault) => fault,
+        };
+        let name = fault.name();
+        let in_full = match fault {
+            LoadFault::BadState(index) => format!(in alloc; "{name} {index}\n")?,
+            _ => format!(in alloc; "{name}\n")?,
+        };
+        Ok(Answer {
+            number: fault.number(),
+            name,
+            in_full: in_full.as_bytes().to_vec(alloc)?,
+        })
+    }
+
+    fn loaded<P: Game>(alloc: Global, session: &Session<P>) -> Result<Answer, AllocError> {
+        let (number, name) = if loads_again(alloc, session) {
+            (0, "loads")
+        } else {
+            (CHANGED, "changed")
+        };
+        let status = word(session);
+        let position = session.position();
+        let states = session.states();
+        let status = format!(in alloc; "{status} {position}/{states}\n")?;
+        let mut in_full = status.as_bytes().to_vec(alloc)?;
+        if let Ok(text) = save(alloc, session) {
+            in_full.extend_from_slice(&text)?;
+        }
+        Ok(Answer {
+            number,
+            name,
+            in_full,
+        })
+    }
+
+    /// The answer's name.
+    pub(crate) fn name(&self) -> &'static str {
+        self.name
+    }
+
+    /// A digest of the answer in full.
+    pub(crate) fn digest(&self) -> u64 {
+        let mut digest = Digest::new();
+        digest.take(&self.in_full);
+        digest.0
+    }
+}
+
+/// The word of the status line.
+pub(crate) fn word<P: Game>(session: &Session<P>) -> &'static str {
+    if session.board().cheated() {
+        "helped"
+    } else if session.board().completed() {
+        "solved"
+    } else {
+        "playing"
+    }
+}
+
+// Whether the session's own save loads as a session with the same save.
+fn loads_again<P: Game>(alloc: Global, session: &Session<P>) -> bool {
+    let Ok(text) = save(alloc, session) else {
+        return false;
+    };
+    let Ok(again) = load::<P>(alloc, &text) else {
+        return false;
+    };
+    match save(alloc, &again) {
+        Ok(second) => second.as_slice() == text.as_slice(),
+        Err(_) => false,
+    }
+}
+
+/// How often an answer came.
+#[derive(Clone, Copy)]
+pub(crate) struct Count {
+    pub(crate) name: &'static str,
+    pub(crate) texts: u64,
+}
+
+/// What is kept of answers: a digest of them in order, and how often each came, by its number.
+#[derive(Drop)]
+pub(crate) struct Block {
+    texts: u64,
+    digest: Digest,
+    counts: [Option<Count>; ANSWERS],
+}
+
+impl Block {
+    /// Of no answer.
+    pub(crate) fn new() -> Block {
+        Block {
+            texts: 0,
+            digest: Digest::new(),
+            counts: [None; ANSWERS],
+        }
+    }
+
+    /// How many there were.
+    pub(crate) fn texts(&self) -> u64 {
+        self.texts
+    }
+
+    /// The digest of all of them in full.
+    pub(crate) fn digest(&self) -> u64 {
+        self.digest.0
+    }
+
+    /// Takes one more.
+    pub(crate) fn take(&mut self, answer: &Answer) {
+        self.texts = self.texts.saturating_add(1);
+        self.digest.take(&answer.in_full);
+        let number = usize::from(answer.number);
+        let before = match self.counts.get(number) {
+            Some(Some(count)) => count.texts,
+            _ => 0,
+        };
+        if let Some(count) = self.counts.get_mut(number) {
+            *count = Some(Count {
+                name: answer.name,
+                texts: before.saturating_add(1),
+            });
+        }
+    }
+
+    /// How often each answer came, if it did, by its number.
+    pub(crate) fn counts(&self) -> &[Option<Count>] {
+        &self.counts
+    }
+}

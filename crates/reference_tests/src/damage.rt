@@ -1,0 +1,195 @@
+//! Damage to the text of a save.
+
+use play_save::next_record;
+use std::alloc::{AllocError, Global};
+
+/// The bytes that each byte is changed to: ends of lines, what records and moves are made of, and some that stand in none.
+static VALUES: [u8; 10] = [0, b'\n', b'\r', b' ', b'0', b'3', b':', b'H', b'S', 0xff];
+
+/// A kind of damage, which makes many texts of one.
+#[derive(Clone, Copy)]
+pub(crate) enum Damage {
+    Whole,
+    ByteChanged,
+    ByteLeftOut,
+    ByteDoubled,
+    CutOff,
+    RecordLeftOut,
+    RecordDoubled,
+    RecordsExchanged,
+}
+
+/// All kinds, in their order.
+pub(crate) static DAMAGES: [Damage; 8] = [
+    Damage::Whole,
+    Damage::ByteChanged,
+    Damage::ByteLeftOut,
+    Damage::ByteDoubled,
+    Damage::CutOff,
+    Damage::RecordLeftOut,
+    Damage::RecordDoubled,
+    Damage::RecordsExchanged,
+];
+
+/// A text and its records, each with the end of the line before it.
+#[derive(Drop)]
+pub(crate) struct SaveText<'a> {
+    text: &'a [u8],
+    records: Vec<&'a [u8]>,
+}
+
+impl<'a> SaveText<'a> {
+    /// The records are those up to the first place where none can be read.
+    pub(crate) fn new(alloc: Global, text: &'a [u8]) -> Result<SaveText<'a>, AllocError> {
+        let mut records = Vec::new(alloc);
+        let mut rest = text;
+        for _ in 0..text.len() {
+            let Ok(Some((_, behind))) = next_record(rest) else {
+                break;
+            };
+            let length = rest.len().saturating_sub(behind.len());
+            let Some(record) = rest.get(..length) else {
+                break;
+            };
+            records.push(record)?;
+            rest = behind;
+        }
+        Ok(SaveText { text, records })
+    }
+}
+
+impl Damage {
+    /// What is done, in words.
+    pub(crate) fn name(self) -> &'static str {
+        match self {
+            Damage::Whole => "the whole text",
+            Damage::ByteChanged => "a byte changed",
+            Damage::ByteLeftOut => "a byte left out",
+            Damage::ByteDoubled => "a byte doubled",
+            Damage::CutOff => "cut off",
+            Damage::RecordLeftOut => "a record left out",
+            Damage::RecordDoubled => "a record doubled",
+            Damage::RecordsExchanged => "two records exchanged",
+        }
+    }
+
+    /// A text has a number below this.
+    pub(crate) fn numbers(self, save: &SaveText) -> usize {
+        let records = save.records.len();
+        match self {
+            Damage::Whole => 1,
+            Damage::ByteChanged => save.text.len().saturating_mul(VALUES.len()),
+            Damage::ByteLeftOut | Damage::ByteDoubled | Damage::CutOff => save.text.len(),
+            Damage::RecordLeftOut | Damage::RecordDoubled => records,
+            Damage::RecordsExchanged => records.saturating_mul(records),
+        }
+    }
+
+    /// The text with a number. Of two numbers that would exchange the same records one has none.
+    pub(crate) fn text(
+        self,
+        alloc: Global,
+        save: &SaveText,
+        number: usize,
+    ) -> Result<Option<Vec<u8>>, AllocError> {
+        let records = save.records.as_slice();
+        match self {
+            Damage::Whole => Ok(Some(save.text.to_vec(alloc)?)),
+            Damage::RecordLeftOut => without_record(alloc, records, number),
+            Damage::RecordDoubled => with_record_twice(alloc, records, number),
+            Damage::RecordsExchanged => {
+                let count = records.len().max(1);
+                with_exchange(alloc, records, number / count, number % count)
+            }
+            Damage::ByteChanged => {
+                let value = VALUES[number % VALUES.len()];
+                with_byte(alloc, save.text, number / VALUES.len(), value)
+            }
+            Damage::ByteLeftOut | Damage::ByteDoubled | Damage::CutOff => {
+                self.text_at(alloc, save.text, number)
+            }
+        }
+    }
+
+    // A byte left out or doubled, or the text in front of it.
+    fn text_at(
+        self,
+        alloc: Global,
+        text: &[u8],
+        place: usize,
+    ) -> Result<Option<Vec<u8>>, AllocError> {
+        if place >= text.len() {
+            return Ok(None);
+        }
+        let (front, rest) = text.split_at(place);
+        let text = match self {
+            Damage::ByteLeftOut => joined(alloc, &[front, &rest[1..]])?,
+            Damage::ByteDoubled => joined(alloc, &[front, &rest[..1], rest])?,
+            _ => front.to_vec(alloc)?,
+        };
+        Ok(Some(text))
+    }
+}
+
+fn with_byte(
+    alloc: Global,
+    text: &[u8],
+    place: usize,
+    value: u8,
+) -> Result<Option<Vec<u8>>, AllocError> {
+    let mut text = text.to_vec(alloc)?;
+    let Some(byte) = text.get_mut(place) else {
+        return Ok(None);
+    };
+    *byte = value;
+    Ok(Some(text))
+}
+
+fn without_record(
+    alloc: Global,
+    records: &[&[u8]],
+    place: usize,
+) -> Result<Option<Vec<u8>>, AllocError> {
+    if place >= records.len() {
+        return Ok(None);
+    }
+    let mut text = joined(alloc, &records[..place])?;
+    text.extend_from_slice(&joined(alloc, &records[place + 1..])?)?;
+    Ok(Some(text))
+}
+
+fn with_record_twice(
+    alloc: Global,
+    records: &[&[u8]],
+    place: usize,
+) -> Result<Option<Vec<u8>>, AllocError> {
+    if place >= records.len() {
+        return Ok(None);
+    }
+    let mut text = joined(alloc, &records[..place + 1])?;
+    text.extend_from_slice(&joined(alloc, &records[place..])?)?;
+    Ok(Some(text))
+}
+
+// The first has to stand before the second.
+fn with_exchange(
+    alloc: Global,
+    records: &[&[u8]],
+    first: usize,
+    second: usize,
+) -> Result<Option<Vec<u8>>, AllocError> {
+    if first >= second || second >= records.len() {
+        return Ok(None);
+    }
+    let mut records = records.to_vec(alloc)?;
+    records.swap(first, second);
+    Ok(Some(joined(alloc, &records)?))
+}
+
+fn joined(alloc: Global, parts: &[&[u8]]) -> Result<Vec<u8>, AllocError> {
+    let mut text = Vec::new(alloc);
+    for part in parts {
+        text.extend_from_slice(part)?;
+    }
+    Ok(text)
+}

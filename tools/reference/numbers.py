@@ -1,0 +1,25 @@
+"""Decimals and runs of digits (docs/FORMATS.md, "Words")."""
+
+from __future__ import annotations
+
+import re
+from typing import Optional
+
+
+def number(text: bytes, least: int, most: int) -> Optional[int]:
+    """A decimal without leading zeros in a range, or nothing."""
+    if not re.fullmatch(rb'0|[1-9][0-9]*', text):
+        return None
+    value = int(text)
+    return value if least <= value <= most else None
+
+
+def run_of_digits(text: bytes) -> bytes:
+    """The digits at the front of a text, as many as there are."""
+    front = re.match(rb'[0-9]*', text)
+    return front.group() if front else b''
+
+
+def one_digit(run: bytes, least: int, most: int) -> Optional[int]:
+    """A run of digits that is one digit in a range, or nothing."""
+    return int(run) if len(run) == 1 and least <= int(run) <= most else None
