@@ -3,6 +3,8 @@
 # make test       the gate: every proof from nothing, wrong bodies, tests, stored runs, and the program from outside and under fire
 # make test-faults the last part of it alone: memory, reads and writes that fail in turn
 # make test-saving how the program saves, wherever the file lies and whoever shares it
+# make test-twins  the twins of the wrong bodies, which mean what the right bodies mean, are proved; CRATES=.. for some crates
+# make test-bodies the wrong bodies that the gate leaves out are refused; CRATES=.. for some crates
 # make test-tools the scripts around the program: the front, installing, and the texts for its users
 # make exchange   saves and IDs against the usual programs, of Debian's package sgt-puzzles; no part of the gate
 # make bench      how long the solver and the generator take, class by class, or the solver on the lines of IDS=file; no part of the gate
@@ -19,10 +21,11 @@ GAME ?= towers
 ID ?=
 IDS ?=
 CRATE ?=
+CRATES ?=
 FMT ?= $(RT) fmt
 PREFIX ?= /usr/local
 
-.PHONY: all play test test-faults test-saving test-tools exchange bench check try must-fail fmt install uninstall clean help crate
+.PHONY: all play test test-twins test-bodies test-faults test-saving test-tools exchange bench check try must-fail fmt install uninstall clean help crate
 
 all:
 	@RT='$(RT)' tools/build
@@ -35,6 +38,12 @@ play:
 
 test:
 	@RT='$(RT)' tools/gate
+
+test-twins:
+	@RT='$(RT)' tools/test_twins $(CRATES)
+
+test-bodies:
+	@RT='$(RT)' tools/test_bodies $(CRATES)
 
 test-faults: all
 	@cd crates/refused_memory && $(RT) run < /dev/null > /dev/null
