@@ -57,7 +57,7 @@ class Body(NamedTuple):
     @property
     def has_values(self) -> bool:
         """Whether the prover told values that make the goal false."""
-        return 'allow values at which' in self.text
+        return 'the facts known' in self.text
 
 
 def tried(said: str) -> List[Body]:
