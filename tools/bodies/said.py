@@ -7,7 +7,7 @@ from typing import List, NamedTuple
 
 
 class Goal(NamedTuple):
-    """An open goal of the code: its file, its line, and what is said of it."""
+    """An open goal or an error in the code: its file, its line, and what is said of it."""
 
     file: str
     line: int
@@ -19,7 +19,8 @@ def is_proved(status: int, said: str) -> bool:
 
 
 def open_goals(said: str) -> List[Goal]:
-    found = re.findall(r'^note: (src/\S+?):(\d+):\d+: (.*)', said, re.MULTILINE)
+    """Where a goal is open, or the code is refused before that."""
+    found = re.findall(r'^(?:note: )?(src/\S+?):(\d+):\d+: (?!warning)(.*)', said, re.MULTILINE)
     return [Goal(file, int(line), text) for file, line, text in found]
 
 

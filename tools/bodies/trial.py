@@ -39,28 +39,34 @@ class Trial:
 
     def refused(self, twins: Sequence[Edit]) -> Dict[str, str]:
         """The twins that aren't proved, each with what the prover said of it."""
+        if not twins:
+            return {}
         answer = self.check(twins)
         if answer.is_proved:
             return {}
-        if len(twins) == 1:
-            return {twins[0].name: answer.why}
-        found: Dict[str, str] = {}
-        for part in parts(twins, answer):
+        found = blamed(twins, answer)
+        if found:
+            found.update(self.refused([twin for twin in twins if twin.name not in found]))
+            return found
+        half = len(twins) // 2
+        for part in (twins[:half], twins[half:]):
             found.update(self.refused(part))
         if not found:
             found[' with '.join(twin.name for twin in twins)] = f'each part of them is proved, but not all: {answer.why}'
         return found
 
 
-def parts(twins: Sequence[Edit], answer: Answer) -> List[Sequence[Edit]]:
-    """Two parts of some twins: those in the functions of the open goals and the others, or else the two halves."""
-    functions = {(goal.file, function_at(answer.texts.get(goal.file, ''), goal.line)) for goal in answer.goals}
-    inside = [twin for twin in twins if any(place in functions for place in functions_of(twin, answer.texts))]
-    outside = [twin for twin in twins if twin not in inside]
-    if inside and outside:
-        return [inside, outside]
-    half = len(twins) // 2
-    return [twins[:half], twins[half:]]
+def blamed(twins: Sequence[Edit], answer: Answer) -> Dict[str, str]:
+    """The twins that stand alone in a function in which something is wrong, each with that; of one twin alone all is its own."""
+    if len(twins) == 1:
+        return {twins[0].name: answer.why}
+    found: Dict[str, str] = {}
+    for goal in answer.goals:
+        place = (goal.file, function_at(answer.texts.get(goal.file, ''), goal.line))
+        inside = [twin for twin in twins if place in functions_of(twin, answer.texts)]
+        if len(inside) == 1:
+            found.setdefault(inside[0].name, f'{goal.file}:{goal.line}: {goal.text}'[:240])
+    return found
 
 
 def functions_of(twin: Edit, texts: Texts) -> List[tuple[str, str]]:
