@@ -34,8 +34,11 @@ def why(said: str) -> str:
 
 
 def function_at(text: str, line: int) -> str:
-    """The function of a source in which a line stands, or nothing."""
-    for above in reversed(text.split('\n')[:line]):
+    """The function of a source in which a line stands, one of the lines right above it too, or nothing."""
+    lines = text.split('\n')
+    while line < len(lines) and re.match(r'\s*(#\[|//)', lines[line - 1]):
+        line += 1
+    for above in reversed(lines[:line]):
         found = re.match(r'\s*(?:pub(?:\(\w+\))? )?(?:const )?fn (\w+)', above)
         if found:
             return found[1]
