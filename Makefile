@@ -6,6 +6,8 @@
 # make test-saving a part of it: how the program saves, wherever the file lies and whoever shares it
 # make test-tools parts of it: the front, installing, the texts for users, and the scripts in another place
 # make test-reference what saves and seeds are answered, by a second implementation
+# make test-twins  the twins of the wrong bodies, which mean what the right bodies mean, are proved; CRATES=.. for some crates
+# make test-bodies the wrong bodies that the gate leaves out are refused; CRATES=.. for some crates
 # make exchange   saves and IDs against the usual programs, of Debian's package sgt-puzzles; no part of the gate
 # make bench      how long the solver, the generator and saves take, class by class, or the solver on the lines of IDS=file; no part of the gate
 # make check      CRATE=clue_rules: proves one crate, in seconds after an edit
@@ -21,10 +23,11 @@ GAME ?= towers
 ID ?=
 IDS ?=
 CRATE ?=
+CRATES ?=
 FMT ?= '$(RT)' fmt
 PREFIX ?= /usr/local
 
-.PHONY: all play test test-faults test-saving test-tools test-reference exchange bench check try must-fail fmt install uninstall clean help crate
+.PHONY: all play test test-twins test-bodies test-faults test-saving test-tools test-reference exchange bench check try must-fail fmt install uninstall clean help crate
 
 all:
 	@RT='$(RT)' tools/build
@@ -37,6 +40,12 @@ play:
 
 test:
 	@RT='$(RT)' tools/gate
+
+test-twins:
+	@RT='$(RT)' tools/test_twins $(CRATES)
+
+test-bodies:
+	@RT='$(RT)' tools/test_bodies $(CRATES)
 
 test-faults: all
 	@cd crates/refused_memory && '$(RT)' run < /dev/null > /dev/null

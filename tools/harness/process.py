@@ -33,8 +33,7 @@ def begin() -> None:
     if that can be had. What root mounts, nobody else sees, and it is gone when the process has ended.
     """
     global _no_mounts
-    for number in (signal.SIGTERM, signal.SIGHUP):
-        signal.signal(number, lambda number, _: sys.exit(128 + number))
+    clean_up_at_signals()
     if not is_root():
         _become_root()
     try:
@@ -43,6 +42,12 @@ def begin() -> None:
         _no_mounts = ''
     except OSError as error:
         _no_mounts = f'nothing can be mounted: {error.strerror}'
+
+
+def clean_up_at_signals() -> None:
+    """From now on a signal that ends the process lets it clean up first."""
+    for number in (signal.SIGTERM, signal.SIGHUP):
+        signal.signal(number, lambda number, _: sys.exit(128 + number))
 
 
 def need_mounts() -> None:

@@ -31,6 +31,7 @@ impl NumberSet {
     }
 
     /// The set of one number, below 16.
+    #[tactic(auto, using(crate::proofs::Calls::one_has))]
     pub fn one(n: u8) -> NumberSet
         requires { n < 16 }
         ensures value { result ≡ 2 ^ n }
@@ -40,6 +41,7 @@ impl NumberSet {
     }
 
     /// The set of the numbers from 1 to this one, below 15.
+    #[tactic(auto, using(crate::proofs::Calls::up_to_has))]
     pub fn up_to(n: u8) -> NumberSet
         requires { n < 15 }
         ensures value { result ≡ numbers_to n }
@@ -73,6 +75,7 @@ impl NumberSet {
     }
 
     /// Whether no number is in the set.
+    #[tactic(auto, using(crate::proofs::Members::empty_test))]
     pub fn is_empty(self) -> bool
         ensures value { result ≡ (self == no_numbers) }
         ensures members { MatchBool result (IsEmpty self) ((n : ℕ) × (has_number self n ≡ true)) }
@@ -81,6 +84,7 @@ impl NumberSet {
     }
 
     /// Each number of the set, below 15, one more.
+    #[tactic(auto, using(crate::proofs::Calls::raised_has_only, crate::proofs::Calls::raised_has_all))]
     pub fn raised(self) -> NumberSet
         ensures only { (n : ℕ) → has_number result n ≡ true
             → (m : ℕ) × (m + 1 ≡ n) × (has_number self m ≡ true) }
@@ -93,6 +97,7 @@ impl NumberSet {
     }
 
     /// Each number of the set, from 1 on, one less.
+    #[tactic(auto, using(crate::proofs::Calls::lowered_has))]
     pub fn lowered(self) -> NumberSet
         ensures { (n : ℕ) → has_number result n ≡ has_number self (n + 1) }
     {
@@ -102,6 +107,7 @@ impl NumberSet {
     }
 
     /// The numbers of the set up to this one, which is below 15.
+    #[tactic(auto, using(crate::proofs::Calls::at_most_has))]
     pub fn at_most(self, n: u8) -> NumberSet
         requires { n < 15 }
         ensures { (k : ℕ) → has_number result k ≡ (has_number self k && nat_le k n) }
@@ -119,6 +125,7 @@ impl NumberSet {
     }
 
     /// Takes the number, below 16, out of the set where it is in, and puts it in where it isn't.
+    #[tactic(auto, using(crate::proofs::Calls::flip_has))]
     pub fn flip(&mut self, n: u8)
         requires { n < 16 }
         ensures value { self.new ≡ flip_number self.old n }
@@ -129,6 +136,7 @@ impl NumberSet {
     }
 
     /// The numbers that are in either set.
+    #[tactic(auto, using(crate::proofs::Calls::union_has))]
     pub fn union(self, other: NumberSet) -> NumberSet
         ensures value { result ≡ bit_or self other }
         ensures members { (n : ℕ) → has_number result n
@@ -140,6 +148,7 @@ impl NumberSet {
     }
 
     /// The numbers that are in both sets.
+    #[tactic(auto, using(crate::proofs::Calls::intersection_has))]
     pub fn intersection(self, other: NumberSet) -> NumberSet
         ensures value { result ≡ bit_and self other }
         ensures members { (n : ℕ) → has_number result n
@@ -151,6 +160,7 @@ impl NumberSet {
     }
 
     /// The numbers of this set that the other lacks.
+    #[tactic(auto, using(crate::proofs::Calls::difference_has))]
     pub fn difference(self, other: NumberSet) -> NumberSet
         ensures { (n : ℕ) → has_number result n
             ≡ (has_number self n && not (has_number other n)) }
@@ -161,6 +171,7 @@ impl NumberSet {
     }
 
     /// Whether no number is in both sets.
+    #[tactic(auto, using(crate::proofs::Members::disjoint_test))]
     pub fn is_disjoint(self, other: NumberSet) -> bool
         ensures { MatchBool result (IsShared self other → ⊥) (IsShared self other) }
     {
@@ -168,6 +179,7 @@ impl NumberSet {
     }
 
     /// Whether each number of this set is in the other.
+    #[tactic(auto, using(crate::proofs::Members::subset_test))]
     pub fn is_subset(self, other: NumberSet) -> bool
         ensures { MatchBool result (IsSubset self other) (IsSubset self other → ⊥) }
     {
@@ -215,6 +227,7 @@ impl NumberSet {
     }
 
     /// The numbers below the greatest of the set.
+    #[tactic(auto, using(crate::proofs::Calls::below_greatest_has))]
     pub fn below_greatest(self) -> NumberSet
         ensures { (n : ℕ) → (has_number result n ≡ true)
             ↔ ((m : ℕ) × (n < m) × (has_number self m ≡ true)) }
