@@ -4,6 +4,9 @@
 //! session, asks something of it, or ends the run. [`Draw`] is what a game adds to be played so: its picture. What is
 //! printed of a session can be had alone: [`picture`], [`marks_text`], [`status_text`] and [`done_text`].
 //!
+//! [`play`] is a whole game: from what the words of a command line say, over the file to load and a run, to the file that it is
+//! saved to. It knows files by the trait [`GameFiles`].
+//!
 //! A reply is made whole before its first byte is written. A refused line leaves the session as it was. [`laws`] has what holds
 //! of the replies in turn: `undo` and `redo`, refusals, that each reply is a step of the session's own calls, that what `save`
 //! answers loads back, and that a game begun from a seed has one solution.
