@@ -3,7 +3,7 @@
 from __future__ import annotations
 
 from pathlib import Path
-from typing import Dict, Iterable, List, NamedTuple, Sequence, Tuple
+from typing import Dict, Iterable, List, NamedTuple, Tuple
 
 #: The text of each file of a crate that is edited, by its path in the crate.
 Texts = Dict[str, str]
@@ -81,24 +81,6 @@ def all_applied(edits: Iterable[Edit], crate: Path) -> Texts:
     for edit in edits:
         texts = applied(edit, crate, texts)
     return texts
-
-
-def rounds(edits: Sequence[Edit], crate: Path) -> List[List[Edit]]:
-    """The edits in as few rounds as a simple choice finds, those of a round not in each other's way. Each can be applied alone."""
-    left = list(edits)
-    found: List[List[Edit]] = []
-    while left:
-        texts: Texts = {}
-        taken: List[Edit] = []
-        for edit in left:
-            try:
-                texts = applied(edit, crate, texts)
-                taken.append(edit)
-            except BadEdit:
-                pass
-        found.append(taken)
-        left = [edit for edit in left if edit not in taken]
-    return found
 
 
 def wrong_form(twin: Edit, bodies: Dict[str, Edit], crate: Path) -> str:

@@ -2,11 +2,17 @@
 
 from __future__ import annotations
 
-from typing import Dict, List, NamedTuple, Sequence
+import contextlib
+from pathlib import Path
+from typing import Dict, List, NamedTuple, Sequence, Set, Tuple
 
-from bodies.edits import Edit, Texts, all_applied
+from bodies.edits import BadEdit, Edit, Texts, all_applied, applied
 from bodies.said import Goal, function_at, is_proved, open_goals, why
 from bodies.tree import ROOT, Tree
+
+
+#: A function, as the file in which it stands and its name.
+Place = Tuple[str, str]
 
 
 class Answer(NamedTuple):
@@ -45,6 +51,7 @@ class Trial:
         if answer.is_proved:
             return {}
         found = blamed(twins, answer)
+        print(f'{self.crate}: not proved: {", ".join(found) or f"{len(twins)} twins together"}', flush=True)
         if found:
             found.update(self.refused([twin for twin in twins if twin.name not in found]))
             return found
@@ -54,6 +61,26 @@ class Trial:
         if not found:
             found[' with '.join(twin.name for twin in twins)] = f'each part of them is proved, but not all: {answer.why}'
         return found
+
+
+def rounds(edits: Sequence[Edit], crate: Path) -> List[List[Edit]]:
+    """The edits in as few rounds as a simple choice finds: none in another's way, and just one in a function, so that an open goal is one edit's."""
+    left = list(edits)
+    found: List[List[Edit]] = []
+    while left:
+        texts: Texts = {}
+        taken: List[Edit] = []
+        functions: Set[Place] = set()
+        for edit in left:
+            with contextlib.suppress(BadEdit):
+                tried = applied(edit, crate, texts)
+                inside = set(functions_of(edit, tried))
+                if not inside & functions:
+                    texts, functions = tried, functions | inside
+                    taken.append(edit)
+        found.append(taken)
+        left = [edit for edit in left if edit not in taken]
+    return found
 
 
 def blamed(twins: Sequence[Edit], answer: Answer) -> Dict[str, str]:
@@ -69,7 +96,7 @@ def blamed(twins: Sequence[Edit], answer: Answer) -> Dict[str, str]:
     return found
 
 
-def functions_of(twin: Edit, texts: Texts) -> List[tuple[str, str]]:
+def functions_of(twin: Edit, texts: Texts) -> List[Place]:
     """The functions in which a twin stands, each with its file."""
     found = []
     for pair in twin.pairs:

@@ -3,6 +3,7 @@ pub mod BackLemmas
 pub mod FrontLemmas
 pub mod KeptLemmas
 pub mod MaskBits
+pub mod MaskCalls
 pub mod MaskLemmas
 pub mod NextValues
 pub mod SeenLemmas

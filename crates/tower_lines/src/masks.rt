@@ -7,6 +7,7 @@ ghost use Rattle.tower_lines.specs.Inner.LineMasks.{AreNextValues, IsValueOf};
 use number_sets::NumberSet;
 
 /// The least value of a mask.
+#[tactic(auto, using(crate::proofs::MaskBits::lowest_value))]
 pub fn lowest(mask: usize) -> usize
     requires { 0 < mask }
     ensures value { IsValueOf mask result }
@@ -23,6 +24,7 @@ pub fn is_tower(mask: usize, value: usize) -> bool
 }
 
 /// The candidates of the square after a mask's, from 1 to the line's length, that aren't in the mask.
+#[tactic(auto, using(crate::proofs::MaskCalls::next_values_at))]
 pub fn next_values(sets: &[NumberSet], mask: usize) -> usize
     requires short { length sets.now ≤ 9 }
     requires inside { mask < 2 ^ length sets.now }
