@@ -7,12 +7,12 @@
 # make test-tools parts of it: the front, installing, the texts for users, and the scripts in another place
 # make test-reference what saves and seeds are answered, by a second implementation
 # make test-twins  the twins of the wrong bodies, which mean what the right bodies mean, are proved; CRATES=.. for some crates
-# make test-bodies the wrong bodies that the gate leaves out are refused; CRATES=.. for some crates
+# make test-bodies the wrong bodies but those in must-fail/ are refused, tried together; CRATES=.. for all those of some crates
 # make exchange   saves and IDs against the usual programs, of Debian's package sgt-puzzles; no part of the gate
 # make bench      how long the solver, the generator and saves take, class by class, or the solver on the lines of IDS=file; no part of the gate
 # make check      CRATE=clue_rules: proves one crate, in seconds after an edit
 # make try        CRATE=clue_rules: runs the tests of one crate without a proof
-# make must-fail  CRATE=clue_rules: tries the wrong bodies of one crate
+# make must-fail  CRATE=clue_rules: tries the wrong bodies in its must-fail/, one by one
 # make fmt        lays out all files; FMT='rt tidy' also drops unused imports of proved crates
 # make install    the program, the front, manual page and completion below PREFIX=/usr/local; make uninstall
 # make clean      takes build/ away; what the checks keep stays
@@ -32,20 +32,22 @@ PREFIX ?= /usr/local
 all:
 	@RT='$(RT)' tools/build
 
-# The front is for a terminal; in a pipe the program plays by itself.
+# The front is for a terminal; in a pipe the program plays by itself. The words go by the environment, since there may be any letter in them.
+play: export GAME := $(GAME)
+play: export ID := $(ID)
 play:
-	@case '$(GAME)' in towers|unequal) ;; *) echo 'make: GAME is towers or unequal' >&2; exit 2 ;; esac
+	@case "$$GAME" in towers|unequal) ;; *) echo 'make: GAME is towers or unequal' >&2; exit 2 ;; esac
 	@$(MAKE) --no-print-directory all
-	@if [ -t 0 ] && [ -t 1 ]; then exec tools/play '$(GAME)' '$(ID)'; else exec build/puzzles '$(GAME)' $(if $(ID),--id '$(ID)'); fi
+	@if [ -t 0 ] && [ -t 1 ]; then exec tools/play "$$GAME" "$$ID"; else exec build/puzzles "$$GAME" $${ID:+--id "$$ID"}; fi
 
 test:
 	@RT='$(RT)' tools/gate
 
 test-twins:
-	@RT='$(RT)' tools/test_twins $(CRATES)
+	@RT='$(RT)' tools/test_bodies --twins $(CRATES)
 
 test-bodies:
-	@RT='$(RT)' tools/test_bodies $(CRATES)
+	@RT='$(RT)' tools/test_bodies --wrong $(CRATES)
 
 test-faults: all
 	@cd crates/refused_memory && '$(RT)' run < /dev/null > /dev/null
@@ -66,8 +68,9 @@ test-reference:
 exchange: all
 	@tools/exchange
 
+bench: export IDS := $(IDS)
 bench:
-	@RT='$(RT)' tools/bench $(if $(IDS),'$(IDS)')
+	@RT='$(RT)' tools/bench $${IDS:+"$$IDS"}
 
 check: crate
 	@cd 'crates/$(CRATE)' && '$(RT)' check

@@ -8,7 +8,7 @@ from typing import Dict, Iterable, List, NamedTuple, Tuple
 #: The text of each file of a crate that is edited, by its path in the crate.
 Texts = Dict[str, str]
 
-#: Where the wrong bodies of a crate lie, those that the gate tries and those that `make test-bodies` tries too, and where the twins of both lie.
+#: Where the wrong bodies of a crate lie, those that `rt ci` tries and those that `make test-bodies` tries, and where the twins of both lie.
 MUST_FAIL, MORE, TWINS = 'must-fail', 'more-must-fail', 'twins'
 WRONG = (MUST_FAIL, MORE)
 
@@ -81,20 +81,3 @@ def all_applied(edits: Iterable[Edit], crate: Path) -> Texts:
     for edit in edits:
         texts = applied(edit, crate, texts)
     return texts
-
-
-def wrong_form(twin: Edit, bodies: Dict[str, Edit], crate: Path) -> str:
-    """Why an edit is no twin of the wrong body of its name, or nothing."""
-    if twin.name not in bodies:
-        return 'there is no wrong body of that name'
-    if not twin.pairs or any(not (pair.file and pair.old) for pair in twin.pairs):
-        return "it has no lines 'file:', 'old:' and 'new:'"
-    if twin.place != bodies[twin.name].place:
-        return 'it edits another place than its wrong body'
-    if all(pair.old == pair.new for pair in twin.pairs):
-        return 'it changes nothing'
-    try:
-        applied(twin, crate, {})
-    except BadEdit as error:
-        return str(error)
-    return ''

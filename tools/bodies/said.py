@@ -1,4 +1,4 @@
-"""What the prover said: whether it proved a crate, and where a goal is open."""
+"""What the prover said: whether it proved a crate, where a goal is open, and of which wrong bodies `rt` says that they are refused."""
 
 from __future__ import annotations
 
@@ -6,22 +6,40 @@ import re
 from typing import List, NamedTuple
 
 
+#: What the prover says of a goal where it tells values that make it false.
+VALUES = 'the facts known there allow values at which this goal is false'
+
+
 class Goal(NamedTuple):
-    """An open goal or an error in the code: its file, its line, and what is said of it."""
+    """An open goal, or an error in the code, which `is_open` tells apart: its file, its line, and what is said of it."""
 
     file: str
     line: int
     text: str
+    is_open: bool
+
+    @property
+    def has_values(self) -> bool:
+        """Whether the prover told values that make it false."""
+        return VALUES in self.text
+
+    def __str__(self) -> str:
+        return f'{self.file}:{self.line}: {self.text}'[:240]
 
 
 def is_proved(status: int, said: str) -> bool:
     return status == 0 and re.search(r'^logic=proved', said, re.MULTILINE) is not None
 
 
-def open_goals(said: str) -> List[Goal]:
+def is_refused(status: int, said: str) -> bool:
+    """Whether the check came to its end, and some function is not proved. One that stops earlier says nothing of those that it didn't come to."""
+    return status == 1 and re.search(r'^logic=not-proved', said, re.MULTILINE) is not None
+
+
+def goals_in(said: str) -> List[Goal]:
     """Where a goal is open, or the code is refused before that."""
-    found = re.findall(r'^(?:note: )?(src/\S+?):(\d+):\d+: (?!warning)(.*)', said, re.MULTILINE)
-    return [Goal(file, int(line), text) for file, line, text in found]
+    found = re.findall(r'^(note: )?(?:\./)?(src/\S+?):(\d+):\d+: (?!warning)(.*)', said, re.MULTILINE)
+    return [Goal(file, int(line), text, bool(note) and 'not proved' in text) for note, file, line, text in found]
 
 
 def why(said: str) -> str:
@@ -31,18 +49,6 @@ def why(said: str) -> str:
         if told:
             return told[0][:240]
     return said.strip().rpartition('\n')[2][:240]
-
-
-def function_at(text: str, line: int) -> str:
-    """The function of a source in which a line stands, one of the lines right above it too, or nothing."""
-    lines = text.split('\n')
-    while line < len(lines) and re.match(r'\s*(#\[|//)', lines[line - 1]):
-        line += 1
-    for above in reversed(lines[:line]):
-        found = re.match(r'\s*(?:pub(?:\(\w+\))? )?(?:const )?fn (\w+)', above)
-        if found:
-            return found[1]
-    return ''
 
 
 class Body(NamedTuple):

@@ -1,1 +1,1 @@
-"""The cases of tools/test_scripts: what `make` does in a copy elsewhere (`make_runs`), and what the gate says (`gate_runs`)."""
+"""The cases of tools/test_scripts: what `make` does in a copy elsewhere (`make_runs`), and what is said of wrong bodies (`bodies_runs`) and by the gate (`gate_runs`)."""

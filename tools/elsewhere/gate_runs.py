@@ -17,9 +17,6 @@ PASSED = '1 passed, 0 failed, 0 skipped'
 #: The part that does otherwise than the others in a case.
 PART = 'tools/program_tests'
 
-#: What would take too long in the gate.
-OUTSIDE = ['tools/test_bodies']
-
 
 class Gate(NamedTuple):
     """What `rt ci` and one part of the others say and end with, and what the gate has to say of those two."""
@@ -75,7 +72,7 @@ def cases(place: Place) -> None:
 def tests() -> List[str]:
     """The scripts of this repository each of which has to be a part."""
     paths = sorted(f'tools/{path.name}' for path in (TOP / 'tools').glob('test_*') if path.is_file())
-    return [PART, *(path for path in paths if path not in OUTSIDE)]
+    return [PART, *paths]
 
 
 def part_scripts(place: Place) -> List[str]:

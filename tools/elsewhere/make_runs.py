@@ -33,6 +33,8 @@ ROUNDS = [
     Make('make play, in a pipe', ['make', 'play', f'ID={ID}'], says=[PICTURE], input=b'show\n'),
     Make('make play, the other game', ['make', 'play', 'GAME=unequal', 'ID=4!7'], says=[b'playing 1/1\n'], input=b'status\n'),
     Make('make play, a game that is not there', ['make', 'play', 'GAME=chess'], 2, [b'GAME is towers or unequal']),
+    Make('make play, a game with an apostrophe', ['make', 'play', "GAME=it's"], 2, [b'GAME is towers or unequal']),
+    Make('make play, an ID with an apostrophe', ['make', 'play', "ID=it's"], 2, [b'refused: BadSize']),
     Make('make play, from elsewhere', ['make', '-C', '..', 'play', f'ID={ID}'], says=[b'3:3'], input=b'id\n', cwd='man'),
     Make('install: where it goes is no whole path', ['tools/install', 'usr'], 2, [b'usage:']),
     Make('install: nothing is named', ['../tools/install', '--remove'], 2, [b'usage:'], cwd='man'),

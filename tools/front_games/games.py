@@ -118,7 +118,7 @@ GAMES: List[Game] = [
     Game('a missing file', ['unequal', 'nothing.sav'], [], first=["there is no file 'nothing.sav'"], last=None, status=3),
 ]
 
-#: Games in one folder: the second and the third load what the first one saved.
+#: Games in one folder: the others load what the first one saved.
 SAVES: List[Game] = [
     Game(
         'a game that is saved',
@@ -133,6 +133,15 @@ SAVES: List[Game] = [
         saved=save_text(2, 2),
     ),
     Game('a game that is loaded', ['towers', 'FOLDER/a game.sav'], [], first=['0 3 1 . . -']),
+    Game(
+        'no HOME',
+        ['towers', ID],
+        [
+            Step(['load FOLDER/a game.sav'], ['towers 2/3> ']),
+            Step(['0 0 1', 'undo', "save FOLDER/it's.sav"], ["Saved in FOLDER/it's.sav"]),
+        ],
+        has_home=False,
+    ),
     Game(
         'a save of the other game',
         ['unequal', 'FOLDER/a game.sav'],

@@ -33,6 +33,8 @@ class Game(NamedTuple):
     status: int = 0
     #: What has to stand in a file of the folder then.
     saved: Optional[bytes] = None
+    #: Whether the environment has a HOME.
+    has_home: bool = True
 
 
 class Refused(NamedTuple):
@@ -73,7 +75,8 @@ class Front:
             return text.replace('FOLDER', room.path)
 
         words = [self._front, *map(here, game.words)]
-        with Terminal(words, self._env, cwd=room.path) as terminal:
+        env = {name: text for name, text in self._env.items() if game.has_home or name != 'HOME'}
+        with Terminal(words, env, cwd=room.path) as terminal:
             answer = terminal.wait_for(PROMPT)
             for text in game.first:
                 self._shows(game.name, answer, here(text))

@@ -5,6 +5,7 @@ from __future__ import annotations
 import re
 from typing import Dict, List, Set
 
+from bodies.edits import WRONG, edits_in
 from texts.parts import ROOT, found, read
 
 #: What declares a name, by the ending of a file, with the name in brackets: items, members and clauses, and the words of texts.
@@ -39,7 +40,7 @@ def declared(crate: str) -> Set[str]:
 
 
 def wrong_bodies(crate: str) -> Set[str]:
-    return {path.stem for path in (ROOT / 'crates' / crate / 'must-fail').glob('*.edit')}
+    return {edit.name for edit in edits_in(ROOT / 'crates' / crate, WRONG)}
 
 
 def specs(crate: str, files: str) -> str:

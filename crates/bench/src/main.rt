@@ -16,17 +16,22 @@ mod solver;
 use crate::generator::time_generator;
 use crate::saves::time_saves;
 use crate::solver::{Task, time_puzzles};
+use std::process::ExitCode;
 use std::{env, io};
 
-fn main(rt: HostRuntime) -> io::Result<()> {
+fn main(rt: HostRuntime) -> io::Result<ExitCode> {
     let mut words = env::args(&rt)?;
     let _program = words.next();
     let word = words.next();
     match word.as_ref().map(|word| word.as_str()) {
-        Some("solver") => time_puzzles(&rt, Task::Solve),
-        Some("listing") => time_puzzles(&rt, Task::List),
-        Some("generator") => time_generator(&rt),
-        Some("saves") => time_saves(&rt),
-        _ => eprintln!(rt; "bench: solver, listing, generator or saves"),
+        Some("solver") => time_puzzles(&rt, Task::Solve)?,
+        Some("listing") => time_puzzles(&rt, Task::List)?,
+        Some("generator") => time_generator(&rt)?,
+        Some("saves") => time_saves(&rt)?,
+        _ => {
+            eprintln!(rt; "bench: solver, listing, generator or saves")?;
+            return Ok(ExitCode::from(2));
+        }
     }
+    Ok(ExitCode::SUCCESS)
 }
