@@ -1,4 +1,4 @@
-# Bash completion of puzzles and puzzles-play: the games, the options, and files where a file is wanted.
+# Bash completion of puzzles, puzzles-json and puzzles-play: the games, the options, and files where a file is wanted.
 # shellcheck shell=bash
 
 _puzzles() {
@@ -17,13 +17,13 @@ _puzzles() {
 _puzzles_play() {
     local word=${COMP_WORDS[COMP_CWORD]}
     COMPREPLY=()
-    case $COMP_CWORD in
-        1) mapfile -t COMPREPLY < <(compgen -W 'towers unequal --help' -- "$word") ;;
-        2)
+    case " ${COMP_WORDS[*]:1:COMP_CWORD-1} " in
+        *' towers '* | *' unequal '*)
             compopt -o filenames
             mapfile -t COMPREPLY < <(compgen -f -- "$word") ;;
+        *) mapfile -t COMPREPLY < <(compgen -W 'towers unequal --lines --help --version' -- "$word") ;;
     esac
 }
 
-complete -F _puzzles puzzles
+complete -F _puzzles puzzles puzzles-json
 complete -F _puzzles_play puzzles-play

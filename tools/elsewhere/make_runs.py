@@ -8,7 +8,7 @@ from typing import NamedTuple, Sequence
 
 from elsewhere.place import Place
 from front_games.playing import PROMPT
-from harness.game import ID, PICTURE
+from harness.game import ID, PICTURE, save_text
 
 
 class Make(NamedTuple):
@@ -22,6 +22,9 @@ class Make(NamedTuple):
     cwd: str = ''
 
 
+#: What `make` leaves.
+PROGRAMS = ['build/puzzles', 'build/puzzles-json']
+
 ROUNDS = [
     Make('make help', ['make', 'help'], says=[b'make play', b'make test', b'make test-tools']),
     Make('a crate is checked', ['make', 'check', 'CRATE=clue_rules'], says=[b'asked for check in clue_rules']),
@@ -31,6 +34,7 @@ ROUNDS = [
     Make('a crate that is not there', ['make', 'check', 'CRATE=chess'], 2, [b'CRATE= one of:', b'clue_rules']),
     Make('all is laid out', ['make', 'fmt'], says=[b'asked for fmt in clue_rules', b'asked for fmt in puzzles']),
     Make('make play, in a pipe', ['make', 'play', f'ID={ID}'], says=[PICTURE], input=b'show\n'),
+    Make('make play, a save in a pipe', ['make', 'play', 'ID=../a.sav'], says=[b'playing 2/2\n'], input=b'status\n'),
     Make('make play, the other game', ['make', 'play', 'GAME=unequal', 'ID=4!7'], says=[b'playing 1/1\n'], input=b'status\n'),
     Make('make play, a game that is not there', ['make', 'play', 'GAME=chess'], 2, [b'GAME is towers or unequal']),
     Make('make play, a game with an apostrophe', ['make', 'play', "GAME=it's"], 2, [b'GAME is towers or unequal']),
@@ -42,6 +46,7 @@ ROUNDS = [
 
 
 def cases(place: Place) -> None:
+    place.put('../a.sav', save_text(1), 0o644)
     for row in ROUNDS:
         expect(place, row)
     builds(place)
@@ -59,21 +64,24 @@ def expect(place: Place, row: Make, **env: str) -> None:
 
 
 def builds(place: Place) -> None:
-    """`make` leaves the program, from any folder, and says where a proof has failed."""
+    """`make` leaves both programs, from any folder, and says where a proof has failed."""
     built = Make('make builds', ['tools/build'], says=[b'12 functions proved'])
     for row in (built, built._replace(name='and from elsewhere', words=['../../tools/build'], cwd='crates/puzzles')):
         expect(place, row)
-        is_left = bool(place.file('build/puzzles'))
-        place.report.check(f'{row.name}: the program is left', [] if is_left else ['there is none'])
-        os.remove(os.path.join(place.path, 'build', 'puzzles'))
+        for program in PROGRAMS:
+            place.report.check(f'{row.name}: {program} is left', [] if place.file(program) else ['there is none'])
+            os.remove(os.path.join(place.path, program))
     failed = Make('a proof fails', ['make'], 2, [b'not built', b'an open goal'])
     expect(place, failed, RT_SAYS='an open goal', RT_STATUS='1')
-    is_left = bool(place.file('build/puzzles'))
+    is_left = any(place.file(program) for program in PROGRAMS)
     place.report.check('a proof fails: no program', ['there is one'] if is_left else [])
 
 
 def in_a_terminal(place: Place) -> None:
     """`make play` is the front there."""
+    if not place.objects:
+        place.report.skip('make play, in a terminal', 'puzzles-json is not built')
+        return
     with place.terminal('make', 'play', f'ID={ID}') as terminal:
         first = terminal.wait_for(PROMPT)
         terminal.answer(b'quit', PROMPT)

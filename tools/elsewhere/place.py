@@ -12,11 +12,13 @@ from harness.terminal import Terminal
 from harness.users import ANNA
 
 #: Does what `rt` does as far as the scripts know: `run` and `ci` leave programs in `out/`, and all say what they were asked.
-#: RT_PROGRAM is the program that is left, RT_SAYS what is printed besides, and RT_STATUS the status.
+#: RT_PROGRAM is the program that is left, RT_OBJECTS that in the place of puzzles-json, RT_SAYS what is printed besides, and RT_STATUS the status.
 RT = b"""\
 #!/bin/sh
 leave() {
-    [ -z "$RT_PROGRAM" ] || { mkdir -p "$1/out" && cp "$RT_PROGRAM" "$1/out/$2"; }
+    program=$RT_PROGRAM
+    [ "$2" != puzzles_json ] || program=${RT_OBJECTS:-$RT_PROGRAM}
+    [ -z "$program" ] || { mkdir -p "$1/out" && cp "$program" "$1/out/$2"; }
 }
 echo "asked for $* in ${PWD##*/}"
 case $1 in
@@ -27,6 +29,7 @@ case $1 in
     ci)
         leave crates/puzzles puzzles
         leave crates/puzzles puzzles.by-rattle
+        leave crates/puzzles_json puzzles_json
         leave crates/refused_memory refused_memory ;;
 esac
 [ -z "$RT_SAYS" ] || echo "$RT_SAYS"
@@ -37,12 +40,13 @@ exit "${RT_STATUS:-0}"
 class Place(Checkout):
     """The copy, with crates that are empty, and a folder for TMPDIR into which nobody else may go."""
 
-    def __init__(self, report: Report, room: Room, program: str) -> None:
+    def __init__(self, report: Report, room: Room, program: str, objects: str) -> None:
         self.user: Optional[User] = ANNA if is_root() else None
         super().__init__(room, self.user)
         self.report = report
         self.rt = self.put('../kit/rt', RT)
         self.program = program
+        self.objects = objects
         for crate in (TOP / 'crates').iterdir():
             self.put(f'crates/{crate.name}/src/lib.rt', b'', 0o644)
         self._temporary = os.path.join(os.path.dirname(self.path), 'for a while')
@@ -51,7 +55,7 @@ class Place(Checkout):
 
     def env(self, more: Mapping[str, str]) -> Dict[str, str]:
         """`rt` is the one of this place, and the programs that it leaves are the one that is tested, or as is said."""
-        return super().env({'RT': self.rt, 'RT_PROGRAM': self.program, 'TMPDIR': self._temporary, **more})
+        return super().env({'RT': self.rt, 'RT_PROGRAM': self.program, 'RT_OBJECTS': self.objects, 'TMPDIR': self._temporary, **more})
 
     def terminal(self, *words: str) -> Terminal:
         """A command in a terminal."""

@@ -1,4 +1,4 @@
-"""Plays games on the front, in a terminal, and counts what is seen."""
+"""Plays games in the line mode, in a terminal, and counts what is seen."""
 
 from __future__ import annotations
 
@@ -10,7 +10,8 @@ from harness import Report, Room, run
 from harness.program import Ended
 from harness.terminal import Terminal
 
-PROMPT = re.compile(r'(towers|unequal) [0-9]+/[0-9]+> ')
+#: Where something is to be typed: at the prompt, or after a question.
+PROMPT = re.compile(r'(towers|unequal) [0-9]+/[0-9]+> |.* y/N ')
 
 
 class Step(NamedTuple):
@@ -59,7 +60,7 @@ class Front:
             'LC_ALL': 'C',
         }
         if program:
-            self._env['PUZZLES'] = program
+            self._env['PUZZLES_JSON'] = program
 
     def refuse(self, room: Room, refused: Refused) -> None:
         """Without a terminal: the status, and what is said."""
@@ -76,7 +77,7 @@ class Front:
 
         words = [self._front, *map(here, game.words)]
         env = {name: text for name, text in self._env.items() if game.has_home or name != 'HOME'}
-        with Terminal(words, env, cwd=room.path) as terminal:
+        with Terminal(words, {**env, 'XDG_STATE_HOME': room.path + '/state'}, cwd=room.path) as terminal:
             answer = terminal.wait_for(PROMPT)
             for text in game.first:
                 self._shows(game.name, answer, here(text))

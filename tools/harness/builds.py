@@ -41,3 +41,8 @@ def copy(room: Room, build: str, name: str) -> str:
 def built(words: Sequence[str]) -> str:
     """The path of the program: the first word of a script, or PUZZLES, or what `make` leaves."""
     return os.path.abspath(words[0] if words else os.environ.get('PUZZLES') or TOP / 'build' / 'puzzles')
+
+
+def built_objects(words: Sequence[str]) -> str:
+    """The path of puzzles-json: the second word of a script, or PUZZLES_JSON, or what `make` leaves."""
+    return os.path.abspath(words[1] if words[1:] else os.environ.get('PUZZLES_JSON') or TOP / 'build' / 'puzzles-json')

@@ -6,6 +6,7 @@ import re
 from typing import Dict, Iterator, Set
 
 from harness import Report
+from objects import schema
 from texts import sources
 from texts.parts import ROOT, differences, found, lacking, part, read, without_samples
 
@@ -24,6 +25,7 @@ class Known:
         self.files = sources.files()
         self.make = sources.make_names()
         self.names = set(found(r'\b(\w+)', read('crates.txt'))).union(OTHER_WORDS, self.make, *self.crates.values())
+        self.names.update(schema.names(), schema.STATUSES, schema.COUNTS, schema.KINDS)
         self.names.update(path.rpartition('/')[2] for path in self.files)
 
     def has(self, words: str) -> bool:

@@ -52,7 +52,7 @@ def check(report: Report, program: str) -> None:
         ended = run([program, '--help'], case.room)
         case.same('the status', ended.status, 0)
         compare(report, 'help', ended.output.decode(), wanted)
-    report.check('completion: options', differences(found(r'--([a-z]+)', read('tools/completion.bash')), wanted[1]))
+    report.check('completion: options', differences([name for name in found(r'--([a-z]+)', read('tools/completion.bash')) if name != 'lines'], wanted[1]))
     check_faults(report, formats)
     check_front(report, wanted[0])
 
@@ -75,10 +75,9 @@ def check_faults(report: Report, formats: str) -> None:
 
 
 def check_front(report: Report, commands: List[str]) -> None:
-    """The front's help has a line for each command, and each refusal has a sentence."""
-    front = read('tools/play')
-    lines = ' '.join(found(r'^  (\S.*?)  ', part(front, 'help() {', '^}'))).split()
+    """The help of the line mode has a line for each command, and each refusal has a sentence."""
+    lines = ' '.join(found(r"^    '  (\S.*?)  ", read('tools/board/manual.py'))).split()
     report.check('front: commands', lacking(commands, lines))
     faults = sources.faults()
     names = {name for kind in REFUSALS for name in faults[kind].values()} - UNEXPLAINED
-    report.check('front: sentences', lacking(names, found(r'\b(\w+)\b', part(front, '# --- sentences for refusals', '^# ---'))))
+    report.check('front: sentences', lacking(names, found(r"'(\w+)':? ?", read('tools/board/texts.py'))))

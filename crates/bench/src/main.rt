@@ -1,5 +1,6 @@
-//! Times the solver, the generator, and loading and saving, for `make bench`. The word behind the program's name says which of them: `solver`,
-//! or `listing` for lists of solutions; `generator`; `saves`. What is timed is read from standard input, a line each.
+//! Times the solver, the generator, loading and saving, and what is told of boards, for `make bench`. The word behind the program's name says which of them: `solver`,
+//! or `listing` for lists of solutions; `generator`; `saves`; `checks` for errors, hints and counted solutions of boards, or `objects` for
+//! their JSON. What is timed is read from standard input, a line each.
 //!
 //! ```text
 //! $ echo 'towers small 3:3//////3/////' | bench solver
@@ -9,10 +10,17 @@
 //! ```
 #![tactic(auto)]
 
+mod batches;
+mod board_calls;
+mod boards;
+mod checks;
 mod generator;
+mod objects;
 mod saves;
 mod solver;
+mod times;
 
+use crate::board_calls::{Calls, time_boards};
 use crate::generator::time_generator;
 use crate::saves::time_saves;
 use crate::solver::{Task, time_puzzles};
@@ -28,8 +36,10 @@ fn main(rt: HostRuntime) -> io::Result<ExitCode> {
         Some("listing") => time_puzzles(&rt, Task::List)?,
         Some("generator") => time_generator(&rt)?,
         Some("saves") => time_saves(&rt)?,
+        Some("checks") => time_boards(&rt, Calls::Checks)?,
+        Some("objects") => time_boards(&rt, Calls::Objects)?,
         _ => {
-            eprintln!(rt; "bench: solver, listing, generator or saves")?;
+            eprintln!(rt; "bench: solver, listing, generator, saves, checks or objects")?;
             return Ok(ExitCode::from(2));
         }
     }

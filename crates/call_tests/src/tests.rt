@@ -1,7 +1,9 @@
 //! The subjects, from boards and texts up to sessions, and `worked`: what tests of both games share.
 
+mod board_errors;
 mod boards;
 mod candidates;
+mod completions;
 mod devices;
 mod faults;
 mod game_ids;

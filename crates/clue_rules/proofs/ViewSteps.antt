@@ -31,11 +31,11 @@ view_line_low w place inside =
     edge_cases (λ line. line < 2 * w) w place _ _ _ _ (λ upper. omega arith) (λ from lower. lower) (λ from left. omega arith)
     (λ right. omega arith)
 
-view_index_low : (w place k : ℕ) → k < w → view_index w place k < w
+pub view_index_low : (w place k : ℕ) → k < w → view_index w place k < w
 view_index_low w place k low =
     edge_cases (λ i. i < w) w place _ _ _ _ (λ upper. low) (λ from lower. omega arith) (λ from left. low) (λ right. omega arith)
 
-view_index_apart : (w place i j : ℕ) → i < w → j < w → i ≢ j → view_index w place i ≢ view_index w place j
+pub view_index_apart : (w place i j : ℕ) → i < w → j < w → i ≢ j → view_index w place i ≢ view_index w place j
 view_index_apart w place i j first second apart =
     elim (cases_lt place w) [
       | inl top ↦ rw (lt-ltb place w top) apart

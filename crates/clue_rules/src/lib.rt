@@ -26,6 +26,7 @@ mod unequal;
 pub use game::{Game, MOST_ITEMS};
 pub use game_id::{GameId, read_id};
 pub use id_fault::IdFault;
+pub use lines::views::view_cell;
 pub use params::Params;
 pub use towers::Towers;
 pub use unequal::Unequal;

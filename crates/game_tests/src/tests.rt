@@ -15,3 +15,4 @@ mod script;
 mod sessions;
 mod solving;
 mod starts;
+mod voices;

@@ -6,3 +6,4 @@ pub mod LatinLines
 pub mod LatinTest
 pub mod Numbers
 mod Padding
+pub mod PeerLines

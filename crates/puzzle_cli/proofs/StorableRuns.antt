@@ -1,29 +1,35 @@
--- A run that begins with a session that can be stored, or with none, ends so.
+-- A run that begins with a session that can be stored, or with none, ends so, in any manner of answering.
 use Rattle.std.proofs.Common.{ℕ, List, [], ◌∷◌, Bool, Option, sym, subst, inl, inr}
 use Rattle.play_midend.specs.Histories.{History}
 use Rattle.puzzle_gen.proofs.ItemLaws.{ItemLaws}
 use Rattle.puzzle_cli.specs.declared.run_end.End.{End}
 use Rattle.puzzle_cli.specs.declared.run_end.End.TheVariants.{Finished, ReadFault, WriteFault}
-use Rattle.puzzle_cli.specs.Lines.{Line}
+use Rattle.puzzle_cli.specs.Lines.{Line, ReplyRule}
 use Rattle.puzzle_cli.specs.GameFacts.{GameFacts}
-use Rattle.puzzle_cli.specs.Replies.{Reply}
+use Rattle.puzzle_cli.specs.Voices.{AllLeaveAsPlain}
 use Rattle.puzzle_cli.specs.Runs.{Point, RepliesInTurn, Ends}
 use Rattle.puzzle_cli.specs.RunLaws.{IsNoneOrStorable}
 use Rattle.puzzle_cli.proofs.StorableReplies.{replies_stay_storable}
 
-module _ {P : Type 0} (f : GameFacts P) (laws : ItemLaws f.rules) where
+module _ {P : Type 0} (f : GameFacts P) (laws : ItemLaws f.rules) (reply : ReplyRule (Option (History P))) (leaves : AllLeaveAsPlain f reply) where
+  reply_storable : (old new : Option (History P)) (line : Line) (bytes : List ℕ) → IsNoneOrStorable f old → reply old line bytes new
+      → IsNoneOrStorable f new
+  reply_storable old new line bytes s said =
+      let plain = leaves old new line bytes said in
+      replies_stay_storable f laws old new line plain.0 s plain.1
+
   in_turn : (lines : List Line) (old new : Option (History P)) (written : List ℕ) → IsNoneOrStorable f old
-      → RepliesInTurn (Reply f) lines old written new → IsNoneOrStorable f new
+      → RepliesInTurn reply lines old written new → IsNoneOrStorable f new
   in_turn [] old new written s (w, e) = subst (λ (o : Option (History P)). IsNoneOrStorable f o) (sym e) s
   in_turn (line ∷ lines) old new written s (bytes, mid, rest, said, w, more) =
-      in_turn lines mid new rest (replies_stay_storable f laws old mid line bytes s said) more
+      in_turn lines mid new rest (reply_storable old mid line bytes s said) more
 
   pub ends_storable : (quit : Line → Bool) (end : End) (old new : Point (Option (History P))) → IsNoneOrStorable f old.session
-      → Ends (Reply f) quit end old new → IsNoneOrStorable f new.session
+      → Ends reply quit end old new → IsNoneOrStorable f new.session
   ends_storable quit Finished old new s (r, w, (read, were, inl (all, served))) = in_turn _ old.session new.session served.0 s served.1
   ends_storable quit Finished old new s (r, w, (read, were, inr (has, served))) = in_turn _ old.session new.session served.0 s served.1
   ends_storable quit ReadFault old new s (w, (read, were, why, has, served)) = in_turn _ old.session new.session served.0 s served.1
   ends_storable quit WriteFault old new s (r, w, (read, were, inl (all, b))) =
-      replies_stay_storable f laws b.mid.session new.session b.line b.bytes (in_turn _ old.session b.mid.session b.served.0 s b.served.1) b.said
+      reply_storable b.mid.session new.session b.line b.bytes (in_turn _ old.session b.mid.session b.served.0 s b.served.1) b.said
   ends_storable quit WriteFault old new s (r, w, (read, were, inr b)) =
-      replies_stay_storable f laws b.mid.session new.session b.line b.bytes (in_turn _ old.session b.mid.session b.served.0 s b.served.1) b.said
+      reply_storable b.mid.session new.session b.line b.bytes (in_turn _ old.session b.mid.session b.served.0 s b.served.1) b.said

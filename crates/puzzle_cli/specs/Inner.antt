@@ -2,6 +2,4 @@
 pub mod Answers
 pub mod CommandReading
 pub mod LineBuffer
-pub mod Machines
 pub mod Steps
-pub mod Text

@@ -1,6 +1,6 @@
 -- What the contracts of this crate cite. A line and its command: Lines, Commands; what is said and left: GameFacts, NewSessions,
--- SessionReplies, Replies; the run: Runs; its laws: RunLaws; the program: Starts, Programs. The others are texts and faults, and Inner
--- the words of private steps.
+-- SessionReplies, Replies; in other words: Voices; the run: Texts, Machines, Runs; its laws: RunLaws; the program: Starts, Programs.
+-- The others are texts and faults, and Inner the words of private steps.
 pub mod Symbols
 pub mod TowersPicture
 pub mod UnequalPicture
@@ -21,6 +21,9 @@ pub mod Runs
 pub mod StartFault
 pub mod Starts
 pub mod Faults
+pub mod Texts
+pub mod Machines
+pub mod Voices
 pub mod Programs
 pub mod RunLaws
 pub mod Inner

@@ -1,4 +1,4 @@
--- The program: a game from the words of its command line to the file that it is saved to.
+-- The program: a game from the words of its command line to the file that it is saved to, over what may be said to a line (`reply`).
 use Rattle.std.specs.Prelude.{◌≡◌, ◌⊎◌, ℕ, Bool, true, false, List, Option, Some, None, Ok, String, string_bytes}
 use Rattle.std.specs.Global.{Global}
 use Rattle.std.specs.Option.{IsSomeAnd}
@@ -10,6 +10,7 @@ use Rattle.puzzle_cli.specs.declared.fault.Fault.TheVariants.{LoadFile, SaveFile
 use Rattle.puzzle_cli.specs.declared.run_end.End.{End}
 use Rattle.puzzle_cli.specs.declared.run_end.End.TheVariants.{Finished}
 use Rattle.puzzle_cli.specs.declared.start.command_line.Args.{Args}
+use Rattle.puzzle_cli.specs.Lines.{ReplyRule}
 use Rattle.puzzle_cli.specs.Commands.{is_quit}
 use Rattle.puzzle_cli.specs.GameFacts.{GameFacts}
 use Rattle.puzzle_cli.specs.NewSessions.{TextBegins}
@@ -40,6 +41,14 @@ IsUnread reads path fault =
 
 -- ---- the game
 
+-- what may be said to a line of a game
+abbrev pub GameReply : Type 0 → Type 1
+GameReply P = ReplyRule (Option (History P))
+
+-- the devices, as a point that lacks its session
+abbrev pub Devices : Type 0 → Type 0
+Devices P = Option (History P) → Point (Option (History P))
+
 -- the first session: the new one of the ID, the one that the file's bytes are a save of, or none where neither is there
 abbrev pub IsFirst : {P : Type 0} → GameFacts P → Option Word → Option (List ℕ) → Option (History P) → Type 0
 IsFirst f (Some id) bytes first = IsSomeAnd first (λ h. TextBegins f (string_bytes id) (Ok h))
@@ -47,10 +56,10 @@ IsFirst f None (Some bytes) first = IsSomeAnd first (λ h. SaveText (saved_facts
 IsFirst f None None first = first ≡ None
 
 -- a run between two points that finished, and left a session that can be stored, or none
-pub record IsFinished {P : Type 0} (f : GameFacts P) (old new : Point (Option (History P))) : Type 0 where
+pub record IsFinished {P : Type 0} (f : GameFacts P) (reply : GameReply P) (old new : Point (Option (History P))) : Type 0 where
   pub end : End
   pub finished : end ≡ Finished
-  pub ends : Ends (Reply f) is_quit end old new
+  pub ends : Ends reply is_quit end old new
   pub storable : IsNoneOrStorable f new.session
 
 -- the text to be saved of the session that is left: none where there is none, or the words name no file to save to
@@ -59,16 +68,12 @@ text_to_save f (Some path) (Some h) = Some (save_of f.title f.desc_of h)
 text_to_save f (Some path) None = None
 text_to_save f None last = None
 
--- the devices, as a point that lacks its session
-abbrev pub Devices : Type 0 → Type 0
-Devices P = Option (History P) → Point (Option (History P))
-
 -- the game ran from its first session on and finished, and this is the text to be saved
-pub record IsPlayed {P : Type 0} (f : GameFacts P) (id : Option Word) (bytes : Option (List ℕ)) (path : Option Word)
-    (old new : Devices P) (text : Option (List ℕ)) : Type 0 where
+pub record IsPlayed {P : Type 0} (f : GameFacts P) (reply : GameReply P) (id : Option Word) (bytes : Option (List ℕ))
+    (path : Option Word) (old new : Devices P) (text : Option (List ℕ)) : Type 0 where
   pub first : Option (History P)
   pub last : Option (History P)
-  pub run : IsFinished f (old first) (new last)
+  pub run : IsFinished f reply (old first) (new last)
   pub begins : IsFirst f id bytes first
   pub told : text ≡ text_to_save f path last
 
@@ -92,9 +97,14 @@ IsUnsaved writes path text fault = ((fault ≡ SaveFile) ⊎ (fault ≡ OutOfMem
 -- ---- all of it
 
 -- the file was read, the game was played and finished, and its text was saved, each where there is one
-pub record IsDone {P : Type 0} (f : GameFacts P) (reads : Reads) (writes : Writes) (args : Args) (old new : Devices P) : Type 0 where
+pub record IsDoneBy {P : Type 0} (f : GameFacts P) (reply : GameReply P) (reads : Reads) (writes : Writes) (args : Args)
+    (old new : Devices P) : Type 0 where
   pub bytes : Option (List ℕ)
   pub text : Option (List ℕ)
-  pub played : IsPlayed f args.id bytes args.save old new text
+  pub played : IsPlayed f reply args.id bytes args.save old new text
   pub loaded : IsLoaded reads args.load bytes
   pub saved : IsSaved writes args.save text
+
+-- all of it, where the replies are the plain ones
+abbrev pub IsDone : {P : Type 0} → GameFacts P → Reads → Writes → Args → Devices P → Devices P → Type 0
+IsDone f reads writes args old new = IsDoneBy f (Reply f) reads writes args old new

@@ -7,6 +7,9 @@
 //! [`play`] is a whole game: from what the words of a command line say, over the file to load and a run, to the file that it is
 //! saved to. It knows files by the trait [`GameFiles`].
 //!
+//! Both answer plainly. [`run_with`] and [`play_with`] answer in any manner, which is a [`Voice`]; [`Plain`] is that of [`run`] and [`play`]. The loop
+//! over lines alone, for any [`Machine`], is [`run_machine`].
+//!
 //! A reply is made whole before its first byte is written. A refused line leaves the session as it was. [`laws`] has what holds
 //! of the replies in turn: `undo` and `redo`, refusals, that each reply is a step of the session's own calls, that what `save`
 //! answers loads back, and that a game begun from a seed has one solution.
@@ -29,19 +32,26 @@ mod run_laws;
 mod session_run;
 mod start;
 mod view;
+mod voice;
 
 pub use command::line_fault::LineFault;
 pub use draw::{Draw, picture};
 pub use fault::Fault;
+pub use line::line_loop::run_machine;
+pub use line::machine::{Machine, Response};
 pub use program::game_files::GameFiles;
-pub use program::play;
+pub use program::{play, play_with};
+pub use reply::facts::Facts;
+pub use reply::text::Text;
 pub use run_end::End;
 pub use run_laws::laws;
-pub use session_run::run;
+pub use session_run::{run, run_with};
 pub use start::begin;
 pub use start::command_fault::CommandFault;
-pub use start::command_line::{Args, GameName, read_words};
+pub use start::command_line::{Args, GameName, read_words, read_words_of};
+pub use start::program_texts::{PUZZLES, ProgramTexts};
 pub use start::start_fault::StartFault;
 pub use view::done_clues::done_text;
 pub use view::pencil_marks::marks_text;
 pub use view::status::status_text;
+pub use voice::{Plain, Voice};

@@ -9,6 +9,8 @@ use crate::draw::Draw;
 use crate::line::line_loop::run_machine;
 use crate::reply::facts::Facts;
 use crate::run_end::End;
+use crate::voice::spoken::Spoken;
+use crate::voice::{Plain, Voice};
 use play_midend::Session;
 use puzzle_io::{Sink, Source};
 use std::alloc::Global;
@@ -43,7 +45,29 @@ pub fn run<P: Draw, R: Source, W: Sink>(
     ensures flushed { W.flushed sink.old ≡ W.taken sink.old → result.1 ≢ End.WriteFault
         → W.flushed sink.new ≡ W.taken sink.new }
 {
-    let mut session = session;
-    let end = run_machine(alloc, &mut session, source, sink);
-    (session, end)
+    run_with::<Plain, P, R, W>(alloc, session, source, sink)
+}
+
+/// Does so in any manner: as [`run`], whose manner is [`Plain`].
+///
+/// Neither device has failed before.
+pub fn run_with<V: Voice<P>, P: Draw, R: Source, W: Sink>(
+    alloc: Global,
+    session: Option<Session<P>>,
+    source: &mut R,
+    sink: &mut W,
+) -> (Option<Session<P>>, End)
+    requires source { R.has_failed source.old ≡ false }
+    requires sink { W.has_failed sink.old ≡ false }
+    ensures storable { IsNoneOrStorable ⟦<P as Facts>⟧.facts session
+        → IsNoneOrStorable ⟦<P as Facts>⟧.facts result.0 }
+    ensures ends { Ends V.reply is_quit result.1
+        (point_at R.Source W.Sink session source.old sink.old)
+        (point_at R.Source W.Sink result.0 source.new sink.new) }
+    ensures flushed { W.flushed sink.old ≡ W.taken sink.old → result.1 ≢ End.WriteFault
+        → W.flushed sink.new ≡ W.taken sink.new }
+{
+    let mut machine = Spoken::<V, P>::new(session);
+    let end = run_machine(alloc, &mut machine, source, sink);
+    (machine.into_session(), end)
 }

@@ -11,6 +11,7 @@ ghost use Rattle.puzzle_cli.specs.Starts.{saved_facts, IsFileRefusal};
 pub(crate) mod command_fault;
 pub(crate) mod command_line;
 pub(crate) mod help;
+pub(crate) mod program_texts;
 pub(crate) mod start_fault;
 
 use crate::draw::Draw;

@@ -1,5 +1,6 @@
 -- Lemmas on masks, and on what both passes over the masks of a line find.
 pub mod BackLemmas
+pub mod CheckLemmas
 pub mod FrontLemmas
 pub mod KeptLemmas
 pub mod MaskBits
@@ -8,3 +9,4 @@ pub mod MaskLemmas
 pub mod NextValues
 pub mod SeenLemmas
 pub mod StartLemmas
+pub mod WholeLines

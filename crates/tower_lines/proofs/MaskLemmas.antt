@@ -16,7 +16,7 @@ use Rattle.number_sets.proofs.Members.{has_number-none, below_from_number, below
 use Rattle.tower_lines.proofs.SeenLemmas.{seen-append}
 use Rattle.tower_lines.proofs.StartLemmas.{start_next}
 
-is_in-push : (p : List ℕ) (x y : ℕ) → is_in y (p ++ x ∷ []) ≡ (is_in y p || eqb x y)
+pub is_in-push : (p : List ℕ) (x y : ℕ) → is_in y (p ++ x ∷ []) ≡ (is_in y p || eqb x y)
 is_in-push p x y = list_any-append (λ z. eqb z y) p (x ∷ []) ∙ ap (λ b. is_in y p || b) (or-false (eqb x y))
 
 pub is_in-push_same : (p : List ℕ) (k : ℕ) → is_in (k + 1) (p ++ (k + 1) ∷ []) ≡ true

@@ -1,13 +1,15 @@
 //! The values that each square of a line with a clue can take.
 
-ghost use Rattle.std.specs.Prelude.{◌≡◌, ℕ, ◌+◌, ◌^◌, ◌<◌, ◌≤◌, ◌↔◌, true, bit_or, length, replicate, slice_index, slice_set};
+ghost use Rattle.std.specs.Prelude.{◌≡◌, ℕ, ◌+◌, ◌^◌, ◌<◌, ◌≤◌, ◌↔◌, true, bit_or, length, replicate, slice_index, slice_set, IsTrue, List};
 ghost use Rattle.number_sets.specs.Sets.{has_number, no_numbers};
-ghost use Rattle.tower_lines.specs.LineFillings.{IsSupported};
+ghost use Rattle.tower_lines.specs.LineFillings.{IsFilling, IsSupported};
 ghost use Rattle.tower_lines.specs.Inner.LineMasks.{AreFrontCounts, AreDoneBelow, AreBackCounts, AreKeptValues};
 
 use crate::counts::{
     add_counts, counts_of, first_counts, lowered, no_counts, raised_up_to, value_if_shared,
 };
+use crate::likely_lines::likely_line;
+use crate::line_checks::is_filling;
 use crate::masks::{candidates_of, is_tower, lowest, next_values};
 use number_sets::NumberSet;
 
@@ -31,6 +33,28 @@ pub fn supported(sets: &[NumberSet], clue: u8) -> [NumberSet; 9]
         back[mask] = counts_after(sets, clue, &front, &back, mask, &mut kept);
     }
     kept
+}
+
+/// Whether a line has a filling: as for `supported`, which would keep some value in each square.
+///
+/// A likely line tells it at once where it is a filling, and else the first pass does.
+pub fn has_filling(sets: &[NumberSet], clue: u8) -> bool
+    requires short { length sets.now ≤ 9 }
+    requires clue { clue ≤ 9 }
+    ensures { IsTrue result ↔ ((line : List ℕ) × IsFilling sets.now clue line) }
+{
+    let likely = likely_line(sets, clue);
+    is_filling(sets, clue, &likely[..sets.len()]) || is_counted(sets, clue)
+}
+
+/// Whether a line has a filling, by the first pass alone.
+fn is_counted(sets: &[NumberSet], clue: u8) -> bool
+    requires short { length sets.now ≤ 9 }
+    requires clue { clue ≤ 9 }
+    ensures { IsTrue result ↔ ((line : List ℕ) × IsFilling sets.now clue line) }
+{
+    let front = counts_before(sets, clue);
+    counts_of(&front, (1 << sets.len()) - 1).has(clue)
 }
 
 // No value for any square.

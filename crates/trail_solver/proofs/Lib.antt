@@ -6,7 +6,9 @@ pub mod SquareSets
 pub mod Earlier
 pub mod SolutionTests
 pub mod OneKept
+pub mod Fronts
 pub mod FilledGrids
+pub mod GridCandidates
 pub mod AmongCandidates
 pub mod JoinedAnswers
 pub mod SearchSteps

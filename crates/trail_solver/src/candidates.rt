@@ -3,6 +3,7 @@ ghost use Rattle.std.specs.Prelude.{◌≡◌, ℕ, ◌-◌, ◌*◌, ◌<◌, �
 ghost use Rattle.latin_board.specs.declared.grid.TheConstants.{CELLS};
 ghost use Rattle.trail_solver.specs.Pairs.{IsPair, with_pair};
 ghost use Rattle.trail_solver.specs.Candidates.{CandidatesValue, IsCandidates, IsSetOf, IsOnly, IsEarlier, may_be};
+ghost use Rattle.trail_solver.specs.Replays.{IsNext};
 ghost use Rattle.trail_solver.specs.Inner.Fields.{FlipsValue};
 
 use arrayvec::ArrayVec;
@@ -161,6 +162,18 @@ impl Candidates {
         while self.trail_len() > mark.len() {
             self.undo();
         }
+    }
+
+    /// Removes the pair that the later candidates lost next, and tells its square; `None` where they lost no more. These
+    /// candidates are as the later ones once were.
+    pub fn follow(&mut self, later: &Candidates) -> Option<usize>
+        requires { IsEarlier self.old later.now }
+        ensures { MatchOption result ((self.old ≡ later.now) × (self.new ≡ later.now))
+            (IsNext later.now self.old self.new) }
+    {
+        let (cell, value) = *later.trail.get(self.trail_len())?;
+        self.remove(cell as usize, value);
+        Some(cell as usize)
     }
 
     // Gives back the last pair of the trail.

@@ -2,8 +2,9 @@
 //!
 //! `Candidates` has a bit set for each square and a trail of what was removed, so a guess is taken back without a copy.
 //! A game writes `Rules`: its size, givens and clues, how it narrows candidates, and the laws that generic code builds
-//! on. Of that alone `solves` tells whether a grid is a solution, `solve` whether there are none, one or several, and
-//! `solutions` lists the first of them in order. Only `solutions` takes memory.
+//! on. Of that alone `solves` tells whether a grid is a solution, `solve` whether there are none, one or several,
+//! `completion` the same of those that keep what stands on a grid, and `solutions` lists the first of them in order. Only
+//! `solutions` takes memory.
 //!
 //! ```
 //! match solve(&puzzle) {
@@ -17,6 +18,7 @@
 mod answer;
 mod candidates;
 mod choice;
+mod completions;
 mod failures;
 mod listing;
 mod place_counts;
@@ -28,6 +30,7 @@ mod squares;
 
 pub use answer::Answer;
 pub use candidates::{Candidates, Mark};
+pub use completions::{completion, grid_candidates};
 pub use listing::{MOST_LISTED, solutions};
 pub use rules::{Rules, solves};
 pub use solver::solve;

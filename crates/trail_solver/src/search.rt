@@ -7,7 +7,7 @@ ghost use Rattle.trail_solver.specs.Candidates.{IsWithin};
 ghost use Rattle.trail_solver.specs.Inner.Squares.{AreSettled, IsBranch};
 ghost use Rattle.trail_solver.specs.Inner.Among.{IsAmong, IsAmongAt};
 ghost use Rattle.trail_solver.specs.Puzzles.{Solves};
-ghost use Rattle.trail_solver.specs.Solutions.{HasNoSolution};
+ghost use Rattle.trail_solver.specs.Solutions.{HasNoSolution, HasNoSolutionWithin};
 ghost use Rattle.trail_solver.specs.Inner.Searches.{AreSame, IsFurther};
 ghost use Rattle.trail_solver.specs.Inner.Added.{Adds};
 ghost use Rattle.trail_solver.specs.Answers.{Fits};
@@ -49,7 +49,18 @@ impl<P: Rules> Search<P> {
             (λ s. (s.rules ≡ p.now) × ((g : GridValue) → Solves (P.puzzle p.now) g
             → IsWithin s.candidates g)) }
     {
-        let mut candidates = Candidates::all(p.size());
+        Search::start_among(p, Candidates::all(p.size()))
+    }
+
+    /// The search among these candidates at its start, or `None` where narrowing finds that no solution is among them; the
+    /// sizes are equal.
+    pub fn start_among(p: &P, candidates: Candidates) -> Option<Search<P>>
+        requires { candidates.size ≡ (P.puzzle p.now).size }
+        ensures { MatchOption result (HasNoSolutionWithin (P.puzzle p.now) candidates)
+            (λ s. (s.rules ≡ p.now) × AreSame (IsAmong (P.puzzle p.now) candidates)
+            (IsAmong (P.puzzle p.now) s.candidates)) }
+    {
+        let mut candidates = candidates;
         if !p.narrow(&mut candidates) {
             return None;
         }

@@ -2,7 +2,7 @@
 
 use number_sets::NumberSet;
 use std::process::Abort;
-use tower_lines::{seen, supported};
+use tower_lines::{has_filling, seen, supported};
 
 // The sets of a line of w squares, each with every number from 1 to w, as bits.
 const THREE: [u16; 3] = [0b1110; 3];
@@ -110,4 +110,26 @@ fn nine_squares(rt: HostRuntime) {
         1 << 9,
     ];
     compare(&rt, &[(&NINE, 9, rising)]);
+}
+
+#[test]
+fn lines_have_fillings(rt: HostRuntime) {
+    let any = NumberSet::up_to(3);
+    let one = NumberSet::one(1);
+    let two = NumberSet::one(2);
+    // A line's sets, its clue, and whether it has a filling.
+    let rows = [
+        ([any, any, any], 0, false),
+        ([any, any, any], 1, true),
+        ([any, any, any], 3, true),
+        ([any, any, any], 4, false),
+        ([two, any, any], 1, false),
+        ([two, any, any], 2, true),
+        ([two, any, any], 3, false),
+        ([one, one, any], 2, false),
+    ];
+    for (sets, clue, wanted) in rows {
+        assert!(rt; clue <= 9);
+        assert_eq!(rt; has_filling(&sets, clue), wanted, "{clue}");
+    }
 }

@@ -1,7 +1,8 @@
 //! Clues, rules and items of Towers at worked puzzles.
 
 use super::worked::{full_of, has, holds, square, without};
-use clue_rules::{Game, IdFault, Towers};
+use clue_rules::{Game, IdFault, Towers, view_cell};
+use latin_board::Size;
 use std::test::Fail;
 use trail_solver::Rules;
 
@@ -96,6 +97,26 @@ fn equal_puzzles_have_one_written_form(rt: HostRuntime) -> Result<(), Fail> {
     let clues = [3, 0, 0, 0, 0, 0, 3, 0, 0, 0, 0, 0];
     for (place, wanted) in (0..12).zip(clues) {
         assert_eq!(rt; clue(&copy, place), wanted, "{place}");
+    }
+    Ok(())
+}
+
+#[test]
+fn looks_along_lines(rt: HostRuntime) -> Result<(), Fail> {
+    let size = Size::new(3).ok_or("no such size")?;
+    // An edge place, and the squares from there.
+    let rows = [
+        (1, [1, 4, 7]),
+        (4, [7, 4, 1]),
+        (8, [6, 7, 8]),
+        (9, [2, 1, 0]),
+    ];
+    for (place, cells) in rows {
+        assert!(rt; place < 4 * size.get());
+        for k in 0..3 {
+            assert!(rt; k < size.get() as usize);
+            assert_eq!(rt; view_cell(size, place, k), cells[k], "{place}");
+        }
     }
     Ok(())
 }

@@ -9,8 +9,11 @@ use latin_board::Size;
 /// How many squares the longest line has.
 pub(crate) const LINE: usize = 9;
 
-/// The k-th square from an edge place.
-pub(crate) fn view_cell(size: Size, place: u8, k: usize) -> usize
+/// The k-th square from an edge place, counted from 0, of which there are as many as the width; the place is below four
+/// times that.
+///
+/// Places are numbered in description order, as `latin_board::edge_place` does.
+pub fn view_cell(size: Size, place: u8, k: usize) -> usize
     requires place { place < 4 * size }
     requires inside { k < size }
     ensures value { result ≡ view_cell size place k }

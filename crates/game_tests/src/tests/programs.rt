@@ -33,8 +33,8 @@ MOVE    :6:R1,0,2
 
 /// Files that give one text, at `old.sav`, and take one, at `new.sav`.
 #[derive(Drop)]
-struct TwoFiles {
-    alloc: Global,
+pub(crate) struct TwoFiles {
+    pub alloc: Global,
 }
 
 impl GameFiles for TwoFiles {

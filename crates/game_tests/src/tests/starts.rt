@@ -2,7 +2,9 @@
 
 use clue_rules::{Game, Towers, Unequal};
 use play_midend::Session;
-use puzzle_cli::{Args, CommandFault, Draw, GameName, StartFault, begin, read_words};
+use puzzle_cli::{
+    Args, CommandFault, Draw, GameName, ProgramTexts, StartFault, begin, read_words, read_words_of,
+};
 use std::alloc::Global;
 use std::process::Abort;
 use std::test::Fail;
@@ -90,8 +92,8 @@ fn words_that_are_refused(rt: HostRuntime) {
     );
 }
 
-fn check_help(rt: &impl Abort, alloc: Global, word: &str, part: &str) {
-    match read_words(alloc, &["puzzles", word]) {
+fn check_help(rt: &impl Abort, read: Result<Args, CommandFault>, part: &str) {
+    match read {
         Err(fault) => {
             assert_eq!(rt; fault.number(), 2);
             assert_eq!(rt; fault.name(), "HelpAsked");
@@ -101,17 +103,42 @@ fn check_help(rt: &impl Abort, alloc: Global, word: &str, part: &str) {
                 _ => assert!(rt; false, "help is a text"),
             }
         }
-        Ok(_) => assert!(rt; false, "{word}"),
+        Ok(_) => assert!(rt; false, "no help, but a game"),
     }
 }
 
 #[test]
 fn words_that_ask_for_help(rt: HostRuntime) {
     let alloc = rt.alloc();
-    check_help(&rt, alloc, "--help", "Usage: puzzles");
-    check_help(&rt, alloc, "-h", "Usage: puzzles");
-    check_help(&rt, alloc, "--version", "puzzles 1.0");
-    check_help(&rt, alloc, "-V", "puzzles 1.0");
+    for (word, part) in [
+        ("--help", "Usage: puzzles"),
+        ("-h", "Usage: puzzles"),
+        ("--version", "puzzles 1.0"),
+        ("-V", "puzzles 1.0"),
+    ] {
+        check_help(&rt, read_words(alloc, &["puzzles", word]), part);
+    }
+}
+
+#[test]
+fn words_of_another_program(rt: HostRuntime) -> Result<(), Fail> {
+    let alloc = rt.alloc();
+    let texts = ProgramTexts {
+        name: "dots",
+        about: "Towers and Unequal in dots",
+        more_help: "Each reply is a dot.",
+    };
+    for (word, part) in [
+        ("--help", "Usage: dots"),
+        ("--help", "Towers and Unequal in dots"),
+        ("--help", "Each reply is a dot."),
+        ("--version", "dots 1.0"),
+    ] {
+        check_help(&rt, read_words_of(alloc, &texts, &["dots", word]), part);
+    }
+    let args = read_words_of(alloc, &texts, &["dots", "towers"])?;
+    check_args(&rt, &args, GameName::Towers, None, None, None);
+    Ok(())
 }
 
 fn begun<P: Draw>(

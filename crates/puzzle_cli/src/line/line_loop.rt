@@ -32,7 +32,9 @@ enum Flow {
 }
 
 /// Answers the lines of the source, up to the first that quits, and writes each reply to the sink and flushes it.
-pub(crate) fn run_machine<M: Machine, R: Source, W: Sink>(
+///
+/// Lines are cut and a run ends as [`run`](crate::run) says. Neither device has failed before.
+pub fn run_machine<M: Machine, R: Source, W: Sink>(
     alloc: Global,
     machine: &mut M,
     source: &mut R,

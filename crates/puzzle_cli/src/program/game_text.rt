@@ -10,17 +10,18 @@ use crate::draw::Draw;
 use crate::fault::Fault;
 use crate::reply::facts::Facts;
 use crate::run_end::End;
-use crate::session_run::run;
+use crate::session_run::run_with;
 use crate::start::begin;
 use crate::start::command_line::Args;
 use crate::start::start_fault::StartFault;
+use crate::voice::Voice;
 use play_midend::Session;
 use play_save::save;
 use puzzle_io::{Sink, Source};
 use std::alloc::Global;
 
-/// Plays a game from the session of the ID or of the file's bytes on, or from none, and gives the text to be saved.
-pub(crate) fn game_text<P: Draw, R: Source, W: Sink>(
+/// Plays a game in this manner, from the session of the ID or of the file's bytes on, or from none, and gives the text to be saved.
+pub(crate) fn game_text<V: Voice<P>, P: Draw, R: Source, W: Sink>(
     alloc: Global,
     args: &Args,
     bytes: &Option<Vec<u8>>,
@@ -29,7 +30,7 @@ pub(crate) fn game_text<P: Draw, R: Source, W: Sink>(
 ) -> Result<Option<Vec<u8>>, Fault>
     requires source { R.has_failed source.old ≡ false }
     requires sink { W.has_failed sink.old ≡ false }
-    ensures played { IfOk result (λ text. IsPlayed ⟦<P as Facts>⟧.facts args.now.id
+    ensures played { IfOk result (λ text. IsPlayed ⟦<P as Facts>⟧.facts V.reply args.now.id
         (option_map vec_items bytes.now) args.now.save
         (λ session. point_at R.Source W.Sink session source.old sink.old)
         (λ session. point_at R.Source W.Sink session source.new sink.new)
@@ -39,7 +40,7 @@ pub(crate) fn game_text<P: Draw, R: Source, W: Sink>(
         → W.flushed sink.new ≡ W.taken sink.new) }
 {
     let first = first_session::<P>(alloc, &args.id, bytes)?;
-    let last = run_game::<P, R, W>(alloc, first, source, sink)?;
+    let last = run_game::<V, P, R, W>(alloc, first, source, sink)?;
     let text = text_of(alloc, &last, &args.save)?;
     Ok(text)
 }
@@ -61,8 +62,8 @@ fn first_session<P: Draw>(
     }
 }
 
-// Runs the game, and gives the session that is left.
-fn run_game<P: Draw, R: Source, W: Sink>(
+// Runs the game in this manner, and gives the session that is left.
+fn run_game<V: Voice<P>, P: Draw, R: Source, W: Sink>(
     alloc: Global,
     first: Option<Session<P>>,
     source: &mut R,
@@ -71,14 +72,14 @@ fn run_game<P: Draw, R: Source, W: Sink>(
     requires storable { IsNoneOrStorable ⟦<P as Facts>⟧.facts first }
     requires source { R.has_failed source.old ≡ false }
     requires sink { W.has_failed sink.old ≡ false }
-    ensures finished { IfOk result (λ last. IsFinished ⟦<P as Facts>⟧.facts
+    ensures finished { IfOk result (λ last. IsFinished ⟦<P as Facts>⟧.facts V.reply
         (point_at R.Source W.Sink first source.old sink.old)
         (point_at R.Source W.Sink last source.new sink.new)) }
     ensures status { IfErr result (λ fault. fault_status fault ≢ 0) }
     ensures flushed { OnOk result (W.flushed sink.old ≡ W.taken sink.old
         → W.flushed sink.new ≡ W.taken sink.new) }
 {
-    let (last, end) = run::<P, R, W>(alloc, first, source, sink);
+    let (last, end) = run_with::<V, P, R, W>(alloc, first, source, sink);
     match end {
         End::Finished => Ok(last),
         End::ReadFault | End::WriteFault => Err(Fault::Run(end)),

@@ -2,17 +2,17 @@
 ghost use Rattle.std.specs.Prelude.{◌≡◌, Some, Ok, IfOk, IfErr, OnErr};
 ghost use Rattle.std.specs.Option.{option_copied};
 ghost use Rattle.play_save.specs.Written.{save_of};
-ghost use Rattle.puzzle_cli.specs.Inner.Text.{text_bytes};
+ghost use Rattle.puzzle_cli.specs.Texts.{text_bytes};
 ghost use Rattle.puzzle_cli.specs.Commands.{is_quit, action_copied, request_copied, IsInRange};
 ghost use Rattle.puzzle_cli.specs.SessionReplies.{id_line, view_text, ViewTakesMemory, RequestGives, RequestTakesMemory};
 ghost use Rattle.puzzle_cli.specs.Replies.{Reply, Explains};
 ghost use Rattle.puzzle_cli.specs.Inner.Answers.{IsLineReply, IsLineRefusal, ActionAnswered};
-ghost use Rattle.puzzle_cli.specs.Inner.Machines.{IsResponse};
+ghost use Rattle.puzzle_cli.specs.Machines.{IsResponse};
 
 use crate::command::line_fault::LineFault;
 use crate::command::{Action, Command, Request, View, read_command};
 use crate::draw::{Draw, picture};
-use crate::line::machine::{Machine, Response};
+use crate::line::machine::Response;
 use crate::reply::facts::Facts;
 use crate::reply::new_session::new_session;
 use crate::reply::refusal::Refusal;
@@ -22,19 +22,20 @@ use crate::reply::text::Text;
 use crate::view::done_clues::done_text;
 use crate::view::pencil_marks::marks_text;
 use crate::view::status::status_text;
+use crate::voice::{Plain, Voice};
 use clue_rules::Game;
 use latin_board::OutOfMemory;
 use play_midend::{PlayFault, Session, read_move};
 use play_save::save;
 use std::alloc::Global;
 
-impl<P: Draw> Machine for Option<Session<P>> {
+impl<P: Draw> Voice<P> for Plain {
     ghost reply = { Reply ⟦<P as Facts>⟧.facts };
 
-    ghost is_quit = { is_quit };
+    ghost leaves_as_plain = { λ _ _ _ bytes said. (bytes, said) };
 
-    fn answer(&mut self, alloc: Global, line: Option<&[u8]>) -> Response {
-        match obey(alloc, self, line) {
+    fn answer(alloc: Global, session: &mut Option<Session<P>>, line: Option<&[u8]>) -> Response {
+        match obey(alloc, session, line) {
             Ok(answer) => answer,
             Err(refusal) => Response::Reply(Text::refused(refusal.name())),
         }

@@ -4,7 +4,7 @@ use crate::draw::Draw;
 use trail_solver::Rules;
 
 /// The facts of a game by which replies are told. It has no call, since contracts alone name it.
-pub(crate) trait Facts {
+pub trait Facts {
     ghost use Rattle.puzzle_cli.specs.GameFacts.{GameFacts};
 
     ghost facts: { GameFacts Self };

@@ -1,7 +1,7 @@
 //! What `solve` makes of a session, and what is said of it.
 ghost use Rattle.std.specs.Prelude.{◌≡◌, Some, None, Err, IfOk, IfErr, OnOk};
 ghost use Rattle.play_midend.specs.declared.fault.PlayFault.{PlayFault};
-ghost use Rattle.puzzle_cli.specs.Inner.Text.{text_bytes};
+ghost use Rattle.puzzle_cli.specs.Texts.{text_bytes};
 ghost use Rattle.latin_board.specs.Squares.{GridValue};
 ghost use Rattle.puzzle_cli.specs.SolutionTexts.{move_line, solve_sentence, EndsInSolution, IsLastMove};
 

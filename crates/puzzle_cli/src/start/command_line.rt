@@ -7,7 +7,7 @@ ghost use Rattle.clap.specs.Words.{first_value, found_of};
 ghost use Rattle.puzzle_cli.specs.CommandLine.{game_word, NotBoth};
 
 use crate::start::command_fault::CommandFault;
-use crate::start::help::MORE_HELP;
+use crate::start::program_texts::{PUZZLES, ProgramTexts};
 use clap::error::ErrorKind;
 use clap::{Arg, ArgMatches, Command};
 use std::alloc::{AllocError, Global};
@@ -32,8 +32,6 @@ pub struct Args {
     pub save: Option<String>,
 }
 
-const PROGRAM: &str = "puzzles";
-
 const GAME: &str = "game";
 
 const ID: &str = "id";
@@ -43,8 +41,6 @@ const LOAD: &str = "load";
 const SAVE: &str = "save";
 
 static GAMES: [&str; 2] = ["towers", "unequal"];
-
-static NO_WORDS: [&str; 1] = [PROGRAM];
 
 /// Reads the words of a command line, `puzzles GAME [--id ID] [--load FILE] [--save FILE]`.
 ///
@@ -56,22 +52,48 @@ static NO_WORDS: [&str; 1] = [PROGRAM];
 pub fn read_words(alloc: Global, words: &[&str]) -> Result<Args, CommandFault>
     ensures { IfOk result (λ args. NotBoth args.id args.load) }
 {
-    match parse(alloc, words) {
+    read_words_of(alloc, &PUZZLES, words)
+}
+
+/// Reads the words of a command line as [`read_words`] does, for a program whose help and version say these texts.
+///
+/// `BadWords`, `HelpAsked` and `OutOfMemory` as there.
+pub fn read_words_of(
+    alloc: Global,
+    texts: &ProgramTexts,
+    words: &[&str],
+) -> Result<Args, CommandFault>
+    ensures { IfOk result (λ args. NotBoth args.id args.load) }
+{
+    if words.is_empty() {
+        return read_some_words(alloc, texts, &[texts.name]);
+    }
+    read_some_words(alloc, texts, words)
+}
+
+// Reads words that begin with the program's name.
+fn read_some_words(
+    alloc: Global,
+    texts: &ProgramTexts,
+    words: &[&str],
+) -> Result<Args, CommandFault>
+    ensures { IfOk result (λ args. NotBoth args.id args.load) }
+{
+    match parse(alloc, texts, words) {
         Ok(matches) => args_of(alloc, &matches),
         Err(error) => Err(fault_of(alloc, &error)),
     }
 }
 
-fn parse<'a>(alloc: Global, words: &'a [&'a str]) -> Result<ArgMatches<'a>, clap::Error> {
-    let command_line = command_line(alloc)?;
-    if words.is_empty() {
-        command_line.try_get_matches_from(NO_WORDS.as_slice())
-    } else {
-        command_line.try_get_matches_from(words)
-    }
+fn parse<'a>(
+    alloc: Global,
+    texts: &ProgramTexts,
+    words: &'a [&'a str],
+) -> Result<ArgMatches<'a>, clap::Error> {
+    command_line(alloc, texts)?.try_get_matches_from(words)
 }
 
-fn command_line<'a>(alloc: Global) -> Result<Command<'a>, AllocError> {
+fn command_line<'a>(alloc: Global, texts: &ProgramTexts) -> Result<Command<'a>, AllocError> {
     let game = Arg::new(alloc, GAME)
         .value_name("GAME")
         .required(true)
@@ -89,13 +111,11 @@ fn command_line<'a>(alloc: Global) -> Result<Command<'a>, AllocError> {
     let save = Arg::new(alloc, SAVE).long("save").value_name("FILE").help(
         "Save the session to this file once the commands are at their end",
     );
-    Command::new(alloc, PROGRAM)
-        .bin_name(PROGRAM)?
+    Command::new(alloc, texts.name)
+        .bin_name(texts.name)?
         .version("1.0")
-        .about(
-            "Towers and Unequal, two puzzles played by commands, one a line, from standard input",
-        )
-        .after_help(MORE_HELP)
+        .about(texts.about)
+        .after_help(texts.more_help)
         .arg(game)?
         .arg(id)?
         .arg(load)?

@@ -1,5 +1,5 @@
 -- What the masks of used values say of a line's starts, which stand beside them as lists.
-use Rattle.std.specs.Prelude.{◌≡◌, ℕ, ◌+◌, ◌^◌, ◌<◌, ◌≤◌, Bool, true, not, ◌&&◌, nat_lt, List, [], ◌∷◌, ◌++◌, length, slice_index, ◌==◌, count_ones}
+use Rattle.std.specs.Prelude.{◌≡◌, ℕ, ◌+◌, ◌^◌, ◌<◌, ◌≤◌, Bool, true, not, ◌&&◌, nat_le, nat_lt, List, [], ◌∷◌, ◌++◌, length, slice_index, ◌==◌, count_ones}
 use Rattle.std.specs.List.{list_any}
 use Rattle.tower_lines.specs.TowersSeen.{seen, seen_after}
 use Rattle.number_sets.specs.Sets.{has_number}
@@ -8,6 +8,11 @@ use Rattle.tower_lines.specs.LineFillings.{IsStart, IsFilling, IsSupported}
 -- whether a value is in a list
 abbrev pub is_in : ℕ → List ℕ → Bool
 is_in value line = list_any (λ x. x == value) line
+
+-- whether the value can stand at the place: from 1 to the length, a candidate there, and not used
+abbrev pub can_be : List ℕ → ℕ → ℕ → ℕ → Bool
+can_be sets place used value =
+    nat_le 1 value && (nat_le value (length sets) && (has_number (slice_index sets place) value && not (has_number used value)))
 
 -- the list's values are those of the mask, whose bit k stands for k + 1
 pub record IsMask (mask : ℕ) (line : List ℕ) : Type 0 where

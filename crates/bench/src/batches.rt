@@ -1,0 +1,49 @@
+//! Times short calls: many in a row, between two looks at the clock, so that what the clock costs doesn't count.
+
+use std::alloc::Global;
+use std::io;
+use std::rt::Clock;
+use std::time::Instant;
+
+/// How many batches there are.
+const BATCHES: u64 = 15;
+
+/// A batch has as many calls as fill so many nanoseconds, by the first call's time, and at most `MOST_CALLS`.
+const BATCH_TIME: u64 = 200_000;
+
+const MOST_CALLS: u64 = 1000;
+
+/// What is timed.
+pub(crate) trait Call {
+    /// Does it, and tells a number of what was found, so that it must be found.
+    fn call(&mut self, alloc: Global) -> u64;
+}
+
+/// How long one call took in nanoseconds in the fastest batch, since others may work on the machine.
+pub(crate) fn nanoseconds_of<C: Call>(
+    rt: &(impl Clock + Alloc<A = Global>),
+    timed: &mut C,
+) -> io::Result<u64> {
+    let first = batch(rt, timed, 1)?;
+    let calls = (BATCH_TIME / first.max(1)).clamp(1, MOST_CALLS);
+    let mut fastest = first;
+    for _ in 0..BATCHES {
+        fastest = fastest.min(batch(rt, timed, calls)?);
+    }
+    Ok(fastest)
+}
+
+// The mean time of the calls of one batch.
+fn batch<C: Call>(
+    rt: &(impl Clock + Alloc<A = Global>),
+    timed: &mut C,
+    calls: u64,
+) -> io::Result<u64> {
+    let start = Instant::now(rt)?;
+    let mut found: u64 = 0;
+    for _ in 0..calls {
+        found = found.wrapping_add(timed.call(rt.alloc()));
+    }
+    let elapsed = u64::try_from(start.elapsed(rt)?.as_nanos()).unwrap_or(u64::MAX);
+    Ok(elapsed / calls.max(1))
+}

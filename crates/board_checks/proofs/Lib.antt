@@ -1,0 +1,12 @@
+-- Lemmas on repeated numbers, on fillings of the lines of clues and signs, and on grids without errors.
+pub mod Clues
+pub mod Fillings
+pub mod LineNumbers
+pub mod RepeatedNumbers
+pub mod Signs
+pub mod Tables
+pub mod WholeGrids
+-- Lemmas on what candidates leave, on the replay of a trail, and on hints.
+pub mod LeftValues
+pub mod ReplayedTrails
+pub mod FoundHints

@@ -1,0 +1,70 @@
+-- Tables of answers that are filled in from the front.
+use Rattle.std.proofs.Common.{◌≡◌, ◌↔◌, ℕ, zero, suc, ◌+◌, ◌*◌, ◌<◌, ◌≤◌, Bool, true, false, List, [], ◌∷◌, length, get_or, set, replicate, inl, inr, refl, ◌∙◌, arith}
+use Rattle.std.specs.Bool.{IsTrue, beq}
+use Rattle.std.specs.List.{list_any}
+use Rattle.std.proofs.lemmas.Bool.{cases_lt, cases_eq, both_ways, false≢true}
+use Rattle.std.proofs.Math.Nat.{mul-le-mul_left}
+use Rattle.latin_board.specs.declared.grid.TheConstants.{CELLS}
+use Rattle.std.proofs.lemmas.List.{get_or_past, get_or-replicate, length-replicate, get_or-set_same, get_or-set_other}
+use Rattle.board_checks.specs.declared.spot.Spot.{Spot}
+use Rattle.board_checks.specs.declared.spot.Spot.TheVariants.{Edge, RightOf, Below}
+use Rattle.board_checks.specs.Errors.{ErrorsValue, has_broken}
+
+-- the answers below n say of which numbers P holds, and from n on none is yes
+pub record AreTold (n : ℕ) (P : ℕ → Type 0) (found : List Bool) : Type 0 where
+  pub told : (k : ℕ) → k < n → IsTrue (get_or found k false) ↔ P k
+  pub rest : (k : ℕ) → n ≤ k → get_or found k false ≡ false
+
+pub none_told : (P : ℕ → Type 0) (m : ℕ) → AreTold 0 P (replicate m false)
+none_told P m = record {
+  told = λ k low. absurd (omega arith);
+  rest = λ k low. elim (cases_lt k m) [
+    | inl inside ↦ get_or-replicate m k false false inside
+    | inr past ↦ get_or_past (replicate m false) k false (omega (arith, length-replicate m false))
+  ];
+}
+
+pub one_more_told : (P : ℕ → Type 0) (n : ℕ) (b : Bool) (found : List Bool) → n < length found → IsTrue b ↔ P n → AreTold n P found
+    → AreTold (n + 1) P (set found n b)
+one_more_told P n b found inside here h = record {
+  told = λ k low. elim (cases_eq k n) [
+    | inl same ↦ rw same (rw (get_or-set_same found n b false inside) here)
+    | inr other ↦ rw (get_or-set_other found n k b false other) (h.told k (omega arith))
+  ];
+  rest = λ k low. get_or-set_other found n k b false (λ same. omega arith) ∙ h.rest k (omega arith);
+}
+
+pub all_told : (P : ℕ → Type 0) (n : ℕ) (found : List Bool) → AreTold n P found → ((k : ℕ) → P k → k < n)
+    → (k : ℕ) → IsTrue (get_or found k false) ↔ P k
+all_told P n found h within k = elim (cases_lt k n) [
+  | inl low ↦ h.told k low
+  | inr past ↦ (λ e. absurd (both_ways (get_or found k false) (h.rest k past) e), λ p. absurd (omega (arith, within k p)))
+]
+
+-- a square of a grid of at most 9 has a place
+pub square_in_table : (w cell : ℕ) (found : List Bool) → w ≤ 9 → cell < w * w → length found ≡ CELLS → cell < length found
+square_in_table w cell found small inside room =
+    let more : w * w ≤ w * 9 = mul-le-mul_left w small in
+    omega arith
+
+-- some answer is yes
+pub yes_somewhere : (answers : List Bool) → IsTrue (list_any (λ y. beq y true) answers) ↔ ((k : ℕ) × IsTrue (get_or answers k false))
+yes_somewhere answers = (there answers, λ h. here answers h.0 h.1)
+  where
+    there : (answers : List Bool) → list_any (λ y. beq y true) answers ≡ true → (k : ℕ) × (get_or answers k false ≡ true)
+    there [] e = absurd (false≢true e)
+    there (true ∷ rest) e = (0, refl)
+    there (false ∷ rest) e = let later = there rest e in (suc later.0, later.1)
+
+    here : (answers : List Bool) (k : ℕ) → get_or answers k false ≡ true → list_any (λ y. beq y true) answers ≡ true
+    here [] k e = absurd (false≢true e)
+    here (true ∷ rest) k e = refl
+    here (false ∷ rest) zero e = absurd (false≢true e)
+    here (false ∷ rest) (suc k) e = here rest k e
+
+-- what is broken, but at no edge place and on the right of no square, is so below one
+pub left_below : (e : ErrorsValue) → (((k : ℕ) × IsTrue (get_or e.edges k false)) → ⊥) → (((k : ℕ) × IsTrue (get_or e.right k false)) → ⊥)
+    → (spot : Spot) → IsTrue (has_broken e spot) → (k : ℕ) × IsTrue (get_or e.below k false)
+left_below e no_edge no_right (Edge place) h = absurd (no_edge (place, h))
+left_below e no_edge no_right (RightOf cell) h = absurd (no_right (cell, h))
+left_below e no_edge no_right (Below cell) h = (cell, h)

@@ -1,0 +1,66 @@
+-- Hints: the empty square of a grid that the deductions settle first.
+use Rattle.std.specs.Prelude.{◌≡◌, ◌≢◌, ℕ, ◌*◌, ◌<◌, true, length}
+use Rattle.latin_board.specs.Squares.{GridValue, number_at}
+use Rattle.trail_solver.specs.Pairs.{IsPair}
+use Rattle.trail_solver.specs.Candidates.{CandidatesValue, IsEarlier, IsOnly, may_be}
+use Rattle.trail_solver.specs.Puzzles.{Puzzle}
+use Rattle.trail_solver.specs.Solutions.{KeepsSolutions}
+use Rattle.trail_solver.specs.Completions.{AreOfGrid, Completes}
+use Rattle.clue_rules.specs.Struck.{NoneLeft}
+use Rattle.board_checks.specs.declared.hints.Hint.{Hint}
+use Rattle.board_checks.specs.declared.hints.Hint.TheVariants.{Follows, Nothing, Contradiction}
+
+-- each solution that keeps the grid's numbers has the value in the square, which is empty
+pub record FollowsAt (p : Puzzle) (g : GridValue) (cell value : ℕ) : Type 0 where
+  pub pair : IsPair g.size cell value
+  pub empty : number_at g cell ≡ 0
+  pub each : (h : GridValue) → Completes p g h → number_at h cell ≡ value
+
+-- what a hint says of the solutions that keep the grid's numbers
+abbrev pub IsSound : Puzzle → GridValue → Hint → Type 0
+IsSound p g (Follows cell value) = FollowsAt p g cell value
+IsSound p g Nothing = Unit {0}
+IsSound p g Contradiction = (h : GridValue) → Completes p g h → ⊥
+
+-- what the deductions make of the candidates that a grid leaves: no solution is lost, and no pair remains that they strike from
+-- those at first or from those that remain
+pub record AreNarrowed (p : Puzzle) (Strikes : CandidatesValue → ℕ → ℕ → Type 0) (g : GridValue) (c : CandidatesValue) : Type 0 where
+  pub start : CandidatesValue
+  pub of_grid : AreOfGrid g start
+  pub less : IsEarlier start c
+  pub keeps : KeepsSolutions p start c
+  pub struck : NoneLeft Strikes start c
+  pub settled : NoneLeft Strikes c c
+
+-- the square is empty in the grid, and the value is its only candidate
+pub record IsLastLeft (g : GridValue) (c : CandidatesValue) (cell value : ℕ) : Type 0 where
+  pub inside : cell < g.size * g.size
+  pub empty : number_at g cell ≡ 0
+  pub only : IsOnly c cell value
+
+-- after the pairs of some front of the trail have gone, the value is the empty square's only candidate, and after those of a
+-- shorter front no empty square has only one
+pub record IsSoonest (g : GridValue) (c : CandidatesValue) (cell value : ℕ) : Type 0 where
+  pub front : CandidatesValue
+  pub less : IsEarlier front c
+  pub left : IsLastLeft g front cell value
+  pub first : (shorter : CandidatesValue) → IsEarlier shorter c → length shorter.trail < length front.trail
+      → (k v : ℕ) → IsLastLeft g shorter k v → ⊥
+
+-- each square has a candidate, and no empty one has only one
+pub record HaveNoneLast (g : GridValue) (c : CandidatesValue) : Type 0 where
+  pub some : (cell : ℕ) → cell < c.size * c.size → (v : ℕ) × IsPair c.size cell v × (may_be c cell v ≡ true)
+  pub several : (cell value : ℕ) → IsLastLeft g c cell value → ⊥
+
+-- how a hint is read from the candidates that the deductions leave
+abbrev pub IsDeduced : Puzzle → (CandidatesValue → ℕ → ℕ → Type 0) → GridValue → Hint → Type 0
+IsDeduced p Strikes g (Follows cell value) = (c : CandidatesValue) × AreNarrowed p Strikes g c × IsSoonest g c cell value
+IsDeduced p Strikes g Nothing = (c : CandidatesValue) × AreNarrowed p Strikes g c × HaveNoneLast g c
+IsDeduced p Strikes g Contradiction = Unit {0}
+
+-- all values but one of an empty square are struck from the candidates that the grid leaves
+pub record IsForced (Strikes : CandidatesValue → ℕ → ℕ → Type 0) (g : GridValue) (cell : ℕ) : Type 0 where
+  pub inside : cell < g.size * g.size
+  pub empty : number_at g cell ≡ 0
+  pub value : ℕ
+  pub others : (c : CandidatesValue) → AreOfGrid g c → (v : ℕ) → IsPair g.size cell v → v ≢ value → Strikes c cell v

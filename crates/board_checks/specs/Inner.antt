@@ -1,0 +1,5 @@
+-- Words that the contracts of private functions alone use.
+pub mod Repeats
+pub mod TowersLines
+pub mod SignEnds
+pub mod LeftValues

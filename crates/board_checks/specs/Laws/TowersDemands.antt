@@ -1,0 +1,110 @@
+-- The laws of what Towers demands: it stands along the lines of the grid's edge places, and is all that the clues ask.
+use Rattle.std.proofs.Common.{◌≡◌, ◌↔◌, ℕ, ◌*◌, ◌<◌, nat_lt, Some, length, map, refl, sym, ap, ◌∙◌, subst, inl, inr, arith}
+use Rattle.std.specs.Bool.{IsTrue}
+use Rattle.std.specs.List.{range_with_len}
+use Rattle.std.proofs.lemmas.Bool.{cases_lt, ltb-true, lt-ltb, eqb-true, eq-eqb}
+use Rattle.std.proofs.lemmas.Grind.{same_number_lists}
+use Rattle.std.proofs.lemmas.List.{get_or_past, get_or-map, length-map}
+use Rattle.std.proofs.lemmas.List.FromFn.{length-map-range_with_len, get_or-map-range_with_len}
+use Rattle.std.proofs.lemmas.Option.{cond_some, none-some}
+use Rattle.latin_board.specs.Squares.{GridValue, IsGrid, IsFull, number_at}
+use Rattle.latin_board.proofs.PeerLines.{line_peers}
+use Rattle.tower_lines.specs.TowersSeen.{seen}
+use Rattle.clue_rules.specs.Towers.{TowersValue, IsTowers, clue_of, holds_clues}
+use Rattle.clue_rules.specs.Views.{view_of, view_cell, view_line, view_index}
+use Rattle.clue_rules.specs.Laws.TowersItems.{clues_decide, length-view_of}
+use Rattle.clue_rules.proofs.ViewSteps.{view_line_low, view_index_low, view_index_apart, view_inside, view_number}
+use Rattle.board_checks.specs.declared.spot.Spot.{Spot}
+use Rattle.board_checks.specs.declared.spot.Spot.TheVariants.{Edge, RightOf, Below}
+use Rattle.board_checks.specs.Demands.{Demand, IsOnLine, numbers_of}
+use Rattle.board_checks.specs.Spots.{IsSpot, MeetsAll}
+use Rattle.board_checks.specs.Games.{clue_demand, towers_demand}
+
+-- ---- where there is a clue
+
+-- what is demanded at an edge place is what its clue demands
+pub demanded : (v : TowersValue) (place : ℕ) (d : Demand) → towers_demand v (Edge place) ≡ Some d
+    → (0 < clue_of v place) × (clue_demand v place ≡ d)
+demanded v place d e =
+    let there = cond_some (nat_lt 0 (clue_of v place)) (clue_demand v place) d e in
+    (ltb-true 0 (clue_of v place) there.0, there.1)
+
+placed : (v : TowersValue) (place : ℕ) → IsTowers v → 0 < clue_of v place → place < 4 * v.size
+placed v place valid clued = elim (cases_lt place (4 * v.size)) [
+  | inl inside ↦ inside
+  | inr past ↦
+      let none : clue_of v place ≡ 0 = get_or_past v.clues place 0 (omega (arith, valid.clue_count)) in
+      absurd (omega arith)
+]
+
+pub demand_spot : (v : TowersValue) (spot : Spot) (d : Demand) → IsTowers v → towers_demand v spot ≡ Some d → IsSpot v.size spot
+demand_spot v (Edge place) d valid e = placed v place valid (demanded v place d e).0
+demand_spot v (RightOf cell) d valid e = absurd (none-some d e)
+demand_spot v (Below cell) d valid e = absurd (none-some d e)
+
+-- ---- the squares of a clue's line
+
+clue_on_line : (v : TowersValue) (place : ℕ) → place < 4 * v.size → IsOnLine v.size (clue_demand v place)
+clue_on_line v place inside =
+    let w = v.size in
+    let len = length-map-range_with_len (view_cell w place) 0 w in
+    let here = λ (k d : ℕ) (low : k < w). get_or-map-range_with_len (view_cell w place) 0 w k k d low (omega arith) in
+    record {
+      inside = λ k d low.
+          let within : k < w = omega (arith, len) in
+          rw (here k d within) (view_inside w place k inside within);
+      peers = λ i j d order low.
+          let second : j < w = omega (arith, len) in
+          let first : i < w = omega arith in
+          rw (here i d first, here j d second)
+          (line_peers w (view_line w place) (view_index w place i) (view_index w place j) (view_line_low w place inside)
+          (view_index_low w place i first) (view_index_low w place j second)
+          (view_index_apart w place i j first second (λ same. omega arith)));
+    }
+
+pub demand_line : (v : TowersValue) (spot : Spot) (d : Demand) → IsTowers v → towers_demand v spot ≡ Some d → IsOnLine v.size d
+demand_line v (Edge place) d valid e =
+    let there = demanded v place d e in
+    subst (IsOnLine v.size) there.1 (clue_on_line v place (placed v place valid there.0))
+demand_line v (RightOf cell) d valid e = absurd (none-some d e)
+demand_line v (Below cell) d valid e = absurd (none-some d e)
+
+-- ---- all that is demanded
+
+-- the numbers of a clue's line are what is seen along
+pub view_numbers : (v : TowersValue) (g : GridValue) (place : ℕ) → g.size ≡ v.size → place < 4 * v.size
+    → numbers_of g (clue_demand v place) ≡ view_of g place
+view_numbers v g place size inside =
+    let cells = map (view_cell v.size place) (range_with_len 0 v.size) in
+    let count : length cells ≡ v.size = length-map-range_with_len (view_cell v.size place) 0 v.size in
+    let both : length (map (number_at g) cells) ≡ length cells = length-map cells (number_at g) in
+    same_number_lists (map (number_at g) cells) (view_of g place) (both ∙ count ∙ sym size ∙ sym (length-view_of g place))
+    (λ k low.
+    let within : k < v.size = omega (arith, both, count) in
+    let cell = get_or-map-range_with_len (view_cell v.size place) 0 v.size k k 0 within (omega arith) in
+    get_or-map (number_at g) cells k 0 0 (omega (arith, count))
+    ∙ ap (number_at g) cell
+    ∙ ap (λ w. number_at g (view_cell w place k)) (sym size)
+    ∙ sym (view_number g place k (omega (arith, size)) (omega (arith, size))))
+
+pub demand_all : (v : TowersValue) (g : GridValue) → IsTowers v → IsGrid g → IsFull g → g.size ≡ v.size
+    → IsTrue (holds_clues v g) ↔ MeetsAll (towers_demand v) g
+demand_all v g valid is_grid full size = (
+  λ held. meets ((clues_decide v g).0 held).each,
+  λ all. (clues_decide v g).1 (record {
+    each = λ place inside clued.
+        let says = all (Edge place) (clue_demand v place) (rw (lt-ltb 0 (clue_of v place) clued) refl) in
+        ap seen (sym (view_numbers v g place size inside)) ∙ eqb-true (seen (numbers_of g (clue_demand v place))) (clue_of v place) says;
+  }),
+)
+  where
+    meets : ((place : ℕ) → place < 4 * v.size → 0 < clue_of v place → seen (view_of g place) ≡ clue_of v place)
+        → MeetsAll (towers_demand v) g
+    meets each (Edge place) d e =
+        let there = demanded v place d e in
+        let inside = placed v place valid there.0 in
+        let shown = ap seen (view_numbers v g place size inside) ∙ each place inside there.0 in
+        subst (λ (d : Demand). IsTrue (d.says (numbers_of g d))) there.1
+        (eq-eqb (seen (numbers_of g (clue_demand v place))) (clue_of v place) shown)
+    meets each (RightOf cell) d e = absurd (none-some d e)
+    meets each (Below cell) d e = absurd (none-some d e)

@@ -1,0 +1,102 @@
+//! Hints: a square of a board whose value follows from what stands.
+ghost use Rattle.std.specs.Prelude.{◌≡◌, ◌≢◌, ◌↔◌, ℕ, ◌*◌, ◌<◌, MatchOption, IsTrue};
+ghost use Rattle.std.specs.Bool.{OnFalse, OnTrue};
+ghost use Rattle.trail_solver.specs.Candidates.{IsCandidates, IsEarlier};
+ghost use Rattle.trail_solver.specs.Solutions.{HasNoSolutionWithin, KeepsSolutions};
+ghost use Rattle.clue_rules.specs.Struck.{NoneLeft};
+ghost use Rattle.board_checks.specs.Hints.{IsForced, IsLastLeft, IsDeduced, IsSound};
+ghost use Rattle.board_checks.specs.Inner.LeftValues.{HaveValues, IsSoonestHint};
+
+use crate::deductions::Deduces;
+use latin_board::Grid;
+use trail_solver::{Candidates, grid_candidates};
+
+/// What follows from the numbers of a grid.
+#[derive(Clone, Copy, PartialEq, Eq, Debug)]
+pub enum Hint {
+    /// The square is empty, and the deductions leave it this value alone.
+    Follows { cell: usize, value: u8 },
+    /// The deductions leave each empty square several values.
+    Nothing,
+    /// No solution keeps the numbers.
+    Contradiction,
+}
+
+/// What follows from the numbers of the grid by the puzzle's deductions alone: of the empty squares that these leave one
+/// value, the one that they settle first. The grid has the puzzle's size, and need not have its givens. It takes no memory.
+pub fn find_hint<P: Deduces>(p: &P, grid: &Grid) -> Hint
+    requires { grid.now.size ≡ (P.puzzle p.now).size }
+    ensures sound { IsSound (P.puzzle p.now) grid.now result }
+    ensures deduced { IsDeduced (P.puzzle p.now) (P.strikes p.now) grid.now result }
+    ensures strong { (cell : ℕ) → IsForced (P.strikes p.now) grid.now cell → result ≢ Hint.Nothing }
+{
+    let mut candidates = grid_candidates(grid);
+    if p.narrow_struck(&mut candidates) && settle(p, &mut candidates) && have_values(&candidates) {
+        soonest(grid, &candidates)
+    } else {
+        Hint::Contradiction
+    }
+}
+
+// Narrows until nothing more goes. Answers false where that finds no solution.
+fn settle<P: Deduces>(p: &P, candidates: &mut Candidates) -> bool
+    requires { candidates.old.size ≡ (P.puzzle p.now).size }
+    ensures less { IsEarlier candidates.old candidates.new }
+    ensures keeps { KeepsSolutions (P.puzzle p.now) candidates.old candidates.new }
+    ensures refutes { OnFalse result (HasNoSolutionWithin (P.puzzle p.now) candidates.old) }
+    ensures settled { OnTrue result (NoneLeft (P.strikes p.now) candidates.new candidates.new) }
+{
+    let _size = candidates.size();
+    loop {
+        let before = candidates.trail_len();
+        if !p.narrow_struck(candidates) {
+            return false;
+        }
+        if candidates.trail_len() == before {
+            return true;
+        }
+    }
+}
+
+// Whether each square has a candidate.
+#[tactic(auto, using(crate::proofs::LeftValues::lacks_values, crate::proofs::LeftValues::values_below_more))]
+fn have_values(candidates: &Candidates) -> bool
+    ensures { IsTrue result ↔ HaveValues candidates.now }
+{
+    let width = candidates.size().get() as usize;
+    for cell in 0..width * width {
+        if candidates.values(cell).is_empty() {
+            return false;
+        }
+    }
+    true
+}
+
+// Replays the trail of the candidates until an empty square has one value left.
+#[tactic(auto, using(crate::proofs::ReplayedTrails::replay_found, crate::proofs::ReplayedTrails::replay_nearer))]
+fn soonest(grid: &Grid, candidates: &Candidates) -> Hint
+    requires { grid.now.size ≡ candidates.now.size }
+    ensures { IsSoonestHint grid.now candidates.now result }
+{
+    let mut front = Candidates::all(candidates.size());
+    while let Some(cell) = front.follow(candidates) {
+        if let Some(value) = last_left(grid, &front, cell) {
+            return Hint::Follows { cell, value };
+        }
+    }
+    Hint::Nothing
+}
+
+// The only candidate of a square that is empty in the grid, where it has only one.
+fn last_left(grid: &Grid, candidates: &Candidates, cell: usize) -> Option<u8>
+    requires size { grid.now.size ≡ candidates.now.size }
+    requires inside { cell < candidates.now.size * candidates.now.size }
+    ensures { MatchOption result ((v : ℕ) → IsLastLeft grid.now candidates.now cell v → ⊥)
+        (IsLastLeft grid.now candidates.now cell) }
+{
+    if grid.get(cell) == 0 {
+        candidates.only(cell)
+    } else {
+        None
+    }
+}

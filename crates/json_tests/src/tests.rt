@@ -1,0 +1,5 @@
+//! A file for each subject.
+
+mod boards;
+mod replies;
+mod script;

@@ -1,0 +1,9 @@
+pub mod ReplyLines
+pub mod RefusalNames
+pub mod Spellings
+pub mod SessionTexts
+pub mod ToldReplies
+pub mod Listed
+pub mod WholeReplies
+pub mod ToldOnce
+pub mod AnswersLeave

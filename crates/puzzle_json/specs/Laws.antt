@@ -1,0 +1,2 @@
+-- Lemmas for the laws that the games keep.
+pub mod Spellings

@@ -1,0 +1,14 @@
+-- What is told as JSON. Bytes, lines and counts: Texts, Counts; an object's line: ObjectLines; the session that is left: Sessions; a reply:
+-- Replies; the board, its clues and signs: Boards, ClueLists; the lines beside the commands: FurtherLines; what may be said to a
+-- line: JsonReplies; its laws: ReplyLaws.
+pub mod Texts
+pub mod Counts
+pub mod ObjectLines
+pub mod Sessions
+pub mod Replies
+pub mod Boards
+pub mod ClueLists
+pub mod FurtherLines
+pub mod JsonReplies
+pub mod ReplyLaws
+pub mod Laws

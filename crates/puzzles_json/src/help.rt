@@ -1,0 +1,27 @@
+//! What the program's help says below the options.
+
+/// The lines that are read, the objects that answer them, examples and statuses.
+pub(crate) const MORE_HELP: &str = "\
+Commands, one a line:
+  those of puzzles, as its help has them, and
+
+  board        the board that is shown, its clues or signs, and where it breaks a rule
+  completable  whether none, one or several solutions keep its numbers
+  hint         a number that follows from its numbers
+
+Each reply is one object on one line:
+  refused    null, or the refusal's name
+  reply      the lines that puzzles answers
+  session    null, or the game, its id, position, states and status
+
+  Where memory is wanting for it the line is {\"lost\":\"OutOfMemory\"}; the command was carried out or refused all the same.
+
+Examples:
+  printf 'move R0,0,1\\nboard\\n' | puzzles-json towers --id 3:3//////3/////
+  printf 'new 4!1\\nhint\\n' | puzzles-json unequal
+
+Exit status:
+  0  the commands are at their end, or help was asked for
+  1  a file, the input or the output failed, or memory was refused
+  2  the command line is refused
+  3  the game ID or the loaded file is refused";

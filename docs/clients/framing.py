@@ -1,0 +1,19 @@
+"""Says how many lines answer each line of standard input: python3 framing.py PROGRAM GAME ID < LINES"""
+import re
+import subprocess
+import sys
+
+STATUS = re.compile(r'(playing|solved|helped) [0-9]+/[0-9]+\n')
+program, game, id = sys.argv[1:]
+puzzles = subprocess.Popen([program, game, '--id', id], stdin=subprocess.PIPE, stdout=subprocess.PIPE, bufsize=0, encoding='latin-1')
+
+def ask(line):
+    """The lines of the reply. The line is none of `status`, `save`, `quit` and has neither CR nor LF in it."""
+    puzzles.stdin.write(line + '\nstatus\n')
+    reply = []
+    while not STATUS.fullmatch(text := puzzles.stdout.readline()):
+        reply.append(text or sys.exit(1))
+    return reply
+
+for line in sys.stdin.read().splitlines():
+    print(line, len(ask(line)))

@@ -1,0 +1,27 @@
+"""The front for playing by hand, puzzles-play: a board over a whole terminal, and a line mode beside it.
+
+No rule of play stands here. What is wrong, what is full and what follows comes from the program `puzzles-json`, one object a
+line, and is painted. From below upwards:
+
+board        what the program tells of a game
+program      talks to the program
+state        where games are kept
+games        the stored puzzles, and seeds worth playing
+texts        a sentence for each refusal
+table        the present game, and what can be done with it
+layout       where on a screen the squares, clues and texts stand
+picture      a board as pieces of text
+screen       a terminal by `curses`: paints pieces, reads keys
+dialogues    pages, questions and lists over the board
+keys         which key does what
+menu         the menu of new games
+fullscreen  the board: keys in, pictures out
+file_names   names of files, as they are typed
+speech       a board in sentences
+prompt       a line typed at a prompt
+lines        the line mode
+manual       the keys and the rules, in a few lines
+main         the words of the command line
+
+Linux and Python 3.8 or later, with nothing beside its standard library.
+"""

@@ -1,0 +1,142 @@
+"""What the program tells of a game: the objects of puzzles-json as values with names."""
+
+from __future__ import annotations
+
+from typing import Any, Dict, FrozenSet, List, Mapping, NamedTuple, Optional, Tuple
+
+#: Column and row of a square, counted from 0; of a clue, with -1 or the size at the edge.
+Place = Tuple[int, int]
+
+#: The games, by the words of the command line.
+GAMES = {'towers': 'Towers', 'unequal': 'Unequal'}
+
+
+class Session(NamedTuple):
+    """The game that a line left."""
+
+    #: A word of the command line.
+    game: str
+    id: str
+    #: Which state is shown, counted from 1, and how many there are.
+    position: int
+    states: int
+    #: `playing`, `solved` or `helped`. It stays so where a solved board is changed.
+    status: str
+
+    @property
+    def letter(self) -> str:
+        """The letter of difficulty; nothing where the ID has none."""
+        params = self.id.partition(':')[0]
+        return params[2:3] if params[1:2] == 'd' else ''
+
+
+class Clue(NamedTuple):
+    number: int
+    is_done: bool
+    is_wrong: bool
+
+
+class Sign(NamedTuple):
+    greater: Place
+    less: Place
+    is_wrong: bool
+
+
+class Board(NamedTuple):
+    """The board that is shown. `wrong` has the squares whose number stands twice in a line; clues and signs tell it of themselves."""
+
+    session: Session
+    size: int
+    numbers: Mapping[Place, int]
+    givens: FrozenSet[Place]
+    marks: Mapping[Place, List[int]]
+    clues: Mapping[Place, Clue]
+    signs: List[Sign]
+    wrong: FrozenSet[Place]
+
+    @property
+    def squares(self) -> List[Place]:
+        """In reading order."""
+        return [(x, y) for y in range(self.size) for x in range(self.size)]
+
+    @property
+    def is_full(self) -> bool:
+        return len(self.numbers) == self.size * self.size
+
+    @property
+    def has_fault(self) -> bool:
+        """Whether there is something to be painted red."""
+        return bool(self.wrong) or any(clue.is_wrong for clue in self.clues.values()) or any(sign.is_wrong for sign in self.signs)
+
+    @property
+    def is_solved(self) -> bool:
+        """A full board without red is a solution: the program promises it."""
+        return self.is_full and not self.has_fault
+
+    @property
+    def own(self) -> Tuple[int, int]:
+        """How many squares the player has filled, and how many there are to fill."""
+        return len(self.numbers) - len(self.givens), self.size * self.size - len(self.givens)
+
+
+class Hint(NamedTuple):
+    """What follows: a number in a square (`follows`), nothing (`nothing`), or that the numbers are wrong (`contradiction`)."""
+
+    kind: str
+    square: Optional[Place]
+    number: Optional[int]
+
+
+class Reply(NamedTuple):
+    """One object of the program."""
+
+    #: The name of the refusal, where the line was refused.
+    refused: Optional[str]
+    lines: List[str]
+    session: Optional[Session]
+    board: Optional[Board] = None
+    completable: Optional[str] = None
+    hint: Optional[Hint] = None
+    #: The line was carried out or refused, and memory for the reply was lacking.
+    is_lost: bool = False
+
+
+def reply_of(data: Mapping[str, Any]) -> Reply:
+    """The reply that an object is. What else stands in it is passed over."""
+    if 'lost' in data:
+        return Reply(str(data['lost']), [], None, is_lost=True)
+    session = session_of(data['session']) if data['session'] else None
+    board = board_of(data['board'], session) if session and data.get('board') else None
+    hint = hint_of(data['hint'], session) if session and data.get('hint') else None
+    return Reply(data['refused'], list(data['reply']), session, board, data.get('completable'), hint)
+
+
+def session_of(data: Mapping[str, Any]) -> Session:
+    return Session(data['game'].lower(), data['id'], data['position'], data['states'], data['status'])
+
+
+def board_of(data: Mapping[str, Any], session: Session) -> Board:
+    size: int = data['size']
+
+    def place(cell: int) -> Place:
+        return cell % size, cell // size
+
+    def filled(numbers: List[int]) -> Dict[Place, int]:
+        return {place(cell): number for cell, number in enumerate(numbers) if number}
+
+    return Board(
+        session=session,
+        size=size,
+        numbers=filled(data['numbers']),
+        givens=frozenset(filled(data['givens'])),
+        marks={place(cell): marks for cell, marks in enumerate(data['marks']) if marks},
+        clues={(clue['x'], clue['y']): Clue(clue['clue'], clue['done'], clue['error']) for clue in data['clues']},
+        signs=[Sign(place(sign['greater']), place(sign['less']), sign['error']) for sign in data['signs']],
+        wrong=frozenset(map(place, data['errors'])),
+    )
+
+
+def hint_of(data: Mapping[str, Any], session: Session) -> Hint:
+    size = int(session.id[0])
+    cell = data['cell']
+    return Hint(data['kind'], None if cell is None else (cell % size, cell // size), data['number'])

@@ -1,0 +1,294 @@
+"""The board over a whole terminal: keys in, pictures out."""
+
+from __future__ import annotations
+
+import os
+import time
+from typing import List, Optional
+
+from board import games, keys, manual, menu
+from board.board import GAMES, Place
+from board.dialogues import Dialogues
+from board.file_names import file_name, what_is
+from board.layout import Layout, fit
+from board.picture import Look, Piece, grade, has_room, name, picture, too_small
+from board.program import Gone
+from board.screen import Key, Screen
+from board.state import State
+from board.table import Table
+from board.texts import BY_KEYS
+
+
+class FullScreen:
+    """A table with a cursor."""
+
+    def __init__(self, screen: Screen, path: str, state: State) -> None:
+        self._screen = screen
+        self.table = Table(path, state, BY_KEYS, self)
+        self._dialogues = Dialogues(screen, self._pieces)
+        self._cursor: Place = (0, 0)
+        self._is_pencil = False
+        self._key = Key('')
+        self._file = ''
+        self._is_over = False
+        #: Whether the player goes on in lines of text.
+        self.wants_lines = False
+
+    # --- the table's front ---
+
+    def confirm(self, question: str) -> bool:
+        return self._dialogues.confirm(question)
+
+    def waiting(self, may_stop: bool) -> bool:
+        if may_stop:
+            self._dialogues.tell('The program is at work. Any key stops it.')
+        return self._screen.has_key(may_stop) and may_stop
+
+    # --- the run ---
+
+    def begin(self, game: str, what: str) -> str:
+        """Goes on with a game, or begins that of an ID or a file. Gives the sentence where that is refused."""
+        return self.table.start(game, what)
+
+    def run(self) -> None:
+        """Until the player leaves."""
+        while not self._is_over:
+            self._draw()
+            self._key = self._screen.key()
+            self._answer(self._key.name)
+        self.table.leave()
+
+    def _answer(self, key: str) -> None:
+        if self._layout() is None and key not in keys.WITHOUT_BOARD:
+            return
+        if key != 'resize':
+            self.table.message = ''
+        if key in keys.STEPS:
+            self._move(*keys.STEPS[key])
+        elif key.isdigit() and key != '0':
+            self._number(int(key))
+        elif key in keys.ACTIONS:
+            getattr(self, f'_{keys.ACTIONS[key]}')()
+        else:
+            self.table.message = 'That key does nothing: ? shows those that do.'
+
+    def _layout(self) -> Optional[Layout]:
+        board = self.table.board
+        return fit(board.size, board.session.game == 'towers', *self._screen.size)
+
+    def _look(self) -> Look:
+        return Look(self._cursor, self._is_pencil, self.table.message, self.table.trouble, self._screen.has_lines)
+
+    def _pieces(self) -> List[Piece]:
+        if not self.table.has_game:
+            return []
+        layout = self._layout()
+        if layout is None:
+            return too_small(self.table.board, *self._screen.size)
+        return picture(self.table.board, layout, self._look())
+
+    def _draw(self) -> None:
+        layout, look = self._layout(), self._look()
+        if layout and look.message and not has_room(look.message, self.table.board, layout, look):
+            self._dialogues.page(name(self.table.board), [look.message])
+            self.table.message = ''
+        self._screen.paint(self._pieces())
+
+    # --- the cursor ---
+
+    def _move(self, across: int, down: int) -> None:
+        x, y = self._cursor
+        clues = self.table.board.clues
+        size = self.table.board.size
+        # From a clue the next one of its edge; into the grid; or from a square at the edge onto a clue.
+        if (y in (-1, size) and across) or (x in (-1, size) and down):
+            places = [(x + across * step, y + down * step) for step in range(1, size)]
+            self._cursor = next((place for place in places if place in clues), self._cursor)
+            return
+        place = (x + across, y + down)
+        if place in clues or (0 <= place[0] < size and 0 <= place[1] < size):
+            self._cursor = place
+
+    def _is_on_clue(self) -> bool:
+        return self._cursor in self.table.board.clues
+
+    def _mouse(self) -> None:
+        layout = self._layout()
+        place = layout.place_at(self._key.line, self._key.column) if layout else None
+        board = self.table.board
+        if place is None or (place not in board.clues and place not in board.squares):
+            return
+        if self._key.button == 3:
+            self._is_pencil = True
+        if place == self._cursor and self._is_on_clue():
+            self._done_mark()
+        self._cursor = place
+
+    # --- changes of the board ---
+
+    def _number(self, number: int) -> None:
+        x, y = self._cursor
+        if self._is_on_clue():
+            self.table.message = 'That is a clue: d marks it as done.'
+        elif self._is_pencil:
+            self.table.play(f'move P{x},{y},{number}')
+        elif self.table.board.numbers.get(self._cursor) != number or self._cursor in self.table.board.givens:
+            self.table.play(f'move R{x},{y},{number}')
+
+    def _clear(self) -> None:
+        board = self.table.board
+        if self._is_on_clue():
+            self.table.message = 'That is a clue: d marks it as done.'
+        elif self._cursor in board.numbers or self._cursor in board.marks:
+            self.table.play(f'move R{self._cursor[0]},{self._cursor[1]},0')
+        else:
+            self.table.message = 'There is nothing to clear.'
+
+    def _enter(self) -> None:
+        if self._is_on_clue():
+            self._done_mark()
+        else:
+            self._pencil()
+
+    def _pencil(self) -> None:
+        self._is_pencil = not self._is_pencil
+
+    def _done_mark(self) -> None:
+        if self._is_on_clue():
+            self.table.play(f'move D{self._cursor[0]},{self._cursor[1]}')
+        else:
+            self.table.message = 'd marks a clue at the edge as done: go there first.'
+
+    def _all_marks(self) -> None:
+        self.table.play('move M')
+
+    def _undo(self) -> None:
+        self.table.play('undo')
+
+    def _redo(self) -> None:
+        self.table.play('redo')
+
+    def _restart(self) -> None:
+        if self.table.play('restart'):
+            self.table.message = 'Back at the start; u takes that back.'
+
+    def _solve(self) -> None:
+        if self.confirm('Fill in the solution? u takes it back.'):
+            reply = self.table.play('solve')
+            if reply and not self.table.board.is_solved:
+                # There is no solution, or more than one: the program's own sentence says which.
+                self.table.message = f'{" ".join(reply.lines)}: nothing is filled in.'
+
+    # --- questions to the program ---
+
+    def _hint(self) -> None:
+        place = self.table.hint()
+        if place is not None:
+            self._cursor = place
+            if not self.table.message:
+                self.table.message = 'Here only one number is left: the deductions rule out all others. h again tells it.'
+
+    def _check(self) -> None:
+        self.table.check()
+
+    def _command(self) -> None:
+        text = self._dialogues.read(':')
+        if not text:
+            return
+        if text in ('q', 'quit', 'exit'):
+            self._quit()
+        elif text in ('help', '?'):
+            self._help()
+        elif text.startswith('new '):
+            self._begin(menu.Choice(self.table.game, self.table.board.size, id=text[4:].strip()))
+        else:
+            reply = self.table.play(text)
+            lines = reply.lines if reply else []
+            if len(lines) > 1 or (lines and len(lines[0]) > 60):
+                self._dialogues.page(text, lines)
+            elif lines and lines != ['ok']:
+                self.table.message = lines[0]
+
+    # --- games ---
+
+    def _new(self) -> None:
+        board = self.table.board
+        choice = menu.Menu(self._screen, self.table.state, self.table.game, board.size, board.session.letter).run()
+        if choice:
+            self._begin(choice)
+
+    def _begin(self, choice: menu.Choice) -> None:
+        id = choice.id
+        said = ''
+        try:
+            if not id and choice.letter:
+                id = games.take(self.table.state, choice.game, choice.size, choice.letter) or ''
+            elif not id:
+                self._dialogues.tell('Looking for a seed ..')
+                id = games.seeded(self.table.path, choice.game, choice.size)
+                said = f'A seeded game; to play it again: n, by an ID, {id}'
+        except Gone as gone:
+            self.table.message = f'The program says: {gone}.'
+            return
+        if self.table.begin(choice.game, id):
+            self._at_start()
+            self.table.message = said
+
+    def _at_start(self) -> None:
+        self._cursor = (0, 0)
+        self._is_pencil = False
+        self._file = ''
+
+    def _open(self) -> None:
+        old = self.table.state.old_games()
+        rows = [f'{time.strftime("%d %b %H:%M", time.localtime(game.when))} {self.table.summary(game)}' for game in old]
+        at = self._dialogues.choose('Go on with', [*rows, 'a file ..'])
+        if at is None:
+            return
+        if at < len(old):
+            done = self.table.open_old(old[at])
+        else:
+            file = file_name(self._dialogues.read('open the file:') or '')
+            done = bool(file) and self.table.open(self.table.game, file)
+        if done:
+            self._at_start()
+            self._file = file if at == len(old) else ''
+
+    def _save_as(self) -> None:
+        file = file_name(self._dialogues.read('save as:', self._file) or '')
+        if not file:
+            return
+        if os.path.lexists(file) and file != self._file and not self.confirm(f'{file} is there{what_is(file)}. Write over it?'):
+            self.table.message = 'Nothing was saved.'
+            return
+        if self.table.save_as(file):
+            self._file = file
+
+    def _show_id(self) -> None:
+        board = self.table.board
+        lines = [board.session.id, '', 'To play it again: n, by an ID; or on the command line', '', f"puzzles-play {self.table.game} '{board.session.id}'"]
+        self._dialogues.page(f'The ID of this puzzle, {name(board)} {grade(board)}', lines)
+
+    def _help(self) -> None:
+        self._dialogues.page('Keys', [*manual.KEYS, '', GAMES[self.table.game], *manual.RULES[self.table.game]])
+
+    # --- the screen, and the end ---
+
+    def _lines(self) -> None:
+        if self._may_leave():
+            self.wants_lines = self._is_over = True
+
+    def _suspend(self) -> None:
+        self._screen.suspend()
+
+    def _redraw(self) -> None:
+        self._screen.redraw()
+
+    def _nothing(self) -> None:
+        pass
+
+    def _quit(self) -> None:
+        self._is_over = self._may_leave()
+
+    def _may_leave(self) -> bool:
+        return not self.table.trouble or self.confirm(f'The game is not kept ({self.table.trouble}). Quit and lose it?')

@@ -1,0 +1,287 @@
+"""The line mode: a prompt, and one sentence a move. For those who can't see a board, and for terminals that can't show one."""
+
+from __future__ import annotations
+
+import os
+import re
+import shutil
+import sys
+import textwrap
+import time
+from typing import Callable, Dict, List, Tuple
+
+from board import games, manual, speech
+from board.board import GAMES, Board
+from board.file_names import file_name, what_is
+from board.program import Gone
+from board.prompt import Prompt
+from board.state import State
+from board.table import Table
+from board.texts import BY_LINES
+
+NUMBER = r'(-?[0-9]+)'
+BETWEEN = '[ ,]+'
+
+#: What is typed in the place of a command.
+SHORT: Dict[str, str] = {
+    '?': 'help',
+    'h': 'hint',
+    'q': 'quit',
+    'exit': 'quit',
+    'u': 'undo',
+    'r': 'redo',
+    'm': 'move M',
+    'c': 'check',
+    'n': 'new',
+    'o': 'open',
+    'i': 'id',
+    's': 'show',
+}
+
+#: Numbers that are typed, and the program's line.
+MOVES: List[Tuple[str, str]] = [
+    (f'{NUMBER}{BETWEEN}{NUMBER}{BETWEEN}{NUMBER}', 'move R{0},{1},{2}'),
+    (f'[pP]{BETWEEN}{NUMBER}{BETWEEN}{NUMBER}{BETWEEN}{NUMBER}', 'move P{0},{1},{2}'),
+    (f'[dD]{BETWEEN}{NUMBER}{BETWEEN}{NUMBER}', 'move D{0},{1}'),
+]
+
+
+class LineMode:
+    """A table at a prompt."""
+
+    def __init__(self, path: str, state: State) -> None:
+        self._prompt = Prompt()
+        self._table = Table(path, state, BY_LINES, self)
+        self._is_told = False
+        self._is_over = False
+        self._trouble = ''
+        self._commands: Dict[str, Callable[[str], None]] = {
+            'help': self._help,
+            'rules': self._rules,
+            'new': self._new,
+            'save': self._save,
+            'load': self._load,
+            'open': self._open,
+            'row': lambda text: self._line(text, 'row', speech.row),
+            'column': lambda text: self._line(text, 'column', speech.column),
+            'clues': lambda _: say(*speech.clues(self._table.board)),
+            'hint': self._hint,
+            'check': self._check,
+            'show': lambda _: self._show(),
+            'status': lambda _: say(f'{self._table.board.session.status} {self._position()}'),
+            'quit': self._quit,
+        }
+
+    # --- the table's front ---
+
+    def confirm(self, question: str) -> bool:
+        answer = self._prompt.read(f'{question} y/N ')
+        return answer in ('y', 'Y', 'yes')
+
+    def waiting(self, may_stop: bool) -> bool:
+        return self._prompt.is_stopped
+
+    # --- the run ---
+
+    def run(self, game: str, what: str) -> int:
+        """Until the player leaves; the status is 3 where the ID or the file is refused."""
+        refusal = self._table.start(game, what)
+        if refusal:
+            say(refusal)
+            return 3
+        self._begun()
+        say(f'Type column, row and number, as 0 0 {self._table.board.size}; help lists the rest.')
+        while not self._is_over:
+            line = self._prompt.read(f'{self._table.game} {self._position()}> ')
+            if line is None:
+                line = 'quit'
+            if line:
+                self._answer(line)
+                self._say_message()
+        self._table.leave()
+        return 0
+
+    def _answer(self, line: str) -> None:
+        for pattern, command in MOVES:
+            match = re.fullmatch(pattern, line)
+            if match:
+                self._play(command.format(*match.groups()))
+                return
+        pair = re.fullmatch(f'{NUMBER}{BETWEEN}{NUMBER}', line)
+        if pair:
+            say(speech.square(self._table.board, (int(pair[1]), int(pair[2]))))
+            return
+        line = SHORT.get(line.lower(), line)
+        word, _, rest = line.partition(' ')
+        if word.lower() in self._commands and not (word == 'new' and not rest.strip() and line != 'new'):
+            self._commands[word.lower()](rest.strip())
+        else:
+            self._play(line.lower() if ' ' not in line else line)
+
+    def _play(self, line: str) -> None:
+        """Has the program do that, and says what came of it."""
+        before = self._table.board
+        reply = self._table.play(line)
+        if reply is None:
+            return
+        after = self._table.board
+        if line == 'restart':
+            self._is_told = False
+        if reply.lines == ['ok']:
+            say(speech.change(before, after))
+        elif line == 'solve' and after.session.position > before.session.position:
+            self._show()
+        else:
+            say(*reply.lines)
+        self._say_state(after, speech.faults(before))
+
+    def _say_state(self, board: Board, known: str = '') -> None:
+        """What is contradicted, where that isn't known yet, and whether the board is full, and solved."""
+        faults = speech.faults(board)
+        if faults and faults != known:
+            say(faults)
+        if board.is_full and faults and faults != known:
+            say('Full, but not right yet.')
+        if board.is_solved and board.session.status == 'solved' and not self._is_told:
+            self._is_told = True
+            say('Solved!')
+
+    def _say_message(self) -> None:
+        say(*filter(None, [self._table.message]))
+        self._table.message = ''
+        if self._table.trouble and self._table.trouble != self._trouble:
+            say(f'The game is not kept: {self._table.trouble}.')
+        self._trouble = self._table.trouble
+
+    def _position(self) -> str:
+        session = self._table.board.session
+        return f'{session.position}/{session.states}'
+
+    # --- what is shown ---
+
+    def _begun(self) -> None:
+        self._say_message()
+        self._is_told = self._table.board.is_solved
+        self._show()
+        board = self._table.board
+        for y in sorted({place[1] for place in board.marks}):
+            say('marks  ' + '  '.join(f'{x},{y}:{"".join(map(str, board.marks[x, y]))}' for x in range(board.size) if (x, y) in board.marks))
+        self._say_state(board)
+
+    def _show(self) -> None:
+        """The program's picture, with the numbers of the columns and rows."""
+        reply = self._table.ask('show')
+        size, is_towers = self._table.board.size, self._table.game == 'towers'
+        border, step = (1, 1) if is_towers else (0, 2)
+        say(' ' * (1 + 2 * border) + ''.join(f' {x}' for x in range(size)))
+        for at, line in enumerate(reply.lines if reply else []):
+            y = at - border
+            say(f'{y // step if 0 <= y < size * step and y % step == 0 else " "} {line}')
+
+    def _line(self, text: str, kind: str, sentence: Callable[[Board, int], str]) -> None:
+        size = self._table.board.size
+        if text.isdigit() and int(text) < size:
+            say(sentence(self._table.board, int(text)))
+        else:
+            say(f"'{kind} 0' tells what stands there: a number from 0 to {size - 1}.")
+
+    def _help(self, _: str) -> None:
+        say(*manual.LINES)
+
+    def _rules(self, _: str) -> None:
+        say(*manual.RULES[self._table.game])
+
+    def _hint(self, _: str) -> None:
+        place = self._table.hint()
+        if place is not None and not self._table.message:
+            say(f"In {speech.at(place)} only one number is left: the deductions rule out all others. 'hint' again tells it.")
+
+    def _check(self, _: str) -> None:
+        self._table.check()
+
+    # --- games ---
+
+    def _new(self, text: str) -> None:
+        """A game, a size and a grade in any order, or an ID."""
+        board = self._table.board
+        game, size, letter = self._table.game, board.size, board.session.letter
+        is_seeded = False
+        for word in text.split():
+            grades = {grade: letter for letter, grade in games.GRADES[game].items()}
+            if word.lower() in GAMES:
+                game = word.lower()
+            elif word.lower() in grades:
+                letter = grades[word.lower()]
+            elif word.lower() == 'seeded':
+                is_seeded = True
+            elif word.isdigit():
+                size = int(word)
+            else:
+                self._table.begin(game, text.split()[-1])
+                self._after_begin(False)
+                return
+        if size not in games.SIZES:
+            say('Sizes go from 3 to 9: one digit from 3 to 9.')
+            return
+        self._begin_chosen(game, size, letter, is_seeded)
+
+    def _begin_chosen(self, game: str, size: int, letter: str, is_seeded: bool) -> None:
+        there = games.letters(game, size)
+        try:
+            if is_seeded and size in games.SEEDED_SIZES:
+                id = games.seeded(self._table.path, game, size)
+            else:
+                id = games.take(self._table.state, game, size, letter if letter in there else ''.join(there[:1])) or f'{size}!7'
+        except Gone as gone:
+            say(f'The program says: {gone}.')
+            return
+        if is_seeded and size not in games.SEEDED_SIZES:
+            say('Seeded games have the sizes 3 to 6; this one is of the stored puzzles.')
+        self._table.begin(game, id)
+        self._after_begin(True, id)
+
+    def _after_begin(self, is_told: bool, id: str = '') -> None:
+        """Shows the game that has begun; where none has, the message says why."""
+        if self._table.message:
+            return
+        self._begun()
+        if is_told:
+            say(f'To play it again: new {id}')
+
+    def _save(self, text: str) -> None:
+        file = file_name(text)
+        if not file:
+            say("'save FILE' wants the name of a file.")
+        elif os.path.lexists(file) and not self.confirm(f'{file} is there{what_is(file)}. Write over it?'):
+            say('Nothing was saved.')
+        else:
+            self._table.save_as(file)
+
+    def _load(self, text: str) -> None:
+        file = file_name(text)
+        if not file:
+            say("'load FILE' wants the name of a file.")
+        elif self._table.open(self._table.game, file):
+            self._after_begin(False)
+
+    def _open(self, text: str) -> None:
+        old = self._table.state.old_games()
+        if text.isdigit() and int(text) < len(old):
+            if self._table.open_old(old[int(text)]):
+                self._after_begin(False)
+            return
+        for at, game in enumerate(old):
+            say(f'{at}  {time.strftime("%d %b %H:%M", time.localtime(game.when))}  {self._table.summary(game)}')
+        say("'open 0' goes on with number 0." if old else 'No game was put away yet.')
+
+    def _quit(self, _: str) -> None:
+        trouble = self._table.trouble
+        self._is_over = not trouble or not sys.stdin.isatty() or self.confirm(f'The game is not kept ({trouble}). Quit and lose it?')
+
+
+def say(*lines: str) -> None:
+    """Prints lines; one that is too long for the terminal is broken between two words."""
+    columns = shutil.get_terminal_size().columns
+    for line in lines:
+        parts = textwrap.wrap(line, max(columns - 1, 20), subsequent_indent='  ', break_long_words=False, break_on_hyphens=False)
+        print('\n'.join(parts) if len(line) >= columns else line, flush=True)

@@ -1,0 +1,71 @@
+"""The keys and the rules, in a few lines each."""
+
+from __future__ import annotations
+
+from typing import Dict, List
+
+KEYS: List[str] = [
+    'arrows or HJKL  move; Towers: onto the clues at the edge, too',
+    '1 to 9          a number, or a pencil mark where PENCIL is shown',
+    'Enter or p      numbers or pencil marks; d or Enter on a clue: done',
+    'Space 0 Delete  clear the square;  m  all marks in all empty squares',
+    'u Ctrl-Z undo   r Ctrl-R redo   R back to the start (u undoes that)',
+    'h hint: the square that follows, then its number;  c can these',
+    '  numbers still be completed;  S  solve, after a question',
+    'n new game   o open one of the last ten, or a file   w save as',
+    'i the ID   : a command of the program   Z to the shell, fg comes back',
+    'T lines of text   q quit: the game is kept, and goes on next time',
+]
+
+RULES: Dict[str, List[str]] = {
+    'towers': [
+        'Each row and each column has each of the numbers from 1 to the size',
+        'once. A number is a tower of that height. A clue at the edge says how',
+        'many towers are seen from there, along its row or column: a tower is',
+        'hidden behind a taller one. So 1 2 3 shows three towers to its left',
+        'and one to its right.',
+        'Bold numbers were given with the puzzle. What has a ! and is red is a',
+        'contradiction: two equal numbers in a line, or a clue that can no more',
+        'be met in its own line. A full board without red is the solution.',
+    ],
+    'unequal': [
+        'Each row and each column has each of the numbers from 1 to the size',
+        'once. A sign between two squares says which of them has the greater',
+        'number: it opens to the greater one, as in 1 < 2, and points at the',
+        'lesser one. Of squares one above the other ^ says that the upper one',
+        'is the lesser, v that the lower one is.',
+        'Bold numbers were given with the puzzle. What has a ! and is red is a',
+        'contradiction: two equal numbers in a line, or a sign that can no more',
+        'hold. A full board without red is the solution.',
+    ],
+}
+
+#: The line mode's help: what is typed, and what it does.
+LINES: List[str] = [
+    'Columns and rows count from 0: the square 2 0 is the third of the first row.',
+    '',
+    '  x y n                  the number n into column x, row y; 0 clears it',
+    '  p x y n                the pencil mark n there, or take it away; m  all marks',
+    '  d x y                  a clue\'s done mark, or take it away: 0 -1 is the clue above',
+    '                         the first column, -1 0 the one left of the first row (Towers)',
+    '  x y                    what there is to say of a square',
+    '  row y, column x        what stands in a row or a column',
+    '  clues                  the clues, or the signs',
+    '  hint                   a square that follows; once more: its number',
+    '  check                  whether the numbers can still be completed',
+    '  new [GAME] [SIZE] [GRADE]  a new game; in the place of the grade: seeded',
+    '  new ID                 the puzzle of that ID, your own or one of the usual program',
+    '  save FILE, load FILE   save the game; go on with a saved one',
+    '  open [N]               the last ten games; go on with number N',
+    '  rules, help            the rules of this game; this list',
+    '',
+    'and the program\'s own commands:',
+    '',
+    '  undo redo restart      back, forth, to the start (as a move of its own); u, r',
+    '  solve                  show the solution, after a question',
+    '  show marks done        the board; the pencil marks; the done clues',
+    '  status id              how far you are; the ID of this puzzle',
+    '  list N                 the first N solutions',
+    '  move TEXT              a move as saves have it: R2,0,3 P2,0,3 M D0,-1',
+    '  quit                   leave; the game is kept, and goes on next time; q',
+]

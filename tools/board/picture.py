@@ -1,0 +1,232 @@
+"""A board as pieces of text, each with its place and its style. No terminal is needed for that."""
+
+from __future__ import annotations
+
+import textwrap
+from enum import Enum
+from typing import Iterator, List, NamedTuple, Optional, Tuple
+
+from board.board import GAMES, Board, Place
+from board.games import GRADES
+from board.layout import Layout, wanted
+
+
+class Style(Enum):
+    """How a piece looks. Red and dim pieces have a sign of their own too, for where there are no colours."""
+
+    PLAIN = 'plain'
+    TITLE = 'title'
+    GRID = 'grid'
+    GIVEN = 'given'
+    OWN = 'own'
+    MARKS = 'marks'
+    CLUE = 'clue'
+    DONE = 'done'
+    WRONG = 'wrong'
+
+
+class Piece(NamedTuple):
+    line: int
+    column: int
+    text: str
+    style: Style = Style.PLAIN
+    #: Whether the cursor is there.
+    is_cursor: bool = False
+
+
+class Look(NamedTuple):
+    """What is drawn besides the board."""
+
+    cursor: Optional[Place] = None
+    is_pencil: bool = False
+    message: str = ''
+    #: Why the game isn't kept; nothing where it is.
+    trouble: str = ''
+    #: Whether lines can be drawn by other characters than + - |.
+    has_lines: bool = True
+
+
+#: The corners and crossings of the grid by rows, then the line across and the one down.
+LINES = ('┌┬┐', '├┼┤', '└┴┘', '─', '│', '·')
+PLAIN_LINES = ('+++', '+++', '+++', '-', '|', '.')
+
+KEYS_BELOW = [
+    '1-9 number  p pencil  0 clear  u undo  r redo  h hint  n new  q quit  ? keys',
+    'p pencil u undo h hint n new q quit ?',
+]
+KEYS_ASIDE = ['1-9 number  p pencil', '0 clear     m all marks', 'u undo      r redo', 'h hint      c check', 'n new       o open', '? all keys  q quit']
+
+
+def picture(board: Board, layout: Layout, look: Look) -> List[Piece]:
+    """The whole screen."""
+    pieces = [*_grid(layout, look), *_squares(board, layout, look), *_signs(board, layout), *_clues(board, layout, look)]
+    return pieces + list(_texts_below(board, layout, look) if layout.side is None else _texts_aside(board, layout, look, layout.side))
+
+
+def too_small(board: Board, lines: int, columns: int) -> List[Piece]:
+    """What is shown where the board has no room."""
+    wide, tall = wanted(board.size, board.session.game == 'towers')
+    text = (
+        f'{name(board)} wants a window of {wide} columns and {tall} lines, and this one has {columns} and {lines}. '
+        'Make it larger; or T for lines of text, q to quit: the game is kept.'
+    )
+    return [Piece(at, 0, line) for at, line in enumerate(textwrap.wrap(text, max(8, columns - 1))[:lines])]
+
+
+def name(board: Board) -> str:
+    return f'{GAMES[board.session.game]} {board.size}x{board.size}'
+
+
+def grade(board: Board) -> str:
+    return GRADES[board.session.game].get(board.session.letter, '')
+
+
+def state(board: Board) -> str:
+    """Whether it is solved, by what stands on the board: the program's own word stays when a solved board is changed."""
+    if board.session.status == 'helped':
+        return 'solved with help' if board.is_solved else 'helped'
+    if board.is_solved:
+        return 'solved'
+    return 'was solved' if board.session.status == 'solved' else ''
+
+
+def counts(board: Board) -> List[str]:
+    """How far the game is."""
+    filled, empty = board.own
+    return [f'{filled} of {empty}', f'move {board.session.position - 1}/{board.session.states - 1}']
+
+
+def told(board: Board, look: Look, layout: Layout) -> str:
+    """The message; where there is none, what there is to say of a full board, or of the square of the cursor."""
+    trouble = f'The game is not kept: {look.trouble}.' if look.trouble else ''
+    return f'{look.message or _told_of(board, look, layout)} {trouble}'.strip()
+
+
+def _told_of(board: Board, look: Look, layout: Layout) -> str:
+    if board.is_solved:
+        return 'Solved!'
+    if board.is_full:
+        return 'Full, but not right yet: ! shows what contradicts.'
+    marks = board.marks.get(look.cursor) if look.cursor else None
+    return f'marks: {" ".join(map(str, marks))}' if marks and layout.deep == 1 else ''
+
+
+def has_room(text: str, board: Board, layout: Layout, look: Look) -> bool:
+    """Whether a message fits beside the board, or on the two lines below it."""
+    if layout.side is None:
+        return len(textwrap.wrap(text, layout.columns - 2)) <= 2
+    begin, end = _side_lines(board, layout, look)
+    return len(textwrap.wrap(text, layout.columns - layout.side - 1)) <= end - begin
+
+
+def marks_text(marks: List[int], size: int, room: int) -> str:
+    """Marks on one line: the digits, or those that lack, or as many as fit."""
+    digits = ''.join(map(str, marks))
+    if len(digits) == size and len(digits) > room:
+        return 'all'
+    lacking = ''.join(str(number) for number in range(1, size + 1) if number not in marks)
+    fitting = [text for text in (digits, f'not {lacking}', f'no{lacking}') if len(text) <= room]
+    return fitting[0] if fitting else digits[: room - 1] + '+'
+
+
+def _grid(layout: Layout, look: Look) -> Iterator[Piece]:
+    above, between, below, across, down, _ = LINES if look.has_lines else PLAIN_LINES
+    for row in range(layout.size + 1):
+        edge = above if row == 0 else below if row == layout.size else between
+        line = layout.top + row * (layout.deep + 1)
+        middle = edge[1].join([across * layout.wide] * layout.size)
+        yield Piece(line, layout.left, edge[0] + middle + edge[2], Style.GRID)
+        if row < layout.size:
+            inside = down + (' ' * layout.wide + down) * layout.size
+            for at in range(layout.deep):
+                yield Piece(line + 1 + at, layout.left, inside, Style.GRID)
+
+
+def _squares(board: Board, layout: Layout, look: Look) -> Iterator[Piece]:
+    for place in board.squares:
+        is_cursor = place == look.cursor
+        line, column = layout.corner(place)
+        if is_cursor:
+            for at in range(layout.deep):
+                yield Piece(line + at, column, ' ' * layout.wide, is_cursor=True)
+        number = board.numbers.get(place)
+        if number is not None:
+            is_wrong = place in board.wrong
+            style = Style.WRONG if is_wrong else Style.GIVEN if place in board.givens else Style.OWN
+            yield Piece(*layout.centre(place), f'{number}!' if is_wrong else str(number), style, is_cursor)
+            continue
+        marks = board.marks.get(place, [])
+        if layout.deep == 3:
+            for mark in marks:
+                yield Piece(line + (mark - 1) // 3, column + 1 + 2 * ((mark - 1) % 3), str(mark), Style.MARKS, is_cursor)
+        elif marks:
+            indent = 1 if layout.wide > 3 else 0
+            yield Piece(line, column + indent, marks_text(marks, board.size, layout.wide - indent), Style.MARKS, is_cursor)
+
+
+def _signs(board: Board, layout: Layout) -> Iterator[Piece]:
+    for sign in board.signs:
+        style = Style.WRONG if sign.is_wrong else Style.CLUE
+        (x, y), (other_x, other_y) = sorted([sign.greater, sign.less], key=lambda place: (place[1], place[0]))
+        is_first_less = (x, y) == sign.less
+        if y == other_y:
+            line, column = layout.centre((x, y))[0], layout.corner((other_x, y))[1] - 1
+            text = '<' if is_first_less else '>'
+        else:
+            line, column = layout.corner((x, other_y))[0] - 1, layout.centre((x, y))[1]
+            text = '^' if is_first_less else 'v'
+        yield Piece(line, column, text + ('!' if sign.is_wrong else ''), style)
+
+
+def _clues(board: Board, layout: Layout, look: Look) -> Iterator[Piece]:
+    done = (LINES if look.has_lines else PLAIN_LINES)[-1]
+    for place, clue in board.clues.items():
+        style = Style.WRONG if clue.is_wrong else Style.DONE if clue.is_done else Style.CLUE
+        text = f'{clue.number}{"!" if clue.is_wrong else done if clue.is_done else " "}'
+        yield Piece(*layout.centre(place), text, style, place == look.cursor)
+
+
+def _texts_below(board: Board, layout: Layout, look: Look) -> Iterator[Piece]:
+    between = f' {LINES[-1] if look.has_lines else "-"} '
+    words = [name(board), grade(board), state(board), 'PENCIL' if look.is_pencil else '', between.join(counts(board))]
+    for gap in ('   ', '  ', ' '):
+        title = gap.join(word for word in words if word)
+        if len(title) < layout.columns:
+            break
+    yield Piece(0, 1, title, Style.TITLE)
+    lines = textwrap.wrap(told(board, look, layout), layout.columns - 2)[:2]
+    if len(lines) < 2:
+        yield Piece(layout.lines - 1, 1, next((keys for keys in KEYS_BELOW if len(keys) < layout.columns - 1), '? keys'), Style.GRID)
+    for at, text in enumerate(lines):
+        yield Piece(layout.lines - 2 + at, 1, text, Style.TITLE)
+
+
+def _texts_aside(board: Board, layout: Layout, look: Look, side: int) -> Iterator[Piece]:
+    for at, text in enumerate(_side_title(board, look)):
+        yield Piece(1 + at, side, text, Style.TITLE)
+    begin, end = _side_lines(board, layout, look)
+    for at, text in enumerate(textwrap.wrap(told(board, look, layout), layout.columns - side - 1)[: end - begin]):
+        yield Piece(begin + at, side, text, Style.TITLE)
+    for at, text in enumerate(KEYS_ASIDE):
+        yield Piece(layout.lines - len(KEYS_ASIDE) + at, side, text, Style.GRID)
+
+
+def _side_title(board: Board, look: Look) -> List[str]:
+    words = [name(board), grade(board), *counts(board), state(board), 'PENCIL' if look.is_pencil else '']
+    return [word for word in words if word]
+
+
+def _side_lines(board: Board, layout: Layout, look: Look) -> Tuple[int, int]:
+    """The first line of the message at the side, and the one after its last."""
+    begin = len(_side_title(board, look)) + 2
+    return begin, max(begin + 1, layout.lines - len(KEYS_ASIDE) - 1)
+
+
+def text_of(pieces: List[Piece], lines: int, columns: int) -> List[str]:
+    """The pieces as they would stand on a screen."""
+    screen = [[' '] * columns for _ in range(lines)]
+    for piece in pieces:
+        for at, character in enumerate(piece.text, piece.column):
+            if 0 <= piece.line < lines and 0 <= at < columns:
+                screen[piece.line][at] = character
+    return [''.join(line).rstrip() for line in screen]

@@ -1,0 +1,87 @@
+"""A line typed at a prompt, with editing and history where there is `readline`."""
+
+from __future__ import annotations
+
+import contextlib
+import os
+import signal
+import termios
+from typing import Optional
+
+try:
+    import readline
+except ImportError:
+    HAS_READLINE = False
+else:
+    HAS_READLINE = True
+
+#: No key interrupts.
+NO_KEY = b'\0'
+
+
+class Prompt:
+    """Ctrl-C drops what is typed; while nothing is typed it is noted in `is_stopped`. Ctrl-Z leaves the terminal as it was at first."""
+
+    def __init__(self) -> None:
+        self.is_stopped = False
+        self._terminal = termios.tcgetattr(0)
+        self._text = ''
+        self._is_reading = False
+        signal.signal(signal.SIGINT, self._interrupted)
+        signal.signal(signal.SIGTSTP, self._suspended)
+        for number in (signal.SIGHUP, signal.SIGTERM):
+            signal.signal(number, self._ended)
+        if HAS_READLINE:
+            readline.parse_and_bind('"\\C-c": kill-whole-line')
+            readline.parse_and_bind('tab: self-insert')
+
+    def read(self, text: str) -> Optional[str]:
+        """A line; nothing at the end of the input."""
+        self._text = text
+        while True:
+            self._is_reading = True
+            try:
+                if HAS_READLINE:
+                    self._without_interrupt()
+                return input(text).strip()
+            except EOFError:
+                print()
+                return None
+            except KeyboardInterrupt:
+                print()
+            except UnicodeDecodeError:
+                print('That is no text.')
+            finally:
+                self._is_reading = self.is_stopped = False
+                self.restore()
+
+    def restore(self) -> None:
+        """The terminal is as it was at first."""
+        with contextlib.suppress(termios.error):
+            termios.tcsetattr(0, termios.TCSADRAIN, self._terminal)
+
+    def _without_interrupt(self) -> None:
+        mode = termios.tcgetattr(0)
+        mode[6][termios.VINTR] = NO_KEY
+        with contextlib.suppress(termios.error):
+            termios.tcsetattr(0, termios.TCSADRAIN, mode)
+
+    def _interrupted(self, *_: object) -> None:
+        if self._is_reading:
+            raise KeyboardInterrupt
+        self.is_stopped = True
+
+    def _ended(self, number: int, _: object) -> None:
+        self.restore()
+        raise SystemExit(128 + number)
+
+    def _suspended(self, *_: object) -> None:
+        mode = termios.tcgetattr(0)
+        self.restore()
+        signal.signal(signal.SIGTSTP, signal.SIG_DFL)
+        os.kill(os.getpid(), signal.SIGTSTP)
+        signal.signal(signal.SIGTSTP, self._suspended)
+        with contextlib.suppress(termios.error):
+            termios.tcsetattr(0, termios.TCSADRAIN, mode)
+        if self._is_reading:
+            print(self._text + (readline.get_line_buffer() if HAS_READLINE else ''), end='', flush=True)

@@ -1,0 +1,265 @@
+"""A terminal by `curses`: paints pieces of text and reads keys."""
+
+from __future__ import annotations
+
+import contextlib
+import curses
+import locale
+import os
+import select
+import signal
+import sys
+import time
+from typing import Deque, Dict, List, Mapping, NamedTuple, Optional, Tuple, Union
+
+from collections import deque
+
+from board.picture import Piece, Style
+
+#: The keys that are no characters, by the names that `keys` knows.
+NAMES: Dict[int, str] = {
+    curses.KEY_UP: 'up',
+    curses.KEY_DOWN: 'down',
+    curses.KEY_LEFT: 'left',
+    curses.KEY_RIGHT: 'right',
+    curses.KEY_BACKSPACE: 'backspace',
+    curses.KEY_DC: 'delete',
+    curses.KEY_ENTER: 'enter',
+    curses.KEY_NPAGE: 'page down',
+    curses.KEY_PPAGE: 'page up',
+    curses.KEY_MOUSE: 'mouse',
+    curses.KEY_RESIZE: 'resize',
+}
+CHARACTERS = {'\r': 'enter', '\n': 'enter', '\x7f': 'backspace', '\b': 'backspace', '\x1b': 'escape'}
+
+#: What terminals send for some keys, behind an Escape.
+SEQUENCES = {'[A': 'up', '[B': 'down', '[C': 'right', '[D': 'left', '[3~': 'delete', '[5~': 'page up', '[6~': 'page down'}
+
+#: Colours of 8, and of 256 where there are so many.
+COLOURS = {Style.WRONG: (curses.COLOR_RED, 9), Style.OWN: (curses.COLOR_GREEN, 34), Style.MARKS: (curses.COLOR_BLUE, 33)}
+
+#: How a piece looks besides, and without colours.
+ATTRIBUTES = {
+    Style.TITLE: curses.A_BOLD,
+    Style.GRID: curses.A_DIM,
+    Style.GIVEN: curses.A_BOLD,
+    Style.CLUE: curses.A_BOLD,
+    Style.DONE: curses.A_DIM,
+    Style.WRONG: curses.A_BOLD,
+}
+
+ENDING = (signal.SIGHUP, signal.SIGTERM, signal.SIGINT)
+
+
+class Unfit(Exception):
+    """The terminal can't show a board. The text says why."""
+
+
+class Key(NamedTuple):
+    """A character, or the name of another key; of the mouse also where it was, and which button."""
+
+    name: str
+    line: int = 0
+    column: int = 0
+    button: int = 0
+
+
+def has_lines(env: Mapping[str, str]) -> bool:
+    """Whether lines of the grid can be drawn by characters of their own: in UTF-8, by a locale that the player chose."""
+    if locale.nl_langinfo(locale.CODESET).upper() not in ('UTF-8', 'UTF8') or env.get('TERM', '').startswith('vt'):
+        return False
+    chosen = next((env[name] for name in ('LC_ALL', 'LC_CTYPE', 'LANG') if env.get(name)), '')
+    return 'UTF' in chosen.upper() and hasattr(curses, 'unget_wch')
+
+
+def first_environment() -> Dict[str, str]:
+    """The environment as it was at the start: Python itself chooses a locale where there is none."""
+    try:
+        with open('/proc/self/environ', 'rb') as file:
+            pairs = os.fsdecode(file.read()).split('\0')
+    except OSError:
+        return dict(os.environ)
+    return dict(pair.split('=', 1) for pair in pairs if '=' in pair)
+
+
+def without_sequences(keys: List[Key]) -> List[Key]:
+    """Keys that came at once. What a terminal sends for a key that `curses` doesn't know is one key: its digits are no numbers for the board."""
+    found: List[Key] = []
+    rest = deque(keys)
+    while rest:
+        key = rest.popleft()
+        if key.name == 'escape' and rest and rest[0].name in ('[', 'O'):
+            sent = rest.popleft().name
+            while rest and not '@' <= sent[1:][-1:] <= '~':
+                sent += rest.popleft().name
+            key = Key(SEQUENCES.get(sent.replace('O', '['), 'other'))
+        found.append(key)
+    return found
+
+
+class Screen:
+    """The terminal from the beginning of a `with` to its end, after which it is as it was."""
+
+    def __init__(self) -> None:
+        """Raises `Unfit`."""
+        try:
+            curses.setupterm()
+            if not curses.tigetstr('cup'):
+                raise Unfit(f'the terminal {os.environ.get("TERM", "")!r} has no screen to write to')
+        except curses.error as error:
+            raise Unfit(f'{error}') from error
+        locale.setlocale(locale.LC_ALL, '')
+        self.has_lines = has_lines(first_environment())
+        self._attributes: Dict[Style, int] = dict(ATTRIBUTES)
+        self._keys: Deque[Key] = deque()
+        self._ended = 0
+        self._wake, self._waker = os.pipe()
+        os.set_blocking(self._waker, False)
+        os.set_blocking(self._wake, False)
+
+    def __enter__(self) -> Screen:
+        os.environ.setdefault('ESCDELAY', '25')
+        # A window that is resized wakes `key`; with a handler of its own `curses` would keep that for itself.
+        signal.signal(signal.SIGWINCH, lambda number, frame: None)
+        for number in ENDING:
+            signal.signal(number, self._note_end)
+        signal.set_wakeup_fd(self._waker, warn_on_full_buffer=False)
+        self._window = curses.initscr()
+        curses.noecho()
+        curses.raw()
+        curses.nonl()
+        self._window.keypad(True)
+        self._window.nodelay(True)
+        self._show_cursor(False)
+        self._begin_colours()
+        with contextlib.suppress(curses.error):
+            curses.mousemask(curses.BUTTON1_PRESSED | curses.BUTTON3_PRESSED)
+            curses.mouseinterval(0)
+        return self
+
+    def __exit__(self, *_: object) -> None:
+        signal.set_wakeup_fd(-1)
+        for number in (*ENDING, signal.SIGWINCH):
+            signal.signal(number, signal.SIG_DFL)
+        with contextlib.suppress(curses.error, OSError):
+            self._show_cursor(True)
+            curses.endwin()
+
+    @property
+    def size(self) -> Tuple[int, int]:
+        """Lines and columns, as they are now."""
+        found = self._window.getmaxyx()
+        with contextlib.suppress(OSError):
+            columns, lines = os.get_terminal_size(sys.__stdout__.fileno() if sys.__stdout__ else 1)
+            if (lines, columns) != found and lines > 0 and columns > 0:
+                curses.resizeterm(lines, columns)
+                self._window.clearok(True)
+        lines, columns = self._window.getmaxyx()
+        return lines, columns
+
+    def paint(self, pieces: List[Piece], cursor: Optional[Tuple[int, int]] = None) -> None:
+        """Shows these pieces and nothing else; the terminal's own cursor where one is named."""
+        lines, columns = self.size
+        self._window.erase()
+        for piece in pieces:
+            if 0 <= piece.line < lines and 0 <= piece.column < columns:
+                attribute = self._attributes.get(piece.style, 0) | (curses.A_REVERSE if piece.is_cursor else 0)
+                # Nothing can be written to the last place of a screen without an error, and it is written nevertheless.
+                with contextlib.suppress(curses.error):
+                    self._window.addnstr(piece.line, piece.column, self._shown(piece.text), columns - piece.column, attribute)
+        self._show_cursor(cursor is not None)
+        with contextlib.suppress(curses.error):
+            self._window.move(*(cursor or (lines - 1, columns - 1)))
+        self._window.refresh()
+
+    def redraw(self) -> None:
+        """What is shown next is written anew, whatever stands there."""
+        self._window.clearok(True)
+
+    def suspend(self) -> None:
+        """Back to the shell, as Ctrl-Z does elsewhere; `fg` comes back."""
+        os.killpg(os.getpgrp(), signal.SIGTSTP)
+        self.redraw()
+
+    def key(self) -> Key:
+        """The next key, or `resize`. Raises `SystemExit` where the program is to end, or the terminal is gone."""
+        empty = 0
+        while not self._keys:
+            self._fill(None)
+            # Where a terminal is gone there is always something to read, which is nothing.
+            empty += 1
+            if empty > 100:
+                time.sleep(0.01)
+            if empty > 300:
+                raise SystemExit(128 + signal.SIGHUP)
+        return self._keys.popleft()
+
+    def has_key(self, is_taken: bool) -> bool:
+        """Whether a key was pressed; it is taken away, or left for `key`. Raises as that."""
+        self._fill(0)
+        return bool(self._keys) and (self._keys.popleft() if is_taken else self._keys[0]).name != 'resize'
+
+    def _fill(self, seconds: Optional[float]) -> None:
+        """Waits for keys, or for a signal."""
+        ready = select.select([0, self._wake], [], [], seconds)[0]
+        if self._wake in ready:
+            with contextlib.suppress(OSError):
+                os.read(self._wake, 512)
+            # The window may have got another size while something was painted for the old one.
+            self._keys.append(Key('resize'))
+        if self._ended:
+            raise SystemExit(128 + self._ended)
+        if 0 in ready:
+            came = list(iter(self._read, None))
+            self._keys.extend(without_sequences(came))
+
+    def _read(self) -> Optional[Key]:
+        try:
+            code: Union[int, str] = self._window.get_wch() if hasattr(self._window, 'get_wch') else self._window.getch()
+        except curses.error:
+            return None
+        if isinstance(code, int):
+            if code == curses.KEY_MOUSE:
+                return self._mouse()
+            if code < 0 or (code in NAMES and NAMES[code] == 'resize'):
+                return None if code < 0 else Key('resize')
+            return Key(NAMES.get(code, CHARACTERS.get(chr(code), chr(code)) if code < 256 else 'other'))
+        return Key(CHARACTERS.get(code, code))
+
+    def _mouse(self) -> Key:
+        try:
+            _, column, line, _, buttons = curses.getmouse()
+        except curses.error:
+            return Key('other')
+        return Key('mouse', line, column, 3 if buttons & curses.BUTTON3_PRESSED else 1)
+
+    def _begin_colours(self) -> None:
+        try:
+            curses.start_color()
+            with contextlib.suppress(curses.error):
+                curses.use_default_colors()
+            is_coloured = curses.has_colors() and not os.environ.get('NO_COLOR')
+        except curses.error:
+            is_coloured = False
+        if not is_coloured:
+            self._attributes[Style.MARKS] = curses.A_UNDERLINE
+            return
+        for number, (style, (few, many)) in enumerate(COLOURS.items(), 1):
+            try:
+                curses.init_pair(number, many if curses.COLORS >= 256 else few, -1)
+            except (curses.error, ValueError):
+                curses.init_pair(number, few, curses.COLOR_BLACK)
+            self._attributes[style] = self._attributes.get(style, 0) | curses.color_pair(number)
+
+    def _show_cursor(self, is_shown: bool) -> None:
+        with contextlib.suppress(curses.error):
+            curses.curs_set(1 if is_shown else 0)
+
+    def _shown(self, text: str) -> str:
+        """The text as this terminal can show it."""
+        encoding = 'utf-8' if self.has_lines else 'ascii'
+        printable = ''.join(character if character.isprintable() else '?' for character in text)
+        return printable.encode(encoding, 'replace').decode(encoding)
+
+    def _note_end(self, number: int, _: object) -> None:
+        self._ended = number

@@ -1,0 +1,98 @@
+"""Programs below the board that end, take long, or lack memory: and how the game goes on then."""
+
+from __future__ import annotations
+
+import os
+import signal
+from typing import Callable, Dict
+
+from front_games.board_playing import BoardFront, Look
+from harness import Room
+from harness.game import ID, save_text
+
+KEPT = 'state/puzzles/towers.sav'
+
+#: Stands between the front and the program. It takes long over `completable`, and the memory for some replies is lacking: for one the move is
+#: made and its reply is lost, the other one is refused.
+BETWEEN = """\
+#!/usr/bin/env python3
+import json, subprocess, sys, time
+program = subprocess.Popen(['{program}', *sys.argv[1:]], stdin=subprocess.PIPE, stdout=subprocess.PIPE, close_fds=False)
+for line in sys.stdin.buffer:
+    if line == b'completable\\n':
+        time.sleep(100)
+    asked = b'board\\n' if line == b'move R2,0,3\\n' else line
+    program.stdin.write(asked)
+    program.stdin.flush()
+    reply = program.stdout.readline()
+    if line == b'move R1,0,2\\n':
+        reply = json.dumps(dict(lost='OutOfMemory')).encode() + b'\\n'
+    if line == b'move R2,0,3\\n':
+        reply = json.dumps(dict(json.loads(reply), refused='OutOfMemory', reply=['refused: OutOfMemory'])).encode() + b'\\n'
+    sys.stdout.buffer.write(reply)
+    sys.stdout.buffer.flush()
+program.stdin.close()
+sys.exit(program.wait())
+"""
+
+
+def cases(front: BoardFront) -> None:
+    for name, case in CASES.items():
+        with Room() as room, front.report.unbroken(name):
+            case(front, room, name)
+
+
+def between(front: BoardFront, room: Room) -> Dict[str, str]:
+    """The environment of a front over the program with something between."""
+    room.put('between', BETWEEN.format(program=front.program).encode(), 0o755)
+    return {**front.env(room), 'PUZZLES_JSON': os.path.join(room.path, 'between')}
+
+
+def program_killed(front: BoardFront, room: Room, name: str) -> None:
+    with front.window(room, ['towers', ID]) as window:
+        front.look(name, room, window, Look('1', ['1 of 9']))
+        for pid in window.programs():
+            os.kill(pid, signal.SIGKILL)
+        front.look(name, room, window, Look('<right>2', ['The program had ended (signal 9); the game goes on as it was. Try that again.', '1 of 9']))
+        front.look(name, room, window, Look('2', ['2 of 9', 'move 2/2']))
+        window.press('q')
+        front.same(f'{name}: the status', window.status(), 0)
+    front.same(f'{name}: what is kept', room.read(KEPT), save_text(2))
+
+
+def long_work(front: BoardFront, room: Room, name: str) -> None:
+    """A key stops it, and the game goes on."""
+    with front.window(room, ['towers', ID], env=between(front, room)) as window:
+        front.look(name, room, window, Look('1', ['1 of 9']))
+        front.look(name, room, window, Look('c', ['The program is at work. Any key stops it.']))
+        front.look(name, room, window, Look('x', ['Stopped; nothing has changed.', '1 of 9']))
+        front.look(name, room, window, Look('2', ['│   2   │', 'move 2/2']))
+
+
+def no_memory(front: BoardFront, room: Room, name: str) -> None:
+    """What was done is shown, whether its reply was lost or not, and is kept."""
+    with front.window(room, ['towers', ID], env=between(front, room)) as window:
+        front.look(name, room, window, Look('1', ['1 of 9']))
+        front.look(name, room, window, Look('<right>2', ['There is no memory left: the program did that or refused it, and could not say which.', '2 of 9']))
+        front.look(name, room, window, Look('<right>3', ['There is no memory left for that; nothing has changed.', '2 of 9']))
+        window.press('q')
+        front.same(f'{name}: the status', window.status(), 0)
+    front.same(f'{name}: what is kept', room.read(KEPT), save_text(2))
+
+
+def full_history(front: BoardFront, room: Room, name: str) -> None:
+    """A game with as many states as there may be."""
+    moves = b'MOVE    :6:P0,0,1\n' * 99_999
+    room.put('long.sav', save_text(0).replace(b'NSTATES :1:1\nSTATEPOS:1:1\n', b'NSTATES :6:100000\nSTATEPOS:6:100000\n') + moves)
+    with front.window(room, ['towers', os.path.join(room.path, 'long.sav')]) as window:
+        front.look(name, room, window, Look('', ['move 99999/99999']))
+        front.look(name, room, window, Look('1', ['A game has 100,000 states at most: undo some, then go on.']))
+        front.look(name, room, window, Look('u', ['move 99998/99999']))
+
+
+CASES: Dict[str, Callable[[BoardFront, Room, str], None]] = {
+    'the program is killed': program_killed,
+    'the program takes long': long_work,
+    'no memory': no_memory,
+    'a full history': full_history,
+}
