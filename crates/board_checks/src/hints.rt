@@ -9,7 +9,7 @@ ghost use Rattle.board_checks.specs.Inner.LeftValues.{HaveValues, IsSoonestHint}
 
 use crate::deductions::Deduces;
 use latin_board::Grid;
-use trail_solver::{Candidates, grid_candidates};
+use trail_solver::{Candidates, Trail, grid_candidates};
 
 /// What follows from the numbers of a grid.
 #[derive(Clone, Copy, PartialEq, Eq, Debug)]
@@ -72,14 +72,23 @@ fn have_values(candidates: &Candidates) -> bool
     true
 }
 
-// Replays the trail of the candidates until an empty square has one value left.
-#[tactic(auto, using(crate::proofs::ReplayedTrails::replay_found, crate::proofs::ReplayedTrails::replay_nearer))]
+// The hint that the candidates' trail gives.
 fn soonest(grid: &Grid, candidates: &Candidates) -> Hint
     requires { grid.now.size ≡ candidates.now.size }
     ensures { IsSoonestHint grid.now candidates.now result }
 {
-    let mut front = Candidates::all(candidates.size());
-    while let Some(cell) = front.follow(candidates) {
+    let trail = candidates.trail();
+    replayed(grid, &trail)
+}
+
+// Replays a trail until an empty square has one value left.
+#[tactic(auto, using(crate::proofs::ReplayedTrails::replay_found, crate::proofs::ReplayedTrails::replay_nearer))]
+fn replayed(grid: &Grid, trail: &Trail) -> Hint
+    requires { grid.now.size ≡ trail.now.size }
+    ensures { IsSoonestHint grid.now trail.now result }
+{
+    let mut front = Candidates::all(trail.size());
+    while let Some(cell) = front.follow(trail) {
         if let Some(value) = last_left(grid, &front, cell) {
             return Hint::Follows { cell, value };
         }

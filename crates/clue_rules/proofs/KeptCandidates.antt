@@ -1,31 +1,40 @@
 -- The values of a set are kept in a square, and those of a row of sets along a line.
-use Rattle.std.proofs.Common.{◌≡◌, ◌≢◌, ℕ, ◌*◌, ◌<◌, ◌≤◌, ◌⊎◌, ◌+◌, ◌==◌, true, false, List, set, inl, inr, refl, sym, ap, ◌∙◌, subst, ⊎_elim, slice_index, arith}
-use Rattle.std.proofs.lemmas.Bool.{cases_eq, cases_lt, both_ways, false_from_ne_true, ne_eqb}
-use Rattle.number_sets.specs.Sets.{has_number, IsSubset}
+use Rattle.std.proofs.Common.{◌≡◌, ◌≢◌, ℕ, ◌*◌, ◌<◌, ◌+◌, ◌==◌, true, false, not, ◌&&◌, List, ◌++◌, inl, inr, refl, sym, ap, ◌∙◌, subst, ⊎_elim, slice_index, arith}
+use Rattle.std.proofs.lemmas.Bool.{and_from, cases_eq, cases_lt, both_ways, false_from_ne_true, ne_eqb}
+use Rattle.number_sets.specs.Sets.{has_number, IsEmpty}
 use Rattle.latin_board.specs.Squares.{GridValue, number_at}
-use Rattle.trail_solver.specs.Pairs.{IsPair}
-use Rattle.trail_solver.specs.Candidates.{CandidatesValue, IsSetOf, IsEarlier, IsWithin, may_be}
+use Rattle.trail_solver.specs.Pairs.{IsPair, pairs_of}
+use Rattle.trail_solver.specs.Candidates.{CandidatesValue, IsCandidates, IsSetOf, IsEarlier, IsWithin, may_be}
 use Rattle.trail_solver.proofs.Earlier.{earlier_refl, earlier_trans, stays_gone}
+use Rattle.trail_solver.proofs.StruckSets.{AreMissing, gone_missing, missing_are, missing_strikes, rest_missing, struck_earlier}
 use Rattle.clue_rules.specs.Inner.Narrowing.{KeepsInSquare, KeepsInView, Agrees, AreSetsOf, KeepsEach}
 use Rattle.clue_rules.specs.Struck.{IsGivenStruck}
 use Rattle.clue_rules.specs.Views.{view_cell}
 
--- ---- one square, value by value
+-- ---- one square
 
--- now is first without the values below n that the set lacks
-pub record KeepsBelow (first now : CandidatesValue) (cell kept n : ℕ) : Type 0 where
-  pub less : IsEarlier first now
-  pub gone : (v : ℕ) → 1 ≤ v → v < n → has_number kept v ≡ false → may_be now cell v ≡ false
-  pub rest : (c v : ℕ) → (c ≢ cell) ⊎ (has_number kept v ≡ true) → may_be now c v ≡ may_be first c v
-
--- a square whose candidates are all in the set
-pub kept_whole : (c : CandidatesValue) (cell kept set : ℕ) → IsSetOf c cell set → IsSubset set kept → KeepsInSquare c c cell kept
-kept_whole c cell kept set is whole = record {
+-- the candidates that the set lacks are none
+pub kept_whole : (c : CandidatesValue) (cell values kept missing : ℕ) → IsSetOf c cell values
+    → ((v : ℕ) → has_number missing v ≡ (has_number values v && not (has_number kept v))) → IsEmpty missing → KeepsInSquare c c cell kept
+kept_whole c cell values kept missing is left none = record {
   less = earlier_refl c;
-  gone = λ v pair lacks. false_from_ne_true (may_be c cell v) (λ left.
-      both_ways (has_number kept v) lacks (whole v ((is v).1 (pair, left))));
+  gone = λ v pair lacks. false_from_ne_true (may_be c cell v) (λ there.
+      both_ways (has_number missing v) (none v) (left v ∙ and_from _ _ ((is v).1 (pair, there)) (ap not lacks)));
   rest = λ d v h. refl;
 }
+
+-- they are struck
+pub kept_struck : (old new : CandidatesValue) (cell values kept missing : ℕ) → IsCandidates old → IsSetOf old cell values
+    → ((v : ℕ) → has_number missing v ≡ (has_number values v && not (has_number kept v)))
+    → new.size ≡ old.size → new.trail ≡ old.trail ++ pairs_of cell missing → KeepsInSquare old new cell kept
+kept_struck old new cell values kept missing valid is left size trail =
+    let s = missing_strikes old new cell missing valid (missing_are old cell values kept missing is left) size trail in
+    let m : AreMissing values kept missing = record { is = left } in
+    record {
+      less = struck_earlier old new cell missing s;
+      gone = λ v pair lacks. gone_missing old new cell values kept missing v is m s pair lacks;
+      rest = λ c v h. rest_missing old new cell values kept missing c v m s h;
+    }
 
 -- ---- a line, square by square
 

@@ -1,5 +1,5 @@
 -- What one row or column rules out: its squares' candidates as sets, and a Latin square among them.
-use Rattle.std.proofs.Common.{◌≡◌, ℕ, ◌*◌, ◌<◌, Bool, true, false, List, inl, inr, sym, ap, ◌∙◌, subst, arith, slice_index}
+use Rattle.std.proofs.Common.{◌≡◌, ℕ, ◌*◌, ◌<◌, Bool, true, false, List, inl, inr, refl, sym, ap, ◌∙◌, subst, arith, slice_index}
 use Rattle.std.proofs.lemmas.Bool.{both_ways, false_from_ne_true}
 use Rattle.number_sets.specs.Sets.{IsSingle, has_number}
 use Rattle.latin_board.specs.Squares.{GridValue, number_at}
@@ -10,12 +10,13 @@ use Rattle.trail_solver.specs.Pairs.{IsPair}
 use Rattle.trail_solver.specs.Candidates.{CandidatesValue, IsSetOf, IsEarlier, IsOnly, IsWithin, may_be}
 use Rattle.trail_solver.proofs.Earlier.{earlier_refl, only_later, was_left}
 use Rattle.clue_rules.specs.Inner.Narrowing.{AreSetsOf, IsSquare, KeepsInView, Narrows, StruckBelow}
-use Rattle.clue_rules.specs.Inner.LineTallies.{IsPossible, IsWholeTally, IsKeptOf, IsLineStruck, HoldValuesTo}
+use Rattle.clue_rules.specs.Inner.LineTallies.{IsPossible, IsWholeTally, IsSettledTally, IsKeptOf, IsLineStruck, HoldValuesTo}
 use Rattle.clue_rules.specs.Struck.{IsOnePlace, IsPeerStruck, IsPlaceStruck, IsLatinStruck}
 use Rattle.clue_rules.specs.Views.{view_cell}
 use Rattle.clue_rules.specs.declared.lines.latin.LineTally.{LineTally}
 use Rattle.clue_rules.proofs.Narrowings.{on_true, on_false, narrows_by}
-use Rattle.clue_rules.proofs.LineTallying.{possible_stays, taken_goes, displaced_goes}
+use Rattle.clue_rules.proofs.KeptCandidates.{along_whole}
+use Rattle.clue_rules.proofs.LineTallying.{possible_stays, taken_goes, displaced_goes, settled_kept}
 
 -- ---- from the sets that are kept along a line to a step of narrowing
 
@@ -209,3 +210,10 @@ pub line_narrows : (old new : CandidatesValue) (line place : ℕ) (sets kept : L
 line_narrows old new line place sets kept t left a is whole keeps h =
     along_narrows (λ g s size w k inside. line_solved old line place sets kept t a is whole keeps g s size w k inside)
     (λ first e cell v s. line_struck old line place sets kept t a is whole keeps first e cell v s) h
+
+-- where every value may stay, nothing goes
+pub line_settled : (c : CandidatesValue) (line place : ℕ) (sets : List ℕ) (t : LineTally) → IsAlong c.size line place
+    → AreSetsOf c place sets → IsWholeTally sets c.size t → IsSettledTally t → Narrows IsSquare (IsLineStruck line) c c true
+line_settled c line place sets t a is whole settled =
+    line_narrows c c line place sets sets t true a is whole (settled_kept sets c.size t whole settled)
+    (along_whole place sets sets c is (λ k low. refl))

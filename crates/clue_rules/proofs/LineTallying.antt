@@ -4,7 +4,7 @@ use Rattle.std.proofs.lemmas.Bool.{cases_Bool, cases_lt, cases_eq, cases_order, 
 use Rattle.std.proofs.Math.ListN.{length-set}
 use Rattle.number_sets.specs.Sets.{has_number, no_numbers, IsEmpty, IsShared, IsSingle, IsSubset}
 use Rattle.number_sets.proofs.Members.{has_number-none}
-use Rattle.clue_rules.specs.Inner.LineTallies.{IsPossible, IsTally, IsWholeTally, IsSinglesOf, IsCounted, IsClash, IsForced, IsFree, IsHidden, MayStay, IsKeptOf, HoldValuesTo}
+use Rattle.clue_rules.specs.Inner.LineTallies.{IsPossible, IsTally, IsWholeTally, IsSinglesOf, IsCounted, IsClash, IsForced, IsFree, IsHidden, IsSettledTally, MayStay, IsKeptOf, HoldValuesTo}
 use Rattle.clue_rules.specs.declared.lines.latin.LineTally.{LineTally}
 use Rattle.clue_rules.proofs.FilledLemmas.{entries_more}
 use Rattle.clue_rules.proofs.RangeLemmas.{below_one_more}
@@ -224,6 +224,37 @@ kept_nothing t set forced kept many f there two none = rw none (record {
         absurd (two v (record { has = subst P (is there.0 there.1) there.1; alone = is }))
   ];
 })
+
+-- where the values that just one set has are those that are alone in one, every value may stay
+pub settled_kept : (sets : List ℕ) (w : ℕ) (t : LineTally) → IsWholeTally sets w t → IsSettledTally t → (k : ℕ) → k < w
+    → IsKeptOf t (slice_index sets k) (slice_index sets k)
+settled_kept sets w t h settled k inside =
+    let own : (u : ℕ) → has_number (slice_index sets k) u ≡ true → has_number t.singles u ≡ true → IsSingle (slice_index sets k) u =
+    λ u has alone.
+    let by = (h.tally.singles u).0 alone in
+    let lone = not-true (has_number t.twice u) (and_parts _ _ (settled u ∙ alone)).1 in
+    elim (cases_order by.0 k) [
+      | inl same ↦ let P : ℕ → Type 0 = λ i. IsSingle (slice_index sets i) u in subst P same by.2
+      | inr order ↦ elim order [
+        | inl before ↦ absurd (both_ways (has_number t.twice u) lone ((h.tally.twice u).1 (by.0, k, before, inside, by.2.has, has)))
+        | inr after ↦ absurd (both_ways (has_number t.twice u) lone ((h.tally.twice u).1 (k, by.0, after, by.1, has, by.2.has)))
+      ]
+    ] in
+    record {
+      only = λ v has. (
+        has,
+        elim (cases_Bool (has_number t.singles v)) [
+          | inl alone ↦ inl (own v has alone)
+          | inr free ↦ inr (
+            λ u there hidden.
+                let alone : has_number t.singles u ≡ true = sym (settled u) ∙ and_from _ _ hidden.once (ap not hidden.lone) in
+                sym ((own u there alone).alone v has),
+            free,
+          )
+        ],
+      );
+      all = λ v has stays. has;
+    }
 
 -- ---- one set counted
 

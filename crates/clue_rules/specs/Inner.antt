@@ -9,3 +9,4 @@ pub mod UnequalFields
 pub mod UnequalItems
 pub mod UnequalLines
 pub mod UnequalPieces
+pub mod ViewSquares

@@ -3,7 +3,7 @@
 ghost use Rattle.std.specs.Prelude.{◌≡◌, ◌*◌, ◌<◌, ◌≤◌, ◌↔◌, IsTrue};
 ghost use Rattle.std.specs.Cmp.{decided, partial_equiv_from_equiv};
 ghost use Rattle.latin_board.specs.declared.grid.TheConstants.{CELLS};
-ghost use Rattle.clue_rules.specs.Unequal.{IsUnequal, IsGreater, unequal_given_grid, is_greater, sign_between};
+ghost use Rattle.clue_rules.specs.Unequal.{IsUnequal, IsGreater, unequal_given_grid, is_greater, sign_between, right_sign, lower_sign};
 ghost use Rattle.clue_rules.specs.Laws.UnequalSameness.{same_unequal, same_unequal_decides};
 
 mod description;
@@ -95,6 +95,24 @@ impl Unequal {
         } else {
             Sign::Absent
         }
+    }
+
+    // The sign between a square and its right neighbour, absent where it has none.
+    fn right_sign(&self, cell: usize) -> Sign
+        requires { cell < self.now.size * self.now.size }
+        ensures value { result ≡ right_sign self.now cell }
+        ensures valid { IsUnequal self.now }
+    {
+        self.right[cell]
+    }
+
+    // The sign between a square and its lower neighbour, absent where it has none.
+    fn lower_sign(&self, cell: usize) -> Sign
+        requires { cell < self.now.size * self.now.size }
+        ensures value { result ≡ lower_sign self.now cell }
+        ensures valid { IsUnequal self.now }
+    {
+        self.below[cell]
     }
 
     // A function of its own, so that `eq` need only prove that the test decides equality.

@@ -2,6 +2,7 @@
 pub mod Counts
 pub mod EdgePlaces
 pub mod Exchanges
+pub mod FoundNumbers
 pub mod LatinLines
 pub mod LatinTest
 pub mod Numbers

@@ -9,6 +9,7 @@ ghost use Rattle.latin_board.specs.Sameness.{same_grid, same_grid_decides};
 
 use crate::lines::line_cell;
 use crate::size::Size;
+use number_sets::NumberSet;
 use std::marker::Model;
 
 /// How many squares the largest grid has.
@@ -107,30 +108,15 @@ impl Grid {
         requires { line < 2 * self.now.size }
         ensures { IsTrue result ↔ HasEachOnce self.now.size (line_of self.now line) }
     {
-        let width = self.size().get();
-        for n in 1..width + 1 {
-            if self.times_in(line, n) != 1 {
-                return false;
-            }
-        }
-        true
-    }
-
-    // How often a number stands in a line.
-    fn times_in(&self, line: u8, n: u8) -> u8
-        requires { line < 2 * self.now.size }
-        ensures { result ≡ times_in n (line_of self.now line) }
-    {
         let size = self.size();
         let width = size.get();
-        let mut times = 0;
+        let mut found = NumberSet::empty();
         for place in 0..width {
             let number = self.get(line_cell(size, line, place));
-            if number == n {
-                times += 1;
-            }
+            found = found.union(NumberSet::one(number));
         }
-        times
+        // There are as many squares as numbers: where none is missing, none is there twice.
+        NumberSet::up_to(width).is_subset(found)
     }
 
     // The numbers of the grid's squares alone.

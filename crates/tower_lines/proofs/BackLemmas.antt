@@ -7,6 +7,7 @@ use Rattle.tower_lines.specs.TowersSeen.{seen, seen_after}
 use Rattle.number_sets.specs.Sets.{has_number, no_numbers, IsShared}
 use Rattle.tower_lines.specs.LineFillings.{IsStart}
 use Rattle.tower_lines.specs.Inner.LineMasks.{AreNextValues, IsMask, AreFrontCounts, IsEnd, AreBackCounts, IsPassed}
+use Rattle.tower_lines.specs.Inner.ReachedMasks.{IsAmong, AreReached}
 use Rattle.number_sets.proofs.OneMore.{added_with, added_without, added_other, added_ones, added_below}
 use Rattle.number_sets.proofs.Members.{has_number-none, has_number-or, number_of_one, has_number-one_same, below_from_numbers}
 use Rattle.tower_lines.proofs.MaskLemmas.{mask_more, mask-ones, tower, seen-next, seen-more}
@@ -85,7 +86,6 @@ back_full {sets} {clue} {mask} {counts} full is = record {
       rw (is, same) (has_number-one_same clue);
 }
 
--- a mask that no start has
 -- no start with the mask shows a count that the clue allows
 pub back_unreached : {sets : List ℕ} {clue mask counts reached : ℕ} → counts ≡ no_numbers → reached ≡ no_numbers
     → AreFrontCounts sets clue mask reached → AreBackCounts sets clue mask counts
@@ -186,13 +186,44 @@ passed_values_small {sets} {clue} {mask} {counts} {passed} back =
     let h = back.passed_only j e in
     absurd (omega (arith, (next_in h.before j h.after h.filling.start h.used).small))))
 
--- one more entry of the table, from above
-pub backs_more : {sets : List ℕ} {clue mask counts : ℕ} (back : List ℕ)
-    → ((m : ℕ) → mask < m → m < 2 ^ length sets → AreBackCounts sets clue m (get_or back m 0)) → mask < length back
-    → AreBackCounts sets clue mask counts
-    → (m : ℕ) → mask ≤ m → m < 2 ^ length sets → AreBackCounts sets clue m (get_or (set back mask counts) m 0)
-backs_more {sets} {clue} {mask} {counts} back above inside here m from l =
-    elim (cases_eq m mask) [
-      | inl same ↦ rw same (rw (get_or-set_same back mask counts 0 inside) here)
-      | inr other ↦ rw (get_or-set_other back mask m counts 0 other) (above m (omega arith) l)
-    ]
+-- ---- one mask of the list after the other, from its end
+
+-- a table in which the masks that aren't among the list's first ones are done
+pub record AreBacks (sets : List ℕ) (clue : ℕ) (masks : List ℕ) (to : ℕ) (back : List ℕ) : Type 0 where
+  pub each : (m : ℕ) → m < 2 ^ length sets → (IsAmong masks 0 to m → ⊥) → AreBackCounts sets clue m (get_or back m 0)
+
+pub backs_none : {sets front masks places : List ℕ} {clue len : ℕ} (back : List ℕ)
+    → ((m : ℕ) → m < 2 ^ length sets → AreFrontCounts sets clue m (get_or front m 0)) → AreReached sets len front masks places
+    → ((m : ℕ) → get_or back m 0 ≡ 0) → AreBacks sets clue masks len back
+backs_none {sets} {front} back counts reached none = record {
+  each = λ m small apart. elim (cases_eq (get_or front m 0) 0) [
+    | inl zero ↦ back_unreached (none m) zero (counts m small)
+    | inr some ↦ absurd (apart (reached.listed m small some))
+  ];
+}
+
+-- the masks with more values are done
+pub backs_above : {sets front masks places back : List ℕ} {clue len to : ℕ} (index : ℕ) → to ≡ index + 1 → to ≤ len → AreReached sets len front masks places
+    → AreBacks sets clue masks to back
+    → (m : ℕ) → count_ones (get_or masks index 0) < count_ones m → m < 2 ^ length sets → AreBackCounts sets clue m (get_or back m 0)
+backs_above {sets} {front} {masks} {places} {back} {clue} {len} {to} index next inside reached h m more small =
+    h.each m small (λ at.
+    let same : count_ones (get_or masks at.index 0) ≡ count_ones m = ap count_ones at.is in
+    elim (cases_eq at.index index) [
+      | inl e ↦ (let here : count_ones (get_or masks at.index 0) ≡ count_ones (get_or masks index 0) = ap (λ i. count_ones (get_or masks i 0)) e in absurd (omega arith))
+      | inr other ↦ absurd (omega (arith, reached.ordered at.index index (omega (arith, at.high)) (omega arith)))
+    ])
+
+-- one more entry
+pub backs_more : {sets masks : List ℕ} {clue counts to : ℕ} (back : List ℕ) (index : ℕ) → to ≡ index + 1 → AreBacks sets clue masks to back
+    → get_or masks index 0 < length back → AreBackCounts sets clue (get_or masks index 0) counts
+    → AreBacks sets clue masks index (set back (get_or masks index 0) counts)
+backs_more {sets} {masks} {clue} {counts} {to} back index next h inside here = record {
+  each = λ m small apart. elim (cases_eq m (get_or masks index 0)) [
+    | inl same ↦ rw same (rw (get_or-set_same back (get_or masks index 0) counts 0 inside) here)
+    | inr other ↦ rw (get_or-set_other back (get_or masks index 0) m counts 0 other) (h.each m small (λ at. elim (cases_eq at.index index) [
+      | inl e ↦ other (sym at.is ∙ ap (λ i. get_or masks i 0) e)
+      | inr ne ↦ apart (record { index = at.index; low = at.low; high = omega (arith, at.high); is = at.is })
+    ]))
+  ];
+}

@@ -1,26 +1,30 @@
 -- The counts of towers along the starts with a mask, as the masks below it go on to it with one value more.
-use Rattle.std.proofs.Common.{◌≡◌, ◌≢◌, ℕ, ◌+◌, ◌-◌, ◌^◌, ◌<◌, ◌≤◌, ◌⊎◌, inl, inr, true, false, ltb, cond, List, [], ◌∷◌, ◌++◌, length, get_or, set, refl, sym, ap, ◌∙◌, subst, arith, bit_or, count_ones}
-use Rattle.std.proofs.lemmas.Bool.{cases_eq, cases_lt, both_ways, or_cases, or_left, or_right}
-use Rattle.std.proofs.lemmas.Nat.{ones-le}
-use Rattle.std.proofs.lemmas.List.{get_or-set_same, get_or-set_other}
+use Rattle.std.proofs.Common.{◌≡◌, ◌≢◌, ℕ, ◌+◌, ◌-◌, ◌^◌, ◌<◌, ◌≤◌, ◌⊎◌, inl, inr, true, false, ltb, cond, List, [], ◌∷◌, ◌++◌, length, get_or, set, refl, sym, ap, ◌∙◌, subst, arith, append_assoc, bit_or, count_ones}
+use Rattle.std.proofs.lemmas.Bool.{cases_eq, both_ways, or_cases, or_left, or_right}
+use Rattle.std.proofs.lemmas.Nat.{ones-le, pow_pos}
+use Rattle.std.proofs.lemmas.List.{append-nil, length_push, get_or-set_same, get_or-set_other}
 use Rattle.tower_lines.specs.TowersSeen.{seen}
-use Rattle.number_sets.specs.Sets.{has_number, no_numbers}
+use Rattle.number_sets.specs.Sets.{has_number}
 use Rattle.tower_lines.specs.LineFillings.{IsStart}
-use Rattle.tower_lines.specs.Inner.LineMasks.{AreNextValues, IsMask, AreFrontCounts, AreCountsSoFar, AreDoneBelow}
-use Rattle.number_sets.proofs.OneMore.{added_with, added_without, added_above, added_below, added_other, added_ones}
+use Rattle.tower_lines.specs.Inner.LineMasks.{AreNextValues, IsMask, AreFrontCounts, AreCountsSoFar}
+use Rattle.number_sets.proofs.OneMore.{added_with, added_without, added_below, added_other, added_ones}
 use Rattle.number_sets.proofs.Members.{has_number-none, has_number-or, below_from_number}
-use Rattle.tower_lines.proofs.MaskLemmas.{mask_none, mask_more, mask_of, mask_unique, mask-ones, tower, seen-more}
+use Rattle.tower_lines.proofs.MaskLemmas.{mask_none, mask_more, mask_of, mask_unique, mask-ones, mask_small, tower, seen-more}
 use Rattle.tower_lines.proofs.NextValues.{IsNext, bit_from_start}
 use Rattle.tower_lines.proofs.SeenLemmas.{seen-append}
 use Rattle.tower_lines.proofs.StartLemmas.{IsNextValue, start_front, start_next, start_more}
 
--- what is done while the values of a mask are gone through: the masks below it, and its values that aren't left
-abbrev pub IsDone : ℕ → ℕ → ℕ → ℕ → Type 0
-IsDone mask left rest k = (rest < mask) ⊎ ((rest ≡ mask) × (has_number left k ≡ false))
+-- what is done while the values of a mask are gone through: the masks before it, and its values that aren't left
+abbrev pub IsDone : (ℕ → Type 0) → ℕ → ℕ → ℕ → ℕ → Type 0
+IsDone Before mask left rest k = Before rest ⊎ ((rest ≡ mask) × (has_number left k ≡ false))
 
--- the same for a whole table
-pub record AreDoneBut (sets : List ℕ) (clue mask left : ℕ) (front : List ℕ) : Type 0 where
-  pub each : (m : ℕ) → m < 2 ^ length sets → AreCountsSoFar sets clue m (get_or front m 0) (IsDone mask left)
+-- a table when some masks are done
+pub record AreDone (sets : List ℕ) (clue : ℕ) (Before : ℕ → Type 0) (front : List ℕ) : Type 0 where
+  pub each : (m : ℕ) → m < 2 ^ length sets → AreCountsSoFar sets clue m (get_or front m 0) (λ rest k. Before rest)
+
+-- and when some values of one more are
+pub record AreDoneBut (sets : List ℕ) (clue : ℕ) (Before : ℕ → Type 0) (mask left : ℕ) (front : List ℕ) : Type 0 where
+  pub each : (m : ℕ) → m < 2 ^ length sets → AreCountsSoFar sets clue m (get_or front m 0) (IsDone Before mask left)
 
 -- ---- one mask of the table
 
@@ -35,36 +39,41 @@ so_far_same {sets} {clue} {mask} {counts} {Done} {New} to h = record {
   all = λ q k rest used done start m few. h.all q k rest used (to q k rest used done start few) start m few;
 }
 
--- a mask is right once all masks below it are done
-pub front_done : {sets : List ℕ} {clue mask from counts : ℕ} → mask ≤ from → AreCountsSoFar sets clue mask counts (λ rest k. rest < from)
-    → AreFrontCounts sets clue mask counts
-front_done {sets} {clue} {mask} {from} {counts} below h = record {
-  only = h.only;
-  all = λ p start used few. each p start used few;
+-- a mask is right once all masks that have fewer values and a count are done
+pub front_counts : {sets : List ℕ} {clue : ℕ} {Before : ℕ → Type 0} (front : List ℕ) (most : ℕ) → AreDone sets clue Before front
+    → ((rest : ℕ) → rest < 2 ^ length sets → count_ones rest < most → get_or front rest 0 ≢ 0 → Before rest)
+    → (m : ℕ) → m < 2 ^ length sets → count_ones m ≤ most → AreFrontCounts sets clue m (get_or front m 0)
+front_counts {sets} {clue} {Before} front most h early m small few = record {
+  only = (h.each m small).only;
+  all = λ p start used shown.
+      let n = mask-ones p start used in
+      along p [] start (λ i used short low. let none : i ≡ 0 = mask_unique [] used mask_none in
+      rw none ((h.each 0 (pow_pos (length sets))).first refl)) m used (omega arith) shown;
 }
   where
-    last_split : (x : ℕ) (p : List ℕ) → (q : List ℕ) × (v : ℕ) × (x ∷ p ≡ q ++ v ∷ [])
-    last_split x [] = ([], x, refl)
-    last_split x (y ∷ p) = let r = last_split y p in (x ∷ r.0, r.1, ap (λ s. x ∷ s) r.2)
+    Counted : List ℕ → Type 0
+    Counted p = (i : ℕ) → IsMask i p → length p ≤ most → seen p ≤ clue → has_number (get_or front i 0) (seen p) ≡ true
 
-    at_last : (q : List ℕ) (k : ℕ) → IsStart sets (q ++ (k + 1) ∷ []) → IsMask mask (q ++ (k + 1) ∷ []) → seen (q ++ (k + 1) ∷ []) ≤ clue
-        → has_number counts (seen (q ++ (k + 1) ∷ [])) ≡ true
-    at_last q k start used few =
-        let before = mask_of q (start_front q ((k + 1) ∷ []) start) in
-        let fresh = before.used.bits k ∙ (start_next q (k + 1) [] start).fresh in
-        let a = added_with before.mask k (before.mask + 2 ^ k) fresh refl in
-        let is : mask ≡ before.mask + 2 ^ k = mask_unique (q ++ (k + 1) ∷ []) used (mask_more q before.used a) in
-        h.all q k before.mask before.used (omega (arith, added_above a)) start used few
+    more : (q : List ℕ) (k : ℕ) → IsStart sets (q ++ (k + 1) ∷ []) → Counted q → Counted (q ++ (k + 1) ∷ [])
+    more q k start before i used short low =
+        let r = mask_of q (start_front q ((k + 1) ∷ []) start) in
+        let n = length_push q (k + 1) in
+        let fits : seen q ≤ clue = omega (arith, seen-append q ((k + 1) ∷ [])) in
+        let here = before r.mask r.used (omega arith) fits in
+        let some : get_or front r.mask 0 ≢ 0 = λ e. both_ways (has_number 0 (seen q)) (has_number-none (seen q)) (rw e at here) in
+        let done = early r.mask r.small (omega (arith, r.ones)) some in
+        (h.each i (mask_small (q ++ (k + 1) ∷ []) start used)).all q k r.mask r.used done start used low
 
-    each : (p : List ℕ) → IsStart sets p → IsMask mask p → seen p ≤ clue → has_number counts (seen p) ≡ true
-    each [] start used few = h.first (mask_unique [] used mask_none)
-    each (x ∷ p) start used few =
-        let r = last_split x p in
-        let low = (start_next r.0 r.1 [] (rw r.2 at start)).low in
-        let e : r.1 ≡ (r.1 - 1) + 1 = omega arith in
-        let whole : x ∷ p ≡ r.0 ++ (r.1 - 1 + 1) ∷ [] = r.2 ∙ ap (λ v. r.0 ++ v ∷ []) e in
-        let P : List ℕ → Type 0 = λ l. IsStart sets l → IsMask mask l → seen l ≤ clue → has_number counts (seen l) ≡ true in
-        subst P (sym whole) (at_last r.0 (r.1 - 1)) start used few
+    along : (s q : List ℕ) → IsStart sets (q ++ s) → Counted q → Counted (q ++ s)
+    along [] q start before = rw append-nil before
+    along (x ∷ s) q start before =
+        let whole : (q ++ x ∷ []) ++ s ≡ q ++ x ∷ s = append_assoc q (x ∷ []) s in
+        let low = (start_next q x s start).low in
+        let e : (x - 1) + 1 ≡ x = omega arith in
+        let front' : IsStart sets (q ++ x ∷ []) = start_front (q ++ x ∷ []) s (rw whole start) in
+        let one = more q (x - 1) (rw e front') before in
+        let one' : Counted (q ++ x ∷ []) = rw e at one in
+        rw whole at (along s (q ++ x ∷ []) (rw whole start) one')
 
 -- ---- one value more
 
@@ -107,10 +116,10 @@ front_step {sets} {clue} {mask} {k} {counts} {more} value inside next is front o
     }
 
 -- the entry of the mask with the value
-counts_here : {sets : List ℕ} {clue mask left counts k more : ℕ} (next : ℕ) → has_number left k ≡ true → next + 2 ^ k ≡ left
-    → AreCountsSoFar sets clue (mask + 2 ^ k) counts (IsDone mask left) → AreCountsBy sets clue mask k more
-    → AreCountsSoFar sets clue (mask + 2 ^ k) (bit_or counts more) (IsDone mask next)
-counts_here {sets} {clue} {mask} {left} {counts} {k} {more} next used sum h by =
+counts_here : {sets : List ℕ} {clue mask left counts k more : ℕ} {Before : ℕ → Type 0} (next : ℕ) → has_number left k ≡ true → next + 2 ^ k ≡ left
+    → AreCountsSoFar sets clue (mask + 2 ^ k) counts (IsDone Before mask left) → AreCountsBy sets clue mask k more
+    → AreCountsSoFar sets clue (mask + 2 ^ k) (bit_or counts more) (IsDone Before mask next)
+counts_here {sets} {clue} {mask} {left} {counts} {k} {more} {Before} next used sum h by =
     let a = added_without next k left used sum in
     record {
       only = λ c e. elim (or_cases _ _ (sym (has_number-or counts more c) ∙ e)) [ inl f ↦ h.only c f | inr f ↦ by.only c f ];
@@ -126,9 +135,9 @@ counts_here {sets} {clue} {mask} {left} {counts} {k} {more} next used sum h by =
     }
 
 -- and every other entry
-counts_there : {sets : List ℕ} {clue mask left m counts : ℕ} (next k : ℕ) → has_number left k ≡ true → next + 2 ^ k ≡ left → m ≢ mask + 2 ^ k
-    → AreCountsSoFar sets clue m counts (IsDone mask left) → AreCountsSoFar sets clue m counts (IsDone mask next)
-counts_there {sets} {clue} {mask} {left} {m} {counts} next k used sum other h =
+counts_there : {sets : List ℕ} {clue mask left m counts : ℕ} {Before : ℕ → Type 0} (next k : ℕ) → has_number left k ≡ true → next + 2 ^ k ≡ left → m ≢ mask + 2 ^ k
+    → AreCountsSoFar sets clue m counts (IsDone Before mask left) → AreCountsSoFar sets clue m counts (IsDone Before mask next)
+counts_there {sets} {clue} {mask} {left} {m} {counts} {Before} next k used sum other h =
     let a = added_without next k left used sum in
     record {
       only = h.only;
@@ -149,34 +158,36 @@ counts_there {sets} {clue} {mask} {left} {m} {counts} next k used sum other h =
 -- ---- the table
 
 -- before the first mask
-first_entry : {sets : List ℕ} {clue : ℕ} → AreCountsSoFar sets clue 0 1 (λ rest k. rest < 0)
-first_entry {sets} {clue} = record {
+first_entry : {sets : List ℕ} {clue : ℕ} {Before : ℕ → Type 0} → ((rest : ℕ) → Before rest → ⊥)
+    → AreCountsSoFar sets clue 0 1 (λ rest k. Before rest)
+first_entry {sets} {clue} none = record {
   only = λ c e.
-      let none : c ≡ 0 = omega (arith, below_from_number 1 1 c (omega arith) e) in
-      ([], record { room = omega arith; values = λ j l. absurd (omega arith); candidates = λ j l. absurd (omega arith); apart = λ i j o l. absurd (omega arith) }, mask_none, sym none);
+      let zero : c ≡ 0 = omega (arith, below_from_number 1 1 c (omega arith) e) in
+      ([], record { room = omega arith; values = λ j l. absurd (omega arith); candidates = λ j l. absurd (omega arith); apart = λ i j o l. absurd (omega arith) }, mask_none, sym zero);
   first = λ z. refl;
-  all = λ q k rest used done start m few. absurd (omega arith);
+  all = λ q k rest used done start m few. absurd (none rest done);
 }
 
-no_entry : {sets : List ℕ} {clue : ℕ} (mask : ℕ) → mask ≢ 0 → AreCountsSoFar sets clue mask 0 (λ rest k. rest < 0)
-no_entry {sets} {clue} mask some = record {
+no_entry : {sets : List ℕ} {clue : ℕ} {Before : ℕ → Type 0} (mask : ℕ) → mask ≢ 0 → ((rest : ℕ) → Before rest → ⊥)
+    → AreCountsSoFar sets clue mask 0 (λ rest k. Before rest)
+no_entry {sets} {clue} mask some none = record {
   only = λ c e. absurd (both_ways (has_number 0 c) (has_number-none c) e);
   first = λ z. absurd (some z);
-  all = λ q k rest used done start m few. absurd (omega arith);
+  all = λ q k rest used done start m few. absurd (none rest done);
 }
 
-pub table_start : {sets : List ℕ} {clue : ℕ} (front : List ℕ) → ((m : ℕ) → get_or front m 0 ≡ 0) → 0 < length front
-    → AreDoneBelow sets clue 0 (set front 0 1)
-table_start {sets} {clue} front zero inside = record {
+pub table_start : {sets : List ℕ} {clue : ℕ} {Before : ℕ → Type 0} (front : List ℕ) → ((m : ℕ) → get_or front m 0 ≡ 0) → 0 < length front
+    → ((rest : ℕ) → Before rest → ⊥) → AreDone sets clue Before (set front 0 1)
+table_start {sets} {clue} front zero inside none = record {
   each = λ m small. elim (cases_eq m 0) [
-    | inl same ↦ rw same (rw (get_or-set_same front 0 1 0 inside) first_entry)
-    | inr other ↦ rw (get_or-set_other front 0 m 1 0 other, zero m) (no_entry m other)
+    | inl same ↦ rw same (rw (get_or-set_same front 0 1 0 inside) (first_entry none))
+    | inr other ↦ rw (get_or-set_other front 0 m 1 0 other, zero m) (no_entry m other none)
   ];
 }
 
 -- at a mask
-pub table_at : {sets : List ℕ} {clue mask left : ℕ} (front : List ℕ) → AreNextValues sets mask left → AreDoneBelow sets clue mask front
-    → AreDoneBut sets clue mask left front
+pub table_at : {sets : List ℕ} {clue mask left : ℕ} {Before : ℕ → Type 0} (front : List ℕ) → AreNextValues sets mask left
+    → AreDone sets clue Before front → AreDoneBut sets clue Before mask left front
 table_at {sets} {clue} {mask} {left} front bits h = record {
   each = λ m small. so_far_same (λ q k rest used done start few. elim done [
     | inl l ↦ l
@@ -185,15 +196,15 @@ table_at {sets} {clue} {mask} {left} front bits h = record {
 }
 
 -- one value more
-pub table_more : {sets : List ℕ} {clue mask left k more : ℕ} (next value : ℕ) (front : List ℕ) → has_number left k ≡ true → value ≡ 2 ^ k
+pub table_more : {sets : List ℕ} {clue mask left k more : ℕ} {Before : ℕ → Type 0} (next value : ℕ) (front : List ℕ) → has_number left k ≡ true → value ≡ 2 ^ k
     → next + value ≡ left → mask + value < length front
-    → AreCountsBy sets clue mask k more → AreDoneBut sets clue mask left front
-    → AreDoneBut sets clue mask next (set front (mask + value) (bit_or (get_or front (mask + value) 0) more))
-table_more {sets} {clue} {mask} {left} {k} {more} next value front used is sum inside by h =
+    → AreCountsBy sets clue mask k more → AreDoneBut sets clue Before mask left front
+    → AreDoneBut sets clue Before mask next (set front (mask + value) (bit_or (get_or front (mask + value) 0) more))
+table_more {sets} {clue} {mask} {left} {k} {more} {Before} next value front used is sum inside by h =
     let old = get_or front (mask + value) 0 in
     let sum' : next + 2 ^ k ≡ left = rw is at sum in
-    let P : ℕ → Type 0 = λ n. AreCountsSoFar sets clue (mask + n) old (IsDone mask left) in
-    let Q : ℕ → Type 0 = λ n. AreCountsSoFar sets clue (mask + n) (bit_or old more) (IsDone mask next) in
+    let P : ℕ → Type 0 = λ n. AreCountsSoFar sets clue (mask + n) old (IsDone Before mask left) in
+    let Q : ℕ → Type 0 = λ n. AreCountsSoFar sets clue (mask + n) (bit_or old more) (IsDone Before mask next) in
     record {
       each = λ m small. elim (cases_eq m (mask + value)) [
         | inl same ↦ (let there : P value = rw same at (h.each m small) in
@@ -202,44 +213,24 @@ table_more {sets} {clue} {mask} {left} {k} {more} next value front used is sum i
       ];
     }
 
--- behind a mask
-pub table_next : {sets : List ℕ} {clue mask : ℕ} (front : List ℕ) → AreDoneBut sets clue mask 0 front
-    → AreDoneBelow sets clue (mask + 1) front
-table_next {sets} {clue} {mask} front h = record {
-  each = λ m small. so_far_same (λ q k rest used done start few. elim (cases_lt rest mask) [
+-- after a mask
+pub table_next : {sets : List ℕ} {clue mask : ℕ} {Before After : ℕ → Type 0} (front : List ℕ) → ((rest : ℕ) → After rest → Before rest ⊎ (rest ≡ mask))
+    → AreDoneBut sets clue Before mask 0 front → AreDone sets clue After front
+table_next {sets} {clue} {mask} front split h = record {
+  each = λ m small. so_far_same (λ q k rest used done start few. elim (split rest done) [
     | inl l ↦ inl l
-    | inr n ↦ inr (omega arith, has_number-none k)
+    | inr e ↦ inr (e, has_number-none k)
   ]) (h.each m small);
 }
 
--- past a mask whose starts have nothing next
-table_past : {sets : List ℕ} {clue mask : ℕ} (front : List ℕ)
-    → ((q : List ℕ) (k : ℕ) → IsMask mask q → IsStart sets (q ++ (k + 1) ∷ []) → seen (q ++ (k + 1) ∷ []) ≤ clue → ⊥)
-    → AreDoneBelow sets clue mask front → AreDoneBelow sets clue (mask + 1) front
-table_past {sets} {clue} {mask} front none h = record {
-  each = λ m small. so_far_same (λ q k rest used done start few. elim (cases_lt rest mask) [
+-- past a full mask, which has nothing next
+pub table_past : {sets : List ℕ} {clue mask : ℕ} {Before After : ℕ → Type 0} (front : List ℕ) → ((rest : ℕ) → After rest → Before rest ⊎ (rest ≡ mask))
+    → count_ones mask ≡ length sets → AreDone sets clue Before front → AreDone sets clue After front
+table_past {sets} {clue} {mask} front split full h = record {
+  each = λ m small. so_far_same (λ q k rest used done start few. elim (split rest done) [
     | inl l ↦ l
-    | inr n ↦ (let here : rest ≡ mask = omega arith in absurd (none q k (rw here at used) start few))
+    | inr e ↦ (let n = mask-ones q (start_front q ((k + 1) ∷ []) start) used in
+        let same : count_ones rest ≡ count_ones mask = ap count_ones e in
+        absurd (omega (arith, (start_next q (k + 1) [] start).room)))
   ]) (h.each m small);
 }
-
-none_unreached : {sets : List ℕ} {clue mask : ℕ} → AreFrontCounts sets clue mask 0 → (q : List ℕ) (k : ℕ) → IsMask mask q
-    → IsStart sets (q ++ (k + 1) ∷ []) → seen (q ++ (k + 1) ∷ []) ≤ clue → ⊥
-none_unreached {sets} {clue} {mask} front q k used start few =
-    both_ways (has_number 0 (seen q)) (has_number-none (seen q)) (front.all q (start_front q ((k + 1) ∷ []) start) used (omega (arith, seen-append q ((k + 1) ∷ []))))
-
-none_full : {sets : List ℕ} {clue mask : ℕ} → count_ones mask ≡ length sets → (q : List ℕ) (k : ℕ) → IsMask mask q
-    → IsStart sets (q ++ (k + 1) ∷ []) → seen (q ++ (k + 1) ∷ []) ≤ clue → ⊥
-none_full {sets} {clue} {mask} full q k used start few =
-    let n = mask-ones q (start_front q ((k + 1) ∷ []) start) used in
-    absurd (omega (arith, (start_next q (k + 1) [] start).room))
-
--- the table goes on past a full mask, and past one that no start reaches
-pub past_full : {sets front : List ℕ} {clue mask : ℕ} → count_ones mask ≡ length sets → AreDoneBelow sets clue mask front
-    → AreDoneBelow sets clue (mask + 1) front
-past_full {sets} {front} full h = table_past front (none_full full) h
-
-pub past_unreached : {sets front : List ℕ} {clue mask : ℕ} → get_or front mask 0 ≡ no_numbers → mask < 2 ^ length sets
-    → AreDoneBelow sets clue mask front → AreDoneBelow sets clue (mask + 1) front
-past_unreached {sets} {front} {clue} {mask} none inside h =
-    table_past front (none_unreached (rw none at (front_done {from = mask} (omega arith) (h.each mask inside)))) h

@@ -1,12 +1,13 @@
 -- The values that are kept, mask by mask from the greatest down.
-use Rattle.std.proofs.Common.{◌≡◌, ◌≢◌, ℕ, ◌+◌, ◌-◌, ◌^◌, ◌<◌, inl, inr, ◌↔◌, true, List, ◌∷◌, ◌++◌, length, get_or, set, replicate, take, drop, sym, ap, ◌∙◌, subst, arith, bit_or, count_ones}
+use Rattle.std.proofs.Common.{◌≡◌, ◌≢◌, ℕ, ◌+◌, ◌-◌, ◌^◌, ◌<◌, ◌⊎◌, inl, inr, ◌↔◌, true, List, ◌∷◌, ◌++◌, length, get_or, set, replicate, take, drop, sym, ap, ◌∙◌, subst, arith, bit_or, count_ones}
 use Rattle.std.proofs.lemmas.Bool.{cases_eq, cases_lt, both_ways, or_cases, or_left, or_right}
 use Rattle.std.proofs.lemmas.List.{get_or_at, get_or_past, get_or-replicate, length-replicate, get_or-set_same, get_or-set_other, take-append-drop, drop_more, length-take-le}
 use Rattle.tower_lines.specs.TowersSeen.{seen}
-use Rattle.number_sets.specs.Sets.{has_number, no_numbers}
+use Rattle.number_sets.specs.Sets.{has_number}
 use Rattle.tower_lines.specs.LineFillings.{IsFilling, IsSupported}
-use Rattle.tower_lines.specs.Inner.LineMasks.{AreFrontCounts, IsPassed, AreKeptValues}
-use Rattle.tower_lines.proofs.BackLemmas.{IsBackBut, back_full, back_unreached}
+use Rattle.tower_lines.specs.Inner.LineMasks.{AreFrontCounts, IsPassed, AreKeptToo}
+use Rattle.tower_lines.specs.Inner.ReachedMasks.{IsAmong, AreReached}
+use Rattle.tower_lines.proofs.BackLemmas.{IsBackBut, back_full}
 use Rattle.number_sets.proofs.Members.{has_number-none, has_number-or}
 use Rattle.tower_lines.proofs.MaskLemmas.{mask_of, mask-ones, mask_small}
 use Rattle.tower_lines.proofs.SeenLemmas.{seen-append}
@@ -37,45 +38,24 @@ passed_from_supported {sets} {clue} {place} {value} h =
       record { before = take place h.line; after = drop (place + 1) h.line; used = m.used; filling = filling },
     )
 
-passed_mask_small : {sets : List ℕ} {clue mask value : ℕ} → IsPassed sets clue mask value → mask < 2 ^ length sets
+-- the values after a mask of which a table says that some start has it
+pub passed_counted : {sets : List ℕ} {clue mask value counts : ℕ} → AreFrontCounts sets clue mask counts → IsPassed sets clue mask value → counts ≢ 0
+passed_counted {sets} {clue} {mask} {value} {counts} front h none =
+    let shown = front.all h.before (start_front h.before (value ∷ h.after) h.filling.start) h.used (omega (arith, seen-append h.before (value ∷ h.after), h.filling.shown)) in
+    both_ways (has_number 0 (seen h.before)) (has_number-none (seen h.before)) (rw none at shown)
+
+pub passed_mask_small : {sets : List ℕ} {clue mask value : ℕ} → IsPassed sets clue mask value → mask < 2 ^ length sets
 passed_mask_small {sets} {clue} {mask} {value} h = mask_small h.before (start_front h.before (value ∷ h.after) h.filling.start) h.used
 
-pub kept_values_none : {sets : List ℕ} {clue : ℕ} (kept : List ℕ) → ((place : ℕ) → get_or kept place 0 ≡ 0)
-    → AreKeptValues sets clue (2 ^ length sets) kept
-kept_values_none {sets} {clue} kept none = record {
-  only = λ place value e. absurd (both_ways (has_number 0 value) (has_number-none value) (rw (none place) at e));
-  all = λ mask value from h. absurd (omega (arith, passed_mask_small h));
+-- what is kept stays the same for a full mask
+pub kept_full : {sets kept : List ℕ} {clue mask : ℕ} → count_ones mask ≡ length sets → AreKeptToo sets clue mask kept kept
+kept_full {sets} {kept} {clue} {mask} full = record {
+  still = λ place value e. e;
+  only = λ place value e. inl e;
+  all = λ value h.
+      let n = mask-ones h.before (start_front h.before (value ∷ h.after) h.filling.start) h.used in
+      absurd (omega (arith, (start_next h.before value h.after h.filling.start).room));
 }
-
--- a mask whose starts have no value next
-kept_values_same : {sets kept : List ℕ} {clue mask : ℕ} → ((value : ℕ) → IsPassed sets clue mask value → ⊥)
-    → AreKeptValues sets clue (mask + 1) kept → AreKeptValues sets clue mask kept
-kept_values_same {sets} {kept} {clue} {mask} none h = record {
-  only = h.only;
-  all = λ m value from p. elim (cases_eq m mask) [
-    | inl same ↦ absurd (none value (let P : ℕ → Type 0 = λ i. IsPassed sets clue i value in subst P same p))
-    | inr other ↦ h.all m value (omega arith) p
-  ];
-}
-
-unpassed_full : {sets : List ℕ} {clue mask : ℕ} → count_ones mask ≡ length sets → (value : ℕ) → IsPassed sets clue mask value → ⊥
-unpassed_full {sets} {clue} {mask} full value h =
-    let n = mask-ones h.before (start_front h.before (value ∷ h.after) h.filling.start) h.used in
-    absurd (omega (arith, (start_next h.before value h.after h.filling.start).room))
-
-unpassed_unreached : {sets : List ℕ} {clue mask : ℕ} → AreFrontCounts sets clue mask 0 → (value : ℕ) → IsPassed sets clue mask value → ⊥
-unpassed_unreached {sets} {clue} {mask} front value h =
-    both_ways (has_number 0 (seen h.before)) (has_number-none (seen h.before))
-    (front.all h.before (start_front h.before (value ∷ h.after) h.filling.start) h.used (omega (arith, seen-append h.before (value ∷ h.after), h.filling.shown)))
-
--- what is kept stays the same for a full mask, and for one that no start reaches
-pub kept_full : {sets kept : List ℕ} {clue mask : ℕ} → count_ones mask ≡ length sets → AreKeptValues sets clue (mask + 1) kept
-    → AreKeptValues sets clue mask kept
-kept_full full h = kept_values_same (unpassed_full full) h
-
-pub kept_unreached : {sets kept : List ℕ} {clue mask reached : ℕ} → reached ≡ no_numbers → AreFrontCounts sets clue mask reached
-    → AreKeptValues sets clue (mask + 1) kept → AreKeptValues sets clue mask kept
-kept_unreached none front h = kept_values_same (unpassed_unreached (rw none at front)) h
 
 passed_all : {sets : List ℕ} {clue mask counts passed : ℕ} → IsBackBut sets clue mask 0 counts passed → (value : ℕ)
     → IsPassed sets clue mask value → (k : ℕ) × (value ≡ k + 1) × (has_number passed k ≡ true)
@@ -88,40 +68,66 @@ passed_all {sets} {clue} {mask} {counts} {passed} back value h =
 pub kept_values_more : {sets kept : List ℕ} {clue mask counts passed place : ℕ} (values : ℕ) → place ≡ count_ones mask → place < length kept
     → IsBackBut sets clue mask 0 counts passed
     → ((value : ℕ) → (has_number values value ≡ true) ↔ ((k : ℕ) × (value ≡ k + 1) × (has_number passed k ≡ true)))
-    → AreKeptValues sets clue (mask + 1) kept → AreKeptValues sets clue mask (set kept place (bit_or (get_or kept place 0) values))
-kept_values_more {sets} {kept} {clue} {mask} {counts} {passed} {place} values at inside back is h =
+    → AreKeptToo sets clue mask kept (set kept place (bit_or (get_or kept place 0) values))
+kept_values_more {sets} {kept} {clue} {mask} {counts} {passed} {place} values at inside back is =
     let more = set kept place (bit_or (get_or kept place 0) values) in
     let here : get_or more place 0 ≡ bit_or (get_or kept place 0) values = get_or-set_same kept place _ 0 inside in
     let other = λ (j : ℕ) (ne : j ≢ place). get_or-set_other kept place j (bit_or (get_or kept place 0) values) 0 ne in
     let both = λ (v : ℕ). ap (λ n. has_number n v) here ∙ has_number-or (get_or kept place 0) values v in
     record {
+      still = λ j value e. elim (cases_eq j place) [
+        | inl same ↦ (let e' : has_number (get_or kept place 0) value ≡ true = rw same at e in rw same (both value ∙ or_left _ _ e'))
+        | inr ne ↦ ap (λ n. has_number n value) (other j ne) ∙ e
+      ];
       only = λ j value e. elim (cases_eq j place) [
-        | inl same ↦ (let P : ℕ → Type 0 = λ i. IsSupported sets clue i value in
+        | inl same ↦ (let P : ℕ → Type 0 = λ i. (has_number (get_or kept i 0) value ≡ true) ⊎ IsSupported sets clue i value in
             let e' : has_number (get_or more place 0) value ≡ true = rw same at e in
             subst P (sym same) (elim (or_cases _ _ (sym (both value) ∙ e')) [
-              | inl f ↦ h.only place value f
-              | inr f ↦ (let r = (is value).0 f in subst P (sym at) (supported_from_passed (let Q : ℕ → Type 0 = λ i. IsPassed sets clue mask i in subst Q (sym r.1) (back.passed_only r.0 r.2))))
+              | inl f ↦ inl f
+              | inr f ↦ inr (let r = (is value).0 f in
+                  let S : ℕ → Type 0 = λ i. IsSupported sets clue i value in
+                  subst S (sym at) (supported_from_passed (let Q : ℕ → Type 0 = λ i. IsPassed sets clue mask i in subst Q (sym r.1) (back.passed_only r.0 r.2))))
             ]))
-        | inr ne ↦ h.only j value (ap (λ n. has_number n value) (sym (other j ne)) ∙ e)
+        | inr ne ↦ inl (ap (λ n. has_number n value) (sym (other j ne)) ∙ e)
       ];
-      all = λ m value from p. elim (cases_eq m mask) [
-        | inl same ↦ (let P : ℕ → Type 0 = λ i. IsPassed sets clue i value in
-            let place_is : count_ones m ≡ place = ap count_ones same ∙ sym at in
-            rw place_is (both value ∙ or_right _ _ ((is value).1 (passed_all back value (subst P same p)))))
-        | inr ne ↦ (let old = h.all m value (omega arith) p in
-            elim (cases_eq (count_ones m) place) [
-              | inl same ↦ (let old' : has_number (get_or kept place 0) value ≡ true = rw same at old in rw same (both value ∙ or_left _ _ old'))
-              | inr apart ↦ ap (λ n. has_number n value) (other (count_ones m) apart) ∙ old
-            ])
-      ];
+      all = λ value p.
+          rw (← at) (both value ∙ or_right _ _ ((is value).1 (passed_all back value p)));
     }
 
-pub kept_values_all : {sets kept : List ℕ} {clue : ℕ} → AreKeptValues sets clue 0 kept → (place value : ℕ)
+-- ---- one mask of the list after the other, from its end
+
+-- what is kept when the masks of the list from an index on are done
+pub record AreKept (sets : List ℕ) (clue : ℕ) (masks : List ℕ) (from len : ℕ) (kept : List ℕ) : Type 0 where
+  pub only : (place value : ℕ) → has_number (get_or kept place 0) value ≡ true → IsSupported sets clue place value
+  pub all : (mask value : ℕ) → IsAmong masks from len mask → IsPassed sets clue mask value → has_number (get_or kept (count_ones mask) 0) value ≡ true
+
+pub kept_none : {sets masks : List ℕ} {clue len : ℕ} (kept : List ℕ) → ((place : ℕ) → get_or kept place 0 ≡ 0) → AreKept sets clue masks len len kept
+kept_none kept none = record {
+  only = λ place value e. absurd (both_ways (has_number 0 value) (has_number-none value) (rw (none place) at e));
+  all = λ mask value at h. absurd (omega (arith, at.low, at.high));
+}
+
+pub kept_next : {sets masks kept kept_then : List ℕ} {clue from len : ℕ} (index : ℕ) → from ≡ index + 1 → AreKept sets clue masks from len kept
+    → AreKeptToo sets clue (get_or masks index 0) kept kept_then → AreKept sets clue masks index len kept_then
+kept_next {sets} {masks} {kept} {kept_then} {clue} {from} {len} index next h more = record {
+  only = λ place value e. elim (more.only place value e) [ inl f ↦ h.only place value f | inr f ↦ f ];
+  all = λ mask value at p. elim (cases_eq at.index index) [
+    | inl same ↦ (let here : mask ≡ get_or masks index 0 = sym at.is ∙ ap (λ i. get_or masks i 0) same in
+        let P : ℕ → Type 0 = λ m. IsPassed sets clue m value in
+        rw here (more.all value (subst P here p)))
+    | inr other ↦ more.still (count_ones mask) value
+        (h.all mask value (record { index = at.index; low = omega (arith, at.low); high = at.high; is = at.is }) p)
+  ];
+}
+
+pub kept_all : {sets front masks places kept : List ℕ} {clue len : ℕ} → ((m : ℕ) → m < 2 ^ length sets → AreFrontCounts sets clue m (get_or front m 0))
+    → AreReached sets len front masks places → AreKept sets clue masks 0 len kept → (place value : ℕ)
     → (has_number (get_or kept place 0) value ≡ true) ↔ IsSupported sets clue place value
-kept_values_all {sets} {kept} {clue} h place value = (
+kept_all {sets} {front} {masks} {places} {kept} {clue} {len} counts reached h place value = (
   h.only place value,
   λ s. (let r = passed_from_supported s in
-      let e = h.all r.0 value (omega arith) r.2 in rw r.1 at e),
+      let small = passed_mask_small r.2 in
+      let e = h.all r.0 value (reached.listed r.0 small (passed_counted (counts r.0 small) r.2)) r.2 in rw r.1 at e),
 )
 
 pub get_or-zeros : (n i : ℕ) → get_or {A = ℕ} (replicate n 0) i 0 ≡ 0
@@ -132,5 +138,5 @@ get_or-zeros n i =
       | inr past ↦ get_or_past (replicate n zero) i zero (omega (arith, length-replicate n zero))
     ]
 
--- where the counts of a mask are found at once
-pub ruleset at_once = (back_full, back_unreached, kept_full, kept_unreached)
+-- where the line is at its end
+pub ruleset at_end = (back_full, kept_full)

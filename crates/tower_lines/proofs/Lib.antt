@@ -7,6 +7,7 @@ pub mod MaskBits
 pub mod MaskCalls
 pub mod MaskLemmas
 pub mod NextValues
+pub mod ReachedLemmas
 pub mod SeenLemmas
 pub mod StartLemmas
 pub mod WholeLines

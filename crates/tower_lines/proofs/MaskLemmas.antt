@@ -126,3 +126,7 @@ seen-more p k h = seen-append p ((k + 1) ∷ []) ∙ ap (λ n. seen p + n) (seen
 -- masks of at most 9 values are places of the tables
 pub mask_in_table : (w mask : ℕ) → w ≤ 9 → mask < 2 ^ w → mask < 512
 mask_in_table w mask short inside = let most : 2 ^ w ≤ 2 ^ 9 = pow-le-pow_right (omega arith) short in omega arith
+
+-- a line of at most n squares has at most so many masks
+pub masks_most : (w n : ℕ) → w ≤ n → 2 ^ w ≤ 2 ^ n
+masks_most w n short = pow-le-pow_right (omega arith) short

@@ -33,6 +33,13 @@ next_in_table {sets} {mask} {k} value short inside next is =
     let a = added_with mask k (mask + value) next.fresh (ap (λ n. mask + n) is) in
     mask_in_table (length sets) (mask + value) short (added_below a (length sets) inside next.small)
 
+-- and one of the line's masks
+pub next_in_line : {sets : List ℕ} {mask k : ℕ} (value : ℕ) → mask < 2 ^ length sets → IsNext sets mask k → value ≡ 2 ^ k
+    → mask + value < 2 ^ length sets
+next_in_line {sets} {mask} {k} value inside next is =
+    let a = added_with mask k (mask + value) next.fresh (ap (λ n. mask + n) is) in
+    added_below a (length sets) inside next.small
+
 pub next_from_bit : {sets : List ℕ} {mask left : ℕ} → AreNextValues sets mask left → (k : ℕ) → has_number left k ≡ true → IsNext sets mask k
 next_from_bit {sets} {mask} {left} h k e =
     let parts = and_parts _ _ (sym (h.bits k) ∙ e) in

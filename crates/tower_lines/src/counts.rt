@@ -1,37 +1,29 @@
 //! Sets of counts of towers, and tables that have one for each mask.
 
-ghost use Rattle.std.specs.Prelude.{◌≡◌, ℕ, ◌+◌, ◌<◌, ◌≤◌, ◌↔◌, true, bit_or, if◌then◌else◌, slice_index, slice_set, replicate};
-ghost use Rattle.number_sets.specs.Sets.{has_number, no_numbers, IsShared};
+ghost use Rattle.std.specs.Prelude.{◌≡◌, ℕ, ◌+◌, ◌<◌, ◌≤◌, ◌↔◌, true, bit_or, if◌then◌else◌, length, slice_index, slice_set};
+ghost use Rattle.number_sets.specs.Sets.{has_number, IsShared};
 
 use number_sets::NumberSet;
 
-/// The table that has the count 0 for the mask of no value, and no other.
-pub fn first_counts() -> [NumberSet; 512]
-    ensures { result ≡ slice_set (replicate 512 no_numbers) 0 1 }
+/// Gives the mask of no value the count 0, and no other.
+pub fn add_first(table: &mut [NumberSet])
+    requires { 0 < length table.old }
+    ensures { table.new ≡ slice_set table.old 0 1 }
 {
-    let mut table = no_counts();
     table[0] = NumberSet::one(0);
-    table
-}
-
-/// The table that has no count.
-pub fn no_counts() -> [NumberSet; 512]
-    ensures { result ≡ replicate 512 no_numbers }
-{
-    [NumberSet::empty(); 512]
 }
 
 /// The counts of a mask.
-pub fn counts_of(table: &[NumberSet; 512], mask: usize) -> NumberSet
-    requires { mask < 512 }
+pub fn counts_of(table: &[NumberSet], mask: usize) -> NumberSet
+    requires { mask < length table.now }
     ensures { result ≡ slice_index table.now mask }
 {
     table[mask]
 }
 
 /// Adds counts to those of a mask.
-pub fn add_counts(table: &mut [NumberSet; 512], mask: usize, counts: NumberSet)
-    requires { mask < 512 }
+pub fn add_counts(table: &mut [NumberSet], mask: usize, counts: NumberSet)
+    requires { mask < length table.old }
     ensures { table.new
         ≡ slice_set table.old mask (bit_or (slice_index table.old mask) counts) }
 {

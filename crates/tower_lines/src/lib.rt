@@ -20,6 +20,7 @@ mod likely_lines;
 mod line_checks;
 mod line_fillings;
 mod masks;
+mod starts;
 mod towers_seen;
 
 pub use line_fillings::{has_filling, supported};

@@ -1,16 +1,15 @@
 //! The values that each square of a line with a clue can take.
 
-ghost use Rattle.std.specs.Prelude.{◌≡◌, ℕ, ◌+◌, ◌^◌, ◌<◌, ◌≤◌, ◌↔◌, true, bit_or, length, replicate, slice_index, slice_set, IsTrue, List};
+ghost use Rattle.std.specs.Prelude.{◌≡◌, ℕ, ◌+◌, ◌^◌, ◌<◌, ◌≤◌, ◌↔◌, true, bit_or, count_ones, length, replicate, slice_index, slice_set, IsTrue, List};
 ghost use Rattle.number_sets.specs.Sets.{has_number, no_numbers};
 ghost use Rattle.tower_lines.specs.LineFillings.{IsFilling, IsSupported};
-ghost use Rattle.tower_lines.specs.Inner.LineMasks.{AreFrontCounts, AreDoneBelow, AreBackCounts, AreKeptValues};
+ghost use Rattle.tower_lines.specs.Inner.LineMasks.{AreFrontCounts, AreBackCounts, AreKeptToo};
 
-use crate::counts::{
-    add_counts, counts_of, first_counts, lowered, no_counts, raised_up_to, value_if_shared,
-};
+use crate::counts::{counts_of, lowered, value_if_shared};
 use crate::likely_lines::likely_line;
 use crate::line_checks::is_filling;
 use crate::masks::{candidates_of, is_tower, lowest, next_values};
+use crate::starts::counts_before;
 use number_sets::NumberSet;
 
 /// For each square of a line, from the clue on, the values that it has in some filling of the line:
@@ -26,13 +25,12 @@ pub fn supported(sets: &[NumberSet], clue: u8) -> [NumberSet; 9]
     ensures { (place value : ℕ) → (has_number (slice_index result place) value ≡ true)
         ↔ IsSupported sets.now clue place value }
 {
-    let front = counts_before(sets, clue);
-    let mut back = no_counts();
-    let mut kept = no_values();
-    for mask in (0..1 << sets.len()).rev() {
-        back[mask] = counts_after(sets, clue, &front, &back, mask, &mut kept);
+    match sets.len() {
+        0..=4 => supported_by::<16>(sets, clue),
+        5..=6 => supported_by::<64>(sets, clue),
+        7 => supported_by::<128>(sets, clue),
+        _ => supported_by::<512>(sets, clue),
     }
-    kept
 }
 
 /// Whether a line has a filling: as for `supported`, which would keep some value in each square.
@@ -47,14 +45,53 @@ pub fn has_filling(sets: &[NumberSet], clue: u8) -> bool
     is_filling(sets, clue, &likely[..sets.len()]) || is_counted(sets, clue)
 }
 
-/// Whether a line has a filling, by the first pass alone.
+// Whether a line has a filling, by the first pass alone.
 fn is_counted(sets: &[NumberSet], clue: u8) -> bool
     requires short { length sets.now ≤ 9 }
     requires clue { clue ≤ 9 }
     ensures { IsTrue result ↔ ((line : List ℕ) × IsFilling sets.now clue line) }
 {
-    let front = counts_before(sets, clue);
+    match sets.len() {
+        0..=4 => is_counted_by::<16>(sets, clue),
+        5..=6 => is_counted_by::<64>(sets, clue),
+        7 => is_counted_by::<128>(sets, clue),
+        _ => is_counted_by::<512>(sets, clue),
+    }
+}
+
+// The same, by tables of so many masks.
+fn is_counted_by<const N: usize>(sets: &[NumberSet], clue: u8) -> bool
+    requires short { length sets.now ≤ 9 }
+    requires clue { clue ≤ 9 }
+    requires room { 2 ^ length sets.now ≤ N }
+    requires small { N ≤ 512 }
+    ensures { IsTrue result ↔ ((line : List ℕ) × IsFilling sets.now clue line) }
+{
+    let mut front = [NumberSet::empty(); N];
+    let _len = counts_before(sets, clue, &mut front, &mut [0; N], &mut [0; N]);
     counts_of(&front, (1 << sets.len()) - 1).has(clue)
+}
+
+// What is supported, by tables of so many masks.
+fn supported_by<const N: usize>(sets: &[NumberSet], clue: u8) -> [NumberSet; 9]
+    requires short { length sets.now ≤ 9 }
+    requires clue { clue ≤ 9 }
+    requires room { 2 ^ length sets.now ≤ N }
+    requires small { N ≤ 512 }
+    ensures { (place value : ℕ) → (has_number (slice_index result place) value ≡ true)
+        ↔ IsSupported sets.now clue place value }
+{
+    let mut front = [NumberSet::empty(); N];
+    let mut masks = [0; N];
+    let mut places = [0; N];
+    let len = counts_before(sets, clue, &mut front, &mut masks, &mut places);
+    let mut back = [NumberSet::empty(); N];
+    let mut kept = no_values();
+    for index in (0..len).rev() {
+        let mask = usize::from(masks[index]);
+        back[mask] = counts_after(sets, clue, &front, &back, mask, places[index], &mut kept);
+    }
+    kept
 }
 
 // No value for any square.
@@ -73,77 +110,34 @@ fn add_values(kept: &mut [NumberSet; 9], place: usize, values: NumberSet)
     kept[place] = kept[place].union(values);
 }
 
-/// For each mask, the counts of towers seen along the starts that use just its values, up to the
-/// clue.
-fn counts_before(sets: &[NumberSet], clue: u8) -> [NumberSet; 512]
-    requires short { length sets.now ≤ 9 }
-    requires clue { clue ≤ 9 }
-    ensures { (m : ℕ) → m < 2 ^ length sets.now
-        → AreFrontCounts sets.now clue m (slice_index result m) }
-{
-    let mut front = first_counts();
-    for mask in 0..1 << sets.len() {
-        go_on(sets, clue, mask, &mut front);
-    }
-    front
-}
-
-/// Adds what the starts with a mask show with one value more.
-#[tactic(auto, using(crate::proofs::FrontLemmas::past_full, crate::proofs::FrontLemmas::past_unreached))]
-fn go_on(sets: &[NumberSet], clue: u8, mask: usize, front: &mut [NumberSet; 512])
-    requires short { length sets.now ≤ 9 }
-    requires clue { clue ≤ 9 }
-    requires inside { mask < 2 ^ length sets.now }
-    requires below { AreDoneBelow sets.now clue mask front.old }
-    ensures { AreDoneBelow sets.now clue (mask + 1) front.new }
-{
-    let reached = counts_of(front, mask);
-    if reached.is_empty() {
-        return;
-    }
-    if mask.count_ones() as usize == sets.len() {
-        return;
-    }
-    let mut left = next_values(sets, mask);
-    while left != 0 {
-        let value = lowest(left);
-        let more = raised_up_to(reached, is_tower(mask, value), clue);
-        add_counts(front, mask + value, more);
-        left -= value;
-    }
-}
-
 /// The counts of towers seen along a start that uses just the values of a mask, from which the line
 /// can go on to show its clue. The values that can come next are added to `kept`.
-#[tactic(auto, using(crate::proofs::KeptLemmas::at_once))]
+#[tactic(auto, using(crate::proofs::KeptLemmas::at_end))]
 fn counts_after(
     sets: &[NumberSet],
     clue: u8,
-    front: &[NumberSet; 512],
-    back: &[NumberSet; 512],
+    front: &[NumberSet],
+    back: &[NumberSet],
     mask: usize,
+    place: u8,
     kept: &mut [NumberSet; 9],
 ) -> NumberSet
     requires short { length sets.now ≤ 9 }
     requires clue { clue ≤ 9 }
     requires inside { mask < 2 ^ length sets.now }
-    requires front { (m : ℕ) → m < 2 ^ length sets.now
-        → AreFrontCounts sets.now clue m (slice_index front.now m) }
-    requires above { (m : ℕ) → mask < m → m < 2 ^ length sets.now
+    requires place { place ≡ count_ones mask }
+    requires tables { (2 ^ length sets.now ≤ length front.now) × (2 ^ length sets.now ≤ length back.now) }
+    requires front { AreFrontCounts sets.now clue mask (slice_index front.now mask) }
+    requires above { (m : ℕ) → count_ones mask < count_ones m → m < 2 ^ length sets.now
         → AreBackCounts sets.now clue m (slice_index back.now m) }
-    requires kept { AreKeptValues sets.now clue (mask + 1) kept.old }
     ensures back { AreBackCounts sets.now clue mask result }
-    ensures kept { AreKeptValues sets.now clue mask kept.new }
+    ensures kept { AreKeptToo sets.now clue mask kept.old kept.new }
 {
-    let place = mask.count_ones() as usize;
-    if place == sets.len() {
+    if usize::from(place) == sets.len() {
         return NumberSet::one(clue);
     }
     let reached = counts_of(front, mask);
-    if reached.is_empty() {
-        return NumberSet::empty();
-    }
-    let mut left = next_values(sets, mask);
+    let mut left = next_values(sets, mask, place);
     let mut counts = NumberSet::empty();
     let mut passed = 0;
     while left != 0 {
@@ -154,6 +148,6 @@ fn counts_after(
         passed |= value_if_shared(reached, before, value);
         left -= value;
     }
-    add_values(kept, place, candidates_of(passed));
+    add_values(kept, usize::from(place), candidates_of(passed));
     counts
 }

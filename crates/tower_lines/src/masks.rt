@@ -23,15 +23,16 @@ pub fn is_tower(mask: usize, value: usize) -> bool
     mask < value
 }
 
-/// The candidates of the square after a mask's, from 1 to the line's length, that aren't in the mask.
+/// The candidates at the place after a mask, from 1 to the line's length, that aren't in the mask.
 #[tactic(auto, using(crate::proofs::MaskCalls::next_values_at))]
-pub fn next_values(sets: &[NumberSet], mask: usize) -> usize
+pub fn next_values(sets: &[NumberSet], mask: usize, place: u8) -> usize
     requires short { length sets.now ≤ 9 }
     requires inside { mask < 2 ^ length sets.now }
-    requires place { count_ones mask < length sets.now }
+    requires place { place ≡ count_ones mask }
+    requires room { place < length sets.now }
     ensures { AreNextValues sets.now mask result }
 {
-    let candidates = sets[mask.count_ones() as usize];
+    let candidates = sets[usize::from(place)];
     let every = (1 << sets.len()) - 1;
     usize::from(candidates.lowered().bits()) & (every ^ mask)
 }

@@ -1,18 +1,18 @@
 -- The fields of `Candidates` agree as pairs go and come back.
-use Rattle.std.proofs.Common.{◌≡◌, ℕ, ◌*◌, ◌<◌, ◌≤◌, eqb, leb, cond, Bool, true, false, not, ◌&&◌, List, [], ◌∷◌, ◌++◌, length, replicate, get_or, Some, slice_get, refl, sym, ap, ◌∙◌, subst, inl, inr, le-leb, arith}
-use Rattle.std.proofs.lemmas.Bool.{false≢true, and_from, cases_Bool, or_cases, or_left, or_right}
+use Rattle.std.proofs.Common.{◌≡◌, ℕ, ◌*◌, ◌^◌, ◌<◌, ◌≤◌, eqb, leb, cond, Bool, true, false, not, ◌&&◌, ◌||◌, List, [], ◌++◌, length, replicate, refl, sym, ap, ◌∙◌, subst, inl, inr, le-leb, arith}
+use Rattle.std.proofs.lemmas.Bool.{false≢true, and_from, and_parts, cases_Bool, eq-eqb, eqb-true, or_cases, or_left, or_right}
 use Rattle.std.proofs.Math.Bool.{and-true, or-false}
-use Rattle.std.proofs.lemmas.List.{get_or-replicate, length-append}
-use Rattle.std.proofs.lemmas.List.Folds.{list_any_at}
+use Rattle.std.proofs.lemmas.List.{get_or-replicate}
+use Rattle.std.proofs.lemmas.List.Folds.{list_any-append}
 use Rattle.std.proofs.lemmas.Nat.{mul-le}
-use Rattle.std.proofs.lemmas.Option.{get_or_from_slice_get, slice_get_within}
 use Rattle.latin_board.specs.declared.grid.TheConstants.{CELLS}
-use Rattle.trail_solver.specs.declared.candidates.TheConstants.{PAIRS}
+use Rattle.trail_solver.specs.declared.trail.TheConstants.{PAIRS}
 use Rattle.number_sets.specs.Sets.{has_number, numbers_to}
 use Rattle.number_sets.proofs.Members.{has_number-numbers_to}
-use Rattle.trail_solver.specs.Pairs.{IsPair, AreApart, has_pair}
-use Rattle.trail_solver.specs.Inner.Fields.{AgreesWithTrail, FlipsValue}
-use Rattle.trail_solver.proofs.Trails.{same_pair, pair_from_test, test_from_pair, has_pair-push, apart_push, apart_front, length-le_from_apart}
+use Rattle.trail_solver.specs.Pairs.{IsPair, AreApart, has_pair, pairs_of}
+use Rattle.trail_solver.specs.Inner.Fields.{AgreesWithTrail, FlipsSet}
+use Rattle.trail_solver.proofs.Trails.{same_pair, apart_append, apart_absent, length-le_from_apart}
+use Rattle.trail_solver.proofs.SetPairs.{has_pair-pairs_of, apart_pairs}
 
 -- a grid of the size has at most `CELLS` squares
 pub squares_fit : (w : ℕ) → w ≤ 9 → w * w ≤ CELLS
@@ -37,6 +37,14 @@ agrees_at_start w low high = record {
   apart = tt;
 }
 
+-- ---- pairs go and come back
+
+-- the pairs of a set at the end of a list
+has_pair-after : (ps : List (ℕ × ℕ)) (cell set c v : ℕ) → set < 2 ^ 16
+    → has_pair (ps ++ pairs_of cell set) c v ≡ (has_pair ps c v || (eqb c cell && has_number set v))
+has_pair-after ps cell set c v small =
+    list_any-append (same_pair c v) ps (pairs_of cell set) ∙ ap (λ b. has_pair ps c v || b) (has_pair-pairs_of cell set c v small)
+
 -- a test turned over where s says so: twice is nothing
 abbrev turned_where : Bool → Bool → Bool
 turned_where s b = cond s (not b) b
@@ -54,51 +62,50 @@ turned_value : (s r gone : Bool) → (s ≡ true → r ≡ true) → turned_wher
 turned_value true r gone in_range = rw (in_range refl) refl
 turned_value false r gone in_range = refl
 
--- a pair that isn't in the trail goes: it alone is then in the trail where it wasn't
-turned_by_pair : (trail : List (ℕ × ℕ)) (cell value : ℕ) → has_pair trail cell value ≡ false → (c v : ℕ)
-    → has_pair (trail ++ (cell, value) ∷ []) c v ≡ turned_where (same_pair c v (cell, value)) (has_pair trail c v)
-turned_by_pair trail cell value absent c v =
-    has_pair-push trail (cell, value) c v ∙ elim (cases_Bool (same_pair c v (cell, value))) [
+-- where the cell's pairs of a set go that aren't in the trail, they alone are then in the trail where they weren't
+turned_by_set : (trail : List (ℕ × ℕ)) (cell set : ℕ) → set < 2 ^ 16 → ((v : ℕ) → has_number set v ≡ true → has_pair trail cell v ≡ false)
+    → (c v : ℕ) → has_pair (trail ++ pairs_of cell set) c v ≡ turned_where (eqb c cell && has_number set v) (has_pair trail c v)
+turned_by_set trail cell set small absent c v =
+    has_pair-after trail cell set c v small ∙ elim (cases_Bool (eqb c cell && has_number set v)) [
       | inl same ↦
-          let p = pair_from_test c cell v value same in
+          let p = and_parts (eqb c cell) (has_number set v) same in
           let P : ℕ → Type 0 = λ k. has_pair trail k v ≡ false in
-          let Q : ℕ → Type 0 = λ k. has_pair trail cell k ≡ false in
-          let here : has_pair trail c v ≡ false = subst P (sym p.0) (subst Q (sym p.1) absent) in
+          let here : has_pair trail c v ≡ false = subst P (sym (eqb-true c cell p.0)) (absent v p.1) in
           rw (here, same) refl
       | inr other ↦ rw other (or-false (has_pair trail c v))
     ]
 
--- a list of the size's pairs with one more
-more_in_range : (w : ℕ) (trail : List (ℕ × ℕ)) (cell value : ℕ) → ((c v : ℕ) → has_pair trail c v ≡ true → IsPair w c v)
-    → IsPair w cell value → (c v : ℕ) → has_pair (trail ++ (cell, value) ∷ []) c v ≡ true → IsPair w c v
-more_in_range w trail cell value k i c v h =
-    elim (or_cases (has_pair trail c v) (eqb c cell && eqb v value) (sym (has_pair-push trail (cell, value) c v) ∙ h)) [
+-- a list of the size's pairs with more of them
+more_in_range : (w : ℕ) (trail : List (ℕ × ℕ)) (cell set : ℕ) → set < 2 ^ 16 → ((c v : ℕ) → has_pair trail c v ≡ true → IsPair w c v)
+    → ((v : ℕ) → has_number set v ≡ true → IsPair w cell v) → (c v : ℕ) → has_pair (trail ++ pairs_of cell set) c v ≡ true → IsPair w c v
+more_in_range w trail cell set small k each c v h =
+    elim (or_cases (has_pair trail c v) (eqb c cell && has_number set v) (sym (has_pair-after trail cell set c v small) ∙ h)) [
       | inl before ↦ k c v before
       | inr is ↦
-          let p = pair_from_test c cell v value is in
-          record { inside = omega (arith, p.0, i.inside); low = omega (arith, p.1, i.low); high = omega (arith, p.1, i.high) }
+          let p = and_parts (eqb c cell) (has_number set v) is in
+          subst (λ (i : ℕ). IsPair w i v) (sym (eqb-true c cell p.0)) (each v p.1)
     ]
 
--- what a new trail owes the old one, if they differ in one pair alone
-record DiffersByPair (w : ℕ) (trail next : List (ℕ × ℕ)) (cell value : ℕ) : Type 0 where
-  pub pair : IsPair w cell value
-  pub turned : (c v : ℕ) → has_pair next c v ≡ turned_where (same_pair c v (cell, value)) (has_pair trail c v)
+-- what a new trail owes the old one, if they differ in the cell's pairs of a set alone
+record DiffersBySet (w : ℕ) (trail next : List (ℕ × ℕ)) (cell set : ℕ) : Type 0 where
+  pub each : (v : ℕ) → has_number set v ≡ true → IsPair w cell v
+  pub turned : (c v : ℕ) → has_pair next c v ≡ turned_where (eqb c cell && has_number set v) (has_pair trail c v)
   pub in_range : (c v : ℕ) → has_pair next c v ≡ true → IsPair w c v
   pub apart : AreApart next
 
--- that pair is turned over
-agrees_turned : (w : ℕ) (old new : List ℕ) (trail next : List (ℕ × ℕ)) (cell value : ℕ) → AgreesWithTrail w old trail
-    → FlipsValue old new cell value → DiffersByPair w trail next cell value → AgreesWithTrail w new next
-agrees_turned w old new trail next cell value k f d = record {
+-- those pairs are turned over
+agrees_turned : (w : ℕ) (old new : List ℕ) (trail next : List (ℕ × ℕ)) (cell set : ℕ) → AgreesWithTrail w old trail
+    → FlipsSet old new cell set → DiffersBySet w trail next cell set → AgreesWithTrail w new next
+agrees_turned w old new trail next cell set k f d = record {
   smallest = k.smallest;
   largest = k.largest;
   places = f.places ∙ k.places;
   agree = λ c v inside.
-      let s : Bool = eqb c cell && eqb v value in
+      let s : Bool = eqb c cell && has_number set v in
       let r : Bool = leb 1 v && leb v w in
       let in_range : s ≡ true → r ≡ true = λ same.
-      let p = pair_from_test c cell v value same in
-      and_from (leb 1 v) (leb v w) (le-leb 1 v (omega (arith, d.pair.low, p.1))) (le-leb v w (omega (arith, d.pair.high, p.1))) in
+      let p = d.each v (and_parts (eqb c cell) (has_number set v) same).1 in
+      and_from (leb 1 v) (leb v w) (le-leb 1 v p.low) (le-leb v w p.high) in
       f.values c v
       ∙ ap (turned_where s) (k.agree c v inside)
       ∙ turned_value s r (has_pair trail c v) in_range
@@ -107,51 +114,39 @@ agrees_turned w old new trail next cell value k f d = record {
   apart = d.apart;
 }
 
--- a pair goes: it joins the trail, and its value is turned over
-pub agrees_removed : (w : ℕ) (old new : List ℕ) (trail : List (ℕ × ℕ)) (cell value : ℕ) → AgreesWithTrail w old trail → IsPair w cell value
-    → has_pair trail cell value ≡ false → FlipsValue old new cell value → AgreesWithTrail w new (trail ++ (cell, value) ∷ [])
-agrees_removed w old new trail cell value k i absent f =
-    agrees_turned w old new trail (trail ++ (cell, value) ∷ []) cell value k f (record {
-      pair = i;
-      turned = turned_by_pair trail cell value absent;
-      in_range = more_in_range w trail cell value k.in_range i;
-      apart = apart_push trail (cell, value) k.apart absent;
+-- candidates of a cell go: their pairs join the trail, and the values are turned over
+pub agrees_struck : (w : ℕ) (old new : List ℕ) (trail : List (ℕ × ℕ)) (cell set : ℕ) → AgreesWithTrail w old trail → set < 2 ^ 16
+    → ((v : ℕ) → has_number set v ≡ true → IsPair w cell v) → ((v : ℕ) → has_number set v ≡ true → has_pair trail cell v ≡ false)
+    → FlipsSet old new cell set → AgreesWithTrail w new (trail ++ pairs_of cell set)
+agrees_struck w old new trail cell set k small each absent f =
+    agrees_turned w old new trail (trail ++ pairs_of cell set) cell set k f (record {
+      each = each;
+      turned = turned_by_set trail cell set small absent;
+      in_range = more_in_range w trail cell set small k.in_range each;
+      apart = apart_pairs trail cell set k.apart absent;
     })
 
--- the last pair of a trail is a pair of the size
-pub last_is_pair : (w : ℕ) (sets : List ℕ) (trail : List (ℕ × ℕ)) (cell value : ℕ) → AgreesWithTrail w sets (trail ++ (cell, value) ∷ [])
-    → IsPair w cell value
-last_is_pair w sets trail cell value k =
-    k.in_range cell value (has_pair-push trail (cell, value) cell value ∙ or_right (has_pair trail cell value) (eqb cell cell && eqb value value) (test_from_pair cell cell value value refl refl))
+-- the values of the last pairs of a trail are pairs of the size, and none of them is in front
+pub last_are_pairs : (w : ℕ) (sets : List ℕ) (trail : List (ℕ × ℕ)) (cell set : ℕ) → set < 2 ^ 16
+    → AgreesWithTrail w sets (trail ++ pairs_of cell set) → (v : ℕ) → has_number set v ≡ true → IsPair w cell v
+last_are_pairs w sets trail cell set small k v has =
+    let s : Bool = eqb cell cell && has_number set v in
+    k.in_range cell v (has_pair-after trail cell set cell v small ∙ or_right (has_pair trail cell v) s (and_from (eqb cell cell) (has_number set v) (eq-eqb cell cell refl) has))
 
--- what stands in the trail is a pair
-pub trail_pair_at : (w : ℕ) (sets : List ℕ) (trail : List (ℕ × ℕ)) (k : ℕ) (p : ℕ × ℕ) → AgreesWithTrail w sets trail
-    → slice_get trail k ≡ Some p → IsPair w p.0 p.1
-trail_pair_at w sets trail k p h e =
-    let test : ℕ × ℕ → Bool = same_pair p.0 p.1 in
-    let at : get_or trail k p ≡ p = get_or_from_slice_get trail k p p e in
-    let here : test (get_or trail k p) ≡ true = ap test at ∙ test_from_pair p.0 p.0 p.1 p.1 refl refl in
-    h.in_range p.0 p.1 (list_any_at test trail k p (slice_get_within trail k p e) here)
-
--- the last pair comes back: it leaves the trail, and its value is turned over
-pub agrees_undone : (w : ℕ) (old new : List ℕ) (trail : List (ℕ × ℕ)) (cell value : ℕ) → AgreesWithTrail w old (trail ++ (cell, value) ∷ [])
-    → FlipsValue old new cell value → AgreesWithTrail w new trail
-agrees_undone w old new trail cell value k f =
-    let front = apart_front trail (cell, value) k.apart in
-    agrees_turned w old new (trail ++ (cell, value) ∷ []) trail cell value k f (record {
-      pair = last_is_pair w old trail cell value k;
-      turned = λ c v. turned_back (same_pair c v (cell, value)) _ (has_pair trail c v) (turned_by_pair trail cell value front.1 c v);
-      in_range = λ c v h. k.in_range c v (has_pair-push trail (cell, value) c v ∙ or_left (has_pair trail c v) (eqb c cell && eqb v value) h);
-      apart = front.0;
+-- the last pairs come back: they leave the trail, and the values are turned over
+pub agrees_returned : (w : ℕ) (old new : List ℕ) (trail : List (ℕ × ℕ)) (cell set : ℕ) → set < 2 ^ 16
+    → AgreesWithTrail w old (trail ++ pairs_of cell set) → FlipsSet old new cell set → AgreesWithTrail w new trail
+agrees_returned w old new trail cell set small k f =
+    let absent : (v : ℕ) → has_number set v ≡ true → has_pair trail cell v ≡ false = λ v has.
+    apart_absent trail (pairs_of cell set) k.apart cell v
+    (has_pair-pairs_of cell set cell v small ∙ and_from (eqb cell cell) (has_number set v) (eq-eqb cell cell refl) has) in
+    agrees_turned w old new (trail ++ pairs_of cell set) trail cell set k f (record {
+      each = last_are_pairs w old trail cell set small k;
+      turned = λ c v. turned_back (eqb c cell && has_number set v) _ (has_pair trail c v) (turned_by_set trail cell set small absent c v);
+      in_range = λ c v h. k.in_range c v (has_pair-after trail cell set c v small ∙ or_left (has_pair trail c v) (eqb c cell && has_number set v) h);
+      apart = apart_append trail (pairs_of cell set) k.apart;
     })
 
 -- how long a trail gets
 pub trail_fits : (w : ℕ) (sets : List ℕ) (trail : List (ℕ × ℕ)) → AgreesWithTrail w sets trail → length trail ≤ w * w * w
 trail_fits w sets trail k = length-le_from_apart w trail k.in_range k.apart
-
--- there is room for a pair that isn't in the trail
-pub room_for_pair : (w : ℕ) (sets : List ℕ) (trail : List (ℕ × ℕ)) (cell value : ℕ) → AgreesWithTrail w sets trail → IsPair w cell value
-    → has_pair trail cell value ≡ false → length trail < PAIRS
-room_for_pair w sets trail cell value k i n =
-    let more = length-le_from_apart w (trail ++ (cell, value) ∷ []) (more_in_range w trail cell value k.in_range i) (apart_push trail (cell, value) k.apart n) in
-    omega (arith, more, length-append trail ((cell, value) ∷ []), pairs_fit w k.largest)

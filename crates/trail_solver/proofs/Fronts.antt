@@ -1,22 +1,23 @@
 -- The fronts of a trail, and the pair that goes next.
-use Rattle.std.proofs.Common.{◌≡◌, ◌≢◌, ℕ, suc, ◌+◌, Bool, false, not, ◌||◌, if◌then◌else◌, List, [], ◌∷◌, ◌++◌, Some, length, take, drop, slice_get, sym, ap, ◌∙◌, subst, arith, take-append-drop, take-suc}
-use Rattle.std.proofs.lemmas.Bool.{or_parts, false_from_ne_true}
+use Rattle.std.proofs.Common.{◌≡◌, ◌≢◌, ℕ, suc, ◌+◌, Bool, true, false, not, ◌||◌, if◌then◌else◌, List, [], ◌∷◌, ◌++◌, Some, length, take, drop, get_or, slice_get, refl, sym, ap, ◌∙◌, subst, arith, take-append-drop, take-suc}
+use Rattle.std.proofs.lemmas.Bool.{false_from_ne_true}
 use Rattle.std.proofs.Math.Bool.{or-false}
 use Rattle.std.proofs.lemmas.Option.{get_or_from_slice_get, slice_get_within}
 use Rattle.std.proofs.lemmas.List.{length-append}
-use Rattle.std.proofs.lemmas.List.Folds.{list_any-append}
+use Rattle.std.proofs.lemmas.List.Folds.{list_any_at}
 use Rattle.trail_solver.specs.Pairs.{IsPair, IsPrefix, AreApart, has_pair}
-use Rattle.trail_solver.specs.Candidates.{CandidatesValue, IsEarlier, may_be}
+use Rattle.trail_solver.specs.Candidates.{CandidatesValue, IsCandidates, IsEarlier, may_be}
 use Rattle.trail_solver.specs.Replays.{IsNext}
-use Rattle.trail_solver.proofs.Trails.{same_pair, pair_from_test, has_pair-push, apart_front}
+use Rattle.trail_solver.proofs.Trails.{same_pair, pair_from_test, test_from_pair, has_pair-push, apart_append, apart_front}
 use Rattle.trail_solver.proofs.OneKept.{Removes}
 
--- a front of a list without repeats has none
-apart_append : (ps qs : List (ℕ × ℕ)) → AreApart (ps ++ qs) → AreApart ps
-apart_append [] qs a = tt
-apart_append (p ∷ ps) qs a =
-    let parts = or_parts (has_pair ps p.0 p.1) (has_pair qs p.0 p.1) (sym (list_any-append (same_pair p.0 p.1) ps qs) ∙ a.0) in
-    (parts.0, apart_append ps qs a.1)
+-- what stands in the trail is a pair
+pub trail_pair_at : (c : CandidatesValue) (k : ℕ) (p : ℕ × ℕ) → IsCandidates c → slice_get c.trail k ≡ Some p → IsPair c.size p.0 p.1
+trail_pair_at c k p valid e =
+    let test : ℕ × ℕ → Bool = same_pair p.0 p.1 in
+    let at : get_or c.trail k p ≡ p = get_or_from_slice_get c.trail k p p e in
+    let here : test (get_or c.trail k p) ≡ true = ap test at ∙ test_from_pair p.0 p.0 p.1 p.1 refl refl in
+    valid.in_range p.0 p.1 (list_any_at test c.trail k p (slice_get_within c.trail k p e) here)
 
 -- a front with the pair that comes next
 front_more : (front whole : List (ℕ × ℕ)) (p : ℕ × ℕ) → IsPrefix front whole → slice_get whole (length front) ≡ Some p

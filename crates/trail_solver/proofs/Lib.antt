@@ -1,7 +1,10 @@
 -- Lemmas on trails and candidates, and on the steps of the search and of the listing.
 pub mod Trails
-pub mod FlippedValues
+pub mod SetPairs
+pub mod FlippedSets
 pub mod AgreeingSets
+pub mod Removals
+pub mod StruckSets
 pub mod SquareSets
 pub mod Earlier
 pub mod SolutionTests
@@ -12,6 +15,11 @@ pub mod GridCandidates
 pub mod AmongCandidates
 pub mod JoinedAnswers
 pub mod SearchSteps
+pub mod Pigeonholes
+pub mod PairedSquares
+pub mod CrowdSteps
+pub mod PairedSolutions
+pub mod Runs
 pub mod SettledSquares
 pub mod ListedSolutions
 pub mod ListingSteps

@@ -1,13 +1,15 @@
--- A square's other values go, one after another.
-use Rattle.std.proofs.Common.{◌≡◌, ◌≢◌, ℕ, ◌*◌, ◌<◌, ◌≤◌, true, false, not, ◌||◌, ◌⊎◌, List, sym, ap, ◌∙◌, subst, inl, inr, ⊎_elim}
-use Rattle.std.proofs.lemmas.Bool.{cases_eq, cases_Bool, both_ways, false_from_ne_true, or_right, cond_both}
+-- A square's other values go, or one of its values.
+use Rattle.std.proofs.Common.{◌≡◌, ◌≢◌, ℕ, ◌*◌, ◌<◌, eqb, true, false, not, ◌&&◌, ◌||◌, ◌⊎◌, List, ◌++◌, sym, ap, ◌∙◌, subst, inl, inr, ⊎_elim}
+use Rattle.std.proofs.lemmas.Bool.{cases_eq, cases_Bool, both_ways, eq-eqb, false_from_ne_true, ne_eqb, or_right, cond_both}
 use Rattle.std.proofs.Math.Bool.{or-false}
 use Rattle.latin_board.specs.Squares.{GridValue, number_at}
-use Rattle.trail_solver.specs.Pairs.{IsPair, IsPrefix, has_pair, with_pair}
-use Rattle.trail_solver.specs.Candidates.{CandidatesValue, IsEarlier, IsWithin, may_be}
+use Rattle.number_sets.specs.Sets.{has_number}
+use Rattle.trail_solver.specs.Pairs.{IsPair, IsPrefix, has_pair, pairs_of, with_pair}
+use Rattle.trail_solver.specs.Candidates.{CandidatesValue, IsCandidates, IsEarlier, IsSetOf, IsWithin, may_be}
 use Rattle.trail_solver.specs.Inner.Squares.{KeepsOnly}
 use Rattle.trail_solver.proofs.Trails.{same_pair, pair_from_test, has_pair-push}
 use Rattle.trail_solver.proofs.Earlier.{prefix_with_pair}
+use Rattle.trail_solver.proofs.StruckSets.{AreMissing, gone_missing, missing_are, missing_strikes, rest_missing, struck_earlier}
 
 -- a pair is gone where it was gone, or is the one that went
 pub has_pair-with_pair : (ps : List (ℕ × ℕ)) (cell value c v : ℕ)
@@ -49,11 +51,19 @@ rest_removed old new cell value c v r h =
     false_from_ne_true (same_pair c v (cell, value)) (λ e. let p = pair_from_test c cell v value e in ⊎_elim (λ n. n p.0) (λ n. n p.1) h) in
     may_be-removed old new cell value c v r ∙ ap (λ b. not (has_pair old.trail c v || b)) other ∙ ap not (or-false (has_pair old.trail c v))
 
--- now is first with the values below k gone from the cell, but for the one
-pub record KeptSoFar (first now : CandidatesValue) (cell value k : ℕ) : Type 0 where
-  pub less : IsEarlier first now
-  pub others : (v : ℕ) → 1 ≤ v → v < k → v ≢ value → may_be now cell v ≡ false
-  pub rest : (c v : ℕ) → (c ≢ cell) ⊎ (v ≡ value) → may_be now c v ≡ may_be first c v
+-- the values but one go
+pub one_kept : (old new : CandidatesValue) (cell value values one missing : ℕ) → IsCandidates old → IsSetOf old cell values
+    → ((v : ℕ) → has_number one v ≡ eqb v value)
+    → ((v : ℕ) → has_number missing v ≡ (has_number values v && not (has_number one v)))
+    → new.size ≡ old.size → new.trail ≡ old.trail ++ pairs_of cell missing → KeepsOnly old new cell value
+one_kept old new cell value values one missing valid is single left size trail =
+    let s = missing_strikes old new cell missing valid (missing_are old cell values one missing is left) size trail in
+    let m : AreMissing values one missing = record { is = left } in
+    record {
+      less = struck_earlier old new cell missing s;
+      others = λ v pair other. gone_missing old new cell values one missing v is m s pair (single v ∙ ne_eqb v value other);
+      rest = λ c v h. rest_missing old new cell values one missing c v m s (⊎_elim (λ n. inl n) (λ e. inr (single v ∙ eq-eqb v value e)) h);
+    }
 
 -- a grid that has the value there is still within
 pub within_one_kept : (old new : CandidatesValue) (cell value : ℕ) (g : GridValue) → KeepsOnly old new cell value → IsWithin old g

@@ -1,5 +1,5 @@
 -- Lists of pairs: one pair more at the end, one less, and how long a list without repeats can be.
-use Rattle.std.proofs.Common.{◌≡◌, ℕ, ◌+◌, ◌-◌, ◌*◌, ◌<◌, ◌≤◌, eqb, Bool, true, false, ◌&&◌, ◌||◌, List, [], ◌∷◌, ◌++◌, length, map, refl, sym, ap, ◌∙◌, ⊎_elim, arith, eq-eqb, eqb-true, ne_eqb}
+use Rattle.std.proofs.Common.{◌≡◌, ℕ, ◌+◌, ◌-◌, ◌*◌, ◌<◌, ◌≤◌, eqb, Bool, true, false, ◌&&◌, ◌||◌, List, [], ◌∷◌, ◌++◌, length, map, refl, sym, ap, ◌∙◌, subst, ⊎_elim, arith, eq-eqb, eqb-true, ne_eqb}
 use Rattle.std.specs.List.{list_any, AllByRecursion, IsDistinct}
 use Rattle.std.proofs.lemmas.Bool.{and_parts, and_from, or_parts, or_from, or_left, or_right, or_cases, false_from_ne_true, both_ways}
 use Rattle.std.proofs.Math.Bool.{or-false}
@@ -7,6 +7,7 @@ use Rattle.std.proofs.lemmas.Map.Keys.{IsDistinct-cons}
 use Rattle.std.proofs.lemmas.Map.Steps.{length-le_from_distinct_below}
 use Rattle.std.proofs.lemmas.Nat.{mul-add-lt, same_from_place}
 use Rattle.std.proofs.lemmas.List.{length-map}
+use Rattle.std.proofs.lemmas.List.Folds.{list_any-append}
 use Rattle.trail_solver.specs.Pairs.{IsPair, AreApart, has_pair}
 
 -- the test of two pairs for equality
@@ -48,6 +49,26 @@ apart_front (q ∷ qs) p a =
     let rest = apart_front qs p a.1 in
     let parts = or_parts (has_pair qs q.0 q.1) (same_pair q.0 q.1 p) (sym (has_pair-push qs p q.0 q.1) ∙ a.0) in
     ((parts.0, rest.0), or_from (same_pair p.0 p.1 q) (has_pair qs p.0 p.1) (no_pair_turned q.0 p.0 q.1 p.1 parts.1) rest.1)
+
+-- a front of a list without repeats has none
+pub apart_append : (ps qs : List (ℕ × ℕ)) → AreApart (ps ++ qs) → AreApart ps
+apart_append [] qs a = tt
+apart_append (p ∷ ps) qs a =
+    let parts = or_parts (has_pair ps p.0 p.1) (has_pair qs p.0 p.1) (sym (list_any-append (same_pair p.0 p.1) ps qs) ∙ a.0) in
+    (parts.0, apart_append ps qs a.1)
+
+-- and none of what comes after it
+pub apart_absent : (ps qs : List (ℕ × ℕ)) → AreApart (ps ++ qs) → (c v : ℕ) → has_pair qs c v ≡ true → has_pair ps c v ≡ false
+apart_absent [] qs a c v h = refl
+apart_absent (p ∷ ps) qs a c v h =
+    let parts = or_parts (has_pair ps p.0 p.1) (has_pair qs p.0 p.1) (sym (list_any-append (same_pair p.0 p.1) ps qs) ∙ a.0) in
+    or_from (same_pair c v p) (has_pair ps c v)
+    (false_from_ne_true (same_pair c v p) (λ same.
+    let e = pair_from_test c p.0 v p.1 same in
+    let P : ℕ → Type 0 = λ i. has_pair qs i v ≡ true in
+    let Q : ℕ → Type 0 = λ i. has_pair qs p.0 i ≡ true in
+    both_ways (has_pair qs p.0 p.1) parts.1 (subst Q e.1 (subst P e.0 h))))
+    (apart_absent ps qs a.1 c v h)
 
 -- a number for each pair of the size, below w * w * w
 abbrev pair_number : ℕ → ℕ × ℕ → ℕ

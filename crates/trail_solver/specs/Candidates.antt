@@ -24,6 +24,10 @@ pub record IsCandidates (c : CandidatesValue) : Type 0 where
 abbrev pub IsSetOf : CandidatesValue → ℕ → ℕ → Type 0
 IsSetOf c cell set = (v : ℕ) → (has_number set v ≡ true) ↔ (IsPair c.size cell v × (may_be c cell v ≡ true))
 
+-- each number of the set is a candidate of the cell
+abbrev pub AreCandidates : CandidatesValue → ℕ → ℕ → Type 0
+AreCandidates c cell set = (v : ℕ) → has_number set v ≡ true → IsPair c.size cell v × (may_be c cell v ≡ true)
+
 -- the value is the cell's only candidate
 pub record IsOnly (c : CandidatesValue) (cell value : ℕ) : Type 0 where
   pub low : 1 ≤ value

@@ -1,18 +1,16 @@
 //! Candidates: which values each square may still have, with the trail of what was removed.
-ghost use Rattle.std.specs.Prelude.{◌≡◌, ℕ, ◌-◌, ◌*◌, ◌<◌, ◌≤◌, [], length, take, MatchOption};
+ghost use Rattle.std.specs.Prelude.{◌≡◌, ℕ, ◌*◌, ◌^◌, ◌<◌, ◌≤◌, ◌++◌, [], length, take, count_ones, MatchOption};
 ghost use Rattle.latin_board.specs.declared.grid.TheConstants.{CELLS};
-ghost use Rattle.trail_solver.specs.Pairs.{IsPair, with_pair};
-ghost use Rattle.trail_solver.specs.Candidates.{CandidatesValue, IsCandidates, IsSetOf, IsOnly, IsEarlier, may_be};
+ghost use Rattle.trail_solver.specs.Pairs.{IsPair, pairs_of, with_pair};
+ghost use Rattle.trail_solver.specs.Candidates.{CandidatesValue, AreCandidates, IsCandidates, IsSetOf, IsOnly, IsEarlier, may_be};
 ghost use Rattle.trail_solver.specs.Replays.{IsNext};
-ghost use Rattle.trail_solver.specs.Inner.Fields.{FlipsValue};
+ghost use Rattle.trail_solver.specs.Inner.Fields.{FlipsSet, GivesBack, IsUpperPart};
 
+use crate::trail::{PAIRS, Removal, Trail, list};
 use arrayvec::ArrayVec;
 use latin_board::{CELLS, Size};
 use number_sets::NumberSet;
 use std::marker::Model;
-
-/// The pairs of a square and a value in the largest grid, and so the longest trail.
-pub(crate) const PAIRS: usize = 729;
 
 /// A place in the trail of `Candidates`, to give back what is removed from then on; no pencil mark. Contracts see the trail's
 /// length.
@@ -40,25 +38,28 @@ impl Mark {
 
 /// Which values each square of a grid may still take.
 ///
-/// Each square has the set of its candidates. The trail lists the pairs that were removed, in that order,
-/// so what was removed since a mark can be given back without a copy. It never allocates.
+/// Each square has the set of its candidates. The trail lists the pairs that were removed, in that order, so what was
+/// removed since a mark can be given back without a copy. Values that a square loses together are one entry of it. It never
+/// allocates.
 #[derive(Debug, Drop)]
 pub struct Candidates {
     size: Size,
     // the values that may stand in each cell
     sets: [NumberSet; CELLS],
-    trail: ArrayVec<(u8, u8), PAIRS>,
+    removals: ArrayVec<Removal, PAIRS>,
+    // how many pairs the removals have together
+    pairs: usize,
 }
 
 impl Model for Candidates {
     ghost use Rattle.trail_solver.specs.Candidates.{CandidatesValue};
-    ghost use Rattle.trail_solver.specs.Inner.Fields.{AgreesWithTrail};
+    ghost use Rattle.trail_solver.specs.Inner.Fields.{AreFields, trail_of};
 
     ghost Value = { CandidatesValue };
 
-    ghost view = { λ c. record { size = c.size; trail = c.trail.items } };
+    ghost view = { λ c. record { size = c.size; trail = trail_of c.removals.items } };
 
-    ghost invariant = { λ c. AgreesWithTrail c.size c.sets c.trail.items };
+    ghost invariant = { λ c. AreFields c.size c.sets c.removals.items c.pairs };
 }
 
 impl Candidates {
@@ -70,7 +71,8 @@ impl Candidates {
         Candidates {
             size,
             sets: [NumberSet::up_to(size.get()); CELLS],
-            trail: ArrayVec::new(),
+            removals: ArrayVec::new(),
+            pairs: 0,
         }
     }
 
@@ -123,7 +125,7 @@ impl Candidates {
         ensures value { result ≡ length self.now.trail }
         ensures bound { result ≤ self.now.size * self.now.size * self.now.size }
     {
-        self.trail.len()
+        self.pairs
     }
 
     // The cell of the pair that was removed last, if any was.
@@ -131,8 +133,9 @@ impl Candidates {
         ensures { MatchOption result (self.now.trail ≡ [])
             (λ cell. cell < self.now.size * self.now.size) }
     {
-        let (cell, _) = self.trail.last()?;
-        Some(*cell)
+        let last = self.removals.last()?;
+        let cell = last.cell as u8;
+        Some(cell)
     }
 
     /// Takes the value from the cell's candidates. Does nothing where it is gone already. The cell is a square of the
@@ -142,11 +145,29 @@ impl Candidates {
         ensures size { self.new.size ≡ self.old.size }
         ensures trail { self.new.trail ≡ with_pair self.old.trail cell value }
     {
+        let _size = self.size();
         if !self.may(cell, value) {
             return;
         }
-        flip(&mut self.sets, cell, value);
-        self.trail.push((cell as u8, value));
+        self.strike(cell, NumberSet::one(value));
+    }
+
+    /// Takes the values of a set from the cell's candidates, the least first. They are candidates of the cell, a square of
+    /// the grid.
+    pub fn strike(&mut self, cell: usize, values: NumberSet)
+        requires { AreCandidates self.old cell values }
+        ensures size { self.new.size ≡ self.old.size }
+        ensures trail { self.new.trail ≡ self.old.trail ++ pairs_of cell values }
+    {
+        if values.is_empty() {
+            return;
+        }
+        flip(&mut self.sets, cell, values);
+        self.removals.push(Removal {
+            cell: cell as u16,
+            values,
+        });
+        self.pairs += values.len() as usize;
     }
 
     /// Gives back each pair that was removed since the mark was taken. The mark isn't longer than the trail.
@@ -160,40 +181,75 @@ impl Candidates {
             → mark ≡ length earlier.trail → self.new ≡ earlier }
     {
         while self.trail_len() > mark.len() {
-            self.undo();
+            self.undo(mark.len());
+        }
+    }
+
+    /// The pairs that were removed, one by one.
+    pub fn trail(&self) -> Trail
+        ensures { result ≡ self.now }
+    {
+        let mut pairs = ArrayVec::new();
+        for removal in self.removals.as_slice() {
+            list(&mut pairs, removal.cell, removal.values);
+        }
+        Trail {
+            size: self.size,
+            pairs,
         }
     }
 
     /// Removes the pair that the later candidates lost next, and tells its square; `None` where they lost no more. These
     /// candidates are as the later ones once were.
-    pub fn follow(&mut self, later: &Candidates) -> Option<usize>
+    pub fn follow(&mut self, later: &Trail) -> Option<usize>
         requires { IsEarlier self.old later.now }
         ensures { MatchOption result ((self.old ≡ later.now) × (self.new ≡ later.now))
             (IsNext later.now self.old self.new) }
     {
-        let (cell, value) = *later.trail.get(self.trail_len())?;
+        let (cell, value) = *later.pairs.get(self.trail_len())?;
         self.remove(cell as usize, value);
         Some(cell as usize)
     }
 
-    // Gives back the last pair of the trail.
-    fn undo(&mut self)
+    // Gives back what a square lost last, or the greatest value of it alone where more than that is to stay removed.
+    fn undo(&mut self, kept: usize)
+        requires { kept < length self.old.trail }
         ensures size { self.new.size ≡ self.old.size }
-        ensures trail { self.new.trail ≡ take (length self.old.trail - 1) self.old.trail }
+        ensures trail { GivesBack kept self.old.trail self.new.trail }
     {
-        if let Some((cell, value)) = self.trail.pop() {
-            flip(&mut self.sets, cell as usize, value);
+        if let Some(last) = self.removals.pop() {
+            let back = upper_part(last.values, self.pairs - kept);
+            flip(&mut self.sets, last.cell as usize, back);
+            self.pairs -= back.len() as usize;
+            let rest = last.values.difference(back);
+            if rest.is_empty() {
+                return;
+            }
+            self.removals.push(Removal {
+                cell: last.cell,
+                values: rest,
+            });
         }
     }
 }
 
-// Takes the value into the cell's set, or out of it.
-fn flip(sets: &mut [NumberSet; CELLS], cell: usize, value: u8)
-    requires inside { cell < CELLS }
-    requires small { value < 16 }
-    ensures { FlipsValue sets.old sets.new cell value }
+// The whole set, where it has at most so many values, and else the greatest alone.
+fn upper_part(values: NumberSet, most: usize) -> NumberSet
+    requires { 0 < most }
+    ensures part { IsUpperPart values result }
+    ensures few { count_ones result ≤ most }
 {
-    let mut set = sets[cell];
-    set.flip(value);
-    sets[cell] = set;
+    match values.greatest() {
+        Some(greatest) if values.len() as usize > most => NumberSet::one(greatest),
+        _ => values,
+    }
+}
+
+// Takes the values into the cell's set, or out of it.
+fn flip(sets: &mut [NumberSet; CELLS], cell: usize, values: NumberSet)
+    requires { cell < CELLS }
+    ensures { FlipsSet sets.old sets.new cell values }
+{
+    let bits = sets[cell].bits() ^ values.bits();
+    sets[cell] = NumberSet::from_bits(bits);
 }

@@ -37,7 +37,7 @@ pub fn completion<P: Rules>(p: &P, grid: &Grid) -> Answer
     ensures { Fits (Completes (P.puzzle p.now) grid.now) result }
 {
     match Search::start_among(p, grid_candidates(grid)) {
-        Some(mut search) => search.run(Answer::None),
+        Some(mut search) => search.answer(),
         None => Answer::None,
     }
 }

@@ -1,32 +1,64 @@
-//! Where a search failed: how often in each row and column. No answer rests on it: it is the weight in the rule of
-//! thumb by which a place to branch is proposed.
+//! Where a search failed: how often in each row, column and square, and at which guess last. No answer rests on it: it is the
+//! weight in the rule of thumb by which a place to branch is proposed, and it tells when to look closer or to begin anew.
 
-ghost use Rattle.std.specs.Prelude.{◌<◌};
+ghost use Rattle.std.specs.Prelude.{◌≢◌, ◌<◌, ℕ, Option, None};
+ghost use Rattle.std.specs.Bool.{OnTrue};
 ghost use Rattle.trail_solver.specs.declared.failures.TheConstants.{LINES};
 
 use crate::candidates::Candidates;
+use latin_board::CELLS;
 
 /// The rows and columns of the largest grid.
 const LINES: usize = 18;
 
-/// How often a search failed in each line: in the rows from the top, and then in the columns from the left.
+/// After so many failures a search looks closer.
+const MANY: u32 = 8;
+
+/// After so many it is stuck: only then it goes by the last failed guess and by failures of squares, which cost easy puzzles more
+/// than they save.
+const STUCK: u32 = 50;
+
+/// The two sides of a branch.
+#[derive(Clone, Copy, PartialEq, Eq)]
+pub(crate) enum Side {
+    /// The value stands in the square.
+    Guess,
+    /// It doesn't.
+    Rest,
+}
+
+/// How often a search failed in each line, in the rows from the top and then in the columns from the left, and in each
+/// square; how often in all; and the square whose guess failed last.
 #[derive(Drop)]
 pub(crate) struct Failures {
     lines: [u16; LINES],
+    squares: [u16; CELLS],
+    total: u32,
+    last_guess: Option<usize>,
 }
 
 impl Failures {
     /// None yet.
     pub fn none() -> Failures {
-        Failures { lines: [0; LINES] }
+        Failures {
+            lines: [0; LINES],
+            squares: [0; CELLS],
+            total: 0,
+            last_guess: None,
+        }
     }
 
-    /// Counts a failure in both lines of the square that lost a candidate last.
-    pub fn note(&mut self, candidates: &Candidates) {
+    /// Counts a failure on one side of a branch at a square: in the square that lost a candidate last, and in both its lines.
+    pub fn note(&mut self, candidates: &Candidates, branched: usize, side: Side) {
         let width = candidates.size().get();
+        self.total = self.total.saturating_add(1);
+        if side == Side::Guess {
+            self.last_guess = Some(branched);
+        }
         if let Some(cell) = candidates.last_cell() {
             self.count(cell / width);
             self.count(width + cell % width);
+            self.count_square(cell);
         }
     }
 
@@ -34,6 +66,57 @@ impl Failures {
     fn count(&mut self, line: u8) {
         if let Some(times) = self.lines.get_mut(line as usize) {
             *times = times.saturating_add(1);
+        }
+    }
+
+    // Counts a failure in a square.
+    fn count_square(&mut self, cell: u8) {
+        if let Some(times) = self.squares.get_mut(cell as usize) {
+            *times = times.saturating_add(1);
+        }
+    }
+
+    /// Whether the search failed so often that it should look closer.
+    pub fn are_many(&self) -> bool {
+        self.total >= MANY
+    }
+
+    /// The count of failures that is reached with so many more.
+    pub fn after(&self, more: u32) -> u32 {
+        self.total.saturating_add(more)
+    }
+
+    /// Whether there is a limit, and the failures reach it.
+    pub fn reach(&self, limit: Option<u32>) -> bool
+        ensures { OnTrue result (limit ≢ None) }
+    {
+        match limit {
+            Some(most) => self.total >= most,
+            None => false,
+        }
+    }
+
+    // Whether the search failed so often that it is stuck.
+    fn are_stuck(&self) -> bool {
+        self.total >= STUCK
+    }
+
+    /// The square whose guess failed last, of a search that is stuck.
+    pub fn last_guess(&self) -> Option<usize> {
+        if self.are_stuck() {
+            self.last_guess
+        } else {
+            None
+        }
+    }
+
+    /// How often a search that is stuck failed in a square, and 0 for any other search.
+    pub fn of_square(&self, cell: usize) -> u32
+        ensures { result < 65536 }
+    {
+        match self.squares.get(cell) {
+            Some(times) if self.are_stuck() => u32::from(*times),
+            _ => 0,
         }
     }
 

@@ -1,7 +1,8 @@
-//! Where a search had best branch: at a square with few candidates, or at a value with few places in a row or column,
-//! and rather in lines where the search failed before. This is a rule of thumb, and no answer rests on it: the weighted
+//! Where a search had best branch: at the square whose guess failed last, while that is open; else at a square with few
+//! candidates, or at a value with few places in a row or column, and rather where the search failed before. This is a rule
+//! of thumb, and no answer rests on it: the last conflict (Lecoutre, Sais, Tabary and Vidal, 2009), and then the weighted
 //! degree, dom/wdeg (Boussemart, Hemery, Lecoutre and Sais, 2004). It takes what has the least domain size, the ways to go
-//! on, over its weighted degree, the failures of its lines.
+//! on, over its weighted degree, the failures of its lines and of its square.
 
 ghost use Rattle.std.specs.Prelude.{◌*◌, ◌<◌};
 
@@ -14,6 +15,9 @@ use number_sets::NumberSet;
 /// What a square or a value weighs in whose lines nothing failed: a few failures don't make much of it.
 const WEIGHT: u32 = 4;
 
+/// How much more than a line's failure that of the square itself weighs.
+const SQUARE_WEIGHT: u32 = 8;
+
 /// A square, the value to try there first, and how good it is to branch there: in how many ways it goes on, and how much
 /// it weighs, more where its lines failed.
 #[derive(Clone, Copy)]
@@ -24,8 +28,35 @@ pub(crate) struct Proposal {
     weight: u32,
 }
 
-/// The place to branch that has the fewest ways for its weight, if there is any.
+/// The square whose guess failed last, or the place to branch that has the fewest ways for its weight, if there is any.
 pub(crate) fn best_proposal(candidates: &Candidates, failures: &Failures) -> Option<Proposal> {
+    match last_conflict(candidates, failures) {
+        Some(last) => Some(last),
+        None => best_by_weight(candidates, failures),
+    }
+}
+
+// The square whose guess failed last, while it is open.
+fn last_conflict(candidates: &Candidates, failures: &Failures) -> Option<Proposal> {
+    let width = candidates.size().get() as usize;
+    let cell = failures.last_guess()?;
+    if cell >= width * width {
+        return None;
+    }
+    let set = candidates.values(cell);
+    if set.len() < 2 {
+        return None;
+    }
+    Some(Proposal {
+        cell,
+        value: greatest(set),
+        ways: set.len(),
+        weight: WEIGHT,
+    })
+}
+
+// The place to branch that has the fewest ways for its weight, if there is any.
+fn best_by_weight(candidates: &Candidates, failures: &Failures) -> Option<Proposal> {
     let width = candidates.size().get();
     let mut best = None;
     for row in 0..width {
@@ -54,7 +85,8 @@ fn best_square(
         let cell = line_cell(size, row, column);
         let set = candidates.values(cell);
         let ways = set.len();
-        let weight = WEIGHT + row_failures + failures.of_line(width + column);
+        let line_failures = row_failures + failures.of_line(width + column);
+        let weight = WEIGHT + line_failures + SQUARE_WEIGHT * failures.of_square(cell);
         if ways > 1 && is_better(best, ways, weight) {
             best = Some(Proposal {
                 cell,

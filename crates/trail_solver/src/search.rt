@@ -2,12 +2,14 @@
 ghost use Rattle.std.specs.Prelude.{◌≡◌, ◌*◌, ◌<◌, length, MatchOption};
 ghost use Rattle.std.specs.Bool.{OnFalse};
 ghost use Rattle.latin_board.specs.Squares.{GridValue};
-ghost use Rattle.trail_solver.specs.declared.candidates.TheConstants.{PAIRS};
+ghost use Rattle.trail_solver.specs.declared.trail.TheConstants.{PAIRS};
 ghost use Rattle.trail_solver.specs.Candidates.{IsWithin};
 ghost use Rattle.trail_solver.specs.Inner.Squares.{AreSettled, IsBranch};
 ghost use Rattle.trail_solver.specs.Inner.Among.{IsAmong, IsAmongAt};
 ghost use Rattle.trail_solver.specs.Puzzles.{Solves};
 ghost use Rattle.trail_solver.specs.Solutions.{HasNoSolution, HasNoSolutionWithin};
+ghost use Rattle.trail_solver.specs.Inner.Runs.{RunAdds};
+ghost use Rattle.trail_solver.specs.declared.answer.Answer.{Answer};
 ghost use Rattle.trail_solver.specs.Inner.Searches.{AreSame, IsFurther};
 ghost use Rattle.trail_solver.specs.Inner.Added.{Adds};
 ghost use Rattle.trail_solver.specs.Answers.{Fits};
@@ -15,15 +17,20 @@ ghost use Rattle.trail_solver.specs.Answers.{Fits};
 use crate::answer::{Answer, added};
 use crate::candidates::Candidates;
 use crate::choice::{Choice, choose};
-use crate::failures::Failures;
+use crate::failures::{Failures, Side};
+use crate::narrowing::narrow_after;
 use crate::rules::{Rules, solves};
 use crate::squares::{filled, keep_only, take_away};
 use std::marker::Model;
 
+/// How many failures each run may have that is left for another one. The last run has no limit.
+const RUN_LIMITS: [u32; 3] = [100, 150, 225];
+
 /// A search for the solutions of a puzzle.
 ///
 /// It narrows the candidates, tries a value in a square, gives that back, goes on without the value, and stops at the
-/// second solution. It takes no memory.
+/// second solution. A run that fails too often is left, and the search begins anew with the failures that it has counted, so
+/// that it branches elsewhere. It takes no memory.
 #[derive(Drop)]
 pub(crate) struct Search<P: Rules> {
     pub rules: P,
@@ -71,44 +78,62 @@ impl<P: Rules> Search<P> {
         })
     }
 
-    /// Adds the solutions among the candidates to those that were found.
+    // Adds the solutions among the candidates to those that were found, or leaves off where the failures reach the limit.
     #[cycle(search)]
-    pub fn run(&mut self, found: Answer) -> Answer
+    #[tactic(auto, using(crate::proofs::Runs::left_limited, crate::proofs::Runs::left_anyhow))]
+    fn run(&mut self, found: Answer, limit: Option<u32>) -> Option<Answer>
         ensures further { IsFurther self.old self.new }
-        ensures adds { Adds (IsAmong (P.puzzle self.old.rules) self.old.candidates) found result }
+        ensures adds { RunAdds (IsAmong (P.puzzle self.old.rules) self.old.candidates)
+            found limit result }
     {
         let mut found = found;
         loop {
+            if self.failures.reach(limit) {
+                return None;
+            }
             match choose(&self.candidates, &self.failures) {
-                Choice::Settled => return self.at_leaf(found),
-                Choice::Dead => return found,
+                Choice::Settled => return Some(self.at_leaf(found)),
+                Choice::Dead => return Some(found),
                 Choice::Branch { cell, value } => {
-                    found = self.guess(cell, value, found);
+                    found = self.guess(cell, value, found, limit)?;
                     if let Answer::Several(_, _) = found {
-                        return found;
+                        return Some(found);
                     }
                     take_away(&mut self.candidates, cell, value);
-                    if !self.propagate(cell) {
-                        return found;
+                    if !self.propagate(cell, Side::Rest) {
+                        return Some(found);
                     }
                 }
             }
         }
     }
 
-    // Adds the solutions that have the value in the cell, and leaves the candidates as they were.
+    // Adds the solutions that have the value in the cell, or leaves off, and leaves the candidates as they were.
     #[cycle(search)]
-    fn guess(&mut self, cell: usize, value: u8, found: Answer) -> Answer
+    fn guess(&mut self, cell: usize, value: u8, found: Answer, limit: Option<u32>) -> Option<Answer>
         requires { IsBranch self.old.candidates cell value }
         ensures same { self.new ≡ self.old }
-        ensures adds { Adds (IsAmongAt (P.puzzle self.old.rules) self.old.candidates cell value) found result }
+        ensures adds { RunAdds (IsAmongAt (P.puzzle self.old.rules) self.old.candidates cell value)
+            found limit result }
     {
         let mark = self.candidates.mark();
         let answer = if self.assume(cell, value) {
-            self.run(found)
+            self.run(found, limit)
         } else {
-            found
+            Some(found)
         };
+        self.candidates.give_back(mark);
+        answer
+    }
+
+    // How many solutions there are among the candidates, which stay as they are, or nothing where the failures reach the limit.
+    fn attempt(&mut self, limit: Option<u32>) -> Option<Answer>
+        ensures same { self.new ≡ self.old }
+        ensures adds { RunAdds (IsAmong (P.puzzle self.old.rules) self.old.candidates)
+            Answer.None limit result }
+    {
+        let mark = self.candidates.mark();
+        let answer = self.run(Answer::None, limit);
         self.candidates.give_back(mark);
         answer
     }
@@ -118,10 +143,16 @@ impl<P: Rules> Search<P> {
         ensures same { self.new ≡ self.old }
         ensures fits { Fits (IsAmong (P.puzzle self.old.rules) self.old.candidates) result }
     {
-        let mark = self.candidates.mark();
-        let answer = self.run(Answer::None);
-        self.candidates.give_back(mark);
-        answer
+        for more in RUN_LIMITS {
+            let limit = self.failures.after(more);
+            if let Some(answer) = self.attempt(Some(limit)) {
+                return answer;
+            }
+        }
+        match self.attempt(None) {
+            Some(answer) => answer,
+            None => unreachable!(),
+        }
     }
 
     /// Keeps the value alone in the cell, and narrows; false where that finds no solution with it.
@@ -136,12 +167,12 @@ impl<P: Rules> Search<P> {
             → IsAmongAt (P.puzzle self.old.rules) self.old.candidates cell value g → ⊥) }
     {
         keep_only(&mut self.candidates, cell, value);
-        self.propagate(cell)
+        self.propagate(cell, Side::Guess)
     }
 
     // Narrows candidates that the cell lost, and notes where that failed.
     #[tactic(auto, using(crate::proofs::AmongCandidates::among_narrowed, crate::proofs::AmongCandidates::among_earlier))]
-    fn propagate(&mut self, cell: usize) -> bool
+    fn propagate(&mut self, cell: usize, side: Side) -> bool
         requires { cell < self.old.candidates.size * self.old.candidates.size }
         ensures further { IsFurther self.old self.new }
         ensures same { AreSame (IsAmong (P.puzzle self.old.rules) self.old.candidates)
@@ -149,9 +180,10 @@ impl<P: Rules> Search<P> {
         ensures refutes { OnFalse result ((g : GridValue)
             → IsAmong (P.puzzle self.old.rules) self.old.candidates g → ⊥) }
     {
-        let left = self.rules.narrow_from(&mut self.candidates, cell);
+        let closer = self.failures.are_many();
+        let left = narrow_after(&self.rules, &mut self.candidates, cell, closer);
         if !left {
-            self.failures.note(&self.candidates);
+            self.failures.note(&self.candidates, cell, side);
         }
         left
     }

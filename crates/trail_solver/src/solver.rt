@@ -11,7 +11,7 @@ pub fn solve<P: Rules>(p: &P) -> Answer
     ensures { Fits (Solves (P.puzzle p.now)) result }
 {
     match Search::start(p) {
-        Some(mut search) => search.run(Answer::None),
+        Some(mut search) => search.answer(),
         None => Answer::None,
     }
 }

@@ -1,11 +1,12 @@
 //! Squares of the candidates: one value kept, one taken away, and the grid of settled squares.
 ghost use Rattle.std.specs.Prelude.{◌≡◌, ◌<◌, ◌≤◌, length};
-ghost use Rattle.trail_solver.specs.declared.candidates.TheConstants.{PAIRS};
+ghost use Rattle.trail_solver.specs.declared.trail.TheConstants.{PAIRS};
 ghost use Rattle.trail_solver.specs.Pairs.{IsPair, with_pair};
 ghost use Rattle.trail_solver.specs.Inner.Squares.{AreSettled, IsBranch, IsFilled, KeepsOnly};
 
 use crate::candidates::Candidates;
 use latin_board::Grid;
+use number_sets::NumberSet;
 
 /// Takes all other values from a square's candidates.
 pub(crate) fn keep_only(candidates: &mut Candidates, cell: usize, value: u8)
@@ -13,12 +14,9 @@ pub(crate) fn keep_only(candidates: &mut Candidates, cell: usize, value: u8)
     ensures kept { KeepsOnly candidates.old candidates.new cell value }
     ensures bound { length candidates.new.trail ≤ PAIRS }
 {
-    let width = candidates.size().get();
-    for other in 1..width + 1 {
-        if other != value {
-            candidates.remove(cell, other);
-        }
-    }
+    let _size = candidates.size();
+    let others = candidates.values(cell).difference(NumberSet::one(value));
+    candidates.strike(cell, others);
     let _bound = candidates.trail_len();
 }
 

@@ -2,12 +2,12 @@
 
 ghost use Rattle.std.specs.Prelude.{ℕ, ◌-◌, ◌*◌, ◌<◌, ◌≤◌, ◌&&◌, true, false, MatchOption, slice_index};
 ghost use Rattle.clue_rules.specs.Inner.Narrowing.{IsSquare, Narrows, NoneStruck};
-ghost use Rattle.clue_rules.specs.Inner.LineTallies.{AreImpossible, IsWholeTally, IsSinglesOf, IsCounted, IsClash, IsForced, IsFree, IsKeptOf, IsLineStruck};
+ghost use Rattle.clue_rules.specs.Inner.LineTallies.{AreImpossible, IsWholeTally, IsSettledTally, IsSinglesOf, IsCounted, IsClash, IsForced, IsFree, IsKeptOf, IsLineStruck};
 ghost use Rattle.clue_rules.specs.Struck.{IsLatinStruck};
 ghost use Rattle.clue_rules.specs.Views.{front_place};
 
 use crate::lines::changed::ChangedLines;
-use crate::lines::view_candidates::{keep_fewer_in_view, view_sets};
+use crate::lines::view_candidates::{keep_in_view, view_sets};
 use crate::lines::views::{LINE, front_place};
 use number_sets::NumberSet;
 use trail_solver::Candidates;
@@ -78,8 +78,11 @@ fn strike_line(candidates: &mut Candidates, line: u8, changed: &mut ChangedLines
     let Some(tally) = tally_of(&sets, width) else {
         return false;
     };
+    if tally.is_settled() {
+        return true;
+    }
     let kept = tally.kept_in_line(&sets, width);
-    keep_fewer_in_view(candidates, place, &sets, &kept, changed)
+    keep_in_view(candidates, place, &kept, changed)
 }
 
 // What the sets of candidates of a line say together: the values of which one of them has one, of which two have one,
@@ -125,7 +128,8 @@ fn single_of(set: NumberSet) -> NumberSet
 
 impl LineTally {
     ghost use Rattle.std.specs.Prelude.{ℕ, ◌<◌, MatchOption, slice_index};
-    ghost use Rattle.clue_rules.specs.Inner.LineTallies.{IsCounted, IsClash, IsForced, IsFree, IsKeptOf};
+    ghost use Rattle.std.specs.Bool.{OnTrue};
+    ghost use Rattle.clue_rules.specs.Inner.LineTallies.{IsCounted, IsClash, IsForced, IsFree, IsKeptOf, IsSettledTally};
 
     // The tally with one set more, or none where the set is empty or its only value is alone in another set.
     #[tactic(auto, using(crate::proofs::LineTallying::clash_twice))]
@@ -144,6 +148,13 @@ impl LineTally {
             twice: self.twice.union(self.once.intersection(set)),
             singles: self.singles.union(single),
         })
+    }
+
+    // Whether the values that just one set has are those that are alone in one, so that all may stay.
+    fn is_settled(&self) -> bool
+        ensures { OnTrue result (IsSettledTally self.now) }
+    {
+        self.once.difference(self.twice) == self.singles
     }
 
     // The values that may stay in each square.

@@ -6,7 +6,7 @@ ghost use Rattle.clue_rules.specs.Inner.Narrowing.{AreSetsOf, KeepsInView, Keeps
 ghost use Rattle.clue_rules.specs.Views.{view_cell};
 
 use crate::lines::changed::ChangedLines;
-use crate::lines::views::{LINE, view_cell};
+use crate::lines::views::{LINE, View};
 use number_sets::NumberSet;
 use trail_solver::Candidates;
 
@@ -16,9 +16,10 @@ pub(crate) fn view_sets(candidates: &Candidates, place: u8) -> [NumberSet; LINE]
     ensures { AreSetsOf candidates.now place result }
 {
     let size = candidates.size();
+    let view = View::from(size, place);
     let mut sets = [NumberSet::empty(); LINE];
     for k in 0..size.get() as usize {
-        sets[k] = candidates.values(view_cell(size, place, k));
+        sets[k] = candidates.values(view.cell(k));
     }
     sets
 }
@@ -67,8 +68,9 @@ pub(crate) fn keep_in_view(
     ensures { KeepsInView place kept.now candidates.old candidates.new result }
 {
     let size = candidates.size();
+    let view = View::from(size, place);
     for k in 0..size.get() as usize {
-        if !keep_in_square(candidates, view_cell(size, place, k), kept[k], changed) {
+        if !keep_in_square(candidates, view.cell(k), kept[k], changed) {
             return false;
         }
     }
@@ -95,28 +97,16 @@ pub(crate) fn keep_in_square(
 }
 
 /// Takes the values that a set lacks from a square, and tells whether there were any.
-#[tactic(auto, using(crate::proofs::KeptCandidates::kept_whole))]
 pub(crate) fn strike_missing(candidates: &mut Candidates, cell: usize, kept: NumberSet) -> bool
     requires { cell < candidates.old.size * candidates.old.size }
     ensures kept { KeepsInSquare candidates.old candidates.new cell kept }
     ensures same { OnFalse result (candidates.new ≡ candidates.old) }
 {
-    if candidates.values(cell).is_subset(kept) {
+    let _size = candidates.size();
+    let missing = candidates.values(cell).difference(kept);
+    if missing.is_empty() {
         return false;
     }
-    strike_others(candidates, cell, kept);
+    candidates.strike(cell, missing);
     true
-}
-
-// Takes the values that a set lacks from a square.
-fn strike_others(candidates: &mut Candidates, cell: usize, kept: NumberSet)
-    requires { cell < candidates.old.size * candidates.old.size }
-    ensures { KeepsInSquare candidates.old candidates.new cell kept }
-{
-    let width = candidates.size().get();
-    for value in 1..width + 1 {
-        if !kept.has(value) {
-            candidates.remove(cell, value);
-        }
-    }
 }

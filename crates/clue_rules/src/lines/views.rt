@@ -3,6 +3,7 @@
 ghost use Rattle.std.specs.Prelude.{◌≡◌, ℕ, ◌+◌, ◌*◌, ◌<◌};
 ghost use Rattle.latin_board.specs.Lines.{line_cell};
 ghost use Rattle.clue_rules.specs.Views.{view_cell, front_place};
+ghost use Rattle.clue_rules.specs.Inner.ViewSquares.{LeadAlong};
 
 use latin_board::Size;
 
@@ -19,16 +20,72 @@ pub fn view_cell(size: Size, place: u8, k: usize) -> usize
     ensures value { result ≡ view_cell size place k }
     ensures inside { result < size * size }
 {
-    let width = size.get() as usize;
-    let place = place as usize;
-    if place < width {
-        k * width + place
-    } else if place < 2 * width {
-        (width - 1 - k) * width + (place - width)
-    } else if place < 3 * width {
-        (place - 2 * width) * width + k
-    } else {
-        (place - 3 * width) * width + (width - 1 - k)
+    View::from(size, place).cell(k)
+}
+
+/// The squares from an edge place, as the first of them and the way from each to the next: who walks along them asks
+/// only once at which edge the place is.
+#[derive(Clone, Copy)]
+pub(crate) struct View {
+    size: Size,
+    place: u8,
+    first: usize,
+    // By how much the next square's number is greater, and by how much it is less: one of the two is 0.
+    ahead: usize,
+    back: usize,
+    ghost leads: { LeadAlong size place first ahead back },
+}
+
+impl View {
+    /// The squares from an edge place, the nearest first.
+    pub fn from(size: Size, place: u8) -> View
+        requires { place < 4 * size }
+        ensures size { result.size ≡ size }
+        ensures place { result.place ≡ place }
+    {
+        let width = size.get() as usize;
+        let at = place as usize;
+        if at < width {
+            View::leading(size, place, at, width, 0)
+        } else if at < 2 * width {
+            View::leading(size, place, (width - 1) * width + (at - width), 0, width)
+        } else if at < 3 * width {
+            View::leading(size, place, (at - 2 * width) * width, 1, 0)
+        } else {
+            View::leading(size, place, (at - 3 * width) * width + (width - 1), 0, 1)
+        }
+    }
+
+    fn leading(size: Size, place: u8, first: usize, ahead: usize, back: usize) -> View
+        requires { LeadAlong size place first ahead back }
+        ensures size { result.size ≡ size }
+        ensures place { result.place ≡ place }
+    {
+        View {
+            size,
+            place,
+            first,
+            ahead,
+            back,
+        }
+    }
+
+    /// The squares of a line, from its first on.
+    pub fn along(size: Size, line: u8) -> View
+        requires { line < 2 * size }
+        ensures size { result.size ≡ size }
+        ensures cells { (k : ℕ) → view_cell result.size result.place k ≡ line_cell size line k }
+    {
+        View::from(size, front_place(size, line))
+    }
+
+    /// The k-th of the squares, counted from 0.
+    pub fn cell(&self, k: usize) -> usize
+        requires { k < self.now.size }
+        ensures value { result ≡ view_cell self.now.size self.now.place k }
+        ensures inside { result < self.now.size * self.now.size }
+    {
+        self.first + k * self.ahead - k * self.back
     }
 }
 

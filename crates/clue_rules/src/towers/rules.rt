@@ -12,7 +12,7 @@ ghost use Rattle.clue_rules.specs.Struck.{IsTowersStruck, NoneLeft};
 
 use crate::lines::given_squares::keep_givens;
 use crate::lines::narrowing::{narrow_by_lines, narrow_by_lines_of};
-use crate::lines::views::{LINE, view_cell};
+use crate::lines::views::{LINE, View};
 use crate::towers::{PLACES, Towers};
 use latin_board::{Grid, Size};
 use tower_lines::seen;
@@ -26,9 +26,10 @@ fn seen_from(grid: &Grid, place: u8) -> u8
 {
     let size = grid.size();
     let width = size.get() as usize;
+    let view = View::from(size, place);
     let mut line = [0; LINE];
     for k in 0..width {
-        line[k] = grid.get(view_cell(size, place, k));
+        line[k] = grid.get(view.cell(k));
     }
     seen(&line[..width]) as u8
 }

@@ -10,9 +10,9 @@ ghost use Rattle.clue_rules.specs.Inner.UnequalLines.{AreEnds, IsStruckAt, IsStr
 use crate::lines::changed::ChangedLines;
 use crate::lines::narrowing::LineRules;
 use crate::lines::view_candidates::keep_in_square;
+use crate::lines::views::View;
 use crate::unequal::Unequal;
 use crate::unequal::sign::Sign;
-use latin_board::line_cell;
 use trail_solver::Candidates;
 
 impl LineRules for Unequal {
@@ -33,8 +33,11 @@ impl LineRules for Unequal {
         changed: &mut ChangedLines,
     ) -> bool {
         let size = candidates.size();
-        for k in 0..size.get() - 1 {
-            if !self.strike_after(candidates, line, k, changed) {
+        let squares = View::along(size, line);
+        for k in 0..size.get() as usize - 1 {
+            let first = squares.cell(k);
+            let second = squares.cell(k + 1);
+            if !self.strike_sign(candidates, first, second, changed) {
                 return false;
             }
         }
@@ -45,26 +48,6 @@ impl LineRules for Unequal {
 }
 
 impl Unequal {
-    // Takes away what the sign between the k-th and the next square of a line rules out, if there is one.
-    fn strike_after(
-        &self,
-        candidates: &mut Candidates,
-        line: u8,
-        k: u8,
-        changed: &mut ChangedLines,
-    ) -> bool
-        requires size { candidates.old.size ≡ self.now.size }
-        requires line { line < 2 * self.now.size }
-        requires inside { k + 1 < self.now.size }
-        ensures { Narrows (Solves (unequal_puzzle self.now)) (IsStruckOn self.now line k)
-            candidates.old candidates.new result }
-    {
-        let size = candidates.size();
-        let first = line_cell(size, line, k);
-        let second = line_cell(size, line, k + 1);
-        self.strike_sign(candidates, first, second, changed)
-    }
-
     // Takes away what the sign between two squares rules out, if there is one.
     fn strike_sign(
         &self,

@@ -27,23 +27,33 @@ impl Unequal {
         ensures valid { IsUnequal self.now }
     {
         (0..square_count(self.givens.size())).all(|cell| {
-            self.holds_towards(grid, cell, Direction::Right)
-                && self.holds_towards(grid, cell, Direction::Down)
+            self.holds_right(grid, cell) && self.holds_below(grid, cell)
         })
     }
 
-    // Whether the grid's numbers at a square and at its neighbour, where it has one, are as the sign between them says.
-    fn holds_towards(&self, grid: &Grid, cell: usize, direction: Direction) -> bool
+    // Whether the grid's numbers at a square and at its right neighbour, where it has one, are as the sign between them says.
+    // Where the grid ends no sign stands, so the neighbour of a sign is there.
+    fn holds_right(&self, grid: &Grid, cell: usize) -> bool
         requires size { grid.now.size ≡ self.now.size }
         requires inside { cell < self.now.size * self.now.size }
-        ensures { result ≡ holds_towards self.now grid.now cell direction }
+        ensures { result ≡ holds_towards self.now grid.now cell Direction.Right }
     {
-        match direction.neighbour(self.givens.size(), cell) {
-            Some(other) => {
-                let sign = self.sign_between(cell, other);
-                sign.holds(grid.get(cell), grid.get(other))
-            }
-            None => true,
+        match self.right_sign(cell) {
+            Sign::Absent => true,
+            sign => sign.holds(grid.get(cell), grid.get(cell + 1)),
+        }
+    }
+
+    // The same of a square and its lower neighbour.
+    fn holds_below(&self, grid: &Grid, cell: usize) -> bool
+        requires size { grid.now.size ≡ self.now.size }
+        requires inside { cell < self.now.size * self.now.size }
+        ensures { result ≡ holds_towards self.now grid.now cell Direction.Down }
+    {
+        let width = self.givens.size().get() as usize;
+        match self.lower_sign(cell) {
+            Sign::Absent => true,
+            sign => sign.holds(grid.get(cell), grid.get(cell + width)),
         }
     }
 

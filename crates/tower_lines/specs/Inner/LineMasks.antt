@@ -1,5 +1,5 @@
 -- What the masks of used values say of a line's starts, which stand beside them as lists.
-use Rattle.std.specs.Prelude.{◌≡◌, ℕ, ◌+◌, ◌^◌, ◌<◌, ◌≤◌, Bool, true, not, ◌&&◌, nat_le, nat_lt, List, [], ◌∷◌, ◌++◌, length, slice_index, ◌==◌, count_ones}
+use Rattle.std.specs.Prelude.{◌≡◌, ℕ, ◌+◌, ◌^◌, ◌≤◌, ◌⊎◌, Bool, true, not, ◌&&◌, nat_le, nat_lt, List, [], ◌∷◌, ◌++◌, length, slice_index, ◌==◌, count_ones}
 use Rattle.std.specs.List.{list_any}
 use Rattle.tower_lines.specs.TowersSeen.{seen, seen_after}
 use Rattle.number_sets.specs.Sets.{has_number}
@@ -41,10 +41,6 @@ pub record AreCountsSoFar (sets : List ℕ) (clue mask counts : ℕ) (Done : ℕ
   pub all : (q : List ℕ) (k rest : ℕ) → IsMask rest q → Done rest k → IsStart sets (q ++ (k + 1) ∷ []) → IsMask mask (q ++ (k + 1) ∷ [])
       → seen (q ++ (k + 1) ∷ []) ≤ clue → has_number counts (seen (q ++ (k + 1) ∷ [])) ≡ true
 
--- a table of such counts, when all masks below `from` are done
-pub record AreDoneBelow (sets : List ℕ) (clue from : ℕ) (front : List ℕ) : Type 0 where
-  pub each : (m : ℕ) → m < 2 ^ length sets → AreCountsSoFar sets clue m (slice_index front m) (λ rest k. rest < from)
-
 -- the line p, along which `count` towers were seen, goes on with s and shows the clue
 pub record IsEnd (sets : List ℕ) (clue count : ℕ) (p s : List ℕ) : Type 0 where
   pub start : IsStart sets (p ++ s)
@@ -63,7 +59,9 @@ pub record IsPassed (sets : List ℕ) (clue mask value : ℕ) : Type 0 where
   pub used : IsMask mask before
   pub filling : IsFilling sets clue (before ++ value ∷ after)
 
--- what is kept is supported, and is all that comes behind the masks from `from` on
-pub record AreKeptValues (sets : List ℕ) (clue from : ℕ) (kept : List ℕ) : Type 0 where
-  pub only : (place value : ℕ) → has_number (slice_index kept place) value ≡ true → IsSupported sets clue place value
-  pub all : (mask value : ℕ) → from ≤ mask → IsPassed sets clue mask value → has_number (slice_index kept (count_ones mask)) value ≡ true
+-- what is kept then: what was kept, and the values that come after the mask in some filling
+pub record AreKeptToo (sets : List ℕ) (clue mask : ℕ) (kept kept_then : List ℕ) : Type 0 where
+  pub still : (place value : ℕ) → has_number (slice_index kept place) value ≡ true → has_number (slice_index kept_then place) value ≡ true
+  pub only : (place value : ℕ) → has_number (slice_index kept_then place) value ≡ true
+      → (has_number (slice_index kept place) value ≡ true) ⊎ IsSupported sets clue place value
+  pub all : (value : ℕ) → IsPassed sets clue mask value → has_number (slice_index kept_then (count_ones mask)) value ≡ true

@@ -1,17 +1,12 @@
-use Rattle.std.proofs.Common.{◌-◌, ◌^◌, length, arith}
-use Rattle.std.proofs.lemmas.Nat.{one_shl}
-use Rattle.std.proofs.Math.Pow.{ones_lt}
-use Rattle.tower_lines.proofs.MaskLemmas.{mask_in_table}
-use Rattle.tower_lines.proofs.WholeLines.{filling_counted}
+use Rattle.std.proofs.Common.{◌^◌, ◌≤◌, length, arith}
+use Rattle.tower_lines.proofs.MaskLemmas.{masks_most}
 use Rattle.tower_lines.proofs.line_fillings.is_counted.Goals as goal
 
-pub counts_of-requires : goal.counts_of-requires
-counts_of-requires c =
-    let w = length c.args.sets.now in
-    rw (one_shl w 64 (omega (arith, c.requires.short))) (mask_in_table w (2 ^ w - 1) c.requires.short (ones_lt w))
+pub is_counted_by-requires-in-0-to-4-clause-room : goal.is_counted_by-requires-in-0-to-4-clause-room
+is_counted_by-requires-in-0-to-4-clause-room c = let most : 2 ^ length c.args.sets.now ≤ 2 ^ 4 = masks_most (length c.args.sets.now) 4 (omega arith) in omega arith
 
-pub returns : goal.returns
-returns c =
-    let w = length c.args.sets.now in
-    let here = rw (one_shl w 64 (omega (arith, c.requires.short))) at c.counts_of.ensures in
-    rw (c.has.ensures, here) (filling_counted c.args.sets.now c.args.clue _ (c.counts_before-front.ensures (2 ^ w - 1) (ones_lt w)))
+pub is_counted_by-requires-in-5-to-6-clause-room : goal.is_counted_by-requires-in-5-to-6-clause-room
+is_counted_by-requires-in-5-to-6-clause-room c = let most : 2 ^ length c.args.sets.now ≤ 2 ^ 6 = masks_most (length c.args.sets.now) 6 (omega arith) in omega arith
+
+pub is_counted_by-requires-in_default-clause-room : goal.is_counted_by-requires-in_default-clause-room
+is_counted_by-requires-in_default-clause-room c = let most : 2 ^ length c.args.sets.now ≤ 2 ^ 9 = masks_most (length c.args.sets.now) 9 (omega arith) in omega arith

@@ -8,9 +8,10 @@ use Rattle.clue_rules.proofs.towers.rules.seen_from.Goals as goal
 pub loop-k-preserved : goal.loop-k-preserved
 loop-k-preserved c =
     let g = c.args.grid.now in
-    let at : c.get.result ≡ number_at g c.view_cell.result = c.get.ensures.value in
-    filled_more _ _ _ c.loop-k.k c.loop-k.line c.get.result (omega arith)
-    (at ∙ ap (number_at g) (rw c.size-size.ensures.value at c.view_cell.ensures.value)) c.loop-k.invariant
+    let width = c.from-view.ensures.size ∙ c.size-size.ensures.value in
+    let here = rw (width, c.from-view.ensures.place) at c.cell.ensures.value in
+    let at : c.get.result ≡ number_at g c.cell.result = c.get.ensures.value in
+    filled_more _ _ _ c.loop-k.k c.loop-k.line c.get.result (omega arith) (at ∙ ap (number_at g) here) c.loop-k.invariant
 
 pub returns-clause-value : goal.returns-clause-value
 returns-clause-value c =

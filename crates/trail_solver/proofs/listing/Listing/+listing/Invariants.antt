@@ -1,5 +1,5 @@
 use Rattle.std.proofs.Common.{◌≡◌, ◌+◌, ◌-◌, ◌*◌, length}
-use Rattle.trail_solver.specs.declared.candidates.TheConstants.{PAIRS}
+use Rattle.trail_solver.specs.declared.trail.TheConstants.{PAIRS}
 use Rattle.trail_solver.specs.Inner.Listed.{Lists}
 use Rattle.trail_solver.specs.Inner.Among.{IsAmongBelow}
 use Rattle.trail_solver.proofs.listing.Listing.+listing.Given as goal

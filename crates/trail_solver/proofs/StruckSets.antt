@@ -1,0 +1,83 @@
+-- What `strike` leaves of the candidates.
+use Rattle.std.proofs.Common.{◌≡◌, ◌≢◌, ℕ, ◌^◌, ◌<◌, eqb, Bool, true, false, not, ◌&&◌, ◌||◌, ◌⊎◌, List, ◌++◌, refl, sym, ap, ◌∙◌, subst, inl, inr, ⊎_elim}
+use Rattle.std.proofs.lemmas.Bool.{and_from, and_parts, both_ways, cases_Bool, eq-eqb, eqb-true, false_from_ne_true, or_right}
+use Rattle.std.proofs.Math.Bool.{or-false}
+use Rattle.std.proofs.lemmas.List.Folds.{list_any-append}
+use Rattle.number_sets.specs.Sets.{has_number}
+use Rattle.trail_solver.specs.Pairs.{IsPair, IsPrefix, has_pair, pairs_of}
+use Rattle.trail_solver.specs.Candidates.{CandidatesValue, AreCandidates, IsCandidates, IsEarlier, IsSetOf, may_be}
+use Rattle.trail_solver.proofs.Trails.{same_pair}
+use Rattle.trail_solver.proofs.Earlier.{prefix-append, stays_gone}
+use Rattle.trail_solver.proofs.SetPairs.{has_pair-pairs_of}
+use Rattle.trail_solver.proofs.Removals.{set_below}
+
+-- what `strike` does
+pub record Strikes (old new : CandidatesValue) (cell set : ℕ) : Type 0 where
+  pub size : new.size ≡ old.size
+  pub trail : new.trail ≡ old.trail ++ pairs_of cell set
+  pub small : set < 2 ^ 16
+
+pub struck_earlier : (old new : CandidatesValue) (cell set : ℕ) → Strikes old new cell set → IsEarlier old new
+struck_earlier old new cell set s = record {
+  size = s.size;
+  adds = let P : List (ℕ × ℕ) → Type 0 = λ ps. IsPrefix old.trail ps in subst P (sym s.trail) (prefix-append old.trail (pairs_of cell set));
+}
+
+has_pair-struck : (old new : CandidatesValue) (cell set c v : ℕ) → Strikes old new cell set
+    → has_pair new.trail c v ≡ (has_pair old.trail c v || (eqb c cell && has_number set v))
+has_pair-struck old new cell set c v s =
+    ap (λ (ps : List (ℕ × ℕ)). has_pair ps c v) s.trail
+    ∙ list_any-append (same_pair c v) old.trail (pairs_of cell set)
+    ∙ ap (λ b. has_pair old.trail c v || b) (has_pair-pairs_of cell set c v s.small)
+
+-- the set's values are gone
+pub gone_struck : (old new : CandidatesValue) (cell set v : ℕ) → Strikes old new cell set → has_number set v ≡ true → may_be new cell v ≡ false
+gone_struck old new cell set v s has =
+    ap not (has_pair-struck old new cell set cell v s ∙ or_right (has_pair old.trail cell v) (eqb cell cell && has_number set v) (and_from (eqb cell cell) (has_number set v) (eq-eqb cell cell refl) has))
+
+-- and no others went
+pub rest_struck : (old new : CandidatesValue) (cell set c v : ℕ) → Strikes old new cell set → (c ≢ cell) ⊎ (has_number set v ≡ false)
+    → may_be new c v ≡ may_be old c v
+rest_struck old new cell set c v s other =
+    let out : (eqb c cell && has_number set v) ≡ false = false_from_ne_true (eqb c cell && has_number set v) (λ e.
+    let p = and_parts (eqb c cell) (has_number set v) e in ⊎_elim (λ n. n (eqb-true c cell p.0)) (λ n. both_ways (has_number set v) n p.1) other) in
+    ap not (has_pair-struck old new cell set c v s ∙ ap (λ b. has_pair old.trail c v || b) out ∙ or-false (has_pair old.trail c v))
+
+-- ---- all but a set's values are struck
+
+-- the candidates of a cell that another set lacks
+pub record AreMissing (values kept missing : ℕ) : Type 0 where
+  pub is : (v : ℕ) → has_number missing v ≡ (has_number values v && not (has_number kept v))
+
+pub missing_are : (c : CandidatesValue) (cell values kept missing : ℕ) → IsSetOf c cell values
+    → ((v : ℕ) → has_number missing v ≡ (has_number values v && not (has_number kept v))) → AreCandidates c cell missing
+missing_are c cell values kept missing is left v has =
+    (is v).0 (and_parts (has_number values v) (not (has_number kept v)) (sym (left v) ∙ has)).0
+
+-- they are below 16
+pub missing_strikes : (old new : CandidatesValue) (cell set : ℕ) → IsCandidates old → AreCandidates old cell set → new.size ≡ old.size
+    → new.trail ≡ old.trail ++ pairs_of cell set → Strikes old new cell set
+missing_strikes old new cell set valid there size trail = record {
+  size = size;
+  trail = trail;
+  small = set_below old.size cell set valid.largest (λ v has. (there v has).0);
+}
+
+-- the values that the set lacks are gone
+pub gone_missing : (old new : CandidatesValue) (cell values kept missing v : ℕ) → IsSetOf old cell values → AreMissing values kept missing
+    → Strikes old new cell missing → IsPair old.size cell v → has_number kept v ≡ false → may_be new cell v ≡ false
+gone_missing old new cell values kept missing v is left s pair lacks =
+    elim (cases_Bool (may_be old cell v)) [
+      | inl there ↦ gone_struck old new cell missing v s (left.is v ∙ rw ((is v).1 (pair, there), lacks) refl)
+      | inr gone ↦ stays_gone old new cell v (struck_earlier old new cell missing s) gone
+    ]
+
+-- and no others
+pub rest_missing : (old new : CandidatesValue) (cell values kept missing c v : ℕ) → AreMissing values kept missing
+    → Strikes old new cell missing → (c ≢ cell) ⊎ (has_number kept v ≡ true) → may_be new c v ≡ may_be old c v
+rest_missing old new cell values kept missing c v left s other =
+    rest_struck old new cell missing c v s (⊎_elim (λ n. inl n) (λ has. inr (left.is v ∙ ap (λ b. has_number values v && not b) has ∙ and_false (has_number values v))) other)
+  where
+    and_false : (b : Bool) → (b && false) ≡ false
+    and_false true = refl
+    and_false false = refl

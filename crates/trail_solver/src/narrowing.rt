@@ -1,0 +1,65 @@
+//! How candidates are narrowed at each step of a search.
+
+ghost use Rattle.std.specs.Prelude.{◌≡◌, ◌*◌, ◌<◌};
+ghost use Rattle.std.specs.Bool.{OnFalse};
+ghost use Rattle.trail_solver.specs.Candidates.{IsEarlier};
+ghost use Rattle.trail_solver.specs.Solutions.{HasNoSolutionWithin, KeepsSolutions};
+
+use crate::candidates::Candidates;
+use crate::crowds::narrow_by_pairings;
+use crate::rules::Rules;
+
+/// Removes candidates by the rules, where the cell alone lost some since that was done last; with a closer look by the
+/// pairings of a Latin square as well. False only where no solution was among them; the sizes are equal.
+#[tactic(auto, using(crate::proofs::PairedSolutions::kept_then, crate::proofs::PairedSolutions::refuted_then))]
+pub(crate) fn narrow_after<P: Rules>(
+    p: &P,
+    candidates: &mut Candidates,
+    cell: usize,
+    closer: bool,
+) -> bool
+    requires size { candidates.old.size ≡ (P.puzzle p.now).size }
+    requires inside { cell < candidates.old.size * candidates.old.size }
+    ensures less { IsEarlier candidates.old candidates.new }
+    ensures keeps { KeepsSolutions (P.puzzle p.now) candidates.old candidates.new }
+    ensures refutes { OnFalse result (HasNoSolutionWithin (P.puzzle p.now) candidates.old) }
+{
+    if !p.narrow_from(candidates, cell) {
+        return false;
+    }
+    if closer {
+        narrow_closer(p, candidates)
+    } else {
+        true
+    }
+}
+
+// By the pairings, and by the rules again where that removed candidates.
+#[tactic(auto, using(crate::proofs::PairedSolutions::kept_then, crate::proofs::PairedSolutions::refuted_then))]
+fn narrow_closer<P: Rules>(p: &P, candidates: &mut Candidates) -> bool
+    requires { candidates.old.size ≡ (P.puzzle p.now).size }
+    ensures less { IsEarlier candidates.old candidates.new }
+    ensures keeps { KeepsSolutions (P.puzzle p.now) candidates.old candidates.new }
+    ensures refutes { OnFalse result (HasNoSolutionWithin (P.puzzle p.now) candidates.old) }
+{
+    let before = candidates.trail_len();
+    if !pair_off(p, candidates) {
+        return false;
+    }
+    if candidates.trail_len() == before {
+        return true;
+    }
+    p.narrow(candidates)
+}
+
+// By the pairings alone: each solution is a Latin square.
+#[tactic(auto, using(crate::proofs::PairedSolutions::paired_keeps, crate::proofs::PairedSolutions::paired_refutes))]
+fn pair_off<P: Rules>(p: &P, candidates: &mut Candidates) -> bool
+    requires { candidates.old.size ≡ (P.puzzle p.now).size }
+    ensures less { IsEarlier candidates.old candidates.new }
+    ensures keeps { KeepsSolutions (P.puzzle p.now) candidates.old candidates.new }
+    ensures refutes { OnFalse result (HasNoSolutionWithin (P.puzzle p.now) candidates.old) }
+{
+    let _p = p;
+    narrow_by_pairings(candidates)
+}
