@@ -13,6 +13,16 @@ const BATCH_TIME: u64 = 200_000;
 
 const MOST_CALLS: u64 = 1000;
 
+/// A short batch has as many calls as fill so many nanoseconds: some hundred times what a look at the clock costs.
+const SHORT_BATCH_TIME: u64 = 20_000;
+
+/// How many short batches there are at most, and after how many nanoseconds none begins.
+#[derive(Clone, Copy)]
+pub(crate) struct Sitting {
+    pub(crate) batches: u64,
+    pub(crate) enough: u64,
+}
+
 /// What is timed.
 pub(crate) trait Call {
     /// Does it, and tells a number of what was found, so that it must be found.
@@ -29,6 +39,27 @@ pub(crate) fn nanoseconds_of<C: Call>(
     let mut fastest = first;
     for _ in 0..BATCHES {
         fastest = fastest.min(batch(rt, timed, calls)?);
+    }
+    Ok(fastest)
+}
+
+/// How long one call took in nanoseconds in the fastest short batch, or alone at first.
+pub(crate) fn fastest_of<C: Call>(
+    rt: &(impl Clock + Alloc<A = Global>),
+    timed: &mut C,
+    sitting: Sitting,
+) -> io::Result<u64> {
+    let first = batch(rt, timed, 1)?;
+    let calls = (SHORT_BATCH_TIME / first.max(1)).saturating_add(1);
+    let mut fastest = first;
+    let mut spent = first;
+    for _ in 0..sitting.batches {
+        if spent > sitting.enough {
+            break;
+        }
+        let mean = batch(rt, timed, calls)?;
+        fastest = fastest.min(mean);
+        spent = spent.saturating_add(mean.saturating_mul(calls));
     }
     Ok(fastest)
 }

@@ -2,30 +2,19 @@
 //! mean and in the slowest case, in microseconds; or one list of the first hundred solutions.
 //!
 //! A line is a game, a class if there is one, and a game ID, with a space between; a line that begins with # is skipped.
-//! Each puzzle is solved some times in a row, and the fastest of these counts, since others may work on the machine.
+//! Each puzzle is solved in some batches, and the fastest of these counts, since others may work on the machine.
 
-use clue_rules::{Game, GameId, Towers, Unequal, read_id};
+use crate::batches::Sitting;
+use crate::solving::{Task, Timing, timing_of_line};
 use std::alloc::{AllocError, Global};
 use std::io;
 use std::rt::Clock;
-use std::time::Instant;
-use trail_solver::{Answer, solutions, solve};
 
-/// How often each puzzle is solved, as long as that takes no longer than `ENOUGH`.
-const ROUNDS: u64 = 20;
-
-/// After so many nanoseconds no further round begins.
-const ENOUGH: u64 = 500_000_000;
-
-/// How many solutions are listed.
-const LISTED: u8 = 100;
-
-/// What is timed.
-#[derive(Clone, Copy)]
-pub(crate) enum Task {
-    Solve,
-    List,
-}
+/// Some rounds, while they take no longer than half a second.
+const SITTING: Sitting = Sitting {
+    batches: 20,
+    enough: 500_000_000,
+};
 
 /// The puzzles of one game and class, and their times in nanoseconds.
 #[derive(Drop)]
@@ -35,51 +24,6 @@ struct Class {
     unique: u64,
     total: u64,
     slowest: u64,
-}
-
-/// How long one solve took in nanoseconds, and whether there was just one solution.
-#[derive(Drop)]
-struct Timing {
-    nanoseconds: u64,
-    is_unique: bool,
-}
-
-/// Solves the puzzle of a game ID some times; None where the text is no ID of a described puzzle.
-fn timing_of<P: Game + Drop>(
-    rt: &(impl Clock + Alloc<A = Global>),
-    task: Task,
-    id: &[u8],
-) -> io::Result<Option<Timing>> {
-    let Ok(GameId::Described(_, puzzle)) = read_id::<P>(id) else {
-        return Ok(None);
-    };
-    let mut timing = Timing {
-        nanoseconds: u64::MAX,
-        is_unique: false,
-    };
-    let mut spent: u64 = 0;
-    for _ in 0..ROUNDS {
-        if spent > ENOUGH {
-            break;
-        }
-        let start = Instant::now(rt)?;
-        timing.is_unique = is_unique(rt.alloc(), task, &puzzle);
-        let elapsed = u64::try_from(start.elapsed(rt)?.as_nanos()).unwrap_or(u64::MAX);
-        timing.nanoseconds = timing.nanoseconds.min(elapsed);
-        spent = spent.saturating_add(elapsed);
-    }
-    Ok(Some(timing))
-}
-
-/// Does what is timed, and tells whether there was just one solution.
-fn is_unique<P: Game>(alloc: Global, task: Task, puzzle: &P) -> bool {
-    match task {
-        Task::Solve => matches!(solve(puzzle), Answer::One(_)),
-        Task::List => match solutions(alloc, puzzle, LISTED) {
-            Ok(listed) => listed.len() == 1,
-            Err(_) => false,
-        },
-    }
 }
 
 /// Adds a puzzle to its class.
@@ -92,7 +36,9 @@ fn count(
     for class in classes.iter_mut() {
         if class.name.as_str() == name {
             class.puzzles = class.puzzles.saturating_add(1);
-            class.unique = class.unique.saturating_add(u64::from(timing.is_unique));
+            class.unique = class
+                .unique
+                .saturating_add(u64::from(timing.solutions == 1));
             class.total = class.total.saturating_add(timing.nanoseconds);
             class.slowest = class.slowest.max(timing.nanoseconds);
             return Ok(());
@@ -101,7 +47,7 @@ fn count(
     classes.push(Class {
         name: String::from_str(alloc, name)?,
         puzzles: 1,
-        unique: u64::from(timing.is_unique),
+        unique: u64::from(timing.solutions == 1),
         total: timing.nanoseconds,
         slowest: timing.nanoseconds,
     })?;
@@ -115,18 +61,13 @@ fn solve_line<R: Clock + Alloc<A = Global> + Eprint>(
     classes: &mut Vec<Class>,
     line: &str,
 ) -> io::Result<()> {
-    let Some((name, id)) = line.rsplit_once(' ') else {
+    let Some((name, _)) = line.rsplit_once(' ') else {
         return Ok(());
     };
     if name.starts_with('#') {
         return Ok(());
     }
-    let timing = if name.starts_with("towers") {
-        timing_of::<Towers>(rt, task, id.as_bytes())?
-    } else {
-        timing_of::<Unequal>(rt, task, id.as_bytes())?
-    };
-    match timing {
+    match timing_of_line(rt, task, line, SITTING)? {
         Some(timing) => Ok(count(rt.alloc(), classes, name, &timing)?),
         None => eprintln!(rt; "cannot read {line}"),
     }

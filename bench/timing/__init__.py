@@ -1,0 +1,6 @@
+"""Times puzzles one by one, each with a limit, by a program that answers each line.
+
+answering   the program, which is begun again where an answer doesn't come in time
+table       times by game and class
+climbing    changes of a puzzle that are kept where they make it slower
+"""
