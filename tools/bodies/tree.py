@@ -6,48 +6,24 @@ import os
 import shutil
 import subprocess
 from pathlib import Path
-from typing import Dict, Iterable, List, Set
+from typing import Collection
 
 from bodies.edits import Texts
+from building.copies import copy_folder, write_list
+from building.crates import PARTS, ROOT, all_of, listed
 from harness import Room
-
-ROOT = Path(__file__).resolve().parent.parent.parent
-
-#: What the proof of a crate is made from.
-PARTS = ('src', 'specs', 'proofs')
-
-
-def listed() -> Dict[str, List[str]]:
-    """The crates of the repository, lowest first, each with the libraries that it stands on."""
-    crates: Dict[str, List[str]] = {}
-    for line in (ROOT / 'crates.txt').read_text(encoding='utf-8').splitlines():
-        name, colon, libraries = line.partition('#')[0].partition(':')
-        if colon:
-            crates[name.split()[0]] = libraries.split()
-    return crates
-
-
-def below(crate: str, crates: Dict[str, List[str]]) -> Set[str]:
-    """The crates of the repository that a crate stands on."""
-    found: Set[str] = set()
-    for library in crates[crate]:
-        if library in crates:
-            found |= {library} | below(library, crates)
-    return found
 
 
 class Tree:
     """The copy, in a room. What earlier checks of the repository kept is used, and not written to."""
 
-    def __init__(self, room: Room, names: Iterable[str]) -> None:
+    def __init__(self, room: Room, names: Collection[str]) -> None:
         self.rt = os.environ.get('RT') or 'rt'
         self.top = Path(room.path)
         crates = listed()
-        wanted = set(names).union(*(below(name, crates) for name in names))
-        lines = [f'{name}: {" ".join(libraries)}\n' for name, libraries in crates.items() if name in wanted]
-        (self.top / 'crates.txt').write_text(''.join(lines), encoding='utf-8')
+        write_list(self.top, names, crates)
         shutil.copy(ROOT / 'HANDLES', self.top)
-        for name in wanted:
+        for name in all_of(names, crates):
             for part in PARTS:
                 copy_folder(ROOT / 'crates' / name / part, self.crate(name) / part)
             copy_folder(ROOT / 'crates' / name / 'out' / 'rlib', self.crate(name) / 'out' / 'rlib', linked=True)
@@ -81,16 +57,3 @@ class Tree:
             errors='replace',
             check=False,
         )
-
-
-def copy_folder(source: Path, target: Path, linked: bool = False) -> None:
-    """Copies a folder where there is one; `linked` files are the same file in both, where the disk allows it."""
-    if not source.is_dir():
-        return
-    if linked:
-        try:
-            shutil.copytree(source, target, copy_function=os.link)
-            return
-        except (OSError, shutil.Error):
-            shutil.rmtree(target, ignore_errors=True)
-    shutil.copytree(source, target)

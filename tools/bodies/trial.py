@@ -8,7 +8,8 @@ from typing import List, NamedTuple, Sequence, Set
 from bodies.edits import BadEdit, Edit, Texts, all_applied, applied
 from bodies.said import Goal, goals_in, is_proved, is_refused, why
 from bodies.sources import Place, place_at, places_of
-from bodies.tree import ROOT, Tree
+from bodies.tree import Tree
+from building.crates import ROOT
 
 
 class Answer(NamedTuple):

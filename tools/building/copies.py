@@ -1,0 +1,30 @@
+"""Copies of crates, in which something is tried or proved."""
+
+from __future__ import annotations
+
+import os
+import shutil
+from pathlib import Path
+from typing import Iterable
+
+from building.crates import Listed, all_of
+
+
+def write_list(folder: Path, names: Iterable[str], crates: Listed) -> None:
+    """Writes crates.txt for a copy of these crates and of all below them."""
+    wanted = all_of(names, crates)
+    lines = [f'{name}: {" ".join(libraries)}\n' for name, libraries in crates.items() if name in wanted]
+    (folder / 'crates.txt').write_text(''.join(lines), encoding='utf-8')
+
+
+def copy_folder(source: Path, target: Path, linked: bool = False) -> None:
+    """Copies a folder where there is one; `linked` files are the same file in both, where the disk allows it."""
+    if not source.is_dir():
+        return
+    if linked:
+        try:
+            shutil.copytree(source, target, copy_function=os.link)
+            return
+        except (OSError, shutil.Error):
+            shutil.rmtree(target, ignore_errors=True)
+    shutil.copytree(source, target)

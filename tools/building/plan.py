@@ -1,0 +1,81 @@
+"""What has to be proved, which comes first, and how long it takes."""
+
+from __future__ import annotations
+
+import heapq
+from typing import Dict, Iterable, List, Mapping, Set, Tuple
+
+from building.crates import Listed, below
+
+#: Seconds by the clock of each crate from nothing, on four processors that had other work beside it. Those of the crates from trail_solver to
+#: play_save and of puzzle_cli are estimates, made from what they took over kept work.
+SECONDS = {
+    'number_sets': 19,
+    'latin_board': 64,
+    'byte_text': 35,
+    'tower_lines': 129,
+    'trail_solver': 180,
+    'clue_rules': 200,
+    'puzzle_gen': 80,
+    'board_checks': 90,
+    'play_midend': 70,
+    'play_save': 90,
+    'safe_save': 294,
+    'puzzle_io': 70,
+    'puzzle_cli': 180,
+    'puzzle_json': 256,
+    'program_shell': 263,
+    'puzzles': 151,
+    'puzzles_json': 196,
+}
+
+#: Of a crate that isn't in the table.
+OF_OTHERS = 60
+
+#: The part of those seconds that a crate takes over what earlier proofs kept.
+OVER_KEPT = 0.2
+
+#: The seconds for which the table alone is believed, before those that this run has taken count.
+TRUST = 30
+
+
+class Plan:
+    """The crates to be asked for, those with the longest chain of crates on them first."""
+
+    def __init__(self, asked: Iterable[str], crates: Listed, kept: Iterable[str] = ()) -> None:
+        over_kept = set(kept)
+        names = set(asked)
+        #: The crates of this plan that each waits for.
+        self.waits_for: Dict[str, Set[str]] = {name: below(name, crates) & names for name in names}
+        self.seconds: Dict[str, float] = {name: SECONDS.get(name, OF_OTHERS) * (OVER_KEPT if name in over_kept else 1) for name in names}
+        #: Seconds from the start of a crate to the end of all that waits for it.
+        self.chain: Dict[str, float] = {}
+        for name in sorted(names, key=lambda name: -len(self.waits_for[name])):
+            after = [self.chain[other] for other in self.chain if name in self.waits_for[other]]
+            self.chain[name] = self.seconds[name] + max(after, default=0)
+        self.order: List[str] = sorted(names, key=lambda name: (-self.chain[name], name))
+
+    def ready(self, done: Set[str], begun: Iterable[str]) -> List[str]:
+        """The crates that can be proved now, the most urgent first."""
+        apart = done.union(begun)
+        return [name for name in self.order if name not in apart and self.waits_for[name] <= done]
+
+    def seconds_left(self, done: Set[str], running: Mapping[str, float], lanes: int, scale: float) -> float:
+        """How long it takes from here, with the seconds that each running crate has taken, at most so many crates side by side, and
+        each crate taking `scale` times the seconds of the table."""
+        ended, now = set(done), 0.0
+        begun = set(running)
+        ends: List[Tuple[float, str]] = [(max(self.seconds[name] * scale - spent, 1), name) for name, spent in running.items()]
+        heapq.heapify(ends)
+        while True:
+            for name in self.ready(ended, begun)[: max(lanes - len(ends), 0)]:
+                heapq.heappush(ends, (now + self.seconds[name] * scale, name))
+                begun.add(name)
+            if not ends:
+                return now
+            now, name = heapq.heappop(ends)
+            ended.add(name)
+
+    def scale(self, took: Mapping[str, float]) -> float:
+        """How this run's seconds compare with the table's, by the crates that have ended."""
+        return (sum(took.values()) + TRUST) / (sum(self.seconds[name] for name in took) + TRUST)
