@@ -1,21 +1,30 @@
-# make            proves and builds both programs, and leaves them as build/puzzles and build/puzzles-json
-# make play       the board on the terminal, where the last game goes on; GAME=towers or GAME=unequal, ID= an ID or a save file
+# make            proves and builds both programs, crates side by side, and leaves them as build/puzzles and build/puzzles-json; where nothing has
+#                 changed it says nothing
+# make play       the board on the terminal, where the last game goes on; GAME=towers or GAME=unequal, ID= an ID or a save file; in a pipe
+#                 a game by the commands that come in, as echo show | make play
 # make test       the gate: every proof from nothing, wrong bodies, tests, stored runs, the program from outside and under fire, the scripts
 #                 around it; SKIPS_ALLOWED=1 lets it pass where something can't be tried
 # make test-faults a part of it: memory, reads and writes that fail in turn
 # make test-saving a part of it: how the program saves, wherever the file lies and whoever shares it
 # make test-json  a part of it: the objects that puzzles-json writes
-# make test-tools parts of it: the front, installing, the texts for users, and the scripts in another place
+# make test-tools parts of it: the board, installing, the texts for users, and the scripts in another place
 # make test-reference what saves and seeds are answered, by a second implementation
 # make test-twins  the twins of the wrong bodies, which mean what the right bodies mean, are proved; CRATES=.. for some crates
-# make test-bodies the wrong bodies but those in must-fail/ are refused, tried together; CRATES=.. for all those of some crates
+# make test-bodies all wrong bodies are refused and all twins proved, tried together, of which the gate tries one of each function; CRATES=.. for some crates
+# make trust      how many lines have to be read to believe the promises, by file, and whether docs/TRUST.md lists them
 # make exchange   saves and IDs against the usual programs, of Debian's package sgt-puzzles; no part of the gate
-# make bench      how long the solver, the generator, saves, checks of boards and their objects take, class by class, or the solver on the lines of IDS=file; no part of the gate
+# make bench      how long the solver, the generator, saves, checks of boards and their objects take, class by class, and the solver beside the usual
+#                 program's, where its source package is there (bench/usual/fetch); or the solver on the lines of IDS=file; no part of the gate
+# make hard       the solver on COUNT=22000 fresh puzzles of families that are made to be hard, by SEED=1; no part of the gate
+# make climb      looks for MINUTES=3 in each game for puzzles on which the solver is slow; no part of the gate
 # make check      CRATE=clue_rules: proves one crate, in seconds after an edit
 # make try        CRATE=clue_rules: runs the tests of one crate without a proof
 # make must-fail  CRATE=clue_rules: tries the wrong bodies in its must-fail/, one by one
 # make fmt        lays out all files; FMT='rt tidy' also drops unused imports of proved crates
-# make install    the programs, the front, manual pages and completion below PREFIX=/usr/local; make uninstall
+# make dist       packs the last commit as build/puzzles-VERSION.tar.gz, and what was built of it as build/puzzles-VERSION-linux-amd64.tar.gz
+# make install    the programs, the board, manual pages, documents and completions below PREFIX=/usr/local, or where bindir, gamesdir, datadir,
+#                 mandir, docdir, bashcompdir, zshcompdir and fishcompdir say, all below DESTDIR; make uninstall takes them away again
+# make installcheck plays with what is installed
 # make clean      takes build/ away; what the checks keep stays
 # make help       this list
 
@@ -23,26 +32,36 @@ RT ?= rt
 GAME ?=
 ID ?=
 IDS ?=
+SEED ?= 1
+COUNT ?= 22000
+MINUTES ?= 3
 CRATE ?=
 CRATES ?=
 FMT ?= '$(RT)' fmt
 PREFIX ?= /usr/local
+bindir ?= $(PREFIX)/bin
+gamesdir ?= $(bindir)
+datadir ?= $(PREFIX)/share
+mandir ?= $(datadir)/man
+docdir ?= $(datadir)/doc/verified-puzzles
+bashcompdir ?= $(datadir)/bash-completion/completions
+zshcompdir ?= $(datadir)/zsh/site-functions
+fishcompdir ?= $(datadir)/fish/vendor_completions.d
+DESTDIR ?=
 
-.PHONY: all play test test-twins test-bodies test-faults test-saving test-json test-tools test-reference exchange bench check try must-fail fmt install uninstall clean help crate
+.PHONY: all play test trust test-twins test-bodies test-faults test-saving test-json test-tools test-reference exchange bench hard climb check try must-fail fmt dist install uninstall installcheck clean help crate
 
 all:
 	@RT='$(RT)' tools/build
 
-# The front is for a terminal; in a pipe the program plays by itself. The words go by the environment, since there may be any letter in them.
+# The board is for a terminal; in a pipe the program plays by itself. The words go by the environment, since there may be any letter in them.
 play: export GAME := $(GAME)
 play: export ID := $(ID)
 play:
 	@case "$$GAME" in ''|towers|unequal) ;; *) echo 'make: GAME is towers or unequal' >&2; exit 2 ;; esac
 	@$(MAKE) --no-print-directory all
-	@if [ -n "$$ID" ]; then GAME=$${GAME:-towers}; fi; \
-	if [ -t 0 ] && [ -t 1 ]; then exec tools/play "$$GAME" "$$ID"; \
-	elif [ -f "$$ID" ]; then exec build/puzzles "$$GAME" --load "$$ID"; \
-	else exec build/puzzles "$${GAME:-towers}" $${ID:+--id "$$ID"}; fi
+	@if [ -t 0 ] && [ -t 1 ]; then exec tools/play "$${GAME:-$${ID:+towers}}" "$$ID"; \
+	else exec tools/play_in_pipe "$$GAME" "$$ID"; fi
 
 test:
 	@RT='$(RT)' tools/gate
@@ -51,7 +70,7 @@ test-twins:
 	@RT='$(RT)' tools/test_bodies --twins $(CRATES)
 
 test-bodies:
-	@RT='$(RT)' tools/test_bodies --wrong $(CRATES)
+	@RT='$(RT)' tools/test_bodies $(CRATES)
 
 test-faults: all
 	@cd crates/refused_memory && '$(RT)' run < /dev/null > /dev/null
@@ -72,12 +91,24 @@ test-tools: all
 test-reference:
 	tools/test_reference
 
+trust:
+	@tools/trust
+
 exchange: all
 	@tools/exchange
 
 bench: export IDS := $(IDS)
 bench:
 	@RT='$(RT)' tools/bench $${IDS:+"$$IDS"}
+
+hard: export SEED := $(SEED)
+hard: export COUNT := $(COUNT)
+hard:
+	@RT='$(RT)' tools/bench --hard "$$SEED" "$$COUNT"
+
+climb: export MINUTES := $(MINUTES)
+climb:
+	@RT='$(RT)' tools/bench --climb "$$MINUTES"
 
 check: crate
 	@cd 'crates/$(CRATE)' && '$(RT)' check
@@ -94,8 +125,19 @@ crate:
 fmt:
 	@for crate in crates/*/; do (cd "$$crate" && $(FMT)) || exit 1; done
 
-install uninstall:
-	@tools/install $(if $(filter uninstall,$@),--remove) '$(DESTDIR)$(PREFIX)'
+dist:
+	@tools/dist
+
+# The folders go by the environment, since there may be any letter in them.
+export DESTDIR gamesdir datadir mandir docdir bashcompdir zshcompdir fishcompdir
+install:
+	@tools/install
+
+uninstall:
+	@tools/install --remove
+
+installcheck:
+	@tools/install --check
 
 clean:
 	rm -rf build

@@ -1,28 +1,64 @@
-# Bash completion of puzzles, puzzles-json and puzzles-play: the games, the options, and files where a file is wanted.
+# Bash completion of puzzles, puzzles-json and puzzles-play: games, options that were not used yet, and files where there may be one.
 # shellcheck shell=bash
 
+# The words before the cursor and after it, without the values of options and what comes after '='.
+_puzzles_used() {
+    local at word is_value=
+    for ((at = 1; at < ${#COMP_WORDS[@]}; at++)); do
+        word=${COMP_WORDS[at]}
+        # Bash cuts --load=FILE at the '='.
+        if [[ $word == = ]]; then is_value=1; continue; fi
+        if ((at != COMP_CWORD)) && [[ ! $is_value ]]; then printf ' %s ' "${word%%=*}"; fi
+        is_value=
+        if [[ $word == --id || $word == --load || $word == --save ]]; then is_value=1; fi
+    done
+}
+
+# Offers those of these words that begin as the word at the cursor.
+_puzzles_offer() { # WORD-AT-CURSOR WORD..
+    mapfile -t COMPREPLY < <(compgen -W "${*:2}" -- "$1")
+}
+
+_puzzles_offer_files() { # WORD-AT-CURSOR BEFORE-EACH
+    compopt -o filenames
+    mapfile -t COMPREPLY < <(compgen -P "$2" -f -- "$1")
+}
+
 _puzzles() {
-    local word=${COMP_WORDS[COMP_CWORD]} before=${COMP_WORDS[COMP_CWORD - 1]}
+    local word=${COMP_WORDS[COMP_CWORD]} before=${COMP_WORDS[COMP_CWORD - 1]} prefix='' used offered=()
+    used=$(_puzzles_used)
     COMPREPLY=()
+    if [[ $before == = ]]; then
+        before=${COMP_WORDS[COMP_CWORD - 2]}
+    elif [[ $word == = ]]; then
+        word=''
+    elif [[ $word == --*=* ]]; then
+        before=${word%%=*} prefix=${word%%=*}= word=${word#*=}
+    fi
     case $before in
-        --load | --save)
-            compopt -o filenames
-            mapfile -t COMPREPLY < <(compgen -f -- "$word")
-            return ;;
+        --load | --save) _puzzles_offer_files "$word" "$prefix"; return ;;
         --id) return ;;
     esac
-    mapfile -t COMPREPLY < <(compgen -W 'towers unequal --id --load --save --help --version' -- "$word")
+    [[ $used == *' towers '* || $used == *' unequal '* ]] || offered+=(towers unequal)
+    [[ $used == *' --id '* || $used == *' --load '* ]] || offered+=(--id --load)
+    [[ $used == *' --save '* ]] || offered+=(--save)
+    [[ $used == *' --help '* || $used == *' -h '* ]] || offered+=(--help)
+    [[ $used == *' --version '* || $used == *' -V '* ]] || offered+=(--version)
+    _puzzles_offer "$word" "${offered[@]}"
 }
 
 _puzzles_play() {
-    local word=${COMP_WORDS[COMP_CWORD]}
+    local word=${COMP_WORDS[COMP_CWORD]} used offered=()
+    used=$(_puzzles_used)
     COMPREPLY=()
-    case " ${COMP_WORDS[*]:1:COMP_CWORD-1} " in
-        *' towers '* | *' unequal '*)
-            compopt -o filenames
-            mapfile -t COMPREPLY < <(compgen -f -- "$word") ;;
-        *) mapfile -t COMPREPLY < <(compgen -W 'towers unequal --lines --help --version' -- "$word") ;;
-    esac
+    [[ $used == *' towers '* || $used == *' unequal '* ]] || offered+=(towers unequal)
+    [[ $used == *' --lines '* ]] || offered+=(--lines)
+    [[ $used == *' --help '* || $used == *' -h '* ]] || offered+=(--help)
+    [[ $used == *' --version '* || $used == *' -V '* ]] || offered+=(--version)
+    _puzzles_offer "$word" "${offered[@]}"
+    local words=("${COMPREPLY[@]}")
+    _puzzles_offer_files "$word" ''
+    COMPREPLY=("${words[@]}" "${COMPREPLY[@]}")
 }
 
 complete -F _puzzles puzzles puzzles-json

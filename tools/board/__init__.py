@@ -1,6 +1,6 @@
-"""The front for playing by hand, puzzles-play: a board over a whole terminal, and a line mode beside it.
+"""The board for playing by hand, puzzles-play, over a whole terminal, and a line mode beside it.
 
-No rule of play stands here. What is wrong, what is full and what follows comes from the program `puzzles-json`, one object a
+There is no rule of play here. What is wrong, what is full and what follows comes from the program `puzzles-json`, one object a
 line, and is painted. From below upwards:
 
 board        what the program tells of a game
@@ -9,7 +9,7 @@ state        where games are kept
 games        the stored puzzles, and seeds worth playing
 texts        a sentence for each refusal
 table        the present game, and what can be done with it
-layout       where on a screen the squares, clues and texts stand
+layout       where on a screen the squares, clues and texts are
 picture      a board as pieces of text
 screen       a terminal by `curses`: paints pieces, reads keys
 dialogues    pages, questions and lists over the board

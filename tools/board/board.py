@@ -43,7 +43,7 @@ class Sign(NamedTuple):
 
 
 class Board(NamedTuple):
-    """The board that is shown. `wrong` has the squares whose number stands twice in a line; clues and signs tell it of themselves."""
+    """The board that is shown. `wrong` has the squares whose number is twice in a line; clues and signs tell it of themselves."""
 
     session: Session
     size: int
@@ -102,7 +102,7 @@ class Reply(NamedTuple):
 
 
 def reply_of(data: Mapping[str, Any]) -> Reply:
-    """The reply that an object is. What else stands in it is passed over."""
+    """The reply that an object is. What else is in it is passed over."""
     if 'lost' in data:
         return Reply(str(data['lost']), [], None, is_lost=True)
     session = session_of(data['session']) if data['session'] else None

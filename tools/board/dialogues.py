@@ -34,7 +34,7 @@ class Dialogues:
         self._show(text)
 
     def read(self, prompt: str, text: str = '') -> Optional[str]:
-        """A line of text, where one stands that another takes the place of; nothing where Escape or Ctrl-C took it back."""
+        """A line of text, where there is one that another replaces; nothing where Escape or Ctrl-C took it back."""
         is_untouched = True
         while True:
             columns = self._screen.size[1]

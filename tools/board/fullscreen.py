@@ -34,7 +34,7 @@ class FullScreen:
         #: Whether the player goes on in lines of text.
         self.wants_lines = False
 
-    # --- the table's front ---
+    # --- the table's front end ---
 
     def confirm(self, question: str) -> bool:
         return self._dialogues.confirm(question)

@@ -1,4 +1,4 @@
-"""Where on a screen the squares, the clues and the texts stand."""
+"""Where on a screen the squares, the clues and the texts are."""
 
 from __future__ import annotations
 
@@ -17,7 +17,7 @@ class Layout(NamedTuple):
     """Lines and columns count from 0."""
 
     size: int
-    #: Whether clues stand around the grid.
+    #: Whether clues are around the grid.
     has_clues: bool
     #: The lines and columns inside a square.
     deep: int
@@ -25,7 +25,7 @@ class Layout(NamedTuple):
     #: Where the upper left corner of the grid is.
     top: int
     left: int
-    #: Where the texts at the side begin; nothing where they stand above and below.
+    #: Where the texts at the side begin; nothing where they are above and below.
     side: Optional[int]
     lines: int
     columns: int
@@ -46,7 +46,7 @@ class Layout(NamedTuple):
         return self.top + 1 + y * (self.deep + 1), self.left + 1 + x * (self.wide + 1)
 
     def centre(self, place: Place) -> Tuple[int, int]:
-        """Where the number of a square or of a clue stands."""
+        """Where the number of a square or of a clue is."""
         line, column = self.corner(place)
         x, y = place
         if y < 0 or y >= self.size:
@@ -72,7 +72,7 @@ def fit(size: int, has_clues: bool, lines: int, columns: int) -> Optional[Layout
 
 
 def _shapes() -> Iterator[Tuple[int, int, bool]]:
-    """Deep, wide, and whether the texts stand at the side; the best first."""
+    """Deep, wide, and whether the texts are at the side; the best first."""
     for deep, wide in ((3, 7), (1, 7), (1, 5), (1, 3)):
         for is_aside in (False, True):
             yield deep, wide, is_aside
@@ -89,7 +89,7 @@ def _tried(size: int, has_clues: bool, lines: int, columns: int, deep: int, wide
         return Layout(size, has_clues, deep, wide, around, left, broad + 1, lines, columns)
     if tall + 3 > lines or broad > columns:
         return None
-    # Where there is a line to spare it stands below the title.
+    # Where there is a line to spare it is below the title.
     top = 1 + around + (1 if tall + 4 <= lines else 0)
     spare = 1 if broad < columns else 0
     return Layout(size, has_clues, deep, wide, top, left + spare, None, lines, columns)

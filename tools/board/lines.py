@@ -22,7 +22,7 @@ from board.texts import BY_LINES
 NUMBER = r'(-?[0-9]+)'
 BETWEEN = '[ ,]+'
 
-#: What is typed in the place of a command.
+#: What is typed for a command.
 SHORT: Dict[str, str] = {
     '?': 'help',
     'h': 'hint',
@@ -72,7 +72,7 @@ class LineMode:
             'quit': self._quit,
         }
 
-    # --- the table's front ---
+    # --- the table's front end ---
 
     def confirm(self, question: str) -> bool:
         answer = self._prompt.read(f'{question} y/N ')
@@ -183,7 +183,7 @@ class LineMode:
         if text.isdigit() and int(text) < size:
             say(sentence(self._table.board, int(text)))
         else:
-            say(f"'{kind} 0' tells what stands there: a number from 0 to {size - 1}.")
+            say(f"'{kind} 0' tells what is there: a number from 0 to {size - 1}.")
 
     def _help(self, _: str) -> None:
         say(*manual.LINES)
@@ -251,7 +251,7 @@ class LineMode:
     def _save(self, text: str) -> None:
         file = file_name(text)
         if not file:
-            say("'save FILE' wants the name of a file.")
+            say("'save FILE' needs the name of a file.")
         elif os.path.lexists(file) and not self.confirm(f'{file} is there{what_is(file)}. Write over it?'):
             say('Nothing was saved.')
         else:
@@ -260,7 +260,7 @@ class LineMode:
     def _load(self, text: str) -> None:
         file = file_name(text)
         if not file:
-            say("'load FILE' wants the name of a file.")
+            say("'load FILE' needs the name of a file.")
         elif self._table.open(self._table.game, file):
             self._after_begin(False)
 

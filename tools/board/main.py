@@ -1,4 +1,4 @@
-"""The words of the command line, and which front it is."""
+"""The words of the command line, and which front end it is."""
 
 from __future__ import annotations
 
@@ -9,15 +9,20 @@ from typing import List, NamedTuple, Optional
 from board.board import GAMES
 from board.program import Gone
 from board.state import State
+from board.version import about
 
 USAGE = """\
 usage: {me} [--lines] [GAME] [ID or FILE]
+       {me} --help | --version
 
 GAME is towers or unequal. Without an ID or a save file the last game goes on,
 and a new one begins where there is none. ? shows the keys. With --lines, or on a
 terminal without a screen, games are played by lines of text: 'help' lists them.
 For scripts and pipes use the program itself: puzzles GAME.
 """
+
+#: Words that ask for help.
+HELP = {'--help', '-h'}
 
 
 class Words(NamedTuple):
@@ -31,17 +36,17 @@ class Words(NamedTuple):
 def main(words: List[str], here: str) -> int:
     """Plays; `here` is the folder of the command. The status is 0 to 3, as the program's own, or 128 and the number of a signal."""
     me = os.path.basename(sys.argv[0])
-    if words in (['--help'], ['-h']):
+    if HELP.intersection(words):
         print(USAGE.format(me=me), end='')
         return 0
     asked = read(words)
     if words in (['--version'], ['-V']):
         return version(here)
     if asked is None:
-        print(USAGE.format(me=me), end='', file=sys.stderr)
+        print(USAGE.format(me=me) + tip(me, words), end='', file=sys.stderr)
         return 2
     if not (sys.stdin.isatty() and sys.stdout.isatty()):
-        print(f'{me}: this front is for a terminal; in a pipe use the program itself, puzzles {asked.game or "GAME"}', file=sys.stderr)
+        print(f'{me}: the board is for a terminal; in a pipe use the program itself, puzzles {asked.game or "GAME"}', file=sys.stderr)
         return 2
     path = program(here)
     if path is None:
@@ -65,19 +70,23 @@ def read(words: List[str]) -> Optional[Words]:
     return Words(plain[0] if plain else None, plain[1] if len(plain) > 1 else '', '--lines' in words)
 
 
+def tip(me: str, words: List[str]) -> str:
+    """A line on words that can't be read, where it is plain what was meant: a game ID alone, which fits both games."""
+    what = words[-1] if len(words) == 1 else ''
+    return f"\nDid you mean {me} towers '{what}'?\n" if what[:1].isdigit() and set(what) & set(':#!') else ''
+
+
 def program(here: str) -> Optional[str]:
-    """The program: the one that PUZZLES_JSON names, that of the repository, or that beside the command."""
+    """The program: the one that PUZZLES_JSON names, that beside the command, or that of the repository."""
     named = os.environ.get('PUZZLES_JSON')
-    places = [named] if named else [os.path.join(here, '..', 'build', 'puzzles-json'), os.path.join(here, 'puzzles-json')]
+    places = [named] if named else [os.path.join(here, 'puzzles-json'), os.path.join(here, '..', 'build', 'puzzles-json')]
     return next((os.path.abspath(place) for place in places if os.path.isfile(place)), None)
 
 
 def version(here: str) -> int:
-    """As the program tells it."""
-    path = program(here)
-    if path is None:
-        return 1
-    os.execv(path, [path, '--version'])
+    """Of the programs, too: they have one version."""
+    print(about(here, program(here)), end='')
+    return 0
 
 
 def play(path: str, asked: Words) -> int:

@@ -67,7 +67,7 @@ def too_small(board: Board, lines: int, columns: int) -> List[Piece]:
     """What is shown where the board has no room."""
     wide, tall = wanted(board.size, board.session.game == 'towers')
     text = (
-        f'{name(board)} wants a window of {wide} columns and {tall} lines, and this one has {columns} and {lines}. '
+        f'{name(board)} needs a window of {wide} columns and {tall} lines, and this one has {columns} and {lines}. '
         'Make it larger; or T for lines of text, q to quit: the game is kept.'
     )
     return [Piece(at, 0, line) for at, line in enumerate(textwrap.wrap(text, max(8, columns - 1))[:lines])]
@@ -82,7 +82,7 @@ def grade(board: Board) -> str:
 
 
 def state(board: Board) -> str:
-    """Whether it is solved, by what stands on the board: the program's own word stays when a solved board is changed."""
+    """Whether it is solved, by what is on the board: the program's own word stays when a solved board is changed."""
     if board.session.status == 'helped':
         return 'solved with help' if board.is_solved else 'helped'
     if board.is_solved:
@@ -223,7 +223,7 @@ def _side_lines(board: Board, layout: Layout, look: Look) -> Tuple[int, int]:
 
 
 def text_of(pieces: List[Piece], lines: int, columns: int) -> List[str]:
-    """The pieces as they would stand on a screen."""
+    """The pieces as they would be on a screen."""
     screen = [[' '] * columns for _ in range(lines)]
     for piece in pieces:
         for at, character in enumerate(piece.text, piece.column):

@@ -15,7 +15,7 @@ from board.board import Reply, reply_of
 #: How long a line may take before somebody is asked whether to go on waiting, and from then on between two questions.
 FIRST_WAIT, NEXT_WAIT = 0.4, 0.1
 
-#: Called while the program is at work; True where nobody wants to wait any more.
+#: Called while the program is at work; True where nobody is to wait any more.
 Waiting = Callable[[], bool]
 
 

@@ -32,7 +32,7 @@ NAMES: Dict[int, str] = {
 }
 CHARACTERS = {'\r': 'enter', '\n': 'enter', '\x7f': 'backspace', '\b': 'backspace', '\x1b': 'escape'}
 
-#: What terminals send for some keys, behind an Escape.
+#: What terminals send for some keys, after an Escape.
 SEQUENCES = {'[A': 'up', '[B': 'down', '[C': 'right', '[D': 'left', '[3~': 'delete', '[5~': 'page up', '[6~': 'page down'}
 
 #: Colours of 8, and of 256 where there are so many.
@@ -173,7 +173,7 @@ class Screen:
         self._window.refresh()
 
     def redraw(self) -> None:
-        """What is shown next is written anew, whatever stands there."""
+        """What is shown next is written anew, whatever is there."""
         self._window.clearok(True)
 
     def suspend(self) -> None:

@@ -41,7 +41,7 @@ def clue(board: Board, place: Place) -> str:
 
 
 def side(board: Board, place: Place) -> str:
-    """Where a clue stands."""
+    """Where a clue is."""
     x, y = place
     if y in (-1, board.size):
         return f'{"above" if y < 0 else "below"} column {x}'
@@ -89,7 +89,7 @@ def _content(board: Board, place: Place) -> str:
 
 
 def _lacks(board: Board, kind: str, place: Place) -> str:
-    """The numbers that stand nowhere in the row or the column of a square."""
+    """The numbers that are nowhere in the row or the column of a square."""
     x, y = place
     there = [(other, y) if kind == 'row' else (x, other) for other in range(board.size)]
     numbers = [board.numbers.get(square) for square in there]

@@ -224,7 +224,7 @@ class Table:
             return None
         if reply.hint.square is None:
             self.message = 'The board is full.' if self.board.is_full and reply.hint.kind == 'nothing' else {
-                'nothing': 'No number follows by the deductions alone: try one, or mark what may stand.',
+                'nothing': 'No number follows by the deductions alone: try one, or mark what may be there.',
                 'contradiction': 'No solution keeps these numbers, by the deductions alone: undo some.',
             }[reply.hint.kind]
             return None

@@ -10,7 +10,7 @@ from board.games import GRADES
 
 
 class Ways(NamedTuple):
-    """How a front has its players do what a sentence speaks of."""
+    """How a front end has its players do what a sentence speaks of."""
 
     clear: str
     number: str
@@ -21,7 +21,7 @@ class Ways(NamedTuple):
 BY_KEYS = Ways('0 clears it', "a digit on a square, or ':move R2,0,3'", "'D0,-1', and a clue must be there", '? shows the keys')
 BY_LINES = Ways("'x y 0' clears it", "type column, row, number: '2 0 3', or 'p 2 0 3'", "'d 0 -1', and a clue must be there", "'help' lists them all")
 
-#: A move, in SIZE squares by SIZE. What the front says of its ways is put in.
+#: A move, in SIZE squares by SIZE. What the front end says of its ways is put in.
 MOVES: Dict[str, str] = {
     'BadMove': 'That is no move: {number}.',
     'Unsupported': 'Hints and spent signs, moves with H and F, are not played here.',
@@ -43,12 +43,12 @@ NO_CLUE = 'A done mark is for a clue: column or row -1 or {size}, as {done}.'
 
 IDS: Dict[str, str] = {
     'BadSize': "An ID begins with the size, one digit from 3 to 9, as 5 in '5!7'.",
-    'BadLetter': "After the size and 'd' stands one of the letters {letters}.",
+    'BadLetter': "After the size and 'd' comes one of the letters {letters}.",
     'AdjacentMode': "The adjacent mode of Unequal, with 'a' after the size, is not played here.",
-    'BadParams': "Between the size and ':' or '!' stands nothing, or 'd' and a letter.",
+    'BadParams': "Between the size and ':' or '!' there is nothing, or 'd' and a letter.",
     'ForeignSeed': "A seed after '#' is the usual program's: copy its game ID with ':' from there.",
     'NoDescription': "An ID has ':' and a description, or '!' and a seed, after the size: '5!7'.",
-    'BadSeed': "A seed is a number from 0 to 18446744073709551615, without zeros in front: '5!7'.",
+    'BadSeed': "A seed is a number from 0 to 18446744073709551615, without leading zeros: '5!7'.",
     'SizeTooLarge': 'Seeded games have the sizes 3 to 6.',
     'Graded': "A seeded game has no difficulty letter: '5!7'.",
 }
@@ -57,12 +57,12 @@ IDS: Dict[str, str] = {
 DESCRIPTIONS: Mapping[str, Dict[str, str]] = {
     'towers': {
         'BadClue': 'Each clue is nothing, or one digit from 1 to the size.',
-        'BadSquares': "After ',' stand letters for empty squares, and digits from 1 to the size.",
+        'BadSquares': "After ',' come letters for empty squares, and digits from 1 to the size.",
         'TooFew': "A description has four clues for each of the size, with '/' between, and all squares after a ','.",
         'TooMany': "A description has four clues for each of the size, with '/' between, and all squares after a ','.",
     },
     'unequal': {
-        'BadClue': "After a square's digit stand no other letters than U, R, D and L.",
+        'BadClue': "After a square's digit come no other letters than U, R, D and L.",
         'BadSquares': 'Each square is one digit from 0 to the size, with its letters after it.',
         'TooFew': "A description has one part for each square, with ',' between.",
         'TooMany': "A description has one part for each square, with ',' between.",

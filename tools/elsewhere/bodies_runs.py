@@ -28,13 +28,15 @@ SOURCE = ''.join(f'// The word {n}.\nfn f{n}() {{\n    "right {n}"\n}}\n\n' for 
 
 
 class Bodies(NamedTuple):
-    """What stands in place of the right words in the wrong bodies and in the twins, by the number of the word, and what has to be said."""
+    """What is in place of the right words in the wrong bodies and in the twins, by the number of the word, or 10 more for a second one of a word; and what
+    has to be said."""
 
     name: str
     says: Sequence[str]
     wrong: Dict[int, str] = {}
     twins: Dict[int, str] = {}
     status: int = 0
+    words: Sequence[str] = ()
 
 
 ROUNDS = [
@@ -56,6 +58,8 @@ ROUNDS = [
         {},
         1,
     ),
+    Bodies('two of one function', ['NOT refused', '3 passed, 1 failed'], {0: 'false', 10: 'right'}, {0: 'too', 10: 'as well'}, 1),
+    Bodies('one of each function', ['1 at an open goal', '2 passed, 0 failed'], {0: 'doubtful', 10: 'right'}, {0: 'too', 10: 'false'}, words=['--gate']),
     Bodies('a body that stands nowhere', ["FAILED: words/wrong_7: its text 'old' is in src/lib.rt 0 times", '0 passed, 1 failed'], {7: 'false'}, {}, 1),
 ]
 
@@ -68,7 +72,7 @@ def cases(place: Place) -> None:
     for row in ROUNDS:
         files = [*edits('more-must-fail', row.wrong), *edits('twins', row.twins)]
         paths = [place.put(path, text, 0o644) for path, text in files]
-        ended = place.run(['tools/test_bodies'], env={'RT': prover})
+        ended = place.run(['tools/test_bodies', *row.words], env={'RT': prover})
         said = ended.output.decode(errors='replace')
         wrong = [f'it lacks {text!r}' for text in row.says if text not in said]
         wrong += [] if ended.status == row.status else [f'the status is {ended.status}']
@@ -78,4 +82,4 @@ def cases(place: Place) -> None:
 
 
 def edits(folder: str, words: Dict[int, str]) -> Sequence[Tuple[str, bytes]]:
-    return [(f'crates/words/{folder}/wrong_{n}.edit', f'file: src/lib.rt\nold: right {n}\nnew: {word}\n'.encode()) for n, word in words.items()]
+    return [(f'crates/words/{folder}/wrong_{n}.edit', f'file: src/lib.rt\nold: right {n % 10}\nnew: {word}\n'.encode()) for n, word in words.items()]

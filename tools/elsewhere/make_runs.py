@@ -22,6 +22,9 @@ class Make(NamedTuple):
     cwd: str = ''
 
 
+#: A save of Unequal.
+UNEQUAL_SAVE = save_text(0).replace(b':6:Towers', b':7:Unequal').replace(b':13:3//////3/////', b':22:0,0L,0L,0U,0,0,0U,0,0,')
+
 #: What `make` leaves.
 PROGRAMS = ['build/puzzles', 'build/puzzles-json']
 
@@ -33,20 +36,32 @@ ROUNDS = [
     Make('no crate', ['make', 'check'], 2, [b'CRATE= one of:', b'clue_rules']),
     Make('a crate that is not there', ['make', 'check', 'CRATE=chess'], 2, [b'CRATE= one of:', b'clue_rules']),
     Make('all is laid out', ['make', 'fmt'], says=[b'asked for fmt in clue_rules', b'asked for fmt in puzzles']),
+    Make('install: where it goes is no whole path', ['make', 'install', 'PREFIX=usr'], 2, [b'gamesdir is no path that begins with /']),
+    Make('install: nor is DESTDIR', ['make', 'uninstall', 'DESTDIR=there'], 2, [b'DESTDIR is no path that begins with /']),
+    Make('install: no folder is named', ['../tools/install', '--remove'], 2, [b'gamesdir is no path'], cwd='man'),
+    Make('install: another word', ['tools/install', '--into', 'there'], 2, [b'usage:']),
+    Make('install: nothing is built', ['make', 'install', 'DESTDIR=/nowhere'], 2, [b'the programs are not built yet: run make']),
+    Make('installcheck: nothing is there', ['make', 'installcheck', 'DESTDIR=/nowhere'], 2, [b'bin/puzzles is not there', b'does not play']),
+    Make('dist: no commit is there', ['make', 'dist'], 2, [b'dist: ']),
     Make('make play, in a pipe', ['make', 'play', f'ID={ID}'], says=[PICTURE], input=b'show\n'),
+    Make('make play, no ID in a pipe', ['make', 'play'], says=[b'+ '], input=b'show\n'),
+    Make('make play, no input', ['make', 'play'], says=[b'+ ', b'to play on']),
+    Make('make play, no input and an ID', ['make', 'play', f'ID={ID}'], says=[PICTURE, b'to play on']),
+    Make('make play, a line without its end', ['make', 'play'], says=[b'playing 1/1\n'], input=b'status'),
+    Make('make play, a save of the other game', ['make', 'play', 'ID=../b.sav'], says=[b'3:0,0L,0L,0U,'], input=b'id\n'),
+    Make('make play, a save of another game', ['make', 'play', 'GAME=towers', 'ID=../b.sav'], 2, [b'refused: WrongGame']),
     Make('make play, a save in a pipe', ['make', 'play', 'ID=../a.sav'], says=[b'playing 2/2\n'], input=b'status\n'),
     Make('make play, the other game', ['make', 'play', 'GAME=unequal', 'ID=4!7'], says=[b'playing 1/1\n'], input=b'status\n'),
     Make('make play, a game that is not there', ['make', 'play', 'GAME=chess'], 2, [b'GAME is towers or unequal']),
     Make('make play, a game with an apostrophe', ['make', 'play', "GAME=it's"], 2, [b'GAME is towers or unequal']),
     Make('make play, an ID with an apostrophe', ['make', 'play', "ID=it's"], 2, [b'refused: BadSize']),
     Make('make play, from elsewhere', ['make', '-C', '..', 'play', f'ID={ID}'], says=[b'3:3'], input=b'id\n', cwd='man'),
-    Make('install: where it goes is no whole path', ['tools/install', 'usr'], 2, [b'usage:']),
-    Make('install: nothing is named', ['../tools/install', '--remove'], 2, [b'usage:'], cwd='man'),
 ]
 
 
 def cases(place: Place) -> None:
     place.put('../a.sav', save_text(1), 0o644)
+    place.put('../b.sav', UNEQUAL_SAVE, 0o644)
     for row in ROUNDS:
         expect(place, row)
     builds(place)
@@ -67,14 +82,20 @@ def builds(place: Place) -> None:
     """`make` leaves both programs, from any folder, and says where a proof has failed."""
     built = Make('make builds', ['tools/build'], says=[b'12 functions proved'])
     for row in (built, built._replace(name='and from elsewhere', words=['../../tools/build'], cwd='crates/puzzles')):
+        remove_programs(place)
         expect(place, row)
         for program in PROGRAMS:
             place.report.check(f'{row.name}: {program} is left', [] if place.file(program) else ['there is none'])
-            os.remove(os.path.join(place.path, program))
+    remove_programs(place)
     failed = Make('a proof fails', ['make'], 2, [b'not built', b'an open goal'])
     expect(place, failed, RT_SAYS='an open goal', RT_STATUS='1')
     is_left = any(place.file(program) for program in PROGRAMS)
     place.report.check('a proof fails: no program', ['there is one'] if is_left else [])
+
+
+def remove_programs(place: Place) -> None:
+    for program in PROGRAMS:
+        os.remove(os.path.join(place.path, program))
 
 
 def in_a_terminal(place: Place) -> None:
@@ -90,16 +111,29 @@ def in_a_terminal(place: Place) -> None:
     place.report.check('make play, in a terminal', shown)
 
 
+#: Stands for a program that measures: prints what it is given, or answers each line of it as a puzzle that took a microsecond, and says what it was asked.
+READER = b"""\
+#!/bin/sh
+case $1 in
+    each*) while read -r line; do echo "asked for $line" >&2; echo 1000 1; done ;;
+    *) exec cat ;;
+esac
+"""
+
+
 def benches(place: Place) -> None:
-    """A file of puzzles may have a blank in its name. Any program that reads what it is given stands for those that measure."""
+    """A file of puzzles may have a blank in its name."""
     puzzles = place.put('../my puzzles', f'towers {ID}\n'.encode(), 0o644)
-    reader = place.put('../reader', b'#!/bin/sh\nexec cat\n')
-    row = Make('make bench, a file with a blank in its name', ['make', 'bench', f'IDS={puzzles}'], says=[ID.encode()])
-    expect(place, row, RT_PROGRAM=reader)
-    row = Make('make bench', ['make', 'bench'], says=[b'Hard puzzles:', b'A list of a hundred solutions:', b'unequal'])
-    expect(place, row, RT_PROGRAM=reader)
-    row = Make('make bench, a file that is not there', ['make', 'bench', f'IDS={puzzles} too'], 2)
-    expect(place, row, RT_PROGRAM=reader)
+    reader = place.put('../reader', READER)
+    rows = [
+        Make('make bench, a file with a blank in its name', ['make', 'bench', f'IDS={puzzles}'], says=[ID.encode(), b'towers  ']),
+        Make('make bench', ['make', 'bench'], says=[b'Hard puzzles, ', b'A list of a hundred solutions, ', b'unequal', b'the usual program is left out']),
+        Make('make bench, a file that is not there', ['make', 'bench', f'IDS={puzzles} too'], 2),
+        Make('make hard', ['make', 'hard', 'COUNT=44', 'SEED=3'], says=[b'unequal waves  ', b'towers one-side  ']),
+        Make('make climb', ['make', 'climb', 'MINUTES=0.001'], says=[b'towers climbed 9:', b'unequal climbed 9:']),
+    ]
+    for row in rows:
+        expect(place, row, RT_PROGRAM=reader)
 
 
 #: Runs a program with the library by which calls fail, and says whether the library has counted its requests for memory.

@@ -11,7 +11,7 @@ from harness.checkout import Checkout
 from harness.terminal import Terminal
 from harness.users import ANNA
 
-#: Does what `rt` does as far as the scripts know: `run` and `ci` leave programs in `out/`, and all say what they were asked.
+#: Does what `rt` does as far as the scripts know: `lib` leaves statements in `out/`, `run` and `ci` leave programs there, and all say what they were asked.
 #: RT_PROGRAM is the program that is left, RT_OBJECTS that in the place of puzzles-json, RT_SAYS what is printed besides, and RT_STATUS the status.
 RT = b"""\
 #!/bin/sh
@@ -22,8 +22,10 @@ leave() {
 }
 echo "asked for $* in ${PWD##*/}"
 case $1 in
+    lib)
+        echo 'logic=proved functions=12 of 12'
+        mkdir -p out/rlib && : > out/rlib/stamp ;;
     run)
-        echo "rt: chose --jobs 2 for ${PWD##*/}"
         echo 'logic=proved functions=12 of 12'
         leave . "${PWD##*/}" ;;
     ci)
@@ -44,9 +46,11 @@ class Place(Checkout):
         self.user: Optional[User] = ANNA if is_root() else None
         super().__init__(room, self.user)
         self.report = report
-        self.rt = self.put('../kit/rt', RT)
+        self.rt = self.put('../kit/bin/rt', RT)
+        self.put('../kit/KIT-ID', b'a kit that proves nothing\n', 0o644)
         self.program = program
         self.objects = objects
+        self.put('crates.txt', (TOP / 'crates.txt').read_bytes(), 0o644)
         for crate in (TOP / 'crates').iterdir():
             self.put(f'crates/{crate.name}/src/lib.rt', b'', 0o644)
         self._temporary = os.path.join(os.path.dirname(self.path), 'for a while')
@@ -57,9 +61,9 @@ class Place(Checkout):
         """`rt` is the one of this place, and the programs that it leaves are the one that is tested, or as is said."""
         return super().env({'RT': self.rt, 'RT_PROGRAM': self.program, 'RT_OBJECTS': self.objects, 'TMPDIR': self._temporary, **more})
 
-    def terminal(self, *words: str) -> Terminal:
-        """A command in a terminal."""
-        return Terminal(words, self.env({'TERM': 'dumb'}), cwd=self.path, user=self.user)
+    def terminal(self, *words: str, **env: str) -> Terminal:
+        """A command in a terminal. The named words are what else the environment has."""
+        return Terminal(words, self.env({'TERM': 'dumb', **env}), cwd=self.path, user=self.user)
 
     def file(self, path: str) -> bytes:
         """What is in a file of the copy; nothing where it isn't there."""

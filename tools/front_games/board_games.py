@@ -135,7 +135,7 @@ GAMES: List[BoardGame] = [
     BoardGame(
         'a window that is too small',
         ['unequal', '5!7'],
-        [Look('', ['Unequal 5x5 wants a window of 36 columns and 14 lines, and this one has 30 and 10.']), Look('123', ['wants a window'])],
+        [Look('', ['Unequal 5x5 needs a window of 36 columns and 14 lines, and this one has 30 and 10.']), Look('123', ['needs a window'])],
         size=(10, 30),
     ),
 ]
@@ -156,16 +156,16 @@ REFUSALS = [
     ('sing', 'No such command: ? shows the keys.'),
     ('x' * 1025, 'A line has 1,024 bytes at most.'),
     ('new 2', 'An ID begins with the size, one digit from 3 to 9'),
-    ('new 5dk:', "After the size and 'd' stands one of the letters e, h, x or u."),
-    ('new 5x', "Between the size and ':' or '!' stands nothing, or 'd' and a letter."),
+    ('new 5dk:', "After the size and 'd' comes one of the letters e, h, x or u."),
+    ('new 5x', "Between the size and ':' or '!' there is nothing, or 'd' and a letter."),
     ('new 5#7', "A seed after '#' is the usual program's: copy its game ID with ':' from there."),
     ('new 5', "An ID has ':' and a description, or '!' and a seed, after the size"),
-    ('new 5!007', 'A seed is a number from 0 to 18446744073709551615, without zeros in front'),
+    ('new 5!007', 'A seed is a number from 0 to 18446744073709551615, without leading zeros'),
     ('new 7!1', 'Seeded games have the sizes 3 to 6.'),
     ('new 5de!7', 'A seeded game has no difficulty letter'),
     ('new 3:3', "A description has four clues for each of the size, with '/' between"),
     ('new 3:4///////////', 'Each clue is nothing, or one digit from 1 to the size.'),
-    ('new 3:///////////,12g', "After ',' stand letters for empty squares, and digits from 1 to the size."),
+    ('new 3:///////////,12g', "After ',' come letters for empty squares, and digits from 1 to the size."),
 ]
 
 UNEQUAL_REFUSALS = [
@@ -174,7 +174,7 @@ UNEQUAL_REFUSALS = [
     ('new 5du:', 'one of the letters t, e, k, x or r.'),
     ('new 3:0,0', "A description has one part for each square, with ',' between."),
     ('new 3:4,0,0,0,0,0,0,0,0,', 'Each square is one digit from 0 to the size, with its letters after it.'),
-    ('new 3:0X,0,0,0,0,0,0,0,0,', "After a square's digit stand no other letters than U, R, D and L."),
+    ('new 3:0X,0,0,0,0,0,0,0,0,', "After a square's digit come no other letters than U, R, D and L."),
     ('new 3:0U,0,0,0,0,0,0,0,0,', 'A sign points out of the grid.'),
     ('new 3:0R,0L,0,0,0,0,0,0,0,', 'Of two neighbours only one can be the greater'),
 ]

@@ -28,7 +28,7 @@ ENDS: List[Tuple[str, Callable[[Window], None], int]] = [
 SIZES = [
     ((43, 132), '│   1   │'),
     ((17, 40), '│   1   │'),
-    ((10, 30), 'wants a window of'),
+    ((10, 30), 'needs a window of'),
     ((24, 80), '│   1   │'),
     ((12, 36), '│   1   │'),
 ]
@@ -249,11 +249,13 @@ def words(front: BoardFront, room: Room, name: str) -> None:
     for line, status, text in [
         (['--help'], 0, b'usage: '),
         (['-h'], 0, b'usage: '),
+        (['towers', '-h'], 0, b'usage: '),
         (['--version'], 0, b''),
         (['--nothing'], 2, b'usage: '),
         (['chess'], 2, b'usage: '),
+        (['5!7'], 2, b"towers '5!7'?"),
         (['towers', ID, 'more'], 2, b'usage: '),
-        (['towers', ID], 2, b'this front is for a terminal; in a pipe use the program itself, puzzles towers'),
+        (['towers', ID], 2, b'the board is for a terminal; in a pipe use the program itself, puzzles towers'),
     ]:
         found = run([front.path, *line], room, env=front.env(room))
         front.same(f'{name}, {line}: the status', found.status, status)

@@ -12,7 +12,7 @@ from harness.game import ID, save_text
 REFUSED = [
     Refused('no game', [], 2),
     Refused('another game', ['chess'], 2),
-    Refused('no terminal', ['towers'], 2, 'this front is for a terminal'),
+    Refused('no terminal', ['towers'], 2, 'the board is for a terminal'),
 ]
 
 BOARD = """\
@@ -75,12 +75,12 @@ GAMES: List[Game] = [
             Step(['1 0 02'], ["column, row, number: '2 0 3'"]),
             Step(['sing'], ["'help' lists them all"]),
             Step(['list 0'], ['a number from 1 to 100']),
-            Step(['row 7'], ["'row 0' tells what stands there: a number from 0 to 2."]),
+            Step(['row 7'], ["'row 0' tells what is there: a number from 0 to 2."]),
             Step(['7 7'], ['There is no square and no clue']),
             Step(['new 5#7'], ["usual program's: copy its game ID"]),
             Step(['new 5!007'], ['A seed is a number from 0 to 18446744073709551615']),
             Step(['new 10'], ['Sizes go from 3 to 9']),
-            Step(['save'], ["'save FILE' wants the name of a file."]),
+            Step(['save'], ["'save FILE' needs the name of a file."]),
             Step(['id'], ['3:///////////,1c3c2']),
             Step(['?'], ['Columns and rows count from 0']),
             Step(['rules'], ['many towers are seen from there']),
@@ -146,7 +146,7 @@ GAMES: List[Game] = [
             # Ctrl-V takes the next key as it is. The program drops a CR at the end of a line, so these would be commands of its own.
             Step(['status\x16\r'], ['playing 1/1']),
             Step(['id'], [ID], hides=['playing 1/1\n']),
-            Step(['save\x16\r'], ["'save FILE' wants the name of a file."], hides=['SAVEFILE']),
+            Step(['save\x16\r'], ["'save FILE' needs the name of a file."], hides=['SAVEFILE']),
             Step(['0 0 1\x16\r\x16\r'], ['row 0, column 0 is 1; row 0 lacks 2 and 3']),
         ],
         last='quit\x16\r',

@@ -13,7 +13,7 @@ from harness.room import Room
 from harness.users import User
 
 #: What of the repository is copied: folders and files.
-PARTS = ['.ci', 'tools', 'man', 'bench', 'Makefile']
+PARTS = ['.ci', 'tools', 'man', 'docs', 'bench', 'Makefile', 'README.md', 'CHANGELOG.md', 'LICENSE', 'VERSION', 'COMMIT', '.gitattributes', '.gitignore']
 
 
 class Checkout:

@@ -3,6 +3,7 @@
 from __future__ import annotations
 
 import os
+import pty
 
 from harness.game import ID, PICTURE
 from outside.runs import Run, Tests
@@ -53,6 +54,7 @@ CLOSED = Run(
     holds={'old.sav': b'old'},
 )
 GONE = Run('the reader of the output has gone', ['towers', '--id', ID], ONE_MOVE, status=1, error=b'cannot write the output\n')
+AT_A_TERMINAL = Run('a terminal: nothing is said of the program', ['towers', '--id', ID])
 NO_ERROR = Run('standard error is closed', ['towers', '--id', ''], status=3)
 
 
@@ -89,3 +91,9 @@ def streams(tests: Tests) -> None:
             tests.play(case, GONE, stdout=pipe.fileno())
     with tests.case(NO_ERROR.name) as case:
         tests.play(case, NO_ERROR, closed=[2])
+    with tests.case(AT_A_TERMINAL.name) as case:
+        front, back = pty.openpty()
+        with os.fdopen(front, 'wb', 0) as keys, os.fdopen(back, 'wb') as terminal:
+            # Ctrl-D at the beginning of a line is the end.
+            keys.write(b'status\n\x04')
+            tests.play(case, AT_A_TERMINAL, stdin=terminal.fileno(), stdout=terminal.fileno())

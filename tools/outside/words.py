@@ -5,9 +5,12 @@ from __future__ import annotations
 from harness.game import ID
 from outside.runs import Run, Tests
 
+#: What is said of a word that is none, without a tip.
+UNEXPECTED = b"error: unexpected argument '%s' found\n\nUsage: puzzles [OPTIONS] <GAME>\n\nFor more information, try '--help'.\n"
+
 #: Refused words, with what standard error has to name.
 REFUSED = [
-    Run('no words', [], status=2, error_has=[b'required arguments were not provided', b'<GAME>']),
+    Run('no words', [], status=2, error_has=[b'required arguments were not provided', b'<GAME>', b'tip: to play on a board, use puzzles-play']),
     Run('a game that is not there', ['chess'], status=2, error_has=[b'[possible values: towers, unequal]']),
     Run('a game in capitals', ['Towers'], status=2, error_has=[b"invalid value 'Towers'"]),
     Run('an ID and a file to load', ['towers', '--id', '3', '--load', 'f'], status=2, error_has=[b'cannot be used with']),
@@ -15,6 +18,10 @@ REFUSED = [
     Run('an option that is not there', ['towers', '--seed', '7'], status=2, error_has=[b"'--seed'"]),
     Run('an option without its value', ['towers', '--id'], status=2, error_has=[b"'--id <ID>'"]),
     Run('an option twice', ['towers', '--id', '3', '--id', '3'], status=2, error_has=[b"'--id <ID>'"]),
+    Run('an ID without its option', ['towers', '5!7'], status=2, error_has=[b"unexpected argument '5!7'", b"tip: did you mean --id '5!7'?"]),
+    Run('a described game without its option', ['towers', ID], status=2, error_has=[b'tip: did you mean --id ']),
+    Run('a letter that is no option', ['towers', '-x'], status=2, error=UNEXPECTED % b'-x'),
+    Run('an ID that begins as an option', ['towers', '--id', '-3'], status=2, error=UNEXPECTED % b'-3'),
     Run('a word too many', ['towers', 'unequal'], status=2, error_has=[b"'unequal'"]),
     Run('a word that is no UTF-8', ['towers', '--id', b'\xff'], status=2, error_has=[b'UTF-8', b'--help']),
     Run(
@@ -51,13 +58,15 @@ HELP = [
     b'quit',
     b'Examples:',
     b'Exit status:',
+    b'puzzles-play',
+    b'puzzles-json',
 ]
 
 ASKED = [
     Run('help', ['--help'], output_has=HELP),
     Run('short help', ['-h'], output_has=[b'Usage: puzzles [OPTIONS] <GAME>']),
-    Run('the version', ['--version'], output=b'puzzles 1.0\n'),
-    Run('the version, in short', ['-V'], output=b'puzzles 1.0\n'),
+    Run('the version', ['--version'], output=b'puzzles 1.1\n'),
+    Run('the version, in short', ['-V'], output=b'puzzles 1.1\n'),
 ]
 
 CLOSED = Run('help where the output is closed', ['--help'], status=1, error=b'cannot write the output\n')

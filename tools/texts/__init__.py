@@ -1,2 +1,2 @@
-"""What the texts have to say alike (`users`, and of puzzles-json `members`), and whether what they name is there (`names`), held against
-the `sources`."""
+"""What the texts have to say alike (`users`, of puzzles-json `members`, of the version `versions`), and whether what they name is there
+(`names`), held against the `sources`."""

@@ -17,7 +17,7 @@ def check(report: Report, program: str, objects: str) -> None:
     report.check('JSON: members', lacking(schema.names(), named))
     own = [line.decode() for line in OWN_LINES]
     report.check('JSON: lines', lacking(own, found(r'^### (\w+)', read('docs/JSON.md'))))
-    manual = found(r'^\.It Li (\w+)', part(read('man/puzzles.6'), '.Ss Objects', r'^\.Ss'))
+    manual = found(r'^\.It Li (\w+)', part(read('man/puzzles-json.6'), '.Ss Objects', r'^\.Ss'))
     report.check('manual: members of each object', lacking([*schema.COMMON, *schema.ANSWERS], manual))
     if os.path.isfile(objects):
         check_help(report, program, objects)

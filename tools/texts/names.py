@@ -9,6 +9,7 @@ from harness import Report
 from objects import schema
 from texts import sources
 from texts.parts import ROOT, differences, found, lacking, part, read, without_samples
+from trusting.page import Listed, outdated
 
 #: Words in backquotes of the language and its library, and of what `rt plant` prints.
 OTHER_WORDS = {'mod', 'Vec', 'Unit', 'flat_map', 'proves'}
@@ -27,6 +28,8 @@ class Known:
         self.names = set(found(r'\b(\w+)', read('crates.txt'))).union(OTHER_WORDS, self.make, *self.crates.values())
         self.names.update(schema.names(), schema.STATUSES, schema.COUNTS, schema.KINDS)
         self.names.update(path.rpartition('/')[2] for path in self.files)
+        self.to_read = Listed()
+        self.names.update(self.to_read.kit)
 
     def has(self, words: str) -> bool:
         """Whether a name, a path or a command of `make` is one that there is. What is none of these is a sample."""
@@ -34,7 +37,7 @@ class Known:
             return words.split()[1] in self.make
         if re.fullmatch(r'\w+::\w+', words):
             return self.has_member(*words.split('::'))
-        if re.fullmatch(r'\.?[A-Za-z][\w./-]*(/|/\w+|\.(rt|antt|edit|md|txt|c|bash|py|6))', words):
+        if re.fullmatch(r'\.?[A-Za-z][\w./-]*(/|/\w+|\.(rt|antt|edit|md|txt|c|bash|fish|zsh|py|5|6))', words):
             return bool(re.search(NOT_THERE, words)) or any(f'/{file}'.endswith('/' + words.rstrip('/')) for file in self.files)
         return words in self.names or not re.fullmatch(r'[A-Za-z][A-Za-z_]{2,}', words)
 
@@ -53,6 +56,7 @@ def check(report: Report) -> None:
         first_cells = ' '.join(found(r'^\|(.*?)\|', part(read(document), '| crate |', '^$')))
         report.check(f'{document}: crates', differences(found(r'`(\w+)`', first_cells), sorted(known.crates)))
     report.check('PROMISES: wrong bodies', wrong_bodies())
+    report.check('TRUST: the list, and README: its number; tools/trust --write makes them', outdated(known.to_read))
 
 
 def wrong_names(document: str, known: Known) -> Iterator[str]:
@@ -66,7 +70,7 @@ def wrong_names(document: str, known: Known) -> Iterator[str]:
 
 
 def wrong_bodies() -> Iterator[str]:
-    """Names in the table of wrong bodies that the crate, in whose rows they stand, hasn't among its own."""
+    """Names in the table of wrong bodies that the crate, in whose rows they are, hasn't among its own."""
     crate = ''
     for row in re.findall(r'^\| (.*?) ?\| (.*?) \|', part(read('docs/PROMISES.md'), '| crate | name |', '^$'), re.MULTILINE):
         crate = row[0].strip('`') or crate

@@ -9,10 +9,10 @@ import re
 from typing import List
 
 from harness import Report, run
-from texts import sources
+from texts import completions, pages, sources
 from texts.parts import differences, found, lacking, part, read
 
-#: Two refusals that are answered by a line of their own, and one that no front meets.
+#: Two refusals that are answered by a line of their own, and one that no front end meets.
 UNEXPLAINED = {'NoSolution', 'SeveralSolutions', 'NoGame'}
 
 #: The faults by which a command, an ID or a save is refused.
@@ -52,7 +52,8 @@ def check(report: Report, program: str) -> None:
         ended = run([program, '--help'], case.room)
         case.same('the status', ended.status, 0)
         compare(report, 'help', ended.output.decode(), wanted)
-    report.check('completion: options', differences([name for name in found(r'--([a-z]+)', read('tools/completion.bash')) if name != 'lines'], wanted[1]))
+    completions.check(report, wanted[1])
+    pages.check(report, wanted[0], wanted[1], wanted[3])
     check_faults(report, formats)
     check_front(report, wanted[0])
 
@@ -77,7 +78,7 @@ def check_faults(report: Report, formats: str) -> None:
 def check_front(report: Report, commands: List[str]) -> None:
     """The help of the line mode has a line for each command, and each refusal has a sentence."""
     lines = ' '.join(found(r"^    '  (\S.*?)  ", read('tools/board/manual.py'))).split()
-    report.check('front: commands', lacking(commands, lines))
+    report.check('puzzles-play: commands', lacking(commands, lines))
     faults = sources.faults()
     names = {name for kind in REFUSALS for name in faults[kind].values()} - UNEXPLAINED
-    report.check('front: sentences', lacking(names, found(r"'(\w+)':? ?", read('tools/board/texts.py'))))
+    report.check('puzzles-play: sentences', lacking(names, found(r"'(\w+)':? ?", read('tools/board/texts.py'))))

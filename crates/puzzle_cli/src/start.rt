@@ -12,6 +12,7 @@ pub(crate) mod command_fault;
 pub(crate) mod command_line;
 pub(crate) mod help;
 pub(crate) mod program_texts;
+pub(crate) mod refused_words;
 pub(crate) mod start_fault;
 
 use crate::draw::Draw;

@@ -1,6 +1,6 @@
 //! What the program's help says below the options.
 
-/// The lines that are read, the objects that answer them, examples and statuses.
+/// The lines that are read, the objects that answer them, examples, statuses, and the other programs.
 pub(crate) const MORE_HELP: &str = "\
 Commands, one a line:
   those of puzzles, as its help has them, and
@@ -14,7 +14,7 @@ Each reply is one object on one line:
   reply      the lines that puzzles answers
   session    null, or the game, its id, position, states and status
 
-  Where memory is wanting for it the line is {\"lost\":\"OutOfMemory\"}; the command was carried out or refused all the same.
+  Where there is no memory for it, the line is {\"lost\":\"OutOfMemory\"}; the command was carried out or refused all the same.
 
 Examples:
   printf 'move R0,0,1\\nboard\\n' | puzzles-json towers --id 3:3//////3/////
@@ -24,4 +24,8 @@ Exit status:
   0  the commands are at their end, or help was asked for
   1  a file, the input or the output failed, or memory was refused
   2  the command line is refused
-  3  the game ID or the loaded file is refused";
+  3  the game ID or the loaded file is refused
+
+See also:
+  puzzles       the same program, with lines of text for replies
+  puzzles-play  the same games on a board over the terminal, to play by hand";

@@ -92,6 +92,75 @@ fn words_that_are_refused(rt: HostRuntime) {
     );
 }
 
+fn check_refusal(rt: &impl Abort, read: Result<Args, CommandFault>, text: &str) {
+    match read {
+        Err(CommandFault::BadWords(said)) => assert_eq!(rt; said.as_str(), text),
+        _ => assert!(rt; false, "words are refused with {text:?}"),
+    }
+}
+
+#[test]
+fn tips_for_refused_words(rt: HostRuntime) {
+    let alloc = rt.alloc();
+    check_refusal(
+        &rt,
+        read_words(alloc, &["puzzles"]),
+        "error: the following required arguments were not provided:
+  <GAME>
+
+  tip: to play on a board, use puzzles-play
+
+Usage: puzzles <GAME>
+
+For more information, try '--help'.
+",
+    );
+    check_refusal(
+        &rt,
+        read_words(alloc, &["puzzles", "towers", "5!7"]),
+        "error: unexpected argument '5!7' found
+
+  tip: did you mean --id '5!7'?
+
+Usage: puzzles [OPTIONS] <GAME>
+
+For more information, try '--help'.
+",
+    );
+    check_refusal(
+        &rt,
+        read_words(alloc, &["puzzles", "towers", "unequal"]),
+        "error: unexpected argument 'unequal' found
+
+Usage: puzzles [OPTIONS] <GAME>
+
+For more information, try '--help'.
+",
+    );
+    check_refusal(
+        &rt,
+        read_words(alloc, &["puzzles", "towers", "--id", "-3"]),
+        "error: unexpected argument '-3' found
+
+Usage: puzzles [OPTIONS] <GAME>
+
+For more information, try '--help'.
+",
+    );
+    check_refusal(
+        &rt,
+        read_words(alloc, &["puzzles", "towers", "--lod", "f"]),
+        "error: unexpected argument '--lod' found
+
+  tip: a similar argument exists: '--load'
+
+Usage: puzzles --load <FILE> <GAME>
+
+For more information, try '--help'.
+",
+    );
+}
+
 fn check_help(rt: &impl Abort, read: Result<Args, CommandFault>, part: &str) {
     match read {
         Err(fault) => {
@@ -113,8 +182,8 @@ fn words_that_ask_for_help(rt: HostRuntime) {
     for (word, part) in [
         ("--help", "Usage: puzzles"),
         ("-h", "Usage: puzzles"),
-        ("--version", "puzzles 1.0"),
-        ("-V", "puzzles 1.0"),
+        ("--version", "puzzles 1.1"),
+        ("-V", "puzzles 1.1"),
     ] {
         check_help(&rt, read_words(alloc, &["puzzles", word]), part);
     }
@@ -132,7 +201,7 @@ fn words_of_another_program(rt: HostRuntime) -> Result<(), Fail> {
         ("--help", "Usage: dots"),
         ("--help", "Towers and Unequal in dots"),
         ("--help", "Each reply is a dot."),
-        ("--version", "dots 1.0"),
+        ("--version", "dots 1.1"),
     ] {
         check_help(&rt, read_words_of(alloc, &texts, &["dots", word]), part);
     }

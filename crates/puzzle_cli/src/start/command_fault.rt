@@ -6,7 +6,8 @@ ghost use Rattle.puzzle_cli.specs.CommandFault.{command_fault_number, command_fa
 use std::alloc::{AllocError, AllocFailed};
 use thiserror::Error;
 
-/// Why a command line gives no game. The texts are whole, with their last LF, as `clap` wrote them.
+/// Why a command line gives no game. The texts are those of `clap`, whole, with their last LF; of refused words with a tip of our own
+/// where one helps.
 #[derive(Debug, PartialEq, Eq, Drop, Error)]
 #[error("{}", self.name())]
 pub enum CommandFault {

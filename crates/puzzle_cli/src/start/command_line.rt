@@ -8,6 +8,7 @@ ghost use Rattle.puzzle_cli.specs.CommandLine.{game_word, NotBoth};
 
 use crate::start::command_fault::CommandFault;
 use crate::start::program_texts::{PUZZLES, ProgramTexts};
+use crate::start::refused_words::advised;
 use clap::error::ErrorKind;
 use clap::{Arg, ArgMatches, Command};
 use std::alloc::{AllocError, Global};
@@ -44,11 +45,11 @@ static GAMES: [&str; 2] = ["towers", "unequal"];
 
 /// Reads the words of a command line, `puzzles GAME [--id ID] [--load FILE] [--save FILE]`.
 ///
-/// The first word is the program's name; an empty list is read as that name alone. GAME is `towers` or `unequal`; an ID and
-/// a file to load exclude each other.
+/// The first word is the program's name; an empty list is read as that name alone. GAME is `towers` or `unequal`; of an ID
+/// and a file to load there may be one.
 ///
-/// `BadWords` has the text of `clap` for words that it refuses, `HelpAsked` that for `--help` and `--version`, and
-/// `OutOfMemory` is a refusal of memory.
+/// `BadWords` has the text of `clap` for words that it refuses, with a tip of our own where one helps, `HelpAsked` that for
+/// `--help` and `--version`, and `OutOfMemory` is a refusal of memory.
 pub fn read_words(alloc: Global, words: &[&str]) -> Result<Args, CommandFault>
     ensures { IfOk result (λ args. NotBoth args.id args.load) }
 {
@@ -81,7 +82,7 @@ fn read_some_words(
 {
     match parse(alloc, texts, words) {
         Ok(matches) => args_of(alloc, &matches),
-        Err(error) => Err(fault_of(alloc, &error)),
+        Err(error) => Err(fault_of(alloc, &error)?),
     }
 }
 
@@ -113,7 +114,7 @@ fn command_line<'a>(alloc: Global, texts: &ProgramTexts) -> Result<Command<'a>, 
     );
     Command::new(alloc, texts.name)
         .bin_name(texts.name)?
-        .version("1.0")
+        .version("1.1")
         .about(texts.about)
         .after_help(texts.more_help)
         .arg(game)?
@@ -163,13 +164,14 @@ fn owned(alloc: Global, text: Option<&str>) -> Result<Option<String>, AllocError
 }
 
 // The fault for what `clap` answers in place of matches. Its text is whole, its last LF included.
-fn fault_of(alloc: Global, error: &clap::Error) -> CommandFault {
+fn fault_of(alloc: Global, error: &clap::Error) -> Result<CommandFault, AllocError> {
     if error.kind() == ErrorKind::OutOfMemory {
-        return CommandFault::OutOfMemory;
+        return Ok(CommandFault::OutOfMemory);
     }
-    match error.to_string(alloc) {
-        Ok(text) if error.use_stderr() => CommandFault::BadWords(text),
-        Ok(text) => CommandFault::HelpAsked(text),
-        Err(_) => CommandFault::OutOfMemory,
+    let text = error.to_string(alloc)?;
+    if error.use_stderr() {
+        Ok(CommandFault::BadWords(advised(alloc, error.kind(), &text)?))
+    } else {
+        Ok(CommandFault::HelpAsked(text))
     }
 }

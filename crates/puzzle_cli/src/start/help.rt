@@ -1,6 +1,6 @@
 //! What the program's help says below the options.
 
-/// Game IDs, commands, moves, examples and statuses.
+/// Game IDs, commands, moves, examples, statuses, and the other programs.
 pub(crate) const MORE_HELP: &str = "\
 Game IDs:
   SIZE:DESCRIPTION  this puzzle, of size 3 to 9: towers 3:3//////3/////, unequal 3:1,0,0R,0,0,0,0,0,0,
@@ -38,4 +38,8 @@ Exit status:
   0  the commands are at their end, or help was asked for
   1  a file, the input or the output failed, or memory was refused
   2  the command line is refused
-  3  the game ID or the loaded file is refused";
+  3  the game ID or the loaded file is refused
+
+See also:
+  puzzles-play  the same games on a board over the terminal, to play by hand
+  puzzles-json  the same program, with a JSON object for each reply";

@@ -9,7 +9,7 @@ pub struct ProgramTexts {
     pub name: &'static str,
     /// What it is, in a line.
     pub about: &'static str,
-    /// What stands below the options.
+    /// What comes below the options.
     pub more_help: &'static str,
 }
 

@@ -1,0 +1,24 @@
+#compdef puzzles puzzles-json puzzles-play
+# Zsh completion of puzzles, puzzles-json and puzzles-play: games, options that were not used yet, and files where there may be one.
+
+_puzzles_game_or_file() {
+    _alternative 'games:game:(towers unequal)' 'files:save file:_files'
+}
+
+case $service in
+    puzzles-play)
+        _arguments -S \
+            '--lines[play by lines of text]' \
+            '(- *)'{-h,--help}'[show a help text]' \
+            '(- *)'{-V,--version}'[show the version]' \
+            '1:game or save file:_puzzles_game_or_file' \
+            '2:ID or save file:_files' ;;
+    *)
+        _arguments -S \
+            '(--id --load)--id=[begin with the puzzle of this game ID]:ID:' \
+            '(--id --load)--load=[begin with the saved game]:save file:_files' \
+            '--save=[save the game at the end]:save file:_files' \
+            '(- *)'{-h,--help}'[show a help text]' \
+            '(- *)'{-V,--version}'[show the version]' \
+            '1:game:(towers unequal)' ;;
+esac

@@ -1,0 +1,105 @@
+"""What is installed, and where: one list for `make install`, `make dist` and the package."""
+
+from __future__ import annotations
+
+import os
+from pathlib import Path
+from typing import Iterator, List, Mapping, NamedTuple
+
+#: The top of the repository, whatever the working folder is.
+TOP = Path(__file__).resolve().parent.parent.parent
+
+#: The folder below `datadir` that is ours alone.
+OURS = 'verified-puzzles'
+
+#: The folders that the Makefile names, and that packagers set.
+VARIABLES = ['gamesdir', 'datadir', 'mandir', 'docdir', 'bashcompdir', 'zshcompdir', 'fishcompdir']
+
+COMMANDS = ['puzzles', 'puzzles-json', 'puzzles-play']
+
+
+class Item(NamedTuple):
+    """A file of the repository or of `build/`, and what becomes of it: the variable of its folder, its path from there, and its mode."""
+
+    source: str
+    variable: str
+    path: str
+    mode: int = 0o644
+
+
+class Folders:
+    """Where each folder lies, and `root`, below which all of them are put."""
+
+    def __init__(self, root: str, places: Mapping[str, str]) -> None:
+        """Raises ValueError where a folder is not named, or not by a whole path."""
+        self.root = root.rstrip('/')
+        self._places = {name: os.path.normpath(places.get(name) or '.') for name in VARIABLES}
+        for name, place in {**self._places, 'DESTDIR': root or '/'}.items():
+            if not place.startswith('/'):
+                raise ValueError(f'{name} is no path that begins with /')
+
+    def place(self, variable: str, path: str = '') -> str:
+        """The path of a file once the root is the system's."""
+        return os.path.join(self._places[variable], path) if path else self._places[variable]
+
+    def now(self, place: str) -> str:
+        """Where a place lies now."""
+        return self.root + place
+
+    def of(self, item: Item) -> str:
+        return self.place(item.variable, item.path)
+
+
+def items() -> List[Item]:
+    """All that is installed. A manual page, a document or a module that is new in its folder needs no line here."""
+    return [*programs(), *board(), *documents(), *manual(), *completions()]
+
+
+def programs() -> Iterator[Item]:
+    yield Item('build/puzzles', 'gamesdir', 'puzzles', 0o755)
+    yield Item('build/puzzles-json', 'gamesdir', 'puzzles-json', 0o755)
+    yield Item('tools/play', 'gamesdir', 'puzzles-play', 0o755)
+
+
+def board() -> Iterator[Item]:
+    """The board's package, its puzzles, and what is told of the version."""
+    yield Item('build/VERSION', 'datadir', f'{OURS}/VERSION')
+    for pattern in ('*.py', 'bank/*.txt'):
+        for source in below('tools/board', pattern):
+            yield Item(f'tools/board/{source}', 'datadir', f'{OURS}/board/{source}')
+
+
+def documents() -> Iterator[Item]:
+    yield Item('build/VERSION', 'docdir', 'VERSION')
+    for name in ('README.md', 'CHANGELOG.md', 'LICENSE'):
+        yield Item(name, 'docdir', name)
+    for pattern in ('*.md', 'clients/*'):
+        for source in below('docs', pattern):
+            yield Item(f'docs/{source}', 'docdir', f'docs/{source}')
+
+
+def manual() -> Iterator[Item]:
+    """A page goes to the folder of its section, by which its name ends."""
+    for source in below('man', '*.[1-9]'):
+        yield Item(f'man/{source}', 'mandir', f'man{source[-1]}/{source}')
+
+
+def completions() -> Iterator[Item]:
+    """Each shell looks for a file by the name of the command; one file of zsh is for several."""
+    for name in COMMANDS:
+        yield Item('tools/completion.bash', 'bashcompdir', name)
+    if (TOP / 'tools' / 'completion.zsh').is_file():
+        yield Item('tools/completion.zsh', 'zshcompdir', '_puzzles')
+    if (TOP / 'tools' / 'completion.fish').is_file():
+        yield from (Item('tools/completion.fish', 'fishcompdir', f'{name}.fish') for name in COMMANDS)
+
+
+def below(folder: str, pattern: str) -> List[str]:
+    """The files below a folder of the repository that a pattern names, in order, from that folder."""
+    top = TOP / folder
+    return sorted(str(path.relative_to(top)) for path in top.glob(pattern) if path.is_file())
+
+
+def version() -> str:
+    """The version, from the one place where it is written."""
+    return (TOP / 'VERSION').read_text(encoding='utf-8').strip()

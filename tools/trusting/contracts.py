@@ -1,0 +1,104 @@
+"""What the code tells besides its bodies: the contract of a function, the types that contracts see, and what traits and their impls say in ghosts."""
+
+from __future__ import annotations
+
+import re
+from pathlib import Path
+from typing import Dict, Iterator, List, NamedTuple, Tuple
+
+from trusting.definitions import ROOT, Meaning, Part, imports
+
+#: Crates whose impls are for tests and measurements alone.
+FOR_TESTS = re.compile(r'tests$|^bench$|^refused_memory$')
+
+#: An item of a file, from its attributes and comments to its end.
+TYPE = re.compile(r'^((?: *(?://|#\[).*\n)*)pub(?:\(crate\))? (?:struct|enum) (\w+)[^;{]*(?:;|\{(?:.*\n)*?\}\n)', re.MULTILINE)
+CONSTANT = re.compile(r'^((?:///.*\n)*)pub(?:\(crate\))? const (\w+): [^;]*;', re.MULTILINE)
+GHOST = re.compile(r'((?:^    //[^\n]*\n)*)^    ghost (\w+)(?:: | = )(\{.*?\});\n', re.MULTILINE | re.DOTALL)
+BLOCK = re.compile(r'^(?:pub(?:\(crate\))? )?(?:impl|trait)\b[^{]*\{\n(?:.*\n)*?\}\n', re.MULTILINE)
+
+
+class Code(NamedTuple):
+    """A file of code."""
+
+    path: Path
+    text: str
+
+    def part(self, name: str, start: int, text: str) -> Meaning:
+        """A part of it, with what the file and the part itself import."""
+        lines = text.strip('\n')
+        at = self.text.count('\n', 0, start) + 1 + (len(text) - len(text.lstrip('\n')))
+        names = dict(imports(self.text))
+        return Meaning(Part(self.path, at, name, lines), names)
+
+
+def files() -> Iterator[Code]:
+    """The code of the crates that aren't for tests."""
+    for crate in sorted((ROOT / 'crates').iterdir()):
+        if not FOR_TESTS.search(crate.name):
+            for path in sorted(crate.glob('src/**/*.rt')):
+                yield Code(path, path.read_text(encoding='utf-8'))
+
+
+class Trait(NamedTuple):
+    """A trait: those that it needs, and its ghosts, each with its impls."""
+
+    above: List[str]
+    ghosts: Dict[str, List[Meaning]]
+
+
+class Rust:
+    """The types, constants, traits and functions of the crates."""
+
+    def __init__(self) -> None:
+        self.types: Dict[str, Meaning] = {}
+        self.constants: Dict[str, Meaning] = {}
+        self.traits: Dict[str, Trait] = {}
+        self._code = list(files())
+        for code in self._code:
+            self._types(code)
+        for code in self._code:
+            self._blocks(code)
+
+    def _types(self, code: Code) -> None:
+        for match in TYPE.finditer(code.text):
+            self.types[match[2]] = code.part(match[2], match.start(), match[0])
+        for match in CONSTANT.finditer(code.text):
+            self.constants[match[2]] = code.part(match[2], match.start(), match[0])
+
+    def _blocks(self, code: Code) -> None:
+        for match in BLOCK.finditer(code.text):
+            head = match[0].partition('{')[0]
+            model = re.match(r'impl(?:<.*?>)? Model for (\w+)', head)
+            shown = re.match(r'impl(?:<.*?>)? (\w+)(?:<.*>)? for (\w+)', head)
+            trait = re.match(r'pub(?:\(crate\))? trait (\w+)(?:<[^>]*>)?:?(.*)', head, re.DOTALL)
+            for ghost in GHOST.finditer(match[0]):
+                start = match.start() + ghost.start()
+                if model and ghost[2] == 'Value':
+                    # a type that contracts see as a value of its own: its fields need not be read
+                    self.types[model[1]] = code.part(f'{model[1]} is seen as', start, ghost[0])
+                elif trait:
+                    self._ghost(trait[1], re.findall(r'\w+', trait[2])).setdefault(ghost[2], []).insert(
+                        0, code.part(f'{trait[1]}.{ghost[2]}', start, ghost[0])
+                    )
+                elif shown and not model:
+                    self._ghost(shown[1], []).setdefault(ghost[2], []).append(
+                        code.part(f'{shown[1]}.{ghost[2]} of {shown[2]}', start, ghost[0])
+                    )
+            if trait:
+                self._ghost(trait[1], re.findall(r'\w+', trait[2]))
+
+    def _ghost(self, trait: str, above: List[str]) -> Dict[str, List[Meaning]]:
+        known = self.traits.setdefault(trait, Trait([], {}))
+        known.above.extend(name for name in above if name not in known.above)
+        return known.ghosts
+
+    def contract(self, path: str, name: str) -> Tuple[Meaning, str]:
+        """The contract of a public function, and its head."""
+        file = ROOT / path
+        text = file.read_text(encoding='utf-8')
+        match = re.search(rf'^ *pub fn {name}\b.*?(?=^ *\{{[\n}}])', text, re.MULTILINE | re.DOTALL)
+        if not match:
+            raise ValueError(f'{path} has no public function {name}')
+        head = re.split(r'^ *(?:requires|ensures)\b', match[0], maxsplit=1, flags=re.MULTILINE)[0]
+        return Code(file, text).part(f'{name}', match.start(), match[0]), head
