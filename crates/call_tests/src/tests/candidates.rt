@@ -3,6 +3,7 @@
 ghost use Rattle.std.specs.Prelude.{◌≡◌, ◌&&◌, IfOk};
 
 use latin_board::{Grid, Size};
+use number_sets::NumberSet;
 use std::test::Fail;
 use trail_solver::{Answer, Candidates, Rules, solutions, solve, solves};
 
@@ -191,6 +192,24 @@ fn trail_of_width_3(rt: HostRuntime) -> Result<(), Fail> {
     assert!(rt; candidates.may(0, 2));
     assert!(rt; !candidates.may(0, 1));
     assert_eq!(rt; candidates.only(0), None);
+    Ok(())
+}
+
+#[test]
+fn values_struck_together(rt: HostRuntime) -> Result<(), Fail> {
+    let size = size_of(3)?;
+    let mut first = Candidates::all(size);
+    first.remove(0, 1);
+    let mut candidates = Candidates::all(size);
+    candidates.strike(0, candidates.values(0).difference(NumberSet::one(3)));
+    assert_eq!(rt; candidates.trail_len(), 2);
+    assert_eq!(rt; candidates.values(0).bits(), 0b1000);
+    assert_eq!(rt; candidates.trail().size(), size);
+
+    // Back to a mark between the two: the lesser one stays struck.
+    candidates.give_back(first.mark());
+    assert_eq!(rt; candidates.trail_len(), 1);
+    assert_eq!(rt; candidates.values(0).bits(), 0b1100);
     Ok(())
 }
 
