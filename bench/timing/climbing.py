@@ -4,7 +4,7 @@ from __future__ import annotations
 
 import time
 from random import Random
-from typing import Callable, List, NamedTuple, Tuple
+from typing import Callable, List, NamedTuple, Optional, Tuple
 
 from families.changes import changed
 from families.listed import MAKERS, line
@@ -70,7 +70,7 @@ class Climber:
     def _first(self, is_over: Callable[[], bool]) -> Tuple[Found, Puzzle]:
         """The slowest of some random puzzles."""
         makers = [maker for (game, _), maker in MAKERS.items() if game == self.game]
-        slowest = None
+        slowest: Optional[Tuple[Found, Puzzle]] = None
         for _ in range(FIRST):
             puzzle = self._random.choice(makers)(self._random, self.size)
             found = self._timed(puzzle, slowest[0].seconds if slowest else 0)

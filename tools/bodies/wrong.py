@@ -41,7 +41,8 @@ def tried(trial: Trial, bodies: Sequence[Edit]) -> Dict[str, Verdict]:
     doubtful = [body for body in bodies if body.name not in found]
     if doubtful:
         print(f'{trial.crate}: once more, in doubt: {", ".join(body.name for body in doubtful)}', flush=True)
-    for part in [doubtful] if found else halves(doubtful):
+    parts: Sequence[Sequence[Edit]] = [doubtful] if found else halves(doubtful)
+    for part in parts:
         found.update(tried(trial, part))
     return found
 

@@ -40,11 +40,12 @@ class Tree:
     @staticmethod
     def made(name: str, crates: Listed) -> Optional[Tree]:
         """The tree; nothing while another `rt` works in the crate or in one below it."""
+        tree: Optional[Tree] = None
         with contextlib.ExitStack() as stack:
-            if not all(stack.enter_context(kept_still(library)) for library in below(name, crates)):
-                return None
-            held = hold(own(name), fcntl.LOCK_EX | fcntl.LOCK_NB)
-            return None if held is None else Tree(name, crates, held)
+            if all(stack.enter_context(kept_still(library)) for library in below(name, crates)):
+                held = hold(own(name), fcntl.LOCK_EX | fcntl.LOCK_NB)
+                tree = None if held is None else Tree(name, crates, held)
+        return tree
 
     @property
     def path(self) -> Path:

@@ -189,9 +189,9 @@ def cases(front: BoardFront) -> None:
         BoardGame('several solutions', ['towers', '3:3///////////'], [Look('Sy', ['Multiple solutions exist for this puzzle'])]),
         BoardGame('a filled square', ['towers', ID], [Look('1p2', ['There is a number: 0 clears it, then set pencil marks.'])]),
     ]
-    for game in rounds:
-        with Room() as room, front.report.unbroken(game.name):
-            front.play(room, game)
+    for played in rounds:
+        with Room() as room, front.report.unbroken(played.name):
+            front.play(room, played)
     for game, id, most in WHOLE:
         with Room() as room, front.report.unbroken(f'a whole game, {game} {id}'):
             play_whole(front, room, game, id, most)

@@ -57,9 +57,9 @@ def cases(front: BoardFront) -> None:
     for name, end, status in ENDS:
         with Room() as room, report.unbroken(name):
             ended(front, room, name, end, status)
-    for name, case in CASES.items():
+    for name, lives in CASES.items():
         with Room() as room, report.unbroken(name):
-            case(front, room, name)
+            lives(front, room, name)
     with report.case('a full disk') as case:
         full_disk(front, case.room, 'a full disk')
 

@@ -44,7 +44,7 @@ def cases(site: Site) -> None:
 
 
 def commit(site: Site, message: str) -> None:
-    site.expect(f'dist: {message} is committed', ['bash', '-c', 'git add -A && git commit -qm "$0"', message], **WHO)
+    site.expect(f'dist: {message} is committed', ['bash', '-c', 'git add -A && git commit -qm "$0"', message], env=WHO)
 
 
 def name(site: Site) -> str:

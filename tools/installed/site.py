@@ -3,7 +3,7 @@
 from __future__ import annotations
 
 import os
-from typing import Dict, List, Mapping, Sequence, Tuple
+from typing import Dict, List, Mapping, Optional, Sequence, Tuple
 
 from elsewhere.place import Place
 from harness import Report, Room
@@ -19,9 +19,9 @@ class Site(Place):
         self.above = os.path.dirname(self.path)
         self.expect('make', ['make'], says='')
 
-    def expect(self, name: str, words: Sequence[str], status: int = 0, says: str = '', **more: str) -> Ended:
+    def expect(self, name: str, words: Sequence[str], status: int = 0, says: str = '', env: Optional[Mapping[str, str]] = None) -> Ended:
         """Runs a command. Its status is this one, it says this somewhere, and, where it ends well, `make` complains of nothing."""
-        ended = self.run(words, env=more)
+        ended = self.run(words, env=env)
         said = (ended.output + ended.error).decode(errors='replace')
         wrong = [] if ended.status == status else [f'the status is {ended.status}']
         wrong += [] if says in said else [f'it lacks {says!r}']

@@ -73,8 +73,8 @@ def script(number: int) -> Script:
     if random.random() < 0.5:
         words += ['--save', 'new.sav']
     groups = [[line, *SESSION, *board_views(random)] for line in random_lines(random, game)]
-    ending = random.choice([[], [b''], [b'quit'], [b'quit', b'undo', b'board']])
-    return Script(game, words, save, groups, ending)
+    endings: List[List[bytes]] = [[], [b''], [b'quit'], [b'quit', b'undo', b'board']]
+    return Script(game, words, save, groups, random.choice(endings))
 
 
 def board_views(random: Random) -> List[bytes]:

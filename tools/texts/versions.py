@@ -27,7 +27,7 @@ def check(report: Report, programs: List[str]) -> None:
             said = run([program, '--version'], case.room).output.decode().split(' ')
             case.same('it', said[1:], [version])
     with report.case('puzzles-play: the version') as case:
-        said = run([ROOT / 'tools' / 'play', '--version'], case.room).output.decode().splitlines()
+        said = run([str(ROOT / 'tools' / 'play'), '--version'], case.room).output.decode().splitlines()
         case.same('it', said[:1], [f'puzzles {plain}'])
 
 
