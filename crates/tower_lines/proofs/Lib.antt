@@ -1,13 +1,12 @@
--- Lemmas on masks, and on what both passes over the masks of a line find.
-pub mod BackLemmas
+-- Lemmas on masks and sets of masks, and on the levels of a line's starts.
 pub mod CheckLemmas
-pub mod FrontLemmas
-pub mod KeptLemmas
-pub mod MaskBits
-pub mod MaskCalls
+pub mod LevelLemmas
+pub mod LevelMoves
+pub mod LevelPasses
+pub mod LevelTables
+pub mod LevelValues
 pub mod MaskLemmas
-pub mod NextValues
-pub mod ReachedLemmas
+pub mod MaskSetLemmas
 pub mod SeenLemmas
 pub mod StartLemmas
 pub mod WholeLines

@@ -3,7 +3,6 @@ use Rattle.std.proofs.Common.{◌≡◌, ◌≢◌, ℕ, ◌+◌, ◌-◌, ◌^�
 use Rattle.std.specs.List.{list_all}
 use Rattle.std.proofs.lemmas.Bool.{eqb-true, eq-eqb, ne_eqb, lt-ltb, le-ltb, cases_eq, cases_lt, cases_Bool, false≢true, both_ways}
 use Rattle.std.proofs.Math.Bool.{or-true, or-false, and-false}
-use Rattle.std.proofs.Math.Nat.{pow-le-pow_right}
 use Rattle.std.proofs.lemmas.Nat.{pow_pos, ones_le_self}
 use Rattle.std.proofs.lemmas.List.{append-nil, length_push}
 use Rattle.std.proofs.lemmas.List.Folds.{list_any-append}
@@ -12,7 +11,7 @@ use Rattle.number_sets.specs.Sets.{has_number}
 use Rattle.tower_lines.specs.LineFillings.{IsStart}
 use Rattle.tower_lines.specs.Inner.LineMasks.{is_in, IsMask}
 use Rattle.number_sets.proofs.OneMore.{IsAdded, added_with, added_has, added_other, added_ones, added_below}
-use Rattle.number_sets.proofs.Members.{has_number-none, below_from_number, below_from_numbers, same_set}
+use Rattle.number_sets.proofs.Members.{has_number-none, below_from_number, below_from_numbers}
 use Rattle.tower_lines.proofs.SeenLemmas.{seen-append}
 use Rattle.tower_lines.proofs.StartLemmas.{start_next}
 
@@ -22,7 +21,7 @@ is_in-push p x y = list_any-append (λ z. eqb z y) p (x ∷ []) ∙ ap (λ b. is
 pub is_in-push_same : (p : List ℕ) (k : ℕ) → is_in (k + 1) (p ++ (k + 1) ∷ []) ≡ true
 is_in-push_same p k = is_in-push p (k + 1) (k + 1) ∙ ap (λ b. is_in (k + 1) p || b) (eq-eqb (k + 1) (k + 1) refl) ∙ or-true (is_in (k + 1) p)
 
-is_in-push_other : (p : List ℕ) (k j : ℕ) → j ≢ k → is_in (j + 1) (p ++ (k + 1) ∷ []) ≡ is_in (j + 1) p
+pub is_in-push_other : (p : List ℕ) (k j : ℕ) → j ≢ k → is_in (j + 1) (p ++ (k + 1) ∷ []) ≡ is_in (j + 1) p
 is_in-push_other p k j ne = is_in-push p (k + 1) (j + 1) ∙ ap (λ b. is_in (j + 1) p || b) (ne_eqb (k + 1) (j + 1) (λ e. ne (omega arith))) ∙ or-false (is_in (j + 1) p)
 
 pub mask_none : IsMask 0 []
@@ -35,9 +34,6 @@ mask_more {m} {k} {n} p h a = record {
     | inr other ↦ added_other a j other ∙ h.bits j ∙ sym (is_in-push_other p k j other)
   ];
 }
-
-pub mask_unique : {m n : ℕ} (p : List ℕ) → IsMask m p → IsMask n p → m ≡ n
-mask_unique {m} {n} p h i = same_set m n (λ k. h.bits k ∙ sym (i.bits k))
 
 -- a list with its mask
 pub record IsMasked (sets p : List ℕ) : Type 0 where
@@ -71,12 +67,6 @@ mask_of {sets} p h = masked_along sets p [] h record {
   ones = omega (arith, ones_le_self 0);
   small = pow_pos (length sets);
 }
-
-pub mask-ones : {sets : List ℕ} {m : ℕ} (p : List ℕ) → IsStart sets p → IsMask m p → count_ones m ≡ length p
-mask-ones {sets} {m} p h used = let b = mask_of p h in rw (mask_unique p used b.used) b.ones
-
-pub mask_small : {sets : List ℕ} {m : ℕ} (p : List ℕ) → IsStart sets p → IsMask m p → m < 2 ^ length sets
-mask_small {sets} {m} p h used = let b = mask_of p h in rw (mask_unique p used b.used) b.small
 
 -- all of a list below k + 1, from its bits below k
 all_below : (p : List ℕ) (k : ℕ) → ((j : ℕ) → is_in (j + 1) p ≡ true → j < k) → list_all (λ y. ltb y (k + 1)) p ≡ true
@@ -116,17 +106,9 @@ tower_is {mask} p k h =
 abbrev pub tower : ℕ → ℕ → ℕ
 tower mask k = cond (ltb mask (2 ^ k)) 1 0
 
-pub seen-next : {mask : ℕ} (p s : List ℕ) (k : ℕ) → IsMask mask p
+seen-next : {mask : ℕ} (p s : List ℕ) (k : ℕ) → IsMask mask p
     → seen_after p ((k + 1) ∷ s) ≡ tower mask k + seen_after (p ++ (k + 1) ∷ []) s
 seen-next p s k h = rw (tower_is p k h) refl
 
 pub seen-more : {mask : ℕ} (p : List ℕ) (k : ℕ) → IsMask mask p → seen (p ++ (k + 1) ∷ []) ≡ seen p + tower mask k
 seen-more p k h = seen-append p ((k + 1) ∷ []) ∙ ap (λ n. seen p + n) (seen-next p [] k h) ∙ omega arith
-
--- masks of at most 9 values are places of the tables
-pub mask_in_table : (w mask : ℕ) → w ≤ 9 → mask < 2 ^ w → mask < 512
-mask_in_table w mask short inside = let most : 2 ^ w ≤ 2 ^ 9 = pow-le-pow_right (omega arith) short in omega arith
-
--- a line of at most n squares has at most so many masks
-pub masks_most : (w n : ℕ) → w ≤ n → 2 ^ w ≤ 2 ^ n
-masks_most w n short = pow-le-pow_right (omega arith) short

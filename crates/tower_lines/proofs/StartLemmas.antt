@@ -54,7 +54,7 @@ start_next {sets} p v s h =
           h.apart at.0 (length p) at.1 inside (get_or_append_left p (v ∷ s) 0 at.0 at.1 ∙ at.2 ∙ sym here));
     }
 
--- what holds of each place of p and of v behind it
+-- what holds of each place of p and of v after it
 push_each : (P : ℕ → ℕ → Type 0) (p : List ℕ) (v : ℕ) → ((j : ℕ) → j < length p → P j (get_or p j 0)) → P (length p) v
     → (j : ℕ) → j < length (p ++ v ∷ []) → P j (get_or (p ++ v ∷ []) j 0)
 push_each P p v each last j l =

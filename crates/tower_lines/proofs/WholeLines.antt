@@ -1,17 +1,16 @@
--- The starts that have as many values as their line has squares: the fillings.
-use Rattle.std.proofs.Common.{◌≡◌, ℕ, ◌+◌, ◌-◌, ◌^◌, ◌<◌, inl, inr, ◌↔◌, true, List, length, refl, sym, ◌∙◌, arith}
-use Rattle.std.specs.Int.Count.{ones-ones}
+-- The starts that have as many values as their line has squares.
+use Rattle.std.proofs.Common.{◌≡◌, ℕ, ◌+◌, ◌-◌, ◌^◌, ◌<◌, inl, inr, List, length, refl, sym, ◌∙◌, arith}
 use Rattle.std.proofs.lemmas.Bool.{cases_lt, lt-ltb, le-ltb, true_from_ne_false}
 use Rattle.std.proofs.lemmas.Nat.{ones-le}
 use Rattle.number_sets.specs.Sets.{has_number}
 use Rattle.number_sets.proofs.Members.{has_number-above, has_number-below}
 use Rattle.number_sets.proofs.OneMore.{added_with, added_ones, added_below}
-use Rattle.tower_lines.specs.LineFillings.{IsStart, IsFilling}
-use Rattle.tower_lines.specs.Inner.LineMasks.{IsMask, AreFrontCounts}
-use Rattle.tower_lines.proofs.MaskLemmas.{mask_of, mask-ones}
+use Rattle.tower_lines.specs.LineFillings.{IsStart}
+use Rattle.tower_lines.specs.Inner.LineMasks.{IsMask}
+use Rattle.tower_lines.proofs.MaskLemmas.{mask_of}
 
 -- a start has each value as soon as it has as many as the line
-whole_mask : {sets : List ℕ} (p : List ℕ) → IsStart sets p → length p ≡ length sets → IsMask (2 ^ length sets - 1) p
+pub whole_mask : {sets : List ℕ} (p : List ℕ) → IsStart sets p → length p ≡ length sets → IsMask (2 ^ length sets - 1) p
 whole_mask {sets} p start whole =
     let w = length sets in
     let b = mask_of p start in
@@ -24,23 +23,3 @@ whole_mask {sets} p start whole =
         | inr high ↦ le-ltb k w high ∙ sym (has_number-above b.mask w k b.small high)
       ] ∙ b.used.bits k;
     }
-
--- the full mask has a count where some filling shows so many towers
-pub filling_counted : (sets : List ℕ) (clue counts : ℕ) → AreFrontCounts sets clue (2 ^ length sets - 1) counts
-    → (has_number counts clue ≡ true) ↔ ((line : List ℕ) × IsFilling sets clue line)
-filling_counted sets clue counts front = (
-  λ e.
-      let found = front.only clue e in
-      let line = found.0 in (
-        line,
-        record {
-          start = found.1;
-          whole = sym (mask-ones line found.1 found.2) ∙ ones-ones (length sets);
-          shown = found.3;
-        },
-      ),
-  λ f.
-      let filling = f.1 in
-      let all = front.all f.0 filling.start (whole_mask f.0 filling.start filling.whole) (omega (arith, filling.shown)) in
-      rw filling.shown at all,
-)

@@ -1,3 +1,4 @@
 -- Words that the contracts of private functions alone use.
 pub mod LineMasks
-pub mod ReachedMasks
+pub mod MaskSets
+pub mod Levels

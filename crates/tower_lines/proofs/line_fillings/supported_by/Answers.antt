@@ -1,29 +1,80 @@
-use Rattle.std.proofs.Common.{◌≡◌, ◌-◌, ◌<◌, length, get_or, arith}
-use Rattle.tower_lines.proofs.BackLemmas.{backs_none, backs_above, backs_more}
-use Rattle.tower_lines.proofs.KeptLemmas.{kept_none, kept_next, kept_all, get_or-zeros}
+-- One place after another, from the last, has the starts that a filling begins with, and its values.
+use Rattle.std.proofs.Common.{◌≡◌, ℕ, ◌+◌, ◌-◌, ◌<◌, ◌↔◌, inl, inr, true, false, List, [], length, get_or, set, replicate, sym, ap, ◌∙◌, subst, arith, rules, length-set}
+use Rattle.std.proofs.lemmas.Bool.{cases_eq, cases_lt, both_ways}
+use Rattle.std.proofs.lemmas.List.{get_or-set_same, get_or-set_other, get_or-replicate, get_or_past, length-replicate}
+use Rattle.std.proofs.lemmas.Grind.{get_or_default_zero}
+use Rattle.number_sets.specs.Sets.{has_number}
+use Rattle.number_sets.proofs.Members.{has_number-none}
+use Rattle.tower_lines.specs.LineFillings.{IsSupported}
+use Rattle.tower_lines.specs.Inner.MaskSets.{has_at}
+use Rattle.tower_lines.specs.Inner.Levels.{AreContinued, IsPassed, IsKeptBy}
+use Rattle.tower_lines.proofs.LevelTables.{reached_few, last_continued, before_continued, kept_supported}
 use Rattle.tower_lines.proofs.line_fillings.supported_by.Goals as goal
 
-pub loop-index-init : goal.loop-index-init
-loop-index-init g c = record {
-  back = rw c.empty-back.ensures (backs_none _ c.counts_before-len.ensures.counts c.counts_before-len.ensures.reached (get_or-zeros g.row.N));
-  kept = rw c.no_values-kept.ensures (kept_none _ (get_or-zeros 9));
-}
+-- an empty table has no value
+none_kept : (kept : List ℕ) → kept ≡ replicate 9 0 → (place value : ℕ) → has_number (get_or kept place 0) value ≡ false
+none_kept kept is place value =
+    let none : get_or (replicate 9 0) place 0 ≡ 0 = elim (cases_lt place 9) [
+      | inl inside ↦ get_or-replicate 9 place 0 0 inside
+      | inr past ↦ get_or_past (replicate 9 0) place 0 (omega (arith, length-replicate {A = ℕ} 9 0))
+    ] in
+    ap (λ (k : List ℕ). has_number (get_or k place 0) value) is ∙ ap (λ (n : ℕ). has_number n value) none ∙ has_number-none value
 
-pub counts_after-requires-clause-above : goal.counts_after-requires-clause-above
-counts_after-requires-clause-above g c =
-    rw c.from-mask.ensures (backs_above (c.loop-index.index - 1) (omega arith) (omega arith) c.counts_before-len.ensures.reached c.loop-index.invariant.back)
-
-pub loop-index-preserved : goal.loop-index-preserved
-loop-index-preserved g c =
-    let index = c.loop-index.index - 1 in
-    let reached = c.counts_before-len.ensures.reached in
-    let inside : get_or c.counts_before-len.new.masks index 0 < length c.loop-index.back = omega (arith, c.requires.room, reached.inside index (omega arith)) in
+pub loop-place-init : goal.loop-place-init
+loop-place-init g c =
+    let sets = c.args.sets.now in
+    let kept = c.no_values-kept.result in
     record {
-      back = rw c.from-mask.ensures (backs_more c.loop-index.back index (omega arith) c.loop-index.invariant.back inside (rw c.from-mask.ensures at c.counts_after.ensures.back));
-      kept = kept_next index (omega arith) c.loop-index.invariant.kept (rw c.from-mask.ensures at c.counts_after.ensures.kept);
+      long = ap (λ (k : List ℕ). length k) c.no_values-kept.ensures;
+      inside = omega arith;
+      continued = last_continued c.requires.some (c.levels_of_starts-starts.ensures (length sets) (omega arith));
+      done = λ place value past. (
+        λ e. absurd (both_ways (has_number (get_or kept place 0) value) (none_kept kept c.no_values-kept.ensures place value) e),
+        λ s. absurd (let within = s.inside in omega arith),
+      );
     }
 
-pub returns : goal.returns
-returns g c =
-    let done : c.loop-index.index ≡ 0 = omega arith in
-    kept_all c.counts_before-len.ensures.counts c.counts_before-len.ensures.reached (rw done at c.loop-index.invariant.kept)
+pub pass_back-requires : goal.pass_back-requires
+pass_back-requires g c =
+    let at = c.loop-place.place - 1 in
+    let few = reached_few (get_or c.levels_of_starts-starts.result at []) (c.levels_of_starts-starts.ensures at (omega arith)) in
+    (search rules, (search rules, (omega (arith, c.loop-place.invariant.inside), (c.requires.short, (c.requires.clue, few)))))
+
+pub loop-place-preserved : goal.loop-place-preserved
+loop-place-preserved g c =
+    let sets = c.args.sets.now in
+    let clue = c.args.clue in
+    let kept = c.loop-place.kept in
+    let at = c.loop-place.place - 1 in
+    let levels = get_or c.levels_of_starts-starts.result at [] in
+    let after = c.loop-place.after in
+    let inside : at < length sets = omega (arith, c.loop-place.invariant.inside) in
+    let next : c.loop-place.place ≡ at + 1 = omega arith in
+    let reached = c.levels_of_starts-starts.ensures at (omega arith) in
+    let values : c.index-sets-place.result ≡ get_or sets at 0 = c.index-sets-place.is ∙ get_or_default_zero sets at c.index-sets-place.result inside in
+    let C : ℕ → Type 0 = λ p. AreContinued sets clue p after in
+    let continued = subst C next c.loop-place.invariant.continued in
+    let B : ℕ → Type 0 = λ v. (level mask : ℕ) → (has_at c.pass_back.new.after level mask ≡ true) ↔ IsPassed (length sets) clue v levels after level mask in
+    let K : ℕ → Type 0 = λ v. (value : ℕ) → (has_number c.pass_back.result value ≡ true) ↔ IsKeptBy (length sets) clue v levels after value in
+    let passed = subst B values c.pass_back.ensures.before in
+    let kept_here = subst K values c.pass_back.ensures.kept in
+    let long : at < length kept = omega (arith, c.loop-place.invariant.long) in
+    record {
+      long = length-set kept at c.pass_back.result ∙ c.loop-place.invariant.long;
+      inside = omega arith;
+      continued = before_continued inside reached continued passed;
+      done = λ place value from. elim (cases_eq place at) [
+        | inl same ↦
+            let P : ℕ → Type 0 = λ p. (has_number (get_or (set kept at c.pass_back.result) p 0) value ≡ true) ↔ IsSupported sets clue p value in
+            let here : has_number (get_or (set kept at c.pass_back.result) at 0) value ≡ has_number c.pass_back.result value =
+            ap (λ (n : ℕ). has_number n value) (get_or-set_same kept at c.pass_back.result 0 long) in
+            let supported = kept_supported inside reached continued value in
+            let by = kept_here value in
+            subst P (sym same) (λ e. supported.0 (by.0 (sym here ∙ e)), λ s. here ∙ by.1 (supported.1 s))
+        | inr other ↦
+            let there : has_number (get_or (set kept at c.pass_back.result) place 0) value ≡ has_number (get_or kept place 0) value =
+            ap (λ (n : ℕ). has_number n value) (get_or-set_other kept at place c.pass_back.result 0 other) in
+            let done = c.loop-place.invariant.done place value (omega arith) in
+            (λ e. done.0 (sym there ∙ e), λ s. there ∙ done.1 s)
+      ];
+    }

@@ -1,0 +1,201 @@
+-- One value of a set after another, and what they add to the levels.
+use Rattle.std.proofs.Common.{◌≡◌, ◌≢◌, ℕ, ◌+◌, ◌-◌, ◌^◌, ◌<◌, ◌≤◌, ◌⊎◌, ◌↔◌, inl, inr, Bool, true, false, not, ◌&&◌, ◌||◌, eqb, leb, List, refl, sym, ap, ◌∙◌, subst, arith}
+use Rattle.std.proofs.lemmas.Bool.{cases_eq, both_ways, and_parts, and_from, or_cases, or_left, or_right, not-true, not_from_false, eqb-true, eq-eqb, false_from_ne_true, leb-true, le-leb}
+use Rattle.std.proofs.lemmas.Nat.{pow_pos}
+use Rattle.number_sets.specs.Sets.{has_number}
+use Rattle.number_sets.proofs.Members.{power_most, same_set, has_number-none}
+use Rattle.number_sets.proofs.OneMore.{IsAdded, added_without, added_lacks, added_other}
+use Rattle.tower_lines.specs.Inner.Levels.{AreAdded}
+use Rattle.tower_lines.proofs.LevelMoves.{added_both, added_none}
+
+-- ---- a set without one of its numbers
+
+abbrev pub AreOthers : ℕ → ℕ → ℕ → Type 0
+AreOthers left value others = (n : ℕ) → has_number others n ≡ (has_number left n && not (eqb n value))
+
+others_lack : (left value others : ℕ) → AreOthers left value others → has_number others value ≡ false
+others_lack left value others are = false_from_ne_true (has_number others value) (λ e.
+    let both = and_parts _ _ (sym (are value) ∙ e) in
+    both_ways (eqb value value) (not-true (eqb value value) both.1) (eq-eqb value value refl))
+
+others_have : (left value others n : ℕ) → AreOthers left value others → n ≢ value → has_number left n ≡ true → has_number others n ≡ true
+others_have left value others n are other e =
+    are n ∙ and_from _ _ e (not_from_false (eqb n value) (false_from_ne_true (eqb n value) (λ s. other (eqb-true n value s))))
+
+others_inside : (left value others n : ℕ) → AreOthers left value others → has_number others n ≡ true → has_number left n ≡ true
+others_inside left value others n are e = (and_parts _ _ (sym (are n) ∙ e)).0
+
+-- it is less, as a number: the measure of the loops
+pub others_less : (left value others : ℕ) → has_number left value ≡ true → AreOthers left value others → others < left
+others_less left value others here are =
+    let most = power_most left value here in
+    let some = pow_pos value in
+    let rest : left - 2 ^ value + 2 ^ value ≡ left = omega arith in
+    let added : IsAdded (left - 2 ^ value) value left = added_without (left - 2 ^ value) value left here rest in
+    let same : others ≡ left - 2 ^ value = same_set others (left - 2 ^ value) (λ n. elim (cases_eq n value) [
+      | inl is ↦
+          let P : ℕ → Type 0 = λ m. has_number others m ≡ has_number (left - 2 ^ value) m in
+          subst P (sym is) (others_lack left value others are ∙ sym (added_lacks added))
+      | inr other ↦
+          let lacks : eqb n value ≡ false = false_from_ne_true (eqb n value) (λ s. other (eqb-true n value s)) in
+          are n ∙ ap (λ b. has_number left n && not b) lacks ∙ whole (has_number left n) ∙ added_other added n other
+    ]) in
+    omega arith
+  where
+    whole : (b : Bool) → (b && true) ≡ b
+    whole true = refl
+    whole false = refl
+
+-- ---- the values of a set that are done
+
+-- a value from 1 to the width that is in the set and no longer left
+pub record IsDone (width values left k : ℕ) : Type 0 where
+  pub inside : k < width
+  pub candidate : has_number values (k + 1) ≡ true
+  pub done : has_number left (k + 1) ≡ false
+
+-- only such values are left
+abbrev pub AreLeft : ℕ → ℕ → ℕ → Type 0
+AreLeft width values left = (n : ℕ) → has_number left n ≡ true → (1 ≤ n) × (n ≤ width) × (has_number values n ≡ true)
+
+-- all of them are left at first
+pub all_left : (width values left : ℕ) → ((n : ℕ) → has_number left n ≡ (has_number values n && (leb 1 n && leb n width))) → AreLeft width values left
+all_left width values left is n e =
+    let parts = and_parts _ _ (sym (is n) ∙ e) in
+    let both = and_parts _ _ parts.1 in
+    (leb-true 1 n both.0, leb-true n width both.1, parts.0)
+
+none_done : (width values left k : ℕ) → ((n : ℕ) → has_number left n ≡ (has_number values n && (leb 1 n && leb n width))) → IsDone width values left k → ⊥
+none_done width values left k is d =
+    let inside = d.inside in
+    both_ways (has_number left (k + 1)) d.done
+    (is (k + 1) ∙ and_from _ _ d.candidate (and_from _ _ (le-leb 1 (k + 1) (omega arith)) (le-leb (k + 1) width (omega arith))))
+
+pub fewer_left : (width values left value others : ℕ) → AreLeft width values left → AreOthers left value others → AreLeft width values others
+fewer_left width values left value others are others_are n e = are n (others_inside left value others n others_are e)
+
+-- then one more is done
+done_then : (width values left value others k : ℕ) → AreLeft width values left → has_number left value ≡ true → AreOthers left value others
+    → IsDone width values others k ↔ (IsDone width values left k ⊎ (k + 1 ≡ value))
+done_then width values left value others k are here others_are = (
+  λ d. elim (cases_eq (k + 1) value) [
+    | inl same ↦ inr same
+    | inr other ↦ inl record {
+      inside = d.inside;
+      candidate = d.candidate;
+      done = false_from_ne_true (has_number left (k + 1)) (λ e. both_ways (has_number others (k + 1)) d.done (others_have left value others (k + 1) others_are other e));
+    }
+  ],
+  λ s. elim s [
+    | inl d ↦ record {
+      inside = d.inside;
+      candidate = d.candidate;
+      done = false_from_ne_true (has_number others (k + 1)) (λ e. both_ways (has_number left (k + 1)) d.done (others_inside left value others (k + 1) others_are e));
+    }
+    | inr same ↦
+        let known = are value here in
+        let P : ℕ → Type 0 = λ n. has_number values n ≡ true in
+        let Q : ℕ → Type 0 = λ n. has_number others n ≡ false in
+        record {
+          inside = omega (arith, known.1);
+          candidate = subst P (sym same) known.2;
+          done = subst Q (sym same) (others_lack left value others others_are);
+        }
+  ],
+)
+
+-- ---- what the values that are done add
+
+-- a mask that such a value gives
+pub record IsGiven (Given : ℕ → ℕ → ℕ → Type 0) (width values left level mask : ℕ) : Type 0 where
+  pub k : ℕ
+  pub done : IsDone width values left k
+  pub given : Given k level mask
+
+pub given_none : (Given : ℕ → ℕ → ℕ → Type 0) (width values left : ℕ) (old : List (List ℕ))
+    → ((n : ℕ) → has_number left n ≡ (has_number values n && (leb 1 n && leb n width))) → AreAdded (IsGiven Given width values left) old old
+given_none Given width values left old is = added_none (IsGiven Given width values left) old (λ level mask r. none_done width values left r.k is r.done)
+
+pub given_more : (Given : ℕ → ℕ → ℕ → Type 0) (width values left value others : ℕ) (old mid now : List (List ℕ)) → AreLeft width values left
+    → has_number left value ≡ true → AreOthers left value others → AreAdded (IsGiven Given width values left) old mid → AreAdded (Given (value - 1)) mid now
+    → AreAdded (IsGiven Given width values others) old now
+given_more Given width values left value others old mid now are here others_are before new =
+    added_both (IsGiven Given width values left) (Given (value - 1)) (IsGiven Given width values others) old mid now before new (λ level mask. (
+      λ r. elim ((done_then width values left value others r.k are here others_are).0 r.done) [
+        | inl was ↦ inl record { k = r.k; done = was; given = r.given }
+        | inr same ↦
+            let low : r.k ≡ value - 1 = omega arith in
+            let P : ℕ → Type 0 = λ k. Given k level mask in
+            inr (subst P low r.given)
+      ],
+      λ s. elim s [
+        | inl r ↦ record { k = r.k; done = (done_then width values left value others r.k are here others_are).1 (inl r.done); given = r.given }
+        | inr g ↦
+            let known = are value here in
+            let same : value - 1 + 1 ≡ value = omega (arith, known.0) in
+            record { k = value - 1; done = (done_then width values left value others (value - 1) are here others_are).1 (inr same); given = g }
+      ],
+    ))
+
+-- a value that gives some mask of some level
+pub record IsGiving (Given : ℕ → ℕ → ℕ → Type 0) (width values left value : ℕ) : Type 0 where
+  pub k : ℕ
+  pub is : value ≡ k + 1
+  pub done : IsDone width values left k
+  pub level : ℕ
+  pub mask : ℕ
+  pub given : Given k level mask
+
+-- the set has those values
+abbrev pub AreGiving : (ℕ → ℕ → ℕ → Type 0) → ℕ → ℕ → ℕ → ℕ → Type 0
+AreGiving Given width values left kept = (value : ℕ) → (has_number kept value ≡ true) ↔ IsGiving Given width values left value
+
+pub giving_none : (Given : ℕ → ℕ → ℕ → Type 0) (width values left kept : ℕ) → kept ≡ 0
+    → ((n : ℕ) → has_number left n ≡ (has_number values n && (leb 1 n && leb n width))) → AreGiving Given width values left kept
+giving_none Given width values left kept none is value = (
+  λ e. absurd (both_ways (has_number kept value) (ap (λ s. has_number s value) none ∙ has_number-none value) e),
+  λ r. absurd (none_done width values left r.k is r.done),
+)
+
+pub giving_more : (Given : ℕ → ℕ → ℕ → Type 0) (width values left one others kept more : ℕ) → AreLeft width values left → has_number left one ≡ true
+    → AreOthers left one others → ((level : ℕ) × (mask : ℕ) × Given (one - 1) level mask)
+    → ((value : ℕ) → has_number more value ≡ (has_number kept value || eqb value one))
+    → AreGiving Given width values left kept → AreGiving Given width values others more
+giving_more Given width values left one others kept more are here others_are some more_is before value = (
+  λ e. elim (or_cases _ _ (sym (more_is value) ∙ e)) [
+    | inl old ↦
+        let r = (before value).0 old in
+        record { k = r.k; is = r.is; done = (done_then width values left one others r.k are here others_are).1 (inl r.done); level = r.level; mask = r.mask; given = r.given }
+    | inr new ↦
+        let known = are one here in
+        let same : one - 1 + 1 ≡ one = omega (arith, known.0) in
+        record {
+          k = one - 1;
+          is = eqb-true value one new ∙ sym same;
+          done = (done_then width values left one others (one - 1) are here others_are).1 (inr same);
+          level = some.0;
+          mask = some.1;
+          given = some.2;
+        }
+  ],
+  λ r. more_is value ∙ elim ((done_then width values left one others r.k are here others_are).0 r.done) [
+    | inl was ↦ or_left _ _ ((before value).1 record { k = r.k; is = r.is; done = was; level = r.level; mask = r.mask; given = r.given })
+    | inr same ↦ or_right _ _ (eq-eqb value one (r.is ∙ same))
+  ],
+)
+
+pub giving_skipped : (Given : ℕ → ℕ → ℕ → Type 0) (width values left one others kept : ℕ) → AreLeft width values left → has_number left one ≡ true
+    → AreOthers left one others → (((level : ℕ) × (mask : ℕ) × Given (one - 1) level mask) → ⊥)
+    → AreGiving Given width values left kept → AreGiving Given width values others kept
+giving_skipped Given width values left one others kept are here others_are none before value = (
+  λ e.
+      let r = (before value).0 e in
+      record { k = r.k; is = r.is; done = (done_then width values left one others r.k are here others_are).1 (inl r.done); level = r.level; mask = r.mask; given = r.given },
+  λ r. elim ((done_then width values left one others r.k are here others_are).0 r.done) [
+    | inl was ↦ (before value).1 record { k = r.k; is = r.is; done = was; level = r.level; mask = r.mask; given = r.given }
+    | inr same ↦
+        let low : r.k ≡ one - 1 = omega arith in
+        let P : ℕ → Type 0 = λ k. Given k r.level r.mask in
+        absurd (none (r.level, r.mask, subst P low r.given))
+  ],
+)

@@ -1,0 +1,20 @@
+use Rattle.std.proofs.Common.{◌-◌, ◌^◌, ◌&&◌}
+use Rattle.number_sets.specs.Sets.{has_number}
+use Rattle.tower_lines.specs.Inner.MaskSets.{has_mask}
+use Rattle.tower_lines.proofs.MaskSetLemmas.{filled_none, filled_more, filled_inside, filled_past}
+use Rattle.tower_lines.proofs.mask_sets.MaskSet.with_high.Goals as goal
+
+pub loop-i-init : goal.loop-i-init
+loop-i-init g c = filled_none (λ m. has_number m c.args.bit && has_mask c.args.self.now (m - 2 ^ c.args.bit)) g.row.W
+
+pub loop-i-preserved : goal.loop-i-preserved
+loop-i-preserved g c =
+    filled_more (λ m. has_number m c.args.bit && has_mask c.args.self.now (m - 2 ^ c.args.bit)) c.loop-i.words g.row.W c.loop-i.i _
+    c.loop-i.invariant c.loop-i-test.true c.word_with.ensures
+
+pub returns-clause-inside : goal.returns-clause-inside
+returns-clause-inside g c = filled_inside (λ m. has_number m c.args.bit && has_mask c.args.self.now (m - 2 ^ c.args.bit)) c.loop-i.words g.row.W c.loop-i.i
+    c.loop-i.invariant c.loop-i-test.false
+
+pub returns-clause-past : goal.returns-clause-past
+returns-clause-past g c = filled_past (λ m. has_number m c.args.bit && has_mask c.args.self.now (m - 2 ^ c.args.bit)) c.loop-i.words g.row.W c.loop-i.i c.loop-i.invariant

@@ -1,0 +1,20 @@
+use Rattle.std.proofs.Common.{◌+◌, ◌^◌, ◌&&◌, not, arith}
+use Rattle.std.proofs.lemmas.Bool.{and_right}
+use Rattle.number_sets.specs.Sets.{has_number}
+use Rattle.tower_lines.specs.Inner.MaskSets.{has_mask}
+use Rattle.tower_lines.proofs.MaskSetLemmas.{has_mask-past, filled_none, filled_more, filled_all}
+use Rattle.tower_lines.proofs.mask_sets.MaskSet.without_high.Goals as goal
+
+pub loop-i-init : goal.loop-i-init
+loop-i-init g c = filled_none (λ m. not (has_number m c.args.bit) && has_mask c.args.self.now (m + 2 ^ c.args.bit)) g.row.W
+
+pub loop-i-preserved : goal.loop-i-preserved
+loop-i-preserved g c =
+    filled_more (λ m. not (has_number m c.args.bit) && has_mask c.args.self.now (m + 2 ^ c.args.bit)) c.loop-i.words g.row.W c.loop-i.i _
+    c.loop-i.invariant c.loop-i-test.true c.word_without.ensures
+
+pub returns : goal.returns
+returns g c =
+    filled_all (λ m. not (has_number m c.args.bit) && has_mask c.args.self.now (m + 2 ^ c.args.bit)) c.loop-i.words g.row.W c.loop-i.i
+    c.loop-i.invariant c.loop-i-test.false
+    (λ m past. rw (← c.self.view_is) (and_right _ _ (has_mask-past c.self.inside.words (m + 2 ^ c.args.bit) (omega (arith, c.self.told)))))

@@ -1,0 +1,255 @@
+//! Sets of masks of values. Bit k of a mask stands for the value k + 1.
+
+ghost use Rattle.std.specs.Prelude.{◌≡◌, ℕ, ◌+◌, ◌-◌, ◌*◌, ◌^◌, ◌<◌, ◌≤◌, ◌==◌, ◌&&◌, ◌||◌, true, false, not, nat_le, nat_lt, List};
+ghost use Rattle.std.specs.Bool.{MatchBool};
+ghost use Rattle.number_sets.specs.Sets.{has_number};
+ghost use Rattle.tower_lines.specs.Inner.MaskSets.{has_mask};
+
+use std::marker::Model;
+
+// The numbers below 64 that have each of the six lowest bits, as the bits of a word.
+const WITH_BIT: [u64; 6] = [
+    0xaaaa_aaaa_aaaa_aaaa,
+    0xcccc_cccc_cccc_cccc,
+    0xf0f0_f0f0_f0f0_f0f0,
+    0xff00_ff00_ff00_ff00,
+    0xffff_0000_ffff_0000,
+    0xffff_ffff_0000_0000,
+];
+
+/// A set of masks below 64 times `W`: bit b of word i stands for the mask 64 * i + b, so that one value more or less moves
+/// all masks of a word at once. Contracts see the words, of which `has_mask` tells the masks.
+#[derive(Clone, Copy)]
+pub struct MaskSet<const W: usize> {
+    words: [u64; W],
+}
+
+impl<const W: usize> Model for MaskSet<W> {
+    ghost Value = { List ℕ };
+
+    ghost view = { λ s. s.words };
+
+    ghost inverse = { λ l. record { words = l } };
+}
+
+impl<const W: usize> MaskSet<W> {
+    /// The set of no mask.
+    pub fn none() -> Self
+        ensures { (m : ℕ) → has_mask result m ≡ false }
+    {
+        MaskSet { words: [0; W] }
+    }
+
+    /// The set of the mask of no value alone.
+    pub fn start() -> Self
+        requires { 0 < W }
+        ensures { (m : ℕ) → has_mask result m ≡ (m == 0) }
+    {
+        let mut words = [0; W];
+        words[0] = 1;
+        MaskSet { words }
+    }
+
+    /// The masks that are in either set.
+    pub fn union(&self, other: &Self) -> Self
+        ensures { (m : ℕ) → has_mask result m ≡ (has_mask self.now m || has_mask other.now m) }
+    {
+        let mut words = [0; W];
+        for i in 0..W {
+            words[i] = self.words[i] | other.words[i];
+        }
+        MaskSet { words }
+    }
+
+    /// The masks that are in both sets.
+    pub fn intersection(&self, other: &Self) -> Self
+        ensures { (m : ℕ) → has_mask result m ≡ (has_mask self.now m && has_mask other.now m) }
+    {
+        let mut words = [0; W];
+        for i in 0..W {
+            words[i] = self.words[i] & other.words[i];
+        }
+        MaskSet { words }
+    }
+
+    /// Whether the set has no mask.
+    pub fn is_empty(&self) -> bool
+        ensures { MatchBool result ((m : ℕ) → has_mask self.now m ≡ false) ((m : ℕ) × (has_mask self.now m ≡ true)) }
+    {
+        for i in 0..W {
+            if self.words[i] != 0 {
+                return false;
+            }
+        }
+        true
+    }
+
+    /// The masks with no value greater than that of the bit, which shows it where it is the next one.
+    pub fn showing(&self, bit: u8) -> Self
+        requires { bit < 8 }
+        ensures { (m : ℕ) → has_mask result m ≡ (has_mask self.now m && nat_lt m (2 ^ (bit + 1))) }
+    {
+        self.below(bit + 1)
+    }
+
+    /// The masks with a value greater than that of the bit, which hides it where it is the next one.
+    pub fn hiding(&self, bit: u8) -> Self
+        requires { bit < 8 }
+        ensures { (m : ℕ) → has_mask result m ≡ (has_mask self.now m && nat_le (2 ^ (bit + 1)) m) }
+    {
+        self.from(bit + 1)
+    }
+
+    // The masks whose values are all lower than that of the bit.
+    fn below(&self, bit: u8) -> Self
+        requires { bit ≤ 8 }
+        ensures { (m : ℕ) → has_mask result m ≡ (has_mask self.now m && nat_lt m (2 ^ bit)) }
+    {
+        let mut words = [0; W];
+        for i in 0..W {
+            words[i] = self.words[i] & lower_masks(i, bit);
+        }
+        MaskSet { words }
+    }
+
+    // The masks that have a value no lower than that of the bit.
+    fn from(&self, bit: u8) -> Self
+        requires { bit ≤ 8 }
+        ensures { (m : ℕ) → has_mask result m ≡ (has_mask self.now m && nat_le (2 ^ bit) m) }
+    {
+        let mut words = [0; W];
+        for i in 0..W {
+            words[i] = self.words[i] & !lower_masks(i, bit);
+        }
+        MaskSet { words }
+    }
+
+    /// The masks that lack the bit, with it. Those that would be past the last word are lost.
+    pub fn with(&self, bit: u8) -> Self
+        requires { bit < 8 }
+        ensures inside { (m : ℕ) → m < 64 * W → has_mask result m ≡ (has_number m bit && has_mask self.now (m - 2 ^ bit)) }
+        ensures past { (m : ℕ) → 64 * W ≤ m → has_mask result m ≡ false }
+    {
+        if bit < 6 {
+            self.with_low(bit)
+        } else {
+            self.with_high(bit)
+        }
+    }
+
+    // The same for a bit with which masks stay in their words.
+    fn with_low(&self, bit: u8) -> Self
+        requires { bit < 6 }
+        ensures inside { (m : ℕ) → m < 64 * W → has_mask result m ≡ (has_number m bit && has_mask self.now (m - 2 ^ bit)) }
+        ensures past { (m : ℕ) → 64 * W ≤ m → has_mask result m ≡ false }
+    {
+        let shift = 1u32 << bit;
+        let having = WITH_BIT[usize::from(bit)];
+        let mut words = [0; W];
+        for i in 0..W {
+            words[i] = (self.words[i] << shift) & having;
+        }
+        MaskSet { words }
+    }
+
+    // The same for a bit with which masks are in other words.
+    fn with_high(&self, bit: u8) -> Self
+        requires low { 6 ≤ bit }
+        requires high { bit < 8 }
+        ensures inside { (m : ℕ) → m < 64 * W → has_mask result m ≡ (has_number m bit && has_mask self.now (m - 2 ^ bit)) }
+        ensures past { (m : ℕ) → 64 * W ≤ m → has_mask result m ≡ false }
+    {
+        let mut words = [0; W];
+        for i in 0..W {
+            words[i] = self.word_with(i, bit);
+        }
+        MaskSet { words }
+    }
+
+    // The word at i of the set with such a bit more.
+    fn word_with(&self, i: usize, bit: u8) -> u64
+        requires inside { i < W }
+        requires low { 6 ≤ bit }
+        requires high { bit < 8 }
+        ensures { (b : ℕ) → b < 64 → has_number result b
+            ≡ (has_number (64 * i + b) bit && has_mask self.now (64 * i + b - 2 ^ bit)) }
+    {
+        let step = 1 << (bit - 6);
+        if i & step == 0 {
+            0
+        } else {
+            self.words[i - step]
+        }
+    }
+
+    /// The masks that have the bit, without it.
+    pub fn without(&self, bit: u8) -> Self
+        requires { bit < 8 }
+        ensures { (m : ℕ) → has_mask result m
+            ≡ (not (has_number m bit) && has_mask self.now (m + 2 ^ bit)) }
+    {
+        if bit < 6 {
+            self.without_low(bit)
+        } else {
+            self.without_high(bit)
+        }
+    }
+
+    // The same for a bit without which masks stay in their words.
+    fn without_low(&self, bit: u8) -> Self
+        requires { bit < 6 }
+        ensures { (m : ℕ) → has_mask result m
+            ≡ (not (has_number m bit) && has_mask self.now (m + 2 ^ bit)) }
+    {
+        let shift = 1u32 << bit;
+        let lacking = !WITH_BIT[usize::from(bit)];
+        let mut words = [0; W];
+        for i in 0..W {
+            words[i] = (self.words[i] >> shift) & lacking;
+        }
+        MaskSet { words }
+    }
+
+    // The same for a bit without which masks are in other words.
+    fn without_high(&self, bit: u8) -> Self
+        requires low { 6 ≤ bit }
+        requires high { bit < 8 }
+        ensures { (m : ℕ) → has_mask result m
+            ≡ (not (has_number m bit) && has_mask self.now (m + 2 ^ bit)) }
+    {
+        let mut words = [0; W];
+        for i in 0..W {
+            words[i] = self.word_without(i, bit);
+        }
+        // The proof needs to know that there are no more than W words.
+        let _ = &self.words;
+        MaskSet { words }
+    }
+
+    // The word at i of the set without such a bit.
+    fn word_without(&self, i: usize, bit: u8) -> u64
+        requires inside { i < W }
+        requires low { 6 ≤ bit }
+        requires high { bit < 8 }
+        ensures { (b : ℕ) → b < 64 → has_number result b
+            ≡ (not (has_number (64 * i + b) bit) && has_mask self.now (64 * i + b + 2 ^ bit)) }
+    {
+        let step = 1 << (bit - 6);
+        if i & step == 0 && step < W - i {
+            self.words[i + step]
+        } else {
+            0
+        }
+    }
+}
+
+// The masks of the word at i whose values are all lower than that of the bit.
+fn lower_masks(i: usize, bit: u8) -> u64
+    requires { bit ≤ 8 }
+    ensures { (b : ℕ) → b < 64 → has_number result b ≡ nat_lt (64 * i + b) (2 ^ bit) }
+{
+    if bit < 6 {
+        return if i == 0 { (1 << (1u32 << bit)) - 1 } else { 0 };
+    }
+    if i < 1 << (bit - 6) { u64::MAX } else { 0 }
+}
