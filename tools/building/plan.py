@@ -7,26 +7,25 @@ from typing import Dict, Iterable, List, Mapping, Set, Tuple
 
 from building.crates import Listed, below
 
-#: Seconds by the clock of each crate from nothing, on four processors that had other work beside it. Those of the crates from trail_solver to
-#: play_save and of puzzle_cli are estimates, made from what they took over kept work.
+#: Seconds by the clock of each crate from nothing, on four processors without other work.
 SECONDS = {
-    'number_sets': 19,
-    'latin_board': 64,
-    'byte_text': 35,
-    'tower_lines': 129,
-    'trail_solver': 180,
-    'clue_rules': 200,
+    'number_sets': 28,
+    'latin_board': 78,
+    'byte_text': 37,
+    'tower_lines': 119,
+    'trail_solver': 210,
+    'clue_rules': 311,
     'puzzle_gen': 80,
-    'board_checks': 90,
-    'play_midend': 70,
-    'play_save': 90,
-    'safe_save': 294,
-    'puzzle_io': 70,
-    'puzzle_cli': 180,
-    'puzzle_json': 256,
-    'program_shell': 263,
-    'puzzles': 151,
-    'puzzles_json': 196,
+    'board_checks': 85,
+    'play_midend': 98,
+    'play_save': 111,
+    'safe_save': 485,
+    'puzzle_io': 82,
+    'puzzle_cli': 298,
+    'puzzle_json': 184,
+    'program_shell': 107,
+    'puzzles': 171,
+    'puzzles_json': 187,
 }
 
 #: Of a crate that isn't in the table.

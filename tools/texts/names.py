@@ -11,8 +11,8 @@ from texts import sources
 from texts.parts import ROOT, differences, found, lacking, part, read, without_samples
 from trusting.page import Listed, outdated
 
-#: Words in backquotes of the language and its library, and of what `rt plant` prints.
-OTHER_WORDS = {'mod', 'Vec', 'Unit', 'flat_map', 'proves'}
+#: Words in backquotes of the language and its library, and of what `rt plant` and `puzzles-play` print.
+OTHER_WORDS = {'mod', 'Vec', 'Unit', 'flat_map', 'proves', 'unknown'}
 
 #: A path with a place for any name, or of what is made.
 NOT_THERE = r'NAME|^build/|^out/'
