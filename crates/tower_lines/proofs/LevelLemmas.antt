@@ -1,84 +1,21 @@
 -- The levels of starts: how a value at the end leads from one to another, and that each start that a filling begins with has one.
-use Rattle.std.proofs.Common.{◌≡◌, ◌≢◌, ℕ, ◌+◌, ◌-◌, ◌%◌, ◌^◌, ◌<◌, ◌≤◌, ◌⊎◌, inl, inr, true, false, ◌&&◌, ◌||◌, eqb, ltb, List, [], ◌∷◌, ◌++◌, length, get_or, refl, sym, ap, ◌∙◌, arith, append_assoc}
+use Rattle.std.proofs.Common.{◌≡◌, ◌≢◌, ℕ, ◌+◌, ◌-◌, ◌^◌, ◌<◌, ◌≤◌, ◌⊎◌, inl, inr, true, false, ◌||◌, eqb, ltb, List, [], ◌∷◌, ◌++◌, length, get_or, refl, sym, ap, ◌∙◌, arith, append_assoc, count_ones}
 use Rattle.std.specs.List.{list_all}
-use Rattle.std.proofs.lemmas.Bool.{eqb-true, eqb-false, eq-eqb, ne_eqb, lt-ltb, le-ltb, cases_eq, cases_lt, cases_Bool, false≢true, both_ways, false_from_ne_true, and_from, or_left}
+use Rattle.std.proofs.lemmas.Bool.{eqb-true, eqb-false, eq-eqb, ne_eqb, lt-ltb, le-ltb, cases_eq, cases_lt, cases_Bool, false≢true, both_ways, or_left}
 use Rattle.std.proofs.Math.Bool.{or-false}
-use Rattle.std.proofs.lemmas.Nat.{pow_pos, mod_below}
+use Rattle.std.proofs.lemmas.List.{nil_from_length}
 use Rattle.std.proofs.lemmas.List.Folds.{list_all_at, list_any-append}
 use Rattle.tower_lines.specs.TowersSeen.{seen, seen_after}
 use Rattle.number_sets.specs.Sets.{has_number}
 use Rattle.tower_lines.specs.LineFillings.{IsStart, IsFilling}
-use Rattle.tower_lines.specs.Inner.LineMasks.{is_in, IsMask}
-use Rattle.tower_lines.specs.Inner.Levels.{IsLowMask, IsAtLevel, IsLastStep, IsLowStep, IsStep}
-use Rattle.number_sets.proofs.OneMore.{added_with, added_has, added_other}
-use Rattle.number_sets.proofs.Members.{has_number-above, has_number-below, has_number-mod, below_from_numbers, same_set}
-use Rattle.tower_lines.proofs.MaskLemmas.{is_in-push, is_in-push_same, is_in-push_other, mask_of, tower_is, tower, seen-more}
-use Rattle.tower_lines.proofs.SeenLemmas.{seen-append}
-use Rattle.tower_lines.proofs.StartLemmas.{IsNextValue, is_in-place, is_in-at, start_front, start_next, start_more}
+use Rattle.tower_lines.specs.Inner.LineMasks.{is_in}
+use Rattle.tower_lines.specs.Inner.Levels.{IsLowMask, IsAtLevel, IsLastStep, IsLeastStep, IsLowStep, IsStep}
+use Rattle.number_sets.proofs.Members.{has_number-below}
+use Rattle.tower_lines.proofs.LowMaskLemmas.{low_mask_of, low_unique, low_bit, low_more, low_same, whole_of, whole_half, tower_half, least_tells, least_told, rest_low, rest_last}
+use Rattle.tower_lines.proofs.MaskLemmas.{is_in-push, is_in-push_same, tower_is, tower, seen-more}
+use Rattle.tower_lines.proofs.SeenLemmas.{seen-append, seen-push}
+use Rattle.tower_lines.proofs.StartLemmas.{IsNextValue, is_in-place, start_front, start_next, start_more}
 use Rattle.tower_lines.proofs.WholeLines.{whole_mask}
-
--- ---- low masks
-
-pub low_mask_of : {sets : List ℕ} (p : List ℕ) → IsStart sets p → (mask : ℕ) × IsLowMask (length sets) mask p
-low_mask_of {sets} p start =
-    let n = length sets in
-    let b = mask_of p start in (
-      b.mask % 2 ^ (n - 1),
-      record {
-        bits = λ k. elim (cases_lt k (n - 1)) [
-          | inl low ↦ rw (lt-ltb (k + 1) n (omega arith)) (has_number-mod b.mask (n - 1) k low ∙ b.used.bits k)
-          | inr high ↦ rw (le-ltb (k + 1) n (omega arith)) (has_number-above (b.mask % 2 ^ (n - 1)) (n - 1) k (mod_below b.mask (2 ^ (n - 1)) (pow_pos (n - 1))) high)
-        ];
-      },
-    )
-
-pub low_unique : {width m n : ℕ} (p : List ℕ) → IsLowMask width m p → IsLowMask width n p → m ≡ n
-low_unique {width} {m} {n} p h i = same_set m n (λ k. h.bits k ∙ sym (i.bits k))
-
-pub low_small : {width mask : ℕ} (p : List ℕ) → IsLowMask width mask p → mask < 2 ^ (width - 1)
-low_small {width} {mask} p h = below_from_numbers mask (width - 1) (λ j l. h.bits j ∙ rw (le-ltb (j + 1) width (omega arith)) refl)
-
--- a value below the greatest is in the mask where it is in the list
-low_bit : {width mask : ℕ} (p : List ℕ) (k : ℕ) → IsLowMask width mask p → k + 1 < width → has_number mask k ≡ is_in (k + 1) p
-low_bit {width} {mask} p k h l = h.bits k ∙ rw (lt-ltb (k + 1) width l) refl
-
--- no value from the greatest on is in a start that lacks the greatest
-none_high : {sets : List ℕ} (p : List ℕ) (x : ℕ) → IsStart sets p → is_in (length sets) p ≡ false → length sets ≤ x → is_in x p ≡ false
-none_high {sets} p x start lacks high =
-    false_from_ne_true (is_in x p) (λ e.
-    let there = is_in-place x p e in
-    let most = (start.values there.0 there.1).1 in
-    both_ways (is_in (length sets) p) lacks (is_in-at (length sets) p there.0 there.1 (omega (arith, there.2, most))))
-
--- where the greatest value isn't in the start, the mask has all of its values
-low_whole : {sets : List ℕ} {mask : ℕ} (p : List ℕ) → IsStart sets p → is_in (length sets) p ≡ false → IsLowMask (length sets) mask p → IsMask mask p
-low_whole {sets} {mask} p start lacks h = record {
-  bits = λ k. elim (cases_lt (k + 1) (length sets)) [
-    | inl low ↦ low_bit p k h low
-    | inr high ↦ h.bits k ∙ rw (le-ltb (k + 1) (length sets) high) (sym (none_high p (k + 1) start lacks high))
-  ];
-}
-
--- one value more below the greatest
-low_more : {width mask : ℕ} (p : List ℕ) (k : ℕ) → IsLowMask width mask p → k + 1 < width → has_number mask k ≡ false
-    → IsLowMask width (mask + 2 ^ k) (p ++ (k + 1) ∷ [])
-low_more {width} {mask} p k h low fresh =
-    let a = added_with mask k (mask + 2 ^ k) fresh refl in
-    record {
-      bits = λ j. elim (cases_eq j k) [
-        | inl same ↦ rw same (added_has a ∙ sym (and_from _ _ (lt-ltb (k + 1) width low) (is_in-push_same p k)))
-        | inr other ↦ added_other a j other ∙ h.bits j ∙ ap (λ b. ltb (j + 1) width && b) (sym (is_in-push_other p k j other))
-      ];
-    }
-
--- the greatest value more
-low_same : {width mask : ℕ} (p : List ℕ) (k : ℕ) → IsLowMask width mask p → width ≤ k + 1 → IsLowMask width mask (p ++ (k + 1) ∷ [])
-low_same {width} {mask} p k h high = record {
-  bits = λ j. h.bits j ∙ elim (cases_eq j k) [
-    | inl same ↦ rw same (rw (le-ltb (k + 1) width high) refl)
-    | inr other ↦ ap (λ b. ltb (j + 1) width && b) (sym (is_in-push_other p k j other))
-  ];
-}
 
 -- ---- what is seen before and after the greatest value
 
@@ -101,9 +38,9 @@ all_lower : {sets : List ℕ} (p : List ℕ) → 0 < length sets → IsStart set
     → list_all (λ y. ltb y (length sets)) p ≡ true
 all_lower {sets} p some start lacks =
     let n = length sets in
-    let m = low_mask_of p start in
+    let w = whole_of p start lacks in
     let e : (n - 1) + 1 ≡ n = omega arith in
-    rw e at (tower_is p (n - 1) (low_whole p start lacks m.1) ∙ lt-ltb m.0 (2 ^ (n - 1)) (low_small p m.1))
+    rw e at (tower_is p (n - 1) w.used ∙ lt-ltb w.mask (2 ^ (n - 1)) w.small)
 
 -- it is seen where it comes
 some_seen : {sets : List ℕ} (p s : List ℕ) → 0 < length sets → IsStart sets (p ++ s) → is_in (length sets) p ≡ false → is_in (length sets) s ≡ true
@@ -135,10 +72,34 @@ tower_one mask k small = rw (lt-ltb mask (2 ^ k) small) refl
 tower_none : (mask k : ℕ) → 2 ^ k ≤ mask → tower mask k ≡ 0
 tower_none mask k large = rw (le-ltb mask (2 ^ k) large) refl
 
--- a start without the greatest value shows one more where the value is above its mask
-shown_more : {sets : List ℕ} {mask : ℕ} (p : List ℕ) (k : ℕ) → IsStart sets p → is_in (length sets) p ≡ false → IsLowMask (length sets) mask p
-    → seen (p ++ (k + 1) ∷ []) ≡ seen p + tower mask k
-shown_more p k start lacks used = seen-more p k (low_whole p start lacks used)
+-- a start without the greatest value shows one more where a value between is above its mask
+shown_more : {sets : List ℕ} {mask : ℕ} (p : List ℕ) (k bit : ℕ) → k ≡ bit + 1 → IsStart sets p → is_in (length sets) p ≡ false
+    → IsLowMask (length sets) mask p → seen (p ++ (k + 1) ∷ []) ≡ seen p + tower mask bit
+shown_more {sets} {mask} p k bit is start lacks used =
+    let w = whole_of p start lacks in
+    seen-more p k w.used ∙ ap (λ n. seen p + n) (tower_half w.mask mask k bit is (whole_half p start lacks used w))
+
+-- it shows one more with the greatest
+shown_last : {sets : List ℕ} (p : List ℕ) (k : ℕ) → k + 1 ≡ length sets → IsStart sets p → is_in (length sets) p ≡ false
+    → seen (p ++ (k + 1) ∷ []) ≡ seen p + 1
+shown_last {sets} p k is start lacks =
+    let w = whole_of p start lacks in
+    let e : length sets - 1 ≡ k = omega arith in
+    let small : w.mask < 2 ^ k = rw e at w.small in
+    seen-more p k w.used ∙ ap (λ n. seen p + n) (tower_one w.mask k small)
+
+-- the least value is seen where it is the first
+shown_first : (p : List ℕ) (x : ℕ) → length p ≡ 0 → seen (p ++ x ∷ []) ≡ seen p + 1
+shown_first p x none =
+    let all : list_all (λ y. ltb y x) p ≡ true = ap (list_all (λ y. ltb y x)) (nil_from_length p none) in
+    seen-push p x ∙ rw all refl
+
+-- and else hidden
+shown_later : {sets : List ℕ} (p : List ℕ) (k : ℕ) → k ≡ 0 → IsStart sets p → 0 < length p → seen (p ++ (k + 1) ∷ []) ≡ seen p
+shown_later {sets} p k zero start some =
+    let low = (start.values 0 some).0 in
+    let hidden : list_all (λ y. ltb y (k + 1)) p ≡ false = list_all_at (λ y. ltb y (k + 1)) p 0 0 some (le-ltb (get_or p 0 0) (k + 1) (omega arith)) in
+    seen-push p (k + 1) ∙ rw hidden (omega arith)
 
 -- a start with it shows no more
 shown_same : {sets : List ℕ} (p : List ℕ) (k : ℕ) → IsStart sets (p ++ (k + 1) ∷ []) → is_in (length sets) p ≡ true
@@ -175,31 +136,77 @@ last_step_from {sets} {clue} {k} {level} {mask} {level_then} {mask_then} p at ro
     let after = s.after in
     let lacks = at_low_lacks p at (omega arith) in
     let next : IsNextValue sets p (k + 1) = record { room = room; low = omega arith; high = omega arith; candidate = candidate; fresh = rw is lacks } in
-    let small : mask < 2 ^ k = let e : length sets - 1 ≡ k = omega arith in rw e at (low_small p at.used) in
     record {
       start = start_more p (k + 1) at.start next;
-      used = rw s.same (low_same p k at.used (omega arith));
+      used = rw s.same (low_same p (k + 1) at.used (λ j l e. omega arith));
       low = omega arith;
-      shown = omega (arith, shown_more p k at.start lacks at.used, tower_one mask k small, at.shown);
-      last = let e : is_in (length sets) (p ++ (k + 1) ∷ []) ≡ true = rw (← is) (is_in-push_same p k) in e ∙ sym (eq-eqb level_then clue after);
+      shown = omega (arith, shown_last p k is at.start lacks, at.shown);
+      last = is_in-push_same p (k + 1) (length sets) is ∙ sym (eq-eqb level_then clue after);
     }
 
--- a value below it
+-- whether a start lacks the least value, by its mask
+lacks_least : {sets : List ℕ} {clue level mask : ℕ} (p : List ℕ) → 1 < length sets → IsAtLevel sets clue level mask p
+    → ((level < clue) × (count_ones mask ≡ length p)) ⊎ ((level ≡ clue) × (count_ones mask + 1 ≡ length p)) → is_in 1 p ≡ false
+lacks_least {sets} {clue} {level} p more at told =
+    elim told [
+      | inl low ↦ least_told p (rest_low p at.start (at_low_lacks p at low.0) at.used) (omega (arith, low.1))
+      | inr last ↦ least_told p (rest_last p more at.start (at.last ∙ eq-eqb level clue last.0) at.used) last.1
+    ]
+
+-- the least value
+least_step_from : {sets : List ℕ} {clue k level mask level_then mask_then : ℕ} (p : List ℕ) → IsAtLevel sets clue level mask p → length p < length sets
+    → has_number (get_or sets (length p) 0) (k + 1) ≡ true → IsLeastStep (length p) (length sets) clue k level mask level_then mask_then
+    → IsAtLevel sets clue level_then mask_then (p ++ (k + 1) ∷ [])
+least_step_from {sets} {clue} {k} {level} {mask} {level_then} {mask_then} p at room candidate s =
+    let value = s.value in
+    let more = s.more in
+    let one : 1 ≡ k + 1 = omega arith in
+    let next : is_in 1 p ≡ false → IsNextValue sets p (k + 1) = λ fresh. record {
+      room = room;
+      low = omega arith;
+      high = omega arith;
+      candidate = candidate;
+      fresh = ap (λ v. is_in v p) (sym one) ∙ fresh;
+    } in
+    let used : IsLowMask (length sets) mask_then (p ++ (k + 1) ∷ []) = rw s.same (low_same p (k + 1) at.used (λ j l e. omega arith)) in
+    let greatest = greatest_in_push p (length sets) k (omega arith) in
+    elim s.moves [
+      | inl first ↦ (let lacks = at_low_lacks p at (omega (arith, first.1, first.2)) in
+          let fresh : is_in 1 p ≡ false = ap (is_in 1) (nil_from_length p first.0) in
+          record {
+            start = start_more p (k + 1) at.start (next fresh);
+            used = used;
+            low = omega (arith, first.2);
+            shown = omega (arith, shown_first p (k + 1) first.0, at.shown, first.1);
+            last = greatest ∙ lacks ∙ sym (ne_eqb level_then clue (λ e. omega (arith, first.2)));
+          })
+      | inr later ↦ record {
+        start = start_more p (k + 1) at.start (next (lacks_least p more at later.2));
+        used = used;
+        low = omega (arith, later.1, at.low);
+        shown = omega (arith, shown_later p k value at.start later.0, at.shown, later.1);
+        last = greatest ∙ at.last ∙ ap (λ l. eqb l clue) (sym later.1);
+      }
+    ]
+
+-- a value between them
 low_step_from : {sets : List ℕ} {clue k level mask level_then mask_then : ℕ} (p : List ℕ) → IsAtLevel sets clue level mask p → length p < length sets
     → has_number (get_or sets (length p) 0) (k + 1) ≡ true → IsLowStep (length sets) clue k level mask level_then mask_then
     → IsAtLevel sets clue level_then mask_then (p ++ (k + 1) ∷ [])
 low_step_from {sets} {clue} {k} {level} {mask} {level_then} {mask_then} p at room candidate s =
+    let bit = s.bit in
+    let is = s.is in
     let value = s.value in
     let next : IsNextValue sets p (k + 1) = record {
       room = room;
       low = omega arith;
       high = omega arith;
       candidate = candidate;
-      fresh = sym (low_bit p k at.used value) ∙ s.fresh;
+      fresh = sym (low_bit p k bit is at.used value) ∙ s.fresh;
     } in
     let start = start_more p (k + 1) at.start next in
-    let used : IsLowMask (length sets) mask_then (p ++ (k + 1) ∷ []) = rw s.more (low_more p k at.used value s.fresh) in
-    let greatest = greatest_in_push p (length sets) k value in
+    let used : IsLowMask (length sets) mask_then (p ++ (k + 1) ∷ []) = rw s.more (low_more p k bit is at.used value s.fresh) in
+    let greatest = greatest_in_push p (length sets) k (omega arith) in
     elim s.moves [
       | inl same ↦ (let has = at.last ∙ eq-eqb level clue same.0 in
           record {
@@ -215,7 +222,7 @@ low_step_from {sets} {clue} {k} {level} {mask} {level_then} {mask_then} p at roo
               start = start;
               used = used;
               low = omega (arith, hidden.0, hidden.2);
-              shown = omega (arith, shown_more p k at.start lacks at.used, tower_none mask k hidden.1, at.shown, hidden.2);
+              shown = omega (arith, shown_more p k bit is at.start lacks at.used, tower_none mask bit hidden.1, at.shown, hidden.2);
               last = greatest ∙ lacks ∙ sym (ne_eqb level_then clue (λ e. omega (arith, hidden.0, hidden.2)));
             })
         | inr tower ↦ (let lacks = at_low_lacks p at (omega (arith, tower.1, tower.2)) in
@@ -223,24 +230,25 @@ low_step_from {sets} {clue} {k} {level} {mask} {level_then} {mask_then} p at roo
               start = start;
               used = used;
               low = omega (arith, tower.2);
-              shown = omega (arith, shown_more p k at.start lacks at.used, tower_one mask k tower.0, at.shown, tower.1);
+              shown = omega (arith, shown_more p k bit is at.start lacks at.used, tower_one mask bit tower.0, at.shown, tower.1);
               last = greatest ∙ lacks ∙ sym (ne_eqb level_then clue (λ e. omega (arith, tower.2)));
             })
       ]
     ]
 
 pub step_from : {sets : List ℕ} {clue k level mask level_then mask_then : ℕ} (p : List ℕ) → IsAtLevel sets clue level mask p → length p < length sets
-    → has_number (get_or sets (length p) 0) (k + 1) ≡ true → IsStep (length sets) clue k level mask level_then mask_then
+    → has_number (get_or sets (length p) 0) (k + 1) ≡ true → IsStep (length p) (length sets) clue k level mask level_then mask_then
     → IsAtLevel sets clue level_then mask_then (p ++ (k + 1) ∷ [])
 step_from p at room candidate (inl s) = last_step_from p at room candidate s
-step_from p at room candidate (inr s) = low_step_from p at room candidate s
+step_from p at room candidate (inr (inl s)) = least_step_from p at room candidate s
+step_from p at room candidate (inr (inr s)) = low_step_from p at room candidate s
 
 -- where a start's front is, and how its last value leads from there
 pub record IsStepped (sets : List ℕ) (clue k level mask : ℕ) (p : List ℕ) : Type 0 where
   pub level_before : ℕ
   pub mask_before : ℕ
   pub front : IsAtLevel sets clue level_before mask_before p
-  pub step : IsStep (length sets) clue k level_before mask_before level mask
+  pub step : IsStep (length p) (length sets) clue k level_before mask_before level mask
 
 -- a front with the greatest value
 stepped_last : {sets : List ℕ} {clue level mask : ℕ} (p : List ℕ) (k : ℕ) → IsAtLevel sets clue level mask (p ++ (k + 1) ∷ [])
@@ -253,7 +261,6 @@ stepped_last {sets} {clue} {level} {mask} p k at has =
     let same = at_last (p ++ (k + 1) ∷ []) at (is_in-push p (k + 1) (length sets) ∙ or_left _ _ has) in
     let apart : k + 1 ≢ length sets = λ e. both_ways (is_in (k + 1) p) next.fresh (rw e has) in
     let value : k + 1 < length sets = omega arith in
-    let fresh : has_number m.0 k ≡ false = low_bit p k m.1 value ∙ next.fresh in
     record {
       level_before = level;
       mask_before = m.0;
@@ -264,12 +271,29 @@ stepped_last {sets} {clue} {level} {mask} p k at has =
         shown = sym (shown_same p k at.start has) ∙ at.shown;
         last = has ∙ sym (eq-eqb level clue same);
       };
-      step = inr record {
-        value = value;
-        fresh = fresh;
-        more = low_unique (p ++ (k + 1) ∷ []) at.used (low_more p k m.1 value fresh);
-        moves = inl (same, same);
-      };
+      step = inr (elim (cases_eq k 0) [
+        | inl least ↦ (let some = (is_in-place (length sets) p has).1 in
+            let one : 1 ≡ k + 1 = omega arith in
+            let fresh : is_in 1 p ≡ false = ap (λ v. is_in v p) one ∙ next.fresh in
+            inl record {
+              value = least;
+              more = omega arith;
+              same = low_unique (p ++ (k + 1) ∷ []) at.used (low_same p (k + 1) m.1 (λ j l e. omega arith));
+              moves = inr (omega arith, refl, inr (same, least_tells p (rest_last p (omega arith) start has m.1) fresh));
+            })
+        | inr other ↦ (let bit = k - 1 in
+            let is : k ≡ bit + 1 = omega arith in
+            let low : bit + 2 < length sets = omega arith in
+            let fresh : has_number m.0 bit ≡ false = low_bit p k bit is m.1 low ∙ next.fresh in
+            inr record {
+              bit = bit;
+              is = is;
+              value = low;
+              fresh = fresh;
+              more = low_unique (p ++ (k + 1) ∷ []) at.used (low_more p k bit is m.1 low fresh);
+              moves = inl (same, same);
+            })
+      ]);
     }
 
 -- a front without it, which is at the level of the towers that it shows
@@ -283,50 +307,104 @@ front_low {sets} {clue} {mask} p start used lacks low = record {
   last = lacks ∙ sym (ne_eqb (seen p) clue (λ e. omega arith));
 }
 
-stepped_low : {sets : List ℕ} {clue level mask : ℕ} (p : List ℕ) (k : ℕ) → IsAtLevel sets clue level mask (p ++ (k + 1) ∷ [])
+-- the greatest value after it
+stepped_greatest : {sets : List ℕ} {clue level mask : ℕ} (p : List ℕ) (k : ℕ) → k + 1 ≡ length sets → IsAtLevel sets clue level mask (p ++ (k + 1) ∷ [])
     → is_in (length sets) p ≡ false → IsStepped sets clue k level mask p
-stepped_low {sets} {clue} {level} {mask} p k at lacks =
+stepped_greatest {sets} {clue} {level} {mask} p k greatest at lacks =
+    let start = start_front p ((k + 1) ∷ []) at.start in
+    let m = low_mask_of p start in
+    let last = at_last (p ++ (k + 1) ∷ []) at (is_in-push_same p (k + 1) (length sets) greatest) in
+    let before : seen p + 1 ≡ clue = omega (arith, shown_last p k greatest start lacks, at.shown) in
+    record {
+      level_before = seen p;
+      mask_before = m.0;
+      front = front_low p start m.1 lacks (omega arith);
+      step = inl record {
+        value = greatest;
+        before = before;
+        after = last;
+        same = low_unique (p ++ (k + 1) ∷ []) at.used (low_same p (k + 1) m.1 (λ j l e. omega arith));
+      };
+    }
+
+-- the least
+stepped_least : {sets : List ℕ} {clue level mask : ℕ} (p : List ℕ) (k : ℕ) → k ≡ 0 → k + 1 < length sets → IsAtLevel sets clue level mask (p ++ (k + 1) ∷ [])
+    → is_in (length sets) p ≡ false → IsStepped sets clue k level mask p
+stepped_least {sets} {clue} {level} {mask} p k least value at lacks =
     let start = start_front p ((k + 1) ∷ []) at.start in
     let next = start_next p (k + 1) [] at.start in
-    let high = next.high in
     let m = low_mask_of p start in
-    let shown = shown_more p k start lacks m.1 in
-    let whole = at.shown in
-    elim (cases_eq (k + 1) (length sets)) [
-      | inl greatest ↦ (let last = at_last (p ++ (k + 1) ∷ []) at (rw (← greatest) (is_in-push_same p k)) in
-          let e : length sets - 1 ≡ k = omega arith in
-          let one = tower_one m.0 k (rw e at (low_small p m.1)) in
-          let before : seen p + 1 ≡ clue = omega arith in
-          record {
-            level_before = seen p;
-            mask_before = m.0;
-            front = front_low p start m.1 lacks (omega arith);
-            step = inl record {
-              value = greatest;
-              before = before;
-              after = last;
-              same = low_unique (p ++ (k + 1) ∷ []) at.used (low_same p k m.1 (omega arith));
-            };
-          })
-      | inr other ↦ (let value : k + 1 < length sets = omega arith in
-          let low = at_low (p ++ (k + 1) ∷ []) at (greatest_in_push p (length sets) k value ∙ lacks) in
-          let fresh : has_number m.0 k ≡ false = low_bit p k m.1 value ∙ next.fresh in
-          let more = low_unique (p ++ (k + 1) ∷ []) at.used (low_more p k m.1 value fresh) in
-          let moves : ((seen p ≡ clue) × (level ≡ clue)) ⊎ (((seen p < clue) × (2 ^ k ≤ m.0) × (level ≡ seen p)) ⊎ ((m.0 < 2 ^ k) × (level ≡ seen p + 1) × (level < clue))) =
-          inr (elim (cases_lt m.0 (2 ^ k)) [
-            | inl small ↦ (let one = tower_one m.0 k small in inr (small, omega arith, low))
-            | inr large ↦ (let none = tower_none m.0 k large in inl (omega arith, large, omega arith))
-          ]) in
-          let before : seen p < clue = elim (cases_lt m.0 (2 ^ k)) [
-            | inl small ↦ (let one = tower_one m.0 k small in omega arith)
-            | inr large ↦ (let none = tower_none m.0 k large in omega arith)
-          ] in
+    let one : 1 ≡ k + 1 = omega arith in
+    let fresh : is_in 1 p ≡ false = ap (λ v. is_in v p) one ∙ next.fresh in
+    let low = at_low (p ++ (k + 1) ∷ []) at (greatest_in_push p (length sets) k value ∙ lacks) in
+    let same = low_unique (p ++ (k + 1) ∷ []) at.used (low_same p (k + 1) m.1 (λ j l e. omega arith)) in
+    let lacking = least_tells p (rest_low p start lacks m.1) fresh in
+    elim (cases_lt 0 (length p)) [
+      | inl some ↦ (let shown = shown_later p k least start some in
+          let before : seen p < clue = omega (arith, at.shown) in
           record {
             level_before = seen p;
             mask_before = m.0;
             front = front_low p start m.1 lacks before;
-            step = inr record { value = value; fresh = fresh; more = more; moves = moves };
+            step = inr (inl record {
+              value = least;
+              more = omega arith;
+              same = same;
+              moves = inr (some, omega (arith, at.shown), inl (before, omega arith));
+            });
           })
+      | inr none ↦ (let first : length p ≡ 0 = omega arith in
+          let shown = shown_first p (k + 1) first in
+          record {
+            level_before = seen p;
+            mask_before = m.0;
+            front = front_low p start m.1 lacks (omega (arith, at.shown));
+            step = inr (inl record { value = least; more = omega arith; same = same; moves = inl (first, omega (arith, at.shown), low) });
+          })
+    ]
+
+-- a value between them
+stepped_between : {sets : List ℕ} {clue level mask : ℕ} (p : List ℕ) (k : ℕ) → 0 < k → k + 1 < length sets → IsAtLevel sets clue level mask (p ++ (k + 1) ∷ [])
+    → is_in (length sets) p ≡ false → IsStepped sets clue k level mask p
+stepped_between {sets} {clue} {level} {mask} p k some value at lacks =
+    let start = start_front p ((k + 1) ∷ []) at.start in
+    let next = start_next p (k + 1) [] at.start in
+    let m = low_mask_of p start in
+    let bit = k - 1 in
+    let is : k ≡ bit + 1 = omega arith in
+    let inside : bit + 2 < length sets = omega arith in
+    let shown = shown_more p k bit is start lacks m.1 in
+    let whole = at.shown in
+    let low = at_low (p ++ (k + 1) ∷ []) at (greatest_in_push p (length sets) k value ∙ lacks) in
+    let fresh : has_number m.0 bit ≡ false = low_bit p k bit is m.1 inside ∙ next.fresh in
+    let more = low_unique (p ++ (k + 1) ∷ []) at.used (low_more p k bit is m.1 inside fresh) in
+    let moves : ((seen p ≡ clue) × (level ≡ clue)) ⊎ (((seen p < clue) × (2 ^ bit ≤ m.0) × (level ≡ seen p)) ⊎ ((m.0 < 2 ^ bit) × (level ≡ seen p + 1) × (level < clue))) =
+    inr (elim (cases_lt m.0 (2 ^ bit)) [
+      | inl small ↦ (let one = tower_one m.0 bit small in inr (small, omega arith, low))
+      | inr large ↦ (let none = tower_none m.0 bit large in inl (omega arith, large, omega arith))
+    ]) in
+    let before : seen p < clue = elim (cases_lt m.0 (2 ^ bit)) [
+      | inl small ↦ (let one = tower_one m.0 bit small in omega arith)
+      | inr large ↦ (let none = tower_none m.0 bit large in omega arith)
+    ] in
+    record {
+      level_before = seen p;
+      mask_before = m.0;
+      front = front_low p start m.1 lacks before;
+      step = inr (inr record { bit = bit; is = is; value = inside; fresh = fresh; more = more; moves = moves });
+    }
+
+stepped_low : {sets : List ℕ} {clue level mask : ℕ} (p : List ℕ) (k : ℕ) → IsAtLevel sets clue level mask (p ++ (k + 1) ∷ [])
+    → is_in (length sets) p ≡ false → IsStepped sets clue k level mask p
+stepped_low {sets} {clue} {level} {mask} p k at lacks =
+    let next = start_next p (k + 1) [] at.start in
+    let high = next.high in
+    elim (cases_eq (k + 1) (length sets)) [
+      | inl greatest ↦ stepped_greatest p k greatest at lacks
+      | inr other ↦ elim (cases_eq k 0) [
+        | inl least ↦ stepped_least p k least (omega arith) at lacks
+        | inr some ↦ stepped_between p k (omega arith) (omega arith) at lacks
+      ]
     ]
 
 -- the last value of a start at a level leads from its front's level

@@ -6,7 +6,7 @@ use Rattle.number_sets.specs.Sets.{has_number}
 use Rattle.number_sets.proofs.Members.{power_most}
 use Rattle.number_sets.proofs.OneMore.{added_with, added_without, added_lacks, added_has, added_below}
 use Rattle.tower_lines.specs.Inner.MaskSets.{has_mask, has_at}
-use Rattle.tower_lines.specs.Inner.Levels.{AreAdded, AreFew, AreLow, IsMovedFrom, IsReachedBy}
+use Rattle.tower_lines.specs.Inner.Levels.{AreAdded, AreFew, AreLow, IsLeastStep, IsLowStep, IsStep, IsMove, IsMovedFrom, IsReachedBy}
 
 -- ---- one addition after another
 
@@ -46,7 +46,7 @@ added_alone Added none now empty added level mask = (
   λ a. (added level mask).1 (inr a),
 )
 
--- ---- a value below the greatest, put into the masks of a level
+-- ---- a value between the least and the greatest, put into the masks of a level
 
 -- the set has the masks of the level that lack the value, with it
 abbrev pub AreWith : ℕ → List (List ℕ) → ℕ → List ℕ → Type 0
@@ -76,11 +76,11 @@ with_is k level words levels from moved is inside past room m = (
 )
 
 -- there is room for the value in each mask that lacks it
-pub low_room : (width k words : ℕ) (levels : List (List ℕ)) → k + 1 < width → 2 ^ (width - 1) ≤ 64 * words → AreLow width levels
+pub low_room : (width k words : ℕ) (levels : List (List ℕ)) → k + 2 < width → 2 ^ (width - 2) ≤ 64 * words → AreLow width levels
     → (level mask : ℕ) → has_at levels level mask ≡ true → has_number mask k ≡ false → mask + 2 ^ k < 64 * words
 low_room width k words levels less room low level mask here fresh =
-    let small : mask < 2 ^ (width - 1) = low level mask here in
-    let next = added_below (added_with mask k (mask + 2 ^ k) fresh refl) (width - 1) small (omega arith) in
+    let small : mask < 2 ^ (width - 2) = low level mask here in
+    let next = added_below (added_with mask k (mask + 2 ^ k) fresh refl) (width - 2) small (omega arith) in
     omega arith
 
 -- those that are at least 2 ^ (k + 1) then hide the value
@@ -156,10 +156,26 @@ low_both clue k level levels moved hidden shown early with hides shows at mask =
 
 -- ---- all masks to which a value leads
 
+-- the greatest value is no other
+pub greatest_alone : (place width clue k level mask level_then mask_then : ℕ) → k + 1 ≡ width
+    → IsLeastStep place width clue k level mask level_then mask_then ⊎ IsLowStep width clue k level mask level_then mask_then → ⊥
+greatest_alone place width clue k level mask level_then mask_then top s =
+    elim s [ inl least ↦ omega (arith, least.value, least.more) | inr low ↦ omega (arith, low.is, low.value) ]
+
+-- a value between the least and the greatest leads by a step of its own bit
+pub between_step : (place width clue k level mask level_then mask_then : ℕ) → k + 2 < width → IsStep place width clue (k + 1) level mask level_then mask_then
+    → (has_number mask k ≡ false) × (mask_then ≡ mask + 2 ^ k) × IsMove clue k level mask level_then
+between_step place width clue k level mask level_then mask_then less (inl s) = absurd (omega (arith, s.value))
+between_step place width clue k level mask level_then mask_then less (inr (inl s)) = absurd (omega (arith, s.value))
+between_step place width clue k level mask level_then mask_then less (inr (inr s)) =
+    let same : s.bit ≡ k = omega (arith, s.is) in
+    let P : ℕ → Type 0 = λ i. (has_number mask i ≡ false) × (mask_then ≡ mask + 2 ^ i) × IsMove clue i level mask level_then in
+    subst P same (s.fresh, s.more, s.moves)
+
 -- the greatest value leads to the last level
-pub top_reached : (width clue k : ℕ) (levels : List (List ℕ)) (set : List ℕ) → k + 1 ≡ width → 0 < clue → set ≡ get_or levels (clue - 1) []
-    → (at mask : ℕ) → IsReachedBy width clue k levels at mask ↔ ((at ≡ clue) × (has_mask set mask ≡ true))
-top_reached width clue k levels set top some is at mask = (
+pub top_reached : (place width clue k : ℕ) (levels : List (List ℕ)) (set : List ℕ) → k + 1 ≡ width → 0 < clue → set ≡ get_or levels (clue - 1) []
+    → (at mask : ℕ) → IsReachedBy place width clue k levels at mask ↔ ((at ≡ clue) × (has_mask set mask ≡ true))
+top_reached place width clue k levels set top some is at mask = (
   λ r. elim r.step [
     | inl s ↦
         let before : r.level ≡ clue - 1 = omega (arith, s.before) in
@@ -167,7 +183,7 @@ top_reached width clue k levels set top some is at mask = (
         let Q : List ℕ → Type 0 = λ s. has_mask s r.mask ≡ true in
         let R : ℕ → Type 0 = λ x. has_mask set x ≡ true in
         (s.after, subst R (sym s.same) (subst Q (sym is) (subst P before r.here)))
-    | inr s ↦ absurd (omega (arith, s.value))
+    | inr s ↦ absurd (greatest_alone place width clue k r.level r.mask at mask top s)
   ],
   λ p.
       let P : List ℕ → Type 0 = λ s. has_mask s mask ≡ true in
@@ -179,9 +195,15 @@ top_reached width clue k levels set top some is at mask = (
       },
 )
 
+-- where the last level is the first, to none
+pub top_none : (place width clue k : ℕ) (levels old : List (List ℕ)) → k + 1 ≡ width → clue ≡ 0 → AreAdded (IsReachedBy place width clue k levels) old old
+top_none place width clue k levels old top none =
+    added_none (IsReachedBy place width clue k levels) old (λ at mask r.
+    elim r.step [ inl s ↦ omega (arith, s.before) | inr s ↦ greatest_alone place width clue k r.level r.mask at mask top s ])
+
 -- what comes of the levels below one
-abbrev pub IsFromBelow : ℕ → ℕ → List (List ℕ) → ℕ → ℕ → ℕ → Type 0
-IsFromBelow clue k levels most at mask = (i : ℕ) × (i < most) × IsMovedFrom clue k levels i at mask
+abbrev pub IsFromBelow : (ℕ → ℕ → ℕ → Type 0) → ℕ → ℕ → ℕ → Type 0
+IsFromBelow Moved most at mask = (i : ℕ) × (i < most) × Moved i at mask
 
 -- the levels below the first that has a mask
 abbrev pub AreBefore : ℕ → ℕ → Type 0
@@ -199,48 +221,47 @@ none_before place first level mask levels few before here =
     ]
 
 pub from_none : (clue k place first : ℕ) (levels old : List (List ℕ)) → AreFew place levels → AreBefore place first
-    → AreAdded (IsFromBelow clue k levels first) old old
+    → AreAdded (IsFromBelow (IsMovedFrom clue k levels) first) old old
 from_none clue k place first levels old few before =
-    added_none (IsFromBelow clue k levels first) old (λ level mask r.
+    added_none (IsFromBelow (IsMovedFrom clue k levels) first) old (λ level mask r.
     let late = none_before place first r.0 r.2.mask levels few before r.2.here in
     omega (arith, r.1))
 
-pub from_more : (clue k level : ℕ) (levels old mid now : List (List ℕ)) → AreAdded (IsFromBelow clue k levels level) old mid
-    → AreAdded (IsMovedFrom clue k levels level) mid now → AreAdded (IsFromBelow clue k levels (level + 1)) old now
-from_more clue k level levels old mid now below here =
-    added_both (IsFromBelow clue k levels level) (IsMovedFrom clue k levels level) (IsFromBelow clue k levels (level + 1)) old mid now below here
+pub from_more : (Moved : ℕ → ℕ → ℕ → Type 0) (level : ℕ) (old mid now : List (List ℕ)) → AreAdded (IsFromBelow Moved level) old mid
+    → AreAdded (Moved level) mid now → AreAdded (IsFromBelow Moved (level + 1)) old now
+from_more Moved level old mid now below here =
+    added_both (IsFromBelow Moved level) (Moved level) (IsFromBelow Moved (level + 1)) old mid now below here
     (λ at mask. (
       λ r. elim (cases_eq r.0 level) [
-        | inl same ↦ (let P : ℕ → Type 0 = λ i. IsMovedFrom clue k levels i at mask in inr (subst P same r.2))
+        | inl same ↦ (let P : ℕ → Type 0 = λ i. Moved i at mask in inr (subst P same r.2))
         | inr other ↦ inl (r.0, omega (arith, r.1), r.2)
       ],
       λ p. elim p [ inl r ↦ (r.0, omega (arith, r.1), r.2) | inr m ↦ (level, omega arith, m) ],
     ))
 
--- a lower value leads on from the levels before the last that have masks, and at the last level
-pub low_reached : (width clue k place most : ℕ) (levels : List (List ℕ)) (moved : List ℕ) → k + 1 < width → AreFew place levels
+-- a value between leads on from the levels before the last that have masks, and at the last level
+pub low_reached : (width clue k place most : ℕ) (levels : List (List ℕ)) (moved : List ℕ) → k + 2 < width → AreFew place levels
     → ((i : ℕ) → i < clue → i ≤ place → i < most) → AreWith k levels clue moved
-    → (at mask : ℕ) → IsReachedBy width clue k levels at mask ↔ (IsFromBelow clue k levels most at mask ⊎ ((at ≡ clue) × (has_mask moved mask ≡ true)))
+    → (at mask : ℕ) → IsReachedBy place width clue (k + 1) levels at mask
+    ↔ (IsFromBelow (IsMovedFrom clue k levels) most at mask ⊎ ((at ≡ clue) × (has_mask moved mask ≡ true)))
 low_reached width clue k place most levels moved less few inside with at mask = (
-  λ r. elim r.step [
-    | inl s ↦ absurd (omega (arith, s.value))
-    | inr s ↦
-        let little = (few r.level r.mask r.here).0 in
-        elim s.moves [
-          | inl last ↦
-              let P : ℕ → Type 0 = λ i. has_at levels i r.mask ≡ true in
-              inr (last.1, (with mask).1 (r.mask, subst P last.0 r.here, s.fresh, s.more))
-          | inr far ↦
-              let early : r.level < clue = elim far [ inl stays ↦ stays.0 | inr goes ↦ omega (arith, goes.1, goes.2) ] in
-              inl (r.level, inside r.level early little, record { mask = r.mask; here = r.here; fresh = s.fresh; more = s.more; moves = s.moves })
-        ]
-  ],
+  λ r.
+      let little = (few r.level r.mask r.here).0 in
+      let s = between_step place width clue k r.level r.mask at mask less r.step in
+      elim s.2 [
+        | inl last ↦
+            let P : ℕ → Type 0 = λ i. has_at levels i r.mask ≡ true in
+            inr (last.1, (with mask).1 (r.mask, subst P last.0 r.here, s.0, s.1))
+        | inr far ↦
+            let early : r.level < clue = elim far [ inl stays ↦ stays.0 | inr goes ↦ omega (arith, goes.1, goes.2) ] in
+            inl (r.level, inside r.level early little, record { mask = r.mask; here = r.here; fresh = s.0; more = s.1; moves = s.2 })
+      ],
   λ p. elim p [
     | inl r ↦ record {
       level = r.0;
       mask = r.2.mask;
       here = r.2.here;
-      step = inr record { value = less; fresh = r.2.fresh; more = r.2.more; moves = r.2.moves };
+      step = inr (inr record { bit = k; is = refl; value = less; fresh = r.2.fresh; more = r.2.more; moves = r.2.moves });
     }
     | inr last ↦
         let from = (with mask).0 last.1 in
@@ -248,7 +269,7 @@ low_reached width clue k place most levels moved less few inside with at mask = 
           level = clue;
           mask = from.0;
           here = from.1;
-          step = inr record { value = less; fresh = from.2; more = from.3; moves = inl (refl, last.0) };
+          step = inr (inr record { bit = k; is = refl; value = less; fresh = from.2; more = from.3; moves = inl (refl, last.0) });
         }
   ],
 )

@@ -5,7 +5,7 @@ use Rattle.std.proofs.lemmas.Grind.{pow_more}
 use Rattle.number_sets.specs.Sets.{has_number}
 use Rattle.tower_lines.specs.Inner.MaskSets.{has_mask, has_at}
 use Rattle.tower_lines.specs.Inner.Levels.{AreAdded, AreFew, IsCommon, LeadsLow, LeadsTo, IsPassing}
-use Rattle.tower_lines.proofs.LevelMoves.{AreBefore, none_before, added_both, added_as, added_none}
+use Rattle.tower_lines.proofs.LevelMoves.{AreBefore, none_before, added_both, added_as, added_none, greatest_alone, between_step}
 
 -- ---- the masks at a level from which a value leads on
 
@@ -24,9 +24,9 @@ without_from : (k : ℕ) (from set : List ℕ) → AreWithout k from set → (m 
 without_from k from set is m fresh e = is m ∙ and_from _ _ (not_from_false (has_number m k) fresh) e
 
 -- at the last level
-pub last_leads : (width clue k : ℕ) (levels : List (List ℕ)) (from set : List ℕ) → k + 1 < width → from ≡ get_or levels clue []
-    → AreWithout k from set → (m : ℕ) → (has_mask set m ≡ true) ↔ LeadsTo width clue k levels clue m
-last_leads width clue k levels from set less is without m = (
+pub last_leads : (place width clue k : ℕ) (levels : List (List ℕ)) (from set : List ℕ) → k + 2 < width → from ≡ get_or levels clue []
+    → AreWithout k from set → (m : ℕ) → (has_mask set m ≡ true) ↔ LeadsTo place width clue (k + 1) levels clue m
+last_leads place width clue k levels from set less is without m = (
   λ e.
       let parts = without_parts k from set without m e in
       let P : List ℕ → Type 0 = λ s. has_mask s (m + 2 ^ k) ≡ true in
@@ -34,38 +34,34 @@ last_leads width clue k levels from set less is without m = (
         level_then = clue;
         mask_then = m + 2 ^ k;
         there = subst P is parts.1;
-        step = inr record { value = less; fresh = parts.0; more = refl; moves = inl (refl, refl) };
+        step = inr (inr record { bit = k; is = refl; value = less; fresh = parts.0; more = refl; moves = inl (refl, refl) });
       },
-  λ r. elim r.step [
-    | inl s ↦ absurd (omega (arith, s.value))
-    | inr s ↦
-        let same : r.level_then ≡ clue = elim s.moves [ inl at ↦ at.1 | inr far ↦ elim far [ inl at ↦ omega (arith, at.0) | inr at ↦ omega (arith, at.1, at.2) ] ] in
-        let P : ℕ → Type 0 = λ j. has_at levels j r.mask_then ≡ true in
-        let Q : ℕ → Type 0 = λ x. has_at levels clue x ≡ true in
-        let R : List ℕ → Type 0 = λ s. has_mask s (m + 2 ^ k) ≡ true in
-        without_from k from set without m s.fresh (subst R (sym is) (subst Q s.more (subst P same r.there)))
-  ],
+  λ r.
+      let s = between_step place width clue k clue m r.level_then r.mask_then less r.step in
+      let same : r.level_then ≡ clue = elim s.2 [ inl at ↦ at.1 | inr far ↦ elim far [ inl at ↦ omega (arith, at.0) | inr at ↦ omega (arith, at.1, at.2) ] ] in
+      let P : ℕ → Type 0 = λ j. has_at levels j r.mask_then ≡ true in
+      let Q : ℕ → Type 0 = λ x. has_at levels clue x ≡ true in
+      let R : List ℕ → Type 0 = λ s. has_mask s (m + 2 ^ k) ≡ true in
+      without_from k from set without m s.0 (subst R (sym is) (subst Q s.1 (subst P same r.there))),
 )
 
--- before it a lower value leads on by a step that isn't to the last level
-pub low_leads : (width clue k level : ℕ) (levels : List (List ℕ)) (set : List ℕ) → k + 1 < width
+-- before it such a value leads on by a step that isn't to the last level
+pub low_leads : (place width clue k level : ℕ) (levels : List (List ℕ)) (set : List ℕ) → k + 2 < width
     → ((m : ℕ) → (has_mask set m ≡ true) ↔ LeadsLow clue k levels level m)
-    → (m : ℕ) → (has_mask set m ≡ true) ↔ LeadsTo width clue k levels level m
-low_leads width clue k level levels set less is m = (
+    → (m : ℕ) → (has_mask set m ≡ true) ↔ LeadsTo place width clue (k + 1) levels level m
+low_leads place width clue k level levels set less is m = (
   λ e.
       let r = (is m).0 e in
       record {
         level_then = r.level_then;
         mask_then = m + 2 ^ k;
         there = r.there;
-        step = inr record { value = less; fresh = r.fresh; more = refl; moves = r.moves };
+        step = inr (inr record { bit = k; is = refl; value = less; fresh = r.fresh; more = refl; moves = r.moves });
       },
-  λ r. elim r.step [
-    | inl s ↦ absurd (omega (arith, s.value))
-    | inr s ↦
-        let P : ℕ → Type 0 = λ x. has_at levels r.level_then x ≡ true in
-        (is m).1 record { level_then = r.level_then; there = subst P s.more r.there; fresh = s.fresh; moves = s.moves }
-  ],
+  λ r.
+      let s = between_step place width clue k level m r.level_then r.mask_then less r.step in
+      let P : ℕ → Type 0 = λ x. has_at levels r.level_then x ≡ true in
+      (is m).1 record { level_then = r.level_then; there = subst P s.1 r.there; fresh = s.0; moves = s.2 },
 )
 
 -- where the next level is the last, a value leads on only where it is hidden
@@ -132,18 +128,18 @@ leads_both clue k level levels hidden shown either set early hides shows is with
 -- ---- the masks that are there and lead on
 
 -- those of a level that are in the set of those that lead on
-pub shared_passing : (width clue k level : ℕ) (fronts after : List (List ℕ)) (set : List ℕ) → level ≤ clue
-    → ((m : ℕ) → (has_mask set m ≡ true) ↔ LeadsTo width clue k after level m)
-    → (mask : ℕ) → IsPassing width clue k fronts after level mask ↔ IsCommon fronts set level mask
-shared_passing width clue k level fronts after set low leads mask = (
+pub shared_passing : (place width clue k level : ℕ) (fronts after : List (List ℕ)) (set : List ℕ) → level ≤ clue
+    → ((m : ℕ) → (has_mask set m ≡ true) ↔ LeadsTo place width clue k after level m)
+    → (mask : ℕ) → IsPassing place width clue k fronts after level mask ↔ IsCommon fronts set level mask
+shared_passing place width clue k level fronts after set low leads mask = (
   λ p. record { here = p.here; there = (leads mask).1 p.leads },
   λ s. record { low = low; here = s.here; leads = (leads mask).0 s.there },
 )
 
 -- the greatest value leads from the level before the last
-pub top_leads : (width clue k : ℕ) (after : List (List ℕ)) (set : List ℕ) → k + 1 ≡ width → 0 < clue → set ≡ get_or after clue []
-    → (m : ℕ) → (has_mask set m ≡ true) ↔ LeadsTo width clue k after (clue - 1) m
-top_leads width clue k after set top some is m = (
+pub top_leads : (place width clue k : ℕ) (after : List (List ℕ)) (set : List ℕ) → k + 1 ≡ width → 0 < clue → set ≡ get_or after clue []
+    → (m : ℕ) → (has_mask set m ≡ true) ↔ LeadsTo place width clue k after (clue - 1) m
+top_leads place width clue k after set top some is m = (
   λ e.
       let P : List ℕ → Type 0 = λ s. has_mask s m ≡ true in
       record {
@@ -158,41 +154,49 @@ top_leads width clue k after set top some is m = (
         let Q : ℕ → Type 0 = λ x. has_at after clue x ≡ true in
         let R : List ℕ → Type 0 = λ s. has_mask s m ≡ true in
         subst R (sym is) (subst Q s.same (subst P s.after r.there))
-    | inr s ↦ absurd (omega (arith, s.value))
+    | inr s ↦ absurd (greatest_alone place width clue k (clue - 1) m r.level_then r.mask_then top s)
   ],
 )
 
 -- and from no other
-pub top_passing : (width clue k level mask : ℕ) (fronts after : List (List ℕ)) → k + 1 ≡ width → IsPassing width clue k fronts after level mask → level + 1 ≡ clue
-top_passing width clue k level mask fronts after top p =
-    elim p.leads.step [ inl s ↦ s.before | inr s ↦ absurd (omega (arith, s.value)) ]
+pub top_passing : (place width clue k level mask : ℕ) (fronts after : List (List ℕ)) → k + 1 ≡ width → IsPassing place width clue k fronts after level mask
+    → level ≡ clue - 1
+top_passing place width clue k level mask fronts after top p =
+    elim p.leads.step [
+      | inl s ↦ omega (arith, s.before)
+      | inr s ↦ absurd (greatest_alone place width clue k level mask p.leads.level_then p.leads.mask_then top s)
+    ]
 
-pub top_added : (width clue k : ℕ) (fronts after : List (List ℕ)) (set : List ℕ) (old now : List (List ℕ)) → k + 1 ≡ width → 0 < clue → set ≡ get_or after clue []
-    → AreAdded (λ level mask. (level ≡ clue - 1) × IsCommon fronts set (clue - 1) mask) old now → AreAdded (IsPassing width clue k fronts after) old now
-top_added width clue k fronts after set old now top some is added =
-    let shared = shared_passing width clue k (clue - 1) fronts after set (omega arith) (top_leads width clue k after set top some is) in
-    added_as (λ level mask. (level ≡ clue - 1) × IsCommon fronts set (clue - 1) mask) (IsPassing width clue k fronts after) old now added
+-- and where the last level is the first, from none
+pub top_stays : (place width clue k level mask : ℕ) (fronts after : List (List ℕ)) → k + 1 ≡ width → clue ≡ 0
+    → IsPassing place width clue k fronts after level mask → ⊥
+top_stays place width clue k level mask fronts after top none p =
+    elim p.leads.step [
+      | inl s ↦ omega (arith, s.before)
+      | inr s ↦ greatest_alone place width clue k level mask p.leads.level_then p.leads.mask_then top s
+    ]
+
+-- where all are at one level
+pub one_added : (Passing : ℕ → ℕ → Type 0) (at : ℕ) (fronts old now : List (List ℕ)) (set : List ℕ) → ((level mask : ℕ) → Passing level mask → level ≡ at)
+    → ((mask : ℕ) → Passing at mask ↔ IsCommon fronts set at mask) → AreAdded (λ level mask. (level ≡ at) × IsCommon fronts set at mask) old now
+    → AreAdded Passing old now
+one_added Passing at fronts old now set alone shared added =
+    added_as (λ level mask. (level ≡ at) × IsCommon fronts set at mask) Passing old now added
     (λ level mask. (
       λ p.
-          let next = top_passing width clue k level mask fronts after top p in
-          let same : level ≡ clue - 1 = omega arith in
-          let P : ℕ → Type 0 = λ i. IsPassing width clue k fronts after i mask in
+          let same = alone level mask p in
+          let P : ℕ → Type 0 = λ i. Passing i mask in
           (same, (shared mask).0 (subst P same p)),
-      λ r. let P : ℕ → Type 0 = λ i. IsPassing width clue k fronts after i mask in subst P (sym r.0) ((shared mask).1 r.1),
+      λ r. let P : ℕ → Type 0 = λ i. Passing i mask in subst P (sym r.0) ((shared mask).1 r.1),
     ))
 
-pub top_some : (width clue k : ℕ) (fronts after : List (List ℕ)) (set : List ℕ) (some : Bool) → k + 1 ≡ width → 0 < clue → set ≡ get_or after clue []
-    → (some ≡ true) ↔ ((mask : ℕ) × IsCommon fronts set (clue - 1) mask)
-    → (some ≡ true) ↔ ((level : ℕ) × (mask : ℕ) × IsPassing width clue k fronts after level mask)
-top_some width clue k fronts after set some top more is here =
-    let shared = shared_passing width clue k (clue - 1) fronts after set (omega arith) (top_leads width clue k after set top more is) in (
-      λ e. let r = here.0 e in (clue - 1, r.0, (shared r.0).1 r.1),
-      λ r.
-          let next = top_passing width clue k r.0 r.1 fronts after top r.2 in
-          let same : r.0 ≡ clue - 1 = omega arith in
-          let P : ℕ → Type 0 = λ i. IsPassing width clue k fronts after i r.1 in
-          here.1 (r.1, (shared r.1).0 (subst P same r.2)),
-    )
+pub one_some : (Passing : ℕ → ℕ → Type 0) (at : ℕ) (fronts : List (List ℕ)) (set : List ℕ) (some : Bool) → ((level mask : ℕ) → Passing level mask → level ≡ at)
+    → ((mask : ℕ) → Passing at mask ↔ IsCommon fronts set at mask) → (some ≡ true) ↔ ((mask : ℕ) × IsCommon fronts set at mask)
+    → (some ≡ true) ↔ ((level : ℕ) × (mask : ℕ) × Passing level mask)
+one_some Passing at fronts set some alone shared here = (
+  λ e. let r = here.0 e in (at, r.0, (shared r.0).1 r.1),
+  λ r. let P : ℕ → Type 0 = λ i. Passing i r.1 in here.1 (r.1, (shared r.1).0 (subst P (alone r.0 r.1 r.2) r.2)),
+)
 
 -- the last level, and those below one
 abbrev pub IsLastOrBelow : ℕ → ℕ → ℕ → Type 0
@@ -259,6 +263,10 @@ some_more Done After Passing at fronts set some more levels shared done here = (
     | inr same ↦ (let P : ℕ → Type 0 = λ i. Passing i r.1 in or_right some more (here.1 (r.1, (shared r.1).0 (subst P same r.2.passing))))
   ],
 )
+
+-- none is there
+pub none_some : (Passing : ℕ → ℕ → Type 0) → ((level mask : ℕ) → Passing level mask → ⊥) → IsSome Passing false
+none_some Passing none = (λ e. absurd (false≢true e), λ r. absurd (none r.0 r.1 r.2))
 
 -- none is done at first
 pub done_none : (Passing : ℕ → ℕ → Type 0) (old : List (List ℕ)) → AreAdded (IsDoneAt (λ level. ⊥) Passing) old old

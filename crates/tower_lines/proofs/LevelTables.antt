@@ -9,7 +9,8 @@ use Rattle.tower_lines.specs.LineFillings.{IsStart, IsFilling, IsSupported}
 use Rattle.tower_lines.specs.Inner.MaskSets.{has_at}
 use Rattle.tower_lines.specs.Inner.Levels.{IsAtLevel, IsStep, LeadsTo, IsPassing, AreReached, AreContinued, AreLow, AreFew, IsReachedFrom, IsPassed, IsKeptBy}
 use Rattle.number_sets.proofs.Members.{has_number-none, none_from_numbers}
-use Rattle.tower_lines.proofs.LevelLemmas.{low_unique, low_small, has_greatest, at_last, step_from, stepped, front_level}
+use Rattle.tower_lines.proofs.LevelLemmas.{has_greatest, at_last, step_from, stepped, front_level}
+use Rattle.tower_lines.proofs.LowMaskLemmas.{low_unique, low_small}
 use Rattle.tower_lines.proofs.SeenLemmas.{seen_most, seen_some}
 use Rattle.tower_lines.proofs.StartLemmas.{start_next}
 
@@ -61,9 +62,16 @@ pushed {sets} place line start long =
       is = whole ∙ ap (λ x. take place line ++ x ∷ []) e;
     }
 
+-- the step from a start of so many values
+step_at : {place place' width clue k level mask level_then mask_then : ℕ} → place ≡ place' → IsStep place width clue k level mask level_then mask_then
+    → IsStep place' width clue k level mask level_then mask_then
+step_at {place} {place'} {width} {clue} {k} {level} {mask} {level_then} {mask_then} same s =
+    let P : ℕ → Type 0 = λ n. IsStep n width clue k level mask level_then mask_then in
+    subst P same s
+
 -- one value more
 pub next_reached : {sets : List ℕ} {clue place : ℕ} {levels : List (List ℕ)} (next : List (List ℕ)) → place < length sets → AreReached sets clue place levels
-    → ((level mask : ℕ) → (has_at next level mask ≡ true) ↔ IsReachedFrom (length sets) clue (get_or sets place 0) levels level mask)
+    → ((level mask : ℕ) → (has_at next level mask ≡ true) ↔ IsReachedFrom place (length sets) clue (get_or sets place 0) levels level mask)
     → AreReached sets clue (place + 1) next
 next_reached {sets} {clue} {place} {levels} next inside reached is level mask = (
   λ e.
@@ -73,7 +81,7 @@ next_reached {sets} {clue} {place} {levels} next inside reached is level mask = 
       let long = f.1 in (
         f.0 ++ (from.k + 1) ∷ [],
         length_push f.0 (from.k + 1) ∙ ap (λ n. n + 1) long,
-        step_from f.0 f.2 (omega arith) (rw long from.candidate) by.step,
+        step_from f.0 f.2 (omega arith) (rw long from.candidate) (step_at (sym long) by.step),
       ),
   λ l.
       let parts = pushed place l.0 l.2.start l.1 in
@@ -92,12 +100,12 @@ next_reached {sets} {clue} {place} {levels} next inside reached is level mask = 
           level = back.level_before;
           mask = back.mask_before;
           here = (reached back.level_before back.mask_before).1 (p, long, back.front);
-          step = back.step;
+          step = step_at long back.step;
         };
       },
 )
 
--- the masks of starts are without the greatest value
+-- the masks of starts are without the least and the greatest value
 pub reached_low : {sets : List ℕ} {clue place : ℕ} (levels : List (List ℕ)) → AreReached sets clue place levels → AreLow (length sets) levels
 reached_low {sets} {clue} {place} levels reached level mask e =
     let f = (reached level mask).0 e in
@@ -143,10 +151,10 @@ last_continued {sets} {clue} {levels} some reached = record {
 
 -- a value that leads from a start to levels of which each start is continued: so is this start, with the value
 continued_step : {sets : List ℕ} {after : List (List ℕ)} {clue place k level mask : ℕ} (p : List ℕ) → place < length sets → AreContinued sets clue (place + 1) after
-    → length p ≡ place → has_number (get_or sets place 0) (k + 1) ≡ true → IsAtLevel sets clue level mask p → LeadsTo (length sets) clue k after level mask
+    → length p ≡ place → has_number (get_or sets place 0) (k + 1) ≡ true → IsAtLevel sets clue level mask p → LeadsTo place (length sets) clue k after level mask
     → (rest : List ℕ) × IsFilling sets clue (p ++ (k + 1) ∷ rest)
 continued_step {sets} {after} {clue} {place} {k} {level} {mask} p inside continued long candidate at leads =
-    let then = step_from p at (omega arith) (rw long candidate) leads.step in
+    let then = step_from p at (omega arith) (rw long candidate) (step_at (sym long) leads.step) in
     let more = continued.only leads.level_then leads.mask_then (p ++ (k + 1) ∷ []) leads.there (length_push p (k + 1) ∙ ap (λ n. n + 1) long) then in
     let whole : (p ++ (k + 1) ∷ []) ++ more.0 ≡ p ++ (k + 1) ∷ more.0 = append_assoc p ((k + 1) ∷ []) more.0 in
     let P : List ℕ → Type 0 = λ line. IsFilling sets clue line in
@@ -155,7 +163,7 @@ continued_step {sets} {after} {clue} {place} {k} {level} {mask} p inside continu
 -- the next value of a filling leads from its front's level to the next levels
 passing_step : {sets : List ℕ} {levels after : List (List ℕ)} {clue place level mask : ℕ} (p : List ℕ) (k : ℕ) (s : List ℕ) → place < length sets
     → AreReached sets clue place levels → AreContinued sets clue (place + 1) after → length p ≡ place → IsAtLevel sets clue level mask p
-    → IsFilling sets clue (p ++ (k + 1) ∷ s) → IsPassing (length sets) clue k levels after level mask
+    → IsFilling sets clue (p ++ (k + 1) ∷ s) → IsPassing place (length sets) clue k levels after level mask
 passing_step {sets} {levels} {after} {clue} {place} {level} {mask} p k s inside reached continued long at filling =
     let P : List ℕ → Type 0 = λ line. IsFilling sets clue line in
     let whole : (p ++ (k + 1) ∷ []) ++ s ≡ p ++ (k + 1) ∷ s = append_assoc p ((k + 1) ∷ []) s in
@@ -164,8 +172,8 @@ passing_step {sets} {levels} {after} {clue} {place} {level} {mask} p k s inside 
     let back = stepped p k then.1 in
     let same_level : back.level_before ≡ level = sym back.front.shown ∙ at.shown in
     let same_mask : back.mask_before ≡ mask = low_unique p back.front.used at.used in
-    let L : ℕ → Type 0 = λ l. IsStep (length sets) clue k l back.mask_before (seen (p ++ (k + 1) ∷ [])) then.0 in
-    let M : ℕ → Type 0 = λ m. IsStep (length sets) clue k level m (seen (p ++ (k + 1) ∷ [])) then.0 in
+    let L : ℕ → Type 0 = λ l. IsStep place (length sets) clue k l back.mask_before (seen (p ++ (k + 1) ∷ [])) then.0 in
+    let M : ℕ → Type 0 = λ m. IsStep place (length sets) clue k level m (seen (p ++ (k + 1) ∷ [])) then.0 in
     record {
       low = at.low;
       here = (reached level mask).1 (p, long, at);
@@ -173,7 +181,7 @@ passing_step {sets} {levels} {after} {clue} {place} {level} {mask} p k s inside 
         level_then = seen (p ++ (k + 1) ∷ []);
         mask_then = then.0;
         there = continued.all (seen (p ++ (k + 1) ∷ [])) then.0 (p ++ (k + 1) ∷ []) s (length_push p (k + 1) ∙ ap (λ n. n + 1) long) then.1 filling';
-        step = subst M same_mask (subst L same_level back.step);
+        step = subst M same_mask (subst L same_level (step_at long back.step));
       };
     }
 
@@ -219,7 +227,7 @@ parted_at {sets} {clue} {place} {value} h =
 
 -- its value is kept
 kept_part : {sets : List ℕ} {levels after : List (List ℕ)} {clue place value : ℕ} → place < length sets → AreReached sets clue place levels
-    → AreContinued sets clue (place + 1) after → IsParted sets clue place value → IsKeptBy (length sets) clue (get_or sets place 0) levels after value
+    → AreContinued sets clue (place + 1) after → IsParted sets clue place value → IsKeptBy place (length sets) clue (get_or sets place 0) levels after value
 kept_part {sets} {levels} {after} {clue} {place} {value} inside reached continued p =
     let at = front_level p.front ((p.k + 1) ∷ p.rest) (omega arith) p.filling in
     let V : ℕ → Type 0 = λ v. has_number (get_or sets place 0) v ≡ true in
@@ -236,7 +244,7 @@ kept_part {sets} {levels} {after} {clue} {place} {value} inside reached continue
 -- one value less
 pub before_continued : {sets : List ℕ} {clue place : ℕ} {levels after before : List (List ℕ)} → place < length sets → AreReached sets clue place levels
     → AreContinued sets clue (place + 1) after
-    → ((level mask : ℕ) → (has_at before level mask ≡ true) ↔ IsPassed (length sets) clue (get_or sets place 0) levels after level mask)
+    → ((level mask : ℕ) → (has_at before level mask ≡ true) ↔ IsPassed place (length sets) clue (get_or sets place 0) levels after level mask)
     → AreContinued sets clue place before
 before_continued {sets} {clue} {place} {levels} {after} {before} inside reached continued is = record {
   only = λ level mask line e long at.
@@ -262,7 +270,7 @@ before_continued {sets} {clue} {place} {levels} {after} {before} inside reached 
 -- the values that lead from some start with so many values to one that a filling begins with
 pub kept_supported : {sets : List ℕ} {clue place : ℕ} {levels after : List (List ℕ)} → place < length sets → AreReached sets clue place levels
     → AreContinued sets clue (place + 1) after → (value : ℕ)
-    → IsKeptBy (length sets) clue (get_or sets place 0) levels after value ↔ IsSupported sets clue place value
+    → IsKeptBy place (length sets) clue (get_or sets place 0) levels after value ↔ IsSupported sets clue place value
 kept_supported {sets} {clue} {place} {levels} {after} inside reached continued value = (
   λ h.
       let f = (reached h.level h.mask).0 h.passing.here in

@@ -18,11 +18,11 @@ use Rattle.tower_lines.proofs.StartLemmas.{start_next}
 pub is_in-push : (p : List ℕ) (x y : ℕ) → is_in y (p ++ x ∷ []) ≡ (is_in y p || eqb x y)
 is_in-push p x y = list_any-append (λ z. eqb z y) p (x ∷ []) ∙ ap (λ b. is_in y p || b) (or-false (eqb x y))
 
-pub is_in-push_same : (p : List ℕ) (k : ℕ) → is_in (k + 1) (p ++ (k + 1) ∷ []) ≡ true
-is_in-push_same p k = is_in-push p (k + 1) (k + 1) ∙ ap (λ b. is_in (k + 1) p || b) (eq-eqb (k + 1) (k + 1) refl) ∙ or-true (is_in (k + 1) p)
+pub is_in-push_same : (p : List ℕ) (x y : ℕ) → x ≡ y → is_in y (p ++ x ∷ []) ≡ true
+is_in-push_same p x y e = is_in-push p x y ∙ ap (λ b. is_in y p || b) (eq-eqb x y e) ∙ or-true (is_in y p)
 
-pub is_in-push_other : (p : List ℕ) (k j : ℕ) → j ≢ k → is_in (j + 1) (p ++ (k + 1) ∷ []) ≡ is_in (j + 1) p
-is_in-push_other p k j ne = is_in-push p (k + 1) (j + 1) ∙ ap (λ b. is_in (j + 1) p || b) (ne_eqb (k + 1) (j + 1) (λ e. ne (omega arith))) ∙ or-false (is_in (j + 1) p)
+pub is_in-push_other : (p : List ℕ) (x y : ℕ) → y ≢ x → is_in y (p ++ x ∷ []) ≡ is_in y p
+is_in-push_other p x y ne = is_in-push p x y ∙ ap (λ b. is_in y p || b) (ne_eqb x y (λ e. ne (sym e))) ∙ or-false (is_in y p)
 
 pub mask_none : IsMask 0 []
 mask_none = record { bits = λ k. has_number-none k }
@@ -30,8 +30,8 @@ mask_none = record { bits = λ k. has_number-none k }
 pub mask_more : {m k n : ℕ} (p : List ℕ) → IsMask m p → IsAdded m k n → IsMask n (p ++ (k + 1) ∷ [])
 mask_more {m} {k} {n} p h a = record {
   bits = λ j. elim (cases_eq j k) [
-    | inl same ↦ rw same (added_has a ∙ sym (is_in-push_same p k))
-    | inr other ↦ added_other a j other ∙ h.bits j ∙ sym (is_in-push_other p k j other)
+    | inl same ↦ rw same (added_has a ∙ sym (is_in-push_same p (k + 1) (k + 1) refl))
+    | inr other ↦ added_other a j other ∙ h.bits j ∙ sym (is_in-push_other p (k + 1) (j + 1) (λ e. other (omega arith)))
   ];
 }
 

@@ -1,5 +1,5 @@
 -- Sets of masks as words of 64 masks each: a word's masks one bit up or down, a set from its words.
-use Rattle.std.proofs.Common.{◌≡◌, ◌≢◌, ℕ, ◌+◌, ◌-◌, ◌*◌, ◌/◌, ◌%◌, ◌^◌, ◌<◌, ◌≤◌, ◌↔◌, inl, inr, Bool, true, false, not, ◌&&◌, eqb, leb, ltb, List, [], ◌∷◌, length, get_or, set, replicate, refl, sym, ap, ◌∙◌, arith, bit_and, w64}
+use Rattle.std.proofs.Common.{◌≡◌, ◌≢◌, ℕ, ◌+◌, ◌-◌, ◌*◌, ◌/◌, ◌%◌, ◌^◌, ◌<◌, ◌≤◌, ◌↔◌, inl, inr, Bool, true, false, not, ◌&&◌, eqb, leb, ltb, List, [], ◌∷◌, length, get_or, set, replicate, refl, sym, ap, ◌∙◌, arith, bit_and, count_ones, w64}
 use Rattle.std.specs.Bool.{MatchBool}
 use Rattle.std.specs.Int.{bit_at, bit_not, trailing_zeros}
 use Rattle.std.proofs.lemmas.Bool.{MatchBool-at_true, MatchBool-at_false, not-true, not_from_false, agree_below, agree_below_at, both_ways, cases_Bool, cases_eq, cases_lt, ne_eqb, ltb-true, lt-ltb, le-ltb, lt-leb, le-leb, false_from_ne_true}
@@ -193,6 +193,23 @@ pub word_without_past : (words : List ℕ) (i k b : ℕ) → b < 64 → 6 ≤ k 
 word_without_past words i k b h high small none past =
     ap (λ n. has_number n b) (sym (get_or_past words (i + step_of k) 0 past)) ∙ word_without_high words i k b h high small none
 
+-- ---- the masks of a word that have so many values
+
+abbrev pub with_count : ℕ → ℕ → ℕ
+with_count count i = get_or (get_or ((1 ∷ 0 ∷ []) ∷ (4295033110 ∷ 1 ∷ []) ∷ (282668995843688 ∷ 4295033110 ∷ []) ∷ (78274679833913472 ∷ 282668995843688 ∷ []) ∷ (1614655367130677248 ∷ 78274679833913472 ∷ []) ∷ (7530159316599308288 ∷ 1614655367130677248 ∷ []) ∷ (9223372036854775808 ∷ 7530159316599308288 ∷ []) ∷ (0 ∷ 9223372036854775808 ∷ []) ∷ (0 ∷ 0 ∷ []) ∷ []) count []) i 0
+
+-- whether a word of the masks with so many values is right
+abbrev is_counted : ℕ → ℕ → Bool
+is_counted count i = agree_below (λ b. has_number (with_count count i) b) (λ b. eqb (count_ones (64 * i + b)) count) 64
+
+pub has_number-with_count : (count i b : ℕ) → count < 9 → i < 2 → b < 64 → has_number (with_count count i) b ≡ eqb (count_ones (64 * i + b)) count
+unfolding lib.Count.ones
+has_number-with_count count i b few small h =
+    let words : agree_below (λ w. is_counted count w) (λ w. true) 2 ≡ true =
+    agree_below_at (λ j. agree_below (λ w. is_counted j w) (λ w. true) 2) (λ j. true) 9 count refl few in
+    let bits : is_counted count i ≡ true = agree_below_at (λ w. is_counted count w) (λ w. true) 2 i words small in
+    agree_below_at (λ n. has_number (with_count count i) n) (λ n. eqb (count_ones (64 * i + n)) count) 64 b bits h
+
 -- ---- the masks of a word that are below a power of two
 
 ltb_high : (k i b : ℕ) → 2 ^ k ≤ 64 * i → ltb (64 * i + b) (2 ^ k) ≡ false
@@ -330,10 +347,10 @@ not_empty masks empty test = (
       both_ways (has_mask masks r.0) (MatchBool-at_true ((m : ℕ) → has_mask masks m ≡ false) ((m : ℕ) × (has_mask masks m ≡ true)) e test r.0) r.1)),
 )
 
--- the masks of a line of at most seven squares are in one word
-pub one_word : (width : ℕ) → width ≤ 7 → 2 ^ (width - 1) ≤ 64
+-- the masks of a line of at most eight squares are in one word
+pub one_word : (width : ℕ) → width ≤ 8 → 2 ^ (width - 2) ≤ 64
 one_word width short =
     let some : 1 ≤ 2 = omega arith in
-    let few : width - 1 ≤ 6 = omega arith in
-    let most : 2 ^ (width - 1) ≤ 2 ^ 6 = pow-le-pow_right some few in
+    let few : width - 2 ≤ 6 = omega arith in
+    let most : 2 ^ (width - 2) ≤ 2 ^ 6 = pow-le-pow_right some few in
     omega arith

@@ -24,9 +24,8 @@ pub fn supported(sets: &[NumberSet], clue: u8) -> [NumberSet; 9]
 {
     match sets.len() {
         0 => no_values(),
-        1..=7 => supported_by::<1>(sets, clue),
-        8 => supported_by::<2>(sets, clue),
-        _ => supported_by::<4>(sets, clue),
+        1..=8 => supported_by::<1>(sets, clue),
+        _ => supported_by::<2>(sets, clue),
     }
 }
 
@@ -50,9 +49,8 @@ fn is_reached(sets: &[NumberSet], clue: u8) -> bool
 {
     match sets.len() {
         0 => clue == 0,
-        1..=7 => is_reached_by::<1>(sets, clue),
-        8 => is_reached_by::<2>(sets, clue),
-        _ => is_reached_by::<4>(sets, clue),
+        1..=8 => is_reached_by::<1>(sets, clue),
+        _ => is_reached_by::<2>(sets, clue),
     }
 }
 
@@ -61,8 +59,8 @@ fn is_reached_by<const W: usize>(sets: &[NumberSet], clue: u8) -> bool
     requires some { 0 < length sets.now }
     requires short { length sets.now ≤ 9 }
     requires clue { clue ≤ 9 }
-    requires room { 2 ^ (length sets.now - 1) ≤ 64 * W }
-    requires small { W ≤ 4 }
+    requires room { 2 ^ (length sets.now - 2) ≤ 64 * W }
+    requires small { W ≤ 2 }
     ensures { IsTrue result ↔ ((line : List ℕ) × IsFilling sets.now clue line) }
 {
     let starts = levels_of_starts::<W>(sets, clue);
@@ -75,8 +73,8 @@ fn supported_by<const W: usize>(sets: &[NumberSet], clue: u8) -> [NumberSet; 9]
     requires some { 0 < length sets.now }
     requires short { length sets.now ≤ 9 }
     requires clue { clue ≤ 9 }
-    requires room { 2 ^ (length sets.now - 1) ≤ 64 * W }
-    requires small { W ≤ 4 }
+    requires room { 2 ^ (length sets.now - 2) ≤ 64 * W }
+    requires small { W ≤ 2 }
     ensures { (place value : ℕ) → (has_number (slice_index result place) value ≡ true)
         ↔ IsSupported sets.now clue place value }
 {
@@ -95,8 +93,8 @@ fn levels_of_starts<const W: usize>(sets: &[NumberSet], clue: u8) -> [Levels<W>;
     requires some { 0 < length sets.now }
     requires short { length sets.now ≤ 9 }
     requires clue { clue ≤ 9 }
-    requires room { 2 ^ (length sets.now - 1) ≤ 64 * W }
-    requires small { W ≤ 4 }
+    requires room { 2 ^ (length sets.now - 2) ≤ 64 * W }
+    requires small { W ≤ 2 }
     ensures { (place : ℕ) → place ≤ length sets.now
         → AreReached sets.now clue place (slice_index_or result place []) }
 {

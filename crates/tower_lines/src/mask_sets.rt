@@ -1,6 +1,6 @@
-//! Sets of masks of values. Bit k of a mask stands for the value k + 1.
+//! Sets of masks of values. Bit k of a mask stands for the value k + 2, since the least value is in no mask.
 
-ghost use Rattle.std.specs.Prelude.{◌≡◌, ℕ, ◌+◌, ◌-◌, ◌*◌, ◌^◌, ◌<◌, ◌≤◌, ◌==◌, ◌&&◌, ◌||◌, true, false, not, nat_le, nat_lt, List};
+ghost use Rattle.std.specs.Prelude.{◌≡◌, ℕ, ◌+◌, ◌-◌, ◌*◌, ◌^◌, ◌<◌, ◌≤◌, ◌==◌, ◌&&◌, ◌||◌, true, false, not, nat_le, nat_lt, List, count_ones};
 ghost use Rattle.std.specs.Bool.{MatchBool};
 ghost use Rattle.number_sets.specs.Sets.{has_number};
 ghost use Rattle.tower_lines.specs.Inner.MaskSets.{has_mask};
@@ -15,6 +15,19 @@ const WITH_BIT: [u64; 6] = [
     0xff00_ff00_ff00_ff00,
     0xffff_0000_ffff_0000,
     0xffff_ffff_0000_0000,
+];
+
+// The masks below 128 that have so many values, from none to eight, as the words of a set.
+const WITH_COUNT: [[u64; 2]; 9] = [
+    [0x0000_0000_0000_0001, 0x0000_0000_0000_0000],
+    [0x0000_0001_0001_0116, 0x0000_0000_0000_0001],
+    [0x0001_0116_0116_1668, 0x0000_0001_0001_0116],
+    [0x0116_1668_1668_6880, 0x0001_0116_0116_1668],
+    [0x1668_6880_6880_8000, 0x0116_1668_1668_6880],
+    [0x6880_8000_8000_0000, 0x1668_6880_6880_8000],
+    [0x8000_0000_0000_0000, 0x6880_8000_8000_0000],
+    [0x0000_0000_0000_0000, 0x8000_0000_0000_0000],
+    [0x0000_0000_0000_0000, 0x0000_0000_0000_0000],
 ];
 
 /// A set of masks below 64 times `W`: bit b of word i stands for the mask 64 * i + b, so that one value more or less moves
@@ -98,6 +111,19 @@ impl<const W: usize> MaskSet<W> {
         ensures { (m : ℕ) → has_mask result m ≡ (has_mask self.now m && nat_le (2 ^ (bit + 1)) m) }
     {
         self.from(bit + 1)
+    }
+
+    /// The masks that have so many values.
+    pub fn of_count(&self, count: usize) -> Self
+        requires count { count ≤ 8 }
+        requires small { W ≤ 2 }
+        ensures { (m : ℕ) → has_mask result m ≡ (has_mask self.now m && (count_ones m == count)) }
+    {
+        let mut words = [0; W];
+        for i in 0..W {
+            words[i] = self.words[i] & WITH_COUNT[count][i];
+        }
+        MaskSet { words }
     }
 
     // The masks whose values are all lower than that of the bit.

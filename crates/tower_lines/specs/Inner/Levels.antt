@@ -1,15 +1,16 @@
--- Starts of a line by levels: how many towers they show, and which values they have but for the greatest of all, of the line's length.
--- Nothing after the greatest value is seen, so a start has it just where it shows all the towers of the clue: that is the last level.
-use Rattle.std.specs.Prelude.{◌≡◌, ℕ, ◌+◌, ◌^◌, ◌<◌, ◌≤◌, ◌⊎◌, ◌↔◌, true, false, ◌&&◌, nat_lt, List, ◌++◌, ◌-◌, length, slice_index, ◌==◌}
+-- Starts of a line by levels: how many towers they show, and which values they have but for the greatest of all, of the line's length, and
+-- the least, 1. Nothing after the greatest value is seen, so a start has it just where it shows all the towers of the clue: that is the last level.
+-- And whether a start has the least value is told by how many values it has.
+use Rattle.std.specs.Prelude.{◌≡◌, ℕ, ◌+◌, ◌^◌, ◌<◌, ◌≤◌, ◌⊎◌, ◌↔◌, true, false, ◌&&◌, nat_lt, List, ◌++◌, ◌-◌, length, slice_index, ◌==◌, count_ones}
 use Rattle.number_sets.specs.Sets.{has_number}
 use Rattle.tower_lines.specs.TowersSeen.{seen}
 use Rattle.tower_lines.specs.LineFillings.{IsStart, IsFilling}
 use Rattle.tower_lines.specs.Inner.LineMasks.{is_in}
 use Rattle.tower_lines.specs.Inner.MaskSets.{has_mask, has_at}
 
--- the list's values are those of the mask, but for the greatest
+-- the list's values are those of the mask, whose bit k stands for k + 2, but for the least and the greatest
 pub record IsLowMask (width mask : ℕ) (line : List ℕ) : Type 0 where
-  pub bits : (k : ℕ) → has_number mask k ≡ (nat_lt (k + 1) width && is_in (k + 1) line)
+  pub bits : (k : ℕ) → has_number mask k ≡ (nat_lt (k + 2) width && is_in (k + 2) line)
 
 -- the start is at the level
 pub record IsAtLevel (sets : List ℕ) (clue level mask : ℕ) (line : List ℕ) : Type 0 where
@@ -26,22 +27,38 @@ pub record IsLastStep (width clue k level mask level_then mask_then : ℕ) : Typ
   pub after : level_then ≡ clue
   pub same : mask_then ≡ mask
 
--- how a value below the greatest leads from one level to another: it is seen where it is above all of the mask, at any level but the last
+-- how the least value leads from a level of starts with so many values that lack it to another: it is seen where it is the first, and else hidden.
+-- A start has all its values in the mask but for the least, and for the greatest at the last level.
+abbrev pub IsLeastMove : ℕ → ℕ → ℕ → ℕ → ℕ → Type 0
+IsLeastMove place clue level mask level_then = ((place ≡ 0) × (level_then ≡ level + 1) × (level_then < clue))
+    ⊎ ((0 < place) × (level_then ≡ level) × (((level < clue) × (count_ones mask ≡ place)) ⊎ ((level ≡ clue) × (count_ones mask + 1 ≡ place))))
+
+-- the least value leads to the same mask
+pub record IsLeastStep (place width clue k level mask level_then mask_then : ℕ) : Type 0 where
+  pub value : k ≡ 0
+  pub more : 1 < width
+  pub same : mask_then ≡ mask
+  pub moves : IsLeastMove place clue level mask level_then
+
+-- how a value between them leads from one level to another: it is seen where it is above all of the mask, at any level but the last
 abbrev pub IsMove : ℕ → ℕ → ℕ → ℕ → ℕ → Type 0
 IsMove clue k level mask level_then = ((level ≡ clue) × (level_then ≡ clue))
     ⊎ (((level < clue) × (2 ^ k ≤ mask) × (level_then ≡ level)) ⊎ ((mask < 2 ^ k) × (level_then ≡ level + 1) × (level_then < clue)))
 
--- a value below the greatest leads from a mask that lacks it
+-- a value between them, that of the bit, leads from a mask that lacks it
 pub record IsLowStep (width clue k level mask level_then mask_then : ℕ) : Type 0 where
-  pub value : k + 1 < width
-  pub fresh : has_number mask k ≡ false
-  pub more : mask_then ≡ mask + 2 ^ k
-  pub moves : IsMove clue k level mask level_then
+  pub bit : ℕ
+  pub is : k ≡ bit + 1
+  pub value : bit + 2 < width
+  pub fresh : has_number mask bit ≡ false
+  pub more : mask_then ≡ mask + 2 ^ bit
+  pub moves : IsMove clue bit level mask level_then
 
--- the value k + 1 leads from a level and mask to others
-abbrev pub IsStep : ℕ → ℕ → ℕ → ℕ → ℕ → ℕ → ℕ → Type 0
-IsStep width clue k level mask level_then mask_then =
-    IsLastStep width clue k level mask level_then mask_then ⊎ IsLowStep width clue k level mask level_then mask_then
+-- the value k + 1 leads from a level and mask of starts with so many values to others
+abbrev pub IsStep : ℕ → ℕ → ℕ → ℕ → ℕ → ℕ → ℕ → ℕ → Type 0
+IsStep place width clue k level mask level_then mask_then =
+    IsLastStep width clue k level mask level_then mask_then
+    ⊎ (IsLeastStep place width clue k level mask level_then mask_then ⊎ IsLowStep width clue k level mask level_then mask_then)
 
 -- the value is a candidate of the square at the place
 abbrev pub IsCandidateAt : List ℕ → ℕ → ℕ → Type 0
@@ -60,20 +77,20 @@ pub record AreContinued (sets : List ℕ) (clue place : ℕ) (levels : List (Lis
       → IsFilling sets clue (line ++ rest) → has_at levels level mask ≡ true
 
 -- the value leads from the levels to the mask at the level
-pub record IsReachedBy (width clue k : ℕ) (levels : List (List ℕ)) (level_then mask_then : ℕ) : Type 0 where
+pub record IsReachedBy (place width clue k : ℕ) (levels : List (List ℕ)) (level_then mask_then : ℕ) : Type 0 where
   pub level : ℕ
   pub mask : ℕ
   pub here : has_at levels level mask ≡ true
-  pub step : IsStep width clue k level mask level_then mask_then
+  pub step : IsStep place width clue k level mask level_then mask_then
 
 -- the value leads from the mask at the level to the levels
-pub record LeadsTo (width clue k : ℕ) (levels : List (List ℕ)) (level mask : ℕ) : Type 0 where
+pub record LeadsTo (place width clue k : ℕ) (levels : List (List ℕ)) (level mask : ℕ) : Type 0 where
   pub level_then : ℕ
   pub mask_then : ℕ
   pub there : has_at levels level_then mask_then ≡ true
-  pub step : IsStep width clue k level mask level_then mask_then
+  pub step : IsStep place width clue k level mask level_then mask_then
 
--- a value below the greatest leads from some mask at the level to the one at the other
+-- a value between the least and the greatest leads from some mask at the level to the one at the other
 pub record IsMovedFrom (clue k : ℕ) (levels : List (List ℕ)) (level level_then mask_then : ℕ) : Type 0 where
   pub mask : ℕ
   pub here : has_at levels level mask ≡ true
@@ -81,7 +98,7 @@ pub record IsMovedFrom (clue k : ℕ) (levels : List (List ℕ)) (level level_th
   pub more : mask_then ≡ mask + 2 ^ k
   pub moves : IsMove clue k level mask level_then
 
--- a value below the greatest leads from the mask at the level to the levels
+-- a value between the least and the greatest leads from the mask at the level to the levels
 pub record LeadsLow (clue k : ℕ) (levels : List (List ℕ)) (level mask : ℕ) : Type 0 where
   pub level_then : ℕ
   pub there : has_at levels level_then (mask + 2 ^ k) ≡ true
@@ -97,40 +114,40 @@ pub record IsCommon (levels : List (List ℕ)) (set : List ℕ) (level mask : �
 abbrev pub AreAdded : (ℕ → ℕ → Type 0) → List (List ℕ) → List (List ℕ) → Type 0
 AreAdded Added old new = (level mask : ℕ) → (has_at new level mask ≡ true) ↔ ((has_at old level mask ≡ true) ⊎ Added level mask)
 
--- no mask of the levels has a value from the width on, and none has the greatest
+-- no mask of the levels has a value from the width on, and none has the least or the greatest
 abbrev pub AreLow : ℕ → List (List ℕ) → Type 0
-AreLow width levels = (level mask : ℕ) → has_at levels level mask ≡ true → mask < 2 ^ (width - 1)
+AreLow width levels = (level mask : ℕ) → has_at levels level mask ≡ true → mask < 2 ^ (width - 2)
 
 -- only levels that starts with so many values can show have masks: no more towers than values, and one at least where there is a value
 abbrev pub AreFew : ℕ → List (List ℕ) → Type 0
 AreFew place levels = (level mask : ℕ) → has_at levels level mask ≡ true → (level ≤ place) × (0 < place → 0 < level)
 
 -- some candidate leads from the levels to the mask at the level
-pub record IsReachedFrom (width clue values : ℕ) (levels : List (List ℕ)) (level mask : ℕ) : Type 0 where
+pub record IsReachedFrom (place width clue values : ℕ) (levels : List (List ℕ)) (level mask : ℕ) : Type 0 where
   pub k : ℕ
   pub inside : k < width
   pub candidate : has_number values (k + 1) ≡ true
-  pub reached : IsReachedBy width clue k levels level mask
+  pub reached : IsReachedBy place width clue k levels level mask
 
 -- a mask of the first levels, from which the value leads to the second
-pub record IsPassing (width clue k : ℕ) (fronts after : List (List ℕ)) (level mask : ℕ) : Type 0 where
+pub record IsPassing (place width clue k : ℕ) (fronts after : List (List ℕ)) (level mask : ℕ) : Type 0 where
   pub low : level ≤ clue
   pub here : has_at fronts level mask ≡ true
-  pub leads : LeadsTo width clue k after level mask
+  pub leads : LeadsTo place width clue k after level mask
 
 -- the same, from which some candidate leads there
-pub record IsPassed (width clue values : ℕ) (fronts after : List (List ℕ)) (level mask : ℕ) : Type 0 where
+pub record IsPassed (place width clue values : ℕ) (fronts after : List (List ℕ)) (level mask : ℕ) : Type 0 where
   pub k : ℕ
   pub inside : k < width
   pub candidate : has_number values (k + 1) ≡ true
-  pub passing : IsPassing width clue k fronts after level mask
+  pub passing : IsPassing place width clue k fronts after level mask
 
 -- a candidate that leads from some mask of the first levels to the second
-pub record IsKeptBy (width clue values : ℕ) (fronts after : List (List ℕ)) (value : ℕ) : Type 0 where
+pub record IsKeptBy (place width clue values : ℕ) (fronts after : List (List ℕ)) (value : ℕ) : Type 0 where
   pub k : ℕ
   pub is : value ≡ k + 1
   pub inside : k < width
   pub candidate : has_number values value ≡ true
   pub level : ℕ
   pub mask : ℕ
-  pub passing : IsPassing width clue k fronts after level mask
+  pub passing : IsPassing place width clue k fronts after level mask

@@ -13,7 +13,7 @@ loop-value-init g c =
     λ n. c.intersection-left.ensures.members n ∙ ap (λ b. has_number c.args.values n && b) (c.up_to.ensures.members n) in
     record {
       left = all_left c.args.width c.args.values left is;
-      added = given_none (λ k level mask. IsReachedBy c.args.width c.args.clue k c.args.levels.now level mask) c.args.width c.args.values left c.args.next.now is;
+      added = given_none (λ k level mask. IsReachedBy c.args.place c.args.width c.args.clue k c.args.levels.now level mask) c.args.width c.args.values left c.args.next.now is;
     }
 
 pub loop-value-smaller : goal.loop-value-smaller
@@ -30,13 +30,13 @@ loop-value-preserved g c =
     let here = c.in-Some.ensures.value.has in
     record {
       left = fewer_left c.args.width c.args.values left value others c.loop-value.invariant.left are;
-      added = given_more (λ k level mask. IsReachedBy c.args.width c.args.clue k c.args.levels.now level mask) c.args.width c.args.values left value others
+      added = given_more (λ k level mask. IsReachedBy c.args.place c.args.width c.args.clue k c.args.levels.now level mask) c.args.width c.args.values left value others
           c.args.next.now c.loop-value.next c.add_moved.new.next c.loop-value.invariant.left here are c.loop-value.invariant.added c.add_moved.ensures;
     }
 
 pub returns : goal.returns
 returns g c =
-    added_as _ (IsReachedFrom c.args.width c.args.clue c.args.values c.args.levels.now) c.args.next.now c.loop-value.next c.loop-value.invariant.added
+    added_as _ (IsReachedFrom c.args.place c.args.width c.args.clue c.args.values c.args.levels.now) c.args.next.now c.loop-value.next c.loop-value.invariant.added
     (λ level mask. (
       λ r. record { k = r.k; done = record { inside = r.inside; candidate = r.candidate; done = c.in_default.ensures.value (r.k + 1) }; given = r.reached },
       λ r. record { k = r.k; inside = r.done.inside; candidate = r.done.candidate; reached = r.given },

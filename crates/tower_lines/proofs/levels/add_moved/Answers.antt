@@ -1,53 +1,29 @@
--- One level after another gives the masks to which the value leads.
-use Rattle.std.proofs.Common.{◌≡◌, ℕ, ◌+◌, ◌-◌, ◌<◌, ◌≤◌, true, [], get_or, ap, ◌∙◌, subst, arith, rules}
+-- The greatest value, the least, and those between them.
+use Rattle.std.proofs.Common.{◌≡◌, ℕ, ◌-◌, true, [], get_or, ap, ◌∙◌, subst, arith}
 use Rattle.std.proofs.lemmas.List.{get_or_default}
 use Rattle.tower_lines.specs.Inner.MaskSets.{has_mask}
-use Rattle.tower_lines.specs.Inner.Levels.{AreAdded, IsMovedFrom, IsReachedBy}
-use Rattle.tower_lines.proofs.LevelMoves.{added_as, added_both, AreWith, IsFromBelow, with_is, low_room, top_reached, from_none, from_more, low_reached}
+use Rattle.tower_lines.specs.Inner.Levels.{AreAdded, IsReachedBy}
+use Rattle.tower_lines.proofs.LevelMoves.{added_as, top_reached, top_none}
 use Rattle.tower_lines.proofs.levels.add_moved.Goals as goal
 
 pub returns-then-last-gt0 : goal.returns-then-last-gt0
 returns-then-last-gt0 g c =
     let levels = c.args.levels.now in
     let clue = c.args.clue in
-    let k = c.args.bit in
+    let k = c.args.value - 1 in
     let last = c.from-last.result in
     let set = get_or levels (last - 1) c.index-levels-last.result in
     let is : set ≡ get_or levels (clue - 1) [] = get_or_default levels (last - 1) c.index-levels-last.result [] (omega arith) ∙ ap (λ (n : ℕ). get_or levels (n - 1) []) c.from-last.ensures in
     let P : ℕ → Type 0 = λ n. AreAdded (λ at mask. (at ≡ n) × (has_mask set mask ≡ true)) c.args.next.now c.add_at.new.next in
-    added_as (λ at mask. (at ≡ clue) × (has_mask set mask ≡ true)) (IsReachedBy c.args.width clue k levels) c.args.next.now c.add_at.new.next
+    added_as (λ at mask. (at ≡ clue) × (has_mask set mask ≡ true)) (IsReachedBy c.args.place c.args.width clue k levels) c.args.next.now c.add_at.new.next
     (subst P c.from-last.ensures c.add_at.ensures)
-    (top_reached c.args.width clue k levels set c.if-bit-width.true (omega arith) is)
+    (top_reached c.args.place c.args.width clue k levels set (omega arith) (omega arith) is)
 
-pub loop-level-init : goal.loop-level-init
-loop-level-init g c =
-    from_none c.args.clue c.args.bit c.args.place c.min-level.result c.args.levels.now c.args.next.now c.requires.few (λ i early. (omega arith, omega arith))
+pub returns-else-last-gt0 : goal.returns-else-last-gt0
+returns-else-last-gt0 g c = top_none c.args.place c.args.width c.args.clue (c.args.value - 1) c.args.levels.now c.args.next.now (omega arith) (omega arith)
 
-pub add_low-requires : goal.add_low-requires
-add_low-requires g c =
-    let room = low_room c.args.width c.args.bit g.row.W c.args.levels.now (omega arith) c.requires.room c.requires.low c.loop-level.level in
-    (search rules, (search rules, (omega arith, (omega arith, (omega arith, room)))))
-
-pub loop-level-preserved : goal.loop-level-preserved
-loop-level-preserved g c =
-    let levels = c.args.levels.now in
-    let P : ℕ → Type 0 = λ n. AreAdded (IsMovedFrom n c.args.bit levels c.loop-level.level) c.loop-level.next c.add_low.new.next in
-    from_more c.args.clue c.args.bit c.loop-level.level levels c.args.next.now c.loop-level.next c.add_low.new.next c.loop-level.invariant
-    (subst P c.from-last.ensures c.add_low.ensures)
-
-pub returns : goal.returns
-returns g c =
-    let levels = c.args.levels.now in
-    let clue = c.args.clue in
-    let k = c.args.bit in
-    let last = c.from-last.result in
-    let less : k + 1 < c.args.width = omega arith in
-    let from = get_or levels last c.index-levels-last-2.result in
-    let is : from ≡ get_or levels clue [] = get_or_default levels last c.index-levels-last-2.result [] (omega arith) ∙ ap (λ (n : ℕ). get_or levels n []) c.from-last.ensures in
-    let with : AreWith k levels clue c.with.result =
-    with_is k clue g.row.W levels from c.with.result is c.with.ensures.inside c.with.ensures.past (low_room c.args.width k g.row.W levels less c.requires.room c.requires.low clue) in
-    let P : ℕ → Type 0 = λ n. AreAdded (λ at mask. (at ≡ n) × (has_mask c.with.result mask ≡ true)) c.loop-level.next c.add_at-2.new.next in
-    let inside : (i : ℕ) → i < clue → i ≤ c.args.place → i < c.loop-level.level = λ i early little. omega arith in
-    added_both (IsFromBelow clue k levels c.loop-level.level) (λ at mask. (at ≡ clue) × (has_mask c.with.result mask ≡ true)) (IsReachedBy c.args.width clue k levels)
-    c.args.next.now c.loop-level.next c.add_at-2.new.next c.loop-level.invariant (subst P c.from-last.ensures c.add_at-2.ensures)
-    (low_reached c.args.width clue k c.args.place c.loop-level.level levels c.with.result less c.requires.few inside with)
+pub returns-then-value-eq1 : goal.returns-then-value-eq1
+returns-then-value-eq1 g c =
+    let least : 0 ≡ c.args.value - 1 = omega arith in
+    let P : ℕ → Type 0 = λ k. AreAdded (IsReachedBy c.args.place c.args.width c.args.clue k c.args.levels.now) c.args.next.now c.add_least.new.next in
+    subst P least c.add_least.ensures

@@ -1,87 +1,72 @@
--- One level after another has the masks from which the value leads on.
-use Rattle.std.proofs.Common.{◌≡◌, ℕ, ◌+◌, ◌-◌, ◌↔◌, true, false, [], get_or, ap, ◌∙◌, subst, arith}
+-- The greatest value, the least, and those between them.
+use Rattle.std.proofs.Common.{◌≡◌, ℕ, ◌+◌, ◌-◌, ◌↔◌, true, [], get_or, ap, ◌∙◌, subst, arith}
 use Rattle.std.proofs.lemmas.List.{get_or_default}
-use Rattle.tower_lines.specs.Inner.MaskSets.{has_mask, has_at}
-use Rattle.tower_lines.specs.Inner.Levels.{AreAdded, IsCommon, IsPassing, LeadsLow}
-use Rattle.tower_lines.proofs.LevelMoves.{AreBefore}
-use Rattle.tower_lines.proofs.LevelPasses.{last_leads, low_leads, shared_passing, top_added, top_some, IsLastOrBelow, last_alone, last_and_more, done_none, some_none, done_first, some_first, done_more, some_more, done_all, some_all, last_or_few}
+use Rattle.tower_lines.specs.Inner.Levels.{AreAdded, IsCommon, IsPassing}
+use Rattle.tower_lines.proofs.LevelMoves.{added_none}
+use Rattle.tower_lines.proofs.LevelPasses.{IsSome, shared_passing, top_leads, top_passing, top_stays, one_added, one_some}
 use Rattle.tower_lines.proofs.levels.add_passing.Goals as goal
 
 pub returns-then-last-gt0-clause-before : goal.returns-then-last-gt0-clause-before
 returns-then-last-gt0-clause-before g c =
+    let place = c.args.place in
+    let width = c.args.width in
     let clue = c.args.clue in
-    let last = c.from-last.result in
+    let k = c.args.value - 1 in
+    let top : k + 1 ≡ width = omega arith in
+    let fronts = c.args.levels.now in
     let after = c.args.after.now in
+    let last = c.from-last.result in
     let set = get_or after last c.index-after-last.result in
     let is : set ≡ get_or after clue [] = get_or_default after last c.index-after-last.result [] (omega arith) ∙ ap (λ (n : ℕ). get_or after n []) c.from-last.ensures in
-    let P : ℕ → Type 0 = λ n. AreAdded (λ level mask. (level ≡ n - 1) × IsCommon c.args.levels.now set (n - 1) mask) c.args.before.now c.add_common.new.before in
-    top_added c.args.width clue c.args.bit c.args.levels.now after set c.args.before.now c.add_common.new.before c.if-bit-width.true (omega arith) is
+    let P : ℕ → Type 0 = λ n. AreAdded (λ level mask. (level ≡ n - 1) × IsCommon fronts set (n - 1) mask) c.args.before.now c.add_common.new.before in
+    one_added (IsPassing place width clue k fronts after) (clue - 1) fronts c.args.before.now c.add_common.new.before set
+    (λ level mask. top_passing place width clue k level mask fronts after top)
+    (shared_passing place width clue k (clue - 1) fronts after set (omega arith) (top_leads place width clue k after set top (omega arith) is))
     (subst P c.from-last.ensures c.add_common.ensures.before)
 
 pub returns-then-last-gt0-clause-some : goal.returns-then-last-gt0-clause-some
 returns-then-last-gt0-clause-some g c =
+    let place = c.args.place in
+    let width = c.args.width in
     let clue = c.args.clue in
-    let last = c.from-last.result in
+    let k = c.args.value - 1 in
+    let top : k + 1 ≡ width = omega arith in
+    let fronts = c.args.levels.now in
     let after = c.args.after.now in
+    let last = c.from-last.result in
     let set = get_or after last c.index-after-last.result in
     let is : set ≡ get_or after clue [] = get_or_default after last c.index-after-last.result [] (omega arith) ∙ ap (λ (n : ℕ). get_or after n []) c.from-last.ensures in
-    let P : ℕ → Type 0 = λ n. (c.add_common.result ≡ true) ↔ ((mask : ℕ) × IsCommon c.args.levels.now set (n - 1) mask) in
-    top_some c.args.width clue c.args.bit c.args.levels.now after set c.add_common.result c.if-bit-width.true (omega arith) is
+    let P : ℕ → Type 0 = λ n. (c.add_common.result ≡ true) ↔ ((mask : ℕ) × IsCommon fronts set (n - 1) mask) in
+    one_some (IsPassing place width clue k fronts after) (clue - 1) fronts set c.add_common.result
+    (λ level mask. top_passing place width clue k level mask fronts after top)
+    (shared_passing place width clue k (clue - 1) fronts after set (omega arith) (top_leads place width clue k after set top (omega arith) is))
     (subst P c.from-last.ensures c.add_common.ensures.some)
 
-pub loop-level-init : goal.loop-level-init
-loop-level-init g c =
-    let clue = c.args.clue in
-    let last = c.from-last.result in
-    let fronts = c.args.levels.now in
-    let after = c.args.after.now in
-    let k = c.args.bit in
-    let from = get_or after last c.index-after-last-2.result in
-    let is : from ≡ get_or after clue [] = get_or_default after last c.index-after-last-2.result [] (omega arith) ∙ ap (λ (n : ℕ). get_or after n []) c.from-last.ensures in
-    let set = c.without.result in
-    let shared = shared_passing c.args.width clue k clue fronts after set (omega arith) (last_leads c.args.width clue k after from set (omega arith) is c.without.ensures) in
-    let Passing = IsPassing c.args.width clue k fronts after in
-    let P : ℕ → Type 0 = λ n. AreAdded (λ level mask. (level ≡ n) × IsCommon fronts set n mask) c.args.before.now c.add_common-some.new.before in
-    let Q : ℕ → Type 0 = λ n. (c.add_common-some.result ≡ true) ↔ ((mask : ℕ) × IsCommon fronts set n mask) in
-    let here : (level mask : ℕ) → Passing level mask → has_at fronts level mask ≡ true = λ level mask p. p.here in
-    let before : AreBefore c.args.place c.min-level.result = λ i early. (omega arith, omega arith) in
-    record {
-      added = done_first clue c.args.place c.min-level.result Passing fronts c.args.before.now c.add_common-some.new.before c.requires.few before here
-          (done_more (λ level. ⊥) (IsLastOrBelow clue 0) Passing clue fronts c.args.before.now c.args.before.now c.add_common-some.new.before set
-          (last_alone clue) shared (done_none Passing c.args.before.now) (subst P c.from-last.ensures c.add_common-some.ensures.before));
-      some = some_first clue c.args.place c.min-level.result Passing fronts c.add_common-some.result c.requires.few before here
-          (some_more (λ level. ⊥) (IsLastOrBelow clue 0) Passing clue fronts set false c.add_common-some.result
-          (last_alone clue) shared (some_none Passing) (subst Q c.from-last.ensures c.add_common-some.ensures.some));
-    }
+pub returns-else-last-gt0-clause-before : goal.returns-else-last-gt0-clause-before
+returns-else-last-gt0-clause-before g c =
+    added_none (IsPassing c.args.place c.args.width c.args.clue (c.args.value - 1) c.args.levels.now c.args.after.now) c.args.before.now
+    (λ level mask. top_stays c.args.place c.args.width c.args.clue (c.args.value - 1) level mask c.args.levels.now c.args.after.now (omega arith) (omega arith))
 
-pub loop-level-preserved : goal.loop-level-preserved
-loop-level-preserved g c =
-    let clue = c.args.clue in
-    let fronts = c.args.levels.now in
-    let after = c.args.after.now in
-    let k = c.args.bit in
-    let at = c.loop-level.level in
-    let set = c.moved_from.result in
-    let P : ℕ → Type 0 = λ n. (m : ℕ) → (has_mask set m ≡ true) ↔ LeadsLow n k after at m in
-    let shared = shared_passing c.args.width clue k at fronts after set (omega arith) (low_leads c.args.width clue k at after set (omega arith) (subst P c.from-last.ensures c.moved_from.ensures)) in
-    let Passing = IsPassing c.args.width clue k fronts after in
-    record {
-      added = done_more (IsLastOrBelow clue at) (IsLastOrBelow clue (at + 1)) Passing at fronts c.args.before.now c.loop-level.before c.add_common-some-in-loop-level.new.before set
-          (last_and_more clue at) shared c.loop-level.invariant.added c.add_common-some-in-loop-level.ensures.before;
-      some = some_more (IsLastOrBelow clue at) (IsLastOrBelow clue (at + 1)) Passing at fronts set c.loop-level.some c.add_common-some-in-loop-level.result
-          (last_and_more clue at) shared c.loop-level.invariant.some c.add_common-some-in-loop-level.ensures.some;
-    }
+pub returns-then-value-eq1-clause-before : goal.returns-then-value-eq1-clause-before
+returns-then-value-eq1-clause-before g c =
+    let least : 0 ≡ c.args.value - 1 = omega arith in
+    let P : ℕ → Type 0 = λ k. AreAdded (IsPassing c.args.place c.args.width c.args.clue k c.args.levels.now c.args.after.now) c.args.before.now c.add_least_passing.new.before in
+    subst P least c.add_least_passing.ensures.before
 
-pub returns-clause-before : goal.returns-clause-before
-returns-clause-before g c =
-    let all : (level mask : ℕ) → IsPassing c.args.width c.args.clue c.args.bit c.args.levels.now c.args.after.now level mask → IsLastOrBelow c.args.clue c.loop-level.level level =
-    λ level mask p. last_or_few c.args.clue c.args.place c.loop-level.level level p.low ((c.requires.few level mask p.here).0) (λ i early little. omega arith) in
-    done_all (IsLastOrBelow c.args.clue c.loop-level.level) (IsPassing c.args.width c.args.clue c.args.bit c.args.levels.now c.args.after.now)
-    c.args.before.now c.loop-level.before all c.loop-level.invariant.added
+pub returns-then-value-eq1-clause-some : goal.returns-then-value-eq1-clause-some
+returns-then-value-eq1-clause-some g c =
+    let least : 0 ≡ c.args.value - 1 = omega arith in
+    let P : ℕ → Type 0 = λ k. IsSome (IsPassing c.args.place c.args.width c.args.clue k c.args.levels.now c.args.after.now) c.add_least_passing.result in
+    subst P least c.add_least_passing.ensures.some
 
-pub returns-clause-some : goal.returns-clause-some
-returns-clause-some g c =
-    let all : (level mask : ℕ) → IsPassing c.args.width c.args.clue c.args.bit c.args.levels.now c.args.after.now level mask → IsLastOrBelow c.args.clue c.loop-level.level level =
-    λ level mask p. last_or_few c.args.clue c.args.place c.loop-level.level level p.low ((c.requires.few level mask p.here).0) (λ i early little. omega arith) in
-    some_all (IsLastOrBelow c.args.clue c.loop-level.level) (IsPassing c.args.width c.args.clue c.args.bit c.args.levels.now c.args.after.now)
-    c.loop-level.some all c.loop-level.invariant.some
+pub returns-else-value-eq1-clause-before : goal.returns-else-value-eq1-clause-before
+returns-else-value-eq1-clause-before g c =
+    let between : c.args.value - 2 + 1 ≡ c.args.value - 1 = omega arith in
+    let P : ℕ → Type 0 = λ k. AreAdded (IsPassing c.args.place c.args.width c.args.clue k c.args.levels.now c.args.after.now) c.args.before.now c.add_between_passing.new.before in
+    subst P between c.add_between_passing.ensures.before
+
+pub returns-else-value-eq1-clause-some : goal.returns-else-value-eq1-clause-some
+returns-else-value-eq1-clause-some g c =
+    let between : c.args.value - 2 + 1 ≡ c.args.value - 1 = omega arith in
+    let P : ℕ → Type 0 = λ k. IsSome (IsPassing c.args.place c.args.width c.args.clue k c.args.levels.now c.args.after.now) c.add_between_passing.result in
+    subst P between c.add_between_passing.ensures.some

@@ -11,7 +11,7 @@ use Rattle.tower_lines.proofs.levels.pass_back.Goals.{then-add_passing, else-add
 pub loop-value-init : goal.loop-value-init
 loop-value-init g c =
     let left = c.intersection-left.result in
-    let Passing : ℕ → ℕ → ℕ → Type 0 = λ k level mask. IsPassing c.args.width c.args.clue k c.args.levels.now c.args.after.now level mask in
+    let Passing : ℕ → ℕ → ℕ → Type 0 = λ k level mask. IsPassing c.args.place c.args.width c.args.clue k c.args.levels.now c.args.after.now level mask in
     let is : (n : ℕ) → has_number left n ≡ (has_number c.args.values n && (leb 1 n && leb n c.args.width)) =
     λ n. c.intersection-left.ensures.members n ∙ ap (λ b. has_number c.args.values n && b) (c.up_to.ensures.members n) in
     record {
@@ -33,7 +33,7 @@ loop-value-preserved g c =
     let value = c.in-Some.value in
     let others = c.difference-left.result in
     let kept = c.loop-value.kept in
-    let Passing : ℕ → ℕ → ℕ → Type 0 = λ k level mask. IsPassing width c.args.clue k c.args.levels.now c.args.after.now level mask in
+    let Passing : ℕ → ℕ → ℕ → Type 0 = λ k level mask. IsPassing c.args.place width c.args.clue k c.args.levels.now c.args.after.now level mask in
     let are : AreOthers left value others = λ n. c.difference-left.ensures n ∙ ap (λ b. has_number left n && not b) (c.one-in-Some.ensures.members n) in
     let here = c.in-Some.ensures.value.has in
     let inside = c.loop-value.invariant.left in
@@ -53,7 +53,7 @@ loop-value-preserved g c =
 
 pub returns-clause-before : goal.returns-clause-before
 returns-clause-before g c =
-    let Passed = IsPassed c.args.width c.args.clue c.args.values c.args.levels.now c.args.after.now in
+    let Passed = IsPassed c.args.place c.args.width c.args.clue c.args.values c.args.levels.now c.args.after.now in
     added_alone Passed c.no_levels-before.result c.loop-value.before c.no_levels-before.ensures
     (added_as _ Passed c.no_levels-before.result c.loop-value.before c.loop-value.invariant.added
     (λ level mask. (

@@ -30,7 +30,7 @@ pub add_levels-requires : goal.add_levels-requires
 add_levels-requires g c =
     let levels = get_or c.loop-place.starts c.loop-place.place [] in
     let reached = c.loop-place.invariant.reached c.loop-place.place (omega arith) in
-    (search rules, (search rules, (omega arith, (c.requires.short, (c.requires.clue, (c.requires.room, (reached_low levels reached, reached_few levels reached)))))))
+    (search rules, (search rules, (omega arith, (c.requires.short, (c.requires.clue, (c.requires.room, (c.requires.small, (reached_low levels reached, reached_few levels reached))))))))
 
 pub loop-place-preserved : goal.loop-place-preserved
 loop-place-preserved g c =
@@ -42,9 +42,9 @@ loop-place-preserved g c =
     let inside : place < length sets = omega arith in
     let before = c.loop-place.invariant.reached place (omega arith) in
     let values : c.index-sets-place.result ≡ get_or sets place 0 = c.index-sets-place.is ∙ get_or_default_zero sets place c.index-sets-place.result inside in
-    let reached = added_alone (IsReachedFrom (length sets) clue c.index-sets-place.result (get_or starts place [])) (get_or starts (place + 1) []) next
+    let reached = added_alone (IsReachedFrom place (length sets) clue c.index-sets-place.result (get_or starts place [])) (get_or starts (place + 1) []) next
     (λ level mask. c.loop-place.invariant.none (place + 1) level mask (omega arith) (omega arith)) c.add_levels.ensures in
-    let S : ℕ → Type 0 = λ v. (level mask : ℕ) → (has_at next level mask ≡ true) ↔ IsReachedFrom (length sets) clue v (get_or starts place []) level mask in
+    let S : ℕ → Type 0 = λ v. (level mask : ℕ) → (has_at next level mask ≡ true) ↔ IsReachedFrom place (length sets) clue v (get_or starts place []) level mask in
     let after : AreReached sets clue (place + 1) next = next_reached next inside before (subst S values reached) in
     let others : (p : ℕ) → p ≢ place + 1 → get_or (set starts (place + 1) next) p [] ≡ get_or starts p [] =
     λ p other. get_or-set_other starts (place + 1) p next [] other in

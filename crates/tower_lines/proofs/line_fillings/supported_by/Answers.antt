@@ -38,7 +38,7 @@ pub pass_back-requires : goal.pass_back-requires
 pass_back-requires g c =
     let at = c.loop-place.place - 1 in
     let few = reached_few (get_or c.levels_of_starts-starts.result at []) (c.levels_of_starts-starts.ensures at (omega arith)) in
-    (search rules, (search rules, (omega (arith, c.loop-place.invariant.inside), (c.requires.short, (c.requires.clue, few)))))
+    (search rules, (search rules, (omega (arith, c.loop-place.invariant.inside), (c.requires.short, (c.requires.clue, (c.requires.small, few))))))
 
 pub loop-place-preserved : goal.loop-place-preserved
 loop-place-preserved g c =
@@ -54,8 +54,8 @@ loop-place-preserved g c =
     let values : c.index-sets-place.result ≡ get_or sets at 0 = c.index-sets-place.is ∙ get_or_default_zero sets at c.index-sets-place.result inside in
     let C : ℕ → Type 0 = λ p. AreContinued sets clue p after in
     let continued = subst C next c.loop-place.invariant.continued in
-    let B : ℕ → Type 0 = λ v. (level mask : ℕ) → (has_at c.pass_back.new.after level mask ≡ true) ↔ IsPassed (length sets) clue v levels after level mask in
-    let K : ℕ → Type 0 = λ v. (value : ℕ) → (has_number c.pass_back.result value ≡ true) ↔ IsKeptBy (length sets) clue v levels after value in
+    let B : ℕ → Type 0 = λ v. (level mask : ℕ) → (has_at c.pass_back.new.after level mask ≡ true) ↔ IsPassed at (length sets) clue v levels after level mask in
+    let K : ℕ → Type 0 = λ v. (value : ℕ) → (has_number c.pass_back.result value ≡ true) ↔ IsKeptBy at (length sets) clue v levels after value in
     let passed = subst B values c.pass_back.ensures.before in
     let kept_here = subst K values c.pass_back.ensures.kept in
     let long : at < length kept = omega (arith, c.loop-place.invariant.long) in

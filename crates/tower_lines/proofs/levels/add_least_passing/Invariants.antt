@@ -1,0 +1,10 @@
+use Rattle.tower_lines.specs.Inner.Levels.{AreAdded, IsPassing}
+use Rattle.tower_lines.proofs.LevelPasses.{IsLastOrBelow, IsDoneAt, IsSome}
+use Rattle.tower_lines.proofs.levels.add_least_passing.Given as goal
+
+-- the last level and those below this one are done
+abbrev pub invariant-loop-level : goal.invariant-loop-level
+invariant-loop-level g l = record {
+  added : AreAdded (IsDoneAt (IsLastOrBelow l.clue l.level) (IsPassing l.place l.width l.clue 0 l.levels l.after)) l.fn.before l.before;
+  some : IsSome (IsDoneAt (IsLastOrBelow l.clue l.level) (IsPassing l.place l.width l.clue 0 l.levels l.after)) l.some;
+}
