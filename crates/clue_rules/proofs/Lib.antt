@@ -6,6 +6,7 @@ pub mod KeptCandidates
 pub mod KeptItemLemmas
 pub mod LineSteps
 pub mod LineTallying
+pub mod LowTowers
 pub mod Narrowings
 pub mod ParameterLemmas
 pub mod PieceLemmas

@@ -8,6 +8,7 @@ ghost use Rattle.clue_rules.specs.Laws.TowersSameness.{same_towers, same_towers_
 mod description;
 mod game;
 mod lines;
+mod low_towers;
 mod rules;
 
 use latin_board::Grid;

@@ -33,3 +33,7 @@ AreSupported w clue sets kept = (k v : ℕ) → k < w → has_number (slice_inde
 -- each value that some filling has is kept
 abbrev pub KeepSupported : ℕ → ℕ → List ℕ → List ℕ → Type 0
 KeepSupported w clue sets kept = (k v : ℕ) → IsSupported (take w sets) clue k v → has_number (slice_index kept k) v ≡ true
+
+-- a grid of the width that shows as many towers from a place as the clue says, if there is one
+abbrev pub MeetsClue : ℕ → ℕ → ℕ → GridValue → Type 0
+MeetsClue w place clue g = (g.size ≡ w) × (0 < clue → ShowsClue place clue g)

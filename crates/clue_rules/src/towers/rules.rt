@@ -101,6 +101,7 @@ impl Rules for Towers {
             (NoneLeft (IsTowersStruck self.now) candidates.old candidates.new) }
     {
         keep_givens(candidates, self.givens());
+        self.keep_low_towers(candidates);
         narrow_by_lines(self, candidates)
     }
 

@@ -1,4 +1,4 @@
-use Rattle.std.proofs.Common.{ℕ, ◌+◌, ◌≡◌, ◌∙◌, ap}
+use Rattle.std.proofs.Common.{◌+◌, ◌≡◌, ◌∙◌, ap}
 use Rattle.latin_board.specs.Lines.{line_cell}
 use Rattle.clue_rules.proofs.Narrowings.{below_more}
 use Rattle.clue_rules.proofs.unequal.lines.UnequalLineRules.strike_along.Goals as goal
