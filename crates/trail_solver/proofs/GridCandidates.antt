@@ -11,7 +11,6 @@ use Rattle.trail_solver.specs.declared.answer.Answer.TheVariants.{None}
 use Rattle.trail_solver.specs.Completions.{AreOfGrid, Completes, Keeps}
 use Rattle.trail_solver.specs.Inner.Among.{IsAmong}
 use Rattle.trail_solver.specs.Inner.Squares.{KeepsOnly}
-use Rattle.trail_solver.specs.Inner.Searches.{AreSame}
 use Rattle.trail_solver.proofs.FilledGrids.{solution_pair}
 use Rattle.trail_solver.proofs.JoinedAnswers.{adds_same}
 
@@ -92,10 +91,7 @@ among_completes p g h c of size =
     (λ m. (m.0, kept_of_within p g h c of size m.0 m.1), λ m. (m.0, within_of_kept p g h c of size m.0 m.1))
 
 -- what a search among the grid's candidates answers
-pub completions_fit : (p : Puzzle) (g : GridValue) (c next : CandidatesValue) (answer : Answer) → AreOfGrid g c → g.size ≡ p.size
-    → AreSame (IsAmong p c) (IsAmong p next) → Fits (IsAmong p next) answer → Fits (Completes p g) answer
-completions_fit p g c next answer of size same fits =
-    adds_same (IsAmong p next) (Completes p g) None answer
-    (λ h m. (among_completes p g h c of size).0 ((same h).1 m))
-    (λ h m. (same h).0 ((among_completes p g h c of size).1 m))
-    fits
+pub completions_fit : (p : Puzzle) (g : GridValue) (c : CandidatesValue) (answer : Answer) → AreOfGrid g c → g.size ≡ p.size
+    → Fits (IsAmong p c) answer → Fits (Completes p g) answer
+completions_fit p g c answer of size fits =
+    adds_same (IsAmong p c) (Completes p g) None answer (λ h. (among_completes p g h c of size).0) (λ h. (among_completes p g h c of size).1) fits

@@ -32,12 +32,11 @@ pub fn grid_candidates(grid: &Grid) -> Candidates
 
 /// How many solutions keep the numbers that stand on the grid, with the only one or with two of them. The grid has the
 /// puzzle's size, and need not have its givens. It takes no memory.
+#[tactic(auto, using(crate::proofs::GridCandidates::completions_fit))]
 pub fn completion<P: Rules>(p: &P, grid: &Grid) -> Answer
     requires { grid.now.size ≡ (P.puzzle p.now).size }
     ensures { Fits (Completes (P.puzzle p.now) grid.now) result }
 {
-    match Search::start_among(p, grid_candidates(grid)) {
-        Some(mut search) => search.answer(),
-        None => Answer::None,
-    }
+    let mut search = Search::among(p, grid_candidates(grid));
+    search.settled_answer()
 }

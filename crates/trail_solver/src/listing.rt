@@ -10,6 +10,7 @@ ghost use Rattle.trail_solver.specs.Inner.Listed.{Lists};
 ghost use Rattle.trail_solver.specs.declared.listing.TheConstants.{MOST_LISTED};
 
 use crate::answer::Answer;
+use crate::candidates::Candidates;
 use crate::choice::first_open;
 use crate::rules::{Rules, solves};
 use crate::search::Search;
@@ -30,15 +31,14 @@ pub fn solutions<P: Rules>(alloc: Global, p: &P, limit: u8) -> Result<Vec<Grid>,
     requires most { limit ≤ MOST_LISTED }
     ensures { IfOk result (λ listed. AreFirst (Solves (P.puzzle p.now)) limit listed.items) }
 {
-    let Some(search) = Search::start(p) else {
-        return Ok(Vec::new(alloc));
-    };
     let mut listing = Listing {
-        search,
+        search: Search::among(p, Candidates::all(p.size())),
         limit,
         listed: Vec::new(alloc),
     };
-    listing.list()?;
+    if listing.search.settle() {
+        listing.list()?;
+    }
     Ok(listing.listed)
 }
 

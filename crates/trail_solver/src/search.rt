@@ -7,7 +7,6 @@ ghost use Rattle.trail_solver.specs.Candidates.{IsWithin};
 ghost use Rattle.trail_solver.specs.Inner.Squares.{AreSettled, IsBranch};
 ghost use Rattle.trail_solver.specs.Inner.Among.{IsAmong, IsAmongAt};
 ghost use Rattle.trail_solver.specs.Puzzles.{Solves};
-ghost use Rattle.trail_solver.specs.Solutions.{HasNoSolution, HasNoSolutionWithin};
 ghost use Rattle.trail_solver.specs.Inner.Runs.{RunAdds};
 ghost use Rattle.trail_solver.specs.declared.answer.Answer.{Answer};
 ghost use Rattle.trail_solver.specs.Inner.Searches.{AreSame, IsFurther};
@@ -50,32 +49,29 @@ impl<P: Rules> Model for Search<P> {
 }
 
 impl<P: Rules> Search<P> {
-    /// The search of a puzzle at its start, or `None` where narrowing finds that there is no solution.
-    pub fn start(p: &P) -> Option<Search<P>>
-        ensures { MatchOption result (HasNoSolution (P.puzzle p.now))
-            (λ s. (s.rules ≡ p.now) × ((g : GridValue) → Solves (P.puzzle p.now) g
-            → IsWithin s.candidates g)) }
-    {
-        Search::start_among(p, Candidates::all(p.size()))
-    }
-
-    /// The search among these candidates at its start, or `None` where narrowing finds that no solution is among them; the
-    /// sizes are equal.
-    pub fn start_among(p: &P, candidates: Candidates) -> Option<Search<P>>
+    /// A search of the puzzle among these candidates, of which nothing is narrowed yet; the sizes are equal.
+    pub fn among(p: &P, candidates: Candidates) -> Search<P>
         requires { candidates.size ≡ (P.puzzle p.now).size }
-        ensures { MatchOption result (HasNoSolutionWithin (P.puzzle p.now) candidates)
-            (λ s. (s.rules ≡ p.now) × AreSame (IsAmong (P.puzzle p.now) candidates)
-            (IsAmong (P.puzzle p.now) s.candidates)) }
+        ensures rules { result.rules ≡ p.now }
+        ensures candidates { result.candidates ≡ candidates }
     {
-        let mut candidates = candidates;
-        if !p.narrow(&mut candidates) {
-            return None;
-        }
-        Some(Search {
+        Search {
             rules: *p,
             candidates,
             failures: Failures::none(),
-        })
+        }
+    }
+
+    /// Narrows the candidates by all that the puzzle asks; false where that finds that no solution is among them.
+    #[tactic(auto, using(crate::proofs::AmongCandidates::among_narrowed, crate::proofs::AmongCandidates::among_earlier))]
+    pub fn settle(&mut self) -> bool
+        ensures further { IsFurther self.old self.new }
+        ensures same { AreSame (IsAmong (P.puzzle self.old.rules) self.old.candidates)
+            (IsAmong (P.puzzle self.new.rules) self.new.candidates) }
+        ensures refutes { OnFalse result ((g : GridValue)
+            → IsAmong (P.puzzle self.old.rules) self.old.candidates g → ⊥) }
+    {
+        self.rules.narrow(&mut self.candidates)
     }
 
     // Adds the solutions among the candidates to those that were found, or leaves off where the failures reach the limit.
@@ -152,6 +148,17 @@ impl<P: Rules> Search<P> {
         match self.attempt(None) {
             Some(answer) => answer,
             None => unreachable!(),
+        }
+    }
+
+    /// How many solutions there are among the candidates, which it narrows first.
+    pub fn settled_answer(&mut self) -> Answer
+        ensures { Fits (IsAmong (P.puzzle self.old.rules) self.old.candidates) result }
+    {
+        if self.settle() {
+            self.answer()
+        } else {
+            Answer::None
         }
     }
 

@@ -3,6 +3,7 @@ ghost use Rattle.trail_solver.specs.Puzzles.{Solves};
 ghost use Rattle.trail_solver.specs.Answers.{Fits};
 
 use crate::answer::Answer;
+use crate::candidates::Candidates;
 use crate::rules::Rules;
 use crate::search::Search;
 
@@ -10,8 +11,6 @@ use crate::search::Search;
 pub fn solve<P: Rules>(p: &P) -> Answer
     ensures { Fits (Solves (P.puzzle p.now)) result }
 {
-    match Search::start(p) {
-        Some(mut search) => search.answer(),
-        None => Answer::None,
-    }
+    let mut search = Search::among(p, Candidates::all(p.size()));
+    search.settled_answer()
 }
