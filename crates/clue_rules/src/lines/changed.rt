@@ -63,6 +63,40 @@ impl Lines {
     }
 }
 
+// The row of a square: a division by a number that is known beforehand takes far less time.
+fn row_of(size: Size, cell: usize) -> u8
+    requires { cell < size * size }
+    ensures { result ≡ cell / size }
+{
+    let cell = cell as u8;
+    match size.get() {
+        3 => cell / 3,
+        4 => cell / 4,
+        5 => cell / 5,
+        6 => cell / 6,
+        7 => cell / 7,
+        8 => cell / 8,
+        _ => cell / 9,
+    }
+}
+
+// The column of a square, in the same way.
+fn column_of(size: Size, cell: usize) -> u8
+    requires { cell < size * size }
+    ensures { result ≡ cell % size }
+{
+    let cell = cell as u8;
+    match size.get() {
+        3 => cell % 3,
+        4 => cell % 4,
+        5 => cell % 5,
+        6 => cell % 6,
+        7 => cell % 7,
+        8 => cell % 8,
+        _ => cell % 9,
+    }
+}
+
 /// The lines that lost candidates since they were looked at: by what rows and columns say, and by what the game's own
 /// rule says.
 #[derive(Clone, Copy)]
@@ -88,9 +122,8 @@ impl ChangedLines {
         ensures latin { GainsLinesOf size cell self.old.latin self.new.latin }
         ensures rule { GainsLinesOf size cell self.old.rule self.new.rule }
     {
-        let width = size.get() as usize;
-        let row = (cell / width) as u8;
-        let column = (width + cell % width) as u8;
+        let row = row_of(size, cell);
+        let column = size.get() + column_of(size, cell);
         self.latin.insert(row);
         self.latin.insert(column);
         self.rule.insert(row);
