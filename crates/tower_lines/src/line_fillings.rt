@@ -1,8 +1,9 @@
 //! The values that each square of a line with a clue can take.
 
-ghost use Rattle.std.specs.Prelude.{◌≡◌, ℕ, ◌-◌, ◌*◌, ◌^◌, ◌<◌, ◌≤◌, ◌↔◌, true, [], length, replicate, slice_index, slice_index_or, IsTrue, List};
+ghost use Rattle.std.specs.Prelude.{◌≡◌, ℕ, ◌-◌, ◌*◌, ◌^◌, ◌<◌, ◌≤◌, ◌↔◌, true, false, [], length, replicate, slice_index, slice_index_or, IsTrue, List};
 ghost use Rattle.number_sets.specs.Sets.{has_number, no_numbers};
 ghost use Rattle.tower_lines.specs.LineFillings.{IsFilling, IsSupported};
+ghost use Rattle.tower_lines.specs.Inner.MaskSets.{has_at};
 ghost use Rattle.tower_lines.specs.Inner.Levels.{AreReached};
 
 use crate::levels::{Levels, add_levels, first_levels, no_levels, pass_back};
@@ -63,7 +64,8 @@ fn is_reached_by<const W: usize>(sets: &[NumberSet], clue: u8) -> bool
     requires small { W ≤ 2 }
     ensures { IsTrue result ↔ ((line : List ℕ) × IsFilling sets.now clue line) }
 {
-    let starts = levels_of_starts::<W>(sets, clue);
+    let mut starts = [no_levels(); 10];
+    add_starts::<W>(sets, clue, &mut starts);
     let whole = &starts[sets.len()];
     !whole[usize::from(clue)].is_empty()
 }
@@ -79,7 +81,8 @@ fn supported_by<const W: usize>(sets: &[NumberSet], clue: u8) -> [NumberSet; 9]
         ↔ IsSupported sets.now clue place value }
 {
     let width = sets.len() as u8;
-    let starts = levels_of_starts::<W>(sets, clue);
+    let mut starts = [no_levels(); 10];
+    add_starts::<W>(sets, clue, &mut starts);
     let mut after = starts[sets.len()];
     let mut kept = no_values();
     for place in (0..sets.len()).rev() {
@@ -88,31 +91,23 @@ fn supported_by<const W: usize>(sets: &[NumberSet], clue: u8) -> [NumberSet; 9]
     kept
 }
 
-// For each number of places the levels of the starts that have so many values.
-fn levels_of_starts<const W: usize>(sets: &[NumberSet], clue: u8) -> [Levels<W>; 10]
+// Puts for each number of places the levels of the starts that have so many values where no level has a mask yet.
+fn add_starts<const W: usize>(sets: &[NumberSet], clue: u8, starts: &mut [Levels<W>; 10])
     requires some { 0 < length sets.now }
     requires short { length sets.now ≤ 9 }
     requires clue { clue ≤ 9 }
     requires room { 2 ^ (length sets.now - 2) ≤ 64 * W }
     requires small { W ≤ 2 }
+    requires blank { (place level mask : ℕ) → place < 10 → has_at (slice_index_or starts.old place []) level mask ≡ false }
     ensures { (place : ℕ) → place ≤ length sets.now
-        → AreReached sets.now clue place (slice_index_or result place []) }
+        → AreReached sets.now clue place (slice_index_or starts.new place []) }
 {
     let width = sets.len() as u8;
-    let mut starts = [no_levels(); 10];
     starts[0] = first_levels(clue);
     for place in 0..sets.len() {
-        let levels = starts[place];
-        add_levels(
-            &levels,
-            place,
-            width,
-            clue,
-            sets[place],
-            &mut starts[place + 1],
-        );
+        let (done, next) = starts.split_at_mut(place + 1);
+        add_levels(&done[place], place, width, clue, sets[place], &mut next[0]);
     }
-    starts
 }
 
 // No value for any square.

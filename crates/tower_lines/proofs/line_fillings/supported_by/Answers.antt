@@ -27,7 +27,7 @@ loop-place-init g c =
     record {
       long = ap (λ (k : List ℕ). length k) c.no_values-kept.ensures;
       inside = omega arith;
-      continued = last_continued c.requires.some (c.levels_of_starts-starts.ensures (length sets) (omega arith));
+      continued = last_continued c.requires.some (c.add_starts.ensures (length sets) (omega arith));
       done = λ place value past. (
         λ e. absurd (both_ways (has_number (get_or kept place 0) value) (none_kept kept c.no_values-kept.ensures place value) e),
         λ s. absurd (let within = s.inside in omega arith),
@@ -37,7 +37,7 @@ loop-place-init g c =
 pub pass_back-requires : goal.pass_back-requires
 pass_back-requires g c =
     let at = c.loop-place.place - 1 in
-    let few = reached_few (get_or c.levels_of_starts-starts.result at []) (c.levels_of_starts-starts.ensures at (omega arith)) in
+    let few = reached_few (get_or c.add_starts.new.starts at []) (c.add_starts.ensures at (omega arith)) in
     (search rules, (search rules, (omega (arith, c.loop-place.invariant.inside), (c.requires.short, (c.requires.clue, (c.requires.small, few))))))
 
 pub loop-place-preserved : goal.loop-place-preserved
@@ -46,11 +46,11 @@ loop-place-preserved g c =
     let clue = c.args.clue in
     let kept = c.loop-place.kept in
     let at = c.loop-place.place - 1 in
-    let levels = get_or c.levels_of_starts-starts.result at [] in
+    let levels = get_or c.add_starts.new.starts at [] in
     let after = c.loop-place.after in
     let inside : at < length sets = omega (arith, c.loop-place.invariant.inside) in
     let next : c.loop-place.place ≡ at + 1 = omega arith in
-    let reached = c.levels_of_starts-starts.ensures at (omega arith) in
+    let reached = c.add_starts.ensures at (omega arith) in
     let values : c.index-sets-place.result ≡ get_or sets at 0 = c.index-sets-place.is ∙ get_or_default_zero sets at c.index-sets-place.result inside in
     let C : ℕ → Type 0 = λ p. AreContinued sets clue p after in
     let continued = subst C next c.loop-place.invariant.continued in

@@ -1,7 +1,7 @@
 use Rattle.std.proofs.Common.{◌≡◌, ℕ, ◌<◌, ◌≤◌, false, [], length, get_or}
 use Rattle.tower_lines.specs.Inner.MaskSets.{has_at}
 use Rattle.tower_lines.specs.Inner.Levels.{AreReached}
-use Rattle.tower_lines.proofs.line_fillings.levels_of_starts.Given as goal
+use Rattle.tower_lines.proofs.line_fillings.add_starts.Given as goal
 
 -- the places up to this one are done, and those after it have no mask
 abbrev pub invariant-loop-place : goal.invariant-loop-place
