@@ -1,12 +1,10 @@
 //! A search: the rules of a puzzle, the candidates that are left, and where it failed.
-ghost use Rattle.std.specs.Prelude.{◌≡◌, ◌*◌, ◌<◌, length, MatchOption};
+ghost use Rattle.std.specs.Prelude.{◌≡◌, ◌*◌, ◌<◌, length};
 ghost use Rattle.std.specs.Bool.{OnFalse};
 ghost use Rattle.latin_board.specs.Squares.{GridValue};
 ghost use Rattle.trail_solver.specs.declared.trail.TheConstants.{PAIRS};
-ghost use Rattle.trail_solver.specs.Candidates.{IsWithin};
 ghost use Rattle.trail_solver.specs.Inner.Squares.{AreSettled, IsBranch};
 ghost use Rattle.trail_solver.specs.Inner.Among.{IsAmong, IsAmongAt};
-ghost use Rattle.trail_solver.specs.Puzzles.{Solves};
 ghost use Rattle.trail_solver.specs.Inner.Runs.{RunAdds};
 ghost use Rattle.trail_solver.specs.declared.answer.Answer.{Answer};
 ghost use Rattle.trail_solver.specs.Inner.Searches.{AreSame, IsFurther};
