@@ -7,8 +7,7 @@ use Rattle.trail_solver.specs.Candidates.{CandidatesValue, IsEarlier, IsWithin, 
 use Rattle.trail_solver.specs.Puzzles.{Puzzle}
 use Rattle.trail_solver.specs.Solutions.{HasNoSolutionWithin, KeepsSolutions}
 use Rattle.trail_solver.specs.Completions.{AreOfGrid, Completes}
-use Rattle.clue_rules.specs.Struck.{NoneLeft}
-use Rattle.trail_solver.proofs.Earlier.{earlier_trans, stays_gone, within_earlier}
+use Rattle.trail_solver.proofs.Earlier.{within_earlier}
 use Rattle.trail_solver.proofs.FilledGrids.{solution_pair}
 use Rattle.trail_solver.proofs.GridCandidates.{within_of_kept}
 use Rattle.board_checks.specs.Hints.{AreNarrowed, FollowsAt, HaveNoneLast, IsDeduced, IsForced, IsSound, IsSoonest}
@@ -72,23 +71,6 @@ none_forced p Strikes g c cell narrowed none forced =
         alone = λ u low high left. is u low high left ∙ sym (is some.0 some.1.low some.1.high some.2);
       };
     })
-
--- ---- narrowed once, and then to the end
-
-pub kept_twice : (p : Puzzle) (a b c : CandidatesValue) → KeepsSolutions p a b → KeepsSolutions p b c → KeepsSolutions p a c
-kept_twice p a b c h k g s within = k g s (h g s within)
-
-pub narrowed_twice : (p : Puzzle) (Strikes : CandidatesValue → ℕ → ℕ → Type 0) (g : GridValue) (start mid c : CandidatesValue) → AreOfGrid g start
-    → IsEarlier start mid → IsEarlier mid c → KeepsSolutions p start mid → KeepsSolutions p mid c
-    → NoneLeft Strikes start mid → NoneLeft Strikes c c → AreNarrowed p Strikes g c
-narrowed_twice p Strikes g start mid c of h k keeps keeps' struck settled = record {
-  start = start;
-  of_grid = of;
-  less = earlier_trans start mid c h k;
-  keeps = kept_twice p start mid c keeps keeps';
-  struck = λ cell value pair s. stays_gone mid c cell value k (struck cell value pair s);
-  settled = settled;
-}
 
 -- ---- the hint that is found
 

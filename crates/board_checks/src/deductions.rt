@@ -17,13 +17,15 @@ pub trait Deduces: Rules {
     // The pairs of a square and a value that the deductions strike from candidates.
     ghost strikes: { Self → CandidatesValue → ℕ → ℕ → Type 0 };
 
-    /// Removes candidates as `narrow` does. Where it answers true, no pair is left that is struck from the candidates at first.
+    /// Removes candidates as `narrow` does. Where it answers true, no pair is left that is struck from the candidates at first,
+    /// or from those that are left.
     fn narrow_struck(&self, candidates: &mut Candidates) -> bool
         requires { candidates.old.size ≡ (Self.puzzle self.now).size }
         ensures less { IsEarlier candidates.old candidates.new }
         ensures keeps { KeepsSolutions (Self.puzzle self.now) candidates.old candidates.new }
         ensures refutes { OnFalse result (HasNoSolutionWithin (Self.puzzle self.now) candidates.old) }
-        ensures struck { OnTrue result (NoneLeft (strikes self.now) candidates.old candidates.new) };
+        ensures struck { OnTrue result (NoneLeft (strikes self.now) candidates.old candidates.new) }
+        ensures settled { OnTrue result (NoneLeft (strikes self.now) candidates.new candidates.new) };
 }
 
 impl Deduces for Towers {

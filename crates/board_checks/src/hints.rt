@@ -1,9 +1,5 @@
 //! Hints: a square of a board whose value follows from what stands.
 ghost use Rattle.std.specs.Prelude.{◌≡◌, ◌≢◌, ◌↔◌, ℕ, ◌*◌, ◌<◌, MatchOption, IsTrue};
-ghost use Rattle.std.specs.Bool.{OnFalse, OnTrue};
-ghost use Rattle.trail_solver.specs.Candidates.{IsCandidates, IsEarlier};
-ghost use Rattle.trail_solver.specs.Solutions.{HasNoSolutionWithin, KeepsSolutions};
-ghost use Rattle.clue_rules.specs.Struck.{NoneLeft};
 ghost use Rattle.board_checks.specs.Hints.{IsForced, IsLastLeft, IsDeduced, IsSound};
 ghost use Rattle.board_checks.specs.Inner.LeftValues.{HaveValues, IsSoonestHint};
 
@@ -31,30 +27,10 @@ pub fn find_hint<P: Deduces>(p: &P, grid: &Grid) -> Hint
     ensures strong { (cell : ℕ) → IsForced (P.strikes p.now) grid.now cell → result ≢ Hint.Nothing }
 {
     let mut candidates = grid_candidates(grid);
-    if p.narrow_struck(&mut candidates) && settle(p, &mut candidates) && have_values(&candidates) {
+    if p.narrow_struck(&mut candidates) && have_values(&candidates) {
         soonest(grid, &candidates)
     } else {
         Hint::Contradiction
-    }
-}
-
-// Narrows until nothing more goes. Answers false where that finds no solution.
-fn settle<P: Deduces>(p: &P, candidates: &mut Candidates) -> bool
-    requires { candidates.old.size ≡ (P.puzzle p.now).size }
-    ensures less { IsEarlier candidates.old candidates.new }
-    ensures keeps { KeepsSolutions (P.puzzle p.now) candidates.old candidates.new }
-    ensures refutes { OnFalse result (HasNoSolutionWithin (P.puzzle p.now) candidates.old) }
-    ensures settled { OnTrue result (NoneLeft (P.strikes p.now) candidates.new candidates.new) }
-{
-    let _size = candidates.size();
-    loop {
-        let before = candidates.trail_len();
-        if !p.narrow_struck(candidates) {
-            return false;
-        }
-        if candidates.trail_len() == before {
-            return true;
-        }
     }
 }
 

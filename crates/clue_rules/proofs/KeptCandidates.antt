@@ -1,15 +1,18 @@
 -- The values of a set are kept in a square, and those of a row of sets along a line.
-use Rattle.std.proofs.Common.{◌≡◌, ◌≢◌, ℕ, ◌*◌, ◌<◌, ◌+◌, ◌==◌, true, false, not, ◌&&◌, List, ◌++◌, inl, inr, refl, sym, ap, ◌∙◌, subst, ⊎_elim, slice_index, arith}
-use Rattle.std.proofs.lemmas.Bool.{and_from, cases_eq, cases_lt, both_ways, false_from_ne_true, ne_eqb}
+use Rattle.std.proofs.Common.{◌≡◌, ◌≢◌, ℕ, ◌*◌, ◌<◌, ◌+◌, ◌==◌, true, false, not, ◌&&◌, List, ◌++◌, length, length-append, inl, inr, refl, sym, ap, ◌∙◌, subst, ⊎_elim, slice_index, arith}
+use Rattle.std.proofs.lemmas.Bool.{and_from, and_parts, cases_eq, cases_lt, both_ways, false_from_ne_true, ne_eqb}
 use Rattle.number_sets.specs.Sets.{has_number, IsEmpty}
+use Rattle.number_sets.proofs.Members.{has_number-none}
 use Rattle.latin_board.specs.Squares.{GridValue, number_at}
 use Rattle.trail_solver.specs.Pairs.{IsPair, pairs_of}
 use Rattle.trail_solver.specs.Candidates.{CandidatesValue, IsCandidates, IsSetOf, IsEarlier, IsWithin, may_be}
 use Rattle.trail_solver.proofs.Earlier.{earlier_refl, earlier_trans, stays_gone}
+use Rattle.trail_solver.proofs.SetPairs.{to_less}
 use Rattle.trail_solver.proofs.StruckSets.{AreMissing, gone_missing, missing_are, missing_strikes, rest_missing, struck_earlier}
 use Rattle.clue_rules.specs.Inner.Narrowing.{KeepsInSquare, KeepsInView, Agrees, AreSetsOf, KeepsEach}
 use Rattle.clue_rules.specs.Struck.{IsGivenStruck}
 use Rattle.clue_rules.specs.Views.{view_cell}
+use Rattle.clue_rules.proofs.LineSquares.{view_cell_once}
 
 -- ---- one square
 
@@ -36,6 +39,17 @@ kept_struck old new cell values kept missing valid is left size trail =
       rest = λ c v h. rest_missing old new cell values kept missing c v m s h;
     }
 
+-- some are struck, so the trail is longer
+pub kept_longer : (old new : CandidatesValue) (cell values kept missing : ℕ) → IsCandidates old → IsSetOf old cell values
+    → ((v : ℕ) → has_number missing v ≡ (has_number values v && not (has_number kept v))) → (v : ℕ) × (has_number missing v ≡ true)
+    → new.trail ≡ old.trail ++ pairs_of cell missing → length old.trail < length new.trail
+kept_longer old new cell values kept missing valid is left some trail =
+    let v = some.0 in
+    let in_values = (and_parts (has_number values v) (not (has_number kept v)) (sym (left v) ∙ some.1)).0 in
+    let pair = ((is v).0 in_values).0 in
+    let more = to_less cell missing v (omega (arith, pair.high, valid.largest)) some.1 in
+    omega (arith, ap length trail, length-append old.trail (pairs_of cell missing), more)
+
 -- ---- a line, square by square
 
 -- now is first with only the values of the sets kept in the first n squares from a place
@@ -46,6 +60,19 @@ pub record KeepsUpTo (place : ℕ) (kept : List ℕ) (n : ℕ) (first now : Cand
       → IsWithin first g → IsWithin now g
   pub gone : (k v : ℕ) → k < n → IsPair first.size (view_cell first.size place k) v → has_number (slice_index kept k) v ≡ false
       → may_be now (view_cell first.size place k) v ≡ false
+  pub rest : (k v : ℕ) → k < first.size → has_number (slice_index kept k) v ≡ true
+      → may_be now (view_cell first.size place k) v ≡ may_be first (view_cell first.size place k) v
+
+-- what is kept in the next square takes nothing from the others
+pub rest_more : (place n : ℕ) (kept : List ℕ) (first now new : CandidatesValue) → place < 4 * first.size → n < first.size
+    → KeepsUpTo place kept n first now → KeepsInSquare now new (view_cell first.size place n) (slice_index kept n) → (k v : ℕ) → k < first.size
+    → has_number (slice_index kept k) v ≡ true → may_be new (view_cell first.size place k) v ≡ may_be first (view_cell first.size place k) v
+rest_more place n kept first now new inside low h step k v below has =
+    step.rest (view_cell first.size place k) v (elim (cases_eq k n) [
+      | inl same ↦ inr (subst (λ (i : ℕ). has_number (slice_index kept i) v ≡ true) same has)
+      | inr apart ↦ inl (λ same. apart (view_cell_once first.size place k n inside below low same))
+    ])
+    ∙ h.rest k v below has
 
 -- a grid that has a value of the set in the square is still within
 pub within_kept : (old new : CandidatesValue) (cell kept : ℕ) (g : GridValue) → KeepsInSquare old new cell kept → IsWithin old g
@@ -55,6 +82,45 @@ within_kept old new cell kept g k w has = record {
       let inside' : c < old.size * old.size = subst (λ (n : ℕ). c < n * n) k.less.size inside in
       let P : ℕ → Type 0 = λ i. has_number kept (number_at g i) ≡ true in
       k.rest c (number_at g c) (⊎_elim (λ same. inr (subst P (sym same) has)) (λ n. inl n) (cases_eq c cell)) ∙ w.each c inside';
+}
+
+-- one square more
+pub up_to_more : (place n : ℕ) (kept : List ℕ) (first now new : CandidatesValue) → place < 4 * first.size → n < first.size
+    → KeepsUpTo place kept n first now → KeepsInSquare now new (view_cell first.size place n) (slice_index kept n)
+    → KeepsUpTo place kept (n + 1) first new
+up_to_more place n kept first now new inside low h step = record {
+  less = earlier_trans first now new h.less step.less;
+  keeps = λ g size has w. within_kept now new (view_cell first.size place n) (slice_index kept n) g step (h.keeps g size has w) (has n low);
+  gone = λ k v below pair lacks. elim (cases_lt k n) [
+    | inl before ↦ stays_gone now new (view_cell first.size place k) v step.less (h.gone k v before pair lacks)
+    | inr last ↦
+        let same : n ≡ k = omega arith in
+        let P : ℕ → Type 0 = λ i. may_be new (view_cell first.size place i) v ≡ false in
+        let Lacks : ℕ → Type 0 = λ i. has_number (slice_index kept i) v ≡ false in
+        let Pair : ℕ → Type 0 = λ i. IsPair first.size (view_cell first.size place i) v in
+        let here : IsPair now.size (view_cell first.size place n) v =
+        subst (λ (w : ℕ). IsPair w (view_cell first.size place n) v) (sym h.less.size) (subst Pair (sym same) pair) in
+        subst P same (step.gone v here (subst Lacks (sym same) lacks))
+  ];
+  rest = rest_more place n kept first now new inside low h step;
+}
+
+-- the answer that a set is empty
+pub none_in : (set : ℕ) → not (set == 0) ≡ false → set ≡ 0
+none_in set is = elim (cases_eq set 0) [
+  | inl none ↦ none
+  | inr some ↦ absurd (both_ways (not (set == 0)) is (ap not (ne_eqb set 0 some)))
+]
+
+-- of an empty set nothing is kept
+pub up_to_empty : (place n : ℕ) (kept : List ℕ) (first now : CandidatesValue) → n < first.size → KeepsUpTo place kept (n + 1) first now
+    → slice_index kept n ≡ 0 → KeepsInView place kept first now false
+up_to_empty place n kept first now low h none = record {
+  less = h.less;
+  keeps = h.keeps;
+  empty = (n, low, λ v. ap (λ (m : ℕ). has_number m v) none ∙ has_number-none v);
+  gone = tt;
+  rest = h.rest;
 }
 
 -- where the sets are those of the candidates, nothing goes
@@ -67,6 +133,7 @@ along_whole place sets kept c is same = record {
   gone = λ k v inside pair lacks. false_from_ne_true (may_be c (view_cell c.size place k) v) (λ left.
       let P : ℕ → Type 0 = λ m. has_number m v ≡ true in
       both_ways (has_number (slice_index kept k) v) lacks (subst P (same k inside) ((is.each k inside v).1 (pair, left))));
+  rest = λ k v inside has. refl;
 }
 
 -- ---- givens

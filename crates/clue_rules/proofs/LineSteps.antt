@@ -14,7 +14,7 @@ use Rattle.clue_rules.specs.Inner.LineTallies.{IsPossible, IsWholeTally, IsSettl
 use Rattle.clue_rules.specs.Struck.{IsOnePlace, IsPeerStruck, IsPlaceStruck, IsLatinStruck}
 use Rattle.clue_rules.specs.Views.{view_cell}
 use Rattle.clue_rules.specs.declared.lines.latin.LineTally.{LineTally}
-use Rattle.clue_rules.proofs.Narrowings.{on_true, on_false, narrows_by}
+use Rattle.clue_rules.proofs.Narrowings.{on_true, on_false}
 use Rattle.clue_rules.proofs.KeptCandidates.{along_whole}
 use Rattle.clue_rules.proofs.LineTallying.{possible_stays, taken_goes, displaced_goes, settled_kept}
 
@@ -182,14 +182,6 @@ place_line c cell v struck = (
 
 pub latin_by_lines : (c : CandidatesValue) (cell v : ℕ) → IsLatinStruck c cell v → StruckBelow IsLineStruck (2 * c.size) c cell v
 latin_by_lines c cell v struck = elim struck [ inl peer ↦ peer_line c cell v peer | inr place ↦ place_line c cell v place ]
-
-pub latin_narrows : (n : ℕ) (old new : CandidatesValue) → n ≡ 2 * old.size
-    → Narrows IsSquare (StruckBelow IsLineStruck n) old new true → Narrows IsSquare IsLatinStruck old new true
-latin_narrows n old new all h =
-    narrows_by (λ first e cell v pair s.
-    let same : 2 * first.size ≡ n = omega (arith, e.size) in
-    let P : ℕ → Type 0 = λ m. StruckBelow IsLineStruck m first cell v in
-    subst P same (latin_by_lines first cell v s)) h
 
 -- ---- one line as a step
 

@@ -10,7 +10,7 @@ use Rattle.latin_board.specs.Squares.{GridValue, number_at}
 use Rattle.tower_lines.specs.TowersSeen.{seen, seen_after}
 use Rattle.trail_solver.specs.Candidates.{CandidatesValue, IsEarlier}
 use Rattle.trail_solver.specs.Solutions.{KeepsSolutions}
-use Rattle.trail_solver.proofs.Earlier.{earlier_refl, earlier_trans, stays_gone}
+use Rattle.trail_solver.proofs.Earlier.{earlier_trans, stays_gone}
 use Rattle.clue_rules.specs.Inner.Narrowing.{IsSquare, KeepsEach, KeepsInSquare}
 use Rattle.clue_rules.specs.Inner.TowersLines.{MeetsClue}
 use Rattle.clue_rules.specs.Laws.TowersItems.{length-view_of, clues_decide}
@@ -18,8 +18,9 @@ use Rattle.clue_rules.specs.Struck.{NoneLeft}
 use Rattle.clue_rules.specs.Towers.{towers_puzzle, TowersValue, clue_of}
 use Rattle.clue_rules.specs.Views.{view_of, view_cell}
 use Rattle.clue_rules.proofs.KeptCandidates.{within_kept}
+use Rattle.clue_rules.proofs.LineSquares.{view_inside}
 use Rattle.clue_rules.proofs.LineSteps.{grid_pair}
-use Rattle.clue_rules.proofs.ViewSteps.{view_inside, view_number}
+use Rattle.clue_rules.proofs.ViewSteps.{view_number}
 
 -- ---- towers after a value
 
@@ -86,9 +87,6 @@ pub record KeepsClue (place clue : ℕ) (first now : CandidatesValue) : Type 0 w
   pub less : IsEarlier first now
   pub keeps : KeepsEach (MeetsClue first.size place clue) first now
 
-pub keeps_clue_none : (place clue : ℕ) (c : CandidatesValue) → KeepsClue place clue c c
-keeps_clue_none place clue c = record { less = earlier_refl c; keeps = λ g meets w. w }
-
 -- one square more, the k-th from the place, counted from 1
 pub keeps_clue_more : (place clue k most kept cell : ℕ) (first now new : CandidatesValue) → place < 4 * first.size → 0 < k → k < clue → clue ≤ first.size
     → most + clue ≡ first.size + k → cell ≡ view_cell first.size place (k - 1) → ((v : ℕ) → has_number kept v ≡ (leb 1 v && leb v most))
@@ -114,9 +112,6 @@ keeps_clue_more place clue k most kept cell first now new inside some low small 
 pub record KeepsTowers (v : TowersValue) (first now : CandidatesValue) : Type 0 where
   pub less : IsEarlier first now
   pub keeps : KeepsSolutions (towers_puzzle v) first now
-
-pub keeps_towers_none : (v : TowersValue) (c : CandidatesValue) → KeepsTowers v c c
-keeps_towers_none v c = record { less = earlier_refl c; keeps = λ g s w. w }
 
 pub keeps_towers_more : (v : TowersValue) (place clue : ℕ) (first now new : CandidatesValue) → first.size ≡ v.size → place < 4 * v.size
     → clue ≡ clue_of v place → KeepsTowers v first now → IsEarlier now new → KeepsEach (MeetsClue now.size place clue) now new

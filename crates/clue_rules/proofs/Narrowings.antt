@@ -6,8 +6,8 @@ use Rattle.latin_board.specs.Squares.{GridValue}
 use Rattle.trail_solver.specs.Pairs.{IsPair}
 use Rattle.trail_solver.specs.Candidates.{CandidatesValue, IsEarlier}
 use Rattle.trail_solver.proofs.Earlier.{earlier_trans, prefix_length, stays_gone}
-use Rattle.clue_rules.specs.Inner.Narrowing.{LacksStruck, Narrows, NoneStruck, StruckBelow, IsStruckByLines}
-use Rattle.clue_rules.specs.Struck.{IsGivenStruck, IsLatinStruck, NoneLeft}
+use Rattle.clue_rules.specs.Inner.Narrowing.{LacksStruck, Narrows, NoneStruck, StruckBelow}
+use Rattle.clue_rules.specs.Struck.{IsGivenStruck, NoneLeft}
 use Rattle.clue_rules.proofs.RangeLemmas.{below_cases}
 
 pub on_true : (b : Bool) {P Q : Type 0} → (P → Q) → OnTrue b P → OnTrue b Q
@@ -17,6 +17,14 @@ on_true false f h = tt
 pub on_false : (b : Bool) {P Q : Type 0} → (P → Q) → OnFalse b P → OnFalse b Q
 on_false true f h = tt
 on_false false f h = f h
+
+pub on_either : (b : Bool) {P : Type 0} → P → OnTrue b P
+on_either true p = p
+on_either false p = tt
+
+pub on_both : (b : Bool) {P Q R : Type 0} → (P → Q → R) → OnTrue b P → OnTrue b Q → OnTrue b R
+on_both true f p q = f p q
+on_both false f p q = tt
 
 lacks_by : {T U : CandidatesValue → ℕ → ℕ → Type 0} {a b : CandidatesValue}
     → ((first : CandidatesValue) → IsEarlier first a → (cell v : ℕ) → IsPair first.size cell v → U first cell v → T first cell v)
@@ -60,20 +68,14 @@ narrows_then {a = a} {b = b} {c = c} {r = r} f one two = record {
   }) two.struck;
 }
 
+-- two steps, of whose strikes nothing is said
+pub narrows_on : {S : GridValue → Type 0} {T U : CandidatesValue → ℕ → ℕ → Type 0} {a b c : CandidatesValue} {r : Bool} → Narrows S T a b true
+    → Narrows S U b c r → Narrows S NoneStruck a c r
+narrows_on one two = narrows_then (λ first cell v none. absurd none) one two
+
 pub below_more : {S : GridValue → Type 0} {T : ℕ → CandidatesValue → ℕ → ℕ → Type 0} {n : ℕ} {a b c : CandidatesValue}
     → Narrows S (StruckBelow T n) a b true → Narrows S (T n) b c true → Narrows S (StruckBelow T (n + 1)) a c true
 below_more {T = T} {n = n} one two = narrows_then (λ first cell v s. below_cases (λ k. T k first cell v) n s) one two
-
--- what rows and columns strike, what a rule does along every line, and then a step of which nothing is known
-pub lines_narrow : {S R : GridValue → Type 0} {T : ℕ → CandidatesValue → ℕ → ℕ → Type 0} {a b c d : CandidatesValue} {r : Bool}
-    → ((g : GridValue) → S g → R g) → Narrows R IsLatinStruck a b true → Narrows S (StruckBelow T (2 * b.size)) b c true
-    → Narrows S NoneStruck c d r → Narrows S (IsStruckByLines T) a d r
-lines_narrow {T = T} {b = b} f latin rule rest =
-    let every : Narrows _ (λ k cell v. StruckBelow T (2 * k.size) k cell v) b _ true =
-    narrows_by (λ first e cell v pair s.
-    let P : ℕ → Type 0 = λ n. StruckBelow T (2 * n) first cell v in
-    subst P (sym e.size) s) rule in
-    narrows_then (λ first cell v s. inl s) (narrows_then (λ first cell v s. s) (narrows_for f latin) every) rest
 
 -- ---- how long it can go on
 
@@ -92,12 +94,14 @@ trail_nearer old new size before after e was is grew bound small =
     let most = cube_most size small in
     omega arith
 
--- what the givens rule out is gone after the first step, and what is struck by the first candidates in the end
-pub struck_gone : {S : GridValue → Type 0} {T : CandidatesValue → ℕ → ℕ → Type 0} {givens : GridValue} {first old new : CandidatesValue} {r : Bool}
-    → NoneLeft (λ c. IsGivenStruck givens) first old → IsEarlier first old → Narrows S T old new r
-    → OnTrue r (NoneLeft (λ c cell v. IsGivenStruck givens cell v ⊎ T c cell v) first new)
-struck_gone {first = first} {old = old} {new = new} {r = r} given e h =
+-- what the givens rule out is gone after the first step, and what is struck in the end
+pub struck_gone : (T : CandidatesValue → ℕ → ℕ → Type 0) {givens : GridValue} (r : Bool) (first old new c : CandidatesValue)
+    → NoneLeft (λ k. IsGivenStruck givens) first old → IsEarlier first old → IsEarlier old new → IsEarlier c new
+    → OnTrue r (LacksStruck T new new) → OnTrue r (NoneLeft (λ k cell v. IsGivenStruck givens cell v ⊎ T k cell v) c new)
+struck_gone T r first old new c given h k e quiet =
     on_true r (λ lacks cell v pair s. elim s [
-      | inl by ↦ stays_gone old new cell v h.less (given cell v pair by)
-      | inr by ↦ lacks.each first e cell v pair by
-    ]) h.struck
+      | inl by ↦
+          let size : c.size ≡ first.size = sym e.size ∙ k.size ∙ h.size in
+          stays_gone old new cell v k (given cell v (subst (λ (w : ℕ). IsPair w cell v) size pair) by)
+      | inr by ↦ lacks.each c e cell v pair by
+    ]) quiet

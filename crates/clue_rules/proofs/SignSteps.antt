@@ -1,6 +1,6 @@
 -- What a sign rules out in the squares on both its sides, and along a line.
 use Rattle.std.proofs.Common.{◌≡◌, ℕ, ◌*◌, ◌<◌, ◌≤◌, ◌↔◌, ◌⊎◌, Bool, true, false, not, inl, inr, refl, sym, ap, ◌∙◌, subst, arith, ◌==◌}
-use Rattle.std.specs.Bool.{OnTrue, OnFalse}
+use Rattle.std.specs.Bool.{OnFalse}
 use Rattle.std.proofs.lemmas.Bool.{both_ways, false_from_ne_true, cases_eq, eq-eqb, ne_eqb}
 use Rattle.number_sets.specs.Sets.{has_number}
 use Rattle.latin_board.specs.Squares.{GridValue, number_at}
@@ -19,7 +19,7 @@ use Rattle.clue_rules.specs.Inner.UnequalLines.{AreEnds, IsStruckAt, IsStruckOn,
 use Rattle.clue_rules.specs.declared.unequal.sign.Sign.TheVariants.{FirstGreater, SecondGreater}
 use Rattle.clue_rules.proofs.KeptCandidates.{within_kept}
 use Rattle.clue_rules.proofs.LineSteps.{grid_pair, in_set}
-use Rattle.clue_rules.proofs.Narrowings.{narrows_by, narrows_for}
+use Rattle.clue_rules.proofs.Narrowings.{narrows_by, narrows_for, on_either}
 use Rattle.clue_rules.specs.declared.unequal.lines.SignEnds.{SignEnds}
 
 -- ---- a step at one square
@@ -31,10 +31,6 @@ by_answer n left is {P} f =
       | inl none ↦ subst Q (sym (is ∙ ap not (eq-eqb n 0 none))) (f none)
       | inr some ↦ subst Q (sym (is ∙ ap not (ne_eqb n 0 some))) tt
     ]
-
-on_either : (left : Bool) {P : Type 0} → P → OnTrue left P
-on_either true p = p
-on_either false p = tt
 
 square_narrows : {S : GridValue → Type 0} {T : CandidatesValue → ℕ → ℕ → Type 0} (old new : CandidatesValue) (cell kept : ℕ) (left : Bool)
     → ((g : GridValue) → S g → g.size ≡ old.size → IsWithin old g → has_number kept (number_at g cell) ≡ true)

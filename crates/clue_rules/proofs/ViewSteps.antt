@@ -1,56 +1,35 @@
 -- What a clue rules out along its line: the line's fillings by sets, and a solution among them.
-use Rattle.std.proofs.Common.{◌≡◌, ◌≢◌, ℕ, ◌+◌, ◌*◌, ◌<◌, ◌≤◌, ◌⊎◌, Bool, true, false, List, length, take, inl, inr, refl, sym, ap, ◌∙◌, subst, arith, slice_index}
+use Rattle.std.proofs.Common.{◌≡◌, ◌≢◌, ℕ, ◌+◌, ◌-◌, ◌*◌, ◌<◌, ◌≤◌, ◌⊎◌, Bool, true, false, List, length, take, inl, inr, refl, sym, ap, ◌∙◌, subst, arith, slice_index}
 use Rattle.std.proofs.lemmas.Bool.{false_from_ne_true, cases_lt, lt-ltb, le-ltb}
 use Rattle.std.proofs.lemmas.List.{get_or-take, length-take-le}
 use Rattle.std.proofs.lemmas.List.FromFn.{get_or-map-range_with_len}
 use Rattle.number_sets.specs.Sets.{has_number}
 use Rattle.latin_board.specs.Squares.{GridValue, number_at}
-use Rattle.latin_board.proofs.LatinLines.{line_differs, line_cell_inside}
+use Rattle.latin_board.proofs.LatinLines.{line_differs}
 use Rattle.tower_lines.specs.TowersSeen.{seen}
 use Rattle.tower_lines.specs.LineFillings.{IsFilling}
 use Rattle.trail_solver.specs.Pairs.{IsPair}
 use Rattle.trail_solver.specs.Candidates.{CandidatesValue, IsEarlier, IsWithin, may_be}
 use Rattle.trail_solver.specs.Puzzles.{Solves}
 use Rattle.trail_solver.proofs.Earlier.{was_left}
-use Rattle.clue_rules.specs.Inner.Narrowing.{AreSetsOf, IsSquare, IsStruckByLines, KeepsInView, Narrows}
+use Rattle.std.specs.Bool.{OnTrue}
+use Rattle.clue_rules.specs.Inner.Narrowing.{AreSetsOf, IsSquare, IsStruckByLines, KeepsInView, LacksStruck, Narrows, NoneStruck}
+use Rattle.clue_rules.specs.Inner.QuietLines.{NotesBut, NotesIn, Strikes}
+use Rattle.clue_rules.specs.Laws.OwnLines.{end_own}
 use Rattle.clue_rules.specs.Laws.TowersItems.{length-view_of, clues_decide}
 use Rattle.clue_rules.specs.Towers.{towers_puzzle, TowersValue, clue_of, towers_given_grid}
 use Rattle.clue_rules.specs.Struck.{IsGivenStruck, IsViewFilling, IsViewStruck, IsTowersStruck}
 use Rattle.clue_rules.specs.Inner.TowersLines.{IsStruckAlong, IsStruckAt, ShowsClue, AreSupported, KeepSupported}
 use Rattle.clue_rules.specs.Views.{view_of, view_cell, view_line, view_index, front_place}
+use Rattle.clue_rules.proofs.LineSquares.{view_index_apart, view_inside}
 use Rattle.clue_rules.proofs.LineSteps.{along_narrows, grid_pair, in_set}
-use Rattle.clue_rules.proofs.Narrowings.{narrows_by, narrows_for, narrows_then}
+use Rattle.clue_rules.proofs.Narrowings.{narrows_for, on_true}
+use Rattle.clue_rules.proofs.QuietSteps.{strikes_both}
 use Rattle.clue_rules.proofs.ViewLines.{view_of-numbers}
-use Rattle.clue_rules.specs.Laws.Edges.{edge_cases}
+use Rattle.clue_rules.specs.Laws.Edges.{edge_cases, view_index_low, view_line_low}
 use Rattle.clue_rules.proofs.KeptCandidates.{along_whole}
 
--- ---- the squares from a place
-
-pub view_line_low : (w place : ℕ) → place < 4 * w → view_line w place < 2 * w
-view_line_low w place inside =
-    edge_cases (λ line. line < 2 * w) w place _ _ _ _ (λ upper. omega arith) (λ from lower. lower) (λ from left. omega arith)
-    (λ right. omega arith)
-
-pub view_index_low : (w place k : ℕ) → k < w → view_index w place k < w
-view_index_low w place k low =
-    edge_cases (λ i. i < w) w place _ _ _ _ (λ upper. low) (λ from lower. omega arith) (λ from left. low) (λ right. omega arith)
-
-pub view_index_apart : (w place i j : ℕ) → i < w → j < w → i ≢ j → view_index w place i ≢ view_index w place j
-view_index_apart w place i j first second apart =
-    elim (cases_lt place w) [
-      | inl top ↦ rw (lt-ltb place w top) apart
-      | inr below ↦ elim (cases_lt place (2 * w)) [
-        | inl bottom ↦ rw (le-ltb place w below, lt-ltb place (2 * w) bottom) (λ same. apart (omega arith))
-        | inr beside ↦ elim (cases_lt place (3 * w)) [
-          | inl left ↦ rw (le-ltb place w below, le-ltb place (2 * w) beside, lt-ltb place (3 * w) left) apart
-          | inr right ↦ rw (le-ltb place w below, le-ltb place (2 * w) beside, le-ltb place (3 * w) right) (λ same. apart (omega arith))
-        ]
-      ]
-    ]
-
-pub view_inside : (w place k : ℕ) → place < 4 * w → k < w → view_cell w place k < w * w
-view_inside w place k inside low =
-    line_cell_inside w (view_line w place) (view_index w place k) (view_line_low w place inside) (view_index_low w place k low)
+-- ---- the numbers from a place
 
 pub view_number : (g : GridValue) (place k : ℕ) → place < 4 * g.size → k < g.size
     → slice_index (view_of g place) k ≡ number_at g (view_cell g.size place k)
@@ -120,71 +99,105 @@ view_solved c place clue sets kept g inside is small supported s shown size with
       here = view_number g place k (omega arith) (omega arith) ∙ ap (λ (w : ℕ). number_at g (view_cell w place k)) size;
     })
 
--- ---- a filling by later candidates is one by earlier ones
+-- ---- a filling is one by the candidates that are kept, and by all before them
 
-filling_earlier : (first c : CandidatesValue) (place clue : ℕ) (sets line : List ℕ) → IsEarlier first c → AreSetsOf c place sets
-    → c.size ≤ 9 → IsFilling (take c.size sets) clue line → IsViewFilling first place clue line
-filling_earlier first c place clue sets line e is small f =
-    let long : length (take c.size sets) ≡ c.size = length-take-le c.size sets (omega (arith, is.count)) in
-    let whole : length line ≡ c.size = f.whole ∙ long in
-    let left : (k : ℕ) → k < c.size → IsPair c.size (view_cell c.size place k) (slice_index line k) × (may_be c (view_cell c.size place k) (slice_index line k) ≡ true) =
+-- each of its values is in some filling, so it stays
+filling_stays : (old new : CandidatesValue) (place clue : ℕ) (sets kept line : List ℕ) (left : Bool) → AreSetsOf old place sets → old.size ≤ 9
+    → KeepSupported old.size clue sets kept → KeepsInView place kept old new left → IsFilling (take old.size sets) clue line
+    → IsViewFilling new place clue line
+filling_stays old new place clue sets kept line left is small keeps h f =
+    let long : length (take old.size sets) ≡ old.size = length-take-le old.size sets (omega (arith, is.count)) in
+    let size : new.size ≡ old.size = h.less.size in
+    let there : (k : ℕ) → k < old.size → IsPair old.size (view_cell old.size place k) (slice_index line k) × (may_be new (view_cell old.size place k) (slice_index line k) ≡ true) =
     λ k low.
-    let P : ℕ → Type 0 = λ m. has_number m (slice_index line k) ≡ true in
-    (is.each k low (slice_index line k)).0 (subst P (get_or-take c.size sets k 0 low) (f.start.candidates k (omega arith))) in
-    let Left : ℕ → Type 0 = λ w. (k : ℕ) → k < w → IsPair w (view_cell w place k) (slice_index line k) × (may_be c (view_cell w place k) (slice_index line k) ≡ true) in
-    let there : Left first.size = subst Left e.size left in
+    let v = slice_index line k in
+    let P : ℕ → Type 0 = λ m. has_number m v ≡ true in
+    let was = (is.each k low v).0 (subst P (get_or-take old.size sets k 0 low) (f.start.candidates k (omega arith))) in
+    let stays = keeps k v (record { line = line; filling = f; inside = omega arith; here = refl }) in
+    (was.0, h.rest k v low stays ∙ was.1) in
+    let There : ℕ → Type 0 = λ w. (k : ℕ) → k < w → IsPair w (view_cell w place k) (slice_index line k) × (may_be new (view_cell w place k) (slice_index line k) ≡ true) in
+    let now : There new.size = subst There (sym size) there in
     record {
-      whole = whole ∙ e.size;
-      pairs = λ k low. (there k low).0;
-      candidates = λ k low. was_left first c (view_cell first.size place k) (slice_index line k) e (there k low).1;
-      apart = λ i j before low. f.start.apart i j before (omega (arith, e.size));
+      whole = f.whole ∙ long ∙ sym size;
+      pairs = λ k low. (now k low).0;
+      candidates = λ k low. (now k low).1;
+      apart = λ i j before low. f.start.apart i j before (omega (arith, size));
       shown = f.shown;
     }
 
-view_struck : (c : CandidatesValue) (place clue : ℕ) (sets kept : List ℕ) → AreSetsOf c place sets → c.size ≤ 9
-    → AreSupported c.size clue sets kept → (first : CandidatesValue) → IsEarlier first c → (cell v : ℕ)
-    → IsViewStruck place clue first cell v
-    → (k : ℕ) × (k < c.size) × (view_cell c.size place k ≡ cell) × (has_number (slice_index kept k) v ≡ false)
-view_struck c place clue sets kept is small supported first e cell v s = (
-  s.index,
-  omega (arith, s.inside, e.size),
-  ap (λ (w : ℕ). view_cell w place s.index) e.size ∙ s.here,
-  false_from_ne_true (has_number (slice_index kept s.index) v) (λ has.
-      let found = supported s.index v (omega (arith, s.inside, e.size)) has in
-      s.unfilled.none found.line (filling_earlier first c place clue sets found.line e is small found.filling) found.here),
-)
+filling_was : (first c : CandidatesValue) (place clue : ℕ) (line : List ℕ) → IsEarlier first c → IsViewFilling c place clue line
+    → IsViewFilling first place clue line
+filling_was first c place clue line e f =
+    let Left : ℕ → Type 0 = λ w. (k : ℕ) → k < w → IsPair w (view_cell w place k) (slice_index line k) × (may_be first (view_cell w place k) (slice_index line k) ≡ true) in
+    let left : Left c.size = λ k low. (f.pairs k low, was_left first c (view_cell c.size place k) (slice_index line k) e (f.candidates k low)) in
+    let there : Left first.size = subst Left e.size left in
+    record {
+      whole = f.whole ∙ e.size;
+      pairs = λ k low. (there k low).0;
+      candidates = λ k low. (there k low).1;
+      apart = λ i j before low. f.apart i j before (omega (arith, e.size));
+      shown = f.shown;
+    }
+
+-- so nothing that is kept is struck, by what is left or was before
+pub view_quiet : (old new : CandidatesValue) (place clue : ℕ) (sets kept : List ℕ) (left : Bool) → AreSetsOf old place sets → old.size ≤ 9
+    → AreSupported old.size clue sets kept → KeepSupported old.size clue sets kept → KeepsInView place kept old new left
+    → OnTrue left (LacksStruck (IsViewStruck place clue) new new)
+view_quiet old new place clue sets kept left is small supported keeps h = on_true left (λ gone. record {
+  each = λ first e cell v pair s.
+      let k = s.index in
+      let size : first.size ≡ old.size = sym e.size ∙ h.less.size in
+      let low : k < old.size = omega (arith, s.inside, size) in
+      let cell_is : view_cell old.size place k ≡ cell = ap (λ (w : ℕ). view_cell w place k) (sym size) ∙ s.here in
+      let lost : has_number (slice_index kept k) v ≡ false =
+      false_from_ne_true (has_number (slice_index kept k) v) (λ has.
+      let found = supported k v low has in
+      s.unfilled.none found.line
+      (filling_was first new place clue found.line e (filling_stays old new place clue sets kept found.line left is small keeps h found.filling))
+      found.here) in
+      let P : ℕ → Type 0 = λ c. IsPair old.size c v → may_be new c v ≡ false in
+      subst P cell_is (λ p. gone k v low p lost) (subst (λ (w : ℕ). IsPair w cell v) size pair);
+}) h.gone
 
 pub view_narrows : (old new : CandidatesValue) (place clue : ℕ) (sets kept : List ℕ) (left : Bool) → place < 4 * old.size
-    → AreSetsOf old place sets → old.size ≤ 9
-    → AreSupported old.size clue sets kept → KeepSupported old.size clue sets kept → KeepsInView place kept old new left
-    → Narrows (ShowsClue place clue) (IsViewStruck place clue) old new left
-view_narrows old new place clue sets kept left inside is small supported keeps h =
+    → AreSetsOf old place sets → old.size ≤ 9 → KeepSupported old.size clue sets kept → KeepsInView place kept old new left
+    → Narrows (ShowsClue place clue) NoneStruck old new left
+view_narrows old new place clue sets kept left inside is small keeps h =
     along_narrows (λ g s size w k low. view_solved old place clue sets kept g inside is small keeps s.0 s.1 size w k low)
-    (λ first e cell v s. view_struck old place clue sets kept is small supported first e cell v s) h
+    (λ first e cell v none. absurd none) h
 
 -- where each candidate is in some filling, nothing goes
-pub view_kept : (c : CandidatesValue) (place clue : ℕ) (sets : List ℕ) → place < 4 * c.size → AreSetsOf c place sets → c.size ≤ 9
-    → AreSupported c.size clue sets sets → Narrows (ShowsClue place clue) (IsViewStruck place clue) c c true
-view_kept c place clue sets inside is small supported =
-    along_narrows (λ g s size w k low.
-    in_set c (view_cell c.size place k) (slice_index sets k) g (is.each k low) s.0 size w (view_inside c.size place k inside low))
-    (λ first e cell v s. view_struck c place clue sets sets is small supported first e cell v s)
+pub view_whole : (c : CandidatesValue) (place clue : ℕ) (sets : List ℕ) → AreSetsOf c place sets → c.size ≤ 9
+    → AreSupported c.size clue sets sets → LacksStruck (IsViewStruck place clue) c c
+view_whole c place clue sets is small supported =
+    view_quiet c c place clue sets sets true is small supported
+    (λ k v s.
+    let long : length (take c.size sets) ≡ c.size = length-take-le c.size sets (omega (arith, is.count)) in
+    let low : k < c.size = omega (arith, s.inside) in
+    let P : ℕ → Type 0 = λ m. has_number m v ≡ true in
+    let Q : ℕ → Type 0 = λ u. has_number (slice_index (take c.size sets) k) u ≡ true in
+    subst P (get_or-take c.size sets k 0 low) (subst Q s.here (s.filling.start.candidates k (omega (arith, s.filling.whole)))))
     (along_whole place sets sets c is (λ k low. refl))
 
 -- ---- a clue of a puzzle, and the clues at both ends of a line
 
 pub clue_narrows : (v : TowersValue) (place clue : ℕ) (old new : CandidatesValue) (left : Bool) → old.size ≡ v.size
     → place < 4 * old.size → clue ≡ clue_of v place → clue ≢ 0
-    → Narrows (ShowsClue place clue) (IsViewStruck place clue) old new left
-    → Narrows (Solves (towers_puzzle v)) (IsStruckAt v place) old new left
+    → Narrows (ShowsClue place clue) NoneStruck old new left → Narrows (Solves (towers_puzzle v)) NoneStruck old new left
 clue_narrows v place clue old new left size inside is some h =
     narrows_for (λ g s. (
       record { is_grid = s.is_grid; latin = s.latin },
       ((clues_decide v g).0 s.clues).each place (omega arith) (omega arith) ∙ sym is,
-    ))
-    (narrows_by (λ first e cell value pair s.
-    let P : ℕ → Type 0 = λ n. IsViewStruck place n first cell value in
-    subst P (sym is) s.1) h)
+    )) h
+
+-- nothing more is struck at a clued place
+pub clue_quiet : (v : TowersValue) (place clue : ℕ) (c : CandidatesValue) → clue ≡ clue_of v place
+    → LacksStruck (IsViewStruck place clue) c c → LacksStruck (IsStruckAt v place) c c
+clue_quiet v place clue c is quiet = record {
+  each = λ first e cell value pair s.
+      let P : ℕ → Type 0 = λ n. IsViewStruck place n first cell value in
+      quiet.each first e cell value pair (subst P (sym is) s.1);
+}
 
 ends : (w place line : ℕ) → place < 4 * w → view_line w place ≡ line → (place ≡ front_place w line) ⊎ (place ≡ front_place w line + w)
 ends w place line inside =
@@ -194,19 +207,35 @@ ends w place line inside =
     (λ from left is. inl (rw (lt-ltb line w (omega arith)) (omega arith)))
     (λ right is. inr (rw (lt-ltb line w (omega arith)) (omega arith)))
 
-pub ends_narrow : (v : TowersValue) (line front back : ℕ) (old between new : CandidatesValue) (left : Bool)
-    → front ≡ front_place old.size line → back ≡ front + old.size
-    → Narrows (Solves (towers_puzzle v)) (IsStruckAt v front) old between true
-    → Narrows (Solves (towers_puzzle v)) (IsStruckAt v back) between new left
-    → Narrows (Solves (towers_puzzle v)) (IsStruckAlong v line) old new left
-ends_narrow v line front back old between new left first second one two =
-    narrows_by (λ c e cell value pair s.
+-- what is struck along a line is struck at one of its ends
+pub at_an_end : (v : TowersValue) (line front back : ℕ) (c : CandidatesValue) (cell value : ℕ) → front ≡ front_place c.size line
+    → back ≡ front + c.size → IsStruckAlong v line c cell value → IsStruckAt v front c cell value ⊎ IsStruckAt v back c cell value
+at_an_end v line front back c cell value first second s =
     let P : ℕ → Type 0 = λ n. IsStruckAt v n c cell value in
     elim (ends c.size s.place line s.place_is s.line_is) [
-      | inl at ↦ inl (subst P (at ∙ ap (λ (w : ℕ). front_place w line) (sym e.size) ∙ sym first) (s.clued, s.struck))
-      | inr at ↦ inr (subst P (at ∙ ap (λ (w : ℕ). front_place w line + w) (sym e.size) ∙ ap (λ (n : ℕ). n + old.size) (sym first) ∙ sym second) (s.clued, s.struck))
-    ])
-    (narrows_then (λ c cell value s. s) one two)
+      | inl at ↦ inl (subst P (at ∙ sym first) (s.clued, s.struck))
+      | inr at ↦ inr (subst P (at ∙ ap (λ (n : ℕ). n + c.size) (sym first) ∙ sym second) (s.clued, s.struck))
+    ]
+
+-- a step from both ends, of which the second may take the line off the set where it strikes nothing
+pub ends_strike : (v : TowersValue) (line front back s t u : ℕ) (a b c : CandidatesValue) → a.size ≡ v.size → line < 2 * a.size
+    → front ≡ front_place a.size line → back ≡ front + a.size → view_line a.size front ≡ line → IsEarlier a b → IsEarlier b c
+    → NotesIn a b s t → LacksStruck (IsStruckAt v front) b b → NotesBut line b c t u → LacksStruck (IsStruckAt v back) c c
+    → Strikes (IsStruckAlong v line) line a c s u
+ends_strike v line front back s t u a b c size inside first second on h k one quiet two quiet' =
+    strikes_both (IsStruckAt v front) (IsStruckAt v back) (IsStruckAlong v line) a.size line s t u a b c (end_own v a.size line front on)
+    (λ d cell value same struck.
+    at_an_end v line front back d cell value (first ∙ ap (λ (w : ℕ). front_place w line) (sym same)) (second ∙ ap (λ (w : ℕ). front + w) (sym same)) struck)
+    refl inside h k one quiet two quiet'
+
+-- the line of the place before its first square
+pub front_line : (w line : ℕ) → line < 2 * w → view_line w (front_place w line) ≡ line
+front_line w line inside = elim (cases_lt line w) [
+  | inl row ↦
+      rw (lt-ltb line w row, le-ltb (2 * w + line) w (omega arith), le-ltb (2 * w + line) (2 * w) (omega arith), lt-ltb (2 * w + line) (3 * w) (omega arith))
+      (omega arith)
+  | inr column ↦ rw (le-ltb line w column, lt-ltb (line - w) w (omega arith)) (omega arith)
+]
 
 -- ---- all that a puzzle strikes
 

@@ -3,6 +3,7 @@ pub mod ChangedLines
 pub mod Filled
 pub mod LineTallies
 pub mod Narrowing
+pub mod QuietLines
 pub mod TowersFields
 pub mod TowersLines
 pub mod UnequalFields

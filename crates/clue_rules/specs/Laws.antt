@@ -7,6 +7,7 @@ pub mod GoodPieces
 pub mod KeptItems
 pub mod Letters
 pub mod Neighbours
+pub mod OwnLines
 pub mod Pieces
 pub mod RangeTests
 pub mod Refusals

@@ -13,7 +13,9 @@ use Rattle.tower_lines.specs.TowersSeen.{seen}
 use Rattle.clue_rules.specs.Towers.{TowersValue, IsTowers, clue_of, holds_clues}
 use Rattle.clue_rules.specs.Views.{view_of, view_cell, view_line, view_index}
 use Rattle.clue_rules.specs.Laws.TowersItems.{clues_decide, length-view_of}
-use Rattle.clue_rules.proofs.ViewSteps.{view_line_low, view_index_low, view_index_apart, view_inside, view_number}
+use Rattle.clue_rules.specs.Laws.Edges.{view_line_low, view_index_low}
+use Rattle.clue_rules.proofs.LineSquares.{view_index_apart, view_inside}
+use Rattle.clue_rules.proofs.ViewSteps.{view_number}
 use Rattle.board_checks.specs.declared.spot.Spot.{Spot}
 use Rattle.board_checks.specs.declared.spot.Spot.TheVariants.{Edge, RightOf, Below}
 use Rattle.board_checks.specs.Demands.{Demand, IsOnLine, numbers_of}

@@ -62,6 +62,8 @@ pub record KeepsInView (place : ℕ) (kept : List ℕ) (old new : CandidatesValu
   pub empty : OnFalse left ((k : ℕ) × (k < old.size) × ((v : ℕ) → has_number (slice_index kept k) v ≡ false))
   pub gone : OnTrue left ((k v : ℕ) → k < old.size → IsPair old.size (view_cell old.size place k) v
       → has_number (slice_index kept k) v ≡ false → may_be new (view_cell old.size place k) v ≡ false)
+  pub rest : (k v : ℕ) → k < old.size → has_number (slice_index kept k) v ≡ true
+      → may_be new (view_cell old.size place k) v ≡ may_be old (view_cell old.size place k) v
 
 -- what rows and columns strike, and what a rule strikes along one of the lines
 abbrev pub IsStruckByLines : (ℕ → CandidatesValue → ℕ → ℕ → Type 0) → CandidatesValue → ℕ → ℕ → Type 0

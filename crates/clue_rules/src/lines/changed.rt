@@ -1,7 +1,7 @@
 //! Which rows and columns have to be looked at again.
 
 ghost use Rattle.clue_rules.specs.Inner.ChangedLines.{GainsLine, GainsLinesOf, LosesLine};
-ghost use Rattle.std.specs.Prelude.{◌≡◌, ℕ, ◌+◌, ◌*◌, ◌/◌, ◌%◌, ◌<◌, ◌==◌};
+ghost use Rattle.std.specs.Prelude.{◌≡◌, ℕ, ◌+◌, ◌*◌, ◌/◌, ◌%◌, ◌<◌, ◌==◌, nat_lt};
 ghost use Rattle.number_sets.specs.Sets.{has_number, no_numbers};
 
 use latin_board::Size;
@@ -27,6 +27,16 @@ impl Lines {
         ensures { result ≡ no_numbers }
     {
         Lines { bits: 0 }
+    }
+
+    // The first lines, as many as are asked for.
+    fn first(count: u8) -> Lines
+        requires { count < 32 }
+        ensures { (k : ℕ) → has_number result k ≡ nat_lt k count }
+    {
+        Lines {
+            bits: (1 << count) - 1,
+        }
     }
 
     fn is_empty(self) -> bool
@@ -113,6 +123,18 @@ impl ChangedLines {
         ChangedLines {
             latin: Lines::none(),
             rule: Lines::none(),
+        }
+    }
+
+    /// Every line of a grid of the size.
+    pub fn all(size: Size) -> ChangedLines
+        ensures latin { (k : ℕ) → has_number result.latin k ≡ nat_lt k (2 * size) }
+        ensures rule { (k : ℕ) → has_number result.rule k ≡ nat_lt k (2 * size) }
+    {
+        let count = 2 * size.get();
+        ChangedLines {
+            latin: Lines::first(count),
+            rule: Lines::first(count),
         }
     }
 

@@ -1,9 +1,10 @@
 //! What the squares of a row or a column rule out among themselves.
 
 ghost use Rattle.std.specs.Prelude.{ℕ, ◌-◌, ◌*◌, ◌<◌, ◌≤◌, ◌&&◌, true, false, MatchOption, slice_index};
+ghost use Rattle.std.specs.Bool.{OnTrue};
 ghost use Rattle.clue_rules.specs.Inner.Narrowing.{IsSquare, Narrows, NoneStruck};
+ghost use Rattle.clue_rules.specs.Inner.QuietLines.{AreQuiet, AreQuietBut, Notes, NotesIn, IsPassed, ArePassed};
 ghost use Rattle.clue_rules.specs.Inner.LineTallies.{AreImpossible, IsWholeTally, IsSettledTally, IsSinglesOf, IsCounted, IsClash, IsForced, IsFree, IsKeptOf, IsLineStruck};
-ghost use Rattle.clue_rules.specs.Struck.{IsLatinStruck};
 ghost use Rattle.clue_rules.specs.Views.{front_place};
 
 use crate::lines::changed::ChangedLines;
@@ -12,31 +13,15 @@ use crate::lines::views::{LINE, front_place};
 use number_sets::NumberSet;
 use trail_solver::Candidates;
 
-/// Takes away what rows and columns rule out, until they say no more: the value of a square that has just one goes from
-/// the rest of its lines, and all other values go from a square that is the one place of a value in a line.
-pub(crate) fn narrow_latin(candidates: &mut Candidates, changed: &mut ChangedLines) -> bool
-    ensures { Narrows IsSquare IsLatinStruck candidates.old candidates.new result }
-{
-    strike_lines(candidates, changed) && settle_latin(candidates, changed)
-}
-
-// Looks at every line once.
-fn strike_lines(candidates: &mut Candidates, changed: &mut ChangedLines) -> bool
-    ensures { Narrows IsSquare IsLatinStruck candidates.old candidates.new result }
-{
-    let width = candidates.size().get();
-    for line in 0..2 * width {
-        if !strike_line(candidates, line, changed) {
-            return false;
-        }
-    }
-    true
-}
-
-/// Looks at the lines that changed, until none does.
+/// Takes away what rows and columns rule out in the lines that changed, until they say no more: the value of a square that
+/// has just one goes from the rest of its lines, and all other values go from a square that is the one place of a value in a
+/// line. Where all other lines said no more before, none does.
 #[tactic(auto, using(crate::proofs::Narrowings::trail_nearer))]
 pub(crate) fn settle_latin(candidates: &mut Candidates, changed: &mut ChangedLines) -> bool
-    ensures { Narrows IsSquare NoneStruck candidates.old candidates.new result }
+    ensures narrows { Narrows IsSquare NoneStruck candidates.old candidates.new result }
+    ensures quiet { OnTrue result (AreQuietBut changed.old.latin IsLineStruck candidates.old
+        → AreQuiet IsLineStruck candidates.new) }
+    ensures rule { NotesIn candidates.old candidates.new changed.old.rule changed.new.rule }
 {
     let _size = candidates.size();
     loop {
@@ -53,23 +38,43 @@ pub(crate) fn settle_latin(candidates: &mut Candidates, changed: &mut ChangedLin
     }
 }
 
-// Looks once at the lines that changed.
+// Looks once at the lines that changed. Where nothing goes, none is left to look at.
 fn strike_changed(candidates: &mut Candidates, changed: &mut ChangedLines) -> bool
-    ensures { Narrows IsSquare NoneStruck candidates.old candidates.new result }
+    ensures narrows { Narrows IsSquare NoneStruck candidates.old candidates.new result }
+    ensures quiet { OnTrue result (AreQuietBut changed.old.latin IsLineStruck candidates.old
+        → AreQuietBut changed.new.latin IsLineStruck candidates.new) }
+    ensures passed { OnTrue result (ArePassed (2 * candidates.old.size)
+        candidates.old candidates.new changed.new.latin) }
+    ensures rule { NotesIn candidates.old candidates.new changed.old.rule changed.new.rule }
 {
     let width = candidates.size().get();
     for line in 0..2 * width {
-        if changed.take_latin(line) && !strike_line(candidates, line, changed) {
+        if !strike_if_changed(candidates, line, changed) {
             return false;
         }
     }
     true
 }
 
+// Looks at a row or column if it changed.
+fn strike_if_changed(candidates: &mut Candidates, line: u8, changed: &mut ChangedLines) -> bool
+    requires { line < 2 * candidates.old.size }
+    ensures narrows { Narrows IsSquare NoneStruck candidates.old candidates.new result }
+    ensures quiet { OnTrue result (AreQuietBut changed.old.latin IsLineStruck candidates.old
+        → AreQuietBut changed.new.latin IsLineStruck candidates.new) }
+    ensures passed { OnTrue result (IsPassed line
+        candidates.old candidates.new changed.old.latin changed.new.latin) }
+    ensures rule { NotesIn candidates.old candidates.new changed.old.rule changed.new.rule }
+{
+    let _size = candidates.size();
+    !changed.take_latin(line) || strike_line(candidates, line, changed)
+}
+
 // Takes away what one row or column rules out.
 fn strike_line(candidates: &mut Candidates, line: u8, changed: &mut ChangedLines) -> bool
     requires { line < 2 * candidates.old.size }
-    ensures { Narrows IsSquare (IsLineStruck line) candidates.old candidates.new result }
+    ensures narrows { Narrows IsSquare (IsLineStruck line) candidates.old candidates.new result }
+    ensures notes { Notes candidates.old candidates.new changed.old changed.new }
 {
     let size = candidates.size();
     let width = size.get() as usize;

@@ -1,8 +1,9 @@
 //! The candidates of the squares that an edge place looks along.
 
-ghost use Rattle.std.specs.Prelude.{◌≡◌, ℕ, ◌*◌, ◌<◌, ◌≤◌, ◌==◌, not, slice_index};
+ghost use Rattle.std.specs.Prelude.{◌≡◌, ℕ, ◌*◌, ◌<◌, ◌≤◌, ◌==◌, length, not, slice_index};
 ghost use Rattle.std.specs.Bool.{OnFalse, OnTrue};
 ghost use Rattle.clue_rules.specs.Inner.Narrowing.{AreSetsOf, KeepsInView, KeepsInSquare};
+ghost use Rattle.clue_rules.specs.Inner.QuietLines.{Notes};
 ghost use Rattle.clue_rules.specs.Views.{view_cell};
 
 use crate::lines::changed::ChangedLines;
@@ -35,7 +36,8 @@ pub(crate) fn keep_fewer_in_view(
 ) -> bool
     requires place { place < 4 * candidates.old.size }
     requires sets { AreSetsOf candidates.old place sets.now }
-    ensures { KeepsInView place kept.now candidates.old candidates.new result }
+    ensures kept { KeepsInView place kept.now candidates.old candidates.new result }
+    ensures notes { Notes candidates.old candidates.new changed.old changed.new }
 {
     if are_same(sets, kept, candidates.size().get() as usize) {
         return true;
@@ -65,7 +67,8 @@ pub(crate) fn keep_in_view(
     changed: &mut ChangedLines,
 ) -> bool
     requires { place < 4 * candidates.old.size }
-    ensures { KeepsInView place kept.now candidates.old candidates.new result }
+    ensures kept { KeepsInView place kept.now candidates.old candidates.new result }
+    ensures notes { Notes candidates.old candidates.new changed.old changed.new }
 {
     let size = candidates.size();
     let view = View::from(size, place);
@@ -79,6 +82,7 @@ pub(crate) fn keep_in_view(
 
 /// Takes all values but those of a set from a square, notes its lines where it had others, and tells whether the set has
 /// any.
+#[tactic(auto, using(crate::proofs::QuietSteps::both_kept))]
 pub(crate) fn keep_in_square(
     candidates: &mut Candidates,
     cell: usize,
@@ -88,12 +92,14 @@ pub(crate) fn keep_in_square(
     requires { cell < candidates.old.size * candidates.old.size }
     ensures kept { KeepsInSquare candidates.old candidates.new cell kept }
     ensures some { result ≡ not (kept == 0) }
+    ensures notes { Notes candidates.old candidates.new changed.old changed.new }
 {
     let size = candidates.size();
+    let some = !kept.is_empty();
     if strike_missing(candidates, cell, kept) {
         changed.note(size, cell);
     }
-    !kept.is_empty()
+    some
 }
 
 /// Takes the values that a set lacks from a square, and tells whether there were any.
@@ -101,6 +107,7 @@ pub(crate) fn strike_missing(candidates: &mut Candidates, cell: usize, kept: Num
     requires { cell < candidates.old.size * candidates.old.size }
     ensures kept { KeepsInSquare candidates.old candidates.new cell kept }
     ensures same { OnFalse result (candidates.new ≡ candidates.old) }
+    ensures longer { OnTrue result (length candidates.old.trail < length candidates.new.trail) }
 {
     let _size = candidates.size();
     let missing = candidates.values(cell).difference(kept);

@@ -1,13 +1,15 @@
 //! What the clues of Towers rule out along a line.
 
-ghost use Rattle.std.specs.Prelude.{◌≡◌, ◌+◌, ◌*◌, ◌<◌, ◌≤◌, true};
+ghost use Rattle.std.specs.Prelude.{◌≡◌, ◌≢◌, ◌+◌, ◌*◌, ◌<◌, ◌≤◌, length, true};
 ghost use Rattle.std.specs.Bool.{OnTrue};
 ghost use Rattle.tower_lines.specs.TowersSeen.{seen};
 ghost use Rattle.trail_solver.specs.Puzzles.{Solves};
-ghost use Rattle.clue_rules.specs.Inner.Narrowing.{Narrows};
+ghost use Rattle.clue_rules.specs.Inner.ChangedLines.{LosesLine};
+ghost use Rattle.clue_rules.specs.Inner.Narrowing.{Narrows, NoneStruck, LacksStruck};
+ghost use Rattle.clue_rules.specs.Inner.QuietLines.{Notes, NotesIn, NotesBut};
 ghost use Rattle.clue_rules.specs.Towers.{towers_puzzle};
 ghost use Rattle.clue_rules.specs.Struck.{IsViewStruck};
-ghost use Rattle.clue_rules.specs.Inner.TowersLines.{IsStruckAlong, IsStruckAt, ShowsClue, AreSupported};
+ghost use Rattle.clue_rules.specs.Inner.TowersLines.{IsStruckAt, ShowsClue, AreSupported};
 ghost use Rattle.clue_rules.specs.Inner.LineTallies.{HoldValuesTo};
 
 use crate::lines::changed::ChangedLines;
@@ -22,7 +24,8 @@ use trail_solver::Candidates;
 impl LineRules for Towers {
     ghost use Rattle.trail_solver.specs.Puzzles.{Solves};
     ghost use Rattle.clue_rules.specs.Towers.{towers_puzzle};
-    ghost use Rattle.clue_rules.specs.Inner.TowersLines.{IsStruckAlong, IsStruckAt, ShowsClue, AreSupported};
+    ghost use Rattle.clue_rules.specs.Inner.TowersLines.{IsStruckAlong};
+    ghost use Rattle.clue_rules.specs.Laws.OwnLines.{along_own};
 
     ghost width = { λ v. v.size };
 
@@ -43,6 +46,8 @@ impl LineRules for Towers {
     }
 
     ghost squares = { λ v g s. record { is_grid = s.is_grid; latin = s.latin } };
+
+    ghost own_line = { along_own };
 }
 
 impl Towers {
@@ -58,15 +63,17 @@ impl Towers {
         requires size { candidates.old.size ≡ self.now.size }
         requires place { place < 4 * candidates.old.size }
         requires line { line < 2 * candidates.old.size }
-        ensures { Narrows (Solves (towers_puzzle self.now)) (IsStruckAt self.now place)
+        ensures narrows { Narrows (Solves (towers_puzzle self.now)) NoneStruck
             candidates.old candidates.new result }
+        ensures quiet { OnTrue result (LacksStruck (IsStruckAt self.now place)
+            candidates.new candidates.new) }
+        ensures latin { NotesIn candidates.old candidates.new changed.old.latin changed.new.latin }
+        ensures rule { NotesBut line candidates.old candidates.new changed.old.rule changed.new.rule }
     {
         let _size = candidates.size();
         let before = candidates.trail_len();
         let left = self.strike_view(candidates, place, changed);
-        if candidates.trail_len() == before {
-            let _changed_by_front = changed.take_rule(line);
-        }
+        leave_out_if_idle(candidates, before, line, changed);
         left
     }
 
@@ -79,8 +86,11 @@ impl Towers {
     ) -> bool
         requires size { candidates.old.size ≡ self.now.size }
         requires place { place < 4 * candidates.old.size }
-        ensures { Narrows (Solves (towers_puzzle self.now)) (IsStruckAt self.now place)
+        ensures narrows { Narrows (Solves (towers_puzzle self.now)) NoneStruck
             candidates.old candidates.new result }
+        ensures quiet { OnTrue result (LacksStruck (IsStruckAt self.now place)
+            candidates.new candidates.new) }
+        ensures notes { Notes candidates.old candidates.new changed.old changed.new }
     {
         let clue = self.clue(place);
         if clue == 0 {
@@ -90,13 +100,28 @@ impl Towers {
     }
 }
 
+// Takes a line off those that are to be looked at for the clues, if the trail is as long as before.
+fn leave_out_if_idle(candidates: &Candidates, before: usize, line: u8, changed: &mut ChangedLines)
+    requires { line < 32 }
+    ensures latin { changed.new.latin ≡ changed.old.latin }
+    ensures idle { before ≡ length candidates.now.trail
+        → LosesLine line changed.old.rule changed.new.rule }
+    ensures longer { before ≢ length candidates.now.trail → changed.new.rule ≡ changed.old.rule }
+{
+    if candidates.trail_len() == before {
+        let _changed_by_front = changed.take_rule(line);
+    }
+}
+
 // Keeps, in each square from a place, the values that some line of candidates has there that shows as many towers as the
 // clue says.
 fn narrow_view(candidates: &mut Candidates, place: u8, clue: u8, changed: &mut ChangedLines) -> bool
     requires place { place < 4 * candidates.old.size }
     requires clue { clue ≤ candidates.old.size }
-    ensures { Narrows (ShowsClue place clue) (IsViewStruck place clue)
-        candidates.old candidates.new result }
+    ensures narrows { Narrows (ShowsClue place clue) NoneStruck candidates.old candidates.new result }
+    ensures quiet { OnTrue result (LacksStruck (IsViewStruck place clue)
+        candidates.new candidates.new) }
+    ensures notes { Notes candidates.old candidates.new changed.old changed.new }
 {
     let width = candidates.size().get() as usize;
     let sets = view_sets(candidates, place);

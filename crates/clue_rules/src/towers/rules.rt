@@ -90,7 +90,8 @@ impl Rules for Towers {
         self.holds_clues(grid)
     }
 
-    /// Where it answers true, no pair is left that a given rules out, or rows and columns or a clue by the candidates at first.
+    /// Where it answers true, no pair is left that a given rules out, or rows and columns or a clue by the candidates at first
+    /// or by those that are left: to narrow once more would take nothing away for any of these.
     fn narrow(&self, candidates: &mut Candidates) -> bool
         requires { candidates.old.size ≡ self.now.size }
         ensures less { IsEarlier candidates.old candidates.new }
@@ -99,6 +100,8 @@ impl Rules for Towers {
             (HasNoSolutionWithin (towers_puzzle self.now) candidates.old) }
         ensures struck { OnTrue result
             (NoneLeft (IsTowersStruck self.now) candidates.old candidates.new) }
+        ensures settled { OnTrue result
+            (NoneLeft (IsTowersStruck self.now) candidates.new candidates.new) }
     {
         keep_givens(candidates, self.givens());
         self.keep_low_towers(candidates);

@@ -4,8 +4,9 @@ ghost use Rattle.std.specs.Prelude.{◌≡◌, ◌+◌, ◌*◌, ◌<◌, MatchO
 ghost use Rattle.trail_solver.specs.Puzzles.{Solves};
 ghost use Rattle.clue_rules.specs.declared.unequal.sign.Sign.TheVariants.{Absent};
 ghost use Rattle.clue_rules.specs.Inner.Narrowing.{Narrows};
+ghost use Rattle.clue_rules.specs.Inner.QuietLines.{Notes};
 ghost use Rattle.clue_rules.specs.Unequal.{IsUnequal, sign_between, unequal_puzzle};
-ghost use Rattle.clue_rules.specs.Inner.UnequalLines.{AreEnds, IsStruckAt, IsStruckOn, IsStruckAlong};
+ghost use Rattle.clue_rules.specs.Inner.UnequalLines.{AreEnds, IsStruckAt};
 
 use crate::lines::changed::ChangedLines;
 use crate::lines::narrowing::LineRules;
@@ -19,6 +20,7 @@ impl LineRules for Unequal {
     ghost use Rattle.trail_solver.specs.Puzzles.{Solves};
     ghost use Rattle.clue_rules.specs.Unequal.{unequal_puzzle};
     ghost use Rattle.clue_rules.specs.Inner.UnequalLines.{IsStruckAlong};
+    ghost use Rattle.clue_rules.specs.Laws.OwnLines.{signs_own};
 
     ghost width = { λ v. v.size };
 
@@ -45,6 +47,8 @@ impl LineRules for Unequal {
     }
 
     ghost squares = { λ v g s. record { is_grid = s.is_grid; latin = s.latin } };
+
+    ghost own_line = { signs_own };
 }
 
 impl Unequal {
@@ -59,8 +63,9 @@ impl Unequal {
         requires size { candidates.old.size ≡ self.now.size }
         requires first { first < self.now.size * self.now.size }
         requires second { second < self.now.size * self.now.size }
-        ensures { Narrows (Solves (unequal_puzzle self.now)) (IsStruckAt self.now first second)
+        ensures narrows { Narrows (Solves (unequal_puzzle self.now)) (IsStruckAt self.now first second)
             candidates.old candidates.new result }
+        ensures notes { Notes candidates.old candidates.new changed.old changed.new }
     {
         match self.ends(first, second) {
             Some(ends) => ends.strike(candidates, changed),
@@ -103,8 +108,9 @@ impl SignEnds {
     // Takes away what doesn't let the greater end hold the greater number.
     fn strike(self, candidates: &mut Candidates, changed: &mut ChangedLines) -> bool
         requires { AreInside candidates.old.size self }
-        ensures { Narrows (HoldsGreater self) (IsEndStruck self)
+        ensures narrows { Narrows (HoldsGreater self) (IsEndStruck self)
             candidates.old candidates.new result }
+        ensures notes { Notes candidates.old candidates.new changed.old changed.new }
     {
         self.strike_lesser(candidates, changed) && self.strike_greater(candidates, changed)
     }
@@ -112,8 +118,9 @@ impl SignEnds {
     // Keeps in the lesser end what is below some candidate of the greater one.
     fn strike_lesser(self, candidates: &mut Candidates, changed: &mut ChangedLines) -> bool
         requires { AreInside candidates.old.size self }
-        ensures { Narrows (HoldsGreater self) (IsLesserStruck self)
+        ensures narrows { Narrows (HoldsGreater self) (IsLesserStruck self)
             candidates.old candidates.new result }
+        ensures notes { Notes candidates.old candidates.new changed.old changed.new }
     {
         let kept = candidates.values(self.greater).below_greatest();
         keep_in_square(candidates, self.lesser, kept, changed)
@@ -122,8 +129,9 @@ impl SignEnds {
     // Keeps in the greater end what is above some candidate of the lesser one.
     fn strike_greater(self, candidates: &mut Candidates, changed: &mut ChangedLines) -> bool
         requires { AreInside candidates.old.size self }
-        ensures { Narrows (HoldsGreater self) (IsGreaterStruck self)
+        ensures narrows { Narrows (HoldsGreater self) (IsGreaterStruck self)
             candidates.old candidates.new result }
+        ensures notes { Notes candidates.old candidates.new changed.old changed.new }
     {
         let _size = candidates.size();
         let kept = candidates.values(self.lesser).above_least();

@@ -133,7 +133,8 @@ impl Rules for Unequal {
         self.holds_signs(grid)
     }
 
-    /// Where it answers true, no pair is left that a given rules out, or rows and columns or a sign by the candidates at first.
+    /// Where it answers true, no pair is left that a given rules out, or rows and columns or a sign by the candidates at first
+    /// or by those that are left: to narrow once more would take nothing away for any of these.
     fn narrow(&self, candidates: &mut Candidates) -> bool
         requires { candidates.old.size ≡ self.now.size }
         ensures less { IsEarlier candidates.old candidates.new }
@@ -142,6 +143,8 @@ impl Rules for Unequal {
             (HasNoSolutionWithin (unequal_puzzle self.now) candidates.old) }
         ensures struck { OnTrue result
             (NoneLeft (IsUnequalStruck self.now) candidates.old candidates.new) }
+        ensures settled { OnTrue result
+            (NoneLeft (IsUnequalStruck self.now) candidates.new candidates.new) }
     {
         keep_givens(candidates, self.givens());
         narrow_by_lines(self, candidates)

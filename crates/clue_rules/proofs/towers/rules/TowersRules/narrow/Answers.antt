@@ -1,5 +1,7 @@
-use Rattle.trail_solver.proofs.Earlier.{earlier_trans}
+use Rattle.trail_solver.proofs.Earlier.{earlier_refl, earlier_trans}
 use Rattle.clue_rules.proofs.LowTowers.{none_left_later}
+use Rattle.clue_rules.specs.Inner.Narrowing.{IsStruckByLines}
+use Rattle.clue_rules.specs.Inner.TowersLines.{IsStruckAlong}
 use Rattle.clue_rules.proofs.Narrowings.{on_true, struck_gone}
 use Rattle.clue_rules.specs.Struck.{IsGivenStruck}
 use Rattle.clue_rules.specs.Towers.{towers_given_grid}
@@ -8,10 +10,27 @@ use Rattle.clue_rules.proofs.towers.rules.TowersRules.narrow.Goals as goal
 
 pub returns-clause-struck : goal.returns-clause-struck
 returns-clause-struck c =
+    let v = c.args.self.now in
     let old = c.args.candidates.now in
     let given = c.keep_givens.new.candidates in
     let low = c.keep_low_towers.new.candidates in
-    let gone = none_left_later (λ k. IsGivenStruck (towers_given_grid c.args.self.now)) old given low (rw c.givens.ensures at c.keep_givens.ensures.struck)
+    let new = c.narrow_by_lines.new.candidates in
+    let gone = none_left_later (λ k. IsGivenStruck (towers_given_grid v)) old given low (rw c.givens.ensures at c.keep_givens.ensures.struck)
     c.keep_low_towers.ensures.less in
-    on_true c.narrow_by_lines.result (λ gone cell v pair s. gone cell v pair (towers_by_lines c.args.self.now old cell v s))
-    (struck_gone {first = old} gone (earlier_trans old given low c.keep_givens.ensures.less c.keep_low_towers.ensures.less) c.narrow_by_lines.ensures)
+    let first = earlier_trans old given low c.keep_givens.ensures.less c.keep_low_towers.ensures.less in
+    on_true c.narrow_by_lines.result (λ lost cell value pair s. lost cell value pair (towers_by_lines v old cell value s))
+    (struck_gone (IsStruckByLines (IsStruckAlong v)) c.narrow_by_lines.result old low new old gone first c.narrow_by_lines.ensures.narrows.less
+    (earlier_trans old low new first c.narrow_by_lines.ensures.narrows.less) c.narrow_by_lines.ensures.quiet)
+
+pub returns-clause-settled : goal.returns-clause-settled
+returns-clause-settled c =
+    let v = c.args.self.now in
+    let old = c.args.candidates.now in
+    let given = c.keep_givens.new.candidates in
+    let low = c.keep_low_towers.new.candidates in
+    let new = c.narrow_by_lines.new.candidates in
+    let gone = none_left_later (λ k. IsGivenStruck (towers_given_grid v)) old given low (rw c.givens.ensures at c.keep_givens.ensures.struck)
+    c.keep_low_towers.ensures.less in
+    let first = earlier_trans old given low c.keep_givens.ensures.less c.keep_low_towers.ensures.less in
+    on_true c.narrow_by_lines.result (λ lost cell value pair s. lost cell value pair (towers_by_lines v new cell value s))
+    (struck_gone (IsStruckByLines (IsStruckAlong v)) c.narrow_by_lines.result old low new new gone first c.narrow_by_lines.ensures.narrows.less (earlier_refl new) c.narrow_by_lines.ensures.quiet)

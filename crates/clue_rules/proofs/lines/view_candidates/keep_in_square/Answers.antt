@@ -1,0 +1,12 @@
+use Rattle.std.proofs.Common.{◌<◌, length}
+use Rattle.std.proofs.lemmas.Bool.{OnTrue_at}
+use Rattle.clue_rules.proofs.NotedSquares.{both_noted}
+use Rattle.clue_rules.proofs.lines.view_candidates.keep_in_square.Goals as goal
+
+pub returns-then-strike_missing-clause-notes : goal.returns-then-strike_missing-clause-notes
+returns-then-strike_missing-clause-notes c =
+    let old = c.args.candidates.now in
+    let new = c.strike_missing.new.candidates in
+    let longer = OnTrue_at {P = length old.trail < length new.trail} c.if-strike_missing.true c.strike_missing.ensures.longer in
+    both_noted old new c.args.cell c.args.changed.now c.note.new.self c.strike_missing.ensures.kept longer
+    (rw c.size-size.ensures.value at c.note.ensures.latin) (rw c.size-size.ensures.value at c.note.ensures.rule)

@@ -1,0 +1,160 @@
+-- What is struck along a line can be told from the candidates of its squares.
+use Rattle.std.proofs.Common.{◌≡◌, ℕ, ◌+◌, ◌-◌, ◌<◌, List, slice_index, inl, inr, sym, ap, ◌∙◌, subst, arith}
+use Rattle.latin_board.specs.Lines.{line_cell}
+use Rattle.trail_solver.specs.Candidates.{CandidatesValue, IsOnly, may_be}
+use Rattle.trail_solver.specs.Pairs.{IsPair}
+use Rattle.clue_rules.specs.Inner.LineTallies.{IsLineStruck}
+use Rattle.clue_rules.specs.Inner.QuietLines.{AreSameAlong, IsOfLine}
+use Rattle.clue_rules.specs.Inner.TowersLines.{IsStruckAlong, IsStruckAt}
+use Rattle.clue_rules.specs.Inner.UnequalLines as unequal
+use Rattle.clue_rules.specs.Struck.{IsOnePlace, IsViewFilling, IsViewStruck}
+use Rattle.clue_rules.specs.Towers.{TowersValue, clue_of}
+use Rattle.clue_rules.specs.Unequal.{UnequalValue}
+use Rattle.clue_rules.specs.Views.{view_cell, view_index, view_line}
+use Rattle.clue_rules.specs.Laws.Edges.{view_index_low}
+use Rattle.clue_rules.specs.declared.unequal.lines.SignEnds.{SignEnds}
+
+-- ---- rows and columns
+
+-- a square of the line, by the width of the second
+there : (line : ℕ) (a b : CandidatesValue) → AreSameAlong line a b → (k : ℕ) → line_cell b.size line k ≡ line_cell a.size line k
+there line a b same k = ap (λ (w : ℕ). line_cell w line k) same.size
+
+-- its candidates in the second are those in the first
+left_there : (line : ℕ) (a b : CandidatesValue) → AreSameAlong line a b → (k v : ℕ) → k < a.size
+    → may_be b (line_cell b.size line k) v ≡ may_be a (line_cell a.size line k) v
+left_there line a b same k v inside = ap (λ (i : ℕ). may_be b i v) (there line a b same k) ∙ same.each k v inside
+
+only_there : (line : ℕ) (a b : CandidatesValue) → AreSameAlong line a b → (k v : ℕ) → k < a.size → IsOnly a (line_cell a.size line k) v
+    → IsOnly b (line_cell b.size line k) v
+only_there line a b same k v inside only = record {
+  low = only.low;
+  high = omega (arith, only.high, same.size);
+  left = left_there line a b same k v inside ∙ only.left;
+  alone = λ u low high has. only.alone u low (omega (arith, high, same.size)) (sym (left_there line a b same k u inside) ∙ has);
+}
+
+one_there : (line : ℕ) (a b : CandidatesValue) → AreSameAlong line a b → (v k : ℕ) → IsOnePlace a line v k → IsOnePlace b line v k
+one_there line a b same v k one = record {
+  inside = omega (arith, one.inside, same.size);
+  left = left_there line a b same k v one.inside ∙ one.left;
+  alone = λ j inside has.
+      let low : j < a.size = omega (arith, inside, same.size) in
+      one.alone j low (sym (left_there line a b same j v low) ∙ has);
+}
+
+pub line_own : (w line : ℕ) → IsOfLine w line (IsLineStruck line)
+line_own w line a b size same cell v s = record {
+  index = s.index;
+  inside = omega (arith, s.inside, same.size);
+  here = there line a b same s.index ∙ s.here;
+  why = elim s.why [
+    | inl taken ↦ inl (record {
+      by = taken.by;
+      inside = omega (arith, taken.inside, same.size);
+      apart = taken.apart;
+      only = only_there line a b same taken.by v taken.inside taken.only;
+    })
+    | inr displaced ↦ inr (record {
+      other = displaced.other;
+      low = displaced.low;
+      high = omega (arith, displaced.high, same.size);
+      apart = displaced.apart;
+      one = one_there line a b same displaced.other s.index displaced.one;
+    })
+  ];
+}
+
+-- ---- the clues of Towers
+
+-- a filling by the second candidates is one by the first
+filling_there : (line place clue : ℕ) (a b : CandidatesValue) → view_line a.size place ≡ line → AreSameAlong line a b → (values : List ℕ)
+    → IsViewFilling b place clue values → IsViewFilling a place clue values
+filling_there line place clue a b on same values f =
+    let cell : (k : ℕ) → view_cell b.size place k ≡ view_cell a.size place k = λ k. ap (λ (w : ℕ). view_cell w place k) same.size in
+    record {
+      whole = f.whole ∙ same.size;
+      pairs = λ k low.
+          let pair = f.pairs k (omega (arith, low, same.size)) in
+          let P : ℕ → Type 0 = λ w. IsPair w (view_cell w place k) (slice_index values k) in
+          subst P same.size pair;
+      candidates = λ k low.
+          let v = slice_index values k in
+          let has = f.candidates k (omega (arith, low, same.size)) in
+          let at : view_cell a.size place k ≡ line_cell a.size line (view_index a.size place k) =
+          ap (λ (l : ℕ). line_cell a.size l (view_index a.size place k)) on in
+          ap (λ (i : ℕ). may_be a i v) at
+          ∙ sym (same.each (view_index a.size place k) v (view_index_low a.size place k low))
+          ∙ ap (λ (i : ℕ). may_be b i v) (sym at ∙ sym (cell k))
+          ∙ has;
+      apart = λ i j before low. f.apart i j before (omega (arith, low, same.size));
+      shown = f.shown;
+    }
+
+view_there : (line place clue : ℕ) (a b : CandidatesValue) → view_line a.size place ≡ line → AreSameAlong line a b → (cell v : ℕ)
+    → IsViewStruck place clue a cell v → IsViewStruck place clue b cell v
+view_there line place clue a b on same cell v s = record {
+  index = s.index;
+  inside = omega (arith, s.inside, same.size);
+  here = ap (λ (w : ℕ). view_cell w place s.index) same.size ∙ s.here;
+  unfilled = record { none = λ values f. s.unfilled.none values (filling_there line place clue a b on same values f) };
+}
+
+-- what one end's clue strikes
+pub end_own : (v : TowersValue) (w line place : ℕ) → view_line w place ≡ line → IsOfLine w line (IsStruckAt v place)
+end_own v w line place on a b size same cell value s =
+    (s.0, view_there line place (clue_of v place) a b (ap (λ (n : ℕ). view_line n place) size ∙ on) same cell value s.1)
+
+-- what the clues at both ends strike
+pub along_own : (v : TowersValue) (line : ℕ) → IsOfLine v.size line (IsStruckAlong v line)
+along_own v line a b size same cell value s = record {
+  place = s.place;
+  place_is = omega (arith, s.place_is, same.size);
+  line_is = ap (λ (w : ℕ). view_line w s.place) same.size ∙ s.line_is;
+  clued = s.clued;
+  struck = view_there line s.place (clue_of v s.place) a b s.line_is same cell value s.struck;
+}
+
+-- ---- the signs of Unequal
+
+-- both ends are squares of the line
+record AreOnLine (w line : ℕ) (ends : SignEnds) : Type 0 where
+  pub greater : (k : ℕ) × (k < w) × (ends.greater ≡ line_cell w line k)
+  pub lesser : (k : ℕ) × (k < w) × (ends.lesser ≡ line_cell w line k)
+
+ends_on_line : (v : UnequalValue) (line k : ℕ) (ends : SignEnds) → k < v.size - 1
+    → unequal.AreEnds v (line_cell v.size line k) (line_cell v.size line (k + 1)) ends → AreOnLine v.size line ends
+ends_on_line v line k ends low are = elim are.is [
+  | inl first ↦ record { greater = (k, omega arith, first.1); lesser = (k + 1, omega arith, first.2) }
+  | inr second ↦ record { greater = (k + 1, omega arith, second.1); lesser = (k, omega arith, second.2) }
+]
+
+-- a candidate of a square of the line in the second is one in the first
+square_there : (line : ℕ) (a b : CandidatesValue) (cell : ℕ) → AreSameAlong line a b → ((k : ℕ) × (k < a.size) × (cell ≡ line_cell a.size line k))
+    → (u : ℕ) → may_be b cell u ≡ may_be a cell u
+square_there line a b cell same on u =
+    ap (λ (i : ℕ). may_be b i u) on.2 ∙ same.each on.0 u on.1 ∙ ap (λ (i : ℕ). may_be a i u) (sym on.2)
+
+pub signs_own : (v : UnequalValue) (line : ℕ) → IsOfLine v.size line (unequal.IsStruckAlong v line)
+signs_own v line a b size same cell value s =
+    let k = s.0 in
+    let at = s.2 in
+    let on : AreOnLine a.size line at.ends =
+    subst (λ (w : ℕ). AreOnLine w line at.ends) (sym size) (ends_on_line v line k at.ends s.1 at.are) in (
+      k,
+      s.1,
+      record {
+        ends = at.ends;
+        are = at.are;
+        struck = elim at.struck [
+          | inl lesser ↦ inl (record {
+            here = lesser.here;
+            none = λ u above most. square_there line a b at.ends.greater same on.greater u ∙ lesser.none u above (omega (arith, most, same.size));
+          })
+          | inr greater ↦ inr (record {
+            here = greater.here;
+            none = λ u least below. square_there line a b at.ends.lesser same on.lesser u ∙ greater.none u least below;
+          })
+        ];
+      },
+    )
