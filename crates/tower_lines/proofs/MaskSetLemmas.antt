@@ -212,16 +212,22 @@ has_number-with_count count i b few small h =
 
 -- ---- the masks of a word that are below a power of two
 
+abbrev pub below_bit : ℕ → ℕ → ℕ
+below_bit k i = get_or (get_or ((1 ∷ 0 ∷ []) ∷ (3 ∷ 0 ∷ []) ∷ (15 ∷ 0 ∷ []) ∷ (255 ∷ 0 ∷ []) ∷ (65535 ∷ 0 ∷ []) ∷ (4294967295 ∷ 0 ∷ []) ∷ (18446744073709551615 ∷ 0 ∷ []) ∷ (18446744073709551615 ∷ 18446744073709551615 ∷ []) ∷ (18446744073709551615 ∷ 18446744073709551615 ∷ []) ∷ []) k []) i 0
+
+-- whether a word of these masks is right
+abbrev is_below : ℕ → ℕ → Bool
+is_below k i = agree_below (λ b. has_number (below_bit k i) b) (λ b. ltb (64 * i + b) (2 ^ k)) 64
+
+pub has_number-below_bit : (k i b : ℕ) → k < 9 → i < 2 → b < 64 → has_number (below_bit k i) b ≡ ltb (64 * i + b) (2 ^ k)
+has_number-below_bit k i b few small h =
+    let words : agree_below (λ w. is_below k w) (λ w. true) 2 ≡ true =
+    agree_below_at (λ j. agree_below (λ w. is_below j w) (λ w. true) 2) (λ j. true) 9 k refl few in
+    let bits : is_below k i ≡ true = agree_below_at (λ w. is_below k w) (λ w. true) 2 i words small in
+    agree_below_at (λ n. has_number (below_bit k i) n) (λ n. ltb (64 * i + n) (2 ^ k)) 64 b bits h
+
 ltb_high : (k i b : ℕ) → 2 ^ k ≤ 64 * i → ltb (64 * i + b) (2 ^ k) ≡ false
 ltb_high k i b h = le-ltb (64 * i + b) (2 ^ k) (omega arith)
-
-pub lower_first : (i k b : ℕ) → k < 6 → i ≡ 0 → has_number (1 * 2 ^ (1 * 2 ^ k % 2 ^ 32) % 2 ^ 64 - 1) b ≡ ltb (64 * i + b) (2 ^ k)
-lower_first i k b low first =
-    let place : 64 * i + b ≡ b = omega arith in
-    rw (one_shl k 32 (omega arith), one_shl (2 ^ k) 64 (pow_below k 6 low), place) (has_number-below (2 ^ k) b)
-
-pub lower_positive : (k : ℕ) → k < 6 → 1 ≤ 1 * 2 ^ (1 * 2 ^ k % 2 ^ 32) % 2 ^ 64
-lower_positive k low = rw (one_shl k 32 (omega arith), one_shl (2 ^ k) 64 (pow_below k 6 low)) (pow_pos (2 ^ k))
 
 pub lower_later : (i k b : ℕ) → k < 6 → i ≢ 0 → has_number 0 b ≡ ltb (64 * i + b) (2 ^ k)
 lower_later i k b low later = let p = pow_below k 6 low in has_number-none b ∙ sym (ltb_high k i b (omega arith))

@@ -30,6 +30,19 @@ const WITH_COUNT: [[u64; 2]; 9] = [
     [0x0000_0000_0000_0000, 0x0000_0000_0000_0000],
 ];
 
+// The masks below 128 whose values are all lower than that of a bit, from the first bit to the ninth, as the words of a set.
+const BELOW_BIT: [[u64; 2]; 9] = [
+    [0x0000_0000_0000_0001, 0x0000_0000_0000_0000],
+    [0x0000_0000_0000_0003, 0x0000_0000_0000_0000],
+    [0x0000_0000_0000_000f, 0x0000_0000_0000_0000],
+    [0x0000_0000_0000_00ff, 0x0000_0000_0000_0000],
+    [0x0000_0000_0000_ffff, 0x0000_0000_0000_0000],
+    [0x0000_0000_ffff_ffff, 0x0000_0000_0000_0000],
+    [0xffff_ffff_ffff_ffff, 0x0000_0000_0000_0000],
+    [0xffff_ffff_ffff_ffff, 0xffff_ffff_ffff_ffff],
+    [0xffff_ffff_ffff_ffff, 0xffff_ffff_ffff_ffff],
+];
+
 /// A set of masks below 64 times `W`: bit b of word i stands for the mask 64 * i + b, so that one value more or less moves
 /// all masks of a word at once. Contracts see the words, of which `has_mask` tells the masks.
 #[derive(Clone, Copy)]
@@ -269,13 +282,16 @@ impl<const W: usize> MaskSet<W> {
     }
 }
 
-// The masks of the word at i whose values are all lower than that of the bit.
+// The masks of the word at i whose values are all lower than that of the bit. A set has two words at most, whose masks are in the table.
 fn lower_masks(i: usize, bit: u8) -> u64
     requires { bit ≤ 8 }
     ensures { (b : ℕ) → b < 64 → has_number result b ≡ nat_lt (64 * i + b) (2 ^ bit) }
 {
+    if i < 2 {
+        return BELOW_BIT[usize::from(bit)][i];
+    }
     if bit < 6 {
-        return if i == 0 { (1 << (1u32 << bit)) - 1 } else { 0 };
+        return 0;
     }
     if i < 1 << (bit - 6) { u64::MAX } else { 0 }
 }
