@@ -99,10 +99,6 @@ lowered_word w k b small h =
 
 -- ---- the bit below 6: the mask stays in its word
 
--- how far masks of a word move
-pub step_low : (k : ℕ) → k < 6 → 1 * 2 ^ k % 2 ^ 32 < 64
-step_low k h = rw (one_shl k 32 (omega arith)) (pow_below k 6 h)
-
 pub word_with_low : (words : List ℕ) (i k b place : ℕ) → k < 6 → b < 64 → place ≡ k
     → has_number (bit_and (get_or words i 0 * 2 ^ (1 * 2 ^ k % 2 ^ 32) % 2 ^ 64) (with_bit place)) b
     ≡ (has_number (64 * i + b) k && has_mask words (64 * i + b - 2 ^ k))
