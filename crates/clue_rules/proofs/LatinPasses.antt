@@ -1,5 +1,7 @@
 -- Passes over the lines that changed, for what rows and columns say.
-use Rattle.std.proofs.Common.{ℕ, ◌*◌, ◌<◌, true, refl}
+use Rattle.std.proofs.Common.{◌≡◌, Bool, ℕ, ◌*◌, ◌<◌, true, refl}
+use Rattle.std.specs.Bool.{OnTrue}
+use Rattle.std.proofs.lemmas.Bool.{OnTrue_at}
 use Rattle.trail_solver.specs.Candidates.{CandidatesValue, IsEarlier}
 use Rattle.clue_rules.specs.Inner.ChangedLines.{LosesLine}
 use Rattle.clue_rules.specs.Inner.LineTallies.{IsLineStruck}
@@ -15,6 +17,15 @@ pub record PassesLatin (old new : CandidatesValue) (before after : ChangedLines)
   pub narrows : Narrows IsSquare NoneStruck old new true
   pub quiet : AreQuietBut before.latin IsLineStruck old → AreQuietBut after.latin IsLineStruck new
   pub rule : NotesIn old new before.rule after.rule
+
+-- a step by its clauses, where something is left
+pub passes_left : (a b : CandidatesValue) (s t : ChangedLines) (left : Bool) → left ≡ true → Narrows IsSquare NoneStruck a b left
+    → OnTrue left (AreQuietBut s.latin IsLineStruck a → AreQuietBut t.latin IsLineStruck b) → NotesIn a b s.rule t.rule → PassesLatin a b s t
+passes_left a b s t left is narrows quiet rule = record {
+  narrows = rw is at narrows;
+  quiet = OnTrue_at {P = AreQuietBut s.latin IsLineStruck a → AreQuietBut t.latin IsLineStruck b} is quiet;
+  rule = rule;
+}
 
 -- one after another
 pub passes_then : (a b c : CandidatesValue) (s t u : ChangedLines) → PassesLatin a b s t → PassesLatin b c t u → PassesLatin a c s u

@@ -1,5 +1,7 @@
 -- Passes over the lines that changed, for what a game's rule says along them.
-use Rattle.std.proofs.Common.{ℕ, ◌*◌, ◌<◌, true, inl, inr, refl, subst}
+use Rattle.std.proofs.Common.{◌≡◌, Bool, ℕ, ◌*◌, ◌<◌, true, inl, inr, refl, subst}
+use Rattle.std.specs.Bool.{OnTrue}
+use Rattle.std.proofs.lemmas.Bool.{OnTrue_at}
 use Rattle.latin_board.specs.Squares.{GridValue}
 use Rattle.trail_solver.specs.Candidates.{CandidatesValue, IsEarlier}
 use Rattle.clue_rules.specs.Inner.LineTallies.{IsLineStruck}
@@ -18,6 +20,16 @@ pub record PassesRule (Sought : GridValue → Type 0) (Struck : ℕ → Candidat
   pub narrows : Narrows Sought NoneStruck old new true
   pub latin : AreQuiet IsLineStruck old → AreQuiet IsLineStruck new
   pub quiet : AreQuietBut before.rule Struck old → AreQuietBut after.rule Struck new
+
+-- a step by its clauses, where something is left
+pub rules_left : (S : GridValue → Type 0) (T : ℕ → CandidatesValue → ℕ → ℕ → Type 0) (a b : CandidatesValue) (s t : ChangedLines) (left : Bool)
+    → left ≡ true → Narrows S NoneStruck a b left → OnTrue left (AreQuiet IsLineStruck a → AreQuiet IsLineStruck b)
+    → OnTrue left (AreQuietBut s.rule T a → AreQuietBut t.rule T b) → PassesRule S T a b s t
+rules_left S T a b s t left is narrows latin quiet = record {
+  narrows = rw is at narrows;
+  latin = OnTrue_at {P = AreQuiet IsLineStruck a → AreQuiet IsLineStruck b} is latin;
+  quiet = OnTrue_at {P = AreQuietBut s.rule T a → AreQuietBut t.rule T b} is quiet;
+}
 
 -- one after another
 pub rules_then : {S : GridValue → Type 0} {T : ℕ → CandidatesValue → ℕ → ℕ → Type 0} (a b c : CandidatesValue) (s t u : ChangedLines)

@@ -1,8 +1,8 @@
 use Rattle.std.proofs.Common.{◌*◌, ◌∙◌, sym}
 use Rattle.std.proofs.lemmas.Bool.{OnTrue_at}
 use Rattle.clue_rules.specs.Inner.LineTallies.{IsLineStruck}
-use Rattle.clue_rules.specs.Inner.QuietLines.{AreQuietBut, ArePassed}
-use Rattle.clue_rules.proofs.LatinPasses.{PassesLatin, passes_then}
+use Rattle.clue_rules.specs.Inner.QuietLines.{ArePassed}
+use Rattle.clue_rules.proofs.LatinPasses.{passes_left, passes_then}
 use Rattle.clue_rules.proofs.QuietSteps.{quiet_idle}
 use Rattle.clue_rules.proofs.lines.latin.settle_latin.Goals as goal
 
@@ -12,13 +12,9 @@ loop-candidates-preserved c =
     let new = c.strike_changed.new.candidates in
     let before = c.loop-candidates.changed in
     let after = c.strike_changed.new.changed in
-    let left = c.if-not-strike_changed.false in
-    let step : PassesLatin now new before after = record {
-      narrows = rw left at c.strike_changed.ensures.narrows;
-      quiet = OnTrue_at {P = AreQuietBut before.latin IsLineStruck now → AreQuietBut after.latin IsLineStruck new} left c.strike_changed.ensures.quiet;
-      rule = c.strike_changed.ensures.rule;
-    } in
-    passes_then c.args.candidates.now now new c.args.changed.now before after c.loop-candidates.invariant step
+    let done = c.strike_changed.ensures in
+    passes_then c.args.candidates.now now new c.args.changed.now before after c.loop-candidates.invariant
+    (passes_left now new before after c.strike_changed.result c.if-not-strike_changed.false done.narrows done.quiet done.rule)
 
 pub returns-then-trail_len-before-clause-quiet : goal.returns-then-trail_len-before-clause-quiet
 returns-then-trail_len-before-clause-quiet c quiet =
@@ -27,8 +23,8 @@ returns-then-trail_len-before-clause-quiet c quiet =
     let before = c.loop-candidates.changed in
     let after = c.strike_changed.new.changed in
     let left = c.if-not-strike_changed.false in
+    let done = c.strike_changed.ensures in
     let same = sym c.trail_len.ensures.value ∙ c.if-trail_len-before.true ∙ c.trail_len-before.ensures.value in
-    quiet_idle IsLineStruck after.latin now new c.strike_changed.ensures.narrows.less same
-    (OnTrue_at {P = ArePassed (2 * now.size) now new after.latin} left c.strike_changed.ensures.passed)
-    (OnTrue_at {P = AreQuietBut before.latin IsLineStruck now → AreQuietBut after.latin IsLineStruck new} left c.strike_changed.ensures.quiet
-    (c.loop-candidates.invariant.quiet quiet))
+    let step = passes_left now new before after c.strike_changed.result left done.narrows done.quiet done.rule in
+    quiet_idle IsLineStruck after.latin now new done.narrows.less same (OnTrue_at {P = ArePassed (2 * now.size) now new after.latin} left done.passed)
+    (step.quiet (c.loop-candidates.invariant.quiet quiet))
