@@ -22,8 +22,8 @@ LOG = BUILD / 'prover.txt'
 #: The memory to have for each crate that is proved beside others, in bytes.
 MEMORY = 3_000_000_000
 
-#: Seconds between two looks at what has ended.
-LOOK = 0.05
+#: Seconds between two looks at what has ended, at first and at most.
+FIRST_LOOK, LOOK = 0.002, 0.05
 
 
 class Failed(Exception):
@@ -86,13 +86,16 @@ class Build:
 
     def run(self) -> None:
         self._progress.begin(self._left())
+        look = FIRST_LOOK
         try:
             while len(self._done) < len(self._plan.order):
                 self._begin()
                 if self._progress.is_due():
                     self._progress.show(list(self._running), self._left())
-                time.sleep(LOOK)
-                for proof in [proof for proof in self._running.values() if proof.has_ended()]:
+                time.sleep(look)
+                ended = [proof for proof in self._running.values() if proof.has_ended()]
+                look = FIRST_LOOK if ended else min(2 * look, LOOK)
+                for proof in ended:
                     self._ended(proof)
         finally:
             for proof in self._running.values():
