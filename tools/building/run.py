@@ -13,7 +13,7 @@ from building.changes import PROGRAMS, Stamp, is_kept, made_from
 from building.crates import BUILD, ROOT, Listed, listed, own
 from building.plan import Plan
 from building.progress import Progress
-from building.proofs import Ended, Proof
+from building.proofs import Ended, Proof, undisturbed
 from building.record import BUILT, Record, sum_of_sources
 
 #: What the prover says.
@@ -110,17 +110,19 @@ class Build:
             jobs = None if self._plan.chain[name] == longest else share
             now = made_from(name, self._crates)
             try:
-                proof = Proof.begun(self._rt, name, self._crates, name in PROGRAMS, jobs)
+                with undisturbed():
+                    proof = Proof.begun(self._rt, name, self._crates, name in PROGRAMS, jobs)
+                    if proof:
+                        self._running[name], self._made_from[name] = proof, now
             except OSError as error:
                 raise Failed(f'{name}: {error}') from error
-            if proof:
-                self._running[name], self._made_from[name] = proof, now
-            else:
+            if not proof:
                 self._progress.waits(name)
 
     def _ended(self, proof: Proof) -> None:
-        del self._running[proof.name]
-        ended = proof.end()
+        with undisturbed():
+            del self._running[proof.name]
+            ended = proof.end()
         if ended.is_proved:
             write_log(ended)
             self._leave(ended.name)

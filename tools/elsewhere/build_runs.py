@@ -6,7 +6,6 @@ import os
 from typing import Callable, NamedTuple, Sequence
 
 from building.run import lanes
-from elsewhere import tree_runs
 from elsewhere.place import Place
 from elsewhere.small import ALL, CRATES, FIRST, LAST, OF_HIGH, OF_LOW, OF_MIDDLE, Small, put, remove, touch
 
@@ -70,7 +69,6 @@ def cases(place: Place) -> None:
     in_a_terminal(small)
     ended_early(small)
     waits(small)
-    tree_runs.cases(small)
 
 
 def fails(small: Small) -> None:

@@ -99,14 +99,14 @@ def remove_programs(place: Place) -> None:
         os.remove(os.path.join(place.path, program))
 
 
-#: What there is without a kit.
-WITHOUT_KIT = {'RT': '', 'PATH': '/usr/bin:/bin'}
+#: No command `rt` is there.
+WITHOUT_KIT = {'RT': '/no kit'}
 
 OF_THE_TREE = [
     Make('make, with the programs of the tree', ['make']),
     Make('make play, with the programs of the tree', ['make', 'play', f'ID={ID}'], says=[PICTURE], input=b'show\n'),
     Make('make play, with the programs of the tree and no input', ['make', 'play'], says=[b'+ ', b'to play on']),
-    Make('make build, without a kit', ['make', 'build'], 2, [b'not built: there is no command rt']),
+    Make('make build, without a kit', ['make', 'build'], 2, [b'not built: there is no command /no kit']),
 ]
 
 

@@ -41,15 +41,13 @@ echo "ended $name" >> "$RT_CALLS"
 #: The first and the last crate of a program, which may be one. The last stands on a crate more.
 FIRST, LAST = list(PROGRAMS)[0], list(PROGRAMS)[-1]
 
-CRATES = f"""\
-# Each crate.
-{''.join(f'{name}: high middle low{" beside arrayvec" * (name == LAST)}' + chr(10) for name in PROGRAMS)}\
+CRATES = b'# Each crate.\n' + b''.join(f'{name}: high middle low{" beside arrayvec" * (name == LAST)}\n'.encode() for name in PROGRAMS) + b"""\
 high: middle low thiserror
 middle: low
 beside:
 low:
 test: low
-""".encode()
+"""
 
 OF_HIGH = ['high', *PROGRAMS]
 OF_MIDDLE = ['middle', *OF_HIGH]

@@ -3,55 +3,56 @@
 from __future__ import annotations
 
 import os
-import shutil
-from typing import Callable, List, NamedTuple, Sequence
+from typing import List, NamedTuple, Optional, Sequence
 
 from elsewhere.place import Place
-from elsewhere.small import ALL, CRATES, OF_HIGH, Small, put, remove, touch
+from elsewhere.small import ALL, CRATES, OF_HIGH, Small, put, remove
 from harness.program import Ended
 
 FOLDER = 'programs/linux-amd64'
-TOUCHED = ['crates', 'crates.txt', 'programs']
 STORED = [f'{FOLDER}/puzzles', f'{FOLDER}/puzzles-json', 'programs/RECORD']
 OTHER_SOURCES = b'are of other sources than those that are here'
 
 
 class Change(NamedTuple):
-    """What is done once the programs are stored, and what is said then of those in the tree: nothing where they are taken."""
+    """What becomes of a file once the programs are stored, and what is said then of those in the tree: nothing where they are taken."""
 
     name: str
-    does: Callable[[Place], object]
+    path: str
+    #: Nothing where the file goes.
+    text: Optional[bytes] = None
     says: bytes = b''
+    mode: int = 0o644
 
 
-def mode(path: str, bits: int) -> Callable[[Place], object]:
-    return lambda place: os.chmod(os.path.join(place.path, path), bits)
-
+HIGH = b'// The crate high.\n'
+PROGRAM = b'#!/bin/sh\n\n'
 
 #: Each is undone before the next one.
 CHANGES = [
-    Change('nothing', lambda place: None),
-    Change('the date of a file', touch('crates/low/src/lib.rt')),
-    Change('the mode of a file', mode('crates/low/src/lib.rt', 0o600)),
-    Change('a comment in the list', put('crates.txt', b'# Nothing else.\n' + CRATES)),
-    Change('a file that no build reads', put('crates/low/src/notes.md', b'Some.\n')),
-    Change('a wrong body', put('crates/low/must-fail/one.edit', b'file:\n')),
-    Change('a crate that no program stands on', put('crates/test/src/lib.rt', b'// Else.\n')),
-    Change('a crate', put('crates/high/src/lib.rt', b'// Else.\n'), OTHER_SOURCES),
-    Change('a new file, in a folder', put('crates/middle/proofs/lemmas/More.antt', b''), OTHER_SOURCES),
-    Change('a file is gone', remove('crates/middle/src/lib.rt'), OTHER_SOURCES),
-    Change('a library more in the list', put('crates.txt', CRATES.replace(b'middle: low', b'middle: low beside')), OTHER_SOURCES),
-    Change('a program', put(f'{FOLDER}/puzzles', b'#!/bin/sh\nexit 1\n'), b'puzzles is not the program that programs/RECORD names'),
-    Change('a program is gone', remove(f'{FOLDER}/puzzles-json'), b'puzzles-json is not the program that'),
-    Change('a program that may not be run', mode(f'{FOLDER}/puzzles', 0o644), b'puzzles may not be run'),
-    Change('the record is gone', remove('programs/RECORD'), b'there is no programs/RECORD'),
-    Change('the record is none', put('programs/RECORD', b'\n\xff: \n'), OTHER_SOURCES),
+    Change('the date of a file', 'crates/high/src/lib.rt', HIGH),
+    Change('the mode of a file', 'crates/high/src/lib.rt', HIGH, mode=0o755),
+    Change('a comment in the list', 'crates.txt', b'# Nothing else.\n' + CRATES),
+    Change('a file that no build reads', 'crates/low/src/notes.md', b'Some.\n'),
+    Change('a wrong body', 'crates/low/must-fail/one.edit', b'file:\n'),
+    Change('a crate that no program stands on', 'crates/test/src/lib.rt', b'// Else.\n'),
+    Change('a crate', 'crates/high/src/lib.rt', b'// Else.\n', OTHER_SOURCES),
+    Change('a new file, in a folder', 'crates/middle/proofs/lemmas/More.antt', b'', OTHER_SOURCES),
+    Change('a file is gone', 'crates/middle/src/lib.rt', None, OTHER_SOURCES),
+    Change('a library more in the list', 'crates.txt', CRATES.replace(b'middle: low', b'middle: low beside'), OTHER_SOURCES),
+    Change('a program', f'{FOLDER}/puzzles', b'#!/bin/sh\nexit 1\n', b'puzzles is not the program that programs/RECORD names', 0o755),
+    Change('a program is gone', f'{FOLDER}/puzzles-json', None, b'puzzles-json is not the program that'),
+    Change('a program that may not be run', f'{FOLDER}/puzzles', PROGRAM, b'puzzles may not be run'),
+    Change('the record is gone', 'programs/RECORD', None, b'there is no programs/RECORD'),
+    Change('the record is none', 'programs/RECORD', b'\n\xff: \n', OTHER_SOURCES),
 ]
 
 
-def cases(small: Small) -> None:
+def cases(place: Place) -> None:
+    small = Small(place)
     before_stored(small)
     stored(small)
+    where(small, 'nothing has changed, and no kit', FOLDER, RT='/no kit')
     for row in CHANGES:
         taken(small, row)
     small.place.give()
@@ -76,8 +77,6 @@ def expect(small: Small, name: str, ended: Ended, output: bytes, error: bytes = 
 
 def before_stored(small: Small) -> None:
     """A repository without programs in the tree."""
-    put('../small kit/KIT-ID', b'a small kit\n')(small.place)
-    put('crates.txt', CRATES)(small.place)
     where(small, 'nothing is in the tree', 'build', ALL, [b'there is no programs/RECORD: they are proved and built\n'])
     where(small, 'nothing is in the tree, and what is built is ready', 'build', [], [b'there is no programs/RECORD: they are proved and built\n'])
     expect(small, 'ready: what is built', small.run('tools/programs', 'ready'), b'build\n')
@@ -96,34 +95,22 @@ def stored(small: Small) -> None:
 
 
 def taken(small: Small, row: Change) -> None:
-    """What is done changes whether the programs in the tree are taken, or doesn't: without a kit, which isn't needed for it."""
-    kept = os.path.join(os.path.dirname(small.place.path), 'kept')
-    copy_all(small.place.path, kept)
-    row.does(small.place)
-    small.place.give()
+    """What becomes of the file changes whether the programs in the tree are taken, or doesn't: without a kit, which isn't needed for it."""
+    path = os.path.join(small.place.path, row.path)
+    old, mode = small.place.file(row.path), os.stat(path).st_mode if os.path.exists(path) else 0
+    set_file(small, row.path, row.text, row.mode)
     if row.says:
         where(small, f'{row.name}, and no kit', '', says=[row.says, b': they are proved and built\nnot built: there is no command'], RT='/no kit')
     else:
         where(small, f'{row.name}, and no kit', FOLDER, RT='/no kit')
-    for name in TOUCHED:
-        remove_all(os.path.join(small.place.path, name))
-    copy_all(kept, small.place.path)
-    remove_all(kept)
+    set_file(small, row.path, old if mode else None, mode & 0o777)
 
 
-def copy_all(source: str, target: str) -> None:
-    """Copies what a change may touch."""
-    os.makedirs(target, exist_ok=True)
-    for name in TOUCHED:
-        path = os.path.join(source, name)
-        (shutil.copytree if os.path.isdir(path) else shutil.copy2)(path, os.path.join(target, name))
-
-
-def remove_all(path: str) -> None:
-    if os.path.isdir(path):
-        shutil.rmtree(path)
+def set_file(small: Small, path: str, text: Optional[bytes], mode: int) -> None:
+    if text is None:
+        remove(path)(small.place)
     else:
-        os.unlink(path)
+        small.place.put(path, text, mode)
 
 
 def other_sources(small: Small) -> None:
