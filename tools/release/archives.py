@@ -27,6 +27,10 @@ FOLDERS = {
 }
 
 
+#: How hard a tarball is compressed. The highest level takes three times as long for a hundredth less.
+LEVEL = 6
+
+
 class Archive(NamedTuple):
     name: str
     content: bytes
@@ -46,7 +50,7 @@ def archives() -> Iterator[Archive]:
 
 def compressed(content: bytes) -> bytes:
     file = io.BytesIO()
-    with gzip.GzipFile('', 'wb', 9, file, mtime=0) as zipped:
+    with gzip.GzipFile('', 'wb', LEVEL, file, mtime=0) as zipped:
         zipped.write(content)
     return file.getvalue()
 
