@@ -41,7 +41,7 @@ def archives() -> Iterator[Archive]:
     head = git('rev-parse', 'HEAD').decode().strip()
     if commit() != head:
         raise Unfit('there are changes that are not committed')
-    programs = fit()
+    programs = fit(head)
     name = f'puzzles-{places.version()}'
     sources = git('-c', 'tar.umask=0022', 'archive', '--format=tar', f'--prefix={name}/', 'HEAD')
     yield Archive(f'{name}.tar.gz', compressed(sources))

@@ -25,8 +25,8 @@ class Ready(NamedTuple):
     note: str
 
 
-def fit() -> Ready:
-    """The programs that are ready. Raises Unfit where there are none."""
+def fit(at: str) -> Ready:
+    """The programs that are ready, at this commit. Raises Unfit where there are none."""
     try:
         programs = ready()
     except NotReady as error:
@@ -35,19 +35,20 @@ def fit() -> Ready:
     assert record
     origin = 'taken from the tree' if programs is TREE else 'taken from a build'
     sums = ''.join(f'{record.sums[name]}  {name}\n' for name in NAMES)
-    return Ready(programs.folder, commit(), record.sums, f'{head()}proved by {record.kit}\n{origin}\n{sums}')
+    return Ready(programs.folder, at, record.sums, f'{head(at)}proved by {record.kit}\n{origin}\n{sums}')
 
 
 def note() -> str:
     """What is told, where there are no programs, too."""
+    at = commit()
     try:
-        return fit().note
+        return fit(at).note
     except Unfit:
-        return head()
+        return head(at)
 
 
-def head() -> str:
-    return f'version {version()}\ncommit {commit()}\n'
+def head(at: str) -> str:
+    return f'version {version()}\ncommit {at}\n'
 
 
 def sums_in(text: str) -> Dict[str, str]:
