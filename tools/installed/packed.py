@@ -8,7 +8,7 @@ import shutil
 
 from front_games.playing import PROMPT
 from harness.game import ID
-from harness.program import Ended
+from harness.program import Ended, run
 from harness.terminal import Terminal
 from installed.site import Site, expect_plays, files
 
@@ -47,6 +47,7 @@ def cases(site: Site) -> None:
     site.expect('dist: nothing is built, once more', ['make', 'clean'])
     site.expect('make dist', ['make', 'dist', NO_KIT], says=f'build/{name(site)}-linux-amd64.tar.gz')
     expect_origin(site, 'the tree')
+    asked_by_root(site)
     sources, programs = archive(site, ''), archive(site, '-linux-amd64')
     reproducible(site, sources, programs)
     unpacked(site)
@@ -60,6 +61,15 @@ def expect_origin(site: Site, origin: str) -> None:
     tarball = f'build/{name(site)}-linux-amd64'
     told = site.run(['tar', '-xzOf', f'{tarball}.tar.gz', f'{name(site)}-linux-amd64/VERSION']).output.decode().splitlines()
     site.same(f'dist: programs of {origin}', told[3:4], [f'taken from {origin}'])
+
+
+def asked_by_root(site: Site) -> None:
+    """Root installs from a user's repository, and leaves nothing of root's there."""
+    if not site.user:
+        return
+    with site.report.case('the commit, asked by root') as case:
+        case.same('it', run([os.path.join(site.path, 'tools', 'commit')], case.room).output.decode(), head(site) + '\n')
+        case.same('who owns the index', os.stat(os.path.join(site.path, '.git', 'index')).st_uid, site.user.uid)
 
 
 def commit(site: Site, message: str) -> None:
