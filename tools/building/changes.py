@@ -13,7 +13,7 @@ TYPE_CHECKING = False
 if TYPE_CHECKING:
     from typing import Dict, Optional, Set, Tuple
 
-    from building.listing import Listed
+    from building.crates import Listed
 
 #: The crates of the programs, each with the names under which its program is left in build/.
 PROGRAMS: Dict[str, Tuple[str, ...]] = {'puzzles': ('puzzles',), 'puzzles_json': ('puzzles-json',)}

@@ -10,10 +10,9 @@ import os
 
 TYPE_CHECKING = False
 if TYPE_CHECKING:
-    from typing import Dict, Iterable, Iterator, List, Set
+    from typing import Iterable, Iterator, Set
 
-    #: The crates of the repository, each with the libraries that it stands on, the kit's too.
-    Listed = Dict[str, List[str]]
+    from building.crates import Listed
 
 #: The top of the repository, whatever the working folder is.
 TOP = os.path.dirname(os.path.dirname(os.path.dirname(os.path.realpath(__file__))))
