@@ -9,7 +9,7 @@ from typing import List, NamedTuple, Optional
 from board.board import GAMES
 from board.program import Gone
 from board.state import State
-from board.version import about
+from board.version import about, told
 
 USAGE = """\
 usage: {me} [--lines] [GAME] [ID or FILE]
@@ -77,10 +77,11 @@ def tip(me: str, words: List[str]) -> str:
 
 
 def program(here: str) -> Optional[str]:
-    """The program: the one that PUZZLES_JSON names, that beside the command, or that of the repository."""
-    named = os.environ.get('PUZZLES_JSON')
-    places = [named] if named else [os.path.join(here, 'puzzles-json'), os.path.join(here, '..', 'build', 'puzzles-json')]
-    return next((os.path.abspath(place) for place in places if os.path.isfile(place)), None)
+    """The program: the one that PUZZLES_JSON names, that beside the command, or that of the repository where one is ready."""
+    place = os.environ.get('PUZZLES_JSON') or os.path.join(here, 'puzzles-json')
+    if 'PUZZLES_JSON' not in os.environ and not os.path.isfile(place):
+        place = os.path.join(here, '..', told(here, 'ready').strip() or 'build', 'puzzles-json')
+    return os.path.abspath(place) if os.path.isfile(place) else None
 
 
 def version(here: str) -> int:
