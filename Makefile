@@ -49,7 +49,7 @@ zshcompdir ?= $(datadir)/zsh/site-functions
 fishcompdir ?= $(datadir)/fish/vendor_completions.d
 DESTDIR ?=
 
-.PHONY: all play test trust test-twins test-bodies test-faults test-saving test-json test-tools test-reference exchange bench hard climb check try must-fail fmt dist install uninstall installcheck clean help crate
+.PHONY: all play test gate trust test-twins test-bodies test-faults test-saving test-json test-tools test-reference exchange bench hard climb check try must-fail fmt dist install uninstall installcheck clean help crate
 
 all:
 	@RT='$(RT)' tools/build
@@ -63,7 +63,10 @@ play:
 	@if [ -t 0 ] && [ -t 1 ]; then exec tools/play "$${GAME:-$${ID:+towers}}" "$$ID"; \
 	else exec tools/play_in_pipe "$$GAME" "$$ID"; fi
 
-test:
+test: all
+	@tools/test build/puzzles build/puzzles-json
+
+gate:
 	@RT='$(RT)' tools/gate
 
 test-twins:
