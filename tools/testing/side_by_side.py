@@ -2,6 +2,7 @@
 
 from __future__ import annotations
 
+import contextlib
 import os
 import signal
 import subprocess
@@ -47,7 +48,7 @@ class Running:
             )
         except OSError as error:
             self._said.write(f'{error}\n'.encode())
-            self._process = subprocess.Popen(['false'])
+            self._process = subprocess.Popen(['false'], start_new_session=True)
 
     def ended(self) -> List[Ended]:
         """How it ended, once it has."""
@@ -63,17 +64,16 @@ class Running:
             return [Ended(self._command, file.read(), status, time.monotonic() - self._begun, usage.ru_utime + usage.ru_stime)]
 
     def signal(self, number: signal.Signals) -> None:
-        if self._process.returncode is None:
+        with contextlib.suppress(ProcessLookupError):
             os.killpg(self._process.pid, number)
 
     def stop(self) -> None:
         """Lets it clean up, and waits for that, but not long."""
         self.signal(signal.SIGTERM)
         end = time.monotonic() + 5
-        while not self.ended():
+        while not self.ended() and time.monotonic() < end:
             time.sleep(LOOK)
-            if time.monotonic() > end:
-                self.signal(signal.SIGKILL)
+        self.signal(signal.SIGKILL)
 
 
 def run(commands: Sequence[Command], lanes: int) -> Iterator[Ended]:
