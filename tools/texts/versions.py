@@ -2,6 +2,7 @@
 
 from __future__ import annotations
 
+import os
 import re
 from typing import Iterator, List
 
@@ -22,7 +23,7 @@ def check(report: Report, programs: List[str]) -> None:
     report.check('CHANGELOG: versions', wrong_headings(re.findall(r'^## .*', read('CHANGELOG.md'), re.MULTILINE), plain))
     report.check('CHANGELOG and debian/changelog', wrong_entries(plain))
     for program in programs:
-        with report.case(f'{program}: the version') as case:
+        with report.case(f'{os.path.basename(program)}: the version') as case:
             # A program says its own name and then the version.
             said = run([program, '--version'], case.room).output.decode().split(' ')
             case.same('it', said[1:], [version])
