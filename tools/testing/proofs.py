@@ -2,8 +2,10 @@
 
 from __future__ import annotations
 
+import contextlib
 import hashlib
 import os
+import shutil
 import time
 from pathlib import Path
 from typing import Iterator, Sequence
@@ -16,6 +18,9 @@ from testing.in_turn import Said, Turns
 READ = ['crates.txt', 'HANDLES', 'crates']
 MADE = 'out'
 
+#: What `rt ci` leaves of each crate for those above it.
+LIBRARIES = 'crates/*/out/rlib'
+
 #: The files of a kept result, beside the programs: what was said, and when.
 SAID, WHEN = 'said', 'when'
 
@@ -25,10 +30,14 @@ def prove(turns: Turns, name: str, rt: str, prover: str, programs: Sequence[str]
     key = sum_of_sources(prover)
     found = None if is_anew else kept.read(key)
     for program in programs:
-        Path(program).unlink(missing_ok=True)
+        with contextlib.suppress(FileNotFoundError):
+            os.unlink(program)
     if found:
         from_kept(turns, name, found, programs)
         return
+    # The libraries that other parts check with are those that are built here, too: `rt ci` would bring back those that it finds.
+    for library in Path().glob(LIBRARIES):
+        shutil.rmtree(library)
     said = turns.part(name, [rt, 'ci'])
     counts, odd = counted(*said)
     has_passed = said.status == 0 and not odd and counts.passed > 0 and counts.failed == counts.skipped == 0
