@@ -2,6 +2,7 @@
 
 from __future__ import annotations
 
+import os
 import re
 from typing import Iterator, List
 
@@ -24,7 +25,7 @@ def check(report: Report, programs: List[str]) -> None:
     report.check('CHANGELOG and debian/changelog', wrong_entries(plain))
     report.check('the kit, in the documents and in programs/RECORD', wrong_kits())
     for program in programs:
-        with report.case(f'{program}: the version') as case:
+        with report.case(f'{os.path.basename(program)}: the version') as case:
             # A program says its own name and then the version.
             said = run([program, '--version'], case.room).output.decode().split(' ')
             case.same('it', said[1:], [version])
