@@ -42,9 +42,10 @@ class Kept:
         try:
             check, _, text = file.read_text(encoding='utf-8').partition('\n')
             found = json.loads(text) if check == sum_of([key, text]) else None
-            os.utime(file)
         except (OSError, ValueError):
             return None
+        with contextlib.suppress(OSError):
+            os.utime(file)
         return [str(word) for word in found] if isinstance(found, list) else None
 
     def keep(self, key: str, words: List[str]) -> None:
