@@ -72,12 +72,12 @@ exec awk -v paths="$paths" '
 """
 
 #: Four functions, of five lines each, and one that the prover doesn't know by its name.
-SOURCE = ''.join(f'// The word {n}.\nfn f{n}() {{\n    "right {n}"\n}}\n\n' for n in range(4)) + 'fn lost() {\n    "right 8"\n}\n'
+SOURCE = ''.join(f'// The word {n}.\nfn f{n}() {{\n    "right {n}", "just {n}"\n}}\n\n' for n in range(4)) + 'fn lost() {\n    "right 8"\n}\n'
 
 
 class Bodies(NamedTuple):
-    """What is in place of the right words in the wrong bodies and in their twins, by the number of the word, or 10 more for a second one of a word; the numbers
-    of those that are marked for the gate; and what has to be said."""
+    """What is in place of the right words in the wrong bodies and in their twins, by the number of the word, or 10 more for a second one of a word, or 20 more for
+    the just word beside it; the numbers of those that are marked for the gate; and what has to be said."""
 
     name: str
     says: Sequence[str]
@@ -111,6 +111,7 @@ ROUNDS = [
         1,
     ),
     Bodies('two of one function', ['NOT refused', '3 passed, 1 failed'], {0: 'false', 10: 'right'}, {0: 'too', 10: 'as well'}, 1),
+    Bodies('two places of one function', ['FAILED: words/wrong_20: NOT refused', '1 passed, 1 failed'], {0: 'false', 20: 'just so'}, {}, 1),
     Bodies('a function without a name for the prover', ['2 checks of a whole crate', '2 passed, 0 failed'], {8: 'false'}, {8: 'right'}),
     Bodies(
         'those of the gate',
@@ -178,7 +179,7 @@ class Words:
 def edits(row: Bodies) -> Sequence[Tuple[str, bytes]]:
     found = []
     for n, word in row.wrong.items():
-        lines = ['# gate\n'] * (n in row.gate) + ['file: src/lib.rt\n', f'old: right {n % 10}\n', f'new: {word}\n']
+        lines = ['# gate\n'] * (n in row.gate) + ['file: src/lib.rt\n', f'old: {"just" if n >= 20 else "right"} {n % 10}\n', f'new: {word}\n']
         lines += [f'# twin: {row.twins[n]}\n'] if n in row.twins else []
         lines += [row.more]
         found.append((f'crates/words/wrong-bodies/wrong_{n}.edit', ''.join(lines).encode()))
@@ -213,9 +214,10 @@ def cases_of_what_is_kept(words: Words) -> None:
     words.expect('anew', ['0 kept', '4 passed'], XDG_CACHE_HOME=cache, ANEW='1')
     names = sorted(os.listdir(kept))
     place.report.check('wrong bodies: nothing half written is left', [] if len(names) == 4 else [repr(names)])
-    for name, content in zip(names, (b'', b'{', b'\xff', b'["proved"]')):
-        place.put(os.path.join(kept, name), content, 0o644)
-    words.expect('damaged results', ['0 kept', '4 passed'], XDG_CACHE_HOME=cache)
+    for content in (b'', b'\xff', b'no sum\n["proved"]'):
+        for name in names:
+            place.put(os.path.join(kept, name), content, 0o644)
+        words.expect(f'results that are only {content!r}', ['0 kept', '4 passed'], XDG_CACHE_HOME=cache)
     place.put('crates/letters/src/lib.rt', b'more letters\n', 0o644)
     os.utime(os.path.join(place.path, 'crates/letters/out/rlib/letters.rlib/format'))
     words.expect('a crate below has changed', ['0 kept', '4 passed'], XDG_CACHE_HOME=cache)
