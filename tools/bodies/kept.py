@@ -9,7 +9,7 @@ import os
 import tempfile
 import time
 from pathlib import Path
-from typing import Iterable, List, Optional
+from typing import Dict, Iterable, List, Optional
 
 from bodies.edits import FOLDERS, Edit
 from building.crates import PARTS, all_of, listed, own
@@ -28,11 +28,14 @@ class Kept:
         self._kit = f'{kit} {sum_of_files(SCRIPTS, ["."])}'
         self._is_anew = os.environ.get('ANEW') == '1'
         self._folder = cache() / 'verified-puzzles' / 'bodies'
+        self._sums: Dict[str, str] = {}
         self._forget()
 
     def key(self, crate: str, what: str, edit: Edit) -> str:
         """What a result goes by: the kit, the crate and all below it, what was tried, and the edit."""
-        return sum_of([self._kit, sum_of_crates([crate]), crate, what, repr(edit.pairs)])
+        if crate not in self._sums:
+            self._sums[crate] = sum_of_crates([crate])
+        return sum_of([self._kit, self._sums[crate], crate, what, repr(edit.pairs)])
 
     def find(self, key: str) -> Optional[List[str]]:
         """What is kept under a key; nothing where that is damaged."""

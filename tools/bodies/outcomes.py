@@ -2,7 +2,7 @@
 
 from __future__ import annotations
 
-from typing import Dict, Iterable, List, NamedTuple, Optional
+from typing import Iterable, List, NamedTuple, Optional
 
 from bodies import twins, wrong
 from bodies.edits import Edit
@@ -20,37 +20,41 @@ class Outcome(NamedTuple):
     is_kept: bool = False
 
 
+def of_kept(crate: str, kept: Kept, twin_edits: Iterable[Edit], bodies: Iterable[Edit]) -> List[Outcome]:
+    """What earlier runs have found of these."""
+    found = [Outcome(name_of_twin(edit), '', None, True) for edit in twin_edits if kept.find(kept.key(crate, 'twin', edit)) == ['proved']]
+    verdicts = ((edit.name, as_verdict(kept.find(kept.key(crate, 'wrong', edit)))) for edit in bodies)
+    return found + [Outcome(name, '', verdict, True) for name, verdict in verdicts if verdict]
+
+
 def of_twins(trial: Trial, kept: Kept, edits: Iterable[Edit]) -> List[Outcome]:
     """The twins of a crate: each has to be proved."""
-    keys = {edit.name: kept.key(trial.crate, 'twin', edit) for edit in edits}
-    known = {name for name, key in keys.items() if kept.find(key) == ['proved']}
-    faults = {edit.name: trial.unfit(edit) for edit in edits if edit.name not in known}
-    found = {name: fault for name, fault in faults.items() if fault}
-    for together in trial.rounds([edit for edit in edits if edit.name in faults and edit.name not in found]):
+    found = {edit: trial.unfit(edit) for edit in edits}
+    for together in trial.rounds([edit for edit, fault in found.items() if not fault]):
         refused = twins.refused(trial, together)
         for edit in together:
-            found[edit.name] = refused.get(edit.name, '')
-            if edit.name not in refused:
-                kept.keep(keys[edit.name], ['proved'])
-    return [Outcome(f'{name}, the twin', found.get(name, ''), None, name in known) for name in sorted(keys)]
+            found[edit] = refused.get(edit.name, '')
+            if not found[edit]:
+                kept.keep(kept.key(trial.crate, 'twin', edit), ['proved'])
+    return [Outcome(name_of_twin(edit), fault) for edit, fault in found.items()]
 
 
 def of_bodies(trial: Trial, kept: Kept, edits: Iterable[Edit]) -> List[Outcome]:
     """The wrong bodies of a crate: each has to be refused at an open goal of what it makes wrong."""
-    keys = {edit.name: kept.key(trial.crate, 'wrong', edit) for edit in edits}
-    known = {name: verdict for name, verdict in ((name, as_verdict(kept.find(key))) for name, key in keys.items()) if verdict}
-    faults = {edit.name: trial.unfit(edit) for edit in edits if edit.name not in known}
-    found: Dict[str, Verdict] = {}
-    for together in trial.rounds([edit for edit in edits if faults.get(edit.name) == '']):
+    faults = {edit: trial.unfit(edit) for edit in edits}
+    outcomes = [Outcome(edit.name, fault) for edit, fault in faults.items() if fault]
+    for together in trial.rounds([edit for edit, fault in faults.items() if not fault]):
         verdicts = wrong.tried(trial, together)
-        found.update(verdicts)
-        for name, verdict in verdicts.items():
+        for edit in together:
+            verdict = verdicts[edit.name]
+            outcomes.append(Outcome(edit.name, '' if verdict.is_good else str(verdict), verdict))
             if verdict.is_good:
-                kept.keep(keys[name], [verdict.kind.name, verdict.said])
-    outcomes = [Outcome(name, '', verdict, True) for name, verdict in known.items()]
-    outcomes += [Outcome(name, '' if verdict.is_good else str(verdict), verdict) for name, verdict in found.items()]
-    outcomes += [Outcome(name, fault) for name, fault in faults.items() if fault]
-    return sorted(outcomes, key=lambda outcome: outcome.name)
+                kept.keep(kept.key(trial.crate, 'wrong', edit), [verdict.kind.name, verdict.said])
+    return outcomes
+
+
+def name_of_twin(edit: Edit) -> str:
+    return f'{edit.name}, the twin'
 
 
 def as_verdict(words: Optional[List[str]]) -> Optional[Verdict]:

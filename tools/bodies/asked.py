@@ -2,18 +2,18 @@
 
 from __future__ import annotations
 
-from typing import Iterable, List, NamedTuple
+from typing import List, NamedTuple, Tuple
 
 from bodies.edits import MUST_FAIL, Body, Edit
 from bodies.kept import Kept
-from bodies.outcomes import Outcome, of_bodies, of_twins
+from bodies.outcomes import Outcome, name_of_twin, of_bodies, of_kept, of_twins
 from bodies.trial import Trial
 
 #: How many wrong bodies of a crate the gate tries at least, where there are so many.
 LEAST = 3
 
 
-class Round(NamedTuple):
+class Asked(NamedTuple):
     """The twins and the wrong bodies of a crate that are tried, the names of those without a twin, and what is wrong with their files."""
 
     crate: str
@@ -23,7 +23,7 @@ class Round(NamedTuple):
     faults: List[Outcome]
 
     @staticmethod
-    def of(crate: str, bodies: List[Body], mode: str) -> Round:
+    def of(crate: str, bodies: List[Body], mode: str) -> Asked:
         """What a mode of the script asks for."""
         chosen = [body for body in bodies if body.is_in_gate or mode != '--gate']
         faults = [Outcome(body.name, body.fault) for body in bodies if body.fault]
@@ -33,7 +33,14 @@ class Round(NamedTuple):
         twins = [body.twin for body in fit if body.twin.pairs and mode != '--wrong']
         # `rt ci`, which tries these one by one, is a part of the gate.
         wrong = [body.wrong for body in fit if mode != '--twins' and not (mode == '--gate' and body.folder == MUST_FAIL)]
-        return Round(crate, twins, wrong, [body.name for body in fit if not body.twin.pairs], faults)
+        return Asked(crate, twins, wrong, [body.name for body in fit if not body.twin.pairs], faults)
+
+    def left(self, kept: Kept) -> Tuple[Asked, List[Outcome]]:
+        """What is left to be tried, and what earlier runs have found of the others."""
+        known = of_kept(self.crate, kept, self.twins, self.bodies)
+        names = {outcome.name for outcome in known}
+        twins = [edit for edit in self.twins if name_of_twin(edit) not in names]
+        return self._replace(twins=twins, bodies=[edit for edit in self.bodies if edit.name not in names]), known
 
     @property
     def size(self) -> int:
@@ -41,13 +48,14 @@ class Round(NamedTuple):
 
 
 class Result(NamedTuple):
-    """What came of the round of a crate, and how often the whole crate had to be checked, since a function of it couldn't be asked for."""
+    """What came of a crate, and how often the whole crate had to be checked, since a function of it couldn't be asked for."""
 
+    crate: str
     outcomes: List[Outcome]
-    whole_checks: int
+    whole_checks: int = 0
 
 
-def tried(round: Round, trial: Trial, kept: Kept) -> Result:
+def tried(asked: Asked, trial: Trial, kept: Kept) -> Result:
     """Twins come first: what is proved with them is there for the wrong bodies."""
-    outcomes: Iterable[Outcome] = [*of_twins(trial, kept, round.twins), *of_bodies(trial, kept, round.bodies)]
-    return Result(list(outcomes), trial.whole_checks)
+    outcomes = [*of_twins(trial, kept, asked.twins), *of_bodies(trial, kept, asked.bodies)]
+    return Result(asked.crate, outcomes, trial.whole_checks)
