@@ -44,31 +44,31 @@ def functions(crate: str, file: str, text: str) -> List[Place]:
         closing = (last for last in range(at, len(lines)) if lines[last].startswith(match[1] + '}'))
         one_line = re.search(r'\{.*\} *$', lines[at])
         last = at if one_line else next(closing, len(lines) - 1)
-        found.append(Place(file, match[2], first + 1, last + 1, path_of(crate, file, lines[: at + 1])))
+        found.append(Place(file, match[2], first + 1, last + 1, path_of(crate, file, lines[:at], match[1], match[2])))
     return found
 
 
-def path_of(crate: str, file: str, lines: Sequence[str]) -> str:
-    """By what the prover knows the function on the last of these lines of a file: its path, or the end of that, or nothing where it can't be told."""
-    blanks, name = NAMED.match(lines[-1]).groups()
+def path_of(crate: str, file: str, above: Sequence[str], blanks: str, name: str) -> str:
+    """By what the prover knows the function of this name below these lines of a file, with so many blanks before it: its path, or the end of that, or nothing where it
+    can't be told."""
     modules = [part for part in Path(file).with_suffix('').parts[1:] if part not in ('lib', 'main', 'mod')]
     if not blanks:
         return '::'.join([crate, *modules, name])
-    opening = next((line for line in reversed(lines[:-1]) if line[:1].isalpha()), '')
+    opening = next((line for line in reversed(above) if line[:1].isalpha()), '')
     found = TRAIT.match(opening) or IMPL.match(opening)
     if not found or len(blanks) != 4:
         return ''
     words = found.groupdict('')
-    if not words.get('trait') and not is_declared(words['type'], lines):
+    type, trait, of = words['type'], words.get('trait', ''), words.get('of', '')
+    if not trait and not is_declared(type, above):
         # It has the path of its type, which is declared in another file.
-        return f'{words["type"]}::{name}'
-    # Of two letters or more it is no parameter of the impl.
-    of = words.get('of', '')
-    holder = words['type'] + words.get('trait', '') + (of if len(of) > 1 else '')
-    return '::'.join([crate, *modules, holder, name])
+        return f'{type}::{name}'
+    # A name of one letter is a parameter of the impl, and no part of its path.
+    return '::'.join([crate, *modules, type + trait + (of if len(of) > 1 else ''), name])
 
 
 def is_declared(type: str, lines: Sequence[str]) -> bool:
+    """Whether a type is declared in these lines."""
     return any(re.match(rf'(?:pub(?:\([^)]*\))? )?(?:struct|enum|trait) {type}\b', line) for line in lines)
 
 

@@ -3,14 +3,13 @@
 from __future__ import annotations
 
 import os
-import shutil
 from pathlib import Path
 from typing import Any, Collection, Iterator, List, Sequence
 
 from bodies.edits import Texts
 from bodies.kit import Kit, Said
 from building.copies import copy_folder, write_list
-from building.crates import PARTS, ROOT, all_of, listed, own
+from building.crates import PARTS, all_of, listed, own
 from harness import Room
 
 
@@ -36,14 +35,16 @@ class Tree:
 
     def check(self, name: str, texts: Texts, paths: Sequence[str]) -> Said:
         """Checks these functions of a crate, or all of it, with these texts in it, over what was checked here before."""
-        for file, text in texts.items():
-            (self.folder(name) / file).write_text(text, encoding='utf-8')
+        files = {self.folder(name) / file: text for file, text in texts.items()}
+        before = {file: file.read_bytes() for file in files}
+        for file, text in files.items():
+            file.write_text(text, encoding='utf-8')
         try:
             asked = [word for path in paths for word in ('--only', path)]
             return self.kit.check(self.kit.crate(self.top, name), [*asked, '--incremental', str(self.top / 'kept' / name)])
         finally:
-            for file in texts:
-                shutil.copy(own(name) / file, self.folder(name) / file)
+            for file, content in before.items():
+                file.write_bytes(content)
 
 
 def is_there(library: Any) -> bool:

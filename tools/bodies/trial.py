@@ -9,7 +9,6 @@ from bodies.edits import BadEdit, Edit, Texts, all_applied, applied
 from bodies.said import Goal, goals_in, has_no_such_function, is_proved, is_refused, why
 from bodies.sources import Place, place_at, places_of
 from bodies.tree import Tree
-from building.crates import own
 
 
 class Answer(NamedTuple):
@@ -27,7 +26,7 @@ class Trial:
     def __init__(self, tree: Tree, crate: str) -> None:
         self.tree = tree
         self.crate = crate
-        self.source = own(crate)
+        self.source = tree.folder(crate)
         #: How often the whole crate had to be checked, since the prover knows a function by no name that was found for it.
         self.whole_checks = 0
 
