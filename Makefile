@@ -15,7 +15,8 @@
 # make test-tools parts of it: the board, installing, the texts for users, and the scripts in another place
 # make test-reference what saves and seeds are answered, by a second implementation
 # make test-twins  the twins of the wrong bodies, which mean what the right bodies mean, are proved; CRATES=.. for some crates
-# make test-bodies all wrong bodies are refused and all twins proved, tried together, of which the gate tries one of each function; CRATES=.. for some crates
+# make test-bodies all wrong bodies are refused and all twins proved, tried together, of which the gate tries three to six of each crate; CRATES=.. for some crates;
+#                 what passed before is not tried again where nothing has changed, but with ANEW=1
 # make trust      how many lines have to be read to believe the promises, by file, and whether docs/TRUST.md lists them
 # make exchange   saves and IDs against the usual programs, of Debian's package sgt-puzzles; no part of the gate
 # make bench      how long the solver, the generator, saves, checks of boards and their objects take, class by class, and the solver beside the usual
