@@ -110,5 +110,6 @@ class Menu:
         letter = self._letter()
         if letter:
             new, all_ = games.left(self._state, self._game, self._size, letter)
-            return f'{all_} puzzles, {new} of them new to you'
+            trouble = self._state.played_trouble(self._game)
+            return trouble or f'{all_} puzzles, {new} of them new to you'
         return 'the best of 100 seeds, without guessing' if self._kind == SEEDED else "5:.. or 5!7, or the number after the '!'"
