@@ -13,7 +13,7 @@ from board.texts import Ways
 
 #: Lines over which the program may take long; and how many seconds it may take over any other before a player can stop that, too.
 LONG = ('solve', 'completable', 'list ')
-PATIENCE = 5.0
+PATIENCE = 3.0
 
 
 class Front(Protocol):

@@ -7,6 +7,8 @@ import os
 import re
 from typing import Optional
 
+from board import files
+
 
 def about(here: str, program: Optional[str]) -> str:
     """Three lines of text; `here` is the folder of the command, and `program` the path of the program that it plays with."""
@@ -33,5 +35,4 @@ def note(here: str) -> str:
 
 
 def sum_of(program: str) -> str:
-    with open(program, 'rb') as file:
-        return hashlib.sha256(file.read()).hexdigest()
+    return hashlib.sha256(files.read(program).content).hexdigest()

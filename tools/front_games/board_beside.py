@@ -32,8 +32,8 @@ class Face(NamedTuple):
 SCREEN = Face('the screen', [], 'x', 'm', 'move 1/1', 'q')
 LINES = Face('lines', ['--lines'], '', 'm<enter>', 'towers 2/2>', 'q<enter>')
 
-#: A window in which sentences stand below the board, or on a page.
-LOW = (20, 100)
+#: A window in which sentences stand below the board, on long lines.
+LOW = (20, 132)
 
 
 def link_to(target: str) -> Callable[[str], None]:
@@ -193,9 +193,27 @@ def other_game(front: BoardFront, room: Room, name: str) -> None:
         front.same(f'{name}, in lines: the status', window.status(), 0)
 
 
+def third_game(front: BoardFront, room: Room, name: str) -> None:
+    """Three games are kept. Where one of them can't be put away, the present one stays where it is, and takes no other's place."""
+    os.makedirs(os.path.join(room.path, FOLDER))
+    os.mkfifo(os.path.join(room.path, FOLDER, 'old'))
+    kept = [(KEPT, save_text(0)), (BESIDE, save_text(2)), (f'{FOLDER}/unequal.sav', b'kept\n')]
+    for at, (path, content) in enumerate(kept):
+        room.put(path, content)
+        os.utime(os.path.join(room.path, path), (1e9 - at, 1e9 - at))
+    with front.window(room, ['towers'], LOW) as window:
+        front.look(name, room, window, Look('', ['Towers 3x3', '0 of 9']))
+        front.look(name, room, window, Look('n<up><up><right><enter>', ['is a named pipe). Lose it? y/N']))
+        front.look(name, room, window, Look('x', ['The present game stays.', 'Towers 3x3']))
+        window.press('q')
+        front.same(f'{name}: the status', window.status(), 0)
+    front.same(f'{name}: what is kept', [room.read(path) for path, _ in kept], [content for _, content in kept])
+
+
 CASES: Dict[str, Callable[[BoardFront, Room, str], None]] = {
     'a damaged game that can not be put away': damaged,
     'links in the way of new files': new_file,
     'a lock that can not be opened': lock,
     'a kept game of the other kind': other_game,
+    'three kept games': third_game,
 }

@@ -184,6 +184,7 @@ def closed_window(front: BoardFront, room: Room, name: str) -> None:
     """A pipe among the kept files, and the window is closed, in both faces."""
     os.makedirs(os.path.join(room.path, FOLDER))
     os.mkfifo(os.path.join(room.path, KEPT))
+    os.utime(os.path.join(room.path, KEPT), (2e9, 2e9))
     for face in (SCREEN, LINES):
         with front.window(room, [*face.words, 'towers', ID], LOW) as window:
             front.look(f'{name}, {face.name}', room, window, Look('', ['is a named pipe']))
