@@ -31,7 +31,16 @@ BANK = Path(__file__).resolve().parent / 'bank'
 @lru_cache(maxsize=None)
 def bank(game: str) -> Tuple[str, ...]:
     """The IDs of all stored puzzles of a game; none where they can't be read."""
-    return tuple(files.read(str(BANK / f'{game}.txt')).content.decode('ascii', 'replace').splitlines())
+    return tuple(files.read(bank_path(game)).content.decode('ascii', 'replace').splitlines())
+
+
+def bank_path(game: str) -> str:
+    return str(BANK / f'{game}.txt')
+
+
+def bank_trouble(game: str) -> str:
+    """A sentence where there are no stored puzzles of a game."""
+    return '' if bank(game) else f"{bank_path(game)} {files.read(bank_path(game)).why or 'has no puzzles'}."
 
 
 def stored(game: str, size: int, letter: str) -> List[str]:

@@ -8,7 +8,7 @@ from typing import Callable, Dict, List, NamedTuple, Optional, Sequence, Tuple
 
 from front_games.board_playing import BoardFront, Look
 from harness import Room
-from harness.game import ID, save_text
+from harness.game import ID, left_files, save_text
 from harness.users import ANNA, CARL, need_root
 
 FOLDER = 'state/puzzles'
@@ -107,7 +107,7 @@ def beside(front: BoardFront, room: Room, name: str, face: Face, why: str) -> No
         window.press(face.leave)
         front.same(f'{name}: the status of the next start', window.status(), 0)
     front.same(f'{name}: what was there at the end', known(room, KEPT), before)
-    front.same(f'{name}: no other file', left(room), [])
+    front.same(f'{name}: no other file', left_files(room), [])
 
 
 def known(room: Room, path: str) -> Optional[Tuple[int, ...]]:
@@ -117,11 +117,6 @@ def known(room: Room, path: str) -> Optional[Tuple[int, ...]]:
     except FileNotFoundError:
         return None
     return found.st_ino, found.st_mode, found.st_uid, found.st_size, found.st_mtime_ns
-
-
-def left(room: Room) -> List[str]:
-    """New files that were left in the folder for games."""
-    return [path for path in room.paths() if path.startswith('state/') and path.endswith(('.tmp', '.new'))]
 
 
 def damaged(front: BoardFront, room: Room, name: str) -> None:

@@ -1,4 +1,4 @@
-"""Folders for games that can't be used, what is no file where a player opens or saves one, and files that vanish."""
+"""Folders for games that can't be used, what is no file where a player opens or saves one, and kept files that vanish."""
 
 from __future__ import annotations
 
@@ -7,13 +7,11 @@ import shutil
 import signal
 import stat
 from typing import Callable, Dict, List, Tuple
-from unittest import mock
 
-from board import files
-from front_games.board_beside import FOLDER, KEPT, LINES, LOW, SCREEN, THINGS, known, left, link_to, own_folder
+from front_games.board_beside import FOLDER, KEPT, LINES, LOW, SCREEN, THINGS, known, link_to, own_folder
 from front_games.board_playing import BoardFront, Look
 from harness import Room
-from harness.game import ID, save_text
+from harness.game import ID, left_files, save_text
 from harness.users import ANNA, CARL, need_root
 
 #: What is in the place of the folder for games, and what is said of it.
@@ -177,7 +175,7 @@ def marks(front: BoardFront, room: Room, name: str) -> None:
         window.press('q<enter>')
         front.same(f'{name}, in lines: the status', window.status(), 0)
     front.same(f'{name}: what was there', known(room, path), before)
-    front.same(f'{name}: no other file', left(room), [])
+    front.same(f'{name}: no other file', left_files(room), [])
 
 
 def closed_window(front: BoardFront, room: Room, name: str) -> None:
@@ -192,40 +190,30 @@ def closed_window(front: BoardFront, room: Room, name: str) -> None:
             front.same(f'{name}, {face.name}: the status', window.status(), 129)
 
 
-def looked_at(front: BoardFront, room: Room, name: str) -> None:
-    """A file that vanishes, or becomes a pipe, after the board has looked at it; and files at the limit."""
-    path = os.path.join(room.path, 'game.sav')
-    regular = os.stat(__file__)
-    with mock.patch.object(files.os, 'stat', return_value=regular):
-        front.same(f'{name}: vanished', files.read(path), files.Found(files.Kind.ABSENT))
-        os.mkfifo(path)
-        front.same(f'{name}: became a pipe', files.read(path), files.Found(files.Kind.OTHER, why='is a named pipe'))
-    os.remove(path)
-    for length, kind in ((0, files.Kind.READ), (files.MOST_BYTES, files.Kind.READ), (files.MOST_BYTES + 1, files.Kind.TOO_LARGE)):
-        room.put('game.sav', b'\n' * length)
-        front.same(f'{name}: {length} bytes', files.read(path).kind, kind)
-    front.same(f'{name}: no text as a name', files.read('\0').kind, files.Kind.UNREADABLE)
+def no_text(front: BoardFront, room: Room, name: str) -> None:
+    """What is said of a file can be shown, whatever its name is."""
+    folder = os.path.join(room.path, os.fsdecode(b'st\xffte'))
+    os.makedirs(os.path.join(folder, 'puzzles'))
+    os.mkfifo(os.path.join(folder, 'puzzles', 'towers.sav'))
+    os.utime(os.path.join(folder, 'puzzles', 'towers.sav'), (2e9, 2e9))
+    for face in (SCREEN, LINES):
+        with front.window(room, [*face.words, 'towers', ID], LOW, {**front.env(room), 'XDG_STATE_HOME': folder}) as window:
+            front.look(f'{name}, {face.name}', room, window, Look('', ["towers.sav is a named pipe: what can't be read stays as it is"]))
+            window.press(face.leave)
+            front.same(f'{name}, {face.name}: the status', window.status(), 0)
 
 
-def made(front: BoardFront, room: Room, name: str) -> None:
-    """A new file takes nobody's place, and has nobody else's rights; what replaces a link leaves its target."""
-    path = os.path.join(room.path, 'game.sav')
-    front.same(f'{name}: at first', (files.make(path, b'one'), room.read('game.sav')), (True, b'one'))
-    front.same(f'{name}: its mode', room.mode('game.sav'), 0o600)
-    front.same(f'{name}: again', (files.make(path, b'two'), room.read('game.sav')), (False, b'one'))
-    with mock.patch.object(files.os, 'link', side_effect=PermissionError):
-        front.same(f'{name}: without second names', (files.make(path, b'two'), room.read('game.sav')), (False, b'one'))
-        front.same(f'{name}: without second names, at first', (files.make(path + '.2', b'two'), room.read('game.sav.2')), (True, b'two'))
-    room.link('link', 'game.sav')
-    files.replace(os.path.join(room.path, 'link'), b'three')
-    front.same(f'{name}: over a link', (room.read('link'), room.read('game.sav'), room.link_text('link')), (b'three', b'one', None))
-    with mock.patch.object(files.os, 'fsync', side_effect=OSError(28, 'No space left on device')):
-        for write in (files.replace, files.make):
-            try:
-                write(path, b'four')
-            except OSError as error:
-                front.same(f'{name}: no room, {write.__name__}', files.why(error), 'No space left on device')
-    front.same(f'{name}: what is there then', (room.read('game.sav'), room.names()), (b'one', ['game.sav', 'game.sav.2', 'link']))
+def no_bank(front: BoardFront, room: Room, name: str) -> None:
+    """Then there are seeds, and the menu says why."""
+    copied = front.of(None, room)
+    bank = os.path.join(room.path, 'board', 'bank', 'towers.txt')
+    os.remove(bank)
+    os.mkfifo(bank)
+    with copied.window(room, ['towers'], LOW) as window:
+        front.look(name, room, window, Look('', ['Towers 5x5']))
+        front.look(name, room, window, Look('n', ['[seeded: no clue too many]', f'{bank} is a named pipe.']))
+        window.press('xq')
+        front.same(f'{name}: the status', window.status(), 0)
 
 
 def closed_folder(front: BoardFront, room: Room, name: str) -> None:
@@ -287,8 +275,8 @@ CASES: Dict[str, Callable[[BoardFront, Room, str], None]] = {
     'a pipe as the folder of the last ten': no_old_folder,
     'a pipe as the marks of puzzles': marks,
     'a pipe, and a closed window': closed_window,
-    'reading a file': looked_at,
-    'making a file': made,
+    'a folder whose name is no text': no_text,
+    'stored puzzles that can not be read': no_bank,
 }
 
 USERS: Dict[str, Callable[[BoardFront, Room, str], None]] = {

@@ -52,8 +52,8 @@ class BoardFront:
         self.path = front
         self._user = user
 
-    def of(self, user: User, room: Room) -> BoardFront:
-        """The front played by another user, who may not go where it lies: a copy in the room, over a copy of the program."""
+    def of(self, user: Optional[User], room: Room) -> BoardFront:
+        """A copy of the front in the room, over a copy of the program: for another user, who may not go where it lies, where one is named."""
         package = shutil.ignore_patterns('__pycache__')
         shutil.copytree(TOP / 'tools' / 'board', os.path.join(room.path, 'board'), ignore=package)
         path = shutil.copy2(TOP / 'tools' / 'play', os.path.join(room.path, 'play'))
