@@ -21,7 +21,7 @@ def looked_at(front: BoardFront, room: Room, name: str) -> None:
     """A file that vanishes, or becomes a pipe, after the board has looked at it; and files at the limit."""
     path = os.path.join(room.path, 'game.sav')
     regular = os.stat(__file__)
-    with mock.patch.object(files.os, 'stat', return_value=regular):
+    with mock.patch('os.stat', return_value=regular):
         front.same(f'{name}: vanished', files.read(path), files.Found(files.Kind.ABSENT))
         os.mkfifo(path)
         front.same(f'{name}: became a pipe', files.read(path), files.Found(files.Kind.OTHER, why='is a named pipe'))
@@ -38,13 +38,13 @@ def made(front: BoardFront, room: Room, name: str) -> None:
     front.same(f'{name}: at first', (files.make(path, b'one'), room.read('game.sav')), (True, b'one'))
     front.same(f'{name}: its mode', room.mode('game.sav'), 0o600)
     front.same(f'{name}: again', (files.make(path, b'two'), room.read('game.sav')), (False, b'one'))
-    with mock.patch.object(files.os, 'link', side_effect=PermissionError):
+    with mock.patch('os.link', side_effect=PermissionError):
         front.same(f'{name}: without second names', (files.make(path, b'two'), room.read('game.sav')), (False, b'one'))
         front.same(f'{name}: without second names, at first', (files.make(path + '.2', b'two'), room.read('game.sav.2')), (True, b'two'))
     room.link('link', 'game.sav')
     files.replace(os.path.join(room.path, 'link'), b'three')
     front.same(f'{name}: over a link', (room.read('link'), room.read('game.sav'), room.link_text('link')), (b'three', b'one', None))
-    with mock.patch.object(files.os, 'fsync', side_effect=OSError(28, 'No space left on device')):
+    with mock.patch('os.fsync', side_effect=OSError(28, 'No space left on device')):
         for write in (files.replace, files.make):
             try:
                 write(path, b'four')
