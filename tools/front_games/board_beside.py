@@ -136,6 +136,19 @@ def damaged(front: BoardFront, room: Room, name: str) -> None:
         front.holds(f'{name}, {face.name}: the new game', (room.read(BESIDE) or b'').startswith(b'SAVEFILE'), room.paths())
 
 
+def damaged_in_lines(front: BoardFront, room: Room, name: str) -> None:
+    """What is no save is put away, and told."""
+    os.makedirs(os.path.join(room.path, FOLDER))
+    room.put(KEPT, b'no save\n')
+    with front.window(room, ['--lines', 'towers'], LOW) as window:
+        told = "The game that was kept is put away, as it can't be read: That is no save file of the collection: one begins with 'SAVEFILE:41:'."
+        front.look(name, room, window, Look('', [told, 'towers 1/1>']))
+        window.press('q<enter>')
+        front.same(f'{name}: the status', window.status(), 0)
+    old = [path for path in room.paths() if path.startswith(f'{FOLDER}/old/')]
+    front.same(f'{name}: it is put away', [room.read(path) for path in old], [b'no save\n'])
+
+
 def new_file(front: BoardFront, room: Room, name: str) -> None:
     """A link in the way of a new file, as its name was before, is not followed; nor is the link at the place of the lock."""
     os.makedirs(os.path.join(room.path, FOLDER))
@@ -207,6 +220,7 @@ def third_game(front: BoardFront, room: Room, name: str) -> None:
 
 CASES: Dict[str, Callable[[BoardFront, Room, str], None]] = {
     'a damaged game that can not be put away': damaged,
+    'a damaged game, in lines': damaged_in_lines,
     'links in the way of new files': new_file,
     'a lock that can not be opened': lock,
     'a kept game of the other kind': other_game,

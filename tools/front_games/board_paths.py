@@ -10,7 +10,7 @@ from typing import Callable, Dict, List, Tuple
 
 from front_games.board_beside import FOLDER, KEPT, LINES, LOW, SCREEN, THINGS, known, link_to, own_folder
 from front_games.board_playing import BoardFront, Look
-from harness import Room
+from harness import Room, run
 from harness.game import ID, left_files, save_text
 from harness.users import ANNA, CARL, need_root
 
@@ -266,6 +266,15 @@ def closed_files(front: BoardFront, room: Room, name: str) -> None:
         front.same(f'{name}, in lines: the status', window.status(), 3)
 
 
+def closed_program(front: BoardFront, room: Room, name: str) -> None:
+    """A program that may be run and not read plays, and nobody knows whether it is the proved one."""
+    os.chmod(front.program, 0o711)
+    room.put('VERSION', b'version 1.1\ncommit none\nproved by some kit\n')
+    ended = run([front.path, '--version'], room, env=front.env(room), user=ANNA)
+    front.same(f'{name}: the status', (ended.status, ended.error), (0, b''))
+    front.holds(f'{name}: what it says', b'not known to be proved' in ended.output, ended)
+
+
 CASES: Dict[str, Callable[[BoardFront, Room, str], None]] = {
     'a link to the folder for games': linked_folder,
     'a kept file that vanishes': vanished,
@@ -283,4 +292,5 @@ USERS: Dict[str, Callable[[BoardFront, Room, str], None]] = {
     'a folder for games that is closed': closed_folder,
     'a kept game in a closed folder': closed_kept,
     'files of another user': closed_files,
+    'a program that may not be read': closed_program,
 }
