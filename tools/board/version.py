@@ -8,6 +8,8 @@ import re
 import subprocess
 from typing import Optional
 
+from board import files
+
 
 def about(here: str, program: Optional[str]) -> str:
     """Some lines of text; `here` is the folder of the command, and `program` the path of the program that it plays with."""
@@ -41,5 +43,4 @@ def told(here: str, what: str) -> str:
 
 
 def sum_of(program: str) -> str:
-    with open(program, 'rb') as file:
-        return hashlib.sha256(file.read()).hexdigest()
+    return hashlib.sha256(files.read(program).content).hexdigest()
