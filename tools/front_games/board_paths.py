@@ -273,6 +273,10 @@ def closed_program(front: BoardFront, room: Room, name: str) -> None:
     ended = run([front.path, '--version'], room, env=front.env(room), user=ANNA)
     front.same(f'{name}: the status', (ended.status, ended.error), (0, b''))
     front.holds(f'{name}: what it says', b'not known to be proved' in ended.output, ended)
+    room.remove('VERSION')
+    os.mkfifo(os.path.join(room.path, 'VERSION'))
+    ended = run([front.path, '--version'], room, env=front.env(room), user=ANNA)
+    front.same(f'{name}, with a pipe as VERSION', (ended.status, ended.output.splitlines()[:1]), (0, [b'puzzles of no known version']))
 
 
 CASES: Dict[str, Callable[[BoardFront, Room, str], None]] = {
