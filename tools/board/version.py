@@ -28,10 +28,8 @@ def about(here: str, program: Optional[str]) -> str:
 def note(here: str) -> str:
     """What is told of the programs: it lies beside the package where that is installed, and in the repository a command tells it."""
     beside = os.path.join(os.path.dirname(os.path.abspath(__file__)), '..', 'VERSION')
-    if os.path.isfile(beside):
-        with open(beside, encoding='utf-8') as file:
-            return file.read()
-    return told(here, 'note')
+    found = files.read(beside)
+    return told(here, 'note') if found.kind is files.Kind.ABSENT else found.content.decode('utf-8', 'replace')
 
 
 def told(here: str, what: str) -> str:

@@ -9,6 +9,7 @@ from typing import Callable, Dict, List, NamedTuple, Optional, Sequence, Tuple
 from front_games.board_playing import BoardFront, Look
 from harness import Room
 from harness.game import ID, left_files, save_text
+from harness.room import Folder
 from harness.users import ANNA, CARL, need_root
 
 FOLDER = 'state/puzzles'
@@ -41,8 +42,10 @@ def link_to(target: str) -> Callable[[str], None]:
 
 
 def bind_socket(path: str) -> None:
-    with socket.socket(socket.AF_UNIX) as made:
-        made.bind(path)
+    """The name of a socket may be short alone, so it is named from its folder."""
+    folder, name = os.path.split(path)
+    with socket.socket(socket.AF_UNIX) as made, Folder(folder) as here:
+        made.bind(f'/proc/self/fd/{here.fd}/{name}')
 
 
 def put_long(path: str) -> None:
@@ -201,6 +204,19 @@ def other_game(front: BoardFront, room: Room, name: str) -> None:
         front.same(f'{name}, in lines: the status', window.status(), 0)
 
 
+def no_text(front: BoardFront, room: Room, name: str) -> None:
+    """What is said of a file can be shown, whatever its name is."""
+    folder = os.path.join(room.path, os.fsdecode(b'st\xffte'))
+    os.makedirs(os.path.join(folder, 'puzzles'))
+    os.mkfifo(os.path.join(folder, 'puzzles', 'towers.sav'))
+    os.utime(os.path.join(folder, 'puzzles', 'towers.sav'), (2e9, 2e9))
+    for face in (SCREEN, LINES):
+        with front.window(room, [*face.words, 'towers', ID], LOW, {**front.env(room), 'XDG_STATE_HOME': folder}) as window:
+            front.look(f'{name}, {face.name}', room, window, Look('', ["towers.sav is a named pipe: what can't be read stays as it is"]))
+            window.press(face.leave)
+            front.same(f'{name}, {face.name}: the status', window.status(), 0)
+
+
 def third_game(front: BoardFront, room: Room, name: str) -> None:
     """Three games are kept. Where one of them can't be put away, the present one stays where it is, and takes no other's place."""
     os.makedirs(os.path.join(room.path, FOLDER))
@@ -224,5 +240,6 @@ CASES: Dict[str, Callable[[BoardFront, Room, str], None]] = {
     'links in the way of new files': new_file,
     'a lock that can not be opened': lock,
     'a kept game of the other kind': other_game,
+    'a folder whose name is no text': no_text,
     'three kept games': third_game,
 }

@@ -190,19 +190,6 @@ def closed_window(front: BoardFront, room: Room, name: str) -> None:
             front.same(f'{name}, {face.name}: the status', window.status(), 129)
 
 
-def no_text(front: BoardFront, room: Room, name: str) -> None:
-    """What is said of a file can be shown, whatever its name is."""
-    folder = os.path.join(room.path, os.fsdecode(b'st\xffte'))
-    os.makedirs(os.path.join(folder, 'puzzles'))
-    os.mkfifo(os.path.join(folder, 'puzzles', 'towers.sav'))
-    os.utime(os.path.join(folder, 'puzzles', 'towers.sav'), (2e9, 2e9))
-    for face in (SCREEN, LINES):
-        with front.window(room, [*face.words, 'towers', ID], LOW, {**front.env(room), 'XDG_STATE_HOME': folder}) as window:
-            front.look(f'{name}, {face.name}', room, window, Look('', ["towers.sav is a named pipe: what can't be read stays as it is"]))
-            window.press(face.leave)
-            front.same(f'{name}, {face.name}: the status', window.status(), 0)
-
-
 def no_bank(front: BoardFront, room: Room, name: str) -> None:
     """Then there are seeds, and the menu says why."""
     copied = front.of(None, room)
@@ -273,6 +260,10 @@ def closed_program(front: BoardFront, room: Room, name: str) -> None:
     ended = run([front.path, '--version'], room, env=front.env(room), user=ANNA)
     front.same(f'{name}: the status', (ended.status, ended.error), (0, b''))
     front.holds(f'{name}: what it says', b'not known to be proved' in ended.output, ended)
+    room.remove('VERSION')
+    os.mkfifo(os.path.join(room.path, 'VERSION'))
+    ended = run([front.path, '--version'], room, env=front.env(room), user=ANNA)
+    front.same(f'{name}, with a pipe as VERSION', (ended.status, ended.output.splitlines()[:1]), (0, [b'puzzles of no known version']))
 
 
 CASES: Dict[str, Callable[[BoardFront, Room, str], None]] = {
@@ -284,7 +275,6 @@ CASES: Dict[str, Callable[[BoardFront, Room, str], None]] = {
     'a pipe as the folder of the last ten': no_old_folder,
     'a pipe as the marks of puzzles': marks,
     'a pipe, and a closed window': closed_window,
-    'a folder whose name is no text': no_text,
     'stored puzzles that can not be read': no_bank,
 }
 
