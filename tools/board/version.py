@@ -21,7 +21,7 @@ def about(here: str, program: Optional[str]) -> str:
     elif prover and sum_of(program) in noted.split():
         proof = f'proved by {prover}\ntaken from {facts.get("taken from", "a place that is not known")}'
     else:
-        proof = 'not known to be proved: the program is not the one that make left'
+        proof = 'not known to be proved: the program is not one that was recorded'
     return f'puzzles {facts.get("version", "of no known version")}\ncommit {facts.get("commit", "unknown")}\n{proof}\n'
 
 

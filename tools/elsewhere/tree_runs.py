@@ -6,7 +6,7 @@ import os
 from typing import List, NamedTuple, Optional, Sequence
 
 from elsewhere.place import Place
-from elsewhere.small import ALL, CRATES, OF_HIGH, Small, put, remove
+from elsewhere.small import ALL, CRATES, OF_HIGH, Small, put, remove, touch
 from harness.program import Ended
 
 FOLDER = 'programs/linux-amd64'
@@ -55,6 +55,8 @@ def cases(place: Place) -> None:
     where(small, 'nothing has changed, and no kit', FOLDER, RT='/no kit')
     for row in CHANGES:
         taken(small, row)
+    for crate in ('low', 'beside'):
+        touch(f'crates/{crate}/src/lib.rt')(small.place)
     small.place.give()
     small.expect('the same texts with other dates', small.run(), ALL)
     other_sources(small)

@@ -7,6 +7,8 @@ import shutil
 from pathlib import Path
 from typing import Iterator, Sequence, Tuple
 
+from building.ready import NotReady, ready
+from building.record import BUILT
 from harness.report import Report
 from harness.room import Room
 
@@ -54,10 +56,18 @@ def copies(room: Room, words: Sequence[str]) -> Tuple[str, str]:
 
 
 def built(words: Sequence[str]) -> str:
-    """The path of the program: the first word of a script, or PUZZLES, or what `make` leaves."""
-    return os.path.abspath(words[0] if words else os.environ.get('PUZZLES') or TOP / 'build' / 'puzzles')
+    """The path of the program: the first word of a script, or PUZZLES, or the one that is ready."""
+    return os.path.abspath(words[0] if words else os.environ.get('PUZZLES') or folder() / 'puzzles')
 
 
 def built_objects(words: Sequence[str]) -> str:
-    """The path of puzzles-json: the second word of a script, or PUZZLES_JSON, or what `make` leaves."""
-    return os.path.abspath(words[1] if words[1:] else os.environ.get('PUZZLES_JSON') or TOP / 'build' / 'puzzles-json')
+    """The path of puzzles-json: the second word of a script, or PUZZLES_JSON, or the one that is ready."""
+    return os.path.abspath(words[1] if words[1:] else os.environ.get('PUZZLES_JSON') or folder() / 'puzzles-json')
+
+
+def folder() -> Path:
+    """Where the programs are that are of the sources here; where there are none, that in which `make` would leave them."""
+    try:
+        return TOP / ready().folder
+    except NotReady:
+        return TOP / BUILT.folder
