@@ -8,9 +8,9 @@ from typing import Dict, Iterable, List, NamedTuple, Tuple
 #: The text of each file of a crate that is edited, by its path in the crate.
 Texts = Dict[str, str]
 
-#: Where the wrong bodies of a crate lie, those that `rt ci` tries and those that `make test-bodies` tries, and where the twins of both lie.
-MUST_FAIL, MORE, TWINS = 'must-fail', 'more-must-fail', 'twins'
-WRONG = (MUST_FAIL, MORE)
+#: Where the wrong bodies of a crate lie: those that `rt ci` tries, and all others.
+MUST_FAIL, WRONG_BODIES = 'must-fail', 'wrong-bodies'
+FOLDERS = (MUST_FAIL, WRONG_BODIES)
 
 
 class Pair(NamedTuple):
@@ -27,20 +27,28 @@ class Edit(NamedTuple):
     name: str
     pairs: Tuple[Pair, ...]
 
-    @property
-    def place(self) -> List[Tuple[str, str]]:
-        """What it edits."""
-        return [(pair.file, pair.old) for pair in self.pairs]
+
+class Body(NamedTuple):
+    """A wrong body and its twin, both by its name; the folder that it lies in, whether the gate tries it, and why its file can't be read so, or nothing."""
+
+    name: str
+    wrong: Edit
+    twin: Edit
+    folder: str
+    is_in_gate: bool
+    fault: str
 
 
 class BadEdit(Exception):
     """An edit can't be applied. Its text says why."""
 
 
-def read_edit(path: Path) -> Edit:
-    """What a file of an edit says. What can't be read gives an edit with no pair."""
-    file, old = '', ''
-    pairs: List[Pair] = []
+def read_body(path: Path) -> Body:
+    """What a file says of a wrong body. Its twin is what stands after `# twin:` right below each line `new:`; one that is lacking has no pair."""
+    file, old, fault, above = '', '', '', ''
+    wrong: List[Pair] = []
+    twin: List[Pair] = []
+    is_in_gate = False
     for line in path.read_text(encoding='utf-8').split('\n'):
         key, _, text = line.partition(':')
         text = text[1:] if text.startswith(' ') else text
@@ -49,14 +57,24 @@ def read_edit(path: Path) -> Edit:
         elif key == 'old':
             old = text
         elif key == 'new':
-            pairs.append(Pair(file, old, text))
-    return Edit(path.stem, tuple(pairs))
+            wrong.append(Pair(file, old, text))
+        elif key == '# twin' and above == 'new':
+            twin.append(Pair(file, old, text))
+        elif line == '# gate':
+            is_in_gate = True
+        elif line.strip():
+            fault = f'nothing reads its line {line!r} there'
+        above = key
+    if twin and len(twin) < len(wrong):
+        fault = "a line '# twin:' is lacking below a line 'new:'"
+    name = path.stem
+    return Body(name, Edit(name, tuple(wrong)), Edit(name, tuple(twin)), path.parent.name, is_in_gate or path.parent.name == MUST_FAIL, fault)
 
 
-def edits_in(crate: Path, folders: Iterable[str]) -> List[Edit]:
-    """The edits of a crate in these folders of it, by name."""
+def bodies_in(crate: Path, folders: Iterable[str] = FOLDERS) -> List[Body]:
+    """The wrong bodies of a crate in these folders of it, by name."""
     paths = (path for folder in folders for path in (crate / folder).glob('*.edit'))
-    return sorted(read_edit(path) for path in paths)
+    return sorted(read_body(path) for path in paths)
 
 
 def applied(edit: Edit, crate: Path, texts: Texts) -> Texts:

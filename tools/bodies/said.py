@@ -3,7 +3,7 @@
 from __future__ import annotations
 
 import re
-from typing import List, NamedTuple
+from typing import List, NamedTuple, Sequence
 
 
 #: What the prover says of a goal where it tells values that make it false.
@@ -27,13 +27,23 @@ class Goal(NamedTuple):
         return f'{self.file}:{self.line}: {self.text}'[:240]
 
 
-def is_proved(status: int, said: str) -> bool:
-    return status == 0 and re.search(r'^logic=proved', said, re.MULTILINE) is not None
+def is_proved(status: int, said: str, paths: Sequence[str]) -> bool:
+    """Whether a check of these functions proved each of them and all that they need; with none named, whether it proved the whole crate."""
+    if not paths:
+        return status == 0 and re.search(r'^logic=proved', said, re.MULTILINE) is not None
+    proved = re.findall(r'^fn (\S+): proved$', said, re.MULTILINE)
+    are_all = all(any(f'::{name}'.endswith(f'::{path}') for name in proved) for path in paths)
+    return status == 0 and are_all and re.search(r'^only=(\d+) proved=\1$', said, re.MULTILINE) is not None
 
 
 def is_refused(status: int, said: str) -> bool:
     """Whether the check came to its end, and some function is not proved. One that stops earlier says nothing of those that it didn't come to."""
-    return status == 1 and re.search(r'^logic=not-proved', said, re.MULTILINE) is not None
+    return status == 1 and re.search(r'^(logic=not-proved|only=\d+ proved=\d+$)', said, re.MULTILINE) is not None
+
+
+def has_no_such_function(status: int, said: str) -> bool:
+    """Whether the prover knows none, or several, by a name that it was asked for."""
+    return status == 2 and re.search(r'^rattle: error: .*: help: write (the name|one of) ', said, re.MULTILINE) is not None
 
 
 def goals_in(said: str) -> List[Goal]:
@@ -51,7 +61,7 @@ def why(said: str) -> str:
     return said.strip().rpartition('\n')[2][:240]
 
 
-class Body(NamedTuple):
+class Tried(NamedTuple):
     """A wrong body that `rt must-fail` or `rt ci` tried: its crate and name, whether it was refused, and what was said of it."""
 
     crate: str
@@ -70,7 +80,7 @@ class Body(NamedTuple):
         return 'the facts known' in self.text
 
 
-def tried(said: str) -> List[Body]:
+def tried(said: str) -> List[Tried]:
     """The wrong bodies of which a line says whether they were refused."""
     found = re.findall(r'must-fail (\w+)/(\S+)\.edit: (refused, as it must be|NOT REFUSED|BAD EDIT)(?::| \()? ?(.*)', said)
-    return [Body(crate, name, how.startswith('refused'), text) for crate, name, how, text in found]
+    return [Tried(crate, name, how.startswith('refused'), text) for crate, name, how, text in found]

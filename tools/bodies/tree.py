@@ -3,57 +3,61 @@
 from __future__ import annotations
 
 import os
-import shutil
-import subprocess
 from pathlib import Path
-from typing import Collection
+from typing import Any, Collection, Iterator, List, Sequence
 
 from bodies.edits import Texts
+from bodies.kit import Kit, Said
 from building.copies import copy_folder, write_list
-from building.crates import PARTS, ROOT, all_of, listed
+from building.crates import PARTS, all_of, listed, own
 from harness import Room
 
 
 class Tree:
-    """The copy, in a room. What earlier checks of the repository kept is used, and not written to."""
+    """The copy, in a room. What earlier builds left of the libraries is used, and not written to."""
 
-    def __init__(self, room: Room, names: Collection[str]) -> None:
-        self.rt = os.environ.get('RT') or 'rt'
+    def __init__(self, room: Room, names: Collection[str], kit: Kit) -> None:
+        self.kit = kit
         self.top = Path(room.path)
         crates = listed()
         write_list(self.top, names, crates)
-        shutil.copy(ROOT / 'HANDLES', self.top)
         for name in all_of(names, crates):
             for part in PARTS:
-                copy_folder(ROOT / 'crates' / name / part, self.crate(name) / part)
-            copy_folder(ROOT / 'crates' / name / 'out' / 'rlib', self.crate(name) / 'out' / 'rlib', linked=True)
+                copy_folder(own(name) / part, self.folder(name) / part)
+            copy_folder(own(name) / 'out' / 'rlib', self.folder(name) / 'out' / 'rlib', linked=True)
 
-    def crate(self, name: str) -> Path:
+    def folder(self, name: str) -> Path:
         return self.top / 'crates' / name
 
-    def bring_kept(self, name: str) -> None:
-        """Copies what earlier checks of a crate kept."""
-        kept = Path('crates') / name / 'out' / 'incremental'
-        copy_folder(ROOT / kept, self.top / kept)
+    def lacking(self, name: str) -> List[str]:
+        """The libraries below a crate that aren't there as their sources are now."""
+        return [library.name for library in self.kit.crate(self.top, name).below() if not is_there(library)]
 
-    def write(self, name: str, texts: Texts) -> None:
-        for file, text in texts.items():
-            (self.crate(name) / file).write_text(text, encoding='utf-8')
+    def check(self, name: str, texts: Texts, paths: Sequence[str]) -> Said:
+        """Checks these functions of a crate, or all of it, with these texts in it, over what was checked here before."""
+        files = {self.folder(name) / file: text for file, text in texts.items()}
+        before = {file: file.read_bytes() for file in files}
+        for file, text in files.items():
+            file.write_text(text, encoding='utf-8')
+        try:
+            asked = [word for path in paths for word in ('--only', path)]
+            return self.kit.check(self.kit.crate(self.top, name), [*asked, '--incremental', str(self.top / 'kept' / name)])
+        finally:
+            for file, content in before.items():
+                file.write_bytes(content)
 
-    def put_back(self, name: str, texts: Texts) -> None:
-        """Gives the files that were edited their own text again."""
-        for file in texts:
-            shutil.copy(ROOT / 'crates' / name / file, self.crate(name) / file)
 
-    def run(self, place: Path, *words: str) -> subprocess.CompletedProcess[str]:
-        """Runs `rt` at a place of the tree, with what it says in one text."""
-        return subprocess.run(
-            [self.rt, *words],
-            cwd=place,
-            stdin=subprocess.DEVNULL,
-            stdout=subprocess.PIPE,
-            stderr=subprocess.STDOUT,
-            encoding='utf-8',
-            errors='replace',
-            check=False,
-        )
+def is_there(library: Any) -> bool:
+    """Whether a library was made of the sources that it has now: by the sum that `rt lib` left beside it, or, of one that `rt ci` left, by the dates of the files."""
+    if (Path(library.folder) / 'out' / 'rlib' / 'stamp').exists():
+        return bool(library.is_built())
+    try:
+        made = os.stat(Path(library.rlib) / 'format').st_mtime
+    except OSError:
+        return False
+    return all(date <= made for crate in [library, *library.below()] for date in dates(Path(crate.folder)))
+
+
+def dates(folder: Path) -> Iterator[float]:
+    """When the files of a crate were last written."""
+    return (path.stat().st_mtime for part in PARTS for path in (folder / part).rglob('*') if path.is_file())

@@ -6,10 +6,9 @@ import contextlib
 from typing import List, NamedTuple, Sequence, Set
 
 from bodies.edits import BadEdit, Edit, Texts, all_applied, applied
-from bodies.said import Goal, goals_in, is_proved, is_refused, why
+from bodies.said import Goal, goals_in, has_no_such_function, is_proved, is_refused, why
 from bodies.sources import Place, place_at, places_of
 from bodies.tree import Tree
-from building.crates import ROOT
 
 
 class Answer(NamedTuple):
@@ -22,13 +21,14 @@ class Answer(NamedTuple):
 
 
 class Trial:
-    """The edits of one crate, tried in a tree."""
+    """The edits of one crate, tried in a tree. Of the crate the functions are checked in which edits stand, and what those need."""
 
     def __init__(self, tree: Tree, crate: str) -> None:
         self.tree = tree
         self.crate = crate
-        self.source = ROOT / 'crates' / crate
-        tree.bring_kept(crate)
+        self.source = tree.folder(crate)
+        #: How often the whole crate had to be checked, since the prover knows a function by no name that was found for it.
+        self.whole_checks = 0
 
     def unfit(self, edit: Edit) -> str:
         """Why an edit can't be tried, or nothing."""
@@ -43,15 +43,20 @@ class Trial:
         return ''
 
     def check(self, edits: Sequence[Edit]) -> Answer:
-        """Checks the crate with these edits in it, over what was kept."""
+        """Checks the crate with these edits in it, as far as they reach."""
         texts = all_applied(edits, self.source)
-        self.tree.write(self.crate, texts)
-        try:
-            ran = self.tree.run(self.tree.crate(self.crate), 'check')
-        finally:
-            self.tree.put_back(self.crate, texts)
-        said = ran.stdout
-        return Answer(is_proved(ran.returncode, said), is_refused(ran.returncode, said), why(said), goals_in(said))
+        paths = self.paths(edits)
+        said = self.tree.check(self.crate, texts, paths)
+        if paths and has_no_such_function(*said):
+            paths = []
+            said = self.tree.check(self.crate, texts, paths)
+        self.whole_checks += not paths
+        return Answer(is_proved(*said, paths), is_refused(*said), why(said.text), goals_in(said.text))
+
+    def paths(self, edits: Sequence[Edit]) -> List[str]:
+        """By what the prover knows the functions in which these edits stand; none where it can't be told of one."""
+        paths = {place.path for edit in edits for place in places_of(edit, self.source)}
+        return [] if '' in paths else sorted(paths)
 
     def own(self, edit: Edit, goals: Sequence[Goal]) -> List[Goal]:
         """Those goals that stand in a function in which an edit stands."""
@@ -59,7 +64,12 @@ class Trial:
         return [goal for goal in goals if place_at(self.source, goal.file, goal.line) in places]
 
     def rounds(self, edits: Sequence[Edit]) -> List[List[Edit]]:
-        """The edits in as few rounds as a simple choice finds: none in another's way, and just one in a function, so that an open goal is one edit's."""
+        """The edits in as few rounds as a simple choice finds: none in another's way, and just one in a function, so that an open goal is one edit's. Those whose
+        functions can be asked for are in rounds of their own."""
+        nameless = [edit for edit in edits if not self.paths([edit])]
+        return [*self._rounds([edit for edit in edits if edit not in nameless]), *self._rounds(nameless)]
+
+    def _rounds(self, edits: Sequence[Edit]) -> List[List[Edit]]:
         left = list(edits)
         found: List[List[Edit]] = []
         while left:

@@ -1,4 +1,4 @@
-"""Twins: a crate is proved with those of its wrong bodies in it, and where it isn't, those are found that are refused."""
+"""Twins: what they stand in is proved with all of a crate's in it, and where it isn't, those are found that are refused."""
 
 from __future__ import annotations
 
@@ -6,15 +6,6 @@ from typing import Dict, Sequence
 
 from bodies.edits import Edit
 from bodies.trial import Answer, Trial, halves
-
-
-def wrong_form(trial: Trial, twin: Edit, bodies: Dict[str, Edit]) -> str:
-    """Why an edit is no twin of the wrong body of its name, or nothing."""
-    if twin.name not in bodies:
-        return 'there is no wrong body of that name'
-    if twin.pairs and twin.place != bodies[twin.name].place:
-        return 'it edits another place than its wrong body'
-    return trial.unfit(twin)
 
 
 def refused(trial: Trial, twins: Sequence[Edit]) -> Dict[str, str]:
@@ -25,14 +16,13 @@ def refused(trial: Trial, twins: Sequence[Edit]) -> Dict[str, str]:
     if answer.is_proved:
         return {}
     found = blamed(trial, twins, answer)
-    print(f'{trial.crate}: not proved: {", ".join(found) or f"{len(twins)} twins together"}', flush=True)
     if found:
         found.update(refused(trial, [twin for twin in twins if twin.name not in found]))
         return found
     for part in halves(twins):
         found.update(refused(trial, part))
     if not found:
-        found[' with '.join(twin.name for twin in twins)] = f'each part of them is proved, but not all: {answer.why}'
+        found.update((twin.name, f'each part of these twins is proved, but not all together: {answer.why}') for twin in twins)
     return found
 
 

@@ -18,6 +18,10 @@ class Kind(Enum):
     NOT = 'NOT refused'
 
 
+#: Where a wrong body has to be refused.
+GOOD = (Kind.VALUES, Kind.GOAL)
+
+
 class Verdict(NamedTuple):
     """What came of a wrong body: where it was refused, and what was said."""
 
@@ -26,7 +30,10 @@ class Verdict(NamedTuple):
 
     @property
     def is_good(self) -> bool:
-        return self.kind in (Kind.VALUES, Kind.GOAL)
+        return self.kind in GOOD
+
+    def __str__(self) -> str:
+        return f'{self.kind.value}: {self.said}'
 
 
 def tried(trial: Trial, bodies: Sequence[Edit]) -> Dict[str, Verdict]:
@@ -39,8 +46,6 @@ def tried(trial: Trial, bodies: Sequence[Edit]) -> Dict[str, Verdict]:
     shown = {body.name: at_goal(trial, body, answer) for body in bodies} if answer.is_refused else {}
     found = {name: verdict for name, verdict in shown.items() if verdict.is_good}
     doubtful = [body for body in bodies if body.name not in found]
-    if doubtful:
-        print(f'{trial.crate}: once more, in doubt: {", ".join(body.name for body in doubtful)}', flush=True)
     parts: Sequence[Sequence[Edit]] = [doubtful] if found else halves(doubtful)
     for part in parts:
         found.update(tried(trial, part))
@@ -59,7 +64,7 @@ def at_goal(trial: Trial, body: Edit, answer: Answer) -> Verdict:
 def alone(trial: Trial, body: Edit, answer: Answer) -> Verdict:
     """What a check of nothing but this body says of it."""
     if answer.is_proved:
-        return Verdict(Kind.NOT, 'the crate is proved with it')
+        return Verdict(Kind.NOT, 'what it stands in is proved with it')
     if not answer.is_refused:
         return Verdict(Kind.NOT, f'the check stopped before its end: {answer.why}')
     return at_goal(trial, body, answer)

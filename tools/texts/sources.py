@@ -5,7 +5,7 @@ from __future__ import annotations
 import re
 from typing import Dict, List, Set
 
-from bodies.edits import WRONG, edits_in
+from bodies.edits import bodies_in
 from texts.parts import ROOT, found, read
 
 #: What declares a name, by the ending of a file, with the name in brackets: items, members and clauses, and the words of texts.
@@ -40,7 +40,7 @@ def declared(crate: str) -> Set[str]:
 
 
 def wrong_bodies(crate: str) -> Set[str]:
-    return {edit.name for edit in edits_in(ROOT / 'crates' / crate, WRONG)}
+    return {body.name for body in bodies_in(ROOT / 'crates' / crate)}
 
 
 def specs(crate: str, files: str) -> str:

@@ -1,0 +1,61 @@
+"""What is to be tried of a crate."""
+
+from __future__ import annotations
+
+from typing import List, NamedTuple, Tuple
+
+from bodies.edits import MUST_FAIL, Body, Edit
+from bodies.kept import Kept
+from bodies.outcomes import Outcome, name_of_twin, of_bodies, of_kept, of_twins
+from bodies.trial import Trial
+
+#: How many wrong bodies of a crate the gate tries at least, where there are so many.
+LEAST = 3
+
+
+class Asked(NamedTuple):
+    """The twins and the wrong bodies of a crate that are tried, the names of those without a twin, and what is wrong with their files."""
+
+    crate: str
+    twins: List[Edit]
+    bodies: List[Edit]
+    without_twin: List[str]
+    faults: List[Outcome]
+
+    @staticmethod
+    def of(crate: str, bodies: List[Body], mode: str) -> Asked:
+        """What a mode of the script asks for."""
+        chosen = [body for body in bodies if body.is_in_gate or mode != '--gate']
+        faults = [Outcome(body.name, body.fault) for body in bodies if body.fault]
+        if len(chosen) < min(LEAST, len(bodies)):
+            faults.append(Outcome('the wrong bodies for the gate', f"of {len(bodies)} only {len(chosen)} are marked '# gate'"))
+        fit = [body for body in chosen if not body.fault]
+        twins = [body.twin for body in fit if body.twin.pairs and mode != '--wrong']
+        # `rt ci`, which tries these one by one, is a part of the gate.
+        wrong = [body.wrong for body in fit if mode != '--twins' and not (mode == '--gate' and body.folder == MUST_FAIL)]
+        return Asked(crate, twins, wrong, [body.name for body in fit if not body.twin.pairs], faults)
+
+    def left(self, kept: Kept) -> Tuple[Asked, List[Outcome]]:
+        """What is left to be tried, and what earlier runs have found of the others."""
+        known = of_kept(self.crate, kept, self.twins, self.bodies)
+        names = {outcome.name for outcome in known}
+        twins = [edit for edit in self.twins if name_of_twin(edit) not in names]
+        return self._replace(twins=twins, bodies=[edit for edit in self.bodies if edit.name not in names]), known
+
+    @property
+    def size(self) -> int:
+        return len(self.twins) + len(self.bodies)
+
+
+class Result(NamedTuple):
+    """What came of a crate, and how often the whole crate had to be checked, since a function of it couldn't be asked for."""
+
+    crate: str
+    outcomes: List[Outcome]
+    whole_checks: int = 0
+
+
+def tried(asked: Asked, trial: Trial, kept: Kept) -> Result:
+    """Twins come first: what is proved with them is there for the wrong bodies."""
+    outcomes = [*of_twins(trial, kept, asked.twins), *of_bodies(trial, kept, asked.bodies)]
+    return Result(asked.crate, outcomes, trial.whole_checks)

@@ -1,0 +1,90 @@
+"""What of the kit is used: how its command `rt` names a crate and the libraries below it to the prover, and the prover itself."""
+
+from __future__ import annotations
+
+import importlib.util
+import os
+import subprocess
+import threading
+from pathlib import Path
+from typing import Any, List, NamedTuple, Sequence, Set
+
+from building.changes import command, kit_of
+
+
+#: What a check takes at most, in bytes.
+MEMORY = 3_000_000_000
+
+
+class NoKit(Exception):
+    """There is no kit to prove with. Its text says why."""
+
+
+class Said(NamedTuple):
+    """What a run of the prover said, and its status."""
+
+    status: int
+    text: str
+
+
+class Kit:
+    """The kit of the command `rt`, or of the one that RT names."""
+
+    def __init__(self) -> None:
+        """Raises `NoKit`. To be called before any thread begins."""
+        rt = command()
+        if not rt:
+            raise NoKit('there is no command rt, and RT names none')
+        #: What tells this kit from another.
+        self.line = kit_of(rt)
+        self._library = library_beside(rt)
+        # What comes before each command of the kit, so that it ends when this process does.
+        self._front: List[str] = self._library.guarded()
+        self._running: Set[subprocess.Popen[str]] = set()
+        self._lock = threading.Lock()
+        self._is_stopped = False
+
+    def lanes(self) -> int:
+        """How many checks may run at once: as RT_JOBS says, or as many as there are processors and memory for."""
+        fixed = os.environ.get('RT_JOBS', '')
+        if fixed.isdigit() and int(fixed):
+            return int(fixed)
+        return max((count for count in range(1, 65) if self._library.fits(*[MEMORY] * count)), default=1)
+
+    def crate(self, top: Path, name: str) -> Any:
+        """A crate of a repository, as the kit sees it: it has a `folder`, an `rlib`, what `is_built`, and what is `below` it."""
+        return self._library.Crate(str(top / 'crates' / name), str(top), {})
+
+    def check(self, crate: Any, more: Sequence[str]) -> Said:
+        """Checks a crate, in one process, with these words besides."""
+        words = [*self._front, self._library.RATTLE, 'check', *crate.words(['--jobs', '1'], keeps=False), *more]
+        quiet = subprocess.DEVNULL
+        with self._lock:
+            if self._is_stopped:
+                return Said(2, 'it was stopped')
+            ran = subprocess.Popen(
+                words, cwd=crate.folder, stdin=quiet, stdout=subprocess.PIPE, stderr=subprocess.STDOUT, encoding='utf-8', errors='replace'
+            )
+            self._running.add(ran)
+        said = ran.communicate()[0]
+        with self._lock:
+            self._running.discard(ran)
+        return Said(ran.returncode, said)
+
+    def stop(self) -> None:
+        """Ends what runs, and begins nothing more."""
+        with self._lock:
+            self._is_stopped = True
+            for ran in self._running:
+                ran.kill()
+
+
+def library_beside(rt: str) -> Any:
+    """The module `rtlib`, which lies beside the file of the command."""
+    file = Path(rt).resolve().with_name('rtlib.py')
+    spec = importlib.util.spec_from_file_location('rtlib', file)
+    if not file.is_file() or not spec or not spec.loader:
+        raise NoKit(f'beside {rt} there is no rtlib.py')
+    made = importlib.util.module_from_spec(spec)
+    spec.loader.exec_module(made)
+    return made
