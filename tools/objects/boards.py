@@ -2,6 +2,7 @@
 
 from __future__ import annotations
 
+from functools import lru_cache
 from typing import Dict, FrozenSet, List, NamedTuple, Sequence, Set, Tuple
 
 from objects.reading import Object
@@ -85,12 +86,13 @@ def clues_of(puzzle: Puzzle, numbers: Numbers, done: Sequence[str]) -> List[Obje
         side, at = divmod(place, size)
         x, y = [(at, -1), (at, size), (-1, at), (size, at)][side]
         if clue:
-            has_error = not can_be_seen(clue, edge_line(size, numbers, place))
+            has_error = not can_be_seen(clue, tuple(edge_line(size, numbers, place)))
             told.append({'clue': clue, 'done': f'{x},{y}' in done, 'error': has_error, 'x': x, 'y': y})
     return told
 
 
-def can_be_seen(clue: int, line: Sequence[int]) -> bool:
+@lru_cache(maxsize=None)
+def can_be_seen(clue: int, line: Tuple[int, ...]) -> bool:
     """Whether some filling of a line shows so many towers: all are tried, as the numbers used so far and the towers seen.
 
     The tallest one that was used hides what is lower, in whatever order they stand.

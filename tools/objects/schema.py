@@ -30,7 +30,7 @@ def one_of(*values: object) -> Check:
 
 def text(place: str, value: object) -> Iterator[str]:
     """Characters each of which stands for a byte; no LF."""
-    if not isinstance(value, str) or any(ord(letter) > 255 or letter == '\n' for letter in value):
+    if not isinstance(value, str) or '\n' in value or max(value, default='') > '\xff':
         yield f'{place} is {value!r}'
 
 

@@ -135,7 +135,7 @@ def long_game(pair: Pair) -> None:
     found = left(pair.objects, words, script, b'')
     plain = left(pair.plain, words, plain_script, b'')
     lines = found.ended.output.split(b'\n')
-    wrong = [f'state {at}: {line!r}' for at, line in enumerate(lines[:MOST_STATES - 1], 1) if line != moved(at)]
+    wrong = [f'state {at}: {line!r}' for at, (line, owed) in enumerate(zip(lines, moved()), 1) if line != owed]
     answers, wrong_end = read_answers(BEHIND, b'\n'.join(lines[MOST_STATES - 1:]))
     wrong += wrong_end or list(wrong_refusals([answer.found for answer in answers]))
     behind = plain.ended._replace(output=plain.ended.output[3 * (MOST_STATES - 1):])
@@ -143,10 +143,12 @@ def long_game(pair: Pair) -> None:
     pair.report.check('a history of 100,000 states', wrong[:5])
 
 
-def moved(at: int) -> bytes:
-    """The object of the move that makes a state."""
-    session = {'game': 'Towers', 'id': ID, 'position': at + 1, 'states': at + 1, 'status': 'playing'}
-    return json.dumps({'refused': None, 'reply': ['ok'], 'session': session}, separators=(',', ':')).encode()
+def moved() -> Iterator[bytes]:
+    """The objects of the moves that fill a history."""
+    session = {'game': 'Towers', 'id': ID, 'position': '?', 'states': '?', 'status': 'playing'}
+    text = json.dumps({'refused': None, 'reply': ['ok'], 'session': session}, separators=(',', ':'))
+    front, middle, end = text.encode().split(b'"?"')
+    return (b'%s%d%s%d%s' % (front, state, middle, state, end) for state in range(2, MOST_STATES + 1))
 
 
 def wrong_refusals(objects: Sequence[object]) -> Iterator[str]:
