@@ -211,7 +211,7 @@ def cases_of_libraries(words: Words) -> None:
     """A library is taken as `rt lib` has left it, or `rt ci`, where it is of the sources here."""
     put = words.place.put
     put('crates/letters/src/lib.rt', b'other letters\n', 0o644)
-    lacks = ['not built of the sources here: letters; run make build first, or the gate', '0 passed, 1 failed']
+    lacks = ['not built of the sources here: letters; run make build first, or ANEW=1 make gate', '0 passed, 1 failed']
     words.expect('a library of other sources', lacks, 1, ANEW='1')
     os.remove(put('crates/letters/out/rlib/stamp', b'', 0o644))
     words.expect('a library that is lacking', lacks, 1, ANEW='1')
