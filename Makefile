@@ -1,9 +1,14 @@
-# make            proves and builds both programs, crates side by side, and leaves them as build/puzzles and build/puzzles-json; where nothing has
-#                 changed it says nothing
 # make play       the board on the terminal, where the last game goes on; GAME=towers or GAME=unequal, ID= an ID or a save file; in a pipe
 #                 a game by the commands that come in, as echo show | make play
-# make test       the gate: every proof from nothing, wrong bodies, tests, stored runs, the program from outside and under fire, the scripts
-#                 around it; SKIPS_ALLOWED=1 lets it pass where something can't be tried
+# make            has both programs ready: those in programs/linux-amd64, where programs/RECORD says that they are of the sources here, so that nothing
+#                 is to be done; else it says that they aren't, and does as make build. All that tries or installs programs takes the same ones
+# make build      proves and builds both programs from the sources here, crates side by side, and leaves them as build/puzzles and build/puzzles-json; where
+#                 nothing has changed it says nothing
+# make programs   does that, and stores them in programs/linux-amd64 with their record, as far as they aren't there yet
+# make test       all that tries the programs from outside: commands, saves, objects, the board, installing, texts, scripts; SKIPS_ALLOWED=1 lets it
+#                 pass where something can't be tried
+# make gate       every proof from nothing, wrong bodies, tests, stored runs, the programs from outside and under fire, and whether those in the tree are
+#                 the same bytes; SKIPS_ALLOWED=1 as above
 # make test-faults a part of it: memory, reads and writes that fail in turn
 # make test-saving a part of it: how the program saves, wherever the file lies and whoever shares it
 # make test-json  a part of it: the objects that puzzles-json writes
@@ -22,7 +27,7 @@
 # make try        CRATE=clue_rules: runs the tests of one crate without a proof
 # make must-fail  CRATE=clue_rules: tries the wrong bodies in its must-fail/, one by one
 # make fmt        lays out all files; FMT='rt tidy' also drops unused imports of proved crates
-# make dist       packs the last commit as build/puzzles-VERSION.tar.gz, and what was built of it as build/puzzles-VERSION-linux-amd64.tar.gz
+# make dist       packs the last commit as build/puzzles-VERSION.tar.gz, and its programs as build/puzzles-VERSION-linux-amd64.tar.gz
 # make install    the programs, the board, manual pages, documents and completions below PREFIX=/usr/local, or where bindir, gamesdir, datadir,
 #                 mandir, docdir, bashcompdir, zshcompdir and fishcompdir say, all below DESTDIR; make uninstall takes them away again
 # make installcheck plays with what is installed
@@ -50,21 +55,33 @@ zshcompdir ?= $(datadir)/zsh/site-functions
 fishcompdir ?= $(datadir)/fish/vendor_completions.d
 DESTDIR ?=
 
-.PHONY: all play test trust test-twins test-bodies test-faults test-saving test-json test-tools test-reference exchange bench hard climb check try must-fail fmt dist install uninstall installcheck clean help crate
+.PHONY: all build programs play test gate trust test-twins test-bodies test-faults test-saving test-json test-tools test-reference exchange bench hard climb check try must-fail fmt dist install uninstall installcheck clean help crate
+
+# Prints the folder of the programs that are of the sources here, and builds them where there are none.
+WHERE = RT='$(RT)' tools/programs where
 
 all:
+	@$(WHERE) > /dev/null
+
+build:
 	@RT='$(RT)' tools/build
+
+programs:
+	@RT='$(RT)' tools/programs store
 
 # The board is for a terminal; in a pipe the program plays by itself. The words go by the environment, since there may be any letter in them.
 play: export GAME := $(GAME)
 play: export ID := $(ID)
 play:
 	@case "$$GAME" in ''|towers|unequal) ;; *) echo 'make: GAME is towers or unequal' >&2; exit 2 ;; esac
-	@$(MAKE) --no-print-directory all
-	@if [ -t 0 ] && [ -t 1 ]; then exec tools/play "$${GAME:-$${ID:+towers}}" "$$ID"; \
-	else exec tools/play_in_pipe "$$GAME" "$$ID"; fi
+	@programs=$$($(WHERE)) || exit; \
+	if [ -t 0 ] && [ -t 1 ]; then PUZZLES_JSON="$${PUZZLES_JSON:-$$programs/puzzles-json}" exec tools/play "$${GAME:-$${ID:+towers}}" "$$ID"; \
+	else exec tools/play_in_pipe "$$programs/puzzles" "$$GAME" "$$ID"; fi
 
 test:
+	@programs=$$($(WHERE)) && tools/test "$$programs/puzzles" "$$programs/puzzles-json"
+
+gate:
 	@RT='$(RT)' tools/gate
 
 test-twins:
@@ -73,21 +90,18 @@ test-twins:
 test-bodies:
 	@RT='$(RT)' tools/test_bodies $(CRATES)
 
-test-faults: all
+test-faults:
 	@cd crates/refused_memory && '$(RT)' run < /dev/null > /dev/null
-	tools/test_faults build/puzzles crates/refused_memory/out/refused_memory
+	@programs=$$($(WHERE)) && tools/test_faults "$$programs/puzzles" crates/refused_memory/out/refused_memory
 
-test-saving: all
-	tools/test_saving build/puzzles
+test-saving:
+	@programs=$$($(WHERE)) && tools/test_saving "$$programs/puzzles"
 
-test-json: all
-	tools/test_json build/puzzles-json build/puzzles
+test-json:
+	@programs=$$($(WHERE)) && tools/test_json "$$programs/puzzles-json" "$$programs/puzzles"
 
-test-tools: all
-	tools/test_play
-	tools/test_install
-	tools/test_texts
-	tools/test_scripts
+test-tools:
+	@programs=$$($(WHERE)) && for part in play install texts scripts; do tools/test_$$part "$$programs/puzzles" "$$programs/puzzles-json" || exit; done
 
 test-reference:
 	tools/test_reference
@@ -95,8 +109,8 @@ test-reference:
 trust:
 	@tools/trust
 
-exchange: all
-	@tools/exchange
+exchange:
+	@programs=$$($(WHERE)) && tools/exchange "$$programs/puzzles"
 
 bench: export IDS := $(IDS)
 bench:

@@ -4,11 +4,13 @@ There is no rule of play here. What is wrong, what is full and what follows come
 line, and is painted. From below upwards:
 
 board        what the program tells of a game
+files        reads, makes and locks files: regular ones alone
 program      talks to the program
 state        where games are kept
 games        the stored puzzles, and seeds worth playing
 texts        a sentence for each refusal
-table        the present game, and what can be done with it
+present      the present game, and what can be done with it
+table        how a game begins, and what becomes of the one before
 layout       where on a screen the squares, clues and texts are
 picture      a board as pieces of text
 screen       a terminal by `curses`: paints pieces, reads keys

@@ -4,6 +4,9 @@ from __future__ import annotations
 
 import os
 
+from board import files
+from board.texts import SAVE_BEGINS
+
 
 def file_name(text: str) -> str:
     """The name as a shell would take it: without quotes around it, and with the player's folder for ~."""
@@ -12,10 +15,13 @@ def file_name(text: str) -> str:
     return os.path.expanduser(text)
 
 
-def what_is(file: str) -> str:
-    """What there is to say of a file that isn't a save."""
-    try:
-        with open(file, 'rb') as content:
-            return '' if content.read(12) == b'SAVEFILE:41:' else ', and is no save'
-    except OSError:
-        return ', and can\'t be read'
+def question(file: str) -> str:
+    """What is to be asked before something is saved there; nothing where nothing is there, or something that no save goes to."""
+    if not os.path.lexists(file) or files.other_than_file(file):
+        return ''
+    found = files.read(file)
+    if found.kind in (files.Kind.READ, files.Kind.TOO_LARGE):
+        what = '' if found.content.startswith(SAVE_BEGINS) else ', and is no save'
+    else:
+        what = ", and can't be read"
+    return f'{file} is there{what}. Write over it?'

@@ -2,21 +2,20 @@
 
 from __future__ import annotations
 
-import os
 import time
 from typing import List, Optional
 
 from board import games, keys, manual, menu
 from board.board import GAMES, Place
 from board.dialogues import Dialogues
-from board.file_names import file_name, what_is
+from board.file_names import file_name, question
 from board.layout import Layout, fit
 from board.picture import Look, Piece, grade, has_room, name, picture, too_small
-from board.program import Gone
+from board.program import Gone, Stopped
 from board.screen import Key, Screen
 from board.state import State
 from board.table import Table
-from board.texts import BY_KEYS
+from board.texts import BY_KEYS, STOPPED
 
 
 class FullScreen:
@@ -223,16 +222,20 @@ class FullScreen:
         try:
             if not id and choice.letter:
                 id = games.take(self.table.state, choice.game, choice.size, choice.letter) or ''
+                said = self.table.state.played_trouble(choice.game)
             elif not id:
                 self._dialogues.tell('Looking for a seed ..')
-                id = games.seeded(self.table.path, choice.game, choice.size)
+                id = games.seeded(self.table.path, choice.game, choice.size, self.table.waiting())
                 said = f'A seeded game; to play it again: n, by an ID, {id}'
         except Gone as gone:
             self.table.message = f'The program says: {gone}.'
             return
+        except Stopped:
+            self.table.message = STOPPED
+            return
         if self.table.begin(choice.game, id):
             self._at_start()
-            self.table.message = said
+            self.table.message = f'{self.table.message} {said}'.strip()
 
     def _at_start(self) -> None:
         self._cursor = (0, 0)
@@ -241,9 +244,10 @@ class FullScreen:
 
     def _open(self) -> None:
         old = self.table.state.old_games()
-        rows = [f'{time.strftime("%d %b %H:%M", time.localtime(game.when))} {self.table.summary(game)}' for game in old]
+        rows = [f'{time.strftime("%d %b %H:%M", time.localtime(game.when))} {games.summary(self.table.path, game, self.table.waiting())}' for game in old]
         at = self._dialogues.choose('Go on with', [*rows, 'a file ..'])
         if at is None:
+            self.table.message = self.table.state.old_trouble()
             return
         if at < len(old):
             done = self.table.open_old(old[at])
@@ -258,7 +262,8 @@ class FullScreen:
         file = file_name(self._dialogues.read('save as:', self._file) or '')
         if not file:
             return
-        if os.path.lexists(file) and file != self._file and not self.confirm(f'{file} is there{what_is(file)}. Write over it?'):
+        asked = '' if file == self._file else question(file)
+        if asked and not self.confirm(asked):
             self.table.message = 'Nothing was saved.'
             return
         if self.table.save_as(file):

@@ -7,9 +7,10 @@ from functools import lru_cache
 from pathlib import Path
 from typing import Dict, List, Optional, Tuple
 
-from board.board import Board
-from board.program import Gone, Program, replies
-from board.state import NotKept, State
+from board import files
+from board.board import GAMES, Board
+from board.program import Gone, Program, Refused, Stopped, Waiting, started_with
+from board.state import NotKept, OldGame, State
 
 #: The letters of difficulty, by the usual programs' words.
 GRADES: Dict[str, Dict[str, str]] = {
@@ -30,10 +31,16 @@ BANK = Path(__file__).resolve().parent / 'bank'
 @lru_cache(maxsize=None)
 def bank(game: str) -> Tuple[str, ...]:
     """The IDs of all stored puzzles of a game; none where they can't be read."""
-    try:
-        return tuple((BANK / f'{game}.txt').read_text(encoding='ascii').splitlines())
-    except OSError:
-        return ()
+    return tuple(files.read(bank_path(game)).content.decode('ascii', 'replace').splitlines())
+
+
+def bank_path(game: str) -> str:
+    return str(BANK / f'{game}.txt')
+
+
+def bank_trouble(game: str) -> str:
+    """A sentence where there are no stored puzzles of a game."""
+    return '' if bank(game) else f"{bank_path(game)} {files.read(bank_path(game)).why or 'has no puzzles'}."
 
 
 def stored(game: str, size: int, letter: str) -> List[str]:
@@ -71,29 +78,47 @@ def take(state: State, game: str, size: int, letter: str) -> Optional[str]:
     return id
 
 
-def seeded(path: str, game: str, size: int, seeds: int = SEEDS) -> str:
+def seeded(path: str, game: str, size: int, waiting: Waiting) -> str:
     """Of some seeds the ID of the one with the fewest givens that the deductions alone solve; where none is, with the fewest givens."""
-    ids = [f'{size}!{random.getrandbits(32)}' for _ in range(seeds)]
     boards: List[Tuple[int, str]] = []
-    for id, reply in zip(ids, replies(path, game, [line for id in ids for line in (f'new {id}', 'board')])[1::2]):
-        if reply.board:
-            boards.append((len(reply.board.givens), id))
-    boards.sort()
-    if not boards:
-        raise Gone('no seeded game was made')
-    program = Program(path, game)
+    program = Program(path, game, waiting=waiting)
     try:
-        return next((id for _, id in boards if follows(program, id)), boards[0][1])
+        for id in (f'{size}!{random.getrandbits(32)}' for _ in range(SEEDS)):
+            if waiting():
+                raise Stopped
+            program.ask(f'new {id}', waiting)
+            board = program.ask('board', waiting).board
+            if board:
+                boards.append((len(board.givens), id))
+        boards.sort()
+        if not boards:
+            raise Gone('no seeded game was made')
+        return next((id for _, id in boards if follows(program, id, waiting)), boards[0][1])
     finally:
         program.stop()
 
 
-def follows(program: Program, id: str) -> bool:
+def follows(program: Program, id: str, waiting: Waiting) -> bool:
     """Whether hint after hint fills the board."""
-    program.ask(f'new {id}')
+    program.ask(f'new {id}', waiting)
     while True:
-        hint = program.ask('hint').hint
+        hint = program.ask('hint', waiting).hint
         if hint is None or hint.square is None:
-            board: Optional[Board] = program.ask('board').board
+            board: Optional[Board] = program.ask('board', waiting).board
             return board is not None and board.is_solved
-        program.ask(f'move R{hint.square[0]},{hint.square[1]},{hint.number}')
+        program.ask(f'move R{hint.square[0]},{hint.square[1]},{hint.number}', waiting)
+
+
+def summary(path: str, old: OldGame, waiting: Waiting) -> str:
+    """What there is to say of one of the last ten games."""
+    try:
+        program = started_with(path, old.game, files.read(old.path).content, waiting)
+    except (Refused, Gone, Stopped):
+        return f'{old.game}, can\'t be read'
+    board = program.first.board
+    program.stop()
+    if board is None:
+        return old.game
+    grade = GRADES[old.game].get(board.session.letter, '')
+    filled, empty = board.own
+    return f'{GAMES[old.game]} {board.size}x{board.size} {grade}'.rstrip() + (', solved' if board.is_solved else f', {filled} of {empty}')

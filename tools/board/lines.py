@@ -2,7 +2,6 @@
 
 from __future__ import annotations
 
-import os
 import re
 import shutil
 import sys
@@ -12,12 +11,12 @@ from typing import Callable, Dict, List, Tuple
 
 from board import games, manual, speech
 from board.board import GAMES, Board
-from board.file_names import file_name, what_is
-from board.program import Gone
+from board.file_names import file_name, question
+from board.program import Gone, Stopped
 from board.prompt import Prompt
 from board.state import State
 from board.table import Table
-from board.texts import BY_LINES
+from board.texts import BY_LINES, STOPPED
 
 NUMBER = r'(-?[0-9]+)'
 BETWEEN = '[ ,]+'
@@ -217,8 +216,8 @@ class LineMode:
             elif word.isdigit():
                 size = int(word)
             else:
-                self._table.begin(game, text.split()[-1])
-                self._after_begin(False)
+                if self._table.begin(game, text.split()[-1]):
+                    self._begun()
                 return
         if size not in games.SIZES:
             say('Sizes go from 3 to 9: one digit from 3 to 9.')
@@ -229,30 +228,29 @@ class LineMode:
         there = games.letters(game, size)
         try:
             if is_seeded and size in games.SEEDED_SIZES:
-                id = games.seeded(self._table.path, game, size)
+                id = games.seeded(self._table.path, game, size, self._table.waiting())
             else:
                 id = games.take(self._table.state, game, size, letter if letter in there else ''.join(there[:1])) or f'{size}!7'
         except Gone as gone:
             say(f'The program says: {gone}.')
             return
+        except Stopped:
+            say(STOPPED)
+            return
         if is_seeded and size not in games.SEEDED_SIZES:
             say('Seeded games have the sizes 3 to 6; this one is of the stored puzzles.')
-        self._table.begin(game, id)
-        self._after_begin(True, id)
-
-    def _after_begin(self, is_told: bool, id: str = '') -> None:
-        """Shows the game that has begun; where none has, the message says why."""
-        if self._table.message:
-            return
-        self._begun()
-        if is_told:
-            say(f'To play it again: new {id}')
+        trouble = self._table.state.played_trouble(game)
+        if self._table.begin(game, id):
+            self._begun()
+            say(*filter(None, [f'To play it again: new {id}', trouble]))
 
     def _save(self, text: str) -> None:
         file = file_name(text)
         if not file:
             say("'save FILE' needs the name of a file.")
-        elif os.path.lexists(file) and not self.confirm(f'{file} is there{what_is(file)}. Write over it?'):
+            return
+        asked = question(file)
+        if asked and not self.confirm(asked):
             say('Nothing was saved.')
         else:
             self._table.save_as(file)
@@ -262,17 +260,18 @@ class LineMode:
         if not file:
             say("'load FILE' needs the name of a file.")
         elif self._table.open(self._table.game, file):
-            self._after_begin(False)
+            self._begun()
 
     def _open(self, text: str) -> None:
         old = self._table.state.old_games()
         if text.isdigit() and int(text) < len(old):
             if self._table.open_old(old[int(text)]):
-                self._after_begin(False)
+                self._begun()
             return
         for at, game in enumerate(old):
-            say(f'{at}  {time.strftime("%d %b %H:%M", time.localtime(game.when))}  {self._table.summary(game)}')
-        say("'open 0' goes on with number 0." if old else 'No game was put away yet.')
+            say(f'{at}  {time.strftime("%d %b %H:%M", time.localtime(game.when))}  {games.summary(self._table.path, game, self._table.waiting())}')
+        trouble = self._table.state.old_trouble()
+        say("'open 0' goes on with number 0." if old else trouble or 'No game was put away yet.')
 
     def _quit(self, _: str) -> None:
         trouble = self._table.trouble

@@ -2,6 +2,7 @@
 
 from __future__ import annotations
 
+import io
 import os
 import sys
 from typing import List, NamedTuple, Optional
@@ -9,7 +10,8 @@ from typing import List, NamedTuple, Optional
 from board.board import GAMES
 from board.program import Gone
 from board.state import State
-from board.version import about
+from board.table import is_there
+from board.version import about, told
 
 USAGE = """\
 usage: {me} [--lines] [GAME] [ID or FILE]
@@ -36,6 +38,9 @@ class Words(NamedTuple):
 def main(words: List[str], here: str) -> int:
     """Plays; `here` is the folder of the command. The status is 0 to 3, as the program's own, or 128 and the number of a signal."""
     me = os.path.basename(sys.argv[0])
+    if isinstance(sys.stdout, io.TextIOWrapper):
+        # The name of a file may have what the terminal can't show.
+        sys.stdout.reconfigure(errors='backslashreplace')
     if HELP.intersection(words):
         print(USAGE.format(me=me), end='')
         return 0
@@ -66,7 +71,7 @@ def read(words: List[str]) -> Optional[Words]:
         return None
     if plain and plain[0] not in GAMES:
         # A file says itself which game it is of.
-        return Words(None, plain[0], '--lines' in words) if len(plain) == 1 and os.path.isfile(plain[0]) else None
+        return Words(None, plain[0], '--lines' in words) if len(plain) == 1 and is_there(plain[0]) else None
     return Words(plain[0] if plain else None, plain[1] if len(plain) > 1 else '', '--lines' in words)
 
 
@@ -77,10 +82,11 @@ def tip(me: str, words: List[str]) -> str:
 
 
 def program(here: str) -> Optional[str]:
-    """The program: the one that PUZZLES_JSON names, that beside the command, or that of the repository."""
-    named = os.environ.get('PUZZLES_JSON')
-    places = [named] if named else [os.path.join(here, 'puzzles-json'), os.path.join(here, '..', 'build', 'puzzles-json')]
-    return next((os.path.abspath(place) for place in places if os.path.isfile(place)), None)
+    """The program: the one that PUZZLES_JSON names, that beside the command, or that of the repository where one is ready."""
+    place = os.environ.get('PUZZLES_JSON') or os.path.join(here, 'puzzles-json')
+    if 'PUZZLES_JSON' not in os.environ and not os.path.isfile(place):
+        place = os.path.join(here, '..', told(here, 'ready').strip() or 'build', 'puzzles-json')
+    return os.path.abspath(place) if os.path.isfile(place) else None
 
 
 def version(here: str) -> int:

@@ -100,7 +100,7 @@ class Menu:
                 pieces.append(Piece(line, column, text, Style.GIVEN if value == chosen else Style.PLAIN, value == chosen and at == self._line))
                 column += len(text)
             line += 2
-        for text in [self._note(), '', 'Enter begins it; the present game is put away.', 'Arrows choose, any other key goes back.']:
+        for text in [self._note(), games.bank_trouble(self._game), 'Enter begins it; the present game is put away.', 'Arrows choose, any other key goes back.']:
             for part in textwrap.wrap(text, columns - 2) or ['']:
                 pieces.append(Piece(line, 1, part))
                 line += 1
@@ -110,5 +110,6 @@ class Menu:
         letter = self._letter()
         if letter:
             new, all_ = games.left(self._state, self._game, self._size, letter)
-            return f'{all_} puzzles, {new} of them new to you'
+            trouble = self._state.played_trouble(self._game)
+            return trouble or f'{all_} puzzles, {new} of them new to you'
         return 'the best of 100 seeds, without guessing' if self._kind == SEEDED else "5:.. or 5!7, or the number after the '!'"

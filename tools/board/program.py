@@ -11,6 +11,7 @@ import tempfile
 from typing import IO, Callable, Iterator, List, NoReturn, Optional, Sequence
 
 from board.board import Reply, reply_of
+from board.files import why
 
 #: How long a line may take before somebody is asked whether to go on waiting, and from then on between two questions.
 FIRST_WAIT, NEXT_WAIT = 0.4, 0.1
@@ -34,8 +35,8 @@ class Stopped(Exception):
 class Program:
     """A run of the program, which lasts until it is stopped."""
 
-    def __init__(self, path: str, game: str, words: Sequence[str] = (), kept: Sequence[int] = ()) -> None:
-        """Starts it with these words; it has these descriptors, too. Raises `Refused` or `Gone` where that comes to nothing."""
+    def __init__(self, path: str, game: str, words: Sequence[str] = (), kept: Sequence[int] = (), waiting: Optional[Waiting] = None) -> None:
+        """Starts it with these words; it has these descriptors, too. Raises `Refused`, `Gone` or `Stopped` where that comes to nothing."""
         try:
             # In a session of its own no key and no closed window ends it: it ends with its input.
             self._process = subprocess.Popen(
@@ -46,14 +47,14 @@ class Program:
                 pass_fds=tuple(kept),
                 start_new_session=True,
             )
-        except OSError as error:
-            raise Gone(f'{path}: {error.strerror}') from error
+        except (OSError, ValueError) as error:
+            raise Gone(f'{path}: {why(error)}') from error
         assert self._process.stdin and self._process.stdout
         self._input = self._process.stdin
         self._output = self._process.stdout.fileno()
         self._came = b''
         #: What it tells at its start.
-        self.first: Reply = self._first()
+        self.first: Reply = self._first(waiting)
 
     def ask(self, line: str, waiting: Optional[Waiting] = None) -> Reply:
         """The reply to a line, or to `board` where the line has none. Raises `Gone`, or `Stopped` after which the program is gone too."""
@@ -76,24 +77,21 @@ class Program:
                 with contextlib.suppress(OSError):
                     stream.close()
 
-    def _first(self) -> Reply:
+    def _first(self, waiting: Optional[Waiting]) -> Reply:
         try:
-            return self.ask('board')
+            return self.ask('board', waiting)
         except Gone as gone:
             if self._process.returncode == 3:
                 raise Refused(str(gone).partition('refused: ')[2] or str(gone)) from gone
             raise
 
     def _line(self, waiting: Optional[Waiting]) -> bytes:
-        seconds = FIRST_WAIT
         while b'\n' not in self._came:
-            if waiting and not select.select([self._output], [], [], seconds)[0]:
-                if waiting():
-                    self.stop()
-                    raise Stopped
-                seconds = NEXT_WAIT
-                continue
-            came = os.read(self._output, 1 << 16)
+            try:
+                came = next_of(self._output, waiting)
+            except BaseException:
+                self.stop()
+                raise
             if not came:
                 self._end()
             self._came += came
@@ -113,41 +111,56 @@ class Program:
         raise Gone(first or (f'signal {-status}' if status < 0 else f'status {status}'))
 
 
+def next_of(descriptor: int, waiting: Optional[Waiting]) -> bytes:
+    """What comes next from a program; nothing at its end. Raises `Stopped` where nobody wants to wait for it."""
+    seconds = FIRST_WAIT
+    while waiting and not select.select([descriptor], [], [], seconds)[0]:
+        if waiting():
+            raise Stopped
+        seconds = NEXT_WAIT
+    return os.read(descriptor, 1 << 16)
+
+
 @contextlib.contextmanager
 def text_file(content: bytes) -> Iterator[IO[bytes]]:
-    """A file without a name that has this content, for a program to load."""
+    """A file without a name that has this content, for a program to load. Raises `Gone` where there can't be one."""
     try:
-        file: IO[bytes] = os.fdopen(os.memfd_create('game'), 'w+b')
-    except (AttributeError, OSError):
-        file = tempfile.TemporaryFile()
-    with file:
+        try:
+            file: IO[bytes] = os.fdopen(os.memfd_create('game'), 'w+b')
+        except (AttributeError, OSError):
+            file = tempfile.TemporaryFile()
         file.write(content)
         file.flush()
+    except OSError as error:
+        raise Gone(f'no file can be made for it: {why(error)}') from error
+    with file:
         yield file
 
 
-def started_with(path: str, game: str, content: bytes) -> Program:
+def started_with(path: str, game: str, content: bytes, waiting: Optional[Waiting] = None) -> Program:
     """The program with the game that is saved in this content."""
     with text_file(content) as file:
-        return Program(path, game, ['--load', f'/proc/self/fd/{file.fileno()}'], [file.fileno()])
+        return Program(path, game, ['--load', f'/proc/self/fd/{file.fileno()}'], [file.fileno()], waiting)
 
 
-def save_to(path: str, game: str, content: bytes, target: str) -> str:
-    """Has the program save this content's game to a file, as it saves every file. Gives what it complains of, or nothing."""
+def save_to(path: str, game: str, content: bytes, target: str, waiting: Optional[Waiting] = None) -> str:
+    """Has the program save this content's game to a file, as it saves every file. Gives what it complains of, or nothing. Raises `Stopped`."""
     with text_file(content) as file:
         words: List[str] = [path, game, '--load', f'/proc/self/fd/{file.fileno()}', '--save', target]
         try:
-            done = subprocess.run(
-                words, stdin=subprocess.DEVNULL, stdout=subprocess.DEVNULL, stderr=subprocess.PIPE, pass_fds=[file.fileno()], check=False
+            process = subprocess.Popen(
+                words, stdin=subprocess.DEVNULL, stdout=subprocess.DEVNULL, stderr=subprocess.PIPE, pass_fds=[file.fileno()], start_new_session=True
             )
-        except OSError as error:
-            return str(error.strerror)
-    complaint = done.stderr.decode('utf-8', 'replace').strip().partition('\n')[0]
-    return complaint or (f'status {done.returncode}' if done.returncode else '')
-
-
-def replies(path: str, game: str, lines: Sequence[str]) -> List[Reply]:
-    """The replies to lines that are asked all at once, of a program of their own."""
-    text = ''.join(f'{line}\n' for line in lines).encode()
-    done = subprocess.run([path, game], input=text, stdout=subprocess.PIPE, stderr=subprocess.DEVNULL, check=False)
-    return [reply_of(json.loads(line)) for line in done.stdout.splitlines()]
+        except (OSError, ValueError) as error:
+            return why(error)
+    assert process.stderr
+    errors, said = process.stderr.fileno(), b''
+    with process:
+        try:
+            for came in iter(lambda: next_of(errors, waiting), b''):
+                said += came
+        except BaseException:
+            process.kill()
+            raise
+    complaint = said.decode('utf-8', 'replace').strip().partition('\n')[0]
+    return complaint or (f'status {process.returncode}' if process.returncode else '')

@@ -1,17 +1,18 @@
 """Where games are kept: the present ones, the last ten, and which stored puzzles were played.
 
-All lies in the folder $XDG_STATE_HOME/puzzles, or ~/.local/state/puzzles. A file there is whole or as it was: a new one is
-written, flushed, and takes the old one's name.
+All lies in the folder $XDG_STATE_HOME/puzzles, or ~/.local/state/puzzles. A file there is whole or as it was. What is there and can't be read
+is never replaced: it is told, and the present game gets a file beside it.
 """
 
 from __future__ import annotations
 
 import contextlib
-import fcntl
 import os
 import re
 import time
-from typing import Iterable, List, Mapping, NamedTuple, Optional, Set
+from typing import Container, Iterable, List, Mapping, NamedTuple, Optional, Set
+
+from board import files
 
 #: How many games that were put away are kept.
 OLD_GAMES = 10
@@ -21,6 +22,8 @@ OLD_NAME = re.compile(r'(\d{8}-\d{6})-(\d{3,})-([a-z]+)\.sav')
 
 #: How many windows may have a game of one kind at a time.
 WINDOWS = 20
+
+NO_FOLDER = 'neither XDG_STATE_HOME nor HOME names a folder'
 
 
 class NotKept(Exception):
@@ -44,32 +47,8 @@ def folder_of(env: Mapping[str, str]) -> Optional[str]:
     return os.path.join(home, '.local', 'state', 'puzzles') if os.path.isabs(home) else None
 
 
-def write_whole(path: str, content: bytes) -> None:
-    """The file has all of the content, or what it had. Raises `OSError`."""
-    new = path + '.new'
-    try:
-        with open(new, 'wb', opener=lambda name, flags: os.open(name, flags, 0o600)) as file:
-            file.write(content)
-            file.flush()
-            os.fsync(file.fileno())
-        os.replace(new, path)
-    except BaseException:
-        with contextlib.suppress(OSError):
-            os.unlink(new)
-        raise
-
-
-def read(path: str) -> Optional[bytes]:
-    """What is in a file; nothing where it can't be read."""
-    try:
-        with open(path, 'rb') as file:
-            return file.read()
-    except OSError:
-        return None
-
-
 class Slot:
-    """The place of one present game. While this is there no other window takes it."""
+    """The file of a present game. While this is there no other window takes it."""
 
     def __init__(self, path: str, lock: int) -> None:
         self.path = path
@@ -80,26 +59,56 @@ class Slot:
             os.close(self._lock)
 
 
+class Shelf(NamedTuple):
+    """Where a present game can be kept."""
+
+    #: Nothing where no file can be had.
+    slot: Optional[Slot]
+    #: The game that is kept there, if one is.
+    kept: Optional[bytes]
+    #: A sentence for each file that was passed over, since it can't be read; and why no file can be had, where none can.
+    told: str = ''
+    why: str = ''
+
+    def release(self) -> None:
+        if self.slot:
+            self.slot.release()
+
+
 class State:
     """The folder. Where there is none, or nothing can be written to it, keeping raises `NotKept`, and nothing else does."""
 
     def __init__(self, env: Mapping[str, str]) -> None:
         self._folder = folder_of(env)
-        self._slot: Optional[Slot] = None
+        #: Where the present game is kept.
+        self.shelf = Shelf(None, None)
 
     # --- the present game ---
 
-    def claim(self, game: str) -> Optional[bytes]:
-        """Takes the place of a present game that no other window has, and gives what is kept there: the last one that was played."""
-        self.release()
+    def claim(self, game: str, but: Container[str] = ()) -> Shelf:
+        """The file of a present game that no other window has: the last one that was played and can be read, else a new one. Some may be left out."""
         if self._folder is None:
-            return None
-        with contextlib.suppress(OSError):
-            os.makedirs(self._folder, 0o700, exist_ok=True)
-        kept = sorted(filter(os.path.exists, self._paths(game)), key=_changed, reverse=True)
-        others = [path for path in self._paths(game) if path not in kept]
-        self._slot = next(filter(None, map(self._take, kept + others)), None)
-        return read(self._slot.path) if self._slot else None
+            return Shelf(None, None, why=NO_FOLDER)
+        reason = self._make_folder()
+        passed: List[str] = []
+        for path in [path for path in self._in_order(game) if path not in but]:
+            try:
+                shelf = _shelf(path)
+            except OSError as error:
+                reason = reason or files.why(error)
+                shelf = Shelf(None, None, why=f"can't be locked ({files.why(error)})")
+            if shelf.slot:
+                return shelf._replace(told=_told(passed, f', and this game is kept in {os.path.basename(path)}'))
+            if shelf.why and os.path.lexists(path):
+                passed.append(f'{path} {shelf.why}')
+        why = f'nothing can be written to {self._folder} ({reason})' if reason else 'no file is left for one more game of this kind'
+        return Shelf(None, None, _told(passed), why)
+
+    def take(self, shelf: Shelf) -> None:
+        """Keeps the present game there from here on."""
+        if shelf.slot is not self.shelf.slot:
+            self.release()
+        self.shelf = Shelf(shelf.slot, None, why=shelf.why)
 
     def last(self, games: Iterable[str]) -> Optional[str]:
         """Of these games the one that was played last."""
@@ -108,52 +117,54 @@ class State:
 
     def keep(self, content: bytes) -> None:
         """Keeps the present game."""
-        if self._slot is None:
-            raise NotKept(self._reason())
-        _keep(self._slot.path, content)
+        if self.shelf.slot is None:
+            raise NotKept(self.shelf.why)
+        _keep(self.shelf.slot.path, content)
 
     def drop(self) -> None:
         """The present game is no longer kept: it was put away."""
-        if self._slot:
+        if self.shelf.slot:
             with contextlib.suppress(OSError):
-                os.unlink(self._slot.path)
+                os.unlink(self.shelf.slot.path)
 
     def release(self) -> None:
         """Leaves the present game where it is, for any window to go on with."""
-        if self._slot:
-            self._slot.release()
-            self._slot = None
+        self.shelf.release()
+        self.shelf = Shelf(None, None)
 
     # --- games that were put away ---
 
     def put_away(self, game: str, content: bytes) -> None:
-        """Keeps a game among the last ten; the eleventh goes."""
+        """Keeps a game among the last ten; the eleventh that can be read goes."""
         if self._folder is None:
-            raise NotKept(self._reason())
-        folder = os.path.join(self._folder, 'old')
-        try:
-            os.makedirs(folder, 0o700, exist_ok=True)
-        except OSError as error:
-            raise NotKept(_why(error)) from error
+            raise NotKept(NO_FOLDER)
         # Their names are in the order in which they were put away, whatever the clock does.
         stamp, number = time.strftime('%Y%m%d-%H%M%S'), 0
         for old in self.old_games()[:1]:
             last = OLD_NAME.fullmatch(os.path.basename(old.path))
             if last and last[1] >= stamp:
                 stamp, number = last[1], int(last[2]) + 1
-        _keep(os.path.join(folder, f'{stamp}-{number:03}-{game}.sav'), content)
-        for old in self.old_games()[OLD_GAMES:]:
+        try:
+            files.make_folder(self._old_folder())
+            while not files.make(os.path.join(self._old_folder(), f'{stamp}-{number:03}-{game}.sav'), content):
+                number += 1
+        except files.NoFile as other:
+            raise NotKept(f'{self._old_folder()} {other}') from other
+        except OSError as error:
+            raise NotKept(files.why(error)) from error
+        for old in [old for old in self.old_games() if not files.read(old.path).is_closed][OLD_GAMES:]:
             self.forget(old)
 
     def old_games(self) -> List[OldGame]:
         """The games that were put away, the last one first."""
-        folder = os.path.join(self._folder or '', 'old')
-        try:
-            names = sorted(filter(OLD_NAME.fullmatch, os.listdir(folder)), reverse=True) if self._folder else []
-        except OSError:
-            names = []
-        paths = [os.path.join(folder, name) for name in names]
+        names = sorted(filter(OLD_NAME.fullmatch, files.names_in(self._old_folder())[0]), reverse=True) if self._folder else []
+        paths = [os.path.join(self._old_folder(), name) for name in names]
         return [OldGame(path, path[:-4].rpartition('-')[2], _changed(path)) for path in paths]
+
+    def old_trouble(self) -> str:
+        """A sentence where the games that were put away can't be listed."""
+        why = files.names_in(self._old_folder())[1] if self._folder else ''
+        return f'{self._old_folder()} {why}.' if why else ''
 
     def forget(self, old: OldGame) -> None:
         """It is a present game again, or one too many."""
@@ -164,49 +175,71 @@ class State:
 
     def played(self, game: str) -> Set[str]:
         """The IDs of the stored puzzles that were begun."""
-        content = read(os.path.join(self._folder, f'{game}.played')) if self._folder else None
-        return set((content or b'').decode('ascii', 'replace').split())
+        return {word.decode('latin-1') for word in self._marks(game).content.split()}
 
     def set_played(self, game: str, ids: Set[str]) -> None:
+        trouble = self.played_trouble(game)
+        if trouble:
+            raise NotKept(trouble)
         if self._folder is not None:
-            _keep(os.path.join(self._folder, f'{game}.played'), ''.join(f'{id}\n' for id in sorted(ids)).encode())
+            _keep(self._marks_path(game), ''.join(f'{id}\n' for id in sorted(ids)).encode('latin-1'))
+
+    def played_trouble(self, game: str) -> str:
+        """A sentence where it can't be told which puzzles were begun."""
+        found = self._marks(game)
+        return f'{self._marks_path(game)} {found.why}: puzzles may come again that you have played.' if found.is_closed else ''
+
+    def _marks(self, game: str) -> files.Found:
+        return files.read(self._marks_path(game)) if self._folder else files.Found(files.Kind.ABSENT)
+
+    def _marks_path(self, game: str) -> str:
+        return os.path.join(self._folder or '', f'{game}.played')
+
+    def _old_folder(self) -> str:
+        return os.path.join(self._folder or '', 'old')
+
+    def _make_folder(self) -> str:
+        """Makes the folder where there is none. Why that can't be done, or nothing."""
+        try:
+            files.make_folder(self._folder or '')
+        except OSError as error:
+            return files.why(error)
+        return ''
+
+    def _in_order(self, game: str) -> List[str]:
+        """The files of present games: those that are there, the one that was changed last first, and then the others."""
+        paths = self._paths(game)
+        there = [path for path in paths if os.path.lexists(path)]
+        return sorted(there, key=_changed, reverse=True) + [path for path in paths if path not in there]
 
     def _paths(self, game: str) -> List[str]:
         if self._folder is None:
             return []
         return [os.path.join(self._folder, f'{game}.sav' if at == 0 else f'{game}-{at + 1}.sav') for at in range(WINDOWS)]
 
-    def _take(self, path: str) -> Optional[Slot]:
-        """The place, where no other window has it."""
-        try:
-            lock = os.open(path[:-4] + '.lock', os.O_RDWR | os.O_CREAT | os.O_CLOEXEC, 0o600)
-        except OSError:
-            return None
-        try:
-            fcntl.flock(lock, fcntl.LOCK_EX | fcntl.LOCK_NB)
-        except BlockingIOError:
-            os.close(lock)
-            return None
-        except OSError:
-            # No file can be locked there: then the windows have to see to it.
-            pass
-        return Slot(path, lock)
 
-    def _reason(self) -> str:
-        if self._folder is None:
-            return 'neither XDG_STATE_HOME nor HOME names a folder'
-        return f'nothing can be written to {self._folder}'
+def _shelf(path: str) -> Shelf:
+    """That file, locked. Or why its game can't be read, or nothing where another window has it. Raises `OSError`."""
+    lock = files.lock(path[:-4] + '.lock')
+    if lock is None:
+        return Shelf(None, None)
+    found = files.read(path)
+    if found.is_closed:
+        os.close(lock)
+        return Shelf(None, None, why=found.why)
+    return Shelf(Slot(path, lock), found.content if found.kind is files.Kind.READ else None)
+
+
+def _told(passed: List[str], then: str = '') -> str:
+    """The sentence on files that were passed over."""
+    return f"{'; '.join(passed)}: what can't be read stays as it is{then}." if passed else ''
 
 
 def _keep(path: str, content: bytes) -> None:
     try:
-        write_whole(path, content)
+        files.replace(path, content)
     except OSError as error:
-        raise NotKept(_why(error)) from error
-
-
-def _why(error: OSError) -> str:
-    return str(error.strerror or error)
+        raise NotKept(files.why(error)) from error
 
 
 def _changed(path: str) -> float:

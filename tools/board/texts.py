@@ -8,6 +8,9 @@ from typing import Dict, Mapping, NamedTuple
 from board.board import GAMES
 from board.games import GRADES
 
+#: How each save begins.
+SAVE_BEGINS = b'SAVEFILE:41:'
+
 
 class Ways(NamedTuple):
     """How a front end has its players do what a sentence speaks of."""
@@ -95,6 +98,18 @@ LINES: Dict[str, str] = {
     'NoGame': 'There is no game yet.',
 }
 
+#: What there is to say of hints that name no square, and of the ways to complete the numbers.
+HINTS = {
+    'nothing': 'No number follows by the deductions alone: try one, or mark what may be there.',
+    'contradiction': 'No solution keeps these numbers, by the deductions alone: undo some.',
+}
+COMPLETABLE = {
+    'none': "These numbers can't be completed: undo some.",
+    'one': 'These numbers can still be completed, in one way.',
+    'several': 'These numbers can still be completed, in several ways.',
+}
+
+STOPPED = 'Stopped; nothing has changed.'
 LOST = 'There is no memory left: the program did that or refused it, and could not say which.'
 
 

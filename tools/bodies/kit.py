@@ -9,7 +9,7 @@ import threading
 from pathlib import Path
 from typing import Any, List, NamedTuple, Sequence, Set
 
-from building.changes import command, line_of
+from building.changes import command, kit_of
 
 
 #: What a check takes at most, in bytes.
@@ -36,7 +36,7 @@ class Kit:
         if not rt:
             raise NoKit('there is no command rt, and RT names none')
         #: What tells this kit from another.
-        self.line = line_of(rt)
+        self.line = kit_of(rt)
         self._library = library_beside(rt)
         # What comes before each command of the kit, so that it ends when this process does.
         self._front: List[str] = self._library.guarded()

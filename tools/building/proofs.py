@@ -2,17 +2,22 @@
 
 from __future__ import annotations
 
+import contextlib
 import os
 import re
+import signal
 import subprocess
 import time
-from typing import List, Optional
+from typing import Iterator, List, Optional
 
 from building.crates import Listed
 from building.trees import TREES, Tree
 
 #: By how much the crates that nothing waits for longest yield to the one that all waits for.
 YIELDS = 5
+
+#: The signals that end a build.
+ENDING = (signal.SIGTERM, signal.SIGHUP, signal.SIGINT)
 
 
 class Proof:
@@ -32,7 +37,7 @@ class Proof:
                 stdin=subprocess.DEVNULL,
                 stdout=said,
                 stderr=subprocess.STDOUT,
-                preexec_fn=None if jobs is None else yield_to_others,
+                preexec_fn=begin if jobs is None else begin_after_others,
             )
 
     @staticmethod
@@ -78,5 +83,20 @@ class Ended:
         self.functions = int(counts[-1]) if counts else None
 
 
-def yield_to_others() -> None:
+def begin() -> None:
+    signal.pthread_sigmask(signal.SIG_UNBLOCK, ENDING)
+
+
+def begin_after_others() -> None:
+    begin()
     os.nice(YIELDS)
+
+
+@contextlib.contextmanager
+def undisturbed() -> Iterator[None]:
+    """A signal that ends the build waits for the end of the block, so that no proof is under way of which the build doesn't know."""
+    signal.pthread_sigmask(signal.SIG_BLOCK, ENDING)
+    try:
+        yield
+    finally:
+        signal.pthread_sigmask(signal.SIG_UNBLOCK, ENDING)

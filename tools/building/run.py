@@ -9,11 +9,12 @@ import time
 from typing import Dict, Set
 
 from building import trees
-from building.changes import BUILD, PROGRAMS, Stamp, dates, is_kept, made_from
-from building.crates import ROOT, Listed, listed, own
+from building.changes import PROGRAMS, Stamp, is_kept, made_from
+from building.crates import BUILD, ROOT, Listed, listed, own
 from building.plan import Plan
 from building.progress import Progress
-from building.proofs import Ended, Proof
+from building.proofs import Ended, Proof, undisturbed
+from building.record import BUILT, Record, sum_of_sources
 
 #: What the prover says.
 LOG = BUILD / 'prover.txt'
@@ -21,8 +22,8 @@ LOG = BUILD / 'prover.txt'
 #: The memory to have for each crate that is proved beside others, in bytes.
 MEMORY = 3_000_000_000
 
-#: Seconds between two looks at what has ended.
-LOOK = 0.05
+#: Seconds between two looks at what has ended, at first and at most.
+FIRST_LOOK, LOOK = 0.002, 0.05
 
 
 class Failed(Exception):
@@ -43,12 +44,15 @@ def build(rt: str, kit: str) -> int:
     changed = stamp.changed(crates)
     for name in changed:
         stamp.crates.pop(name, None)
+    if changed:
+        BUILT.forget()
     progress = Progress(len(changed))
     LOG.write_bytes(b'')
     try:
         if changed:
             Build(rt, Plan(changed, crates, filter(is_kept, changed)), crates, stamp, progress).run()
             progress.done()
+        record(stamp)
         return 0
     except Failed as failed:
         progress.stop(str(failed), failed.said)
@@ -60,6 +64,13 @@ def build(rt: str, kit: str) -> int:
             os.close(held)
 
 
+def record(stamp: Stamp) -> None:
+    """Writes down what the programs are. Where a file has been changed meanwhile they are of sources that nobody has any more, and no record is right."""
+    sources = sum_of_sources()
+    if not stamp.changed(listed()):
+        BUILT.write(Record(stamp.kit, sources, BUILT.sums()))
+
+
 class Build:
     """The crates that are being proved, and those that are."""
 
@@ -68,20 +79,23 @@ class Build:
         self._lanes = lanes()
         self._running: Dict[str, Proof] = {}
         #: What each crate is made from, as it was when its proof began.
-        self._made_from: Dict[str, object] = {}
+        self._made_from: Dict[str, str] = {}
         self._done: Set[str] = set()
         #: Seconds that crates have taken, but those that were proved before.
         self._took: Dict[str, float] = {}
 
     def run(self) -> None:
         self._progress.begin(self._left())
+        look = FIRST_LOOK
         try:
             while len(self._done) < len(self._plan.order):
                 self._begin()
                 if self._progress.is_due():
                     self._progress.show(list(self._running), self._left())
-                time.sleep(LOOK)
-                for proof in [proof for proof in self._running.values() if proof.has_ended()]:
+                time.sleep(look)
+                ended = [proof for proof in self._running.values() if proof.has_ended()]
+                look = FIRST_LOOK if ended else min(2 * look, LOOK)
+                for proof in ended:
                     self._ended(proof)
         finally:
             for proof in self._running.values():
@@ -96,17 +110,19 @@ class Build:
             jobs = None if self._plan.chain[name] == longest else share
             now = made_from(name, self._crates)
             try:
-                proof = Proof.begun(self._rt, name, self._crates, name in PROGRAMS, jobs)
+                with undisturbed():
+                    proof = Proof.begun(self._rt, name, self._crates, name in PROGRAMS, jobs)
+                    if proof:
+                        self._running[name], self._made_from[name] = proof, now
             except OSError as error:
                 raise Failed(f'{name}: {error}') from error
-            if proof:
-                self._running[name], self._made_from[name] = proof, now
-            else:
+            if not proof:
                 self._progress.waits(name)
 
     def _ended(self, proof: Proof) -> None:
-        del self._running[proof.name]
-        ended = proof.end()
+        with undisturbed():
+            del self._running[proof.name]
+            ended = proof.end()
         if ended.is_proved:
             write_log(ended)
             self._leave(ended.name)
@@ -127,16 +143,14 @@ class Build:
 
     def _leave(self, name: str) -> None:
         """A program that is being played stays as it is until it ends."""
-        if name not in PROGRAMS:
-            return
-        left = PROGRAMS[name]
-        part = BUILD / f'{left}.new'
-        try:
-            shutil.copy(own(name) / 'out' / name, part)
-            os.replace(part, BUILD / left)
-        except OSError as error:
-            raise Failed(f'{name}: {error}') from error
-        self._stamp.programs[left] = dates(str(BUILD / left))
+        for left in PROGRAMS.get(name, ()):
+            part = BUILD / f'{left}.new'
+            try:
+                shutil.copy(own(name) / 'out' / name, part)
+                os.replace(part, BUILD / left)
+            except OSError as error:
+                raise Failed(f'{name}: {error}') from error
+            self._stamp.left(left)
 
     def _left(self) -> float:
         running = {name: proof.seconds() for name, proof in self._running.items()}

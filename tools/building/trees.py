@@ -14,9 +14,9 @@ import shutil
 from pathlib import Path
 from typing import Iterator, Optional
 
-from building.changes import BUILD, FILES
+from building.changes import FILES
 from building.copies import copy_folder, write_list
-from building.crates import PARTS, Listed, below, own
+from building.crates import BUILD, PARTS, Listed, below, own
 
 TREES = BUILD / 'proving'
 

@@ -29,7 +29,7 @@ UNEQUAL_SAVE = save_text(0).replace(b':6:Towers', b':7:Unequal').replace(b':13:3
 PROGRAMS = ['build/puzzles', 'build/puzzles-json']
 
 ROUNDS = [
-    Make('make help', ['make', 'help'], says=[b'make play', b'make test', b'make test-tools']),
+    Make('make help', ['make', 'help'], says=[b'make play', b'make build', b'make programs', b'make test', b'make gate', b'make test-tools']),
     Make('a crate is checked', ['make', 'check', 'CRATE=clue_rules'], says=[b'asked for check in clue_rules']),
     Make('a crate is tried', ['make', 'try', 'CRATE=clue_rules'], says=[b'asked for try --test in clue_rules']),
     Make('its wrong bodies', ['make', 'must-fail', 'CRATE=clue_rules'], says=[b'asked for must-fail clue_rules in checkout']),
@@ -65,7 +65,8 @@ def cases(place: Place) -> None:
     for row in ROUNDS:
         expect(place, row)
     builds(place)
-    in_a_terminal(place)
+    in_a_terminal(place, 'make play, in a terminal')
+    from_the_tree(place)
     benches(place)
 
 
@@ -98,17 +99,40 @@ def remove_programs(place: Place) -> None:
         os.remove(os.path.join(place.path, program))
 
 
-def in_a_terminal(place: Place) -> None:
-    """`make play` is the front there."""
+#: No command `rt` is there.
+WITHOUT_KIT = {'RT': '/no kit'}
+
+OF_THE_TREE = [
+    Make('make, with the programs of the tree', ['make']),
+    Make('make play, with the programs of the tree', ['make', 'play', f'ID={ID}'], says=[PICTURE], input=b'show\n'),
+    Make('make play, with the programs of the tree and no input', ['make', 'play'], says=[b'+ ', b'to play on']),
+    Make('make build, without a kit', ['make', 'build'], 2, [b'not built: there is no command /no kit']),
+]
+
+
+def from_the_tree(place: Place) -> None:
+    """`make play` takes the programs that are stored, without a kit and without a build."""
+    expect(place, Make('make programs', ['make', 'programs'], says=[b'stored: programs/linux-amd64/puzzles\n', b'stored: programs/RECORD']))
+    shutil.rmtree(os.path.join(place.path, 'build'))
+    for row in OF_THE_TREE:
+        expect(place, row, **WITHOUT_KIT)
+    in_a_terminal(place, 'make play, with the programs of the tree, in a terminal', **WITHOUT_KIT)
+    is_built = os.path.exists(os.path.join(place.path, 'build'))
+    place.report.check('make play builds nothing', ['there is a folder build/'] if is_built else [])
+    shutil.rmtree(os.path.join(place.path, 'programs'))
+
+
+def in_a_terminal(place: Place, name: str, **env: str) -> None:
+    """`make play` is the front there. The named words are what else the environment has."""
     if not place.objects:
-        place.report.skip('make play, in a terminal', 'puzzles-json is not built')
+        place.report.skip(name, 'puzzles-json is not built')
         return
-    with place.terminal('make', 'play', f'ID={ID}') as terminal:
+    with place.terminal('make', 'play', f'ID={ID}', **env) as terminal:
         first = terminal.wait_for(PROMPT)
         terminal.answer(b'quit', PROMPT)
         status = terminal.status()
     shown = [] if '0 3 . . . -' in first and status == 0 else [f'the status is {status}, shown is {first!r}']
-    place.report.check('make play, in a terminal', shown)
+    place.report.check(name, shown)
 
 
 #: Stands for a program that measures: prints what it is given, or answers each line of it as a puzzle that took a microsecond, and says what it was asked.
@@ -127,13 +151,14 @@ def benches(place: Place) -> None:
     reader = place.put('../reader', READER)
     rows = [
         Make('make bench, a file with a blank in its name', ['make', 'bench', f'IDS={puzzles}'], says=[ID.encode(), b'towers  ']),
-        Make('make bench', ['make', 'bench'], says=[b'Hard puzzles, ', b'A list of a hundred solutions, ', b'unequal', b'the usual program is left out']),
         Make('make bench, a file that is not there', ['make', 'bench', f'IDS={puzzles} too'], 2),
         Make('make hard', ['make', 'hard', 'COUNT=44', 'SEED=3'], says=[b'unequal waves  ', b'towers one-side  ']),
         Make('make climb', ['make', 'climb', 'MINUTES=0.001'], says=[b'towers climbed 9:', b'unequal climbed 9:']),
     ]
     for row in rows:
         expect(place, row, RT_PROGRAM=reader)
+    says = [b'Hard puzzles, ', b'A list of a hundred solutions, ', b'unequal', b'the usual program is left out']
+    expect(place, Make('make bench', ['make', 'bench'], says=says), RT_PROGRAM=reader, ROUNDS='1')
 
 
 #: Runs a program with the library by which calls fail, and says whether the library has counted its requests for memory.

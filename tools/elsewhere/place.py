@@ -12,14 +12,16 @@ from harness.terminal import Terminal
 from harness.users import ANNA
 
 #: Does what `rt` does as far as the scripts know: `lib` leaves statements in `out/`, `run` and `ci` leave programs there, and all say what they were asked.
-#: RT_PROGRAM is the program that is left, RT_OBJECTS that in the place of puzzles-json, RT_SAYS what is printed besides, and RT_STATUS the status.
+#: RT_PROGRAM is the program that is left, RT_OBJECTS that in the place of puzzles-json, RT_SAYS what is printed besides, RT_STATUS the status, and
+#: RT_VERSION the line of the kit.
 RT = b"""\
 #!/bin/sh
 leave() {
     program=$RT_PROGRAM
-    [ "$2" != puzzles_json ] || program=${RT_OBJECTS:-$RT_PROGRAM}
+    case $2 in puzzles_json*) program=${RT_OBJECTS:-$RT_PROGRAM} ;; esac
     [ -z "$program" ] || { mkdir -p "$1/out" && cp "$program" "$1/out/$2"; }
 }
+[ "$1" != version ] || { echo "${RT_VERSION:-a kit that proves nothing}"; exit; }
 echo "asked for $* in ${PWD##*/}"
 case $1 in
     lib)
@@ -32,6 +34,7 @@ case $1 in
         leave crates/puzzles puzzles
         leave crates/puzzles puzzles.by-rattle
         leave crates/puzzles_json puzzles_json
+        leave crates/puzzles_json puzzles_json.by-rattle
         leave crates/refused_memory refused_memory ;;
 esac
 [ -z "$RT_SAYS" ] || echo "$RT_SAYS"

@@ -10,7 +10,7 @@ from typing import Callable, Dict, List, Tuple
 from front_games.board_playing import BoardFront, Look
 from front_games.window import Window
 from harness import Room, run
-from harness.game import ID, save_text
+from harness.game import ID, left_files, save_text
 from harness.mounts import fill, small_disk
 from harness.room import Folder
 
@@ -187,7 +187,7 @@ def full_disk(front: BoardFront, room: Room, name: str) -> None:
             window.press('n')
             front.same(f'{name}: the status of another game', window.status(), 3)
         front.same(f'{name}: what is kept at the end', disk.read('puzzles/towers.sav'), save_text(3))
-        front.holds(f'{name}: no new file is left', not [path for path in disk.paths() if path.endswith('.new')], disk.paths())
+        front.same(f'{name}: no new file is left', left_files(disk), [])
 
 
 def mouse(front: BoardFront, room: Room, name: str) -> None:

@@ -3,13 +3,16 @@
 from __future__ import annotations
 
 import os
+import shutil
 from typing import Dict, List, NamedTuple, Optional, Sequence, Set, Tuple
 
 from board.board import Place
 from board.program import Program
 from front_games.window import Window
 from harness import Report, Room
+from harness.builds import TOP, copy
 from harness.screen_model import ScreenModel
+from harness.users import User
 
 #: Lines and columns.
 USUAL = (24, 80)
@@ -43,10 +46,18 @@ class BoardGame(NamedTuple):
 class BoardFront:
     """The front that is tested, over a program; what it does is counted in a report."""
 
-    def __init__(self, report: Report, front: str, program: str) -> None:
+    def __init__(self, report: Report, front: str, program: str, user: Optional[User] = None) -> None:
         self.report = report
         self.program = program
         self.path = front
+        self._user = user
+
+    def of(self, user: Optional[User], room: Room) -> BoardFront:
+        """A copy of the front in the room, over a copy of the program: for another user, who may not go where it lies, where one is named."""
+        package = shutil.ignore_patterns('__pycache__')
+        shutil.copytree(TOP / 'tools' / 'board', os.path.join(room.path, 'board'), ignore=package)
+        path = shutil.copy2(TOP / 'tools' / 'play', os.path.join(room.path, 'play'))
+        return BoardFront(self.report, path, copy(room, self.program, 'puzzles-json'), user)
 
     def env(self, room: Room, term: str = 'xterm-256color', locale: str = 'C.UTF-8') -> Dict[str, str]:
         return {
@@ -59,7 +70,7 @@ class BoardFront:
         }
 
     def window(self, room: Room, words: Sequence[str], size: Tuple[int, int] = USUAL, env: Optional[Dict[str, str]] = None) -> Window:
-        return Window([self.path, *words], self.env(room) if env is None else env, size, room.path)
+        return Window([self.path, *words], self.env(room) if env is None else env, size, room.path, user=self._user)
 
     def play(self, room: Room, game: BoardGame) -> None:
         """A game in a folder. In what is pressed and seen FOLDER is its path."""

@@ -4,22 +4,28 @@ from __future__ import annotations
 
 import os
 import signal
+import time
 from typing import Callable, Dict
 
+from front_games.board_lives import is_gone
 from front_games.board_playing import BoardFront, Look
+from front_games.window import Window
 from harness import Room
 from harness.game import ID, save_text
 
 KEPT = 'state/puzzles/towers.sav'
 
-#: Stands between the front and the program. It takes long over `completable`, and the memory for some replies is lacking: for one the move is
+#: A program that never answers.
+SILENT = b'#!/bin/sh\nexec sleep 100\n'
+
+#: Stands between the front and the program. It takes long over `completable` and one move, and the memory for some replies is lacking: for one the move is
 #: made and its reply is lost, the other one is refused.
 BETWEEN = """\
 #!/usr/bin/env python3
 import json, subprocess, sys, time
 program = subprocess.Popen(['{program}', *sys.argv[1:]], stdin=subprocess.PIPE, stdout=subprocess.PIPE, close_fds=False)
 for line in sys.stdin.buffer:
-    if line == b'completable\\n':
+    if line in (b'completable\\n', b'move R0,1,3\\n'):
         time.sleep(100)
     asked = b'board\\n' if line == b'move R2,0,3\\n' else line
     program.stdin.write(asked)
@@ -69,6 +75,52 @@ def long_work(front: BoardFront, room: Room, name: str) -> None:
         front.look(name, room, window, Look('2', ['│   2   │', 'move 2/2']))
 
 
+def no_answer(front: BoardFront, room: Room, name: str) -> None:
+    """A move that takes long can be stopped after a while, and a closed window ends the front at once."""
+    with front.window(room, ['towers', ID], env=between(front, room)) as window:
+        front.look(name, room, window, Look('1', ['1 of 9']))
+        front.look(name, room, window, Look('<down>3', ['The program is at work. Any key stops it.']))
+        front.look(name, room, window, Look('x', ['Stopped; nothing has changed.', '1 of 9']))
+        front.look(name, room, window, Look('2', ['2 of 9', 'move 2/2']))
+        programs = window.programs()
+        window.press('3')
+        time.sleep(0.2)
+        window.signal(signal.SIGHUP)
+        front.same(f'{name}: the status', window.status(), 129)
+        front.holds(f'{name}: the program has ended too', all(is_gone(pid) for pid in programs), programs)
+    front.holds(f'{name}: what is kept', (room.read(KEPT) or b'').endswith(b'R0,0,1\nMOVE    :6:R0,1,2\n'), room.read(KEPT))
+
+
+def silent(front: BoardFront, room: Room, name: str) -> None:
+    """A program that never answers, not even at the start: keys and a closed window are heard."""
+    room.put('silent', SILENT, 0o755)
+    env = {**front.env(room), 'PUZZLES_JSON': os.path.join(room.path, 'silent')}
+    with front.window(room, ['towers'], env=env) as window:
+        front.look(name, room, window, Look('', ['The program is at work. Any key stops it.']))
+        front.look(name, room, window, Look('x', ['the program has ended: it gave no answer']))
+        front.same(f'{name}: the status', window.status(), 1)
+    for words in (['towers'], ['--lines', 'towers'], ['towers', ID]):
+        with front.window(room, words, env=env) as window:
+            front.holds(f'{name}, {words}: the program', wait_for_program(window), 'it has not begun')
+            window.signal(signal.SIGHUP)
+            front.same(f'{name}, {words}: the status of a closed window', window.status(), 129)
+    with front.window(room, ['--lines', 'towers'], env=env) as window:
+        front.holds(f'{name}, in lines: the program', wait_for_program(window), 'it has not begun')
+        window.press('<ctrl-c>')
+        front.look(f'{name}, in lines', room, window, Look('', ['the program has ended: it gave no answer']))
+        front.same(f'{name}, in lines: the status', window.status(), 1)
+
+
+def wait_for_program(window: Window) -> bool:
+    """Whether the front has started a program, which has a session of its own, or does so in a moment."""
+    end = time.monotonic() + 10
+    while not any(os.getsid(pid) == pid for pid in window.programs()):
+        if time.monotonic() > end:
+            return False
+        time.sleep(0.02)
+    return True
+
+
 def no_memory(front: BoardFront, room: Room, name: str) -> None:
     """What was done is shown, whether its reply was lost or not, and is kept."""
     with front.window(room, ['towers', ID], env=between(front, room)) as window:
@@ -93,6 +145,8 @@ def full_history(front: BoardFront, room: Room, name: str) -> None:
 CASES: Dict[str, Callable[[BoardFront, Room, str], None]] = {
     'the program is killed': program_killed,
     'the program takes long': long_work,
+    'the program gives no answer': no_answer,
+    'the program never answers': silent,
     'no memory': no_memory,
     'a full history': full_history,
 }

@@ -16,6 +16,7 @@ import time
 from typing import Callable, Dict, List, Mapping, Optional, Sequence, Tuple
 
 from harness.screen_model import ScreenModel
+from harness.users import User
 
 #: Keys by their names in `<..>`, as terminals send them.
 NAMED: Dict[str, str] = {
@@ -44,7 +45,15 @@ def keys_of(text: str) -> List[str]:
 class Window:
     """The front runs from the beginning of a `with` to its end. A size is lines and columns."""
 
-    def __init__(self, words: Sequence[str], env: Mapping[str, str], size: Tuple[int, int], cwd: str, seconds: float = 20) -> None:
+    def __init__(
+        self,
+        words: Sequence[str],
+        env: Mapping[str, str],
+        size: Tuple[int, int],
+        cwd: str,
+        seconds: float = 20,
+        user: Optional[User] = None,
+    ) -> None:
         self._seconds = seconds
         self.screen = ScreenModel(*size)
         self.pressed = 0
@@ -55,7 +64,12 @@ class Window:
 
         def begin() -> None:
             fcntl.ioctl(0, termios.TIOCSCTTY, 0)
+            if user:
+                user.become()
 
+        if user:
+            # As a login does: the terminal is the user's.
+            os.fchown(back, *user.owner)
         self._process = subprocess.Popen(
             words, stdin=back, stdout=back, stderr=back, cwd=cwd, env=dict(env), start_new_session=True, preexec_fn=begin
         )

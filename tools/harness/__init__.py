@@ -5,6 +5,7 @@ room      a folder for a case, gone afterwards, and what is made and read in it
 program   one run: words, input, folder, user, limits, streams; and how it ended
 terminal  a run in a terminal, with what is typed to it and what it shows
 builds    the builds of the program that a script is given
+slices    a test in slices that run side by side
 game      a small game, what its saves are, and the new files that saves leave
 checkout  a copy of the scripts at another place, and commands that are run there
 faults    the library tools/faults.c, by which a chosen call of the program fails

@@ -32,10 +32,25 @@ def is_built(report: Report, build: str) -> bool:
 
 
 def copy(room: Room, build: str, name: str) -> str:
-    """A copy, which every user may run, and which stays as it is when the program is built again."""
-    program = shutil.copyfile(build, os.path.join(room.path, name))
+    """A copy in a folder whose name has a blank. Every user may run it, and it stays as it is when the program is built again.
+
+    The name is that by which users call it, since a program may go by its name.
+    """
+    folder = os.path.join(room.path, 'the programs')
+    os.makedirs(folder, exist_ok=True)
+    os.chmod(folder, 0o755)
+    program = shutil.copyfile(build, os.path.join(folder, name))
     os.chmod(program, 0o755)
     return program
+
+
+def copies(room: Room, words: Sequence[str]) -> Tuple[str, str]:
+    """Copies of both programs of a script; of one that isn't built, the path where it should be."""
+    plain, objects = built(words), built_objects(words)
+    return (
+        copy(room, plain, 'puzzles') if os.path.isfile(plain) else plain,
+        copy(room, objects, 'puzzles-json') if os.path.isfile(objects) else objects,
+    )
 
 
 def built(words: Sequence[str]) -> str:

@@ -18,6 +18,8 @@ from harness.users import User
 #: Lines and columns. A line that is typed is never too long for it.
 SIZE = (50, 250)
 
+CTRL_C = b'\x03'
+
 
 class Terminal:
     """The program runs from the beginning of a `with` to its end, and what it shows stands in `shown`, without CR."""
@@ -72,10 +74,16 @@ class Terminal:
         return self.shown[start:]
 
     def answer(self, line: bytes, prompt: Pattern[str]) -> str:
-        """Types a line, and gives what is shown then."""
+        """Types a line, and gives what is shown then. After a Ctrl-C in it there is a prompt first."""
+        *dropped, last = line.split(CTRL_C)
+        for piece in dropped:
+            self._type(piece + CTRL_C, prompt)
+        return self._type(last + b'\n', prompt)
+
+    def _type(self, keys: bytes, prompt: Pattern[str]) -> str:
         start = len(self.shown)
         with contextlib.suppress(OSError):
-            os.write(self._front, line + b'\n')
+            os.write(self._front, keys)
         return self.wait_for(prompt, start)
 
     def status(self) -> Optional[int]:
@@ -84,7 +92,7 @@ class Terminal:
         while self._read(end - time.monotonic()):
             pass
         try:
-            return self._process.wait(1)
+            return self._process.wait(self._seconds)
         except subprocess.TimeoutExpired:
             return None
 

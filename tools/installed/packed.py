@@ -8,6 +8,7 @@ import shutil
 
 from front_games.playing import PROMPT
 from harness.game import ID
+from harness.program import Ended, run
 from harness.terminal import Terminal
 from installed.site import Site, expect_plays, files
 
@@ -22,6 +23,9 @@ WHO = {
     'GIT_CONFIG_NOSYSTEM': '1',
 }
 
+#: No command `rt` is there.
+NO_KIT = 'RT=/no kit'
+
 #: The user's own umask, language and time, which change nothing.
 OTHERWISE = 'umask 077; export TZ=Asia/Tokyo LC_ALL=C GIT_CONFIG_COUNT=1 GIT_CONFIG_KEY_0=tar.umask GIT_CONFIG_VALUE_0=0; exec make dist'
 
@@ -32,15 +36,40 @@ def cases(site: Site) -> None:
         return
     site.expect('dist: a repository', ['git', 'init', '-q'])
     commit(site, 'the first')
+    site.expect('dist: nothing is built', ['make', 'clean'])
     site.expect('dist: before make', ['make', 'dist'], 2, 'run make')
     site.expect('dist: make', ['make'])
-    site.expect('make dist', ['make', 'dist'], says=f'build/{name(site)}-linux-amd64.tar.gz')
+    site.expect('dist: what was built', ['make', 'dist'])
+    expect_origin(site, 'a build')
+    site.expect('dist: make programs', ['make', 'programs'], says='stored: programs/RECORD')
+    site.expect('dist: programs that are not committed', ['make', 'dist'], 2, 'changes that are not committed')
+    commit(site, 'the programs')
+    site.expect('dist: nothing is built, once more', ['make', 'clean'])
+    site.expect('make dist', ['make', 'dist', NO_KIT], says=f'build/{name(site)}-linux-amd64.tar.gz')
+    expect_origin(site, 'the tree')
+    asked_by_root(site)
     sources, programs = archive(site, ''), archive(site, '-linux-amd64')
     reproducible(site, sources, programs)
     unpacked(site)
     of_sources(site)
     with_log(site)
     refused(site)
+
+
+def expect_origin(site: Site, origin: str) -> None:
+    """What the programs' tarball says of where they are from."""
+    tarball = f'build/{name(site)}-linux-amd64'
+    told = site.run(['tar', '-xzOf', f'{tarball}.tar.gz', f'{name(site)}-linux-amd64/VERSION']).output.decode().splitlines()
+    site.same(f'dist: programs of {origin}', told[3:4], [f'taken from {origin}'])
+
+
+def asked_by_root(site: Site) -> None:
+    """Root installs from a user's repository, and leaves nothing of root's there."""
+    if not site.user:
+        return
+    with site.report.case('the commit, asked by root') as case:
+        case.same('it', run([os.path.join(site.path, 'tools', 'commit')], case.room).output.decode(), head(site) + '\n')
+        case.same('who owns the index', os.stat(os.path.join(site.path, '.git', 'index')).st_uid, site.user.uid)
 
 
 def commit(site: Site, message: str) -> None:
@@ -65,7 +94,7 @@ def reproducible(site: Site, sources: bytes, programs: bytes) -> None:
     site.same('dist: the same sources', archive(site, '') == sources, True)
     site.same('dist: the same programs', archive(site, '-linux-amd64') == programs, True)
     site.expect('dist: a clone', ['git', 'clone', '-q', '.', '../again/checkout'])
-    site.expect('dist: make in the clone', ['make', '-C', '../again/checkout'])
+    site.expect('dist: make in the clone', ['make', '-C', '../again/checkout', NO_KIT])
     ended = site.run(['bash', '-c', OTHERWISE], cwd='../again/checkout')
     site.same('dist: in the clone', (ended.status, ended.error), (0, b''))
     site.same('dist: the same sources in the clone', archive(site, '', '../again/checkout/') == sources, True)
@@ -92,7 +121,7 @@ def unpacked(site: Site) -> None:
     site.same('unpacked: documents', sorted(wanted - set(summed)), [])
     expect_plays(site, 'unpacked', os.path.join(place, 'bin'))
     version = site.run([os.path.join(place, 'bin', 'puzzles-play'), '--version'], cwd='..').output.decode().splitlines()
-    site.same('unpacked: puzzles-play --version', version[1:], [f'commit {head(site)}', 'proved by a kit that proves nothing'])
+    site.same('unpacked: puzzles-play --version', version[1:], [f'commit {head(site)}', 'proved by a kit that proves nothing', 'taken from the tree'])
     first_game(site, place)
 
 
@@ -109,16 +138,18 @@ def first_game(site: Site, place: str) -> None:
 
 
 def of_sources(site: Site) -> None:
-    """All files of the commit, which is known there without git."""
+    """All files of the commit, which is known there without git; its programs are those of the tree."""
     place = unpack(site, '')
     tracked = site.run(['git', 'ls-files']).output.decode().splitlines()
     site.same('sources: the files', files(place), sorted(tracked))
     site.same('sources: the commit', site.run(['tools/commit'], cwd=place).output.decode(), head(site) + '\n')
+    ended = site.run(['make', 'play', f'ID={ID}', NO_KIT], cwd=place, input=b'status\n')
+    site.same('sources: make play', ended, Ended(0, b'playing 1/1\n', b''))
 
 
 def with_log(site: Site) -> None:
     """The gate's log is packed where the gate has passed, at this commit, with these programs."""
-    sums = '\n'.join(site.file('build/VERSION').decode().splitlines()[3:])
+    sums = '\n'.join(site.file('programs/RECORD').decode().splitlines()[3:])
     good = f'commit {head(site)}\nprover some\n{sums}\n== the gate\n9 passed, 0 failed, 1 skipped\n'
     for case, log, is_packed in [
         ('has passed', good, True),
@@ -139,12 +170,16 @@ def refused(site: Site) -> None:
     new = site.put('docs/NEW.md', b'new\n', 0o644)
     site.expect('dist: a file that is not committed', ['make', 'dist'], 2, 'changes that are not committed')
     commit(site, 'a file more')
-    site.expect('dist: programs of another commit', ['make', 'dist'], 2, 'run make')
+    site.expect('dist: a commit that changes no crate', ['make', 'dist', NO_KIT])
+    site.put('crates/clue_rules/src/lib.rt', b'// Else.\n', 0o644)
+    commit(site, 'a crate')
+    site.expect('dist: programs of other sources', ['make', 'dist'], 2, 'run make')
     site.expect('dist: make, once more', ['make'])
     program = site.file('build/puzzles')
     site.put('build/puzzles', program + b'\n')
-    site.expect('dist: another program', ['make', 'dist'], 2, 'build/puzzles is not the program that was proved')
-    site.expect('install: another program', ['make', 'install', f'DESTDIR={new}'], 2, 'build/puzzles is not the program that was proved')
+    site.expect('dist: another program', ['make', 'dist'], 2, 'build/puzzles is not the program that build/RECORD names')
+    site.expect('install: another program', ['make', 'install', f'DESTDIR={new}'], 2, 'build/puzzles is not the program that build/RECORD names')
     site.put('build/puzzles', program)
     site.expect('dist: the program as it was', ['make', 'dist'])
+    expect_origin(site, 'a build')
     site.expect('dist: a word', ['tools/dist', 'now'], 2, 'usage:')

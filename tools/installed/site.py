@@ -15,7 +15,7 @@ class Site(Place):
     """`make` has left the programs that are tested. Where the test is root's, another user does all that is done here."""
 
     def __init__(self, report: Report, room: Room, program: str, objects: str) -> None:
-        super().__init__(report, room, copy(room, program, 'a program'), copy(room, objects, 'another program'))
+        super().__init__(report, room, copy(room, program, 'puzzles'), copy(room, objects, 'puzzles-json'))
         self.above = os.path.dirname(self.path)
         self.expect('make', ['make'], says='')
 

@@ -13,6 +13,9 @@ from installed.site import Site, expect_plays, files, snapshot, words_of
 OURS = 'share/verified-puzzles'
 DOCUMENTS = 'share/doc/verified-puzzles'
 
+#: What is told of the version, after its number.
+OF_A_BUILD = 'commit unknown\nproved by a kit that proves nothing\ntaken from a build\n'
+
 
 def wanted() -> List[str]:
     """What is installed, below PREFIX."""
@@ -70,7 +73,7 @@ def expect_version(site: Site, play: str) -> None:
     """Its number, no commit where there is no git, and that the program is the one that was proved."""
     version = site.file('VERSION').decode().strip()
     ended = site.run([play, '--version'], cwd='..')
-    site.same('puzzles-play --version', ended.output.decode(), f'puzzles {version}\ncommit unknown\nproved by a kit that proves nothing\n')
+    site.same('puzzles-play --version', ended.output.decode(), f'puzzles {version}\n{OF_A_BUILD}')
     other = site.run([play, '--version'], cwd='..', env={'PUZZLES_JSON': '/bin/true'})
     site.same('puzzles-play --version, with another program', b'not known to be proved' in other.output, True)
 

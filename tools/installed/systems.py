@@ -15,6 +15,7 @@ def cases(site: Site) -> None:
     again(site)
     kept(site)
     elsewhere(site)
+    from_the_tree(site)
 
 
 def ready(site: Site, name: str, folders: Sequence[str]) -> str:
@@ -95,3 +96,23 @@ def elsewhere(site: Site) -> None:
     site.expect('elsewhere: make installcheck', ['make', 'installcheck', *where], says='is there and plays')
     site.expect('elsewhere: make uninstall', ['make', 'uninstall', *where])
     site.same('elsewhere: nothing is left', snapshot(place), [])
+
+
+def from_the_tree(site: Site) -> None:
+    """The programs that lie there, where nothing is built and no kit is at hand."""
+    prefix = ready(site, 'from the tree', [])
+    where = words_of({'PREFIX': prefix, 'RT': '/no kit'})
+    site.expect('from the tree: they are stored', ['make', 'programs'], says='stored: programs/linux-amd64/puzzles-json')
+    site.expect('from the tree: nothing is built', ['make', 'clean'])
+    site.expect('from the tree: make', ['make', 'RT=/no kit'])
+    site.same('from the tree: make builds nothing', os.path.isdir(os.path.join(site.path, 'build')), False)
+    install(site, 'from the tree', where)
+    site.expect('from the tree: make installcheck', ['make', 'installcheck', *where], says='is there and plays')
+    version = site.run([os.path.join(prefix, 'bin', 'puzzles-play'), '--version'], cwd='..').output.decode().splitlines()
+    site.same('from the tree: puzzles-play --version', version[1:], ['commit unknown', 'proved by a kit that proves nothing', 'taken from the tree'])
+    version = site.run(['tools/play', '--version'], cwd='').output.decode().splitlines()
+    site.same('from the tree: tools/play --version', version[3:], ['taken from the tree'])
+    site.put('programs/linux-amd64/puzzles', b'#!/bin/sh\n')
+    site.expect('from the tree: another program', ['make', 'install', *where], 2, 'the programs are not built yet: run make')
+    site.expect('from the tree: make uninstall', ['make', 'uninstall', *where])
+    site.same('from the tree: nothing is left', snapshot(prefix), [])

@@ -2,7 +2,8 @@
 
 from __future__ import annotations
 
-from typing import Dict, Iterator, List, NamedTuple, Optional, Sequence, Tuple
+from functools import partial
+from typing import Callable, Dict, Iterator, List, NamedTuple, Optional, Sequence, Tuple
 
 from harness import Ended, Report, Room, run
 from objects.boards import Texts, board_of, numbers_of, puzzle_of
@@ -39,15 +40,18 @@ def left(program: str, words: Sequence[str], input: bytes, save: bytes) -> Left:
         return Left(ended, room.read('new.sav'))
 
 
-def random_scripts(pair: Pair, count: int) -> None:
+def random_scripts(pair: Pair, count: int) -> Iterator[Callable[[], None]]:
     """Some scripts are one case, so that what the report counts stays small."""
     step = max(1, count // 20)
     for first in range(0, count, step):
-        wrong: List[str] = []
-        for number in range(first, min(first + step, count)):
-            one = script(number)
-            wrong += [f'script {number}: {what}' for what in wrong_script(pair, one)]
-        pair.report.check(f'random lines, scripts {first} to {min(first + step, count) - 1}', wrong[:5])
+        yield partial(scripts_agree, pair, range(first, min(first + step, count)))
+
+
+def scripts_agree(pair: Pair, numbers: Sequence[int]) -> None:
+    wrong: List[str] = []
+    for number in numbers:
+        wrong += [f'script {number}: {what}' for what in wrong_script(pair, script(number))]
+    pair.report.check(f'random lines, scripts {numbers[0]} to {numbers[-1]}', wrong[:5])
 
 
 def wrong_script(pair: Pair, one: Script) -> List[str]:

@@ -84,7 +84,7 @@ def example(pair: Pair, block: str) -> None:
     command, _, wanted = block[2:].partition('\n')
     with pair.report.case(f'docs/SCRIPTING.md: {command}') as case:
         case.room.put('odd.sav', ODD_SAVE)
-        here = command.replace('docs/clients', str(CLIENTS)).replace('build/puzzles', 'puzzles').replace('python3', sys.executable)
+        here = command.replace('docs/clients', str(CLIENTS)).replace('python3', sys.executable)
         env: Dict[str, str] = {'PATH': f"{os.path.dirname(pair.plain)}:{os.environ.get('PATH', os.defpath)}"}
         ended = run(['bash', '-c', here], case.room, env=env)
         case.same('the output', ended.output.decode(errors='replace'), wanted)

@@ -2,7 +2,8 @@
 
 from __future__ import annotations
 
-from typing import Dict, FrozenSet, List, NamedTuple, Sequence, Set, Tuple
+from functools import partial
+from typing import Callable, Dict, FrozenSet, List, NamedTuple, Sequence, Set, Tuple
 
 from fault_rounds.devices import input_fails, output_fails, whole_run
 from fault_rounds.memory import GAME_SAVE, NEEDLESS, OLD_SAVE, ended_for_want
@@ -87,7 +88,12 @@ ROUNDS_ON = 150
 Numbers = FrozenSet[int]
 
 
-def cases(pair: Pair) -> None:
+def parts(pair: Pair) -> List[Callable[[], None]]:
+    """Each game under fire, and devices, one after the other or side by side."""
+    return [*(partial(under_fire, pair, game.name, partial(memory, game)) for game in GAMES), partial(under_fire, pair, 'devices', devices)]
+
+
+def under_fire(pair: Pair, name: str, cases: Callable[[Rounds], None]) -> None:
     with Room() as room, Room() as working:
         try:
             rounds = Rounds(pair.report, working, pair.objects, FaultLibrary(room))
@@ -95,17 +101,18 @@ def cases(pair: Pair) -> None:
             if not rounds.run('memory').met.calls:
                 raise Skip('the program asks for memory past the library')
         except Skip as skip:
-            pair.report.skip('puzzles-json under fire', str(skip))
+            pair.report.skip(f'puzzles-json under fire, {name}', str(skip))
             return
         rounds.put('game.sav', GAME_SAVE.replace(b':8:0011aabb', b':8:\n"\\\x00\x80\xff\r\n'))
-        devices(rounds)
         rounds.target = Target(OLD_SAVE)
-        for game in GAMES:
-            MemoryRounds(rounds, game).all()
+        cases(rounds)
+
+
+def memory(game: Game, rounds: Rounds) -> None:
+    MemoryRounds(rounds, game).all()
 
 
 def devices(rounds: Rounds) -> None:
-    rounds.target = Target(OLD_SAVE)
     rounds.words = ['towers', '--id', ID, '--save', 'new.sav']
     rounds.input = DEVICES
     whole = whole_run(rounds, 'objects')

@@ -46,6 +46,11 @@ def answers(request: str, data: Path) -> Iterator[str]:
         yield f'{request} {seeded(task, size, seed)}'
 
 
+def lines_of(request: str) -> int:
+    """How many lines answer a line of the input, but one that asks for each damaged text."""
+    return 1 + len(KINDS) if request.startswith('damage ') else 1
+
+
 def save_file(name: str, data: Path) -> Tuple[Game, bytes]:
     return GAMES[name.partition('/')[0]], (data / name).read_bytes()
 

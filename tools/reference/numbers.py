@@ -3,12 +3,16 @@
 from __future__ import annotations
 
 import re
+from functools import lru_cache
 from typing import Optional
 
+DECIMAL = re.compile(rb'0|[1-9][0-9]*')
 
+
+@lru_cache(maxsize=1024)
 def number(text: bytes, least: int, most: int) -> Optional[int]:
     """A decimal without leading zeros in a range, or nothing."""
-    if not re.fullmatch(rb'0|[1-9][0-9]*', text):
+    if not DECIMAL.fullmatch(text):
         return None
     value = int(text)
     return value if least <= value <= most else None

@@ -24,6 +24,9 @@ KEPT = ['SEED', 'AUXINFO', 'UI', 'TIME']
 COUNTS = ['NSTATES', 'STATEPOS']
 STATES = {'MOVE', 'SOLVE', 'RESTART'}
 
+LINE_ENDS = re.compile(rb'[\r\n]*\Z')
+RECORD_HEAD = re.compile(rb'[\r\n]*([^:\r\n][^:]{7}):([0-9]{1,8}):')
+
 
 @dataclass(frozen=True)
 class Record:
@@ -35,9 +38,9 @@ class Record:
 
 def next_record(text: bytes, start: int) -> Optional[Record]:
     """The first record from a place on, or nothing where only line ends are left."""
-    if re.compile(rb'[\r\n]*\Z').match(text, start):
+    if LINE_ENDS.match(text, start):
         return None
-    head = re.compile(rb'[\r\n]*([^:\r\n][^:]{7}):([0-9]{1,8}):').match(text, start)
+    head = RECORD_HEAD.match(text, start)
     if not head:
         raise Refused('Malformed')
     end = head.end() + int(head.group(2))

@@ -10,8 +10,9 @@ import tarfile
 import tempfile
 from typing import Iterator, NamedTuple
 
+from building.record import sum_of
 from release import installing, places
-from release.built import Built, Unfit, built, commit, git, sum_of, sums_in
+from release.note import Ready, Unfit, commit, fit, git, sums_in
 from release.places import TOP, Folders
 
 #: The folders of the tarball of programs, which are those below PREFIX. The documents lie at its top.
@@ -26,19 +27,21 @@ FOLDERS = {
 }
 
 
+#: How hard a tarball is compressed. The highest level takes three times as long for a hundredth less.
+LEVEL = 6
+
+
 class Archive(NamedTuple):
     name: str
     content: bytes
 
 
 def archives() -> Iterator[Archive]:
-    """The sources of the last commit, and what was built of it. Raises Unfit where something differs from that commit."""
+    """The sources of the last commit, and its programs. Raises Unfit where something differs from that commit."""
     head = git('rev-parse', 'HEAD').decode().strip()
     if commit() != head:
         raise Unfit('there are changes that are not committed')
-    programs = built()
-    if programs.commit != head:
-        raise Unfit(f'the programs were built of commit {programs.commit}: run make')
+    programs = fit(head)
     name = f'puzzles-{places.version()}'
     sources = git('-c', 'tar.umask=0022', 'archive', '--format=tar', f'--prefix={name}/', 'HEAD')
     yield Archive(f'{name}.tar.gz', compressed(sources))
@@ -47,16 +50,16 @@ def archives() -> Iterator[Archive]:
 
 def compressed(content: bytes) -> bytes:
     file = io.BytesIO()
-    with gzip.GzipFile('', 'wb', 9, file, mtime=0) as zipped:
+    with gzip.GzipFile('', 'wb', LEVEL, file, mtime=0) as zipped:
         zipped.write(content)
     return file.getvalue()
 
 
-def packed(programs: Built, name: str) -> bytes:
+def packed(programs: Ready, name: str) -> bytes:
     """What is installed, as a tarball with one folder at its top."""
     seconds = int(git('show', '-s', '--format=%ct', 'HEAD'))
     with tempfile.TemporaryDirectory() as folder:
-        installing.put(places.items(), Folders(folder, FOLDERS))
+        installing.put(places.items(programs.folder), Folders(folder, FOLDERS), programs.note)
         log = log_of(programs)
         if log:
             installing.put_file(f'{folder}/gate.log', log, 0o644)
@@ -64,14 +67,14 @@ def packed(programs: Built, name: str) -> bytes:
         return tarball(folder, name, seconds)
 
 
-def log_of(programs: Built) -> bytes:
+def log_of(programs: Ready) -> bytes:
     """What the gate said, where it has passed with these programs, at this commit; else nothing."""
     path = TOP / 'build' / 'gate.log'
     if not path.is_file():
         return b''
     log = path.read_bytes()
     text = log.decode(errors='replace')
-    has_passed = re.search(r'^[1-9][0-9]* passed, 0 failed, [0-9]+ skipped\n\Z', text, re.MULTILINE)
+    has_passed = re.search(r'^[1-9][0-9]* passed, 0 failed(, [0-9]+ skipped)?\n\Z', text, re.MULTILINE)
     is_of_these = text.startswith(f'commit {programs.commit}\n') and set(programs.sums.values()) <= set(sums_in(text).values())
     return log if has_passed and is_of_these else b''
 

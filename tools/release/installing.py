@@ -8,7 +8,7 @@ import tempfile
 from typing import Iterable, Iterator, List, NamedTuple, Sequence, Tuple
 
 from release import places
-from release.places import OURS, TOP, Folders, Item
+from release.places import NOTE, OURS, TOP, Folders, Item
 
 #: The line of the command puzzles-play that says where the board's package lies from there.
 PACKAGE_LINE = "PACKAGE = '.'\n"
@@ -17,13 +17,13 @@ PACKAGE_LINE = "PACKAGE = '.'\n"
 LIST = f'{OURS}/INSTALLED'
 
 
-def put(items: Sequence[Item], folders: Folders) -> None:
-    """Puts each file in its place, and makes the folders that lack."""
+def put(items: Sequence[Item], folders: Folders, note: str) -> None:
+    """Puts each file in its place, with what is told of the programs, and makes the folders that lack."""
     made: List[str] = []
     for item in items:
         place = folders.of(item)
         made += make_folders(folders, os.path.dirname(place))
-        content = (TOP / item.source).read_bytes()
+        content = note.encode() if item.source == NOTE else (TOP / item.source).read_bytes()
         if item.source == 'tools/play':
             content = with_package(content, folders)
         put_file(folders.now(place), content, item.mode)

@@ -3,11 +3,10 @@
 from __future__ import annotations
 
 import os
-from pathlib import Path
 from typing import Iterator, List, Mapping, NamedTuple
 
-#: The top of the repository, whatever the working folder is.
-TOP = Path(__file__).resolve().parent.parent.parent
+from building.crates import ROOT as TOP
+from building.record import NAMES
 
 #: The folder below `datadir` that is ours alone.
 OURS = 'verified-puzzles'
@@ -15,11 +14,14 @@ OURS = 'verified-puzzles'
 #: The folders that the Makefile names, and that packagers set.
 VARIABLES = ['gamesdir', 'datadir', 'mandir', 'docdir', 'bashcompdir', 'zshcompdir', 'fishcompdir']
 
-COMMANDS = ['puzzles', 'puzzles-json', 'puzzles-play']
+COMMANDS = [*NAMES, 'puzzles-play']
+
+#: Stands for the text that is told of the programs, where an item names its source.
+NOTE = 'what is told of the programs'
 
 
 class Item(NamedTuple):
-    """A file of the repository or of `build/`, and what becomes of it: the variable of its folder, its path from there, and its mode."""
+    """A file of the repository, and what becomes of it: the variable of its folder, its path from there, and its mode."""
 
     source: str
     variable: str
@@ -50,27 +52,26 @@ class Folders:
         return self.place(item.variable, item.path)
 
 
-def items() -> List[Item]:
-    """All that is installed. A manual page, a document or a module that is new in its folder needs no line here."""
-    return [*programs(), *board(), *documents(), *manual(), *completions()]
+def items(folder: str) -> List[Item]:
+    """All that is installed, with the programs of this folder. A manual page, a document or a module that is new in its folder needs no line here."""
+    return [*programs(folder), *board(), *documents(), *manual(), *completions()]
 
 
-def programs() -> Iterator[Item]:
-    yield Item('build/puzzles', 'gamesdir', 'puzzles', 0o755)
-    yield Item('build/puzzles-json', 'gamesdir', 'puzzles-json', 0o755)
+def programs(folder: str) -> Iterator[Item]:
+    yield from (Item(f'{folder}/{name}', 'gamesdir', name, 0o755) for name in NAMES)
     yield Item('tools/play', 'gamesdir', 'puzzles-play', 0o755)
 
 
 def board() -> Iterator[Item]:
     """The board's package, its puzzles, and what is told of the version."""
-    yield Item('build/VERSION', 'datadir', f'{OURS}/VERSION')
+    yield Item(NOTE, 'datadir', f'{OURS}/VERSION')
     for pattern in ('*.py', 'bank/*.txt'):
         for source in below('tools/board', pattern):
             yield Item(f'tools/board/{source}', 'datadir', f'{OURS}/board/{source}')
 
 
 def documents() -> Iterator[Item]:
-    yield Item('build/VERSION', 'docdir', 'VERSION')
+    yield Item(NOTE, 'docdir', 'VERSION')
     for name in ('README.md', 'CHANGELOG.md', 'LICENSE'):
         yield Item(name, 'docdir', name)
     for pattern in ('*.md', 'clients/*'):

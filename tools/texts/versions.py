@@ -1,10 +1,12 @@
-"""The version is written in the file VERSION: the changes, the package and the programs have the same."""
+"""The version is written in the file VERSION: the changes, the package and the programs have the same. The kit is written in the record of the programs."""
 
 from __future__ import annotations
 
+import os
 import re
 from typing import Iterator, List
 
+from building.record import TREE
 from harness import Report, run
 from texts.parts import ROOT, read
 
@@ -21,8 +23,9 @@ def check(report: Report, programs: List[str]) -> None:
     report.check('VERSION', [] if re.fullmatch(r'[0-9]+(\.[0-9]+)+\n', version) else [f'it is {version!r}'])
     report.check('CHANGELOG: versions', wrong_headings(re.findall(r'^## .*', read('CHANGELOG.md'), re.MULTILINE), plain))
     report.check('CHANGELOG and debian/changelog', wrong_entries(plain))
+    report.check('the kit, in the documents and in programs/RECORD', wrong_kits())
     for program in programs:
-        with report.case(f'{program}: the version') as case:
+        with report.case(f'{os.path.basename(program)}: the version') as case:
             # A program says its own name and then the version.
             said = run([program, '--version'], case.room).output.decode().split(' ')
             case.same('it', said[1:], [version])
@@ -54,3 +57,14 @@ def wrong_entries(version: str) -> Iterator[str]:
         yield f'the newest package is {packages[:1]}, not of {version}'
     if packages != versions:
         yield f'the packages are of {packages}, not of {versions}'
+
+
+def wrong_kits() -> Iterator[str]:
+    """README names the kit by which the programs in the tree were proved, and no document another one."""
+    record = TREE.read()
+    kit = record.kit if record else ''
+    for document in ['README.md', 'CONTRIBUTING.md', *sorted(f'docs/{path.name}' for path in (ROOT / 'docs').glob('*.md'))]:
+        named = re.findall(r'rattle-kit-\S+ logic \w+', read(document))
+        yield from (f'{document}: it is {name!r}, not {kit!r}' for name in named if name != kit)
+        if document == 'README.md' and not named:
+            yield 'README.md: none is named'

@@ -1,0 +1,188 @@
+"""The present game, and what can be done with it: it is kept after each change, and outlives the program."""
+
+from __future__ import annotations
+
+import time
+from typing import Optional, Protocol
+
+from board import files, texts
+from board.board import Board, Place, Reply
+from board.program import Gone, Program, Refused, Stopped, Waiting, save_to, started_with
+from board.state import NotKept, Shelf, State
+from board.texts import Ways
+
+#: Lines over which the program may take long; and how many seconds it may take over any other before a player can stop that, too.
+LONG = ('solve', 'completable', 'list ')
+PATIENCE = 3.0
+
+
+class Front(Protocol):
+    """Who sits at the table."""
+
+    def confirm(self, question: str) -> bool:
+        """Whether something is to be done. Whoever doesn't know says no."""
+
+    def waiting(self, may_stop: bool) -> bool:
+        """Called while the program is at work; True where it may be stopped and the player doesn't want to wait."""
+
+
+class PresentGame:
+    """Each call that may fail leaves a sentence in `message` then."""
+
+    def __init__(self, path: str, state: State, ways: Ways, front: Front) -> None:
+        self.path = path
+        self.state = state
+        self.ways = ways
+        self.message = ''
+        #: Why the present game isn't kept; nothing where it is.
+        self.trouble = ''
+        self._front = front
+        self._program: Optional[Program] = None
+        self._board: Optional[Board] = None
+        self._saved = b''
+        self._hinted: Optional[Reply] = None
+
+    @property
+    def has_game(self) -> bool:
+        return self._board is not None
+
+    @property
+    def board(self) -> Board:
+        assert self._board, 'a game has begun'
+        return self._board
+
+    @property
+    def game(self) -> str:
+        return self.board.session.game
+
+    def waiting(self, is_long: bool = False) -> Waiting:
+        """For what the program begins now: whether the player doesn't want to wait for it any longer."""
+        end = time.monotonic() + PATIENCE
+        return lambda: self._front.waiting(is_long or time.monotonic() > end)
+
+    # --- lines ---
+
+    def play(self, line: str) -> Optional[Reply]:
+        """Has the program do something, and keeps the game that comes of it. Nothing where that was refused."""
+        self.message = ''
+        reply = self.ask(line)
+        self._hinted = None
+        if reply is not None and not self.message:
+            self._look()
+            self._keep()
+            return reply
+        if reply is not None and reply.is_lost:
+            self._look()
+            self._keep()
+        return None
+
+    def ask(self, line: str) -> Optional[Reply]:
+        """The program's reply, with a sentence where it is a refusal; nothing where the program had to be started again."""
+        assert self._program
+        try:
+            reply = self._program.ask(line, self.waiting(line.startswith(LONG)))
+        except Stopped:
+            self._revive()
+            self.message = texts.STOPPED
+            return None
+        except Gone as gone:
+            self._revive()
+            self.message = f'The program had ended ({gone}); the game goes on as it was. Try that again.'
+            return None
+        if reply.is_lost:
+            self.message = texts.LOST
+        elif reply.refused:
+            self.message = texts.of_line(line, reply.refused, self.game, self.board.size, self.ways)
+        return reply
+
+    def hint(self) -> Optional[Place]:
+        """Where a number follows. Asked once more, the sentence tells the number."""
+        self.message = ''
+        again = self._hinted
+        if again is not None and again.hint and again.session == self.board.session:
+            self.message = f'It is a {again.hint.number}.'
+            return again.hint.square
+        reply = self.ask('hint')
+        if reply is None or reply.hint is None:
+            return None
+        if reply.hint.square is None:
+            self.message = 'The board is full.' if self.board.is_full and reply.hint.kind == 'nothing' else texts.HINTS[reply.hint.kind]
+            return None
+        self._hinted = reply
+        return reply.hint.square
+
+    def check(self) -> None:
+        """Whether the numbers can still be completed."""
+        self.message = ''
+        reply = self.ask('completable')
+        if reply is not None and reply.completable:
+            self.message = texts.COMPLETABLE[reply.completable]
+
+    # --- files ---
+
+    def save_as(self, file: str) -> bool:
+        """Saves to a file of the player's."""
+        other = files.other_than_file(file)
+        if other:
+            self.message = f'{file} {other}: a game is saved to a file.'
+            return False
+        try:
+            complaint = save_to(self.path, self.game, self._saved, file, self.waiting(is_long=True))
+        except Stopped:
+            self.message = 'Stopped: the file is as it was, or has the game.'
+            return False
+        except Gone as gone:
+            complaint = str(gone)
+        self.message = f'The program says: {complaint}.' if complaint else f'Saved in {file}'
+        return not complaint
+
+    def leave(self) -> None:
+        """Ends the program, and leaves the kept game for the next start."""
+        if self._program:
+            self._program.stop()
+        self.state.release()
+
+    def _take(self, program: Program, shelf: Shelf) -> None:
+        if self._program:
+            self._program.stop()
+        self._program = program
+        self._hinted = None
+        if program.first.board is None:
+            raise Gone(texts.LOST if program.first.is_lost else f"it doesn't tell its board: {program.first.refused}")
+        self._board = program.first.board
+        self.message = shelf.told
+        self.state.take(shelf)
+        self._keep()
+
+    def _look(self) -> None:
+        reply = self.ask('board')
+        if reply is not None and reply.board is not None:
+            self._board = reply.board
+
+    def _keep(self) -> None:
+        """The file has the present game from here on, or `trouble` says why not."""
+        reply = self.ask('save')
+        if reply is None:
+            # The game goes on as it was kept last.
+            return
+        if reply.refused:
+            self.trouble = self.message
+            return
+        self._saved = ''.join(f'{line}\n' for line in reply.lines).encode('latin-1')
+        try:
+            self.state.keep(self._saved)
+            self.trouble = ''
+        except NotKept as reason:
+            self.trouble = str(reason)
+
+    def _revive(self) -> None:
+        """Starts the program again with the game as it was kept last."""
+        assert self._program
+        self._program.stop()
+        try:
+            self._program = started_with(self.path, self.game, self._saved, self.waiting())
+        except Refused as refused:
+            raise Gone(f"it doesn't take its own save: {refused}") from refused
+        except Stopped as stopped:
+            raise Gone('it gave no answer') from stopped
+        self._board = self._program.first.board or self._board

@@ -1,0 +1,63 @@
+"""The programs in the tree: they are stored there, and compared with others."""
+
+from __future__ import annotations
+
+import sys
+
+from building.changes import command, kit_of
+from building.record import BUILT, NAMES, TREE, put, sum_of, sum_of_sources
+from building.start import make
+
+TYPE_CHECKING = False
+if TYPE_CHECKING:
+    from typing import Sequence
+
+#: What is to be done where the programs in the tree aren't those of the sources.
+ADVICE = 'make programs, and commit'
+
+
+def store() -> int:
+    """Proves and builds, and stores the programs and their record in the tree, as far as they aren't there yet. Gives the status to end with."""
+    status = make()
+    if status != 0:
+        return status
+    record, fault = BUILT.read(), BUILT.fault(sum_of_sources())
+    if not record or fault:
+        print(f'nothing is stored: {fault}', file=sys.stderr)
+        return 1
+    for name in NAMES:
+        with open(BUILT.path(name), 'rb') as file:
+            if put(TREE.path(name), file.read(), 0o755):
+                print(f'stored: {TREE.folder}/{name}')
+    if TREE.write(record):
+        print(f'stored: {TREE.record}')
+    return 0
+
+
+def compare(built: Sequence[str]) -> int:
+    """Compares programs that were built from nothing, in the order of their names, with those in the tree. Says how many cases have passed, which are
+    the record and each program, and gives the status to end with."""
+    fault = TREE.fault(sum_of_sources())
+    faults = [f'{fault}: {ADVICE}'] if fault else []
+    passed = 0 if fault else 1
+    record, rt = TREE.read(), command()
+    kit = kit_of(rt) if rt else 'none'
+    if record and record.kit != kit:
+        print(f"the programs in {TREE.folder} were built by '{record.kit}', and the kit here is '{kit}': so nothing is compared")
+    else:
+        unlike = [text for name, path in zip(NAMES, built) for text in difference(name, path)]
+        passed += len(NAMES) - len(unlike)
+        faults += unlike
+    for text in faults:
+        print(f'FAILED: {text}')
+    print(f'{passed} passed, {len(faults)} failed')
+    return 1 if faults else 0
+
+
+def difference(name: str, built: str) -> Sequence[str]:
+    """How a program differs from that in the tree, with both sums; nothing where they are the same bytes."""
+    try:
+        found, kept = sum_of(built), sum_of(TREE.path(name))
+    except OSError as error:
+        return [f'{error.filename}: {error.strerror}: {ADVICE}']
+    return [] if found == kept else [f'{built} is {found}, and {TREE.folder}/{name} is {kept}: {ADVICE}']

@@ -1,0 +1,67 @@
+"""The crates of the repository: what each stands on, and the files that it is proved from.
+
+It is read whenever `make` is asked for something, mostly to find that nothing has changed. So it takes next to nothing of Python's library, whose modules
+would cost more than the work; nor do `changes`, `record` and `ready`.
+"""
+
+from __future__ import annotations
+
+import os
+
+TYPE_CHECKING = False
+if TYPE_CHECKING:
+    from typing import Iterable, Iterator, Set
+
+    from building.crates import Listed
+
+#: The top of the repository, whatever the working folder is.
+TOP = os.path.dirname(os.path.dirname(os.path.dirname(os.path.realpath(__file__))))
+
+#: What the proof of a crate is made from.
+PARTS = ('src', 'specs', 'proofs')
+
+
+def listed() -> Listed:
+    """What crates.txt says."""
+    crates: Listed = {}
+    with open(f'{TOP}/crates.txt', encoding='utf-8') as file:
+        for line in file:
+            name, colon, libraries = line.partition('#')[0].partition(':')
+            if colon:
+                crates[name.split()[0]] = libraries.split()
+    return crates
+
+
+def below(crate: str, crates: Listed) -> Set[str]:
+    """The crates of the repository that a crate stands on, and those below them."""
+    found: Set[str] = set()
+    left = list(crates[crate])
+    while left:
+        library = left.pop()
+        if library in crates and library not in found:
+            found.add(library)
+            left += crates[library]
+    return found
+
+
+def all_of(names: Iterable[str], crates: Listed) -> Set[str]:
+    """These crates, and all below them."""
+    found = set(names)
+    return found.union(*(below(name, crates) for name in found))
+
+
+def files_of(crate: str) -> Iterator[str]:
+    """The files that a crate is proved from, by their paths from the top."""
+    folders = [f'crates/{crate}/{part}' for part in PARTS]
+    while folders:
+        folder = folders.pop()
+        try:
+            with os.scandir(f'{TOP}/{folder}') as entries:
+                inside = list(entries)
+        except FileNotFoundError:
+            continue
+        for entry in inside:
+            if entry.is_dir(follow_symlinks=False):
+                folders.append(f'{folder}/{entry.name}')
+            else:
+                yield f'{folder}/{entry.name}'

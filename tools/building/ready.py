@@ -1,0 +1,52 @@
+"""Which programs are those of the sources that are here: the ones in the tree, or the ones that were built."""
+
+from __future__ import annotations
+
+import sys
+
+from building.record import BUILT, TREE, sum_of_sources
+
+TYPE_CHECKING = False
+if TYPE_CHECKING:
+    from building.record import Programs
+
+
+class NotReady(Exception):
+    """There are no programs of the sources that are here. The text says why."""
+
+
+def where() -> int:
+    """Prints the folder of the programs. Where those in the tree aren't of these sources it says so, and proves and builds. Gives the status to end with."""
+    fault = TREE.fault(sum_of_sources())
+    if not fault:
+        print(TREE.folder)
+        return 0
+    print(f'{fault}: they are proved and built', file=sys.stderr)
+    # Mostly the programs are there, and then this need not be read.
+    from building.start import make
+
+    status = make()
+    if status == 0:
+        print(BUILT.folder)
+    return status
+
+
+def tell() -> int:
+    """Prints the folder of the programs that are ready, or says why there are none. Gives the status to end with."""
+    try:
+        print(ready().folder)
+        return 0
+    except NotReady as error:
+        print(error, file=sys.stderr)
+        return 1
+
+
+def ready() -> Programs:
+    """The programs that are there, where nothing is built for it."""
+    sources = sum_of_sources()
+    if not TREE.fault(sources):
+        return TREE
+    fault = BUILT.fault(sources)
+    if fault:
+        raise NotReady(f'{fault}: run make' if BUILT.read() else 'the programs are not built yet: run make')
+    return BUILT

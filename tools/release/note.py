@@ -1,0 +1,72 @@
+"""What is told of the programs that are ready: version, commit, prover, where they are from, and their sums. It is installed as `VERSION`."""
+
+from __future__ import annotations
+
+import re
+import subprocess
+from typing import Dict, List, NamedTuple
+
+from building.ready import NotReady, ready
+from building.record import NAMES, TREE
+from release.places import TOP, version
+
+
+class Unfit(Exception):
+    """What is there can't be packed or installed. The text says why."""
+
+
+class Ready(NamedTuple):
+    """Programs of the sources that are here, and what is told of them."""
+
+    #: From the top.
+    folder: str
+    commit: str
+    sums: Dict[str, str]
+    note: str
+
+
+def fit(at: str) -> Ready:
+    """The programs that are ready, at this commit. Raises Unfit where there are none."""
+    try:
+        programs = ready()
+    except NotReady as error:
+        raise Unfit(str(error)) from None
+    record = programs.read()
+    assert record
+    origin = 'taken from the tree' if programs is TREE else 'taken from a build'
+    sums = ''.join(f'{record.sums[name]}  {name}\n' for name in NAMES)
+    return Ready(programs.folder, at, record.sums, f'{head(at)}proved by {record.kit}\n{origin}\n{sums}')
+
+
+def note() -> str:
+    """What is told, where there are no programs, too."""
+    at = commit()
+    try:
+        return fit(at).note
+    except Unfit:
+        return head(at)
+
+
+def head(at: str) -> str:
+    return f'version {version()}\ncommit {at}\n'
+
+
+def sums_in(text: str) -> Dict[str, str]:
+    """The sums of files by their names, in a text that has lines as `sha256sum` writes them."""
+    return {name: digest for digest, name in re.findall(r'^([0-9a-f]{64})  (.+)$', text, re.MULTILINE)}
+
+
+def commit() -> str:
+    """The commit that the repository is at, with ' and changes' where files differ from it."""
+    return subprocess.run([TOP / 'tools' / 'commit'], stdout=subprocess.PIPE, check=True).stdout.decode().strip()
+
+
+def git(*words: str) -> bytes:
+    """What git answers here. Raises Unfit where it can't."""
+    command: List[str] = ['git', '-C', str(TOP), *words]
+    try:
+        return subprocess.run(command, stdout=subprocess.PIPE, stderr=subprocess.PIPE, check=True).stdout
+    except FileNotFoundError:
+        raise Unfit('there is no git here') from None
+    except subprocess.CalledProcessError as failed:
+        raise Unfit(f'{" ".join(words[:2])}: {failed.stderr.decode(errors="replace").strip()}') from None

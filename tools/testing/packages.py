@@ -1,0 +1,68 @@
+"""What the tests need of Debian: tools/packages.txt."""
+
+from __future__ import annotations
+
+import os
+import shutil
+import subprocess
+import sys
+from pathlib import Path
+from typing import List, NamedTuple, Sequence
+
+from harness.builds import TOP
+
+LIST = TOP / 'tools' / 'packages.txt'
+
+#: Asks nothing, and gives up soon where no server answers.
+APT = ['apt-get', '--quiet', '--assume-yes', '--no-install-recommends', '-o', 'Acquire::Retries=0', '-o', 'Acquire::http::Timeout=15']
+MOST_SECONDS = 300
+
+
+class Package(NamedTuple):
+    name: str
+    #: Commands, or whole paths of files, of which one is enough.
+    gives: Sequence[str]
+
+    def is_there(self) -> bool:
+        return any(os.path.exists(one) if one.startswith('/') else shutil.which(one) for one in self.gives)
+
+
+def listed(path: Path = LIST) -> List[Package]:
+    """Each line of the list, without what stands behind `#`."""
+    rows = (line.partition('#')[0].split() for line in path.read_text(encoding='utf-8').splitlines())
+    return [Package(row[0], row[1].split('|')) for row in rows if row]
+
+
+def lacking() -> List[str]:
+    return [package.name for package in listed() if not package.is_there()]
+
+
+def make_ready() -> str:
+    """Installs what is lacking, where that can be done without a question. Gives the line to type where something is lacking still."""
+    names = lacking()
+    if names and os.geteuid() == 0 and shutil.which('apt-get'):
+        print(f'Installing {" ".join(names)}, which the tests need.', flush=True)
+        # The lists of a new machine are empty.
+        install(['install', *names]) or (install(['update']) and install(['install', *names]))
+        names = lacking()
+    return f'The tests need more, to be installed by: apt-get install {" ".join(names)}' if names else ''
+
+
+def install(words: Sequence[str]) -> bool:
+    """Whether apt has done it. What it says is shown where it hasn't."""
+    try:
+        done = subprocess.run(
+            [*APT, *words],
+            env={**os.environ, 'DEBIAN_FRONTEND': 'noninteractive'},
+            stdin=subprocess.DEVNULL,
+            stdout=subprocess.PIPE,
+            stderr=subprocess.STDOUT,
+            timeout=MOST_SECONDS,
+            check=False,
+        )
+    except (OSError, subprocess.TimeoutExpired) as error:
+        print(error, file=sys.stderr)
+        return False
+    if done.returncode != 0:
+        sys.stderr.write(done.stdout.decode(errors='replace')[-1000:])
+    return done.returncode == 0
