@@ -13,6 +13,7 @@ from typing import Dict, Iterable, List, Optional
 
 from bodies.edits import FOLDERS, Edit
 from building.crates import PARTS, all_of, listed, own
+from testing.kept import place
 
 #: What a result was found by, beside the kit: these scripts.
 SCRIPTS = Path(__file__).resolve().parent
@@ -27,7 +28,7 @@ class Kept:
     def __init__(self, kit: str) -> None:
         self._kit = f'{kit} {sum_of_files(SCRIPTS, ["."])}'
         self._is_anew = os.environ.get('ANEW') == '1'
-        self._folder = cache() / 'verified-puzzles' / 'bodies'
+        self._folder = place('bodies')
         self._sums: Dict[str, str] = {}
         self._forget()
 
@@ -39,7 +40,7 @@ class Kept:
 
     def find(self, key: str) -> Optional[List[str]]:
         """What is kept under a key; nothing where that is damaged."""
-        if self._is_anew:
+        if self._is_anew or not self._folder:
             return None
         file = self._folder / key
         try:
@@ -53,9 +54,11 @@ class Kept:
 
     def keep(self, key: str, words: List[str]) -> None:
         """Keeps a result, whole or not at all, where the disk allows it."""
+        if not self._folder:
+            return
         text = json.dumps(words)
         with contextlib.suppress(OSError):
-            self._folder.mkdir(parents=True, exist_ok=True)
+            self._folder.mkdir(mode=0o700, parents=True, exist_ok=True)
             number, name = tempfile.mkstemp(dir=self._folder, prefix='new.')
             try:
                 with os.fdopen(number, 'w', encoding='utf-8') as file:
@@ -67,15 +70,9 @@ class Kept:
 
     def _forget(self) -> None:
         with contextlib.suppress(OSError):
-            for file in self._folder.iterdir():
+            for file in self._folder.iterdir() if self._folder else ():
                 if file.stat().st_mtime < time.time() - DAYS * 86400:
                     file.unlink()
-
-
-def cache() -> Path:
-    """Where a user's programs keep what can be found again."""
-    named = os.environ.get('XDG_CACHE_HOME', '')
-    return Path(named if os.path.isabs(named) else os.path.expanduser('~/.cache'))
 
 
 def sum_of(texts: Iterable[str]) -> str:

@@ -5,6 +5,7 @@ from __future__ import annotations
 import os
 from typing import Dict, NamedTuple, Sequence, Tuple
 
+from bodies.sources import functions
 from elsewhere.place import Place
 
 #: A kit whose libraries are there where a file says so, and whose prover takes functions by their paths.
@@ -126,7 +127,27 @@ ROUNDS = [
 ]
 
 
+#: By what the prover knows a function: its file, what stands above it, how far in it is, and its path, or nothing.
+PATHS = [
+    ('src/lib.rt', '', 0, 'words::f'),
+    ('src/a/b.rt', 'pub struct Other;\n', 0, 'words::a::b::f'),
+    ('src/a/mod.rt', 'pub struct Size {\n}\n\nimpl Size {\n', 4, 'words::a::Size::f'),
+    ('src/a.rt', 'pub(crate) enum Size<P> {\n}\n\nimpl<P: Draw> Size<P> {\n    fn g() {\n    }\n\n', 4, 'words::a::Size::f'),
+    ('src/a/b.rt', 'impl Size {\n', 4, 'Size::f'),
+    ('src/a.rt', 'impl PartialEq for Size {\n', 4, 'words::a::SizePartialEq::f'),
+    ('src/a.rt', "impl<'a, W: Write> fmt::Write for Log<'a, W> {\n", 4, 'words::a::LogWrite::f'),
+    ('src/a.rt', 'impl<T: Drop> From<AllocFailed<T>> for Fault {\n', 4, 'words::a::FaultFromAllocFailed::f'),
+    ('src/a.rt', 'impl<P: Draw> Voice<P> for Plain {\n', 4, 'words::a::PlainVoice::f'),
+    ('src/a.rt', 'pub trait Rules {\n', 4, 'words::a::Rules::f'),
+    ('src/a.rt', 'mod inner {\n', 4, ''),
+    ('src/a.rt', 'impl Size {\n    fn g() {\n', 8, ''),
+]
+
+
 def cases(place: Place) -> None:
+    for file, above, blanks, path in PATHS:
+        found = functions('words', file, f'{above}{" " * blanks}fn f() {{\n{" " * blanks}}}\n')[-1].path
+        place.report.check(f'wrong bodies: the path {path or "that is none"}', [] if found == path else [found])
     words = Words(place)
     for row in ROUNDS:
         words.write(row)
@@ -190,7 +211,7 @@ def cases_of_libraries(words: Words) -> None:
     """A library is taken as `rt lib` has left it, or `rt ci`, where it is of the sources here."""
     put = words.place.put
     put('crates/letters/src/lib.rt', b'other letters\n', 0o644)
-    lacks = ['not built of the sources here: letters; run make build first, or the gate', '0 passed, 1 failed']
+    lacks = ['not built of the sources here: letters; run make build first, or ANEW=1 make gate', '0 passed, 1 failed']
     words.expect('a library of other sources', lacks, 1, ANEW='1')
     os.remove(put('crates/letters/out/rlib/stamp', b'', 0o644))
     words.expect('a library that is lacking', lacks, 1, ANEW='1')

@@ -24,15 +24,15 @@ SUM = 64
 Files = Dict[str, bytes]
 
 
-def place() -> Optional[Path]:
-    """Where results lie; nothing where the environment names no folder for them."""
+def place(what: str) -> Optional[Path]:
+    """Where results of a kind lie; nothing where the environment names no folder for them."""
     cache = os.environ.get('XDG_CACHE_HOME') or (os.environ.get('HOME') and os.path.join(os.environ['HOME'], '.cache'))
-    return Path(cache, 'verified-puzzles', 'gate') if cache and os.path.isabs(cache) else None
+    return Path(cache, 'verified-puzzles', what) if cache and os.path.isabs(cache) else None
 
 
 def read(key: str) -> Optional[Files]:
     """The files of a result by their names, or nothing where there is none that is whole."""
-    folder = place()
+    folder = place('gate')
     if not folder:
         return None
     try:
@@ -48,7 +48,7 @@ def read(key: str) -> Optional[Files]:
 
 def write(key: str, files: Mapping[str, bytes]) -> None:
     """Keeps a result, and forgets those that were not asked for since the last few. Where nothing can be written, nothing is kept."""
-    folder = place()
+    folder = place('gate')
     if not folder:
         return
     with contextlib.suppress(OSError):
