@@ -31,7 +31,6 @@ case $1 in
     ci)
         leave crates/puzzles puzzles
         leave crates/puzzles puzzles.by-rattle
-        leave crates/puzzles_json puzzles_json
         leave crates/refused_memory refused_memory ;;
 esac
 [ -z "$RT_SAYS" ] || echo "$RT_SAYS"

@@ -1,6 +1,6 @@
 use Rattle.std.proofs.Common.{◌≡◌, ℕ, List, Option, Some, None, IfSome, take, ap, ◌∙◌, arith}
 use Rattle.std.proofs.lemmas.List.{take-take}
-use Rattle.program_shell.proofs.load_file.read_cut.Goals as goal
+use Rattle.puzzles.proofs.load_file.read_cut.Goals as goal
 
 cut_again : (told : Option (List ℕ)) (n : ℕ) (items kept : List ℕ) → IfSome told (λ xs. items ≡ take n xs)
     → kept ≡ take n items → IfSome told (λ xs. kept ≡ take n xs)

@@ -9,7 +9,7 @@ use puzzle_cli::{CommandFault, Fault};
 ///
 /// 0 where its work is done. Else the line of the fault, or the text of refused words, goes to standard error, and the status is the
 /// fault's. The text of help goes to standard output, with status 0, or 1 where that can't be written.
-pub fn status_of(rt: &(impl Print + Eprint), ended: Result<(), Fault>) -> u8
+pub(crate) fn status_of(rt: &(impl Print + Eprint), ended: Result<(), Fault>) -> u8
     ensures ok { OnOk ended (result ≡ 0) }
     ensures fault { IfErr ended (λ fault. (result ≡ fault_status fault) ⊎ (result ≡ 1)) }
 {

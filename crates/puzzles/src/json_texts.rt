@@ -1,7 +1,16 @@
-//! What the program's help says below the options.
+//! What help and version say of the program where it answers in objects.
 
-/// The lines that are read, the objects that answer them, examples, statuses, and the other programs.
-pub(crate) const MORE_HELP: &str = "\
+use puzzle_cli::ProgramTexts;
+
+/// What the help and the version say of `puzzles-json`.
+pub(crate) const PUZZLES_JSON: ProgramTexts = ProgramTexts {
+    name: "puzzles-json",
+    about: "Towers and Unequal for other programs: each command, one a line, is answered by a JSON object",
+    more_help: MORE_HELP,
+};
+
+// The lines that are read, the objects that answer them, examples, statuses, and the other programs.
+const MORE_HELP: &str = "\
 Commands, one a line:
   those of puzzles, as its help has them, and
 
