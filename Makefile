@@ -73,8 +73,8 @@ test-bodies:
 	@RT='$(RT)' tools/test_bodies $(CRATES)
 
 test-faults: all
-	@cd crates/refused_memory && '$(RT)' run < /dev/null > /dev/null
-	tools/test_faults build/puzzles crates/refused_memory/out/refused_memory
+	@cd crates/trial_runs && '$(RT)' run -- calls < /dev/null > /dev/null
+	tools/test_faults build/puzzles crates/trial_runs/out/trial_runs
 
 test-saving: all
 	tools/test_saving build/puzzles

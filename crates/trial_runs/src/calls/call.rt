@@ -1,7 +1,7 @@
 //! The calls that take memory, and some that are refused by their own names before they take any.
 
-use crate::fixture::Start;
-use crate::made::Made;
+use crate::calls::fixture::Start;
+use crate::calls::made::Made;
 use clue_rules::Params;
 use latin_board::Change;
 use play_midend::{Extras, PlayFault, Session, change_of, read_move, write_move};

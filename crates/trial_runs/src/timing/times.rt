@@ -1,6 +1,6 @@
 //! A table of times: for each kind of board and call the median and the slowest of the boards.
 
-use crate::boards::Filling;
+use crate::timing::boards::Filling;
 use std::alloc::{AllocError, Global};
 use std::io;
 

@@ -2,7 +2,7 @@
 //!
 //! A line is a game, a class if there is one, and a game ID, with a space between.
 
-use crate::batches::{Call, Sitting, fastest_of};
+use crate::timing::batches::{Call, Sitting, fastest_of};
 use clue_rules::{Game, GameId, Towers, Unequal, read_id};
 use std::alloc::Global;
 use std::io;

@@ -1,6 +1,6 @@
 //! What a board's numbers say of its puzzle: its errors, a hint, and how many solutions keep them.
 
-use crate::batches::Call;
+use crate::timing::batches::Call;
 use board_checks::{Hint, errors, find_hint};
 use play_midend::Session;
 use puzzle_json::Shows;

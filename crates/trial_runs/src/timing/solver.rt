@@ -4,8 +4,8 @@
 //! A line is a game, a class if there is one, and a game ID, with a space between; a line that begins with # is skipped.
 //! Each puzzle is solved in some batches, and the fastest of these counts, since others may work on the machine.
 
-use crate::batches::Sitting;
-use crate::solving::{Task, Timing, timing_of_line};
+use crate::timing::batches::Sitting;
+use crate::timing::solving::{Task, Timing, timing_of_line};
 use std::alloc::{AllocError, Global};
 use std::io;
 use std::rt::Clock;

@@ -1,7 +1,7 @@
 //! What is printed of a save: what becomes of it, or of the texts that damage makes of it.
 
-use crate::answers::{Answer, Block, Count, word};
-use crate::damage::{DAMAGES, Damage, SaveText};
+use crate::requests::answers::{Answer, Block, Count, word};
+use crate::requests::damage::{DAMAGES, Damage, SaveText};
 use clue_rules::Game;
 use play_save::{load, save};
 use std::io;

@@ -13,19 +13,18 @@
 //! written by the usual program (bench/README.md), worked- ones by hand.
 //!
 //! ```text
-//! $ printf 'load towers/worked-undone.sav\nsquare 3 0\n' | reference_tests
+//! $ printf 'load towers/worked-undone.sav\nsquare 3 0\n' | trial_runs answers
 //! towers/worked-undone.sav; ok; playing 2/3; 3:3//////3/////;
 //! square 3 0 132213321
 //! ```
-#![tactic(auto)]
 
 mod answers;
 mod damage;
 mod saves;
 mod seeded;
 
-use crate::saves::{Detail, print_damaged, print_loaded};
-use crate::seeded::seeded_answer;
+use crate::requests::saves::{Detail, print_damaged, print_loaded};
+use crate::requests::seeded::seeded_answer;
 use clue_rules::{Game, Towers, Unequal};
 use std::rt::Files;
 use std::{fs, io};
@@ -78,14 +77,15 @@ fn answer(rt: &(impl Files + Print + AllocGlobal), line: &str) -> io::Result<()>
     }
 }
 
-fn main(rt: HostRuntime) -> io::Result<()> {
+/// Answers the lines of standard input.
+pub(crate) fn answer_requests(rt: &(impl Input + Files + Print + AllocGlobal)) -> io::Result<()> {
     for line in rt.lines(rt.alloc()) {
         let line = line?;
         let text = line.as_str();
         if text.starts_with('#') {
             println!(rt; "{text}")?;
         } else {
-            answer(&rt, text)?;
+            answer(rt, text)?;
         }
     }
     Ok(())

@@ -1,8 +1,8 @@
 //! Answers each line of standard input at once, for scripts that end what takes too long: how many nanoseconds one call of the solver took,
 //! and how many solutions it found, at most two, or at most a hundred where they are listed.
 
-use crate::batches::Sitting;
-use crate::solving::{Task, timing_of_line};
+use crate::timing::batches::Sitting;
+use crate::timing::solving::{Task, timing_of_line};
 use std::alloc::Global;
 use std::io;
 use std::rt::Clock;

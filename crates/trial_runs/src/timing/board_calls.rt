@@ -3,11 +3,11 @@
 //!
 //! A line is a game, a class if there is one, and a game ID, with a space between; a line that begins with # is skipped.
 
-use crate::batches::{Call, nanoseconds_of};
-use crate::boards::{FILLINGS, Filling, session_of};
-use crate::checks::{BoardCheck, CHECKS};
-use crate::objects::BoardReply;
-use crate::times::{Subject, Times};
+use crate::timing::batches::{Call, nanoseconds_of};
+use crate::timing::boards::{FILLINGS, Filling, session_of};
+use crate::timing::checks::{BoardCheck, CHECKS};
+use crate::timing::objects::BoardReply;
+use crate::timing::times::{Subject, Times};
 use clue_rules::{Game, Towers, Unequal};
 use puzzle_json::Shows;
 use std::alloc::Global;

@@ -1,31 +1,28 @@
 //! One call in a run of its own, so that each of its requests for memory can be refused from outside.
 //!
-//! `refused_memory` lists the calls, each with its game. `refused_memory GAME CALL` makes one and writes how it was answered,
-//! `ok` or the name of the refusal; then `same` or `changed`, as the session is behind the call; then what the call made, as
-//! text. Where memory is refused before the call, it writes `fixture` alone; where it is refused behind the call, for the text,
-//! it writes `afterwards` alone.
+//! It writes how the call was answered, `ok` or the name of the refusal; then `same` or `changed`, as the session is after the call; then
+//! what the call made, as text. Where memory is refused before the call, it writes `fixture` alone; where it is refused after the call, for
+//! the text, it writes `afterwards` alone.
 //!
 //! ```text
-//! $ refused_memory towers restart
+//! $ trial_runs call towers restart
 //! ok
 //! changed
 //! ```
-#![tactic(auto)]
 
 mod call;
 mod fixture;
 mod made;
 mod twins;
 
-use crate::call::{CALLS, Call, NotMade, call_named, make};
-use crate::fixture::{Start, session_at};
-use crate::twins::are_equal;
+use crate::calls::call::{CALLS, Call, NotMade, call_named, make};
+use crate::calls::fixture::{Start, session_at};
+use crate::calls::twins::are_equal;
 use clue_rules::{Towers, Unequal};
 use play_midend::Session;
 use puzzle_cli::Draw;
 use std::io::Write;
-use std::rt::Env;
-use std::{env, io};
+use std::io;
 
 /// A Towers puzzle with one solution, 123 231 312.
 const TOWERS: &str = "3:3//////3/////";
@@ -33,23 +30,21 @@ const TOWERS: &str = "3:3//////3/////";
 /// An Unequal puzzle with the same solution.
 const UNEQUAL: &str = "3:0,0L,0L,0U,0,0,0U,0,0,";
 
-fn main(rt: HostRuntime) -> io::Result<()> {
-    let Ok(mut words) = env::args(&rt) else {
-        return println!(rt; "fixture");
-    };
-    let _program = words.next();
-    match (words.next(), words.next()) {
-        (Some(game), Some(name)) => match (game.as_str(), call_named(name.as_str())) {
-            ("towers", Some((start, call))) => tell::<Towers>(&rt, TOWERS, start, call),
-            ("unequal", Some((start, call))) => tell::<Unequal>(&rt, UNEQUAL, start, call),
-            _ => println!(rt; "no such call"),
-        },
-        _ => list(&rt),
+/// Makes the call with this name in a session of this game.
+pub(crate) fn make_call(
+    rt: &(impl Print + AllocGlobal),
+    game: &str,
+    name: &str,
+) -> io::Result<()> {
+    match (game, call_named(name)) {
+        ("towers", Some((start, call))) => tell::<Towers>(rt, TOWERS, start, call),
+        ("unequal", Some((start, call))) => tell::<Unequal>(rt, UNEQUAL, start, call),
+        _ => println!(rt; "no such call"),
     }
 }
 
-// Lists the calls.
-fn list(rt: &impl Print) -> io::Result<()> {
+/// Lists the calls, each with its game.
+pub(crate) fn list_calls(rt: &impl Print) -> io::Result<()> {
     for game in ["towers", "unequal"] {
         for (name, _, _) in CALLS.iter() {
             println!(rt; "{game} {name}")?;

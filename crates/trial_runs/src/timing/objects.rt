@@ -1,6 +1,6 @@
 //! The reply to the line `board` as a JSON object.
 
-use crate::batches::Call;
+use crate::timing::batches::Call;
 use play_midend::Session;
 use puzzle_cli::{Response, Voice};
 use puzzle_json::{Json, Shows};
