@@ -91,8 +91,8 @@ test-bodies:
 	@RT='$(RT)' tools/test_bodies $(CRATES)
 
 test-faults:
-	@cd crates/refused_memory && '$(RT)' run < /dev/null > /dev/null
-	@programs=$$($(WHERE)) && tools/test_faults "$$programs/puzzles" crates/refused_memory/out/refused_memory
+	@cd crates/trial_runs && '$(RT)' run -- calls < /dev/null > /dev/null
+	@programs=$$($(WHERE)) && tools/test_faults "$$programs/puzzles" crates/trial_runs/out/trial_runs
 
 test-saving:
 	@programs=$$($(WHERE)) && tools/test_saving "$$programs/puzzles"

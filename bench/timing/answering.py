@@ -26,7 +26,7 @@ class Timed(NamedTuple):
 
 
 class Answering:
-    """The program `bench`, or another that answers as it does: a line of nanoseconds and a count of solutions for each puzzle.
+    """The program of crates/trial_runs, or another that answers as it does: a line of nanoseconds and a count of solutions for each puzzle.
 
     It runs from the first question on. Where an answer takes more seconds of the processor than the limit, or a hundred times as many by the
     clock, it is killed, and begun again at the next question.
@@ -108,7 +108,7 @@ def processor_time(process: int) -> int:
 
 def solver(word: str, limit: float) -> Answering:
     """Our own program with a word: `each`, or `each-listing` for lists of solutions. BENCH names another build of it."""
-    program = os.environ.get('BENCH') or str(TOP / 'crates' / 'bench' / 'out' / 'bench')
+    program = os.environ.get('BENCH') or str(TOP / 'crates' / 'trial_runs' / 'out' / 'trial_runs')
     if not os.path.isfile(program):
         sys.exit(f'{program} is not built yet; make bench builds it')
     return Answering([program, word], limit)

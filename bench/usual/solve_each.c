@@ -1,5 +1,5 @@
 /*
- * Answers each line of standard input, as our program `bench` does with the word `each`: how many nanoseconds one call of the usual
+ * Answers each line of standard input, as our program `trial_runs` does with the word `each`: how many nanoseconds one call of the usual
  * program's own solver takes, and how many solutions it tells, at most 2. A line is a game, a class if there is one, and a game ID.
  *
  * It is one program for each game, since the two files have the same names in them: built with -DTOWERS, or without, in front of the files

@@ -16,7 +16,7 @@ if TYPE_CHECKING:
     from building.crates import Listed
 
 #: The crates of the programs, each with the names under which its program is left in build/.
-PROGRAMS: Dict[str, Tuple[str, ...]] = {'puzzles': ('puzzles',), 'puzzles_json': ('puzzles-json',)}
+PROGRAMS: Dict[str, Tuple[str, ...]] = {'puzzles': ('puzzles', 'puzzles-json')}
 
 #: What is known of the last build.
 STAMP = f'{TOP}/build/proved.txt'

@@ -23,9 +23,7 @@ SECONDS = {
     'puzzle_io': 82,
     'puzzle_cli': 298,
     'puzzle_json': 184,
-    'program_shell': 107,
     'puzzles': 171,
-    'puzzles_json': 187,
 }
 
 #: Of a crate that isn't in the table.

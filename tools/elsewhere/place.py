@@ -33,9 +33,7 @@ case $1 in
     ci)
         leave crates/puzzles puzzles
         leave crates/puzzles puzzles.by-rattle
-        leave crates/puzzles_json puzzles_json
-        leave crates/puzzles_json puzzles_json.by-rattle
-        leave crates/refused_memory refused_memory ;;
+        leave crates/trial_runs trial_runs ;;
 esac
 [ -z "$RT_SAYS" ] || echo "$RT_SAYS"
 exit "${RT_STATUS:-0}"

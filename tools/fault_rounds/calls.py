@@ -1,4 +1,4 @@
-"""Memory is refused to the calls of crates/refused_memory, one call a run.
+"""Memory is refused to the calls of crates/trial_runs, one call a run.
 
 What a run writes begins with the answer and with how the session is behind it.
 """
@@ -34,7 +34,7 @@ class Calls:
         self.full_game, self.full_first = '', 1
 
     def rounds(self) -> None:
-        listed = run([self.program], self.room).output.decode()
+        listed = run([self.program, 'calls'], self.room).output.decode()
         for line in listed.splitlines():
             game, call = line.split()
             self.refuse(game, call)
@@ -73,7 +73,7 @@ class Calls:
 
     def answer(self, game: str, call: str, at: int, is_on: bool) -> Answer:
         env = self.library.env('memory', at, on=is_on)
-        ended = run([self.program, game, call], self.room, env=env, seconds=60)
+        ended = run([self.program, 'call', game, call], self.room, env=env, seconds=60)
         return Answer(ended.status, ended.output, self.library.met().calls)
 
 

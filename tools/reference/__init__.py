@@ -2,5 +2,5 @@
 
 It reads and writes saves and descriptions, plays their moves, damages saves, and makes seeded games. It is slow and plain on
 purpose, shares nothing with the crates, and no program uses it: `tools/reference_answers` makes the wanted output of
-`crates/reference_tests` by it, and `tools/test_reference` compares. `bench/families` makes puzzles for measurements by it.
+`crates/trial_runs` by it, and `tools/test_reference` compares. `bench/families` makes puzzles for measurements by it.
 """

@@ -1,4 +1,4 @@
-"""What `crates/reference_tests` prints for each line of its input."""
+"""What `crates/trial_runs` answers to each request of its input."""
 
 from __future__ import annotations
 

@@ -9,7 +9,7 @@ from typing import Dict, Iterator, List, NamedTuple, Tuple
 from trusting.definitions import ROOT, Meaning, Part, imports
 
 #: Crates whose impls are for tests and measurements alone.
-FOR_TESTS = re.compile(r'tests$|^bench$|^refused_memory$')
+FOR_TESTS = re.compile(r'tests$|^trial_runs$')
 
 #: An item of a file, from its attributes and comments to its end.
 TYPE = re.compile(r'^((?: *(?://|#\[).*\n)*)pub(?:\(crate\))? (?:struct|enum) (\w+)[^;{]*(?:;|\{(?:.*\n)*?\}\n)', re.MULTILINE)

@@ -1,12 +1,23 @@
-//! Towers and Unequal as text programs: `puzzles GAME [--id ID] [--load FILE] [--save FILE]`.
+//! Towers and Unequal as programs: `puzzles GAME [--id ID] [--load FILE] [--save FILE]`, and `puzzles-json` with the same words.
 //!
-//! Each line of standard input is answered by lines of text on standard output.
+//! Each line of standard input is answered on standard output: by lines of text, or, where the program is called `puzzles-json`, by
+//! one JSON object on one line ([`manner`]). The words of the process, the file to load, the first session, the run from standard
+//! input to standard output, the file to save to, in this order ([`whole_game`]). The first fault ends the program with its status and
+//! its line on standard error; help goes to standard output ([`ending`]).
 #![tactic(auto)]
 
-use program_shell::{play_words, status_of};
-use puzzle_cli::{PUZZLES, Plain};
+mod ending;
+mod json_texts;
+mod load_file;
+mod manner;
+mod process_words;
+mod system_files;
+mod whole_game;
+
+use crate::ending::status_of;
+use crate::whole_game::play_words;
 use std::process::ExitCode;
 
 fn main(rt: HostRuntime) -> ExitCode {
-    ExitCode::from(status_of(&rt, play_words::<Plain, _>(&rt, &PUZZLES)))
+    ExitCode::from(status_of(&rt, play_words(&rt)))
 }

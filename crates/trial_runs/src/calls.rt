@@ -1,0 +1,92 @@
+//! One call in a run of its own, so that each of its requests for memory can be refused from outside.
+//!
+//! It writes how the call was answered, `ok` or the name of the refusal; then `same` or `changed`, as the session is after the call; then
+//! what the call made, as text. Where memory is refused before the call, it writes `fixture` alone; where it is refused after the call, for
+//! the text, it writes `afterwards` alone.
+//!
+//! ```text
+//! $ trial_runs call towers restart
+//! ok
+//! changed
+//! ```
+
+mod call;
+mod fixture;
+mod made;
+mod twins;
+
+use crate::calls::call::{CALLS, Call, NotMade, call_named, make};
+use crate::calls::fixture::{Start, session_at};
+use crate::calls::twins::are_equal;
+use clue_rules::{Towers, Unequal};
+use play_midend::Session;
+use puzzle_cli::Draw;
+use std::io::Write;
+use std::io;
+
+/// A Towers puzzle with one solution, 123 231 312.
+const TOWERS: &str = "3:3//////3/////";
+
+/// An Unequal puzzle with the same solution.
+const UNEQUAL: &str = "3:0,0L,0L,0U,0,0,0U,0,0,";
+
+/// Makes the call with this name in a session of this game.
+pub(crate) fn make_call(
+    rt: &(impl Print + AllocGlobal),
+    game: &str,
+    name: &str,
+) -> io::Result<()> {
+    match (game, call_named(name)) {
+        ("towers", Some((start, call))) => tell::<Towers>(rt, TOWERS, start, call),
+        ("unequal", Some((start, call))) => tell::<Unequal>(rt, UNEQUAL, start, call),
+        _ => println!(rt; "no such call"),
+    }
+}
+
+/// Lists the calls, each with its game.
+pub(crate) fn list_calls(rt: &impl Print) -> io::Result<()> {
+    for game in ["towers", "unequal"] {
+        for (name, _, _) in CALLS.iter() {
+            println!(rt; "{game} {name}")?;
+        }
+    }
+    Ok(())
+}
+
+// Makes a call in one of two sessions that are equal, and says what came of it.
+fn tell<P: Draw>(
+    rt: &(impl Print + AllocGlobal),
+    id: &str,
+    start: Start,
+    call: &Call,
+) -> io::Result<()> {
+    let alloc = rt.alloc();
+    let (Some(mut session), Some(mut twin)) = (
+        session_at::<P>(alloc, id, start),
+        session_at::<P>(alloc, id, start),
+    ) else {
+        return println!(rt; "fixture");
+    };
+    let made = match make(alloc, id, &mut session, call) {
+        Ok(made) => made,
+        Err(NotMade::Fixture) => return println!(rt; "fixture"),
+        Err(NotMade::Refused(name)) => {
+            let likeness = likeness(&mut session, &mut twin);
+            return println!(rt; "{name}\n{likeness}");
+        }
+    };
+    let likeness = likeness(&mut session, &mut twin);
+    let Ok(text) = made.text(alloc) else {
+        return println!(rt; "afterwards");
+    };
+    println!(rt; "ok\n{likeness}")?;
+    io::writer(rt).write_all(&text)
+}
+
+fn likeness<P: Draw>(session: &mut Session<P>, twin: &mut Session<P>) -> &'static str {
+    if are_equal(session, twin) {
+        "same"
+    } else {
+        "changed"
+    }
+}

@@ -1,0 +1,92 @@
+//! Answers lines of requests whose answers were made elsewhere: by the usual program, by its manual, and by tools/reference,
+//! which is written from docs/RULES.md and docs/FORMATS.md alone and makes the wanted output.
+//!
+//! | line | answer |
+//! |---|---|
+//! | `load FILE` | what becomes of a save: the refusal's name; or the status, the game ID, and `respelled` where the session is written otherwise |
+//! | `damage FILE` | for each kind of damage how many texts were made of the save, a digest of the answers to them in order, and how often each answer came |
+//! | `each FILE` | the answer to each of these texts, for where a digest isn't the wanted one |
+//! | `square SIZE SEED` | the numbers of a seed's square |
+//! | `towers SIZE SEED`, `unequal SIZE SEED` | the ID of a seed's game |
+//!
+//! A line that begins with # comes back as it is. Files lie in data/, in a folder for each game: fresh-, solved- and played- ones were
+//! written by the usual program (bench/README.md), worked- ones by hand.
+//!
+//! ```text
+//! $ printf 'load towers/worked-undone.sav\nsquare 3 0\n' | trial_runs answers
+//! towers/worked-undone.sav; ok; playing 2/3; 3:3//////3/////;
+//! square 3 0 132213321
+//! ```
+
+mod answers;
+mod damage;
+mod saves;
+mod seeded;
+
+use crate::requests::saves::{Detail, print_damaged, print_loaded};
+use crate::requests::seeded::seeded_answer;
+use clue_rules::{Game, Towers, Unequal};
+use std::rt::Files;
+use std::{fs, io};
+
+/// What is asked of a save.
+#[derive(Clone, Copy)]
+enum Request {
+    Load,
+    Damage(Detail),
+}
+
+fn answer_save<P: Game>(
+    rt: &(impl Files + Print + AllocGlobal),
+    request: Request,
+    name: &str,
+) -> io::Result<()> {
+    let text = fs::read(rt, name)?;
+    match request {
+        Request::Load => print_loaded::<P>(rt, name, &text),
+        Request::Damage(detail) => print_damaged::<P>(rt, detail, &text),
+    }
+}
+
+// The folder says which game it is.
+fn answer_file(
+    rt: &(impl Files + Print + AllocGlobal),
+    request: Request,
+    name: &str,
+) -> io::Result<()> {
+    if name.starts_with("towers/") {
+        answer_save::<Towers>(rt, request, name)
+    } else {
+        answer_save::<Unequal>(rt, request, name)
+    }
+}
+
+fn answer(rt: &(impl Files + Print + AllocGlobal), line: &str) -> io::Result<()> {
+    match line.split_once(' ') {
+        Some(("load", name)) => answer_file(rt, Request::Load, name),
+        Some(("each", name)) => answer_file(rt, Request::Damage(Detail::Each), name),
+        Some(("damage", name)) => {
+            println!(rt; "{line}")?;
+            answer_file(rt, Request::Damage(Detail::Counts), name)
+        }
+        _ => {
+            let answer = seeded_answer(rt.alloc(), line)?;
+            let answer = String::from_utf8_lossy(rt.alloc(), &answer)?;
+            println!(rt; "{line} {}", answer.as_str())
+        }
+    }
+}
+
+/// Answers the lines of standard input.
+pub(crate) fn answer_requests(rt: &(impl Input + Files + Print + AllocGlobal)) -> io::Result<()> {
+    for line in rt.lines(rt.alloc()) {
+        let line = line?;
+        let text = line.as_str();
+        if text.starts_with('#') {
+            println!(rt; "{text}")?;
+        } else {
+            answer(rt, text)?;
+        }
+    }
+    Ok(())
+}

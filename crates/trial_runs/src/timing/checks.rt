@@ -1,0 +1,58 @@
+//! What a board's numbers say of its puzzle: its errors, a hint, and how many solutions keep them.
+
+use crate::timing::batches::Call;
+use board_checks::{Hint, errors, find_hint};
+use play_midend::Session;
+use puzzle_json::Shows;
+use std::alloc::Global;
+use trail_solver::{Answer, completion};
+
+/// Which of them is timed.
+#[derive(Clone, Copy)]
+pub(crate) enum Check {
+    Errors,
+    Hint,
+    Completion,
+}
+
+/// All of them.
+pub(crate) const CHECKS: [Check; 3] = [Check::Errors, Check::Hint, Check::Completion];
+
+impl Check {
+    /// Its name in the table.
+    pub(crate) fn name(self) -> &'static str {
+        match self {
+            Check::Errors => "errors",
+            Check::Hint => "hint",
+            Check::Completion => "completion",
+        }
+    }
+}
+
+/// A check of a session's board.
+#[derive(Drop)]
+pub(crate) struct BoardCheck<P: Shows> {
+    pub(crate) check: Check,
+    pub(crate) session: Session<P>,
+}
+
+impl<P: Shows> Call for BoardCheck<P> {
+    // The number is of no use but that it depends on what was found.
+    fn call(&mut self, _alloc: Global) -> u64 {
+        let puzzle = self.session.puzzle();
+        let grid = self.session.board().grid();
+        match self.check {
+            Check::Errors => u64::from(errors(puzzle, grid).any()),
+            Check::Hint => match find_hint(puzzle, grid) {
+                Hint::Follows { cell, .. } => cell as u64,
+                Hint::Nothing => 100,
+                Hint::Contradiction => 101,
+            },
+            Check::Completion => match completion(puzzle, grid) {
+                Answer::None => 0,
+                Answer::One(_) => 1,
+                Answer::Several(_, _) => 2,
+            },
+        }
+    }
+}
