@@ -2,7 +2,7 @@
 
 from __future__ import annotations
 
-from typing import NamedTuple, Sequence, Tuple
+from typing import List, NamedTuple, Sequence, Tuple
 
 from harness.game import ID, PICTURE
 from outside.runs import Run
@@ -31,3 +31,8 @@ def run_of(game: Game) -> Run:
     lines = ''.join(f'{line}\n' for line, _ in game.script)
     replies = ''.join(f'{reply}\n' for _, reply in game.script if reply)
     return Run(game.name, [game.game], lines.encode(), output=replies.encode())
+
+
+def with_status(rows: Sequence[Tuple[str, str, str]]) -> List[Row]:
+    """Lines with their replies, each with what `status` tells then."""
+    return [row for line, reply, status in rows for row in ((line, reply), ('status', status))]

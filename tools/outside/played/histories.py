@@ -2,7 +2,7 @@
 
 from __future__ import annotations
 
-from outside.played.game import SMALL_GAME, SMALL_SOLVED, SMALL_START, Game
+from outside.played.game import SMALL_GAME, SMALL_SOLVED, SMALL_START, Game, with_status
 
 #: All numbers of the small game's solution but the last.
 ALL_BUT_ONE = [
@@ -16,7 +16,53 @@ ALL_BUT_ONE = [
     ('move R1,2,1', 'ok'),
 ]
 
+FULL = 'playing 100000/100000'
+
 GAMES = [
+    Game(
+        'each call, and the status after it',
+        'towers',
+        [
+            SMALL_GAME,
+            *with_status(
+                [
+                    ('undo', 'refused: NothingToUndo', 'playing 1/1'),
+                    ('move R0,0,3', 'ok', 'playing 2/2'),
+                    ('redo', 'refused: NothingToRedo', 'playing 2/2'),
+                    ('solve', 'S123231312', 'helped 3/3'),
+                    ('undo', 'ok', 'playing 2/3'),
+                    ('redo', 'ok', 'helped 3/3'),
+                    ('restart', 'ok', 'playing 4/4'),
+                ]
+            ),
+        ],
+    ),
+    # Nine numbers that solve the puzzle.
+    Game(
+        'marks on a completed board, and the status after each',
+        'towers',
+        [
+            SMALL_GAME,
+            *with_status(
+                [
+                    ('move R0,0,1', 'ok', 'playing 2/2'),
+                    ('move R1,0,2', 'ok', 'playing 3/3'),
+                    ('move R2,0,3', 'ok', 'playing 4/4'),
+                    ('move R0,1,2', 'ok', 'playing 5/5'),
+                    ('move R1,1,3', 'ok', 'playing 6/6'),
+                    ('move R2,1,1', 'ok', 'playing 7/7'),
+                    ('move R0,2,3', 'ok', 'playing 8/8'),
+                    ('move R1,2,1', 'ok', 'playing 9/9'),
+                    ('move R2,2,2', 'ok', 'solved 10/10'),
+                    ('move P0,0,1', 'refused: FilledSquare', 'solved 10/10'),
+                    ('move M', 'ok', 'solved 11/11'),
+                    ('move R0,0,0', 'ok', 'solved 12/12'),
+                    ('move P0,0,1', 'ok', 'solved 13/13'),
+                    ('move M', 'ok', 'solved 14/14'),
+                ]
+            ),
+        ],
+    ),
     Game(
         'a number takes the pencil marks with it, and undo brings them back',
         'towers',
@@ -143,15 +189,20 @@ GAMES = [
         [
             SMALL_GAME,
             *[('move P0,0,1', 'ok')] * 99_999,
-            ('status', 'playing 100000/100000'),
+            ('status', FULL),
             ('marks', '0,0:1'),
-            ('move P0,0,1', 'refused: HistoryFull'),
-            ('move R9,0,1', 'refused: OffGrid'),
-            ('restart', 'refused: HistoryFull'),
-            ('solve', 'refused: HistoryFull'),
-            ('undo', 'ok'),
-            ('move M', 'ok'),
-            ('status', 'playing 100000/100000'),
+            *with_status(
+                [
+                    ('move P0,0,1', 'refused: HistoryFull', FULL),
+                    ('restart', 'refused: HistoryFull', FULL),
+                    ('move S123231312', 'refused: HistoryFull', FULL),
+                    ('solve', 'refused: HistoryFull', FULL),
+                    ('move S132213321', 'refused: BadSolution', FULL),
+                    ('move R9,0,1', 'refused: OffGrid', FULL),
+                    ('undo', 'ok', 'playing 99999/100000'),
+                    ('move M', 'ok', FULL),
+                ]
+            ),
         ],
     ),
 ]
