@@ -1,8 +1,8 @@
-"""The pictures of both games."""
+"""The pictures of both games, and the other views beside them."""
 
 from __future__ import annotations
 
-from outside.played.game import Game
+from outside.played.game import SMALL_GAME, Game
 
 GAMES = [
     Game(
@@ -34,6 +34,21 @@ GAMES = [
             ('move R3,0,4', 'ok'),
             ('move R0,3,2', 'ok'),
             ('show', '+ 1 - - 2 +\n1 . . . 4 2\n- . . . . -\n- . . . . -\n3 2 . . . 4\n+ 3 - - 4 +'),
+        ],
+    ),
+    Game(
+        'each view of a session',
+        'towers',
+        [
+            SMALL_GAME,
+            ('move P0,0,3', 'ok'),
+            ('move P0,0,1', 'ok'),
+            ('move R1,1,2', 'ok'),
+            ('move D-1,0', 'ok'),
+            ('show', '+ 3 - - +\n3 . . . -\n- . 2 . -\n- . . . -\n+ - - - +'),
+            ('marks', '0,0:13'),
+            ('status', 'playing 5/5'),
+            ('done', '-1,0'),
         ],
     ),
 ]
