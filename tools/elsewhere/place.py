@@ -12,14 +12,11 @@ from harness.terminal import Terminal
 from harness.users import ANNA
 
 #: Does what `rt` does as far as the scripts know: `lib` leaves statements in `out/`, `run` and `ci` leave programs there, and all say what they were asked.
-#: RT_PROGRAM is the program that is left, RT_OBJECTS that in the place of puzzles-json, RT_SAYS what is printed besides, RT_STATUS the status, and
-#: RT_VERSION the line of the kit.
+#: RT_PROGRAM is the program that is left, RT_SAYS what is printed besides, RT_STATUS the status, and RT_VERSION the line of the kit.
 RT = b"""\
 #!/bin/sh
 leave() {
-    program=$RT_PROGRAM
-    case $2 in puzzles_json*) program=${RT_OBJECTS:-$RT_PROGRAM} ;; esac
-    [ -z "$program" ] || { mkdir -p "$1/out" && cp "$program" "$1/out/$2"; }
+    [ -z "$RT_PROGRAM" ] || { mkdir -p "$1/out" && cp "$RT_PROGRAM" "$1/out/$2"; }
 }
 [ "$1" != version ] || { echo "${RT_VERSION:-a kit that proves nothing}"; exit; }
 echo "asked for $* in ${PWD##*/}"
@@ -60,7 +57,7 @@ class Place(Checkout):
 
     def env(self, more: Mapping[str, str]) -> Dict[str, str]:
         """`rt` is the one of this place, and the programs that it leaves are the one that is tested, or as is said."""
-        return super().env({'RT': self.rt, 'RT_PROGRAM': self.program, 'RT_OBJECTS': self.objects, 'TMPDIR': self._temporary, **more})
+        return super().env({'RT': self.rt, 'RT_PROGRAM': self.program, 'TMPDIR': self._temporary, **more})
 
     def terminal(self, *words: str, **env: str) -> Terminal:
         """A command in a terminal. The named words are what else the environment has."""

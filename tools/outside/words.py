@@ -5,12 +5,34 @@ from __future__ import annotations
 from harness.game import ID
 from outside.runs import Run, Tests
 
+#: What stands below a refusal of words.
+MORE = b"\n\nFor more information, try '--help'.\n"
+
 #: What is said of a word that is none, without a tip.
-UNEXPECTED = b"error: unexpected argument '%s' found\n\nUsage: puzzles [OPTIONS] <GAME>\n\nFor more information, try '--help'.\n"
+UNEXPECTED = b"error: unexpected argument '%s' found\n\nUsage: puzzles [OPTIONS] <GAME>" + MORE
+
+NO_GAME = b"""error: the following required arguments were not provided:
+  <GAME>
+
+  tip: to play on a board, use puzzles-play
+
+Usage: puzzles <GAME>"""
+
+NO_OPTION = b"""error: unexpected argument '5!7' found
+
+  tip: did you mean --id '5!7'?
+
+Usage: puzzles [OPTIONS] <GAME>"""
+
+ALMOST_AN_OPTION = b"""error: unexpected argument '--lod' found
+
+  tip: a similar argument exists: '--load'
+
+Usage: puzzles --load <FILE> <GAME>"""
 
 #: Refused words, with what standard error has to name.
 REFUSED = [
-    Run('no words', [], status=2, error_has=[b'required arguments were not provided', b'<GAME>', b'tip: to play on a board, use puzzles-play']),
+    Run('no words', [], status=2, error=NO_GAME + MORE),
     Run('a game that is not there', ['chess'], status=2, error_has=[b'[possible values: towers, unequal]']),
     Run('a game in capitals', ['Towers'], status=2, error_has=[b"invalid value 'Towers'"]),
     Run('an ID and a file to load', ['towers', '--id', '3', '--load', 'f'], status=2, error_has=[b'cannot be used with']),
@@ -18,11 +40,12 @@ REFUSED = [
     Run('an option that is not there', ['towers', '--seed', '7'], status=2, error_has=[b"'--seed'"]),
     Run('an option without its value', ['towers', '--id'], status=2, error_has=[b"'--id <ID>'"]),
     Run('an option twice', ['towers', '--id', '3', '--id', '3'], status=2, error_has=[b"'--id <ID>'"]),
-    Run('an ID without its option', ['towers', '5!7'], status=2, error_has=[b"unexpected argument '5!7'", b"tip: did you mean --id '5!7'?"]),
+    Run('an ID without its option', ['towers', '5!7'], status=2, error=NO_OPTION + MORE),
     Run('a described game without its option', ['towers', ID], status=2, error_has=[b'tip: did you mean --id ']),
     Run('a letter that is no option', ['towers', '-x'], status=2, error=UNEXPECTED % b'-x'),
     Run('an ID that begins as an option', ['towers', '--id', '-3'], status=2, error=UNEXPECTED % b'-3'),
-    Run('a word too many', ['towers', 'unequal'], status=2, error_has=[b"'unequal'"]),
+    Run('a word too many', ['towers', 'unequal'], status=2, error=UNEXPECTED % b'unequal'),
+    Run('an option with a letter left out', ['towers', '--lod', 'f'], status=2, error=ALMOST_AN_OPTION + MORE),
     Run('a word that is no UTF-8', ['towers', '--id', b'\xff'], status=2, error_has=[b'UTF-8', b'--help']),
     Run(
         'refused words leave the files alone',

@@ -1,4 +1,4 @@
-//! The subjects, from boards and texts up to sessions, and `worked`: what tests of both games share.
+//! The subjects, from sets and texts up to whole runs; the tables (`rows`); and what tests of both games share (`worked`).
 
 mod board_errors;
 mod boards;
@@ -7,8 +7,11 @@ mod completions;
 mod devices;
 mod faults;
 mod game_ids;
+mod games;
 mod narrowing;
-mod parameters;
+mod rows;
+mod runs;
+mod saves;
 mod saving;
 mod seeded_games;
 mod sessions;
@@ -18,4 +21,5 @@ mod towers_lines;
 mod towers_puzzles;
 mod towers_texts;
 mod unequal_puzzles;
+mod words;
 mod worked;

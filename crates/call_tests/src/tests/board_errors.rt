@@ -1,104 +1,129 @@
 //! What contradicts the rules on boards of width 3, in both games. What is wanted follows from the rules by hand.
 
-use super::worked::puzzle;
-use board_checks::{Demands, Spot, errors};
+use super::rows::{Row, check};
+use super::worked::{Described, grid_of, puzzle};
+use board_checks::{BoardErrors, Demands, Spot, errors};
 use clue_rules::{Game, Towers, Unequal};
-use latin_board::{Grid, Size};
-use std::test::Fail;
+use std::alloc::Global;
 
-// The grid whose squares in reading order are these digits, 0 for a blank one.
-fn grid(digits: &str) -> Result<Grid, Fail> {
-    let mut grid = Grid::blank(Size::new(3).ok_or("no such size")?);
-    for (cell, digit) in digits.as_bytes().iter().enumerate() {
-        let width = grid.size().get();
-        let number = digit.saturating_sub(b'0');
-        if cell < width as usize * width as usize && number <= width {
-            grid.set(cell, number);
-        }
-    }
-    Ok(grid)
+// A puzzle, a board as digits, and just the squares and spots of it that are errors.
+struct Wrong(
+    Described,
+    &'static str,
+    &'static [usize],
+    &'static [Spot],
+);
+
+// Whether just these squares and these spots are errors.
+fn has_just(found: &BoardErrors, repeated: &[usize], broken: &[Spot]) -> bool {
+    let is_any = !repeated.is_empty() || !broken.is_empty();
+    found.any() == is_any && has_just_squares(found, repeated, broken) && has_just_edges(found, broken)
 }
 
-// Whether just these squares and these spots are errors of the board.
-fn has_just<P: Game + Demands>(
+fn has_just_squares(found: &BoardErrors, repeated: &[usize], broken: &[Spot]) -> bool {
+    let mut same = true;
+    for cell in 0..9usize {
+        let (right, below) = (Spot::RightOf { cell }, Spot::Below { cell });
+        same = same
+            && found.is_repeated(cell) == repeated.contains(&cell)
+            && found.is_broken(right) == broken.contains(&right)
+            && found.is_broken(below) == broken.contains(&below);
+    }
+    same
+}
+
+fn has_just_edges(found: &BoardErrors, broken: &[Spot]) -> bool {
+    let mut same = true;
+    for place in 0..12u8 {
+        let spot = Spot::Edge { place };
+        same = same && found.is_broken(spot) == broken.contains(&spot);
+    }
+    same
+}
+
+fn is_wrong<P: Game + Demands>(
     text: &str,
     digits: &str,
     repeated: &[usize],
     broken: &[Spot],
-) -> Result<bool, Fail> {
-    let puzzle: P = puzzle(3, text)?;
-    let grid = grid(digits)?;
-    if grid.size().get() != puzzle.size().get() {
-        return Ok(false);
+) -> bool {
+    match (puzzle::<P>(3, text), grid_of(3, digits)) {
+        (Ok(p), Some(grid)) if grid.size().get() == p.size().get() => {
+            has_just(&errors(&p, &grid), repeated, broken)
+        }
+        _ => false,
     }
-    let found = errors(&puzzle, &grid);
-    let mut same = found.any() == (!repeated.is_empty() || !broken.is_empty());
-    for cell in 0..9 {
-        same = same && found.is_repeated(cell) == repeated.contains(&cell);
-        for spot in [Spot::RightOf { cell }, Spot::Below { cell }] {
-            same = same && found.is_broken(spot) == broken.contains(&spot);
+}
+
+impl Row for Wrong {
+    fn holds(&self, _alloc: Global) -> bool {
+        match self.0 {
+            Described::Towers(text) => is_wrong::<Towers>(text, self.1, self.2, self.3),
+            Described::Unequal(text) => is_wrong::<Unequal>(text, self.1, self.2, self.3),
         }
     }
-    for place in 0..12 {
-        let spot = Spot::Edge { place };
-        same = same && found.is_broken(spot) == broken.contains(&spot);
-    }
-    Ok(same)
 }
 
-// The spot of an edge clue.
-fn edge(place: u8) -> Spot {
-    Spot::Edge { place }
-}
+// The spots of the clues above and below the first column, and left and right of the first row.
+const ABOVE: Spot = Spot::Edge { place: 0 };
 
-// The spot of a sign towards the right neighbour.
-fn right(cell: usize) -> Spot {
-    Spot::RightOf { cell }
-}
+const BENEATH: Spot = Spot::Edge { place: 3 };
 
-// The spot of a sign towards the lower neighbour.
-fn below(cell: usize) -> Spot {
-    Spot::Below { cell }
-}
+const LEFT: Spot = Spot::Edge { place: 6 };
+
+const RIGHT: Spot = Spot::Edge { place: 9 };
 
 #[test]
-fn finds_errors_of_towers(rt: HostRuntime) -> Result<(), Fail> {
+fn finds_errors_of_towers(rt: HostRuntime) {
     // From above the first column and from the left of the first row 3 towers are seen.
-    let rising = "3//////3/////";
-    assert!(rt; has_just::<Towers>(rising, "000000000", &[], &[])?);
-    assert!(rt; has_just::<Towers>(rising, "123231312", &[], &[])?);
-    assert!(rt; has_just::<Towers>(rising, "000000002", &[], &[])?);
-    assert!(rt; has_just::<Towers>(rising, "132213321", &[], &[edge(6)])?);
-    assert!(rt; has_just::<Towers>(rising, "200000000", &[], &[edge(0), edge(6)])?);
-    assert!(rt; has_just::<Towers>(rising, "030000000", &[], &[edge(6)])?);
-    assert!(rt; has_just::<Towers>(rising, "110000000", &[0, 1], &[edge(6)])?);
-    assert!(rt; has_just::<Towers>(rising, "000020020", &[4, 7], &[])?);
-    assert!(rt; has_just::<Towers>(rising, "100000100", &[0, 6], &[edge(0)])?);
+    const RISING: Described = Described::Towers("3//////3/////");
     // From below the first column 1 is seen, and from the right of the first row 2 are.
-    let falling = "///1//////2//";
-    assert!(rt; has_just::<Towers>(falling, "001000300", &[], &[])?);
-    assert!(rt; has_just::<Towers>(falling, "003000100", &[], &[edge(3), edge(9)])?);
-    Ok(())
+    const FALLING: Described = Described::Towers("///1//////2//");
+    const ROWS: &[Wrong] = &[
+        Wrong(RISING, "000000000", &[], &[]),
+        Wrong(RISING, "123231312", &[], &[]),
+        Wrong(RISING, "000000002", &[], &[]),
+        Wrong(RISING, "132213321", &[], &[LEFT]),
+        Wrong(RISING, "200000000", &[], &[ABOVE, LEFT]),
+        Wrong(RISING, "030000000", &[], &[LEFT]),
+        Wrong(RISING, "110000000", &[0, 1], &[LEFT]),
+        Wrong(RISING, "000020020", &[4, 7], &[]),
+        Wrong(RISING, "100000100", &[0, 6], &[ABOVE]),
+        Wrong(FALLING, "001000300", &[], &[]),
+        Wrong(FALLING, "003000100", &[], &[BENEATH, RIGHT]),
+    ];
+    check(&rt, rt.alloc(), ROWS);
 }
 
+// The spots of signs: towards the right neighbour of a square, and towards the one below it.
+const RIGHT_OF_0: Spot = Spot::RightOf { cell: 0 };
+
+const RIGHT_OF_1: Spot = Spot::RightOf { cell: 1 };
+
+const BELOW_0: Spot = Spot::Below { cell: 0 };
+
+const BELOW_3: Spot = Spot::Below { cell: 3 };
+
 #[test]
-fn finds_errors_of_unequal(rt: HostRuntime) -> Result<(), Fail> {
+fn finds_errors_of_unequal(rt: HostRuntime) {
     // The first row rises, and so does the first column.
-    let rising = "0,0L,0L,0U,0,0,0U,0,0,";
-    assert!(rt; has_just::<Unequal>(rising, "000000000", &[], &[])?);
-    assert!(rt; has_just::<Unequal>(rising, "123231312", &[], &[])?);
-    assert!(rt; has_just::<Unequal>(rising, "200000000", &[], &[])?);
-    assert!(rt; has_just::<Unequal>(rising, "132213321", &[], &[right(1)])?);
-    assert!(rt; has_just::<Unequal>(rising, "300000000", &[], &[right(0), below(0)])?);
-    assert!(rt; has_just::<Unequal>(rising, "210000000", &[], &[right(0)])?);
-    assert!(rt; has_just::<Unequal>(rising, "001000000", &[], &[right(1)])?);
-    assert!(rt; has_just::<Unequal>(rising, "220000000", &[0, 1], &[right(0)])?);
-    assert!(rt; has_just::<Unequal>(rising, "000000100", &[], &[below(3)])?);
-    assert!(rt; has_just::<Unequal>(rising, "000020020", &[4, 7], &[])?);
+    const RISING: Described = Described::Unequal("0,0L,0L,0U,0,0,0U,0,0,");
     // The first square of the first row holds more than the second.
-    let falling = "0R,0,0,0,0,0,0,0,0,";
-    assert!(rt; has_just::<Unequal>(falling, "120000000", &[], &[right(0)])?);
-    assert!(rt; has_just::<Unequal>(falling, "100000000", &[], &[right(0)])?);
-    assert!(rt; has_just::<Unequal>(falling, "320000000", &[], &[])?);
-    Ok(())
+    const FALLING: Described = Described::Unequal("0R,0,0,0,0,0,0,0,0,");
+    const ROWS: &[Wrong] = &[
+        Wrong(RISING, "000000000", &[], &[]),
+        Wrong(RISING, "123231312", &[], &[]),
+        Wrong(RISING, "200000000", &[], &[]),
+        Wrong(RISING, "132213321", &[], &[RIGHT_OF_1]),
+        Wrong(RISING, "300000000", &[], &[RIGHT_OF_0, BELOW_0]),
+        Wrong(RISING, "210000000", &[], &[RIGHT_OF_0]),
+        Wrong(RISING, "001000000", &[], &[RIGHT_OF_1]),
+        Wrong(RISING, "220000000", &[0, 1], &[RIGHT_OF_0]),
+        Wrong(RISING, "000000100", &[], &[BELOW_3]),
+        Wrong(RISING, "000020020", &[4, 7], &[]),
+        Wrong(FALLING, "120000000", &[], &[RIGHT_OF_0]),
+        Wrong(FALLING, "100000000", &[], &[RIGHT_OF_0]),
+        Wrong(FALLING, "320000000", &[], &[]),
+    ];
+    check(&rt, rt.alloc(), ROWS);
 }

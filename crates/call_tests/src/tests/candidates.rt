@@ -1,10 +1,12 @@
 //! Candidates with their trail, and solving, over a small puzzle of the tests' own.
 
-ghost use Rattle.std.specs.Prelude.{◌≡◌, ◌&&◌, IfOk};
+ghost use Rattle.std.specs.Prelude.{◌≡◌, ◌&&◌};
 
+use super::rows::{Row, Same, check};
+use super::worked::grid_of;
 use latin_board::{Grid, Size};
 use number_sets::NumberSet;
-use std::test::Fail;
+use std::alloc::Global;
 use trail_solver::{Answer, Candidates, Rules, solutions, solve, solves};
 
 // A puzzle with one item, which is all that it asks: its givens, or, of a hopeless puzzle, what no grid has, and narrowing
@@ -125,191 +127,289 @@ impl Rules for Plain {
 }
 
 // The Latin squares of width 3, in order.
-const SQUARES: [[u8; 9]; 12] = [
-    [1, 2, 3, 2, 3, 1, 3, 1, 2],
-    [1, 2, 3, 3, 1, 2, 2, 3, 1],
-    [1, 3, 2, 2, 1, 3, 3, 2, 1],
-    [1, 3, 2, 3, 2, 1, 2, 1, 3],
-    [2, 1, 3, 1, 3, 2, 3, 2, 1],
-    [2, 1, 3, 3, 2, 1, 1, 3, 2],
-    [2, 3, 1, 1, 2, 3, 3, 1, 2],
-    [2, 3, 1, 3, 1, 2, 1, 2, 3],
-    [3, 1, 2, 1, 2, 3, 2, 3, 1],
-    [3, 1, 2, 2, 3, 1, 1, 2, 3],
-    [3, 2, 1, 1, 3, 2, 2, 1, 3],
-    [3, 2, 1, 2, 1, 3, 1, 3, 2],
+const SQUARES: &[&str] = &[
+    "123231312",
+    "123312231",
+    "132213321",
+    "132321213",
+    "213132321",
+    "213321132",
+    "231123312",
+    "231312123",
+    "312123231",
+    "312231123",
+    "321132213",
+    "321213132",
 ];
 
-fn size_of(width: u8) -> Result<Size, Fail>
-    ensures { IfOk result (λ size. size ≡ width) }
-{
-    Ok(Size::new(width).ok_or("no such width")?)
-}
-
-// A grid of width 3 with these numbers.
-fn grid_of(numbers: &[u8]) -> Result<Grid, Fail>
-    ensures { IfOk result (λ grid. grid.size ≡ 3) }
-{
-    let size = size_of(3)?;
-    let width = size.get();
-    let mut grid = Grid::blank(size);
-    for (cell, n) in numbers.iter().enumerate() {
-        if cell < width as usize * width as usize && *n <= width {
-            grid.set(cell, *n);
-        }
-    }
-    Ok(grid)
-}
-
-fn puzzle_of(numbers: &[u8]) -> Result<Plain, Fail>
-    ensures { IfOk result (λ p. p.givens.size ≡ 3) }
-{
-    Ok(Plain {
-        givens: grid_of(numbers)?,
+// The puzzle of width 3 with these givens, as digits.
+fn puzzle_of(givens: &str) -> Option<Plain> {
+    Some(Plain {
+        givens: grid_of(3, givens)?,
         hopeless: false,
         asked: true,
     })
 }
 
-#[test]
-fn trail_of_width_3(rt: HostRuntime) -> Result<(), Fail> {
-    let size = size_of(3)?;
-    let mut candidates = Candidates::all(size);
-    assert_eq!(rt; candidates.size(), size);
-    assert_eq!(rt; candidates.size().get(), 3);
-    assert_eq!(rt; candidates.trail_len(), 0);
-    assert_eq!(rt; candidates.values(0).bits(), 0b1110);
-    candidates.remove(0, 1);
-    let mark = candidates.mark();
-    assert_eq!(rt; mark.len(), 1);
-    candidates.remove(0, 1);
-    candidates.remove(0, 2);
-    assert_eq!(rt; candidates.trail_len(), 2);
-    assert_eq!(rt; candidates.only(0), Some(3));
-    assert_eq!(rt; candidates.values(0).bits(), 0b1000);
-    candidates.give_back(mark);
-    assert_eq!(rt; candidates.trail_len(), 1);
-    assert!(rt; candidates.may(0, 2));
-    assert!(rt; !candidates.may(0, 1));
-    assert_eq!(rt; candidates.only(0), None);
-    Ok(())
+// What is told of the first square: how long the trail is, the values as bits, and the only one.
+fn told_of_3(candidates: &Candidates) -> (usize, u16, Option<u8>) {
+    let _size = candidates.size();
+    (
+        candidates.trail_len(),
+        candidates.values(0).bits(),
+        candidates.only(0),
+    )
 }
 
 #[test]
-fn values_struck_together(rt: HostRuntime) -> Result<(), Fail> {
-    let size = size_of(3)?;
+fn trail_of_width_3(rt: HostRuntime) {
+    let size = Size::new(3).expect(&rt, "a size");
+    let mut candidates = Candidates::all(size);
+    let at_first = told_of_3(&candidates);
+    candidates.remove(0, 1);
+    let mark = candidates.mark();
+    let marked = mark.len();
+    candidates.remove(0, 1);
+    candidates.remove(0, 2);
+    let removed = told_of_3(&candidates);
+    candidates.give_back(mark);
+    let given_back = told_of_3(&candidates);
+    check(
+        &rt,
+        rt.alloc(),
+        &[
+            Same(at_first, (0, 0b1110, None)),
+            Same(removed, (2, 0b1000, Some(3))),
+            Same(given_back, (1, 0b1100, None)),
+        ],
+    );
+    assert!(rt; marked == 1 && candidates.size() == size);
+    assert!(rt; candidates.may(0, 2) && !candidates.may(0, 1));
+}
+
+#[test]
+fn values_struck_together(rt: HostRuntime) {
+    let size = Size::new(3).expect(&rt, "a size");
     let mut first = Candidates::all(size);
     first.remove(0, 1);
     let mut candidates = Candidates::all(size);
     candidates.strike(0, candidates.values(0).difference(NumberSet::one(3)));
-    assert_eq!(rt; candidates.trail_len(), 2);
-    assert_eq!(rt; candidates.values(0).bits(), 0b1000);
-    assert_eq!(rt; candidates.trail().size(), size);
-
+    let struck = told_of_3(&candidates);
+    let is_of_size = candidates.trail().size() == size;
     // Back to a mark between the two: the lesser one stays struck.
     candidates.give_back(first.mark());
-    assert_eq!(rt; candidates.trail_len(), 1);
-    assert_eq!(rt; candidates.values(0).bits(), 0b1100);
-    Ok(())
+    let given_back = told_of_3(&candidates);
+    check(
+        &rt,
+        rt.alloc(),
+        &[
+            Same(struck, (2, 0b1000, Some(3))),
+            Same(given_back, (1, 0b1100, None)),
+        ],
+    );
+    assert!(rt; is_of_size);
 }
 
-#[test]
-fn all_pairs_of_width_9(rt: HostRuntime) -> Result<(), Fail> {
-    let mut candidates = Candidates::all(size_of(9)?);
-    let start = candidates.mark();
-    for value in 1..10 {
-        for cell in 0..81 {
-            candidates.remove(80 - cell, value);
+// Takes every value from every square of width 9, from the last square on.
+fn remove_all(candidates: &mut Candidates) {
+    for value in 1..10u8 {
+        for cell in 0..81usize {
+            if candidates.size().get() == 9 {
+                candidates.remove(80 - cell, value);
+            }
         }
     }
-    assert_eq!(rt; candidates.trail_len(), 729);
-    candidates.remove(40, 5);
-    assert_eq!(rt; candidates.trail_len(), 729);
-    assert_eq!(rt; candidates.values(40).bits(), 0);
-    assert_eq!(rt; candidates.only(40), None);
-    candidates.give_back(start);
-    assert_eq!(rt; candidates.trail_len(), 0);
-    assert_eq!(rt; candidates.values(80).bits(), 0b11_1111_1110);
-    Ok(())
 }
 
-#[test]
-fn tells_solutions(rt: HostRuntime) -> Result<(), Fail> {
-    let p = puzzle_of(&[0, 0, 3, 0, 0, 0, 0, 0, 0])?;
-    for (numbers, want) in [
-        ([1, 2, 3, 2, 3, 1, 3, 1, 2], true),
-        ([1, 3, 2, 2, 1, 3, 3, 2, 1], false),
-        ([1, 2, 3, 1, 2, 3, 1, 2, 3], false),
-        ([1, 2, 3, 2, 3, 1, 3, 1, 0], false),
-    ] {
-        let grid = grid_of(&numbers)?;
-        assert_eq!(rt; solves(&p, &grid), want, "{numbers:?}");
+// How long the trail is, the values of two squares of width 9, as bits, and the only value of one.
+fn told_of_9(candidates: &Candidates) -> Option<(usize, u16, u16, Option<u8>)> {
+    if candidates.size().get() != 9 {
+        return None;
     }
-    Ok(())
+    Some((
+        candidates.trail_len(),
+        candidates.values(40).bits(),
+        candidates.values(80).bits(),
+        candidates.only(40),
+    ))
 }
 
 #[test]
-fn none_one_and_several(rt: HostRuntime) -> Result<(), Fail> {
-    let none = puzzle_of(&[1, 1, 0, 0, 0, 0, 0, 0, 0])?;
-    assert_eq!(rt; solve(&none), Answer::None);
-    let one = puzzle_of(&[1, 2, 0, 2, 0, 0, 0, 0, 0])?;
-    assert_eq!(rt;
-        solve(&one),
-        Answer::One(grid_of(&[1, 2, 3, 2, 3, 1, 3, 1, 2])?)
+fn all_pairs_of_width_9(rt: HostRuntime) {
+    let mut candidates = Candidates::all(Size::new(9).expect(&rt, "a size"));
+    let start = candidates.mark();
+    remove_all(&mut candidates);
+    let removed = told_of_9(&candidates);
+    remove_all(&mut candidates);
+    let again = told_of_9(&candidates);
+    assert!(rt; start.len() == 0);
+    candidates.give_back(start);
+    let given_back = told_of_9(&candidates);
+    check(
+        &rt,
+        rt.alloc(),
+        &[
+            Same(removed, Some((729, 0, 0, None))),
+            Same(again, Some((729, 0, 0, None))),
+            Same(given_back, Some((0, 0b11_1111_1110, 0b11_1111_1110, None))),
+        ],
     );
-    let several = puzzle_of(&[1, 2, 3, 0, 0, 0, 0, 0, 0])?;
-    let Answer::Several(first, second) = solve(&several) else {
-        return Err("one at most".into());
-    };
-    assert_ne!(rt; first, second);
-    assert!(rt; solves(&several, &first) && solves(&several, &second));
-    Ok(())
+}
+
+// A square as digits, and whether it solves the puzzle with a 3 in the last square of its first row.
+struct Told(&'static str, bool);
+
+impl Row for Told {
+    fn holds(&self, _alloc: Global) -> bool {
+        match (puzzle_of("003"), grid_of(3, self.0)) {
+            (Some(p), Some(grid)) if grid.size().get() == p.size().get() => {
+                solves(&p, &grid) == self.1
+            }
+            _ => false,
+        }
+    }
+}
+
+#[test]
+fn tells_solutions(rt: HostRuntime) {
+    const ROWS: &[Told] = &[
+        Told("123231312", true),
+        Told("132213321", false),
+        Told("123123123", false),
+        Told("123231310", false),
+    ];
+    check(&rt, rt.alloc(), ROWS);
+}
+
+// Givens, as digits, and how many solutions there are: none, the one that is named, or several.
+struct Solved(&'static str, Option<&'static str>, bool);
+
+fn differ_and_solve(p: &Plain, first: &Grid, second: &Grid) -> bool {
+    *first != *second
+        && first.size().get() == p.size().get()
+        && second.size().get() == p.size().get()
+        && solves(p, first)
+        && solves(p, second)
+}
+
+impl Row for Solved {
+    fn holds(&self, _alloc: Global) -> bool {
+        let Some(p) = puzzle_of(self.0) else {
+            return false;
+        };
+        match solve(&p) {
+            Answer::None => self.1.is_none() && !self.2,
+            Answer::One(grid) => match self.1 {
+                Some(digits) => grid_of(3, digits) == Some(grid),
+                None => false,
+            },
+            Answer::Several(first, second) => self.2 && differ_and_solve(&p, &first, &second),
+        }
+    }
+}
+
+#[test]
+fn none_one_and_several(rt: HostRuntime) {
+    const ROWS: &[Solved] = &[
+        Solved("11", None, false),
+        Solved("120200000", Some("123231312"), false),
+        Solved("123", None, true),
+    ];
+    check(&rt, rt.alloc(), ROWS);
+}
+
+// A puzzle, the most squares that are listed, and how many of the first squares there are then.
+#[derive(Clone, Copy)]
+struct Listed(Plain, u8, usize);
+
+impl Row for Listed {
+    fn holds(&self, alloc: Global) -> bool {
+        if self.1 < 1 || self.1 > 100 {
+            return false;
+        }
+        match solutions(alloc, &self.0, self.1) {
+            Ok(listed) => listed.len() == self.2,
+            Err(_) => false,
+        }
+    }
 }
 
 // Without narrowing there would be no end to this.
 #[test]
-fn solve_uses_narrow(rt: HostRuntime) -> Result<(), Fail> {
+fn solve_uses_narrow(rt: HostRuntime) {
     let p = Plain {
-        givens: Grid::blank(size_of(9)?),
+        givens: grid_of(9, "").expect(&rt, "a grid"),
         hopeless: true,
         asked: true,
     };
-    assert_eq!(rt; solve(&p), Answer::None);
-    assert_eq!(rt; solutions(rt.alloc(), &p, 100)?.len(), 0);
-    Ok(())
+    assert!(rt; solve(&p) == Answer::None);
+    check(&rt, rt.alloc(), &[Listed(p, 100, 0)]);
 }
 
-// Without its item a puzzle is solved by all squares of its width.
-#[test]
-fn one_item_is_all_that_is_asked(rt: HostRuntime) -> Result<(), Fail> {
-    for hopeless in [false, true] {
-        let mut p = Plain {
-            givens: grid_of(&[1, 2, 3, 2, 0, 0, 0, 0, 0])?,
-            hopeless,
-            asked: true,
-        };
-        assert!(rt; p.has_item(0));
+// Whether all squares of its width solve the puzzle, once it lacks its item.
+#[derive(Clone, Copy)]
+struct Freed(Plain);
+
+impl Row for Freed {
+    fn holds(&self, alloc: Global) -> bool {
+        let mut p = self.0;
+        if !p.has_item(0) {
+            return false;
+        }
         p.drop_item(0);
-        assert!(rt; !p.has_item(0));
-        let squares = solutions(rt.alloc(), &p, 100)?;
-        assert_eq!(rt; squares.len(), 12, "hopeless: {hopeless}");
+        !p.has_item(0) && Listed(p, 100, 12).holds(alloc)
     }
-    Ok(())
 }
 
 #[test]
-fn lists_squares_in_order(rt: HostRuntime) -> Result<(), Fail> {
-    let blank = puzzle_of(&[])?;
-    for (limit, want) in [(1, 1), (3, 3), (11, 11), (12, 12), (13, 12), (100, 12)] {
-        let listed = solutions(rt.alloc(), &blank, limit)?;
-        assert_eq!(rt; listed.len(), want, "at limit {limit}");
-        for (numbers, grid) in SQUARES.iter().zip(listed.iter()) {
-            assert_eq!(rt; *grid, grid_of(numbers)?, "at limit {limit}");
+fn one_item_is_all_that_is_asked(rt: HostRuntime) {
+    let p = puzzle_of("1232").expect(&rt, "a puzzle");
+    let hopeless = Plain {
+        hopeless: true,
+        ..p
+    };
+    check(&rt, rt.alloc(), &[Freed(p), Freed(hopeless)]);
+}
+
+// Whether the list begins as the squares do.
+fn is_in_order(listed: &[Grid]) -> bool {
+    let mut is_same = listed.len() <= SQUARES.len();
+    for (digits, grid) in SQUARES.iter().zip(listed) {
+        is_same = is_same && grid_of(3, digits) == Some(*grid);
+    }
+    is_same
+}
+
+// The most squares that are listed of a blank puzzle, and how many there are.
+struct InOrder(u8, usize);
+
+impl Row for InOrder {
+    fn holds(&self, alloc: Global) -> bool {
+        let Some(blank) = puzzle_of("") else {
+            return false;
+        };
+        if self.0 < 1 || self.0 > 100 {
+            return false;
+        }
+        match solutions(alloc, &blank, self.0) {
+            Ok(listed) => listed.len() == self.1 && is_in_order(listed.as_slice()),
+            Err(_) => false,
         }
     }
-    let some = solutions(rt.alloc(), &puzzle_of(&[0, 0, 0, 0, 0, 0, 0, 0, 3])?, 100)?;
-    assert_eq!(rt; some.len(), 4);
-    let none = solutions(rt.alloc(), &puzzle_of(&[1, 0, 0, 1])?, 100)?;
-    assert_eq!(rt; none.len(), 0);
-    Ok(())
+}
+
+#[test]
+fn lists_squares_in_order(rt: HostRuntime) {
+    const ROWS: &[InOrder] = &[
+        InOrder(1, 1),
+        InOrder(3, 3),
+        InOrder(11, 11),
+        InOrder(12, 12),
+        InOrder(13, 12),
+        InOrder(100, 12),
+    ];
+    check(&rt, rt.alloc(), ROWS);
+    let some = puzzle_of("000000003").expect(&rt, "a puzzle");
+    let none = puzzle_of("1001").expect(&rt, "a puzzle");
+    check(&rt, rt.alloc(), &[Listed(some, 100, 4), Listed(none, 100, 0)]);
 }

@@ -1,176 +1,196 @@
 //! Boards of width 3 and what stands on them: how many solutions keep it, and what follows from it.
 
-use super::worked::puzzle;
+use super::rows::{Row, check};
+use super::worked::{Described, grid_of, puzzle};
 use board_checks::{Deduces, Hint, find_hint};
 use clue_rules::{Game, Towers, Unequal};
-use latin_board::{Grid, Size};
-use std::process::Abort;
-use std::test::Fail;
-use trail_solver::{Answer, Rules, completion, grid_candidates};
-
-// The grid of width 3 with these numbers, 0 for an empty square.
-fn board(rt: &impl Abort, numbers: [u8; 9]) -> Grid {
-    let mut grid = Grid::blank(Size::new(3).expect(rt, "a width from 3 to 9"));
-    for cell in 0..9 {
-        put(rt, &mut grid, cell, numbers[cell]);
-    }
-    grid
-}
-
-fn put(rt: &impl Abort, grid: &mut Grid, cell: usize, number: u8) {
-    let width = grid.size().get();
-    assert!(rt; cell < width as usize * width as usize && number <= width);
-    grid.set(cell, number);
-}
-
-fn completion_of<P: Rules>(rt: &impl Abort, p: &P, numbers: [u8; 9]) -> Answer {
-    let grid = board(rt, numbers);
-    assert!(rt; grid.size().get() == p.size().get());
-    completion(p, &grid)
-}
-
-fn hint_of<P: Deduces>(rt: &impl Abort, p: &P, numbers: [u8; 9]) -> Hint {
-    let grid = board(rt, numbers);
-    assert!(rt; grid.size().get() == p.size().get());
-    find_hint(p, &grid)
-}
+use std::alloc::Global;
+use trail_solver::{Answer, completion, grid_candidates};
 
 // The two squares that begin with 1, 2, 3.
-const RISING: [u8; 9] = [1, 2, 3, 2, 3, 1, 3, 1, 2];
+const RISING: &str = "123231312";
 
-const FALLING: [u8; 9] = [1, 2, 3, 3, 1, 2, 2, 3, 1];
+const FALLING: &str = "123312231";
 
 // Towers and Unequal without clues, signs and givens.
-const NO_CLUES: &str = "///////////";
+const NO_CLUES: Described = Described::Towers("///////////");
 
-const NO_SIGNS: &str = "0,0,0,0,0,0,0,0,0,";
-
-// How many squares keep what stands, by the Latin rule alone.
-fn latin_completions<P: Game>(rt: &impl Abort, text: &str) -> Result<(), Fail> {
-    let free: P = puzzle(3, text)?;
-    let one = completion_of(rt, &free, [1, 2, 3, 2, 0, 0, 0, 0, 0]);
-    assert_eq!(rt; one, Answer::One(board(rt, RISING)), "{text}");
-    assert_eq!(rt;
-        completion_of(rt, &free, FALLING),
-        Answer::One(board(rt, FALLING))
-    );
-    for none in [
-        [1, 1, 0, 0, 0, 0, 0, 0, 0],
-        [1, 2, 0, 0, 0, 3, 0, 0, 0],
-        [1, 2, 3, 2, 3, 1, 3, 2, 1],
-    ] {
-        assert_eq!(rt; completion_of(rt, &free, none), Answer::None, "{text}");
-    }
-    match completion_of(rt, &free, [1, 2, 3, 0, 0, 0, 0, 0, 0]) {
-        Answer::Several(a, b) => {
-            let (rising, falling) = (board(rt, RISING), board(rt, FALLING));
-            assert!(rt; (a == rising && b == falling) || (a == falling && b == rising));
-        }
-        _ => assert!(rt; false),
-    }
-    Ok(())
-}
-
-#[test]
-fn completions_without_clues(rt: HostRuntime) -> Result<(), Fail> {
-    latin_completions::<Towers>(&rt, NO_CLUES)?;
-    latin_completions::<Unequal>(&rt, NO_SIGNS)
-}
+const NO_SIGNS: Described = Described::Unequal("0,0,0,0,0,0,0,0,0,");
 
 // Two clues, three givens, or four signs, each with the rising square as the only solution.
+const CLUED: Described = Described::Towers("3//////3/////");
+
+const GIVEN: Described = Described::Towers("///////////,1c3c2");
+
+const SIGNED: Described = Described::Unequal("0,0L,0L,0U,0,0,0U,0,0,");
+
+// A puzzle, a board as digits, and the squares that complete it: all of them, where there are one or two.
+struct Completed(Described, &'static str, &'static [&'static str]);
+
+fn is_answer(answer: Answer, squares: &[&str]) -> bool {
+    match (answer, squares) {
+        (Answer::None, []) => true,
+        (Answer::One(grid), [only]) => grid_of(3, only) == Some(grid),
+        (Answer::Several(a, b), [first, second]) => {
+            let wanted = (grid_of(3, first), grid_of(3, second));
+            wanted == (Some(a), Some(b)) || wanted == (Some(b), Some(a))
+        }
+        _ => false,
+    }
+}
+
+fn is_completed<P: Game>(text: &str, digits: &str, squares: &[&str]) -> bool {
+    match (puzzle::<P>(3, text), grid_of(3, digits)) {
+        (Ok(p), Some(grid)) if grid.size().get() == p.size().get() => {
+            is_answer(completion(&p, &grid), squares)
+        }
+        _ => false,
+    }
+}
+
+impl Row for Completed {
+    fn holds(&self, _alloc: Global) -> bool {
+        match self.0 {
+            Described::Towers(text) => is_completed::<Towers>(text, self.1, self.2),
+            Described::Unequal(text) => is_completed::<Unequal>(text, self.1, self.2),
+        }
+    }
+}
+
 #[test]
-fn a_number_that_no_solution_has_leaves_none(rt: HostRuntime) -> Result<(), Fail> {
-    let clued: Towers = puzzle(3, "3//////3/////")?;
-    let given: Towers = puzzle(3, "///////////,1c3c2")?;
-    let signed: Unequal = puzzle(3, "0,0L,0L,0U,0,0,0U,0,0,")?;
-    let empty = [0; 9];
-    let right = [0, 0, 0, 0, 3, 0, 0, 0, 0];
-    let wrong = [0, 0, 0, 0, 1, 0, 0, 0, 0];
-    let answer = Answer::One(board(&rt, RISING));
-    assert_eq!(rt; completion_of(&rt, &clued, empty), answer);
-    assert_eq!(rt; completion_of(&rt, &clued, right), answer);
-    assert_eq!(rt; completion_of(&rt, &clued, wrong), Answer::None);
-    assert_eq!(rt; completion_of(&rt, &given, empty), answer);
-    assert_eq!(rt; completion_of(&rt, &given, right), answer);
-    assert_eq!(rt; completion_of(&rt, &given, wrong), Answer::None);
-    assert_eq!(rt; completion_of(&rt, &signed, empty), answer);
-    assert_eq!(rt; completion_of(&rt, &signed, right), answer);
-    assert_eq!(rt; completion_of(&rt, &signed, wrong), Answer::None);
-    Ok(())
+fn boards_are_completed(rt: HostRuntime) {
+    const ROWS: &[Completed] = &[
+        // How many squares keep what stands, by the Latin rule alone.
+        Completed(NO_CLUES, "123200000", &[RISING]),
+        Completed(NO_SIGNS, "123200000", &[RISING]),
+        Completed(NO_CLUES, FALLING, &[FALLING]),
+        Completed(NO_SIGNS, FALLING, &[FALLING]),
+        Completed(NO_CLUES, "110000000", &[]),
+        Completed(NO_SIGNS, "110000000", &[]),
+        Completed(NO_CLUES, "120003000", &[]),
+        Completed(NO_SIGNS, "120003000", &[]),
+        Completed(NO_CLUES, "123231321", &[]),
+        Completed(NO_SIGNS, "123231321", &[]),
+        Completed(NO_CLUES, "123000000", &[RISING, FALLING]),
+        Completed(NO_SIGNS, "123000000", &[RISING, FALLING]),
+        // A number that no solution has leaves none.
+        Completed(CLUED, "000000000", &[RISING]),
+        Completed(CLUED, "000030000", &[RISING]),
+        Completed(CLUED, "000010000", &[]),
+        Completed(GIVEN, "000000000", &[RISING]),
+        Completed(GIVEN, "000030000", &[RISING]),
+        Completed(GIVEN, "000010000", &[]),
+        Completed(SIGNED, "000000000", &[RISING]),
+        Completed(SIGNED, "000030000", &[RISING]),
+        Completed(SIGNED, "000010000", &[]),
+    ];
+    check(&rt, rt.alloc(), ROWS);
 }
 
 #[test]
 fn candidates_of_a_board(rt: HostRuntime) {
-    let candidates = grid_candidates(&board(&rt, [0, 2, 0, 0, 0, 0, 0, 0, 3]));
+    let grid = grid_of(3, "020000003").expect(&rt, "a grid");
+    let candidates = grid_candidates(&grid);
     assert!(rt; candidates.size().get() == 3);
-    assert_eq!(rt; candidates.only(1), Some(2));
-    assert_eq!(rt; candidates.only(8), Some(3));
-    assert_eq!(rt; candidates.only(0), None);
-    assert_eq!(rt; candidates.values(0).len(), 3);
+    let only = (
+        candidates.only(1),
+        candidates.only(8),
+        candidates.only(0),
+    );
+    assert!(rt; only == (Some(2), Some(3), None) && candidates.values(0).len() == 3);
 }
 
-// The boards, and what follows by the Latin rule alone.
-fn latin_hints<P: Game + Deduces>(rt: &impl Abort, text: &str) -> Result<(), Fail> {
-    let free: P = puzzle(3, text)?;
-    let third = Hint::Follows { cell: 2, value: 3 };
-    let middle = Hint::Follows { cell: 4, value: 2 };
-    for (numbers, hint) in [
-        // The last of a row; the last of a row and of a column.
-        ([1, 2, 0, 0, 0, 0, 0, 0, 0], third),
-        ([1, 2, 0, 0, 0, 0, 0, 0, 1], third),
-        // Nothing but the middle is open.
-        ([1, 3, 2, 3, 0, 1, 2, 1, 3], middle),
-        // Two squares go on from here, and each empty one differs.
-        ([1, 2, 3, 0, 0, 0, 0, 0, 0], Hint::Nothing),
-        ([0; 9], Hint::Nothing),
-        // A full square leaves nothing to say, and a full board that is none is wrong.
-        (RISING, Hint::Nothing),
-        ([1, 2, 3, 2, 3, 1, 3, 2, 1], Hint::Contradiction),
-        // A number twice in a row, and a square that no number fits.
-        ([1, 1, 0, 0, 0, 0, 0, 0, 0], Hint::Contradiction),
-        ([1, 2, 0, 0, 0, 3, 0, 0, 0], Hint::Contradiction),
-    ] {
-        assert_eq!(rt; hint_of(rt, &free, numbers), hint, "{text}");
+// A puzzle, a board as digits, and the hint.
+struct Hinted(Described, &'static str, Hint);
+
+fn is_hinted<P: Game + Deduces>(text: &str, digits: &str, hint: Hint) -> bool {
+    match (puzzle::<P>(3, text), grid_of(3, digits)) {
+        (Ok(p), Some(grid)) if grid.size().get() == p.size().get() => find_hint(&p, &grid) == hint,
+        _ => false,
     }
-    Ok(())
 }
 
-#[test]
-fn hints_without_clues(rt: HostRuntime) -> Result<(), Fail> {
-    latin_hints::<Towers>(&rt, NO_CLUES)?;
-    latin_hints::<Unequal>(&rt, NO_SIGNS)
+impl Row for Hinted {
+    fn holds(&self, _alloc: Global) -> bool {
+        match self.0 {
+            Described::Towers(text) => is_hinted::<Towers>(text, self.1, self.2),
+            Described::Unequal(text) => is_hinted::<Unequal>(text, self.1, self.2),
+        }
+    }
 }
 
-// The given that doesn't stand on the board is the first to follow.
+const THIRD: Hint = Hint::Follows { cell: 2, value: 3 };
+
+const MIDDLE: Hint = Hint::Follows { cell: 4, value: 2 };
+
 #[test]
-fn givens_need_not_stand(rt: HostRuntime) -> Result<(), Fail> {
-    let given: Towers = puzzle(3, "///////////,1c3c2")?;
-    let first = Hint::Follows { cell: 0, value: 1 };
-    assert_eq!(rt; hint_of(&rt, &given, [0; 9]), first);
-    let second = Hint::Follows { cell: 4, value: 3 };
-    assert_eq!(rt; hint_of(&rt, &given, [1, 0, 0, 0, 0, 0, 0, 0, 0]), second);
-    Ok(())
+fn hints_follow_from_boards(rt: HostRuntime) {
+    const ROWS: &[Hinted] = &[
+        // The last of a row; the last of a row and of a column.
+        Hinted(NO_CLUES, "120000000", THIRD),
+        Hinted(NO_SIGNS, "120000000", THIRD),
+        Hinted(NO_CLUES, "120000001", THIRD),
+        Hinted(NO_SIGNS, "120000001", THIRD),
+        // Nothing but the middle is open.
+        Hinted(NO_CLUES, "132301213", MIDDLE),
+        Hinted(NO_SIGNS, "132301213", MIDDLE),
+        // Two squares go on from here, and each empty one differs.
+        Hinted(NO_CLUES, "123000000", Hint::Nothing),
+        Hinted(NO_SIGNS, "123000000", Hint::Nothing),
+        Hinted(NO_CLUES, "000000000", Hint::Nothing),
+        Hinted(NO_SIGNS, "000000000", Hint::Nothing),
+        // A full square leaves nothing to say, and a full board that is none is wrong.
+        Hinted(NO_CLUES, RISING, Hint::Nothing),
+        Hinted(NO_SIGNS, RISING, Hint::Nothing),
+        Hinted(NO_CLUES, "123231321", Hint::Contradiction),
+        Hinted(NO_SIGNS, "123231321", Hint::Contradiction),
+        // A number twice in a row, and a square that no number fits.
+        Hinted(NO_CLUES, "110000000", Hint::Contradiction),
+        Hinted(NO_SIGNS, "110000000", Hint::Contradiction),
+        Hinted(NO_CLUES, "120003000", Hint::Contradiction),
+        Hinted(NO_SIGNS, "120003000", Hint::Contradiction),
+        // The given that doesn't stand on the board is the first to follow.
+        Hinted(GIVEN, "000000000", Hint::Follows { cell: 0, value: 1 }),
+        Hinted(GIVEN, "100000000", Hint::Follows { cell: 4, value: 3 }),
+    ];
+    check(&rt, rt.alloc(), ROWS);
+}
+
+// A puzzle that hints alone solve, with the rising square.
+#[derive(Clone, Copy)]
+struct Led(Described);
+
+fn leads_to_the_solution<P: Game + Deduces>(text: &str) -> bool {
+    let (Ok(p), Some(mut grid), Some(rising)) =
+        (puzzle::<P>(3, text), grid_of(3, ""), grid_of(3, RISING))
+    else {
+        return false;
+    };
+    for _ in 0..9 {
+        if grid.size().get() != 3 || p.size().get() != 3 || rising.size().get() != 3 {
+            return false;
+        }
+        if let Hint::Follows { cell, value } = find_hint(&p, &grid) {
+            if cell >= 9 || value > 3 || value != rising.get(cell) {
+                return false;
+            }
+            grid.set(cell, value);
+        }
+    }
+    grid == rising
+}
+
+impl Row for Led {
+    fn holds(&self, _alloc: Global) -> bool {
+        match self.0 {
+            Described::Towers(text) => leads_to_the_solution::<Towers>(text),
+            Described::Unequal(text) => leads_to_the_solution::<Unequal>(text),
+        }
+    }
 }
 
 // Whoever does what the hints say has the solution in the end.
-fn hints_lead_to_the_solution<P: Game + Deduces>(rt: &impl Abort, text: &str) -> Result<(), Fail> {
-    let worked: P = puzzle(3, text)?;
-    let mut grid = board(rt, [0; 9]);
-    for _ in 0..9 {
-        assert!(rt; grid.size().get() == worked.size().get());
-        if let Hint::Follows { cell, value } = find_hint(&worked, &grid) {
-            assert!(rt; cell < 9);
-            assert_eq!(rt; value, RISING[cell], "{text}, square {cell}");
-            put(rt, &mut grid, cell, value);
-        }
-    }
-    assert_eq!(rt; grid, board(rt, RISING), "{text}");
-    Ok(())
-}
-
 #[test]
-fn hints_alone_solve_the_worked_puzzles(rt: HostRuntime) -> Result<(), Fail> {
-    hints_lead_to_the_solution::<Towers>(&rt, "3//////3/////")?;
-    hints_lead_to_the_solution::<Towers>(&rt, "///////////,1c3c2")?;
-    hints_lead_to_the_solution::<Unequal>(&rt, "0,0L,0L,0U,0,0,0U,0,0,")
+fn hints_alone_solve_the_worked_puzzles(rt: HostRuntime) {
+    check(&rt, rt.alloc(), &[Led(CLUED), Led(GIVEN), Led(SIGNED)]);
 }

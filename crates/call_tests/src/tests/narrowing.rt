@@ -1,73 +1,82 @@
 //! Narrowing and solving, in both games, at worked puzzles.
 
-use super::worked::{has_no_solution, only_solution, puzzle};
+use super::worked::{only_solution, puzzle};
 use clue_rules::{Game, Towers, Unequal};
 use play_midend::{Move, read_move};
 use std::alloc::Global;
-use std::process::Abort;
-use std::test::Fail;
 use trail_solver::{Answer, Candidates, Rules, solutions, solve};
 
-// The only candidate of a square of width 3 after 18 calls of `narrow` on all candidates.
-fn left<P: Rules>(puzzle: &P, cell: usize) -> Option<u8> {
+// All candidates, narrowed so many times, or none where narrowing refutes the puzzle.
+fn narrowed<P: Rules>(puzzle: &P, times: usize) -> Option<Candidates> {
     let mut candidates = Candidates::all(puzzle.size());
-    for _ in 0..18 {
+    for _ in 0..times {
         if puzzle.size().get() != candidates.size().get() || !puzzle.narrow(&mut candidates) {
             return None;
         }
     }
-    if candidates.size().get() == 3 && cell < 9 {
-        candidates.only(cell)
-    } else {
-        None
-    }
+    Some(candidates)
 }
 
-fn has_several_solutions<P: Rules>(puzzle: &P) -> bool {
-    matches!(solve(puzzle), Answer::Several(_, _))
+// How many squares have the only candidate that these numbers name; the others have more than one.
+fn settled(candidates: &Candidates, numbers: &[u8]) -> usize {
+    let width = candidates.size().get() as usize;
+    let mut count = 0usize;
+    for cell in 0..width * width {
+        if let Some(only) = candidates.only(cell)
+            && numbers.get(cell) == Some(&only)
+        {
+            count = count.saturating_add(1);
+        }
+    }
+    count
 }
 
 // The numbers of the only solution of the worked puzzles.
-const WORKED: [u8; 9] = [1, 2, 3, 2, 3, 1, 3, 1, 2];
+const WORKED: &[u8] = &[1, 2, 3, 2, 3, 1, 3, 1, 2];
 
-fn is_narrowed_to_the_solution<P: Game>(rt: &impl Abort, text: &str) -> Result<(), Fail> {
-    let worked: P = puzzle(3, text)?;
-    for cell in 0..9 {
-        assert_eq!(rt;
-            left(&worked, cell),
-            Some(WORKED[cell]),
-            "{text}, square {cell}"
-        );
+// Whether 18 calls of `narrow` leave nothing but the solution.
+fn is_narrowed_to_the_solution<P: Game>(text: &str) -> bool {
+    let Ok(worked) = puzzle::<P>(3, text) else {
+        return false;
+    };
+    match narrowed(&worked, 18) {
+        Some(candidates) => settled(&candidates, WORKED) == 9,
+        None => false,
     }
-    Ok(())
 }
 
 #[test]
-fn towers_are_narrowed_to_the_solution(rt: HostRuntime) -> Result<(), Fail> {
-    is_narrowed_to_the_solution::<Towers>(&rt, "3//////3/////")?;
-    is_narrowed_to_the_solution::<Towers>(&rt, "///////////,1c3c2")
+fn puzzles_are_narrowed_to_the_solution(rt: HostRuntime) {
+    assert!(rt; is_narrowed_to_the_solution::<Towers>("3//////3/////"));
+    assert!(rt; is_narrowed_to_the_solution::<Towers>("///////////,1c3c2"));
+    assert!(rt; is_narrowed_to_the_solution::<Unequal>("0,0L,0L,0U,0,0,0U,0,0,"));
 }
 
-#[test]
-fn signs_are_narrowed_to_the_solution(rt: HostRuntime) -> Result<(), Fail> {
-    is_narrowed_to_the_solution::<Unequal>(&rt, "0,0L,0L,0U,0,0,0U,0,0,")
+fn has_no_solution<P: Game>(width: u8, text: &str) -> bool {
+    match puzzle::<P>(width, text) {
+        Ok(puzzle) => matches!(solve(&puzzle), Answer::None),
+        Err(_) => false,
+    }
+}
+
+fn has_several_solutions<P: Game>(width: u8, text: &str) -> bool {
+    match puzzle::<P>(width, text) {
+        Ok(puzzle) => matches!(solve(&puzzle), Answer::Several(_, _)),
+        Err(_) => false,
+    }
 }
 
 // Two clues want the greatest number at the top of their columns. Without `narrow` the solver would not end.
 #[test]
-fn a_contradiction_is_found_at_once(rt: HostRuntime) -> Result<(), Fail> {
-    let towers: Towers = puzzle(9, "1/1//////////////////////////////////")?;
-    assert!(rt; has_no_solution(&towers));
-    let unequal: Unequal = puzzle(3, "0,0L,0L,0U,0,0,0U,0,1,")?;
-    assert!(rt; has_no_solution(&unequal));
-    Ok(())
+fn a_contradiction_is_found_at_once(rt: HostRuntime) {
+    assert!(rt; has_no_solution::<Towers>(9, "1/1//////////////////////////////////"));
+    assert!(rt; has_no_solution::<Unequal>(3, "0,0L,0L,0U,0,0,0U,0,1,"));
+    assert!(rt; has_no_solution::<Unequal>(3, "1,1,0,0,0,0,0,0,0,"));
 }
 
 #[test]
-fn a_blank_puzzle_has_several_solutions(rt: HostRuntime) -> Result<(), Fail> {
-    let towers: Towers = puzzle(9, "///////////////////////////////////")?;
-    assert!(rt; has_several_solutions(&towers));
-    Ok(())
+fn a_blank_puzzle_has_several_solutions(rt: HostRuntime) {
+    assert!(rt; has_several_solutions::<Towers>(9, "///////////////////////////////////"));
 }
 
 // Puzzles of size 9, each with its only solution as a move. The usual programs made both, and their solutions.
@@ -81,14 +90,16 @@ const HARD_SIGNS: (&str, &str) = (
     "S742158639318796542286514397853967214571289463194823756435672981967431825629345178",
 );
 
-// How many squares have several candidates left where narrowing alone finds no more.
-fn open_squares<P: Rules>(puzzle: &P) -> usize {
-    let mut candidates = Candidates::all(puzzle.size());
-    for _ in 0..100 {
-        if puzzle.size().get() != candidates.size().get() || !puzzle.narrow(&mut candidates) {
-            return 0;
-        }
+// Whether 40 squares of width 9 or more have several candidates left where narrowing alone finds no more: so many that no test
+// could wait for guesses alone, since each of them is wrong at its leaf, and there are 2 to the power of that many.
+fn stays_open<P: Rules>(puzzle: &P) -> bool {
+    match narrowed(puzzle, 100) {
+        Some(candidates) => open_squares(&candidates) >= 40,
+        None => false,
     }
+}
+
+fn open_squares(candidates: &Candidates) -> usize {
     let width = candidates.size().get() as usize;
     let mut open = 0usize;
     for cell in 0..width * width {
@@ -99,28 +110,24 @@ fn open_squares<P: Rules>(puzzle: &P) -> usize {
     open
 }
 
-// So many squares are open that no test could wait for guesses alone: each of them is wrong at its leaf, and there are 2 to
-// the power of that many.
-fn falls_to_narrowed_guesses<P: Game>(
-    rt: &impl Abort,
-    alloc: Global,
-    hard: (&str, &str),
-) -> Result<(), Fail> {
-    let (description, solution) = hard;
-    let puzzle: P = puzzle(9, description)?;
-    let open = open_squares(&puzzle);
-    assert!(rt; open >= 40, "{open} squares are open");
-    let Move::Solve(wanted) = read_move(solution.as_bytes())? else {
-        return Err("no solution".into());
+// Whether narrowed guesses find the solution, and the list has it alone.
+fn falls_to_narrowed_guesses<P: Game>(alloc: Global, hard: &(&str, &str)) -> bool {
+    let (Ok(puzzle), Ok(Move::Solve(wanted))) =
+        (puzzle::<P>(9, hard.0), read_move(hard.1.as_bytes()))
+    else {
+        return false;
     };
-    assert_eq!(rt; only_solution(&puzzle), Some(wanted));
-    let listed = solutions(alloc, &puzzle, 2)?;
-    assert_eq!(rt; listed.as_slice(), [wanted].as_slice());
-    Ok(())
+    if !stays_open(&puzzle) || only_solution(&puzzle) != Some(wanted) {
+        return false;
+    }
+    match solutions(alloc, &puzzle, 2) {
+        Ok(listed) => listed.as_slice() == [wanted].as_slice(),
+        Err(_) => false,
+    }
 }
 
 #[test]
-fn solve_narrows_after_a_guess(rt: HostRuntime) -> Result<(), Fail> {
-    falls_to_narrowed_guesses::<Towers>(&rt, rt.alloc(), HARD_TOWERS)?;
-    falls_to_narrowed_guesses::<Unequal>(&rt, rt.alloc(), HARD_SIGNS)
+fn solve_narrows_after_a_guess(rt: HostRuntime) {
+    assert!(rt; falls_to_narrowed_guesses::<Towers>(rt.alloc(), &HARD_TOWERS));
+    assert!(rt; falls_to_narrowed_guesses::<Unequal>(rt.alloc(), &HARD_SIGNS));
 }

@@ -1,14 +1,14 @@
 //! A save over a folder in memory: each call fails in turn, and the machine stops at each call in turn.
 
+use super::rows::{Row, check};
 use safe_save::{Failing, MemoryFolder, SaveFault, save};
 use std::alloc::Global;
-use std::process::Abort;
-use std::test::Fail;
 
-// The number of the call that fails, whether the machine stops there, the answer, whether the path has the new bytes, and
-// what stands beside.
-type Row = (
+// The number of the call that fails, whether the machine stops there, whether a rename is refused, the answer, whether the path
+// has the new bytes, and what stands beside: over an old file, and over none.
+struct Saved(
     u64,
+    bool,
     bool,
     Result<(), SaveFault>,
     bool,
@@ -23,93 +23,87 @@ const NEW: Option<&[u8]> = Some(b"new");
 
 const OLD: Option<&[u8]> = Some(b"old");
 
-// Saves over an old file or none, and looks at the answer and at what stands there then.
-fn check<R: Abort>(
-    rt: &R,
-    alloc: Global,
-    row: Row,
-    refuses_rename: bool,
-    has_old: bool,
-) -> Result<(), Fail> {
-    let (at, stops, answer, is_new, beside) = row;
-    let failing = Failing {
-        at,
-        stops,
-        refuses_rename,
-    };
-    let mut folder = MemoryFolder::new(alloc, failing);
-    if has_old {
-        folder.put("game", b"old")?;
+impl Saved {
+    // Whether the answer and the files are as the row says.
+    fn saves_over(&self, mut folder: MemoryFolder, old: Option<&[u8]>) -> bool {
+        let answer = save(&mut folder, "game", "game.new", b"new");
+        let path = if self.4 { NEW } else { old };
+        answer == self.3 && folder.content("game") == path && folder.content("game.new") == self.5
     }
-    let answered = save(&mut folder, "game", "game.new", b"new");
-    let kept = if has_old { OLD } else { NOTHING };
-    let path = if is_new { NEW } else { kept };
-    assert!(rt; answered == answer, "call {at}, stops: {stops}");
-    assert!(rt; folder.content("game") == path, "call {at}, stops: {stops}");
-    assert!(rt;
-        folder.content("game.new") == beside,
-        "call {at}, stops: {stops}"
-    );
-    Ok(())
+}
+
+impl Row for Saved {
+    fn holds(&self, alloc: Global) -> bool {
+        let failing = Failing {
+            at: self.0,
+            stops: self.1,
+            refuses_rename: self.2,
+        };
+        let mut folder = MemoryFolder::new(alloc, failing);
+        folder.put("game", b"old").is_ok()
+            && self.saves_over(folder, OLD)
+            && self.saves_over(MemoryFolder::new(alloc, failing), NOTHING)
+    }
 }
 
 #[test]
-fn each_call_fails_in_turn(rt: HostRuntime) -> Result<(), Fail> {
-    let rows: [Row; 13] = [
-        (0, false, Ok(()), true, NOTHING),
-        (1, false, Err(SaveFault::NotSaved), false, NOTHING),
-        (2, false, Err(SaveFault::NotSaved), false, NOTHING),
-        (3, false, Err(SaveFault::NotSaved), false, NOTHING),
-        (4, false, Err(SaveFault::NotSaved), false, NOTHING),
-        (5, false, Err(SaveFault::LeftBeside), false, NEW),
-        (6, false, Err(SaveFault::NotFlushed), true, NOTHING),
-        (1, true, Err(SaveFault::NotSaved), false, NOTHING),
-        (2, true, Err(SaveFault::NotSaved), false, EMPTY),
-        (3, true, Err(SaveFault::NotSaved), false, EMPTY),
-        (4, true, Err(SaveFault::NotSaved), false, NEW),
-        (5, true, Err(SaveFault::LeftBeside), false, NEW),
-        (6, true, Err(SaveFault::NotFlushed), true, NOTHING),
+fn each_call_fails_in_turn(rt: HostRuntime) {
+    const ROWS: &[Saved] = &[
+        Saved(0, false, false, Ok(()), true, NOTHING),
+        Saved(1, false, false, Err(SaveFault::NotSaved), false, NOTHING),
+        Saved(2, false, false, Err(SaveFault::NotSaved), false, NOTHING),
+        Saved(3, false, false, Err(SaveFault::NotSaved), false, NOTHING),
+        Saved(4, false, false, Err(SaveFault::NotSaved), false, NOTHING),
+        Saved(5, false, false, Err(SaveFault::LeftBeside), false, NEW),
+        Saved(6, false, false, Err(SaveFault::NotFlushed), true, NOTHING),
+        Saved(1, true, false, Err(SaveFault::NotSaved), false, NOTHING),
+        Saved(2, true, false, Err(SaveFault::NotSaved), false, EMPTY),
+        Saved(3, true, false, Err(SaveFault::NotSaved), false, EMPTY),
+        Saved(4, true, false, Err(SaveFault::NotSaved), false, NEW),
+        Saved(5, true, false, Err(SaveFault::LeftBeside), false, NEW),
+        Saved(6, true, false, Err(SaveFault::NotFlushed), true, NOTHING),
+        // Where the rename is refused, the old file is written over.
+        Saved(0, false, true, Ok(()), true, NOTHING),
+        Saved(5, false, true, Err(SaveFault::LeftBeside), false, NEW),
+        Saved(6, false, true, Err(SaveFault::LeftBeside), false, NEW),
+        Saved(7, false, true, Ok(()), true, NEW),
+        Saved(6, true, true, Err(SaveFault::LeftBeside), false, NEW),
+        Saved(7, true, true, Ok(()), true, NEW),
     ];
-    for row in rows {
-        check(&rt, rt.alloc(), row, false, true)?;
-        check(&rt, rt.alloc(), row, false, false)?;
+    check(&rt, rt.alloc(), ROWS);
+}
+
+// The name of the new file, where `game` and `game.new` are there, the answer, and what stands at the path then.
+struct Taken(
+    &'static str,
+    Result<(), SaveFault>,
+    Option<&'static [u8]>,
+);
+
+impl Row for Taken {
+    fn holds(&self, alloc: Global) -> bool {
+        let failing = Failing {
+            at: 0,
+            stops: false,
+            refuses_rename: false,
+        };
+        let mut folder = MemoryFolder::new(alloc, failing);
+        if folder.put("game", b"old").is_err() || folder.put("game.new", b"mine").is_err() {
+            return false;
+        }
+        let answer = save(&mut folder, "game", self.0, b"new");
+        answer == self.1
+            && folder.content("game") == self.2
+            && folder.content("game.new") == Some(b"mine".as_slice())
     }
-    Ok(())
 }
 
 #[test]
-fn a_refused_rename_is_written_over(rt: HostRuntime) -> Result<(), Fail> {
-    let rows: [Row; 6] = [
-        (0, false, Ok(()), true, NOTHING),
-        (5, false, Err(SaveFault::LeftBeside), false, NEW),
-        (6, false, Err(SaveFault::LeftBeside), false, NEW),
-        (7, false, Ok(()), true, NEW),
-        (6, true, Err(SaveFault::LeftBeside), false, NEW),
-        (7, true, Ok(()), true, NEW),
+fn a_taken_name_is_left_alone(rt: HostRuntime) {
+    const ROWS: &[Taken] = &[
+        Taken("game.new", Err(SaveFault::Taken), OLD),
+        Taken("game", Err(SaveFault::Taken), OLD),
+        Taken("other", Ok(()), NEW),
     ];
-    for row in rows {
-        check(&rt, rt.alloc(), row, true, true)?;
-        check(&rt, rt.alloc(), row, true, false)?;
-    }
-    Ok(())
-}
-
-#[test]
-fn a_taken_name_is_left_alone(rt: HostRuntime) -> Result<(), Fail> {
-    let failing = Failing {
-        at: 0,
-        stops: false,
-        refuses_rename: false,
-    };
-    let mut folder = MemoryFolder::new(rt.alloc(), failing);
-    folder.put("game", b"old")?;
-    folder.put("game.new", b"mine")?;
-    let taken = Err(SaveFault::Taken);
-    assert_eq!(rt; save(&mut folder, "game", "game.new", b"new"), taken);
-    assert_eq!(rt; save(&mut folder, "game", "game", b"new"), taken);
-    assert!(rt; folder.content("game") == OLD);
-    assert!(rt; folder.content("game.new") == Some(b"mine".as_slice()));
-    assert_eq!(rt; save(&mut folder, "game", "other", b"new"), Ok(()));
-    assert!(rt; folder.content("game") == NEW);
-    Ok(())
+    check(&rt, rt.alloc(), ROWS);
 }

@@ -1,107 +1,125 @@
 //! Generated puzzles: the refusals, and what the solver says of each puzzle and of what is left without an item.
 
-ghost use Rattle.std.specs.Prelude.{◌≡◌, IfOk};
-
+use super::rows::{Row, check};
 use clue_rules::{Game, Params, Towers, Unequal};
 use latin_board::Size;
 use puzzle_gen::{GenFault, generate, square};
-use std::process::Abort;
-use std::test::Fail;
+use std::alloc::Global;
 use trail_solver::{Answer, solve};
 
-fn size_of(width: u8) -> Result<Size, Fail>
-    ensures { IfOk result (λ size. size ≡ width) }
-{
-    Ok(Size::new(width).ok_or("no such width")?)
-}
-
-fn params_of(width: u8, letter: Option<u8>) -> Result<Params, Fail> {
-    Ok(Params {
-        size: size_of(width)?,
+fn params_of(width: u8, letter: Option<u8>) -> Option<Params> {
+    Some(Params {
+        size: Size::new(width)?,
         letter,
     })
 }
 
-// The puzzle's only solution is the seed's square, and without any one of its items it has several solutions.
-fn has_one_and_needs_all<P: Game>(rt: &impl Abort, width: u8, seed: u64) -> Result<(), Fail> {
-    let params = params_of(width, None)?;
-    let puzzle = generate::<P>(&params, seed).map_err(|_| "refused")?;
-    assert_eq!(rt;
-        solve(&puzzle),
-        Answer::One(square(params.size, seed)),
-        "size {width}, seed {seed}"
-    );
+// Whether the puzzle has several solutions without any one of its items.
+fn needs_all<P: Game>(puzzle: &P) -> bool {
+    let mut needs_all = true;
     for item in 0..P::item_count(puzzle.size()) {
         if puzzle.has_item(item) {
-            let mut fewer = puzzle;
+            let mut fewer = *puzzle;
             fewer.drop_item(item);
-            assert!(rt;
-                matches!(solve(&fewer), Answer::Several(_, _)),
-                "size {width}, seed {seed}, item {item}"
-            );
+            needs_all = needs_all && matches!(solve(&fewer), Answer::Several(_, _));
         }
     }
-    Ok(())
+    needs_all
+}
+
+// A width and a seed, whose puzzle has the seed's square as its only solution, and needs all of its items.
+#[derive(Clone, Copy)]
+struct Generated(u8, u64);
+
+fn has_one_and_needs_all<P: Game>(params: &Params, seed: u64) -> bool {
+    match generate::<P>(params, seed) {
+        Ok(puzzle) => {
+            solve(&puzzle) == Answer::One(square(params.size, seed)) && needs_all(&puzzle)
+        }
+        Err(_) => false,
+    }
+}
+
+impl Row for Generated {
+    fn holds(&self, _alloc: Global) -> bool {
+        match params_of(self.0, None) {
+            Some(params) => {
+                has_one_and_needs_all::<Towers>(&params, self.1)
+                    && has_one_and_needs_all::<Unequal>(&params, self.1)
+            }
+            None => false,
+        }
+    }
 }
 
 #[test]
-fn towers_have_one_solution_and_need_all(rt: HostRuntime) -> Result<(), Fail> {
-    for width in 3..7 {
-        for seed in 0..10 {
-            has_one_and_needs_all::<Towers>(&rt, width, seed)?;
+fn puzzles_have_one_solution_and_need_all(rt: HostRuntime) {
+    for width in 3..7u8 {
+        for seed in 0..10u64 {
+            assert!(rt; Generated(width, seed).holds(rt.alloc()), "{width}!{seed}");
         }
     }
-    Ok(())
+}
+
+// A width and a letter, and why no game of them is made, whatever the seed.
+struct Refused(u8, Option<u8>, GenFault);
+
+fn is_refused<P: Game>(params: &Params, seed: u64, fault: GenFault) -> bool {
+    match generate::<P>(params, seed) {
+        Ok(_) => false,
+        Err(found) => found == fault,
+    }
+}
+
+fn is_refused_in_both(params: &Params, seed: u64, fault: GenFault) -> bool {
+    is_refused::<Towers>(params, seed, fault) && is_refused::<Unequal>(params, seed, fault)
+}
+
+impl Row for Refused {
+    fn holds(&self, _alloc: Global) -> bool {
+        match params_of(self.0, self.1) {
+            Some(params) => {
+                is_refused_in_both(&params, 0, self.2)
+                    && is_refused_in_both(&params, 1, self.2)
+                    && is_refused_in_both(&params, 7, self.2)
+            }
+            None => false,
+        }
+    }
 }
 
 #[test]
-fn unequal_have_one_solution_and_need_all(rt: HostRuntime) -> Result<(), Fail> {
-    for width in 3..7 {
-        for seed in 0..10 {
-            has_one_and_needs_all::<Unequal>(&rt, width, seed)?;
-        }
-    }
-    Ok(())
-}
-
-#[test]
-fn refuses_large_sizes_and_then_letters(rt: HostRuntime) -> Result<(), Fail> {
-    let rows = [
-        (7, None, GenFault::SizeTooLarge),
-        (9, None, GenFault::SizeTooLarge),
-        (7, Some(b'e'), GenFault::SizeTooLarge),
-        (6, Some(b'e'), GenFault::Graded),
-        (5, Some(b'e'), GenFault::Graded),
+fn refuses_large_sizes_and_then_letters(rt: HostRuntime) {
+    const ROWS: &[Refused] = &[
+        Refused(7, None, GenFault::SizeTooLarge),
+        Refused(9, None, GenFault::SizeTooLarge),
+        Refused(7, Some(b'e'), GenFault::SizeTooLarge),
+        Refused(6, Some(b'e'), GenFault::Graded),
+        Refused(5, Some(b'e'), GenFault::Graded),
     ];
-    for (width, letter, fault) in rows {
-        let params = params_of(width, letter)?;
-        for seed in [0, 1, 7] {
-            assert_eq!(rt; generate::<Towers>(&params, seed).err(), Some(fault));
-            assert_eq!(rt; generate::<Unequal>(&params, seed).err(), Some(fault));
+    check(&rt, rt.alloc(), ROWS);
+}
+
+// Two seeds of width 5, and whether their puzzles of Towers are the same.
+struct Again(u64, u64, bool);
+
+impl Row for Again {
+    fn holds(&self, _alloc: Global) -> bool {
+        let Some(params) = params_of(5, None) else {
+            return false;
+        };
+        match (
+            generate::<Towers>(&params, self.0),
+            generate::<Towers>(&params, self.1),
+        ) {
+            (Ok(first), Ok(second)) => first.same(&second) == self.2,
+            _ => false,
         }
     }
-    Ok(())
 }
 
 #[test]
-fn gives_the_same_puzzle_again(rt: HostRuntime) -> Result<(), Fail> {
-    let params = params_of(5, None)?;
-    let first = generate::<Towers>(&params, 7).map_err(|_| "refused")?;
-    let second = generate::<Towers>(&params, 7).map_err(|_| "refused")?;
-    assert!(rt; first.same(&second));
-    let other = generate::<Towers>(&params, 8).map_err(|_| "refused")?;
-    assert!(rt; !first.same(&other));
-    Ok(())
-}
-
-#[test]
-fn names_its_faults(rt: HostRuntime) {
-    let rows = [
-        (GenFault::SizeTooLarge, 1, "SizeTooLarge"),
-        (GenFault::Graded, 2, "Graded"),
-    ];
-    for (fault, number, name) in rows {
-        assert_eq!(rt; fault.number(), number);
-        assert_eq!(rt; fault.name(), name);
-    }
+fn gives_the_same_puzzle_again(rt: HostRuntime) {
+    const ROWS: &[Again] = &[Again(7, 7, true), Again(7, 8, false)];
+    check(&rt, rt.alloc(), ROWS);
 }

@@ -1,61 +1,85 @@
 //! Cuts and numbers at worked values.
 
+use super::rows::{Row, check};
 use byte_text::{begins_with_digit, cut, number};
+use std::alloc::Global;
+
+// A text, where it is cut, and its parts.
+struct Cut(
+    &'static [u8],
+    u8,
+    &'static [u8],
+    Option<&'static [u8]>,
+);
+
+impl Row for Cut {
+    fn holds(&self, _alloc: Global) -> bool {
+        let parts = cut(self.0, self.1);
+        parts.0 == self.2 && parts.1 == self.3
+    }
+}
 
 #[test]
 fn cuts_at_the_first_separator(rt: HostRuntime) {
-    let rows: [(&[u8], u8, &[u8], Option<&[u8]>); 5] = [
-        (b"a,b,c", b',', b"a", Some(b"b,c")),
-        (b",b", b',', b"", Some(b"b")),
-        (b"a,", b',', b"a", Some(b"")),
-        (b"abc", b',', b"abc", None),
-        (b"", b',', b"", None),
+    const ROWS: &[Cut] = &[
+        Cut(b"a,b,c", b',', b"a", Some(b"b,c")),
+        Cut(b",b", b',', b"", Some(b"b")),
+        Cut(b"a,", b',', b"a", Some(b"")),
+        Cut(b"abc", b',', b"abc", None),
+        Cut(b"", b',', b"", None),
     ];
-    for (text, separator, front, rest) in rows {
-        let parts = cut(text, separator);
-        assert!(rt; parts.0 == front, "the front of {text:?}");
-        assert!(rt; parts.1 == rest, "the rest of {text:?}");
+    check(&rt, rt.alloc(), ROWS);
+}
+
+// A text, the greatest number that it may be, and its number.
+struct Number(&'static [u8], u64, Option<u64>);
+
+impl Row for Number {
+    fn holds(&self, _alloc: Global) -> bool {
+        number(self.0, self.1) == self.2
     }
 }
 
 #[test]
 fn reads_decimal_numbers(rt: HostRuntime) {
-    let rows: [(&[u8], u64, Option<u64>); 15] = [
-        (b"0", 255, Some(0)),
-        (b"7", 255, Some(7)),
-        (b"255", 255, Some(255)),
-        (b"256", 255, None),
-        (b"00", 255, None),
-        (b"01", 255, None),
-        (b"", 255, None),
-        (b"+1", 255, None),
-        (b"-1", 255, None),
-        (b"1 ", 255, None),
-        (b"1:", 255, None),
-        (b"100000", 100000, Some(100000)),
-        (b"18446744073709551615", u64::MAX, Some(u64::MAX)),
-        (b"18446744073709551616", u64::MAX, None),
-        (b"100000000000000000000", u64::MAX, None),
+    const ROWS: &[Number] = &[
+        Number(b"0", 255, Some(0)),
+        Number(b"7", 255, Some(7)),
+        Number(b"255", 255, Some(255)),
+        Number(b"256", 255, None),
+        Number(b"00", 255, None),
+        Number(b"01", 255, None),
+        Number(b"", 255, None),
+        Number(b"+1", 255, None),
+        Number(b"-1", 255, None),
+        Number(b"1 ", 255, None),
+        Number(b"1:", 255, None),
+        Number(b"100000", 100000, Some(100000)),
+        Number(b"18446744073709551615", u64::MAX, Some(u64::MAX)),
+        Number(b"18446744073709551616", u64::MAX, None),
+        Number(b"100000000000000000000", u64::MAX, None),
     ];
-    for (text, greatest, number_wanted) in rows {
-        assert!(rt;
-            number(text, greatest) == number_wanted,
-            "{text:?} up to {greatest}"
-        );
+    check(&rt, rt.alloc(), ROWS);
+}
+
+// A text, and whether it begins with a digit.
+struct Front(&'static [u8], bool);
+
+impl Row for Front {
+    fn holds(&self, _alloc: Global) -> bool {
+        begins_with_digit(self.0) == self.1
     }
 }
 
 #[test]
 fn tells_a_digit_in_front(rt: HostRuntime) {
-    let rows: [(&[u8], bool); 6] = [
-        (b"0x", true),
-        (b"9", true),
-        (b"/", false),
-        (b":", false),
-        (b"a1", false),
-        (b"", false),
+    const ROWS: &[Front] = &[
+        Front(b"0x", true),
+        Front(b"9", true),
+        Front(b"/", false),
+        Front(b":", false),
+        Front(b"a1", false),
+        Front(b"", false),
     ];
-    for (text, wanted) in rows {
-        assert!(rt; begins_with_digit(text) == wanted, "{text:?}");
-    }
+    check(&rt, rt.alloc(), ROWS);
 }

@@ -1,135 +1,132 @@
 //! The towers seen along worked lines, and the values that a clue leaves there.
 
+use super::rows::{Row, check};
 use number_sets::NumberSet;
-use std::process::Abort;
+use std::alloc::Global;
 use tower_lines::{has_filling, seen, supported};
 
-// The sets of a line of w squares, each with every number from 1 to w, as bits.
-const THREE: [u16; 3] = [0b1110; 3];
+// A line, and how many towers are seen along it.
+struct Seen(&'static [u8], usize);
 
-const NINE: [u16; 9] = [0b11_1111_1110; 9];
-
-// Lines with their sets, a clue, and the values that are left.
-type Row<'a> = (&'a [u16], u8, [u16; 9]);
-
-fn compare(rt: &impl Abort, rows: &[Row]) {
-    for (sets, clue, left) in rows {
-        assert_eq!(rt;
-            supported_bits(rt, sets, *clue),
-            *left,
-            "{sets:?} at {clue}"
-        );
+impl Row for Seen {
+    fn holds(&self, _alloc: Global) -> bool {
+        seen(self.0) == self.1
     }
-}
-
-// `supported` with its sets as bits.
-fn supported_bits(rt: &impl Abort, sets: &[u16], clue: u8) -> [u16; 9] {
-    let length = sets.len();
-    assert!(rt; length <= 9 && clue <= 9);
-    let mut numbers = [NumberSet::empty(); 9];
-    for k in 0..length {
-        numbers[k] = NumberSet::from_bits(sets[k]);
-    }
-    let kept = supported(&numbers[..length], clue);
-    let mut bits = [0; 9];
-    for k in 0..9 {
-        bits[k] = kept[k].bits();
-    }
-    bits
 }
 
 #[test]
 fn towers_along_a_line(rt: HostRuntime) {
-    let rows: [(&[u8], usize); 7] = [
-        (&[1, 2, 3], 3),
-        (&[3, 1, 2], 1),
-        (&[2, 1, 3], 2),
-        (&[1, 2, 3, 4, 5, 6, 7, 8, 9], 9),
-        (&[2, 2, 1, 2], 1),
-        (&[0, 255], 2),
-        (&[], 0),
+    const ROWS: &[Seen] = &[
+        Seen(&[1, 2, 3], 3),
+        Seen(&[3, 1, 2], 1),
+        Seen(&[2, 1, 3], 2),
+        Seen(&[1, 2, 3, 4, 5, 6, 7, 8, 9], 9),
+        Seen(&[2, 2, 1, 2], 1),
+        Seen(&[0, 255], 2),
+        Seen(&[], 0),
     ];
-    for (line, count) in rows {
-        assert_eq!(rt; seen(line), count, "{line:?}");
+    check(&rt, rt.alloc(), ROWS);
+}
+
+// The sets of a line, as bits: from none up to nine of them.
+fn sets_of(bits: &[u16]) -> [NumberSet; 9] {
+    let mut sets = [NumberSet::empty(); 9];
+    for (set, bits) in sets.iter_mut().zip(bits) {
+        *set = NumberSet::from_bits(*bits);
+    }
+    sets
+}
+
+// The sets of a line, as bits, a clue, and the values that are left in the squares from the first on.
+struct Left(&'static [u16], u8, &'static [u16]);
+
+impl Row for Left {
+    fn holds(&self, _alloc: Global) -> bool {
+        if self.0.len() > 9 || self.1 > 9 {
+            return false;
+        }
+        let sets = sets_of(self.0);
+        let left = supported(&sets[..self.0.len()], self.1);
+        left == sets_of(self.2)
     }
 }
 
-#[test]
-fn three_squares(rt: HostRuntime) {
-    compare(
-        &rt,
-        &[
-            // 321 is the one line that shows 1 with 1 at its end, 312 the other that shows 1.
-            (&THREE, 1, [0b1000, 0b0110, 0b0110, 0, 0, 0, 0, 0, 0]),
-            // 132, 213 and 231 show 2.
-            (&THREE, 2, [0b0110, 0b1010, 0b1110, 0, 0, 0, 0, 0, 0]),
-            (&THREE, 3, [0b0010, 0b0100, 0b1000, 0, 0, 0, 0, 0, 0]),
-            // No line shows 0, or more than it has squares.
-            (&THREE, 0, [0; 9]),
-            (&THREE, 4, [0; 9]),
-            (&[], 0, [0; 9]),
-        ],
-    );
-}
+// The sets of a line of w squares, each with every number from 1 to w, as bits.
+const THREE: &[u16] = &[0b1110; 3];
+
+const NINE: &[u16] = &[0b11_1111_1110; 9];
+
+// 1 and 2 are both taken by the first two squares.
+const PAIR: &[u16] = &[0b0110, 0b0110, 0b1110];
+
+const RISING: &[u16] = &[0b0010, 0b0100, 0b1000];
 
 #[test]
-fn candidates_count(rt: HostRuntime) {
-    // 1 and 2 are both taken by the first two squares.
-    let pair = [0b0110, 0b0110, 0b1110];
-    compare(
-        &rt,
-        &[
-            // Of 132, 213 and 231 just 213 has 3 at its end.
-            (
-                &[0b1110, 0b1110, 0b1000],
-                2,
-                [0b0100, 0b0010, 0b1000, 0, 0, 0, 0, 0, 0],
-            ),
-            (&pair, 3, [0b0010, 0b0100, 0b1000, 0, 0, 0, 0, 0, 0]),
-            (&pair, 1, [0; 9]),
-            // Bits that stand for no number of the line are no candidates.
-            (&[0xffff; 3], 3, [0b0010, 0b0100, 0b1000, 0, 0, 0, 0, 0, 0]),
-        ],
-    );
-}
-
-#[test]
-fn nine_squares(rt: HostRuntime) {
-    let four = supported_bits(&rt, &NINE, 4);
-    assert_eq!(rt; four[0], 0b0111_1110);
-    assert_eq!(rt; four[8], 0b11_1111_1110);
-    let rising = [
-        1 << 1,
-        1 << 2,
-        1 << 3,
-        1 << 4,
-        1 << 5,
-        1 << 6,
-        1 << 7,
-        1 << 8,
-        1 << 9,
+fn a_clue_leaves_values(rt: HostRuntime) {
+    const ROWS: &[Left] = &[
+        // 321 is the one line that shows 1 with 1 at its end, 312 the other that shows 1.
+        Left(THREE, 1, &[0b1000, 0b0110, 0b0110]),
+        // 132, 213 and 231 show 2.
+        Left(THREE, 2, &[0b0110, 0b1010, 0b1110]),
+        Left(THREE, 3, RISING),
+        // No line shows 0, or more than it has squares.
+        Left(THREE, 0, &[]),
+        Left(THREE, 4, &[]),
+        Left(&[], 0, &[]),
+        // Of 132, 213 and 231 just 213 has 3 at its end.
+        Left(&[0b1110, 0b1110, 0b1000], 2, &[0b0100, 0b0010, 0b1000]),
+        Left(PAIR, 3, RISING),
+        Left(PAIR, 1, &[]),
+        // Bits that stand for no number of the line are no candidates.
+        Left(&[0xffff; 3], 3, RISING),
+        Left(
+            NINE,
+            9,
+            &[
+                1 << 1,
+                1 << 2,
+                1 << 3,
+                1 << 4,
+                1 << 5,
+                1 << 6,
+                1 << 7,
+                1 << 8,
+                1 << 9,
+            ],
+        ),
     ];
-    compare(&rt, &[(&NINE, 9, rising)]);
+    check(&rt, rt.alloc(), ROWS);
+}
+
+#[test]
+fn a_clue_of_four_leaves_values_in_nine_squares(rt: HostRuntime) {
+    let left = supported(&sets_of(NINE), 4);
+    assert!(rt; left[0].bits() == 0b0111_1110 && left[8].bits() == 0b11_1111_1110);
+}
+
+// The sets of a line, as bits, a clue, and whether the line has a filling.
+struct Filled(&'static [u16], u8, bool);
+
+impl Row for Filled {
+    fn holds(&self, _alloc: Global) -> bool {
+        if self.0.len() > 9 || self.1 > 9 {
+            return false;
+        }
+        has_filling(&sets_of(self.0)[..self.0.len()], self.1) == self.2
+    }
 }
 
 #[test]
 fn lines_have_fillings(rt: HostRuntime) {
-    let any = NumberSet::up_to(3);
-    let one = NumberSet::one(1);
-    let two = NumberSet::one(2);
-    // A line's sets, its clue, and whether it has a filling.
-    let rows = [
-        ([any, any, any], 0, false),
-        ([any, any, any], 1, true),
-        ([any, any, any], 3, true),
-        ([any, any, any], 4, false),
-        ([two, any, any], 1, false),
-        ([two, any, any], 2, true),
-        ([two, any, any], 3, false),
-        ([one, one, any], 2, false),
+    const ROWS: &[Filled] = &[
+        Filled(THREE, 0, false),
+        Filled(THREE, 1, true),
+        Filled(THREE, 3, true),
+        Filled(THREE, 4, false),
+        Filled(&[0b0100, 0b1110, 0b1110], 1, false),
+        Filled(&[0b0100, 0b1110, 0b1110], 2, true),
+        Filled(&[0b0100, 0b1110, 0b1110], 3, false),
+        Filled(&[0b0010, 0b0010, 0b1110], 2, false),
     ];
-    for (sets, clue, wanted) in rows {
-        assert!(rt; clue <= 9);
-        assert_eq!(rt; has_filling(&sets, clue), wanted, "{clue}");
-    }
+    check(&rt, rt.alloc(), ROWS);
 }

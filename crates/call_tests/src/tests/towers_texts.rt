@@ -1,88 +1,77 @@
 //! Descriptions of Towers: what is written for each, and each refusal.
 
-use super::worked::rewritten;
+use super::rows::{Row, check};
+use super::worked::{is_written, puzzle};
 use clue_rules::{IdFault, Towers};
+use std::alloc::Global;
+
+// A width, a description, and what is written for it.
+struct Written(u8, &'static str, &'static str);
+
+impl Row for Written {
+    fn holds(&self, alloc: Global) -> bool {
+        is_written::<Towers>(alloc, self.0, self.1, self.2)
+    }
+}
 
 #[test]
 fn reads_and_writes(rt: HostRuntime) {
-    let rows = [
-        (3, "3//////3/////", "3//////3/////"),
-        (3, "///////////", "///////////"),
-        (3, "1/2/3/1/2/3/1/2/3/1/2/3", "1/2/3/1/2/3/1/2/3/1/2/3"),
-        (3, "///////////,1c3c2", "///////////,1c3c2"),
-        (3, "///////////,_1__2_g_", "///////////,1_2g"),
-        (3, "///////////,i", "///////////"),
-        (3, "///////////,aaaaaaaaa", "///////////"),
-        (
-            3,
-            "///////////,1_2_3_2_3_1_3_1_2",
-            "///////////,1_2_3_2_3_1_3_1_2",
-        ),
-        (3, "///////////,h1", "///////////,h1"),
-        (3, "///////////,1h", "///////////,1h"),
-        (
-            6,
-            "///////////////////////,iz1",
-            "///////////////////////,zi1",
-        ),
-        (
-            6,
-            "///////////////////////,az1h",
-            "///////////////////////,za1h",
-        ),
-        (
-            6,
-            "///////////////////////,yaaa1g",
-            "///////////////////////,zb1g",
-        ),
-        (
-            6,
-            "///////////////////////,z1i",
-            "///////////////////////,z1i",
-        ),
-        (
-            9,
-            "///////////////////////////////////",
-            "///////////////////////////////////",
-        ),
+    const ROWS: &[Written] = &[
+        Written(3, "3//////3/////", "3//////3/////"),
+        Written(3, "///////////", "///////////"),
+        Written(3, "1/2/3/1/2/3/1/2/3/1/2/3", "1/2/3/1/2/3/1/2/3/1/2/3"),
+        Written(3, "///////////,1c3c2", "///////////,1c3c2"),
+        Written(3, "///////////,_1__2_g_", "///////////,1_2g"),
+        Written(3, "///////////,i", "///////////"),
+        Written(3, "///////////,aaaaaaaaa", "///////////"),
+        Written(3, "///////////,1_2_3_2_3_1_3_1_2", "///////////,1_2_3_2_3_1_3_1_2"),
+        Written(3, "///////////,h1", "///////////,h1"),
+        Written(3, "///////////,1h", "///////////,1h"),
+        Written(6, "///////////////////////,iz1", "///////////////////////,zi1"),
+        Written(6, "///////////////////////,az1h", "///////////////////////,za1h"),
+        Written(6, "///////////////////////,yaaa1g", "///////////////////////,zb1g"),
+        Written(6, "///////////////////////,z1i", "///////////////////////,z1i"),
+        Written(9, "///////////////////////////////////", "///////////////////////////////////"),
     ];
-    for (width, text, wanted) in rows {
-        let written = rewritten::<Towers>(rt.alloc(), width, text).expect(&rt, text);
-        assert_eq!(rt; written.as_slice(), wanted.as_bytes(), "{text}");
+    check(&rt, rt.alloc(), ROWS);
+}
+
+// A width, a description, and its refusal.
+struct Refused(u8, &'static str, IdFault);
+
+impl Row for Refused {
+    fn holds(&self, _alloc: Global) -> bool {
+        match puzzle::<Towers>(self.0, self.1) {
+            Ok(_) => false,
+            Err(fault) => fault == self.2,
+        }
     }
 }
 
 #[test]
 fn refuses_in_order(rt: HostRuntime) {
-    let rows = [
-        (3, "", IdFault::TooFew),
-        (3, "3//////3////", IdFault::TooFew),
-        (3, "3//////3//////", IdFault::TooMany),
-        (3, "4///////////", IdFault::BadClue),
-        (3, "0///////////", IdFault::BadClue),
-        (3, "12///////////", IdFault::BadClue),
-        (3, "x///////////", IdFault::BadClue),
-        (3, "x//////////", IdFault::TooFew),
-        (3, "4///////////,!", IdFault::BadClue),
-        (3, "///////////,", IdFault::TooFew),
-        (3, "///////////,12g", IdFault::BadSquares),
-        (
-            9,
-            "///////////////////////////////////,12g",
-            IdFault::BadSquares,
-        ),
-        (3, "///////////,0h", IdFault::BadSquares),
-        (3, "///////////,4h", IdFault::BadSquares),
-        (3, "///////////,i,", IdFault::BadSquares),
-        (3, "///////////,Ai", IdFault::BadSquares),
-        (3, "///////////,zz!", IdFault::BadSquares),
-        (3, "///////////,1_2f", IdFault::TooFew),
-        (3, "///////////,1_2h", IdFault::TooMany),
-        (3, "///////////,i1", IdFault::TooMany),
-        (3, "///////////,z", IdFault::TooMany),
+    const ROWS: &[Refused] = &[
+        Refused(3, "", IdFault::TooFew),
+        Refused(3, "3//////3////", IdFault::TooFew),
+        Refused(3, "3//////3//////", IdFault::TooMany),
+        Refused(3, "4///////////", IdFault::BadClue),
+        Refused(3, "0///////////", IdFault::BadClue),
+        Refused(3, "12///////////", IdFault::BadClue),
+        Refused(3, "x///////////", IdFault::BadClue),
+        Refused(3, "x//////////", IdFault::TooFew),
+        Refused(3, "4///////////,!", IdFault::BadClue),
+        Refused(3, "///////////,", IdFault::TooFew),
+        Refused(3, "///////////,12g", IdFault::BadSquares),
+        Refused(9, "///////////////////////////////////,12g", IdFault::BadSquares),
+        Refused(3, "///////////,0h", IdFault::BadSquares),
+        Refused(3, "///////////,4h", IdFault::BadSquares),
+        Refused(3, "///////////,i,", IdFault::BadSquares),
+        Refused(3, "///////////,Ai", IdFault::BadSquares),
+        Refused(3, "///////////,zz!", IdFault::BadSquares),
+        Refused(3, "///////////,1_2f", IdFault::TooFew),
+        Refused(3, "///////////,1_2h", IdFault::TooMany),
+        Refused(3, "///////////,i1", IdFault::TooMany),
+        Refused(3, "///////////,z", IdFault::TooMany),
     ];
-    for (width, text, fault) in rows {
-        let answer = rewritten::<Towers>(rt.alloc(), width, text);
-        assert_eq!(rt; answer.err(), Some(fault), "{text}");
-    }
+    check(&rt, rt.alloc(), ROWS);
 }

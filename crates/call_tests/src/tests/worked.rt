@@ -1,10 +1,30 @@
-//! Puzzles that tests read from their descriptions, and what they ask of them, in either game.
+//! Grids from digits, and puzzles from their descriptions, with what tests ask of them, in either game.
 
 use clue_rules::{Game, IdFault};
 use latin_board::{Grid, Size};
 use std::alloc::Global;
-use std::test::Fail;
 use trail_solver::{Answer, Rules, solve};
+
+/// The description of a puzzle of width 3, in one game or the other.
+#[derive(Clone, Copy)]
+pub(crate) enum Described {
+    Towers(&'static str),
+    Unequal(&'static str),
+}
+
+/// The grid of a width with these numbers in reading order, as digits; the squares after the last are blank.
+pub(crate) fn grid_of(width: u8, digits: &str) -> Option<Grid> {
+    let mut grid = Grid::blank(Size::new(width)?);
+    for (cell, digit) in digits.as_bytes().iter().enumerate() {
+        let number = digit.wrapping_sub(b'0');
+        let width = grid.size().get();
+        if cell >= width as usize * width as usize || number > width {
+            return None;
+        }
+        grid.set(cell, number);
+    }
+    Some(grid)
+}
 
 /// The puzzle of a width that a text describes.
 pub(crate) fn puzzle<P: Game>(width: u8, text: &str) -> Result<P, IdFault> {
@@ -17,6 +37,22 @@ pub(crate) fn rewritten<P: Game>(alloc: Global, width: u8, text: &str) -> Result
     puzzle::<P>(width, text)?.write_desc(alloc)
 }
 
+/// Whether the puzzle that a text describes is written so.
+pub(crate) fn is_written<P: Game>(alloc: Global, width: u8, text: &str, wanted: &str) -> bool {
+    match rewritten::<P>(alloc, width, text) {
+        Ok(written) => written.as_slice() == wanted.as_bytes(),
+        Err(_) => false,
+    }
+}
+
+/// Whether a puzzle is written so.
+pub(crate) fn is_description<P: Game>(alloc: Global, puzzle: &P, wanted: &str) -> bool {
+    match puzzle.write_desc(alloc) {
+        Ok(written) => written.as_slice() == wanted.as_bytes(),
+        Err(_) => false,
+    }
+}
+
 pub(crate) fn only_solution<P: Rules>(puzzle: &P) -> Option<Grid> {
     match solve(puzzle) {
         Answer::One(grid) => Some(grid),
@@ -24,19 +60,14 @@ pub(crate) fn only_solution<P: Rules>(puzzle: &P) -> Option<Grid> {
     }
 }
 
-pub(crate) fn has_no_solution<P: Rules>(puzzle: &P) -> bool {
-    matches!(solve(puzzle), Answer::None)
-}
-
-/// The Latin square of width 3 that a text gives whole.
-pub(crate) fn square<P: Game>(text: &str) -> Result<Grid, Fail> {
-    let given: P = puzzle(3, text)?;
-    Ok(only_solution(&given).ok_or("not a Latin square")?)
-}
-
-/// Whether a Latin square meets the puzzle's clues or signs.
-pub(crate) fn holds<P: Rules>(puzzle: &P, grid: &Grid) -> bool {
-    grid.size().get() == puzzle.size().get() && grid.is_latin() && puzzle.holds(grid)
+/// Whether a Latin square, as digits, meets the clues or signs of a puzzle of width 3.
+pub(crate) fn holds<P: Rules>(puzzle: &P, digits: &str) -> bool {
+    match grid_of(3, digits) {
+        Some(grid) if grid.size().get() == puzzle.size().get() && grid.is_latin() => {
+            puzzle.holds(&grid)
+        }
+        _ => false,
+    }
 }
 
 pub(crate) fn has<P: Rules>(puzzle: &P, item: usize) -> bool {
@@ -52,10 +83,11 @@ pub(crate) fn without<P: Rules>(puzzle: &P, item: usize) -> P {
     rest
 }
 
-/// The full puzzle of a Latin square.
-pub(crate) fn full_of<P: Rules>(grid: &Grid) -> Option<P> {
+/// The full puzzle of a Latin square of width 3, as digits.
+pub(crate) fn full_of<P: Rules>(digits: &str) -> Option<P> {
+    let grid = grid_of(3, digits)?;
     if grid.is_latin() {
-        Some(P::full(grid))
+        Some(P::full(&grid))
     } else {
         None
     }

@@ -1,154 +1,208 @@
 //! The devices over memory: pieces, room, and a failure at each call in turn.
 
+use crate::tests::rows::{Row, check};
 use puzzle_io::{DeviceFault, MemorySink, MemorySource, Sink, Source};
-use std::process::Abort;
-use std::test::Fail;
+use std::alloc::Global;
 
-// What the source gives to a buffer of `room` bytes, read by read, until it gives none: the numbers and the bytes.
-fn read_all(
-    rt: &impl Abort,
-    source: &mut MemorySource,
-    room: usize,
-    counts: &mut Vec<usize>,
-    bytes: &mut Vec<u8>,
-) -> Result<(), Fail> {
+const FAULT: DeviceFault = DeviceFault::DeviceFault;
+
+const INPUT: &[u8] = b"abc\ndef";
+
+// The pieces of a source, the room of a buffer, and how many bytes each read gives.
+struct Reads(usize, usize, &'static [usize]);
+
+// Whether reads into so much room give so many bytes each, all bytes in order, and nothing then.
+fn gives(source: &mut MemorySource, room: usize, counts: &[usize]) -> bool {
+    let mut rest = INPUT;
     let mut buffer = [0u8; 8];
-    for _ in 0..20 {
-        assert!(rt; room <= 8);
-        let count = source.read(&mut buffer[..room])?;
-        if count == 0 {
-            return Ok(());
-        }
-        assert!(rt; count <= 8);
-        counts.push(count)?;
-        bytes.extend_from_slice(&buffer[..count])?;
+    if room > 8 {
+        return false;
     }
-    Ok(())
+    for count in counts {
+        let Ok(read) = source.read(&mut buffer[..room]) else {
+            return false;
+        };
+        if read != *count || read > rest.len() || read > 8 || buffer[..read] != rest[..read] {
+            return false;
+        }
+        rest = &rest[read..];
+    }
+    rest.is_empty() && source.read(&mut buffer[..room]) == Ok(0)
+}
+
+impl Row for Reads {
+    fn holds(&self, alloc: Global) -> bool {
+        match Vec::from_slice(alloc, INPUT) {
+            Ok(input) if self.0 >= 1 => {
+                let mut source = MemorySource::new(input, self.0, 0);
+                source.read(&mut []) == Ok(0)
+                    && gives(&mut source, self.1, self.2)
+                    && source.read(&mut [0; 2]) == Ok(0)
+            }
+            _ => false,
+        }
+    }
 }
 
 #[test]
-fn reads_in_pieces(rt: HostRuntime) -> Result<(), Fail> {
-    let table: [(usize, usize, &[usize]); 5] = [
-        (1, 4, &[1, 1, 1, 1, 1, 1, 1]),
-        (3, 4, &[3, 3, 1]),
-        (8, 4, &[4, 3]),
-        (7, 8, &[7]),
-        (512, 8, &[7]),
+fn reads_in_pieces(rt: HostRuntime) {
+    const ROWS: &[Reads] = &[
+        Reads(1, 4, &[1, 1, 1, 1, 1, 1, 1]),
+        Reads(3, 4, &[3, 3, 1]),
+        Reads(8, 4, &[4, 3]),
+        Reads(7, 8, &[7]),
+        Reads(512, 8, &[7]),
     ];
-    for (piece, room, want) in table {
-        assert!(rt; piece >= 1);
-        let input = Vec::from_slice(rt.alloc(), b"abc\ndef")?;
-        let mut source = MemorySource::new(input, piece, 0);
-        let mut counts = Vec::new(rt.alloc());
-        let mut bytes = Vec::new(rt.alloc());
-        assert_eq!(rt; source.read(&mut []), Ok(0));
-        read_all(&rt, &mut source, room, &mut counts, &mut bytes)?;
-        assert_eq!(rt; counts.as_slice(), want, "pieces of {piece}");
-        assert_eq!(rt;
-            bytes.as_slice(),
-            b"abc\ndef".as_slice(),
-            "pieces of {piece}"
-        );
-        assert_eq!(rt; source.read(&mut [0; 2]), Ok(0));
+    check(&rt, rt.alloc(), ROWS);
+}
+
+// The call at which a source of `abcd` in pieces of two bytes fails.
+struct FailingRead(u64);
+
+fn fails_from(source: &mut MemorySource, fails_at: u64) -> bool {
+    let mut is_so = true;
+    let mut call = 1u64;
+    for count in &[2usize, 2, 0, 0, 0, 0] {
+        let wanted = if call < fails_at {
+            Ok(*count)
+        } else {
+            Err(FAULT)
+        };
+        is_so = is_so && source.read(&mut [0; 4]) == wanted;
+        call = call.saturating_add(1);
     }
-    Ok(())
+    is_so
+}
+
+impl Row for FailingRead {
+    fn holds(&self, alloc: Global) -> bool {
+        match Vec::from_slice(alloc, b"abcd") {
+            Ok(input) => fails_from(&mut MemorySource::new(input, 2, self.0), self.0),
+            Err(_) => false,
+        }
+    }
 }
 
 #[test]
-fn each_read_fails_in_turn(rt: HostRuntime) -> Result<(), Fail> {
-    for fails_at in 1..6u64 {
-        let input = Vec::from_slice(rt.alloc(), b"abcd")?;
-        let mut source = MemorySource::new(input, 2, fails_at);
-        let counts = [Ok(2), Ok(2), Ok(0), Ok(0), Ok(0), Ok(0)];
-        for (call, count) in (1u64..7).zip(counts) {
-            let want = if call < fails_at {
-                count
-            } else {
-                Err(DeviceFault::DeviceFault)
-            };
-            assert_eq!(rt;
-                source.read(&mut [0; 4]),
-                want,
-                "call {call}, failing at {fails_at}"
-            );
+fn each_read_fails_in_turn(rt: HostRuntime) {
+    const ROWS: &[FailingRead] = &[
+        FailingRead(1),
+        FailingRead(2),
+        FailingRead(3),
+        FailingRead(4),
+        FailingRead(5),
+    ];
+    check(&rt, rt.alloc(), ROWS);
+}
+
+// The pieces of a sink with room for five bytes, and how many of `vwxyz+` each write takes.
+struct Writes(usize, &'static [usize]);
+
+// Whether writes take so many bytes each; gives the rest.
+fn rest_after<'a>(sink: &mut MemorySink, bytes: &'a [u8], counts: &[usize]) -> Option<&'a [u8]> {
+    let mut rest = bytes;
+    for wanted in counts {
+        match sink.write(rest) {
+            Ok(count) if count == *wanted && count <= rest.len() => rest = &rest[count..],
+            _ => return None,
         }
     }
-    Ok(())
+    Some(rest)
 }
 
 // A full sink takes nothing, and only a write of some bytes fails.
-fn check_full(rt: &impl Abort, sink: &mut MemorySink, rest: &[u8]) {
-    assert_eq!(rt; sink.write(b""), Ok(0));
-    assert_eq!(rt; sink.flush(), Ok(()));
-    assert_eq!(rt; sink.write(rest), Err(DeviceFault::DeviceFault));
-    assert_eq!(rt; sink.write(b""), Err(DeviceFault::DeviceFault));
-    assert_eq!(rt; sink.flush(), Err(DeviceFault::DeviceFault));
+fn is_full(sink: &mut MemorySink, rest: &[u8]) -> bool {
+    sink.write(b"") == Ok(0)
+        && sink.flush() == Ok(())
+        && sink.write(rest) == Err(FAULT)
+        && sink.write(b"") == Err(FAULT)
+        && sink.flush() == Err(FAULT)
 }
 
-#[test]
-fn writes_in_pieces_until_full(rt: HostRuntime) -> Result<(), Fail> {
-    let table: [(usize, &[usize]); 4] = [
-        (1, &[1, 1, 1, 1, 1]),
-        (3, &[3, 2]),
-        (5, &[5]),
-        (512, &[5]),
-    ];
-    for (piece, counts) in table {
-        assert!(rt; piece >= 1);
-        let room = Vec::from_slice(rt.alloc(), b".....")?;
-        let mut sink = MemorySink::new(room, piece, 0);
-        assert_eq!(rt; sink.taken(), b"".as_slice());
-        let mut rest = b"vwxyz+".as_slice();
-        for want in counts {
-            let count = sink.write(rest)?;
-            assert_eq!(rt; count, *want, "pieces of {piece}");
-            assert!(rt; count <= rest.len());
-            rest = &rest[count..];
+fn fills(sink: &mut MemorySink, counts: &[usize]) -> bool {
+    match rest_after(sink, b"vwxyz+", counts) {
+        Some(rest) => {
+            sink.taken() == b"vwxyz".as_slice()
+                && is_full(sink, rest)
+                && sink.taken() == b"vwxyz".as_slice()
         }
-        assert_eq!(rt; sink.taken(), b"vwxyz".as_slice());
-        check_full(&rt, &mut sink, rest);
-        assert_eq!(rt; sink.taken(), b"vwxyz".as_slice());
+        None => false,
     }
-    Ok(())
 }
 
-#[test]
-fn each_write_and_flush_fails_in_turn(rt: HostRuntime) -> Result<(), Fail> {
-    let table: [(u64, &[u8]); 6] = [
-        (0, b"abcdef"),
-        (1, b""),
-        (2, b"ab"),
-        (3, b"ab"),
-        (4, b"abcd"),
-        (5, b"abcd"),
-    ];
-    for (fails_at, taken) in table {
-        let room = Vec::from_slice(rt.alloc(), b"........")?;
-        let mut sink = MemorySink::new(room, 2, fails_at);
-        for (write, flush, piece) in [(1u64, 2u64, b"ab"), (3, 4, b"cd"), (5, 6, b"ef")] {
-            let fails = |call: u64| fails_at != 0 && call >= fails_at;
-            assert_eq!(rt;
-                sink.write(piece).is_err(),
-                fails(write),
-                "failing at {fails_at}"
-            );
-            assert_eq!(rt;
-                sink.flush().is_err(),
-                fails(flush),
-                "failing at {fails_at}"
-            );
+impl Row for Writes {
+    fn holds(&self, alloc: Global) -> bool {
+        match Vec::from_slice(alloc, b".....") {
+            Ok(room) if self.0 >= 1 => {
+                let mut sink = MemorySink::new(room, self.0, 0);
+                sink.taken().is_empty() && fills(&mut sink, self.1)
+            }
+            _ => false,
         }
-        assert_eq!(rt; sink.taken(), taken, "failing at {fails_at}");
     }
-    Ok(())
 }
 
 #[test]
-fn a_write_of_no_bytes_fails_at_its_number(rt: HostRuntime) -> Result<(), Fail> {
-    let mut sink = MemorySink::new(Vec::from_slice(rt.alloc(), b"....")?, 4, 2);
-    assert_eq!(rt; sink.write(b"ab"), Ok(2));
-    assert_eq!(rt; sink.write(b""), Err(DeviceFault::DeviceFault));
-    assert_eq!(rt; sink.write(b"cd"), Err(DeviceFault::DeviceFault));
-    assert_eq!(rt; sink.taken(), b"ab".as_slice());
-    Ok(())
+fn writes_in_pieces_until_full(rt: HostRuntime) {
+    const ROWS: &[Writes] = &[
+        Writes(1, &[1, 1, 1, 1, 1]),
+        Writes(3, &[3, 2]),
+        Writes(5, &[5]),
+        Writes(512, &[5]),
+    ];
+    check(&rt, rt.alloc(), ROWS);
+}
+
+// The call at which a sink fails, or 0, where three pieces are written and each is flushed; and what it has taken then.
+struct FailingWrite(u64, &'static [u8]);
+
+fn fails(call: u64, fails_at: u64) -> bool {
+    fails_at != 0 && call >= fails_at
+}
+
+fn writes_until(sink: &mut MemorySink, fails_at: u64) -> bool {
+    let mut is_so = true;
+    let mut call = 1u64;
+    for piece in &[b"ab", b"cd", b"ef"] {
+        is_so = is_so && sink.write(*piece).is_err() == fails(call, fails_at);
+        call = call.saturating_add(1);
+        is_so = is_so && sink.flush().is_err() == fails(call, fails_at);
+        call = call.saturating_add(1);
+    }
+    is_so
+}
+
+impl Row for FailingWrite {
+    fn holds(&self, alloc: Global) -> bool {
+        match Vec::from_slice(alloc, b"........") {
+            Ok(room) => {
+                let mut sink = MemorySink::new(room, 2, self.0);
+                writes_until(&mut sink, self.0) && sink.taken() == self.1
+            }
+            Err(_) => false,
+        }
+    }
+}
+
+#[test]
+fn each_write_and_flush_fails_in_turn(rt: HostRuntime) {
+    const ROWS: &[FailingWrite] = &[
+        FailingWrite(0, b"abcdef"),
+        FailingWrite(1, b""),
+        FailingWrite(2, b"ab"),
+        FailingWrite(3, b"ab"),
+        FailingWrite(4, b"abcd"),
+        FailingWrite(5, b"abcd"),
+    ];
+    check(&rt, rt.alloc(), ROWS);
+}
+
+#[test]
+fn a_write_of_no_bytes_fails_at_its_number(rt: HostRuntime) {
+    let room = Vec::from_slice(rt.alloc(), b"....").expect(&rt, "memory");
+    let mut sink = MemorySink::new(room, 4, 2);
+    assert!(rt; sink.write(b"ab") == Ok(2));
+    assert!(rt; sink.write(b"") == Err(FAULT));
+    assert!(rt; sink.write(b"cd") == Err(FAULT));
+    assert!(rt; sink.taken() == b"ab".as_slice());
 }

@@ -2,11 +2,13 @@
 
 ghost use Rattle.std.specs.Prelude.{◌≤◌, IfOk};
 
+use crate::tests::rows::{Row, check};
 use puzzle_io::{DeviceFault, FromRead, Sink, Source, ToWrite};
 use std::alloc::{AllocError, Global};
 use std::io;
 use std::io::{ErrorKind, Read, Write};
-use std::test::Fail;
+
+const FAULT: DeviceFault = DeviceFault::DeviceFault;
 
 // A reader and writer that answers each call by the next of its answers: so many bytes at most, or an error.
 #[derive(Drop)]
@@ -51,24 +53,25 @@ fn reads_from_memory(rt: HostRuntime) {
     let mut reader = b"abcde".as_slice();
     let mut source = FromRead::new(&mut reader);
     let mut buffer = [0u8; 3];
-    assert_eq!(rt; source.read(&mut []), Ok(0));
-    assert_eq!(rt; source.read(&mut buffer), Ok(3));
-    assert_eq!(rt; buffer, *b"abc");
-    assert_eq!(rt; source.read(&mut buffer), Ok(2));
-    assert_eq!(rt; buffer, *b"dec");
-    assert_eq!(rt; source.read(&mut buffer), Ok(0));
+    assert!(rt; source.read(&mut []) == Ok(0));
+    assert!(rt; source.read(&mut buffer) == Ok(3) && buffer == *b"abc");
+    assert!(rt; source.read(&mut buffer) == Ok(2) && buffer == *b"dec");
+    assert!(rt; source.read(&mut buffer) == Ok(0));
+}
+
+fn writes_to_memory(alloc: Global) -> bool {
+    let mut written = Vec::new(alloc);
+    let mut sink = ToWrite::new(&mut written);
+    let is_taken = sink.write(b"abc") == Ok(3)
+        && sink.flush() == Ok(())
+        && sink.write(b"") == Ok(0)
+        && sink.write(b"de") == Ok(2);
+    is_taken && written.as_slice() == b"abcde".as_slice()
 }
 
 #[test]
-fn writes_to_memory(rt: HostRuntime) -> Result<(), Fail> {
-    let mut written = Vec::new(rt.alloc());
-    let mut sink = ToWrite::new(&mut written);
-    assert_eq!(rt; sink.write(b"abc"), Ok(3));
-    assert_eq!(rt; sink.flush(), Ok(()));
-    assert_eq!(rt; sink.write(b""), Ok(0));
-    assert_eq!(rt; sink.write(b"de"), Ok(2));
-    assert_eq!(rt; written.as_slice(), b"abcde".as_slice());
-    Ok(())
+fn a_vector_takes_all(rt: HostRuntime) {
+    assert!(rt; writes_to_memory(rt.alloc()));
 }
 
 #[test]
@@ -76,60 +79,80 @@ fn takes_no_more_than_room_at_a_full_slice(rt: HostRuntime) {
     let mut room = [0u8; 3];
     let mut writer = room.as_mut_slice();
     let mut sink = ToWrite::new(&mut writer);
-    assert_eq!(rt; sink.write(b"abcd"), Ok(3));
-    assert_eq!(rt; sink.write(b""), Ok(0));
-    assert_eq!(rt; sink.flush(), Ok(()));
-    assert_eq!(rt; sink.write(b"d"), Ok(0));
-    assert_eq!(rt; sink.flush(), Err(DeviceFault::DeviceFault));
-    assert_eq!(rt; room, *b"abc");
+    assert!(rt; sink.write(b"abcd") == Ok(3));
+    assert!(rt; sink.write(b"") == Ok(0));
+    assert!(rt; sink.flush() == Ok(()));
+    assert!(rt; sink.write(b"d") == Ok(0));
+    assert!(rt; sink.flush() == Err(FAULT));
+    assert!(rt; room == *b"abc");
 }
 
-// After an error, an interruption too, the reader is left alone.
-#[test]
-fn a_read_that_failed_is_the_last(rt: HostRuntime) {
-    for error in [ErrorKind::Interrupted, ErrorKind::Other] {
+// A reader's error after its first read, an interruption too: the reader is left alone then.
+struct FailedRead(ErrorKind);
+
+impl Row for FailedRead {
+    fn holds(&self, _alloc: Global) -> bool {
         let mut reader = Scripted {
             answers: &[Some(2), None, Some(2)],
-            error,
+            error: self.0,
             calls: 0,
         };
         let mut source = FromRead::new(&mut reader);
-        assert_eq!(rt; source.read(&mut [0; 4]), Ok(2));
-        assert_eq!(rt; source.read(&mut [0; 4]), Err(DeviceFault::DeviceFault));
-        assert_eq!(rt; source.read(&mut [0; 4]), Err(DeviceFault::DeviceFault));
-        assert_eq!(rt; reader.calls, 2);
+        let is_last = source.read(&mut [0; 4]) == Ok(2)
+            && source.read(&mut [0; 4]) == Err(FAULT)
+            && source.read(&mut [0; 4]) == Err(FAULT);
+        is_last && reader.calls == 2
+    }
+}
+
+#[test]
+fn a_read_that_failed_is_the_last(rt: HostRuntime) {
+    const ROWS: &[FailedRead] = &[
+        FailedRead(ErrorKind::Interrupted),
+        FailedRead(ErrorKind::Other),
+    ];
+    check(&rt, rt.alloc(), ROWS);
+}
+
+// What a writer answers, how many calls it gets, and what comes of a write, a flush and one more write.
+struct FailedWrite(
+    &'static [Option<usize>],
+    usize,
+    Result<usize, DeviceFault>,
+    bool,
+    Result<usize, DeviceFault>,
+);
+
+impl FailedWrite {
+    fn is_last(&self, error: ErrorKind) -> bool {
+        let mut writer = Scripted {
+            answers: self.0,
+            error,
+            calls: 0,
+        };
+        let mut sink = ToWrite::new(&mut writer);
+        let is_so = sink.write(b"abcd") == self.2
+            && sink.flush().is_ok() == self.3
+            && sink.write(b"abcd") == self.4;
+        is_so && writer.calls == self.1
+    }
+}
+
+impl Row for FailedWrite {
+    fn holds(&self, _alloc: Global) -> bool {
+        self.is_last(ErrorKind::Interrupted) && self.is_last(ErrorKind::Other)
     }
 }
 
 #[test]
 fn a_write_or_flush_that_failed_is_the_last(rt: HostRuntime) {
-    let fault = Err(DeviceFault::DeviceFault);
-    let table: [(
-        &[Option<usize>],
-        usize,
-        [Result<usize, DeviceFault>; 2],
-        bool,
-    ); 4] = [
-        (&[Some(3), Some(0), Some(1)], 3, [Ok(3), Ok(1)], true),
-        (&[None, Some(0), Some(1)], 1, [fault, fault], false),
-        (&[Some(3), None, Some(1)], 2, [Ok(3), fault], false),
-        (&[Some(0), Some(0), Some(1)], 1, [Ok(0), fault], false),
+    const ROWS: &[FailedWrite] = &[
+        FailedWrite(&[Some(3), Some(0), Some(1)], 3, Ok(3), true, Ok(1)),
+        FailedWrite(&[None, Some(0), Some(1)], 1, Err(FAULT), false, Err(FAULT)),
+        FailedWrite(&[Some(3), None, Some(1)], 2, Ok(3), false, Err(FAULT)),
+        FailedWrite(&[Some(0), Some(0), Some(1)], 1, Ok(0), false, Err(FAULT)),
     ];
-    for error in [ErrorKind::Interrupted, ErrorKind::Other] {
-        for (answers, calls, writes, flushes) in table {
-            let mut writer = Scripted {
-                answers,
-                error,
-                calls: 0,
-            };
-            let mut sink = ToWrite::new(&mut writer);
-            let [first, second] = writes;
-            assert_eq!(rt; sink.write(b"abcd"), first);
-            assert_eq!(rt; sink.flush().is_ok(), flushes);
-            assert_eq!(rt; sink.write(b"abcd"), second);
-            assert_eq!(rt; writer.calls, calls);
-        }
-    }
+    check(&rt, rt.alloc(), ROWS);
 }
 
 // A write of no bytes may fail too, and is the last then.
@@ -141,11 +164,11 @@ fn a_write_of_no_bytes_that_failed_is_the_last(rt: HostRuntime) {
         calls: 0,
     };
     let mut sink = ToWrite::new(&mut writer);
-    assert_eq!(rt; sink.write(b"ab"), Ok(2));
-    assert_eq!(rt; sink.write(b""), Err(DeviceFault::DeviceFault));
-    assert_eq!(rt; sink.write(b"cd"), Err(DeviceFault::DeviceFault));
-    assert_eq!(rt; sink.flush(), Err(DeviceFault::DeviceFault));
-    assert_eq!(rt; writer.calls, 2);
+    assert!(rt; sink.write(b"ab") == Ok(2));
+    assert!(rt; sink.write(b"") == Err(FAULT));
+    assert!(rt; sink.write(b"cd") == Err(FAULT));
+    assert!(rt; sink.flush() == Err(FAULT));
+    assert!(rt; writer.calls == 2);
 }
 
 // A writer that takes at most so many bytes a call, and keeps them.
@@ -186,49 +209,99 @@ fn write_all(sink: &mut impl Sink, bytes: &[u8]) -> Result<(), DeviceFault> {
     sink.flush()
 }
 
-#[test]
-fn more_bytes_than_a_buffer_come_in_order(rt: HostRuntime) -> Result<(), Fail> {
-    let bytes = many_bytes(rt.alloc(), 5_000)?;
-    for piece in [1, 7, 1_024, 4_096, 4_999, 5_000, 10_000] {
-        let mut taken = Vec::new(rt.alloc());
+// The pieces in which 5,000 bytes come in order.
+struct InOrder(usize);
+
+impl Row for InOrder {
+    fn holds(&self, alloc: Global) -> bool {
+        let Ok(bytes) = many_bytes(alloc, 5_000) else {
+            return false;
+        };
+        let mut taken = Vec::new(alloc);
         let mut sink = ToWrite::new(Pieces {
             taken: &mut taken,
-            piece,
+            piece: self.0,
         });
-        write_all(&mut sink, &bytes)?;
-        assert!(rt; taken.as_slice() == bytes.as_slice(), "pieces of {piece}");
+        let is_written = write_all(&mut sink, bytes.as_slice()).is_ok();
+        is_written && taken.as_slice() == bytes.as_slice()
     }
-    Ok(())
 }
 
-// However many calls there were, and however long they are: where std answers each by a success, so does the device.
 #[test]
-fn a_device_fails_by_itself_never(rt: HostRuntime) -> Result<(), Fail> {
+fn more_bytes_than_a_buffer_come_in_order(rt: HostRuntime) {
+    const ROWS: &[InOrder] = &[
+        InOrder(1),
+        InOrder(7),
+        InOrder(1_024),
+        InOrder(4_096),
+        InOrder(4_999),
+        InOrder(5_000),
+        InOrder(10_000),
+    ];
+    check(&rt, rt.alloc(), ROWS);
+}
+
+// How many bytes std answers at most, and never an error.
+struct Unfailing(usize);
+
+fn reads_and_writes(
+    source: &mut impl Source,
+    sink: &mut impl Sink,
+    buffer: &mut [u8],
+    most: usize,
+) -> bool {
+    let wanted = Ok(most.min(buffer.len()));
+    source.read(buffer) == wanted && sink.write(buffer) == wanted && sink.flush() == Ok(())
+}
+
+// 3,000 reads, writes and flushes, of 0 to 5,000 bytes.
+fn never_fail(source: &mut impl Source, sink: &mut impl Sink, most: usize) -> bool {
     let mut buffer = [0u8; 5_000];
-    for most in [1usize, 3, 4_096, 10_000] {
-        let answers = vec![in rt.alloc(); Some(most); 6_000]?;
+    for i in 0..3_000usize {
+        let length = match i % 4 {
+            0 => 0,
+            1 => 1,
+            2 => 5,
+            _ => 5_000,
+        };
+        if !reads_and_writes(source, sink, &mut buffer[..length], most) {
+            return false;
+        }
+    }
+    true
+}
+
+fn answers_of(alloc: Global, most: usize) -> Result<Vec<Option<usize>>, AllocError> {
+    vec![in alloc; Some(most); 6_000]
+}
+
+impl Row for Unfailing {
+    fn holds(&self, alloc: Global) -> bool {
+        let Ok(answers) = answers_of(alloc, self.0) else {
+            return false;
+        };
         let mut source = FromRead::new(Scripted {
-            answers: &answers,
+            answers: answers.as_slice(),
             error: ErrorKind::Other,
             calls: 0,
         });
         let mut sink = ToWrite::new(Scripted {
-            answers: &answers,
+            answers: answers.as_slice(),
             error: ErrorKind::Other,
             calls: 0,
         });
-        for i in 0..3_000usize {
-            let length = [0usize, 1, 5, 5_000][i % 4];
-            assert!(rt; length <= 5_000);
-            let want = Ok(most.min(length));
-            assert_eq!(rt;
-                source.read(&mut buffer[..length]),
-                want,
-                "read {i} of {most}"
-            );
-            assert_eq!(rt; sink.write(&buffer[..length]), want, "write {i} of {most}");
-            assert_eq!(rt; sink.flush(), Ok(()), "flush {i}");
-        }
+        never_fail(&mut source, &mut sink, self.0)
     }
-    Ok(())
+}
+
+// However many calls there were, and however long they are: where std answers each by a success, so does the device.
+#[test]
+fn a_device_fails_by_itself_never(rt: HostRuntime) {
+    const ROWS: &[Unfailing] = &[
+        Unfailing(1),
+        Unfailing(3),
+        Unfailing(4_096),
+        Unfailing(10_000),
+    ];
+    check(&rt, rt.alloc(), ROWS);
 }

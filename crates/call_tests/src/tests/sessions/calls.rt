@@ -1,88 +1,48 @@
-//! Each public call once, and the readers of a session. Whole games are played by the crate of the game tests.
+//! Move texts, and the readers of a session.
 
-use super::{PUZZLE, begun, plays, puzzle};
+use super::PUZZLE;
+use crate::tests::rows::{Row, check};
+use crate::tests::worked::puzzle;
 use clue_rules::{Params, Towers};
 use play_midend::{
-    Extras, KeptBytes, Move, PlayFault, Session, laws, move_list_laws, read_move, write_move,
+    Extras, KeptBytes, Move, Session, laws, move_list_laws, read_move, write_move,
 };
-use std::test::Fail;
+use std::alloc::Global;
 use trail_solver::Rules;
 
-#[test]
-fn each_call_once(rt: HostRuntime) -> Result<(), Fail> {
-    let mut session = begun(rt.alloc(), puzzle(3, PUZZLE)?)?;
-    plays(
-        &rt,
-        rt.alloc(),
-        &mut session,
-        &[
-            ("undo", "NothingToUndo", "playing 1/1"),
-            ("R0,0,3", "ok", "playing 2/2"),
-            ("redo", "NothingToRedo", "playing 2/2"),
-            ("solve", "ok", "helped 3/3"),
-            ("undo", "ok", "playing 2/3"),
-            ("redo", "ok", "helped 3/3"),
-            ("restart", "ok", "playing 4/4"),
-        ],
-    )?;
-    assert!(rt; session.states() == 4);
-    assert!(rt; *session.move_at(2) == read_move(b"S123231312")?);
-    Ok(())
-}
+// The text of a move.
+struct Text(&'static str);
 
-// Nine numbers that solve the puzzle.
-#[test]
-fn marks_on_a_completed_board(rt: HostRuntime) -> Result<(), Fail> {
-    let mut session = begun(rt.alloc(), puzzle(3, PUZZLE)?)?;
-    plays(
-        &rt,
-        rt.alloc(),
-        &mut session,
-        &[
-            ("R0,0,1", "ok", "playing 2/2"),
-            ("R1,0,2", "ok", "playing 3/3"),
-            ("R2,0,3", "ok", "playing 4/4"),
-            ("R0,1,2", "ok", "playing 5/5"),
-            ("R1,1,3", "ok", "playing 6/6"),
-            ("R2,1,1", "ok", "playing 7/7"),
-            ("R0,2,3", "ok", "playing 8/8"),
-            ("R1,2,1", "ok", "playing 9/9"),
-            ("R2,2,2", "ok", "solved 10/10"),
-            ("P0,0,1", "FilledSquare", "solved 10/10"),
-            ("M", "ok", "solved 11/11"),
-            ("R0,0,0", "ok", "solved 12/12"),
-            ("P0,0,1", "ok", "solved 13/13"),
-            ("M", "ok", "solved 14/14"),
-        ],
-    )?;
-    Ok(())
-}
-
-#[test]
-fn texts_are_read_as_they_are_written(rt: HostRuntime) -> Result<(), Fail> {
-    let rows = [
-        "R0,0,1",
-        "R255,10,0",
-        "P2,1,9",
-        "M",
-        "S123231312",
-        "D-1,0",
-        "D0,-1",
-        "D127,127",
-    ];
-    for text in rows {
-        let m = read_move(text.as_bytes())?;
-        let written = write_move(rt.alloc(), &m)?;
-        assert!(rt; written.as_slice() == text.as_bytes(), "{text}");
+impl Row for Text {
+    fn holds(&self, alloc: Global) -> bool {
+        let Ok(m) = read_move(self.0.as_bytes()) else {
+            return false;
+        };
+        match write_move(alloc, &m) {
+            Ok(written) => written.as_slice() == self.0.as_bytes(),
+            Err(_) => false,
+        }
     }
-    Ok(())
 }
 
 #[test]
-fn tells_what_it_was_given(rt: HostRuntime) -> Result<(), Fail> {
-    laws::<Towers>();
-    move_list_laws::<Towers>();
-    let puzzle = puzzle(3, PUZZLE)?;
+fn texts_are_read_as_they_are_written(rt: HostRuntime) {
+    const ROWS: &[Text] = &[
+        Text("R0,0,1"),
+        Text("R255,10,0"),
+        Text("P2,1,9"),
+        Text("M"),
+        Text("S123231312"),
+        Text("D-1,0"),
+        Text("D0,-1"),
+        Text("D127,127"),
+    ];
+    check(&rt, rt.alloc(), ROWS);
+}
+
+// A session that keeps some bytes, whose later parameters lack the letter, and in which one move was made.
+fn kept_game(alloc: Global) -> Option<Session<Towers>> {
+    let puzzle = puzzle::<Towers>(3, PUZZLE).ok()?;
     let params = Params {
         size: puzzle.size(),
         letter: Some(b'e'),
@@ -92,40 +52,67 @@ fn tells_what_it_was_given(rt: HostRuntime) -> Result<(), Fail> {
         letter: None,
     };
     let extras = Extras {
-        seed: Some(KeptBytes::new(Vec::from_slice(rt.alloc(), b"12")?)),
+        seed: Some(KeptBytes::new(Vec::from_slice(alloc, b"12").ok()?)),
         auxinfo: None,
-        ui: Some(KeptBytes::new(Vec::new(rt.alloc()))),
+        ui: Some(KeptBytes::new(Vec::new(alloc))),
         time: None,
     };
-    let mut session = Session::new(rt.alloc(), params, next_params, puzzle, extras)?;
-    session.play(Move::MarkAll)?;
-    assert!(rt; session.puzzle().size() == puzzle.size());
-    assert!(rt; *session.params() == params && *session.next_params() == next_params);
-    let seed = session.extras().seed.as_ref().ok_or("no seed")?;
-    assert!(rt; seed.as_slice() == b"12".as_slice());
-    assert!(rt; session.states() == 2);
-    assert!(rt; *session.move_at(1) == Move::MarkAll);
-    Ok(())
+    Session::new(alloc, params, next_params, puzzle, extras).ok()
 }
 
-#[test]
-fn bytes_that_are_kept(rt: HostRuntime) -> Result<(), Fail> {
-    let kept = KeptBytes::new(Vec::from_slice(rt.alloc(), b"x")?);
-    assert_eq!(rt; kept.into_vec().as_slice(), b"x".as_slice());
-    Ok(())
+fn has_params(session: &Session<Towers>) -> bool {
+    let (params, next) = (session.params(), session.next_params());
+    session.puzzle().size().get() == 3
+        && params.size.get() == 3
+        && params.letter == Some(b'e')
+        && next.size.get() == 3
+        && next.letter.is_none()
 }
 
-#[test]
-fn numbers_and_names(rt: HostRuntime) {
-    let rows = [
-        (PlayFault::BadMove, 1, "BadMove"),
-        (PlayFault::OutOfMemory, 9, "OutOfMemory"),
-        (PlayFault::SeveralSolutions, 14, "SeveralSolutions"),
-    ];
-    for (fault, number, name) in rows {
-        assert!(rt;
-            fault.number() == number && fault.name() == name,
-            "{fault:?}"
-        );
+fn has_extras(extras: &Extras) -> bool {
+    match (&extras.seed, &extras.ui) {
+        (Some(seed), Some(ui)) => {
+            seed.as_slice() == b"12".as_slice()
+                && ui.as_slice().is_empty()
+                && extras.auxinfo.is_none()
+                && extras.time.is_none()
+        }
+        _ => false,
     }
+}
+
+#[test]
+fn tells_what_it_was_given(rt: HostRuntime) {
+    laws::<Towers>();
+    move_list_laws::<Towers>();
+    let mut session = kept_game(rt.alloc()).expect(&rt, "a session");
+    assert!(rt; session.play(Move::MarkAll).is_ok());
+    assert!(rt; session.states() == 2 && *session.move_at(1) == Move::MarkAll);
+    assert!(rt; has_params(&session) && has_extras(session.extras()));
+}
+
+// Whether all of the session's own calls are answered, and the solution is the last move but one.
+fn answers_each_call(session: &mut Session<Towers>) -> bool {
+    let Ok(solution) = read_move(b"S123231312") else {
+        return false;
+    };
+    session.play(Move::Real { x: 0, y: 0, n: 3 }).is_ok()
+        && session.solve().is_ok()
+        && session.undo().is_ok()
+        && session.redo().is_ok()
+        && session.restart().is_ok()
+        && session.states() == 4
+        && *session.move_at(2) == solution
+}
+
+#[test]
+fn each_call_once(rt: HostRuntime) {
+    let mut session = super::new_game(rt.alloc()).expect(&rt, "a session");
+    assert!(rt; answers_each_call(&mut session));
+}
+
+#[test]
+fn bytes_that_are_kept(rt: HostRuntime) {
+    let bytes = Vec::from_slice(rt.alloc(), b"x").expect(&rt, "memory");
+    assert!(rt; KeptBytes::new(bytes).into_vec().as_slice() == b"x".as_slice());
 }

@@ -1,17 +1,21 @@
 //! Each kind of move as a change that is exchanged twice.
 
-ghost use Rattle.std.specs.Prelude.{◌≡◌, IfOk};
+ghost use Rattle.std.specs.Prelude.{◌≡◌, IfSome};
 
-use super::{PUZZLE, puzzle};
+use super::PUZZLE;
+use crate::tests::rows::{Row, check};
+use crate::tests::worked::puzzle;
+use clue_rules::Towers;
 use latin_board::{Board, Change, Grid, Marks, Size};
 use play_midend::{Move, PlayFault, change_of, read_move};
-use std::test::Fail;
+use std::alloc::Global;
+use trail_solver::Rules;
 
 // A board with numbers, marks and a done mark.
-fn used_board() -> Result<Board, Fail>
-    ensures { IfOk result (λ board. board.size ≡ 3) }
+fn used_board() -> Option<Board>
+    ensures { IfSome result (λ board. board.size ≡ 3) }
 {
-    let mut board = Board::start(&Grid::blank(Size::new(3).ok_or("no such width")?));
+    let mut board = Board::start(&Grid::blank(Size::new(3)?));
     let mut marks = Marks::empty();
     marks.flip(2);
     marks.flip(3);
@@ -19,38 +23,66 @@ fn used_board() -> Result<Board, Fail>
     board.swap(&mut Change::square(4, 0, marks, false, false));
     board.swap(&mut Change::square(0, 3, Marks::empty(), true, false));
     board.flip_done(6);
-    Ok(board)
+    Some(board)
+}
+
+// The change that a move makes on the used board, by its text, or by the word restart.
+fn change(alloc: Global, board: &Board, text: &str) -> Result<Change, PlayFault> {
+    let towers: Towers = puzzle(3, PUZZLE).map_err(|_| PlayFault::BadMove)?;
+    if board.size().get() != towers.size().get() {
+        return Err(PlayFault::BadMove);
+    }
+    match text {
+        "restart" => change_of(alloc, &towers, board, &Move::Restart),
+        _ => change_of(alloc, &towers, board, &read_move(text.as_bytes())?),
+    }
+}
+
+// A move that changes something, and is taken back.
+struct TakenBack(&'static str);
+
+impl Row for TakenBack {
+    fn holds(&self, alloc: Global) -> bool {
+        let Some(first) = used_board() else {
+            return false;
+        };
+        let mut board = first;
+        let Ok(mut change) = change(alloc, &board, self.0) else {
+            return false;
+        };
+        board.swap(&mut change);
+        let is_changed = board != first;
+        board.swap(&mut change);
+        is_changed && board == first
+    }
 }
 
 #[test]
-fn each_move_is_taken_back(rt: HostRuntime) -> Result<(), Fail> {
-    let puzzle = puzzle(3, PUZZLE)?;
-    let first = used_board()?;
-    let solution = read_move(b"S123231312")?;
-    let moves = [
-        Move::Real { x: 0, y: 0, n: 1 },
-        Move::Real { x: 1, y: 0, n: 0 },
-        Move::Pencil { x: 1, y: 1, n: 3 },
-        Move::Pencil { x: 0, y: 0, n: 0 },
-        Move::MarkAll,
-        solution,
-        Move::Restart,
-        Move::Done { x: 0, y: -1 },
+fn each_move_is_taken_back(rt: HostRuntime) {
+    const ROWS: &[TakenBack] = &[
+        TakenBack("R0,0,1"),
+        TakenBack("R1,0,0"),
+        TakenBack("P1,1,3"),
+        TakenBack("P0,0,0"),
+        TakenBack("M"),
+        TakenBack("S123231312"),
+        TakenBack("restart"),
+        TakenBack("D0,-1"),
     ];
-    for m in moves {
-        let mut board = first;
-        let mut change = change_of(rt.alloc(), &puzzle, &board, &m)?;
-        board.swap(&mut change);
-        assert!(rt; board != first, "{m:?} changes something");
-        board.swap(&mut change);
-        assert!(rt; board == first, "{m:?} is taken back");
+    check(&rt, rt.alloc(), ROWS);
+}
+
+fn is_refused(alloc: Global) -> bool {
+    match used_board() {
+        Some(board) => matches!(
+            change(alloc, &board, "P0,0,1"),
+            Err(PlayFault::FilledSquare)
+        ),
+        None => false,
     }
-    let refused = change_of(
-        rt.alloc(),
-        &puzzle,
-        &first,
-        &Move::Pencil { x: 0, y: 0, n: 1 },
-    );
-    assert!(rt; matches!(refused, Err(PlayFault::FilledSquare)));
-    Ok(())
+}
+
+#[test]
+fn a_mark_of_a_filled_square_is_refused(rt: HostRuntime) {
+    assert!(rt; is_refused(rt.alloc()));
 }

@@ -1,95 +1,78 @@
-//! The longest history, undone and made again.
+//! The longest history, undone and made again: the marks of each state.
 
-use super::{PUZZLE, begun, has_marks, plays, puzzle};
+use super::new_game;
 use clue_rules::Towers;
-use play_midend::{Move, Session};
-use std::alloc::Global;
-use std::process::Abort;
-use std::test::Fail;
+use latin_board::Board;
+use play_midend::{MOST_STATES, Move, Session};
 
-// The move with a number, from 1, of a long history.
-fn long_move(i: usize) -> Move {
-    if i % 100 == 0 {
+// The move with a number, from 1, of a long history: a mark of the first square, turned on and off, and now and then all marks.
+fn long_move(number: usize) -> Move {
+    if number % 100 == 0 {
         Move::MarkAll
     } else {
         Move::Pencil { x: 0, y: 0, n: 1 }
     }
 }
 
-// Plays moves until the history is full, and gives the marks of each state, made by a replay that knows nothing of boards.
-fn play_all(
-    rt: &impl Abort,
-    alloc: Global,
-    session: &mut Session<Towers>,
-) -> Result<Vec<[u16; 9]>, Fail> {
-    let mut states = Vec::with_capacity(alloc, 100_000)?;
-    let mut marks = [0u16; 9];
-    states.push(marks)?;
-    for i in 1..100_000usize {
-        if i % 100 == 0 {
-            marks = [0b1110; 9];
-        } else {
-            marks[0] ^= 0b10;
+fn bits_of(board: &Board, cell: usize) -> u16 {
+    let width = board.size().get() as usize;
+    if cell >= width * width {
+        return 0;
+    }
+    let marks = board.marks(cell);
+    let mut bits = 0u16;
+    for n in 1..4u8 {
+        if marks.has(n) {
+            bits |= 1 << n;
         }
-        states.push(marks)?;
-        session.play(long_move(i))?;
-        assert!(rt; has_marks(session.board(), &marks), "state {i} made");
     }
-    Ok(states)
+    bits
 }
 
-fn undo_all(
-    rt: &impl Abort,
-    session: &mut Session<Towers>,
-    states: &[[u16; 9]],
-) -> Result<(), Fail> {
-    for marks in states.iter().rev().skip(1) {
-        session.undo()?;
-        assert!(rt;
-            has_marks(session.board(), marks),
-            "state {} undone",
-            session.position()
-        );
+// Whether the squares have the marks that so many moves leave: all of them once there were 100, but for the mark that is turned
+// on and off.
+fn has_marks_after(board: &Board, moves: usize) -> bool {
+    let all = if moves < 100 { 0 } else { 0b1110 };
+    let first = if moves % 2 == 0 { all } else { all ^ 0b10 };
+    let mut has = bits_of(board, 0) == first;
+    for cell in 1..9usize {
+        has = has && bits_of(board, cell) == all;
     }
-    Ok(())
+    has
 }
 
-fn redo_all(
-    rt: &impl Abort,
-    session: &mut Session<Towers>,
-    states: &[[u16; 9]],
-) -> Result<(), Fail> {
-    for marks in states.iter().skip(1) {
-        session.redo()?;
-        assert!(rt;
-            has_marks(session.board(), marks),
-            "state {} redone",
-            session.position()
-        );
+fn plays_all(session: &mut Session<Towers>) -> bool {
+    for number in 1..MOST_STATES {
+        if session.play(long_move(number)).is_err() || !has_marks_after(session.board(), number) {
+            return false;
+        }
     }
-    Ok(())
+    session.states() == MOST_STATES
+}
+
+fn undoes_all(session: &mut Session<Towers>) -> bool {
+    for number in 1..MOST_STATES {
+        let left = (MOST_STATES - 1) - number;
+        if session.undo().is_err() || !has_marks_after(session.board(), left) {
+            return false;
+        }
+    }
+    session.position() == 1
+}
+
+fn redoes_all(session: &mut Session<Towers>) -> bool {
+    for number in 1..MOST_STATES {
+        if session.redo().is_err() || !has_marks_after(session.board(), number) {
+            return false;
+        }
+    }
+    session.position() == MOST_STATES
 }
 
 #[test]
-fn long_history(rt: HostRuntime) -> Result<(), Fail> {
-    let alloc = rt.alloc();
-    let mut session = begun(alloc, puzzle(3, PUZZLE)?)?;
-    let states = play_all(&rt, alloc, &mut session)?;
-    let full = [
-        ("P0,0,1", "HistoryFull", "playing 100000/100000"),
-        ("restart", "HistoryFull", "playing 100000/100000"),
-        ("S123231312", "HistoryFull", "playing 100000/100000"),
-        ("solve", "HistoryFull", "playing 100000/100000"),
-        ("S132213321", "BadSolution", "playing 100000/100000"),
-        ("R9,0,1", "OffGrid", "playing 100000/100000"),
-    ];
-    plays(&rt, alloc, &mut session, &full)?;
-    undo_all(&rt, &mut session, &states)?;
-    redo_all(&rt, &mut session, &states)?;
-    let last = [
-        ("undo", "ok", "playing 99999/100000"),
-        ("M", "ok", "playing 100000/100000"),
-    ];
-    plays(&rt, alloc, &mut session, &last)?;
-    Ok(())
+fn long_history(rt: HostRuntime) {
+    let mut session = new_game(rt.alloc()).expect(&rt, "a session");
+    assert!(rt; plays_all(&mut session));
+    assert!(rt; undoes_all(&mut session));
+    assert!(rt; redoes_all(&mut session));
 }

@@ -1,5 +1,0 @@
-//! A file for each subject.
-
-mod boards;
-mod replies;
-mod script;
