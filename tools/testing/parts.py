@@ -34,7 +34,7 @@ class Part(NamedTuple):
 PARTS = [
     Part('installing, and what is installed', 'tools/test_install', ['PUZZLES', 'OBJECTS'], 3),
     Part('the scripts, from elsewhere and by another user', 'tools/test_scripts', ['PUZZLES', 'OBJECTS'], 5),
-    Part('the board, in a terminal', 'tools/test_play', ['PUZZLES', 'OBJECTS'], 4),
+    Part('the board, in a terminal', 'tools/test_play', ['PUZZLES', 'OBJECTS'], 5),
     Part('the objects that puzzles-json writes', 'tools/test_json', ['OBJECTS', 'PUZZLES'], 4, is_of_build=True),
     Part('what saves and seeds are answered, by a second implementation', 'tools/test_reference', [], 2),
     Part('how the program saves, wherever the file lies and whoever shares it', 'tools/test_saving', ['PUZZLES'], 2, is_of_build=True),
