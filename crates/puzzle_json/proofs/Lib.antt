@@ -1,4 +1,5 @@
 pub mod ReplyLines
+pub mod ObjectTexts
 pub mod RefusalNames
 pub mod Spellings
 pub mod SessionTexts

@@ -2,8 +2,6 @@
 use Rattle.std.proofs.Common.{◌≡◌, ◌≢◌, ℕ, suc, ◌+◌, ◌-◌, ◌<◌, ◌≤◌, ◌==◌, true, false, if◌then◌else◌, List, [], ◌∷◌, ◌++◌, length, map, take, get_or, encode_utf8, sym, ap, refl, ◌∙◌, append_assoc, append-nil, arith}
 use Rattle.std.proofs.lemmas.List.{take_more, map-append}
 use Rattle.std.proofs.lemmas.Bool.Decides.{nat_tests}
-use Rattle.serde_json.specs.View.{view}
-use Rattle.serde_json.specs.declared.value.Value.{Value}
 use Rattle.byte_text.specs.Cuts.{Lacks}
 use Rattle.puzzle_cli.specs.Lines.{onto, segments}
 use Rattle.puzzle_json.specs.Texts.{latin_text, text_data, lines_of}
@@ -43,24 +41,6 @@ lines_of-front line rest lacks =
 
 pub lines_of-none : (line : List ℕ) → Lacks 10 line → lines_of line ≡ []
 lines_of-none line lacks = ap (λ ps. take (length ps - 1) ps) (segments-whole line lacks)
-
--- one more line has been taken off the front
-pub one_more_line : (done new : List Value) (v : Value) (line more rest reply : List ℕ) → Lacks 10 line → rest ≡ line ++ 10 ∷ more
-    → view v ≡ text_data line → new ≡ done ++ v ∷ []
-    → map view done ++ map text_data (lines_of rest) ≡ map text_data (lines_of reply)
-    → map view new ++ map text_data (lines_of more) ≡ map text_data (lines_of reply)
-one_more_line done new v line more rest reply lacks parts is grown before =
-    let cut : lines_of rest ≡ line ∷ lines_of more = ap lines_of parts ∙ lines_of-front line more lacks in
-    let seen : map view new ≡ map view done ++ text_data line ∷ [] =
-    ap (map view) grown ∙ map-append view done (v ∷ []) ∙ ap (λ d. map view done ++ d ∷ []) is in
-    ap (λ l. l ++ map text_data (lines_of more)) seen ∙ append_assoc (map view done) (text_data line ∷ []) (map text_data (lines_of more))
-    ∙ sym (ap (λ l. map view done ++ map text_data l) cut) ∙ before
-
--- none is left
-pub no_more_line : (done : List Value) (rest reply : List ℕ) → Lacks 10 rest
-    → map view done ++ map text_data (lines_of rest) ≡ map text_data (lines_of reply) → map view done ≡ map text_data (lines_of reply)
-no_more_line done rest reply lacks before =
-    sym (ap (λ l. map view done ++ map text_data l) (lines_of-none rest lacks) ∙ append-nil (map view done)) ∙ before
 
 latin-push : (xs : List ℕ) (b : ℕ) → latin_text (xs ++ b ∷ []) ≡ latin_text xs ++ encode_utf8 b
 latin-push [] b = append-nil (encode_utf8 b)

@@ -8,7 +8,7 @@ use Rattle.latin_board.specs.Boards.{BoardValue, grid_of, marks_at}
 use Rattle.trail_solver.specs.Puzzles.{Puzzle}
 use Rattle.trail_solver.specs.declared.answer.Answer.{Answer}
 use Rattle.trail_solver.specs.declared.answer.Answer.TheVariants.{None as NoSolution, One, Several}
-use Rattle.serde_json.specs.Data.{Data, object, member}
+use Rattle.serde_json.specs.Data.{Data}
 use Rattle.serde_json.specs.Written.{has_float}
 use Rattle.play_midend.specs.Histories.{History}
 use Rattle.board_checks.specs.Errors.{ErrorsValue, has_repeated}
@@ -19,11 +19,10 @@ use Rattle.puzzle_cli.specs.SessionReplies.{shown_board}
 use Rattle.puzzle_json.specs.declared.further_line.FurtherLine.{FurtherLine}
 use Rattle.puzzle_json.specs.declared.further_line.FurtherLine.TheVariants.{Board, Completable, Hint as AskHint}
 use Rattle.puzzle_json.specs.Counts.{count_data}
-use Rattle.puzzle_json.specs.ObjectLines.{Fits, IsSpelled}
-use Rattle.puzzle_json.specs.Replies.{reply_members}
-use Rattle.puzzle_json.specs.Sessions.{game_data, session_data}
+use Rattle.puzzle_json.specs.ObjectLines.{Fits}
+use Rattle.puzzle_json.specs.Sessions.{session_data}
 use Rattle.puzzle_json.specs.Boards.{when, numbers_data, givens_data, mark_set_data, marks_data, repeats_data, board_data}
-use Rattle.puzzle_json.specs.FurtherLines.{BoardFacts, IsAnswer, answer_data, hint_data, further_key}
+use Rattle.puzzle_json.specs.FurtherLines.{BoardFacts, IsAnswer, answer_data, hint_data}
 use Rattle.puzzle_json.specs.Laws.Spellings.{no_float_or, listed_fits, when_fits}
 
 -- what is told of a session
@@ -87,7 +86,8 @@ pub record ListsFit {P : Type 0} (b : BoardFacts P) : Type 0 where
   pub clues : (p : P) (shown : BoardValue) (e : ErrorsValue) → Fits 2 (b.clues p shown e)
   pub signs : (p : P) (shown : BoardValue) (e : ErrorsValue) → Fits 2 (b.signs p shown e)
 
-told_fits : {P : Type 0} (f : GameFacts P) (b : BoardFacts P) → ListsFit b → (h : History P) (which : FurtherLine) (answer : Data)
+-- what is told in answer
+pub told_fits : {P : Type 0} (f : GameFacts P) (b : BoardFacts P) → ListsFit b → (h : History P) (which : FurtherLine) (answer : Data)
     → IsAnswer f b h which answer → Fits 3 answer
 told_fits f b fit h Board answer told =
     let shown = shown_board f h in
@@ -95,12 +95,3 @@ told_fits f b fit h Board answer told =
     (fit.clues h.puzzle shown told.0) (fit.signs h.puzzle shown told.0))
 told_fits f b fit h Completable answer told = subst (Fits 3) (sym told.2) (answer_fits told.0)
 told_fits f b fit h AskHint answer told = subst (Fits 3) (sym told.4) (hint_fits told.0)
-
--- the object of an answer has one text
-pub spelled_answer : {P : Type 0} (f : GameFacts P) (b : BoardFacts P) → ListsFit b → (h : History P) (which : FurtherLine) (answer value : Data)
-    → IsAnswer f b h which answer → value ≡ object (member (further_key which) answer (reply_members None [] (game_data f h))) → IsSpelled value
-spelled_answer f b fit h which answer value told is =
-    let fits = told_fits f b fit h which answer told in
-    let whole = no_float_or (has_float answer) false fits.whole refl in
-    let deep = fits.flat in
-    subst IsSpelled (sym is) (record { whole = whole; flat = omega arith })

@@ -1,13 +1,12 @@
 -- What is said in place of a plain reply.
-use Rattle.std.proofs.Common.{◌≡◌, ℕ, ◌==◌, true, false, true≢false, List, [], ◌∷◌, length, Option, Some, None, refl, sym, ap, subst, ◌∙◌, arith}
+use Rattle.std.proofs.Common.{◌≡◌, ℕ, ◌==◌, true, false, true≢false, List, [], ◌∷◌, length, Option, Some, None, sym, ap, subst, ◌∙◌, arith}
 use Rattle.std.proofs.lemmas.Bool.Decides.{nat_tests}
-use Rattle.serde_json.specs.Data.{Data, null, object, Members, member, put}
+use Rattle.serde_json.specs.Data.{Data}
 use Rattle.play_midend.specs.Histories.{History}
 use Rattle.puzzle_cli.specs.Lines.{Line}
 use Rattle.puzzle_cli.specs.GameFacts.{GameFacts}
 use Rattle.puzzle_cli.specs.Replies.{Reply}
-use Rattle.puzzle_json.specs.ObjectLines.{IsSpelled, OrLost}
-use Rattle.puzzle_json.specs.Replies.{reply_members}
+use Rattle.puzzle_json.specs.ObjectLines.{Fits, OrLost}
 use Rattle.puzzle_json.specs.Sessions.{session_data}
 use Rattle.puzzle_json.specs.JsonReplies.{IsReplyLine, IsObjectLine, Tells, JsonReply}
 use Rattle.puzzle_json.specs.declared.further_line.FurtherLine.{FurtherLine}
@@ -21,8 +20,7 @@ use Rattle.board_checks.specs.Hints.{IsSound, IsDeduced, IsForced}
 use Rattle.board_checks.specs.declared.hints.Hint.{Hint}
 use Rattle.board_checks.specs.declared.hints.Hint.TheVariants.{Nothing}
 use Rattle.puzzle_cli.specs.SessionReplies.{shown_board}
-use Rattle.puzzle_json.specs.FurtherLines.{BoardFacts, AreErrors, further_at, further_key, IsFurtherLine, IsAnswer, hint_data}
-use Rattle.puzzle_json.specs.Laws.Spellings.{spelled_reply}
+use Rattle.puzzle_json.specs.FurtherLines.{BoardFacts, AreErrors, further_at, IsFurtherLine, IsAnswer, hint_data}
 use Rattle.puzzle_json.proofs.Spellings.{session_fits}
 
 pub tells_nothing : {P : Type 0} (f : GameFacts P) (b : BoardFacts P) (line : Line) (said : List ℕ) (new : Option (History P)) (bytes : List ℕ)
@@ -45,39 +43,15 @@ pub tells_answer : {P : Type 0} (f : GameFacts P) (b : BoardFacts P) (line : Lin
     → (length said == 0) ≡ false → further_at line ≡ Some which → OrLost (IsFurtherLine f b which new) bytes → Tells f b line said new bytes
 tells_answer f b line which said new bytes some is told = tells f b line (Some which) said new bytes some is told
 
--- the object of a reply has one text
-pub spelled_value : {P : Type 0} (f : GameFacts P) (refused : Option (List ℕ)) (reply : List ℕ) (session : Option (History P)) (told value : Data)
-    → told ≡ session_data f session → value ≡ object (reply_members refused reply told) → IsSpelled value
-spelled_value f refused reply session told value of_session is =
-    subst IsSpelled (sym (is ∙ ap (λ d. object (reply_members refused reply d)) of_session))
-    (spelled_reply refused reply (session_data f session) (session_fits f session))
+-- what is told of a session can be written
+pub session_spelled : {P : Type 0} (f : GameFacts P) (session : Option (History P)) (told : Data) → told ≡ session_data f session → Fits 1 told
+session_spelled f session told is = subst (Fits 1) (sym is) (session_fits f session)
 
 -- a plain reply, and what is said in its place
 pub reply_told : {P : Type 0} (f : GameFacts P) (b : BoardFacts P) (old : Option (History P)) (line : Line) (said read bytes : List ℕ) (new : Option (History P))
     → Reply f old line said new → read ≡ said → Tells f b line read new bytes → JsonReply f b old line bytes new
 reply_told f b old line said read bytes new plain same told =
     record { said = said; plain = plain; told = subst (λ s. Tells f b line s new bytes) same told }
-
--- the object of a line that is refused for want of a game
-pub spelled_no_game : (refused : Option (List ℕ)) (reply : List ℕ) (told value : Data) → told ≡ null
-    → value ≡ object (reply_members refused reply told) → IsSpelled value
-spelled_no_game refused reply told value none is =
-    subst IsSpelled (sym (is ∙ ap (λ d. object (reply_members refused reply d)) none))
-    (spelled_reply refused reply null (record { whole = refl; flat = omega arith }))
-
-put_answer : (which : FurtherLine) (answer game : Data)
-    → put (further_key which) answer (reply_members None [] game) ≡ member (further_key which) answer (reply_members None [] game)
-put_answer Board answer game = refl
-put_answer Completable answer game = refl
-put_answer AskHint answer game = refl
-
--- the answer stands before what each object has
-pub object_is : (which : FurtherLine) (key : List ℕ) (answer game told : Data) (old new : Members) (value : Data)
-    → key ≡ further_key which → told ≡ game → old ≡ reply_members None [] told → new ≡ put key answer old → value ≡ object new
-    → value ≡ object (member (further_key which) answer (reply_members None [] game))
-object_is which key answer game told old new value keyed is first later last =
-    last ∙ ap object (later ∙ ap (λ k. put k answer old) keyed ∙ ap (put (further_key which) answer) (first ∙ ap (reply_members None []) is)
-    ∙ put_answer which answer game)
 
 -- the answer of a hint
 pub hint_told : {P : Type 0} (f : GameFacts P) (b : BoardFacts P) (h : History P) (puzzle : P) (g : GridValue) (hint : Hint) (which : FurtherLine) (answer : Data)

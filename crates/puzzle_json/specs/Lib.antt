@@ -12,3 +12,5 @@ pub mod FurtherLines
 pub mod JsonReplies
 pub mod ReplyLaws
 pub mod Laws
+-- words that the contracts of private functions alone use
+pub mod Inner

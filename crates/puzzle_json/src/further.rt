@@ -10,8 +10,7 @@ ghost use Rattle.puzzle_json.specs.FurtherLines.{IsAnswer, IsFurtherLine, answer
 
 use crate::board::board_value;
 use crate::further_line::FurtherLine;
-use crate::object_line::line_of;
-use crate::reply::reply_members;
+use crate::object_line::{answer_object, reply_object};
 use crate::session::game_value;
 use crate::shown::{ShownFacts, Shows};
 use board_checks::{Hint, errors, find_hint};
@@ -41,13 +40,12 @@ fn no_game_line(alloc: Global) -> Result<Vec<u8>, AllocError>
     ensures { IfOk result (λ line. IsLineOf
         (reply_data (Some (codes "NoGame")) (refusal_line (codes "NoGame")) null) line.items) }
 {
-    let members = reply_members(
+    reply_object(
         alloc,
         Some(b"NoGame"),
         b"refused: NoGame\n",
-        Value::from(()),
-    )?;
-    line_of(alloc, &Value::from(members))
+        &Value::from(()),
+    )
 }
 
 // The line of the answer beside what each object has.
@@ -61,9 +59,7 @@ fn answer_line<P: Shows>(
 {
     let answer = answer_value(alloc, session, which)?;
     let game = game_value(alloc, session)?;
-    let mut members = reply_members(alloc, None, b"", game)?;
-    put(&mut members, alloc, which.key(), answer)?;
-    Ok(line_of(alloc, &Value::from(members))?)
+    Ok(answer_object(alloc, which, &answer, &game)?)
 }
 
 // The answer itself.

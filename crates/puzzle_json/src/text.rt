@@ -1,16 +1,15 @@
-//! Texts of JSON: bytes as characters, and the lines of a reply.
+//! Texts of JSON: bytes as characters.
 
 ghost use Rattle.std.specs.Prelude.{◌≡◌, IfOk, string_bytes};
 ghost use Rattle.serde_json.specs.View.{view};
-ghost use Rattle.puzzle_json.specs.Texts.{latin_text, text_data, lines_data};
+ghost use Rattle.puzzle_json.specs.Texts.{latin_text, text_data};
 
-use byte_text::cut;
 use serde_json::Value;
 use std::alloc::{AllocError, Global};
 
-// The text whose characters have the bytes as their codes.
+/// The text whose characters have the bytes as their codes.
 #[tactic(auto, using(crate::proofs::ReplyLines::one_more_byte))]
-fn latin_text(alloc: Global, bytes: &[u8]) -> Result<String, AllocError>
+pub(crate) fn latin_text(alloc: Global, bytes: &[u8]) -> Result<String, AllocError>
     ensures { IfOk result (λ text. string_bytes text ≡ latin_text bytes.now) }
 {
     let mut text = String::new(alloc);
@@ -25,18 +24,4 @@ pub(crate) fn text_value(alloc: Global, bytes: &[u8]) -> Result<Value, AllocErro
     ensures { IfOk result (λ value. view value ≡ text_data bytes.now) }
 {
     Ok(Value::from(latin_text(alloc, bytes)?))
-}
-
-/// The lines of a reply, each without its LF.
-#[tactic(auto, using(crate::proofs::ReplyLines::one_more_line, crate::proofs::ReplyLines::no_more_line))]
-pub(crate) fn lines_value(alloc: Global, reply: &[u8]) -> Result<Value, AllocError>
-    ensures { IfOk result (λ lines. view lines ≡ lines_data reply.now) }
-{
-    let mut lines = Vec::new(alloc);
-    let mut rest = reply;
-    while let (line, Some(more)) = cut(rest, b'\n') {
-        lines.push(text_value(alloc, line)?)?;
-        rest = more;
-    }
-    Ok(Value::from(lines))
 }

@@ -9,14 +9,13 @@ ghost use Rattle.puzzle_json.specs.ObjectLines.{OrLost, lost_line};
 
 use crate::further::further_line;
 use crate::further_line::{FurtherLine, read_further};
-use crate::object_line::line_of;
-use crate::reply::{refusal_name, reply_members};
+use crate::object_line::reply_object;
+use crate::reply::refusal_name;
 use crate::session::session_value;
 use crate::shown::{ShownFacts, Shows};
 use latin_board::OutOfMemory;
 use play_midend::Session;
 use puzzle_cli::{Draw, Facts, Plain, Response, Text, Voice};
-use serde_json::Value;
 use std::alloc::Global;
 
 /// Each reply is one JSON object on one line: the refusal or null, the lines of the plain reply, and the session that is left.
@@ -89,6 +88,7 @@ fn lost() -> Text
 }
 
 // The line of a plain reply's object.
+#[tactic(auto, using(crate::proofs::ToldReplies::session_spelled))]
 fn reply_line<P: Draw>(
     alloc: Global,
     session: &Option<Session<P>>,
@@ -98,6 +98,5 @@ fn reply_line<P: Draw>(
         IsReplyLine ⟦<P as Facts>⟧.facts reply.now session.now line.items) }
 {
     let session = session_value(alloc, session)?;
-    let members = reply_members(alloc, refusal_name(reply), reply, session)?;
-    Ok(line_of(alloc, &Value::from(members))?)
+    Ok(reply_object(alloc, refusal_name(reply), reply, &session)?)
 }

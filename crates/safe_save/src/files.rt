@@ -1,6 +1,8 @@
 //! A folder of the system's files. It tells nothing of what stands there, since no contract can say what a file holds.
 //!
 //! All that is done to the new file is done by its descriptor: a name can be made to lead elsewhere between two calls.
+//!
+//! A call by a name has room for that name on the stack. What makes such calls isn't inlined, so that few have theirs at once.
 
 use crate::{Folder, FolderFault};
 use std::fs::{File, Files, Metadata, OpenOptions, Permissions};
@@ -42,6 +44,7 @@ impl<'a, R: Files<File = File>> FilesFolder<'a, R> {
     }
 
     // Whether a new file may take the place of what stands at the path.
+    #[inline(never)]
     fn may_replace(&self, path: &str) -> bool {
         match &self.standing {
             Standing::Nothing => true,
@@ -61,6 +64,7 @@ impl<R: Files<File = File>> Folder for FilesFolder<'_, R> {
 
     ghost state = { λ _. untold };
 
+    #[inline(never)]
     fn open_new(&mut self, name: &str) -> Result<(), FolderFault> {
         // Whoever may not see the old file may not see the new one.
         let mode = match &self.standing {
@@ -106,6 +110,7 @@ impl<R: Files<File = File>> Folder for FilesFolder<'_, R> {
         }
     }
 
+    #[inline(never)]
     fn rename(&mut self, from: &str, to: &str) -> Result<(), FolderFault> {
         if !self.may_replace(to) {
             return Err(FolderFault::Refused);
@@ -117,6 +122,7 @@ impl<R: Files<File = File>> Folder for FilesFolder<'_, R> {
         overwrite(self.files, name, bytes).map_err(|error| fault_of(&error))
     }
 
+    #[inline(never)]
     fn remove(&mut self, name: &str) -> Result<(), FolderFault> {
         fs::remove_file(self.files, name).map_err(|error| fault_of(&error))
     }
@@ -176,6 +182,7 @@ fn rights_of(mode: u32, keeps_group: bool) -> u32 {
 }
 
 // Writes over what stands there, or makes it where nothing does after all, and waits until the disk has it.
+#[inline(never)]
 fn overwrite(files: &impl Files<File = File>, name: &str, bytes: &[u8]) -> io::Result<()> {
     let opened = OpenOptions::new()
         .write(true)
@@ -198,6 +205,7 @@ fn fill(file: File, bytes: &[u8]) -> io::Result<()> {
 }
 
 // Waits until the disk has a folder's names. A folder that can't be asked is passed over.
+#[inline(never)]
 fn flush_folder(files: &impl Files<File = File>, folder: &str) -> io::Result<()> {
     let folder = match File::open(files, folder) {
         Ok(folder) => folder,

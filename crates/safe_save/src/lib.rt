@@ -23,4 +23,4 @@ pub use files::{FilesFolder, Standing};
 pub use folder::{Folder, FolderCall, FolderFault};
 pub use memory::MemoryFolder;
 pub use saving::{SaveFault, save};
-pub use target::save_file;
+pub use target::{Unsaved, save_file};

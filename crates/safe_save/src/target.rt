@@ -1,4 +1,6 @@
 //! The file that a path leads to, and how a save is put there.
+//!
+//! A call by a name has room for that name on the stack. What makes such calls isn't inlined, so that few have theirs at once.
 
 use crate::files::{FilesFolder, Standing, folder_of};
 use crate::saving::{SaveFault, save};
@@ -21,20 +23,35 @@ const DESCRIPTORS: &str = "/proc/self/fd";
 /// The bit of a descriptor's name that says that it is open for writing.
 const OPEN_TO_WRITE: u32 = 0o200;
 
+/// Why a file was not saved.
+#[derive(Debug, Drop)]
+pub enum Unsaved {
+    /// What the system said. What stood at the path stands there; or all is done, and a crash could bring back what stood there.
+    Failed(io::Error),
+    /// The new file couldn't take its place. The whole save stands at this path.
+    LeftBeside(String),
+}
+
+impl From<io::Error> for Unsaved {
+    fn from(error: io::Error) -> Unsaved {
+        Unsaved::Failed(error)
+    }
+}
+
 /// Makes these bytes the content of the file at the path.
 ///
 /// A pipe, a device, and a file that is open here for writing are written after what went there before. Links at the end of the
-/// path stay. At an error what stood there stands there, or the whole save stands beside it, as `.puzzles.` and 16 hexadecimal
-/// digits and `.tmp`; or all is done, and a crash could bring back what stood there. `OutOfMemory` comes before any change.
-pub fn save_file<R>(rt: &R, path: &str, bytes: &[u8]) -> io::Result<()>
+/// path stay. `LeftBeside`: the whole save stands beside it, as `.puzzles.` and 16 hexadecimal digits and `.tmp`. `Failed`: what stood
+/// there stands there; or all is done, and a crash could bring back what stood there. The system's `OutOfMemory` comes before any change.
+pub fn save_file<R>(rt: &R, path: &str, bytes: &[u8]) -> Result<(), Unsaved>
 where
     R: Files<File = File> + RandomSource + AllocGlobal,
 {
     let standing = match fs::metadata(rt, path) {
-        Ok(found) if found.is_file() && is_open(rt, &found)? => return append(rt, path, bytes),
+        Ok(found) if found.is_file() && is_open(rt, &found)? => return Ok(append(rt, path, bytes)?),
         Ok(found) if found.is_file() => Standing::File(found),
         Ok(found) if found.is_dir() => Standing::Unclear,
-        Ok(_) => return append(rt, path, bytes),
+        Ok(_) => return Ok(append(rt, path, bytes)?),
         Err(error) if error.kind() == ErrorKind::NotFound => Standing::Nothing,
         Err(_) => Standing::Unclear,
     };
@@ -45,6 +62,7 @@ where
 }
 
 // Whether one of the descriptors that this process may write to is of this file.
+#[inline(never)]
 fn is_open<R: Files + AllocGlobal>(rt: &R, target: &Metadata) -> io::Result<bool> {
     let Ok(descriptors) = fs::read_dir(&rt, DESCRIPTORS) else {
         return Ok(false);
@@ -74,6 +92,7 @@ fn is_open<R: Files + AllocGlobal>(rt: &R, target: &Metadata) -> io::Result<bool
 }
 
 // Writes what stands at the path, after all that is there.
+#[inline(never)]
 fn append(rt: &impl Files, path: &str, bytes: &[u8]) -> io::Result<()> {
     OpenOptions::new()
         .append(true)
@@ -82,6 +101,7 @@ fn append(rt: &impl Files, path: &str, bytes: &[u8]) -> io::Result<()> {
 }
 
 // Where the path leads past the links at its end; `None` where that can't be told, or where they have no end.
+#[inline(never)]
 fn end_of_links<R: Files + AllocGlobal>(rt: &R, path: &str) -> io::Result<Option<PathBuf>> {
     let mut target = PathBuf::from_str(rt.alloc(), path)?;
     for _ in 0..MOST_LINKS {
@@ -102,7 +122,8 @@ fn end_of_links<R: Files + AllocGlobal>(rt: &R, path: &str) -> io::Result<Option
 }
 
 // Saves by a new file, under a name that nobody can know beforehand.
-fn replace<R>(rt: &R, path: &str, bytes: &[u8], standing: Standing) -> io::Result<()>
+#[inline(never)]
+fn replace<R>(rt: &R, path: &str, bytes: &[u8], standing: Standing) -> Result<(), Unsaved>
 where
     R: Files<File = File> + RandomSource + AllocGlobal,
 {
@@ -112,10 +133,13 @@ where
         match save(&mut folder, path, beside.as_str(), bytes) {
             Ok(()) => return Ok(()),
             Err(SaveFault::Taken) => {}
-            Err(_) => return Err(io::Error::from(ErrorKind::Other)),
+            Err(SaveFault::LeftBeside) => return Err(Unsaved::LeftBeside(beside)),
+            Err(SaveFault::NotSaved | SaveFault::NotFlushed) => {
+                return Err(Unsaved::Failed(io::Error::from(ErrorKind::Other)));
+            }
         }
     }
-    Err(io::Error::from(ErrorKind::AlreadyExists))
+    Err(Unsaved::Failed(io::Error::from(ErrorKind::AlreadyExists)))
 }
 
 // A name in the folder of the path, with a random part.

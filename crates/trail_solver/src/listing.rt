@@ -1,5 +1,6 @@
 //! The listing: the first solutions of a puzzle, in order.
 ghost use Rattle.std.specs.Prelude.{◌≡◌, ◌<◌, ◌≤◌, length, IfOk, OnOk};
+ghost use Rattle.std.specs.Bool.{OnTrue, OnFalse};
 ghost use Rattle.trail_solver.specs.Pairs.{IsPair};
 ghost use Rattle.trail_solver.specs.Inner.Squares.{AreSettled, IsFirstOpen, IsOpen};
 ghost use Rattle.trail_solver.specs.Inner.Among.{IsAmong, IsAmongAt};
@@ -53,7 +54,6 @@ struct Listing<P: Rules> {
 impl<P: Rules> Listing<P> {
     // Lists the solutions among the candidates, while there is room.
     #[cycle(listing)]
-    #[tactic(auto, using(crate::proofs::ListingSteps::none_lists, crate::proofs::ListingSteps::only_lists))]
     fn list(&mut self) -> Result<(), OutOfMemory>
         requires { length self.old.listed.items < self.old.limit }
         ensures further { IsFurther self.old.search self.new.search }
@@ -65,10 +65,33 @@ impl<P: Rules> Listing<P> {
         let Some(cell) = first_open(&self.search.candidates) else {
             return self.list_leaf();
         };
+        if self.list_only()? {
+            self.list_values(cell)
+        } else {
+            Ok(())
+        }
+    }
+
+    // Lists the only solution among the candidates, if there is one and no other, and tells whether there are several. It isn't
+    // inlined, so that grids take no room in the frames of the calls within calls.
+    #[inline(never)]
+    #[tactic(auto, using(crate::proofs::ListingSteps::none_lists, crate::proofs::ListingSteps::only_lists))]
+    fn list_only(&mut self) -> Result<bool, OutOfMemory>
+        requires { length self.old.listed.items < self.old.limit }
+        ensures same { self.new.search ≡ self.old.search }
+        ensures limit { self.new.limit ≡ self.old.limit }
+        ensures several { IfOk result (λ several. OnTrue several (self.new ≡ self.old)) }
+        ensures lists { IfOk result (λ several. OnFalse several (Lists
+            (IsAmong (P.puzzle self.old.search.rules) self.old.search.candidates)
+            self.old.limit self.old.listed.items self.new.listed.items)) }
+    {
         match self.search.answer() {
-            Answer::None => Ok(()),
-            Answer::One(grid) => Ok(self.listed.push(grid)?),
-            Answer::Several(_, _) => self.list_values(cell),
+            Answer::None => Ok(false),
+            Answer::One(grid) => {
+                self.listed.push(grid)?;
+                Ok(false)
+            }
+            Answer::Several(_, _) => Ok(true),
         }
     }
 

@@ -1,5 +1,5 @@
 //! A search: the rules of a puzzle, the candidates that are left, and where it failed.
-ghost use Rattle.std.specs.Prelude.{◌≡◌, ◌*◌, ◌<◌, length};
+ghost use Rattle.std.specs.Prelude.{◌≡◌, ◌≢◌, ◌*◌, ◌<◌, length, None, MatchOption};
 ghost use Rattle.std.specs.Bool.{OnFalse};
 ghost use Rattle.latin_board.specs.Squares.{GridValue};
 ghost use Rattle.trail_solver.specs.declared.trail.TheConstants.{PAIRS};
@@ -72,30 +72,36 @@ impl<P: Rules> Search<P> {
         self.rules.narrow(&mut self.candidates)
     }
 
-    // Adds the solutions among the candidates to those that were found, or leaves off where the failures reach the limit.
+    // Adds the solutions among the candidates to those that were found, or leaves off where the failures reach the limit. It
+    // tells whether all were added. What was found isn't handed on by value, as there are calls within calls: their frames are
+    // to be small.
     #[cycle(search)]
     #[tactic(auto, using(crate::proofs::Runs::left_limited, crate::proofs::Runs::left_anyhow))]
-    fn run(&mut self, found: Answer, limit: Option<u32>) -> Option<Answer>
+    fn run(&mut self, found: &mut Answer, limit: Option<u32>) -> bool
         ensures further { IsFurther self.old self.new }
         ensures adds { RunAdds (IsAmong (P.puzzle self.old.rules) self.old.candidates)
-            found limit result }
+            limit result found.old found.new }
     {
-        let mut found = found;
         loop {
             if self.failures.reach(limit) {
-                return None;
+                return false;
             }
             match choose(&self.candidates, &self.failures) {
-                Choice::Settled => return Some(self.at_leaf(found)),
-                Choice::Dead => return Some(found),
+                Choice::Settled => {
+                    self.add_leaf(found);
+                    return true;
+                }
+                Choice::Dead => return true,
                 Choice::Branch { cell, value } => {
-                    found = self.guess(cell, value, found, limit)?;
-                    if let Answer::Several(_, _) = found {
-                        return Some(found);
+                    if !self.guess(cell, value, found, limit) {
+                        return false;
+                    }
+                    if let Answer::Several(_, _) = *found {
+                        return true;
                     }
                     take_away(&mut self.candidates, cell, value);
                     if !self.propagate(cell, Side::Rest) {
-                        return Some(found);
+                        return true;
                     }
                 }
             }
@@ -104,32 +110,33 @@ impl<P: Rules> Search<P> {
 
     // Adds the solutions that have the value in the cell, or leaves off, and leaves the candidates as they were.
     #[cycle(search)]
-    fn guess(&mut self, cell: usize, value: u8, found: Answer, limit: Option<u32>) -> Option<Answer>
+    fn guess(&mut self, cell: usize, value: u8, found: &mut Answer, limit: Option<u32>) -> bool
         requires { IsBranch self.old.candidates cell value }
         ensures same { self.new ≡ self.old }
         ensures adds { RunAdds (IsAmongAt (P.puzzle self.old.rules) self.old.candidates cell value)
-            found limit result }
+            limit result found.old found.new }
     {
         let mark = self.candidates.mark();
-        let answer = if self.assume(cell, value) {
+        let all = if self.assume(cell, value) {
             self.run(found, limit)
         } else {
-            Some(found)
+            true
         };
         self.candidates.give_back(mark);
-        answer
+        all
     }
 
     // How many solutions there are among the candidates, which stay as they are, or nothing where the failures reach the limit.
     fn attempt(&mut self, limit: Option<u32>) -> Option<Answer>
         ensures same { self.new ≡ self.old }
-        ensures adds { RunAdds (IsAmong (P.puzzle self.old.rules) self.old.candidates)
-            Answer.None limit result }
+        ensures fits { MatchOption result (limit ≢ None)
+            (Fits (IsAmong (P.puzzle self.old.rules) self.old.candidates)) }
     {
         let mark = self.candidates.mark();
-        let answer = self.run(Answer::None, limit);
+        let mut found = Answer::None;
+        let all = self.run(&mut found, limit);
         self.candidates.give_back(mark);
-        answer
+        if all { Some(found) } else { None }
     }
 
     /// How many solutions there are among the candidates, which stay as they are.
@@ -193,17 +200,17 @@ impl<P: Rules> Search<P> {
         left
     }
 
-    // Adds the only grid of the candidates, where it is a solution.
+    // Adds the only grid of the candidates, where it is a solution. It isn't inlined, so that the grid takes no room in the
+    // frames of the calls within calls.
+    #[inline(never)]
     #[tactic(auto, using(crate::proofs::SearchSteps::leaf_adds, crate::proofs::SearchSteps::leaf_none))]
-    fn at_leaf(&self, found: Answer) -> Answer
+    fn add_leaf(&self, found: &mut Answer)
         requires { AreSettled self.now.candidates }
-        ensures { Adds (IsAmong (P.puzzle self.now.rules) self.now.candidates) found result }
+        ensures { Adds (IsAmong (P.puzzle self.now.rules) self.now.candidates) found.old found.new }
     {
         let grid = filled(&self.candidates);
         if solves(&self.rules, &grid) {
-            added(found, grid)
-        } else {
-            found
+            *found = added(*found, grid);
         }
     }
 }

@@ -1,5 +1,5 @@
-use Rattle.std.proofs.Common.{◌≡◌, ℕ, refl, sym, ◌∙◌, subst, OnOk, arith}
-use Rattle.std.proofs.lemmas.Bool.{OnFalse_at}
+use Rattle.std.proofs.Common.{rules, ◌≡◌, ℕ, refl, sym, ◌∙◌, subst, OnOk, arith}
+use Rattle.std.proofs.lemmas.Bool.{OnFalse_at, OnTrue_at}
 use Rattle.std.proofs.lemmas.Result.{on_ok_weaker}
 use Rattle.trail_solver.specs.Inner.Among.{IsAmong, IsAmongAt}
 use Rattle.trail_solver.specs.Inner.Searches.{SearchValue, IsFurther}
@@ -10,6 +10,10 @@ use Rattle.trail_solver.proofs.ListedSolutions.{lists_same}
 use Rattle.trail_solver.proofs.ListingSteps.{none_lists, value_lists_none, value_lists_more, value_lists_all}
 use Rattle.trail_solver.proofs.listing.Listing.+listing.Goals as goal
 use Rattle.trail_solver.proofs.listing.Listing.+listing.Goals.{list_guess-then-assume, list_guess-else-assume}
+
+pub list-list_values-requires : goal.list-list_values-requires
+list-list_values-requires g t c κs within =
+    rw (OnTrue_at c.if-branch.true c.in_ok-list_only.ensures.several) (search rules)
 
 pub list_values-loop-value-init : goal.list_values-loop-value-init
 list_values-loop-value-init g t c =
