@@ -7,17 +7,14 @@ use clue_rules::{Game, Towers, Unequal};
 use std::alloc::Global;
 
 // A puzzle, a board as digits, and just the squares and spots of it that are errors.
-struct Wrong(
-    Described,
-    &'static str,
-    &'static [usize],
-    &'static [Spot],
-);
+struct Wrong(Described, &'static str, &'static [usize], &'static [Spot]);
 
 // Whether just these squares and these spots are errors.
 fn has_just(found: &BoardErrors, repeated: &[usize], broken: &[Spot]) -> bool {
     let is_any = !repeated.is_empty() || !broken.is_empty();
-    found.any() == is_any && has_just_squares(found, repeated, broken) && has_just_edges(found, broken)
+    found.any() == is_any
+        && has_just_squares(found, repeated, broken)
+        && has_just_edges(found, broken)
 }
 
 fn has_just_squares(found: &BoardErrors, repeated: &[usize], broken: &[Spot]) -> bool {

@@ -197,7 +197,9 @@ fn values_struck_together(rt: HostRuntime) {
     let struck = told_of_3(&candidates);
     let is_of_size = candidates.trail().size() == size;
     // Back to a mark between the two: the lesser one stays struck.
-    candidates.give_back(first.mark());
+    let mark = first.mark();
+    assert!(rt; mark.len() <= candidates.trail_len());
+    candidates.give_back(mark);
     let given_back = told_of_3(&candidates);
     check(
         &rt,
@@ -411,5 +413,9 @@ fn lists_squares_in_order(rt: HostRuntime) {
     check(&rt, rt.alloc(), ROWS);
     let some = puzzle_of("000000003").expect(&rt, "a puzzle");
     let none = puzzle_of("1001").expect(&rt, "a puzzle");
-    check(&rt, rt.alloc(), &[Listed(some, 100, 4), Listed(none, 100, 0)]);
+    check(
+        &rt,
+        rt.alloc(),
+        &[Listed(some, 100, 4), Listed(none, 100, 0)],
+    );
 }

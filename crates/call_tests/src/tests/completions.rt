@@ -4,6 +4,7 @@ use super::rows::{Row, check};
 use super::worked::{Described, grid_of, puzzle};
 use board_checks::{Deduces, Hint, find_hint};
 use clue_rules::{Game, Towers, Unequal};
+use latin_board::Grid;
 use std::alloc::Global;
 use trail_solver::{Answer, completion, grid_candidates};
 
@@ -27,22 +28,29 @@ const SIGNED: Described = Described::Unequal("0,0L,0L,0U,0,0,0U,0,0,");
 // A puzzle, a board as digits, and the squares that complete it: all of them, where there are one or two.
 struct Completed(Described, &'static str, &'static [&'static str]);
 
-fn is_answer(answer: Answer, squares: &[&str]) -> bool {
-    match (answer, squares) {
-        (Answer::None, []) => true,
-        (Answer::One(grid), [only]) => grid_of(3, only) == Some(grid),
-        (Answer::Several(a, b), [first, second]) => {
-            let wanted = (grid_of(3, first), grid_of(3, second));
-            wanted == (Some(a), Some(b)) || wanted == (Some(b), Some(a))
-        }
-        _ => false,
+fn is_square(grid: &Grid, digits: &str) -> bool {
+    match grid_of(3, digits) {
+        Some(wanted) => *grid == wanted,
+        None => false,
+    }
+}
+
+fn are_squares(a: &Grid, b: &Grid, squares: &[&str]) -> bool {
+    squares.len() == 2 && is_square(a, squares[0]) && is_square(b, squares[1])
+}
+
+fn is_answer(answer: &Answer, squares: &[&str]) -> bool {
+    match answer {
+        Answer::None => squares.is_empty(),
+        Answer::One(grid) => squares.len() == 1 && is_square(grid, squares[0]),
+        Answer::Several(a, b) => are_squares(a, b, squares) || are_squares(b, a, squares),
     }
 }
 
 fn is_completed<P: Game>(text: &str, digits: &str, squares: &[&str]) -> bool {
     match (puzzle::<P>(3, text), grid_of(3, digits)) {
         (Ok(p), Some(grid)) if grid.size().get() == p.size().get() => {
-            is_answer(completion(&p, &grid), squares)
+            is_answer(&completion(&p, &grid), squares)
         }
         _ => false,
     }
@@ -92,11 +100,7 @@ fn candidates_of_a_board(rt: HostRuntime) {
     let grid = grid_of(3, "020000003").expect(&rt, "a grid");
     let candidates = grid_candidates(&grid);
     assert!(rt; candidates.size().get() == 3);
-    let only = (
-        candidates.only(1),
-        candidates.only(8),
-        candidates.only(0),
-    );
+    let only = (candidates.only(1), candidates.only(8), candidates.only(0));
     assert!(rt; only == (Some(2), Some(3), None) && candidates.values(0).len() == 3);
 }
 
@@ -161,9 +165,11 @@ fn hints_follow_from_boards(rt: HostRuntime) {
 struct Led(Described);
 
 fn leads_to_the_solution<P: Game + Deduces>(text: &str) -> bool {
-    let (Ok(p), Some(mut grid), Some(rising)) =
-        (puzzle::<P>(3, text), grid_of(3, ""), grid_of(3, RISING))
-    else {
+    let (Ok(p), Some(mut grid), Some(rising)) = (
+        puzzle::<P>(3, text),
+        grid_of(3, ""),
+        grid_of(3, RISING),
+    ) else {
         return false;
     };
     for _ in 0..9 {

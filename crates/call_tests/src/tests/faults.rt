@@ -79,7 +79,11 @@ fn faults_have_numbers_and_names(rt: HostRuntime) {
         Named(Fault::Gen(GenFault::Graded), 2, "Graded"),
         Named(Fault::Play(PlayFault::BadMove), 1, "BadMove"),
         Named(Fault::Play(PlayFault::OutOfMemory), 9, "OutOfMemory"),
-        Named(Fault::Play(PlayFault::SeveralSolutions), 14, "SeveralSolutions"),
+        Named(
+            Fault::Play(PlayFault::SeveralSolutions),
+            14,
+            "SeveralSolutions",
+        ),
         Named(Fault::Load(LoadFault::NotASave), 1, "NotASave"),
         Named(Fault::Load(LoadFault::Malformed), 2, "Malformed"),
         Named(Fault::Load(LoadFault::Version), 3, "Version"),
@@ -97,10 +101,26 @@ fn faults_have_numbers_and_names(rt: HostRuntime) {
         Named(Fault::Line(LineFault::LongLine), 1, "LongLine"),
         Named(Fault::Line(LineFault::BadCommand), 2, "BadCommand"),
         Named(Fault::Line(LineFault::NoGame), 3, "NoGame"),
-        Named(Fault::Start(StartFault::Id(IdFault::ForeignSeed)), 1, "ForeignSeed"),
-        Named(Fault::Start(StartFault::Gen(GenFault::SizeTooLarge)), 2, "SizeTooLarge"),
-        Named(Fault::Start(StartFault::Load(LoadFault::WrongGame)), 3, "WrongGame"),
-        Named(Fault::Start(StartFault::Load(LoadFault::BadState(2))), 3, "BadState"),
+        Named(
+            Fault::Start(StartFault::Id(IdFault::ForeignSeed)),
+            1,
+            "ForeignSeed",
+        ),
+        Named(
+            Fault::Start(StartFault::Gen(GenFault::SizeTooLarge)),
+            2,
+            "SizeTooLarge",
+        ),
+        Named(
+            Fault::Start(StartFault::Load(LoadFault::WrongGame)),
+            3,
+            "WrongGame",
+        ),
+        Named(
+            Fault::Start(StartFault::Load(LoadFault::BadState(2))),
+            3,
+            "BadState",
+        ),
         Named(Fault::Start(StartFault::OutOfMemory), 4, "OutOfMemory"),
         Named(Fault::Run(End::Finished), 1, "Finished"),
         Named(Fault::Run(End::ReadFault), 2, "ReadFault"),
@@ -122,10 +142,26 @@ impl Row for Refused {
 #[test]
 fn refused_starts_have_statuses_and_lines(rt: HostRuntime) {
     const ROWS: &[Refused] = &[
-        Refused(StartFault::Id(IdFault::ForeignSeed), 3, "refused: ForeignSeed"),
-        Refused(StartFault::Gen(GenFault::SizeTooLarge), 3, "refused: SizeTooLarge"),
-        Refused(StartFault::Load(LoadFault::WrongGame), 3, "refused: WrongGame"),
-        Refused(StartFault::Load(LoadFault::BadState(2)), 3, "refused: BadState 2"),
+        Refused(
+            StartFault::Id(IdFault::ForeignSeed),
+            3,
+            "refused: ForeignSeed",
+        ),
+        Refused(
+            StartFault::Gen(GenFault::SizeTooLarge),
+            3,
+            "refused: SizeTooLarge",
+        ),
+        Refused(
+            StartFault::Load(LoadFault::WrongGame),
+            3,
+            "refused: WrongGame",
+        ),
+        Refused(
+            StartFault::Load(LoadFault::BadState(2)),
+            3,
+            "refused: BadState 2",
+        ),
         Refused(StartFault::OutOfMemory, 1, "out of memory"),
     ];
     check(&rt, rt.alloc(), ROWS);
@@ -153,6 +189,10 @@ fn ends_have_statuses_and_lines(rt: HostRuntime) {
 #[test]
 fn words_without_memory_have_a_number_a_status_and_a_name(rt: HostRuntime) {
     let fault = CommandFault::OutOfMemory;
-    check(&rt, rt.alloc(), &[Same(fault.number(), 3), Same(fault.status(), 1)]);
+    check(
+        &rt,
+        rt.alloc(),
+        &[Same(fault.number(), 3), Same(fault.status(), 1)],
+    );
     assert!(rt; fault.name() == "OutOfMemory");
 }

@@ -51,9 +51,10 @@ impl GameFiles for TwoFiles {
         if path != "old.sav" {
             return Err(io::Error::from(ErrorKind::NotFound));
         }
-        Vec::from_slice(self.alloc, LOADED.as_bytes()).map_err(|_| {
-            io::Error::from(ErrorKind::OutOfMemory)
-        })
+        match Vec::from_slice(self.alloc, LOADED.as_bytes()) {
+            Ok(bytes) => Ok(bytes),
+            Err(_) => Err(io::Error::from(ErrorKind::OutOfMemory)),
+        }
     }
 
     fn write(&self, path: &str, bytes: &[u8]) -> io::Result<()> {
@@ -134,7 +135,9 @@ impl Row for Played {
 // Another session than the one that is left, or another file, would be refused by the files above.
 #[test]
 fn games_are_played_and_saved(rt: HostRuntime) {
-    const LOADS: &[&str] = &["puzzles", "towers", "--load", "old.sav", "--save", "new.sav"];
+    const LOADS: &[&str] = &[
+        "puzzles", "towers", "--load", "old.sav", "--save", "new.sav",
+    ];
     const BEGINS: &[&str] = &[
         "puzzles",
         "towers",
@@ -145,7 +148,9 @@ fn games_are_played_and_saved(rt: HostRuntime) {
     ];
     const NO_GAME: &[&str] = &["puzzles", "towers", "--save", "new.sav"];
     const UNSAVED: &[&str] = &["puzzles", "towers", "--load", "old.sav"];
-    const OTHER_FILE: &[&str] = &["puzzles", "towers", "--load", "old.sav", "--save", "old.sav"];
+    const OTHER_FILE: &[&str] = &[
+        "puzzles", "towers", "--load", "old.sav", "--save", "old.sav",
+    ];
     const NO_FILE: &[&str] = &["puzzles", "towers", "--load", "new.sav"];
     const OTHER_GAME: &[&str] = &["puzzles", "unequal", "--load", "old.sav"];
     const NO_SIZE: &[&str] = &["puzzles", "unequal", "--id", "2:"];

@@ -8,12 +8,7 @@ use play_save::{LoadFault, next_record, save, saved_and_loaded};
 use std::alloc::Global;
 
 // A text, the key and the value of its first record, and the rest.
-struct First(
-    &'static [u8],
-    &'static [u8],
-    &'static [u8],
-    &'static [u8],
-);
+struct First(&'static [u8], &'static [u8], &'static [u8], &'static [u8]);
 
 impl Row for First {
     fn holds(&self, _alloc: Global) -> bool {
@@ -83,23 +78,38 @@ fn refuses_what_is_no_record(rt: HostRuntime) {
     check(&rt, rt.alloc(), ROWS);
 }
 
-// Whether two sessions have the same states, position, board and save.
-fn are_alike(alloc: Global, again: &Session<Towers>, session: &Session<Towers>) -> bool {
-    let (Ok(first), Ok(second)) = (save(alloc, session), save(alloc, again)) else {
-        return false;
-    };
-    first.as_slice() == second.as_slice()
-        && again.states() == session.states()
+fn is_saved_so(alloc: Global, session: &Session<Towers>, text: &[u8]) -> bool {
+    match save(alloc, session) {
+        Ok(saved) => saved.as_slice() == text,
+        Err(_) => false,
+    }
+}
+
+// Whether two sessions have the same states, position and board.
+fn are_alike(again: &Session<Towers>, session: &Session<Towers>) -> bool {
+    again.states() == session.states()
         && again.position() == session.position()
         && *again.board() == *session.board()
 }
 
-fn is_loaded_again(alloc: Global, session: &Session<Towers>) -> bool {
+fn is_loaded_again(alloc: Global, session: &Session<Towers>, text: &[u8]) -> bool {
     match saved_and_loaded(alloc, session) {
-        Ok(again) => are_alike(alloc, &again, session),
+        Ok(again) => are_alike(&again, session) && is_saved_so(alloc, &again, text),
         Err(_) => false,
     }
 }
+
+const SAVED: &[u8] = b"SAVEFILE:41:Simon Tatham's Portable Puzzle Collection
+VERSION :1:1
+GAME    :6:Towers
+PARAMS  :1:3
+CPARAMS :1:3
+DESC    :13:3//////3/////
+NSTATES :1:3
+STATEPOS:1:2
+MOVE    :6:R0,0,1
+MOVE    :6:R1,0,2
+";
 
 #[test]
 fn a_session_is_saved_and_loaded(rt: HostRuntime) {
@@ -107,5 +117,6 @@ fn a_session_is_saved_and_loaded(rt: HostRuntime) {
     assert!(rt; session.play(Move::Real { x: 0, y: 0, n: 1 }).is_ok());
     assert!(rt; session.play(Move::Real { x: 1, y: 0, n: 2 }).is_ok());
     assert!(rt; session.undo().is_ok());
-    assert!(rt; is_loaded_again(rt.alloc(), &session));
+    assert!(rt; is_saved_so(rt.alloc(), &session, SAVED));
+    assert!(rt; is_loaded_again(rt.alloc(), &session, SAVED));
 }

@@ -74,11 +74,7 @@ fn each_call_fails_in_turn(rt: HostRuntime) {
 }
 
 // The name of the new file, where `game` and `game.new` are there, the answer, and what stands at the path then.
-struct Taken(
-    &'static str,
-    Result<(), SaveFault>,
-    Option<&'static [u8]>,
-);
+struct Taken(&'static str, Result<(), SaveFault>, Option<&'static [u8]>);
 
 impl Row for Taken {
     fn holds(&self, alloc: Global) -> bool {

@@ -6,16 +6,15 @@ mod history;
 
 use super::worked::puzzle;
 use clue_rules::{Params, Towers};
-use play_midend::{Extras, Session};
+use play_midend::{Extras, PlayFault, Session};
 use std::alloc::Global;
 use trail_solver::Rules;
 
 // The puzzle of width 3 whose only solution is 123 231 312.
 const PUZZLE: &str = "3//////3/////";
 
-/// A new game of that puzzle.
-pub(crate) fn new_game(alloc: Global) -> Option<Session<Towers>> {
-    let puzzle = puzzle::<Towers>(3, PUZZLE).ok()?;
+// A session of a puzzle, at its start.
+fn begun(alloc: Global, puzzle: Towers) -> Result<Session<Towers>, PlayFault> {
     let params = Params {
         size: puzzle.size(),
         letter: None,
@@ -26,5 +25,16 @@ pub(crate) fn new_game(alloc: Global) -> Option<Session<Towers>> {
         ui: None,
         time: None,
     };
-    Session::new(alloc, params, params, puzzle, extras).ok()
+    Session::new(alloc, params, params, puzzle, extras)
+}
+
+/// A new game of that puzzle.
+pub(crate) fn new_game(alloc: Global) -> Option<Session<Towers>> {
+    let Ok(puzzle) = puzzle::<Towers>(3, PUZZLE) else {
+        return None;
+    };
+    match begun(alloc, puzzle) {
+        Ok(session) => Some(session),
+        Err(_) => None,
+    }
 }

@@ -5,12 +5,7 @@ use byte_text::{begins_with_digit, cut, number};
 use std::alloc::Global;
 
 // A text, where it is cut, and its parts.
-struct Cut(
-    &'static [u8],
-    u8,
-    &'static [u8],
-    Option<&'static [u8]>,
-);
+struct Cut(&'static [u8], u8, &'static [u8], Option<&'static [u8]>);
 
 impl Row for Cut {
     fn holds(&self, _alloc: Global) -> bool {

@@ -1,7 +1,9 @@
 //! Descriptions, rules and items of Unequal at worked puzzles of width 3.
 
 use super::rows::{Row, Same, check};
-use super::worked::{full_of, grid_of, has, holds, is_description, is_written, only_solution, without};
+use super::worked::{
+    full_of, grid_of, has, holds, is_description, is_written, only_solution, without,
+};
 use clue_rules::{Game, IdFault, Unequal};
 use latin_board::Size;
 use std::alloc::Global;
@@ -84,7 +86,9 @@ fn has_just_pairs(puzzle: &Unequal, pairs: &[(usize, usize)]) -> bool {
     let mut same = true;
     for a in 0..9usize {
         for b in 0..9usize {
-            same = same && puzzle.size().get() == 3 && puzzle.greater(a, b) == pairs.contains(&(a, b));
+            same = same
+                && puzzle.size().get() == 3
+                && puzzle.greater(a, b) == pairs.contains(&(a, b));
         }
     }
     same

@@ -57,9 +57,23 @@ fn words_that_name_a_game(rt: HostRuntime) {
     const LATE: &[&str] = &["puzzles", "--save", "b", "towers", "--id", ""];
     const IN_DOTS: &[&str] = &["dots", "towers"];
     const ROWS: &[Named] = &[
-        Named(PUZZLES, WITH_ID, GameName::Towers, Some(SMALL_ID), None, None),
+        Named(
+            PUZZLES,
+            WITH_ID,
+            GameName::Towers,
+            Some(SMALL_ID),
+            None,
+            None,
+        ),
         Named(PUZZLES, ALONE, GameName::Towers, None, None, None),
-        Named(PUZZLES, WITH_FILES, GameName::Unequal, None, Some("a"), Some("b")),
+        Named(
+            PUZZLES,
+            WITH_FILES,
+            GameName::Unequal,
+            None,
+            Some("a"),
+            Some("b"),
+        ),
         Named(PUZZLES, LATE, GameName::Towers, Some(""), None, Some("b")),
         Named(DOTS, IN_DOTS, GameName::Towers, None, None, None),
     ];
@@ -126,7 +140,14 @@ fn words_that_ask_for_help(rt: HostRuntime) {
         Told(PUZZLES, VERSION, 2, "HelpAsked", 0, "puzzles 1.1"),
         Told(PUZZLES, V, 2, "HelpAsked", 0, "puzzles 1.1"),
         Told(DOTS, DOTS_HELP, 2, "HelpAsked", 0, "Usage: dots"),
-        Told(DOTS, DOTS_HELP, 2, "HelpAsked", 0, "Towers and Unequal in dots"),
+        Told(
+            DOTS,
+            DOTS_HELP,
+            2,
+            "HelpAsked",
+            0,
+            "Towers and Unequal in dots",
+        ),
         Told(DOTS, DOTS_HELP, 2, "HelpAsked", 0, "Each reply is a dot."),
         Told(DOTS, DOTS_VERSION, 2, "HelpAsked", 0, "dots 1.1"),
     ];

@@ -45,7 +45,14 @@ fn a_line_that_a_fault_cuts_has_no_reply(rt: HostRuntime) {
     const BEGUN: Option<&str> = Some("playing 1/1");
     const ROWS: &[Cut] = &[
         Cut(LINE, 0, 2, End::ReadFault, b"ok\n", BEGUN),
-        Cut(LINE, 0, 0, End::Finished, b"ok\nrefused: BadCommand\n", BEGUN),
+        Cut(
+            LINE,
+            0,
+            0,
+            End::Finished,
+            b"ok\nrefused: BadCommand\n",
+            BEGUN,
+        ),
         Cut("", 1_025, 4, End::ReadFault, b"", None),
     ];
     check(&rt, rt.alloc(), ROWS);
@@ -66,19 +73,13 @@ fn a_long_line_that_ended_has_its_reply(rt: HostRuntime) {
 // A first run, and what is written in it.
 const INPUT: &[u8] = b"new 3:3//////3/////\nmove R0,0,1\nundo\nshow\nundo\n";
 
-const OUTPUT: &[u8] = b"ok\nok\nok\n+ 3 - - +\n3 . . . -\n- . . . -\n- . . . -\n+ - - - +\nrefused: NothingToUndo\n";
+const OUTPUT: &[u8] =
+    b"ok\nok\nok\n+ 3 - - +\n3 . . . -\n- . . . -\n- . . . -\n+ - - - +\nrefused: NothingToUndo\n";
 
 // The first run over such a source, the write or flush that fails, and the room: how it ends, how much of the output is written,
 // and the status that is left.
 #[derive(Clone, Copy)]
-struct First(
-    Settings,
-    u64,
-    usize,
-    End,
-    usize,
-    Option<&'static str>,
-);
+struct First(Settings, u64, usize, End, usize, Option<&'static str>);
 
 impl Row for First {
     fn holds(&self, alloc: Global) -> bool {

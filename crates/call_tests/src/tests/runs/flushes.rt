@@ -95,6 +95,8 @@ fn a_full_writer_is_a_fault(rt: HostRuntime) {
     let Ok(session) = begin::<Towers>(rt.alloc(), Some(b"3:3//////3/////"), None) else {
         return assert!(rt; false, "a session");
     };
-    let input = Vec::from_slice(rt.alloc(), b"move R0,0,1\nmove R0,0,2\nundo\n").expect(&rt, "memory");
+    let input = Vec::from_slice(rt.alloc(), b"move R0,0,1\nmove R0,0,2\nundo\n").expect(
+        &rt, "memory",
+    );
     assert!(rt; fills_five_bytes(rt.alloc(), session, input));
 }

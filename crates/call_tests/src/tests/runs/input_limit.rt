@@ -59,5 +59,13 @@ fn the_last_byte_that_is_read_is_a_fault(rt: HostRuntime) {
 #[test]
 fn one_byte_less_finishes(rt: HostRuntime) {
     let letters = MOST - 1;
-    assert!(rt; is_answered(rt.alloc(), letters, End::Finished, b"refused: LongLine\n", letters));
+    assert!(rt;
+        is_answered(
+            rt.alloc(),
+            letters,
+            End::Finished,
+            b"refused: LongLine\n",
+            letters
+        )
+    );
 }

@@ -5,9 +5,9 @@ use crate::tests::rows::{Row, check};
 use crate::tests::worked::puzzle;
 use clue_rules::{Params, Towers};
 use play_midend::{
-    Extras, KeptBytes, Move, Session, laws, move_list_laws, read_move, write_move,
+    Extras, KeptBytes, Move, PlayFault, Session, laws, move_list_laws, read_move, write_move,
 };
-use std::alloc::Global;
+use std::alloc::{AllocError, Global};
 use trail_solver::Rules;
 
 // The text of a move.
@@ -40,9 +40,17 @@ fn texts_are_read_as_they_are_written(rt: HostRuntime) {
     check(&rt, rt.alloc(), ROWS);
 }
 
-// A session that keeps some bytes, whose later parameters lack the letter, and in which one move was made.
-fn kept_game(alloc: Global) -> Option<Session<Towers>> {
-    let puzzle = puzzle::<Towers>(3, PUZZLE).ok()?;
+fn extras_of(alloc: Global) -> Result<Extras, AllocError> {
+    Ok(Extras {
+        seed: Some(KeptBytes::new(Vec::from_slice(alloc, b"12")?)),
+        auxinfo: None,
+        ui: Some(KeptBytes::new(Vec::new(alloc))),
+        time: None,
+    })
+}
+
+// A session of a puzzle that keeps some bytes, and whose later parameters lack the letter.
+fn kept_game(alloc: Global, puzzle: Towers, extras: Extras) -> Result<Session<Towers>, PlayFault> {
     let params = Params {
         size: puzzle.size(),
         letter: Some(b'e'),
@@ -51,13 +59,7 @@ fn kept_game(alloc: Global) -> Option<Session<Towers>> {
         size: puzzle.size(),
         letter: None,
     };
-    let extras = Extras {
-        seed: Some(KeptBytes::new(Vec::from_slice(alloc, b"12").ok()?)),
-        auxinfo: None,
-        ui: Some(KeptBytes::new(Vec::new(alloc))),
-        time: None,
-    };
-    Session::new(alloc, params, next_params, puzzle, extras).ok()
+    Session::new(alloc, params, next_params, puzzle, extras)
 }
 
 fn has_params(session: &Session<Towers>) -> bool {
@@ -85,7 +87,9 @@ fn has_extras(extras: &Extras) -> bool {
 fn tells_what_it_was_given(rt: HostRuntime) {
     laws::<Towers>();
     move_list_laws::<Towers>();
-    let mut session = kept_game(rt.alloc()).expect(&rt, "a session");
+    let puzzle = puzzle::<Towers>(3, PUZZLE).expect(&rt, "a puzzle");
+    let extras = extras_of(rt.alloc()).expect(&rt, "memory");
+    let mut session = kept_game(rt.alloc(), puzzle, extras).expect(&rt, "a session");
     assert!(rt; session.play(Move::MarkAll).is_ok());
     assert!(rt; session.states() == 2 && *session.move_at(1) == Move::MarkAll);
     assert!(rt; has_params(&session) && has_extras(session.extras()));

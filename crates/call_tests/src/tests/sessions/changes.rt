@@ -28,7 +28,9 @@ fn used_board() -> Option<Board>
 
 // The change that a move makes on the used board, by its text, or by the word restart.
 fn change(alloc: Global, board: &Board, text: &str) -> Result<Change, PlayFault> {
-    let towers: Towers = puzzle(3, PUZZLE).map_err(|_| PlayFault::BadMove)?;
+    let Ok(towers) = puzzle::<Towers>(3, PUZZLE) else {
+        return Err(PlayFault::BadMove);
+    };
     if board.size().get() != towers.size().get() {
         return Err(PlayFault::BadMove);
     }
