@@ -1,6 +1,6 @@
 //! Games from the words of a command line to the file that is saved.
 
-use puzzle_cli::{GameFiles, play, read_words};
+use puzzle_cli::{GameFiles, Unwritten, play, read_words};
 use puzzle_io::{MemorySink, MemorySource};
 use std::alloc::Global;
 use std::io;
@@ -51,11 +51,11 @@ impl GameFiles for TwoFiles {
         })
     }
 
-    fn write(&self, path: &str, bytes: &[u8]) -> io::Result<()> {
+    fn write(&self, path: &str, bytes: &[u8]) -> Result<(), Unwritten> {
         if path == "new.sav" && bytes == SAVED.as_bytes() {
             Ok(())
         } else {
-            Err(io::Error::from(ErrorKind::Other))
+            Err(Unwritten::Failed(io::Error::from(ErrorKind::Other)))
         }
     }
 }
