@@ -8,6 +8,7 @@ import stat
 from typing import Any, List, Mapping, NamedTuple, Optional, Sequence
 
 from harness import FaultLibrary, Met, Report, Room, is_root, run
+from harness.game import told_left
 from harness.users import ANNA, GAMES
 
 #: The file that is saved to, and where it lies when that name is a link.
@@ -42,7 +43,8 @@ class Round(NamedTuple):
     met: Met
     before: State
     after: State
-    #: The new files that it forgot.
+    #: The new files that it left, by name and with what they are.
+    left_names: List[str]
     left: List[State]
     link_stands: bool
 
@@ -52,12 +54,13 @@ class Round(NamedTuple):
         return self.before == self.after
 
     def wrong_end(self, status: int, line: str) -> List[str]:
-        """What is wrong where it had to end with this status and this line on standard error."""
+        """What is wrong where it had to end with this status and this line on standard error, and tell where it left the save."""
         wrong = []
+        wanted = line and line + '\n' + told_left(self.left_names)
         if self.status != status:
             wrong.append(f'the status is {self.status}, not {status}')
-        if self.error != (line and line + '\n'):
-            wrong.append(f'standard error says {self.error!r}, not {line!r}')
+        if self.error != wanted:
+            wrong.append(f'standard error says {self.error!r}, not {wanted!r}')
         if not self.link_stands:
             wrong.append('the link has changed')
         return wrong
@@ -93,6 +96,7 @@ class Rounds:
         env = self._library.env(call, at, error, **how)
         limited = limit._asdict() if limit else {}
         ended = run([self._program, *self.words], self._room, input=self.input, env=env, **limited)
+        left = self._left_names()
         return Round(
             ended.status,
             ended.output,
@@ -100,7 +104,8 @@ class Rounds:
             self._library.met(),
             before,
             self._state(self._file()),
-            [self._state(name) for name in self._left_names()],
+            left,
+            [self._state(name) for name in left],
             not self.target.is_link or self._room.link_text(SAVE) == FAR,
         )
 

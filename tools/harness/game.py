@@ -4,7 +4,7 @@ from __future__ import annotations
 
 import os
 import re
-from typing import List, Optional
+from typing import Iterable, List, Optional
 
 from harness.room import Folder
 
@@ -30,6 +30,11 @@ def save_text(moves: int, position: Optional[int] = None) -> bytes:
     count = moves + 1
     states = b'NSTATES :1:%d\nSTATEPOS:1:%d\n' % (count, count if position is None else position)
     return HEAD + states + b''.join(b'MOVE    :6:%s\n' % move for move in MOVES[:moves])
+
+
+def told_left(paths: Iterable[str]) -> str:
+    """What is told on standard error of new files that were left at these paths, seen from where the program runs."""
+    return ''.join(f'the save is in ./{path}\n' for path in paths)
 
 
 def left_files(folder: Folder) -> List[str]:

@@ -5,7 +5,7 @@ from __future__ import annotations
 from typing import Any, ContextManager, Iterable, Mapping, NamedTuple, Optional, Sequence
 
 from harness import Case, Folder, Report, User, is_root, run
-from harness.game import NEW_NAME
+from harness.game import NEW_NAME, told_left
 from harness.program import Word
 from harness.users import ANNA
 
@@ -28,7 +28,7 @@ class Run(NamedTuple):
     absent: Sequence[str] = ()
     #: Files that may be new, with any content.
     made: Sequence[str] = ()
-    #: What the one new file has that is left beside; nothing where none may be left.
+    #: What the one new file has that is left beside, of which standard error tells; nothing where none may be left.
     left: Optional[bytes] = None
 
 
@@ -62,15 +62,17 @@ class Tests:
         case.same('the status', ended.status, row.status)
         if 'stdout' not in how:
             expect_text(case, 'the output', ended.output, row.output, row.output_has)
-        if 'stderr' not in how:
-            expect_text(case, 'standard error', ended.error, row.error, row.error_has)
         for name, content in row.holds.items():
             case.same(f'the file {name[:20]}', where.read(name), content)
         for name in row.absent:
             case.expect(name not in where.names(), f'there is a file {name}')
         after = where.paths()
         case.same('what is gone', [path for path in before if path not in after], [])
-        expect_left(case, where, [path for path in after if path not in [*before, *row.holds, *row.made]], row.left)
+        new = [path for path in after if path not in [*before, *row.holds, *row.made]]
+        expect_left(case, where, new, row.left)
+        if 'stderr' not in how:
+            told = told_left(new if row.left is not None else []).encode()
+            expect_text(case, 'standard error', ended.error, None if row.error is None else row.error + told, row.error_has)
         return ended.output
 
 

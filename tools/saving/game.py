@@ -2,7 +2,9 @@
 
 from __future__ import annotations
 
-from typing import Any, ContextManager, Sequence, Union
+import os
+import re
+from typing import Any, ContextManager, Optional, Sequence, Union
 
 from harness import Case, Ended, FaultLibrary, Folder, Met, Report, Skip, run
 from harness.game import ID, MOVES, left_files, save_text
@@ -17,6 +19,10 @@ __all__ = [
     'replies',
     'save_text',
 ]
+
+
+#: What a line on standard error says before the name of a new file that was left.
+TOLD = re.compile('^the save is in (.*/)?')
 
 
 def replies(moves: int) -> bytes:
@@ -58,9 +64,12 @@ def expect_saved(case: Case, ended: Ended, moves: int = 0) -> None:
     case.same('the output', ended.output, replies(moves))
 
 
-def expect_refused(case: Case, ended: Ended, moves: int = 0) -> None:
-    """The run ended with the word that the save can't be written."""
-    case.same('standard error', ended.error, b'cannot write the file\n')
+def expect_refused(case: Case, ended: Ended, moves: int = 0, left: Optional[Folder] = None) -> None:
+    """The run ended with the word that the save can't be written, and told of a new file that it left in this folder or below."""
+    first, *told = ended.error.decode(errors='replace').splitlines(keepends=True)
+    case.same('standard error', first, 'cannot write the file\n')
+    names = [os.path.basename(path) for path in left_files(left)] if left else []
+    case.same('what is told to be left', [TOLD.sub('', line) for line in told], [f'{name}\n' for name in names])
     case.same('the status', ended.status, 1)
     case.same('the output', ended.output, replies(moves))
 

@@ -155,7 +155,7 @@ def lost(tests: Tests, name: str, links: Links, path: str) -> None:
         furnish(case.room, links)
         case.room.put('file', b'a file')
         before = case.room.names()
-        expect_refused(case, tests.save(case.room, path, 1), 1)
+        expect_refused(case, tests.save(case.room, path, 1), 1, case.room)
         expect_whole_left(case, case.room, save_text(1))
         case.same('what lies there', [name for name in case.room.names() if name not in left_files(case.room)], before)
         case.same('the file beside', case.room.read('file'), b'a file')
@@ -166,6 +166,6 @@ def long_chain_to_a_file(tests: Tests) -> None:
     with tests.case('41 links to a file') as case:
         furnish(case.room, chain(41))
         case.room.put('s.sav', b'an old file')
-        expect_refused(case, tests.save(case.room, 'l41'))
+        expect_refused(case, tests.save(case.room, 'l41'), left=case.room)
         case.same('the file', case.room.read('s.sav'), b'an old file')
         expect_whole_left(case, case.room, save_text(0))

@@ -84,7 +84,7 @@ def mounted_file_on_a_full_disk(tests: Tests) -> None:
             disk.put('old', b'')
             with bound_file(f'{room.path}/disk/old', f'{room.path}/s.sav'):
                 fill(disk)
-                expect_refused(case, tests.save(room, 's.sav', 1), 1)
+                expect_refused(case, tests.save(room, 's.sav', 1), 1, room)
         expect_left(case, room, save_text(1))
 
 
@@ -120,7 +120,7 @@ def nothing_works(tests: Tests, path: str, number: str) -> None:
     with tests.case(f'{path}, where rename answers {number} and the old file can\'t be written') as case:
         room = furnish(case)
         env = tests.faults().env('fsync', 2, 'EIO', on=True, also=f'rename:{number}')
-        expect_refused(case, tests.save(room, path, 1, env=env), 1)
+        expect_refused(case, tests.save(room, path, 1, env=env), 1, room)
         expect_left(case, room, save_text(1))
 
 
@@ -128,7 +128,7 @@ def rename_failed(tests: Tests, path: str, number: str) -> None:
     with tests.case(f'{path}, where rename answers {number}') as case:
         room = furnish(case)
         env = tests.faults().env('rename', 1, number, on=True)
-        expect_refused(case, tests.save(room, path, 1, env=env), 1)
+        expect_refused(case, tests.save(room, path, 1, env=env), 1, room)
         case.same('the old file', room.read('s.sav'), OLD)
         case.same('a new name', room.read('new.sav'), None)
         expect_left(case, room, save_text(1))

@@ -219,7 +219,7 @@ def devices(tests: Tests) -> None:
 def folder(tests: Tests, path: str) -> None:
     with tests.case(f'a folder, as {path}') as case, case.room.make_folder('inner') as inner:
         inner.make_folder('folder').close()
-        expect_refused(case, tests.save(inner, path.replace('ROOM', case.room.path), 1), 1)
+        expect_refused(case, tests.save(inner, path.replace('ROOM', case.room.path), 1), 1, case.room)
         case.same('what lies there', [name for name in inner.names() if name not in left_files(inner)], ['folder'])
         expect_whole_left(case, case.room, save_text(1))
 

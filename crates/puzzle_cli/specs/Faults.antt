@@ -1,5 +1,5 @@
 -- The statuses of the program, and its lines on standard error.
-use Rattle.std.specs.Prelude.{ℕ, List, [], codes}
+use Rattle.std.specs.Prelude.{ℕ, List, [], codes, Option, None, option_map, string_bytes}
 use Rattle.puzzle_cli.specs.declared.start.command_fault.CommandFault.TheVariants.{BadWords, HelpAsked}
 use Rattle.puzzle_cli.specs.declared.start.command_fault.CommandFault.TheVariants.{OutOfMemory as WordsOutOfMemory}
 use Rattle.puzzle_cli.specs.CommandFault.{command_fault_status}
@@ -13,7 +13,7 @@ fault_status (Words fault) = command_fault_status fault
 fault_status (Start fault) = start_fault_status fault
 fault_status (Run end) = end_status end
 fault_status LoadFile = 1
-fault_status SaveFile = 1
+fault_status (SaveFile left) = 1
 fault_status Output = 1
 fault_status OutOfMemory = 1
 
@@ -25,6 +25,16 @@ fault_line (Words WordsOutOfMemory) = codes "out of memory"
 fault_line (Start fault) = start_fault_line fault
 fault_line (Run end) = end_fault_line end
 fault_line LoadFile = codes "cannot read the file"
-fault_line SaveFile = codes "cannot write the file"
+fault_line (SaveFile left) = codes "cannot write the file"
 fault_line Output = codes "cannot write the output"
 fault_line OutOfMemory = codes "out of memory"
+
+-- where the save stands that couldn't be put into its file, if it stands anywhere
+abbrev pub fault_left_at : Fault → Option (List ℕ)
+fault_left_at (SaveFile left) = option_map string_bytes left
+fault_left_at (Words fault) = None
+fault_left_at (Start fault) = None
+fault_left_at (Run end) = None
+fault_left_at LoadFile = None
+fault_left_at Output = None
+fault_left_at OutOfMemory = None

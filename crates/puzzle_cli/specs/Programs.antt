@@ -89,9 +89,9 @@ IsSaved writes (Some path) (Some text) = writes (string_bytes path) text true
 IsSaved writes (Some path) None = Unit {0}
 IsSaved writes None text = Unit {0}
 
--- it can't be written, and this says so
+-- it can't be written, and this says so, and where the text stands all the same, if anywhere
 abbrev pub IsUnsaved : Writes → Option Word → Option (List ℕ) → Fault → Type 0
-IsUnsaved writes path text fault = ((fault ≡ SaveFile) ⊎ (fault ≡ OutOfMemory))
+IsUnsaved writes path text fault = (((left : Option Word) × (fault ≡ SaveFile left)) ⊎ (fault ≡ OutOfMemory))
     × IsSomeAnd path (λ name. IsSomeAnd text (λ bytes. writes (string_bytes name) bytes false))
 
 -- ---- all of it

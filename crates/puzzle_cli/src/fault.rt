@@ -1,7 +1,7 @@
 //! Why the program ends before its work is done.
 
-ghost use Rattle.std.specs.Prelude.{◌≡◌, ◌≤◌, length};
-ghost use Rattle.puzzle_cli.specs.Faults.{fault_status, fault_line};
+ghost use Rattle.std.specs.Prelude.{◌≡◌, ◌≤◌, length, option_map};
+ghost use Rattle.puzzle_cli.specs.Faults.{fault_status, fault_line, fault_left_at};
 
 use crate::run_end::End;
 use crate::start::command_fault::CommandFault;
@@ -19,8 +19,8 @@ pub enum Fault {
     Run(End),
     /// The file to load can't be read.
     LoadFile,
-    /// The file to save to can't be written.
-    SaveFile,
+    /// The file to save to can't be written. Where the save stands all the same, it is this path.
+    SaveFile(Option<String>),
     /// Help can't be written to standard output.
     Output,
     /// A growth was refused.
@@ -36,7 +36,7 @@ impl Fault {
             Fault::Words(fault) => fault.status(),
             Fault::Start(fault) => fault.status(),
             Fault::Run(end) => end.status(),
-            Fault::LoadFile | Fault::SaveFile | Fault::Output | Fault::OutOfMemory => 1,
+            Fault::LoadFile | Fault::SaveFile(_) | Fault::Output | Fault::OutOfMemory => 1,
         }
     }
 
@@ -50,9 +50,19 @@ impl Fault {
             Fault::Start(fault) => fault.fault_line(),
             Fault::Run(end) => end.fault_line(),
             Fault::LoadFile => line_of("cannot read the file"),
-            Fault::SaveFile => line_of("cannot write the file"),
+            Fault::SaveFile(_) => line_of("cannot write the file"),
             Fault::Output => line_of("cannot write the output"),
             Fault::OutOfMemory => line_of("out of memory"),
+        }
+    }
+
+    /// Where the save stands that couldn't be put into the file to save to, if it stands anywhere.
+    pub fn left_at(&self) -> Option<&str>
+        ensures { option_map (λ path. path.now) result ≡ fault_left_at self.now }
+    {
+        match self {
+            Fault::SaveFile(Some(path)) => Some(path.as_str()),
+            _ => None,
         }
     }
 }

@@ -39,7 +39,7 @@ pub use draw::{Draw, picture};
 pub use fault::Fault;
 pub use line::line_loop::run_machine;
 pub use line::machine::{Machine, Response};
-pub use program::game_files::GameFiles;
+pub use program::game_files::{GameFiles, Unwritten};
 pub use program::{play, play_with};
 pub use reply::facts::Facts;
 pub use reply::text::Text;

@@ -35,6 +35,9 @@ fn report(rt: &(impl Print + Eprint), fault: Fault) -> u8
     } else {
         let line = fault.line();
         let _ = eprintln!(rt; "{line}");
+        if let Some(path) = fault.left_at() {
+            let _ = eprintln!(rt; "the save is in {path}");
+        }
     }
     fault.status()
 }

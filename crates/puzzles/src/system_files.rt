@@ -1,7 +1,8 @@
 //! The files of the system, as a game loads from them and saves to them.
 
 use crate::load_file::read_file;
-use puzzle_cli::GameFiles;
+use puzzle_cli::{GameFiles, Unwritten};
+use safe_save::{Unsaved, save_file};
 use std::fs::File;
 use std::io;
 use std::random::RandomSource;
@@ -22,7 +23,11 @@ impl<R: Files<File = File> + RandomSource + AllocGlobal> GameFiles for SystemFil
         read_file(self.rt, path)
     }
 
-    fn write(&self, path: &str, bytes: &[u8]) -> io::Result<()> {
-        safe_save::save_file(self.rt, path, bytes)
+    fn write(&self, path: &str, bytes: &[u8]) -> Result<(), Unwritten> {
+        match save_file(self.rt, path, bytes) {
+            Ok(()) => Ok(()),
+            Err(Unsaved::LeftBeside(path)) => Err(Unwritten::LeftAt(path)),
+            Err(Unsaved::Failed(error)) => Err(Unwritten::Failed(error)),
+        }
     }
 }

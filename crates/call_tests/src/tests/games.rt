@@ -6,7 +6,7 @@ ghost use Rattle.std.specs.Prelude.{◌≡◌, false};
 use super::rows::{Row, check};
 use play_midend::Session;
 use puzzle_cli::{
-    Draw, Facts, Fault, GameFiles, Plain, Response, Text, Voice, play, play_with, read_words,
+    Draw, Facts, Fault, GameFiles, Plain, Response, Text, Unwritten, Voice, play, play_with, read_words,
 };
 use puzzle_io::{MemorySink, MemorySource, Sink, Source};
 use std::alloc::Global;
@@ -57,11 +57,11 @@ impl GameFiles for TwoFiles {
         }
     }
 
-    fn write(&self, path: &str, bytes: &[u8]) -> io::Result<()> {
+    fn write(&self, path: &str, bytes: &[u8]) -> Result<(), Unwritten> {
         if path == "new.sav" && bytes == SAVED.as_bytes() {
             Ok(())
         } else {
-            Err(io::Error::from(ErrorKind::Other))
+            Err(Unwritten::Failed(io::Error::from(ErrorKind::Other)))
         }
     }
 }

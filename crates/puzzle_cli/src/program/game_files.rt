@@ -7,6 +7,15 @@ ghost use Rattle.puzzle_cli.specs.Programs.{IsLoaded, IsUnread, IsSaved, IsUnsav
 use crate::fault::Fault;
 use std::io;
 
+/// Why a file wasn't written.
+#[derive(Debug, Drop)]
+pub enum Unwritten {
+    /// What the system said.
+    Failed(io::Error),
+    /// The bytes stand at this path, and couldn't take the place of the file.
+    LeftAt(String),
+}
+
 /// Where a game is loaded from and saved to.
 pub trait GameFiles {
     // What may come of reading the file at a path: its bytes, or none for an error.
@@ -21,7 +30,7 @@ pub trait GameFiles {
         ensures err { OnErr result (reads self.now path.now None) };
 
     /// Makes the bytes the content of the file at the path.
-    fn write(&self, path: &str, bytes: &[u8]) -> io::Result<()>
+    fn write(&self, path: &str, bytes: &[u8]) -> Result<(), Unwritten>
         ensures { writes self.now path.now bytes.now (is_ok result) };
 }
 
@@ -62,8 +71,9 @@ pub(crate) fn save_file<F: GameFiles>(
     };
     match files.write(path.as_str(), text) {
         Ok(()) => Ok(()),
-        Err(error) if is_memory(&error) => Err(Fault::OutOfMemory),
-        Err(_) => Err(Fault::SaveFile),
+        Err(Unwritten::LeftAt(path)) => Err(Fault::SaveFile(Some(path))),
+        Err(Unwritten::Failed(error)) if is_memory(&error) => Err(Fault::OutOfMemory),
+        Err(Unwritten::Failed(_)) => Err(Fault::SaveFile(None)),
     }
 }
 
