@@ -142,12 +142,7 @@ fn lines_after(alloc: Global, before: Vec<u8>, reply: &[u8]) -> Result<Vec<u8>, 
 
 // The text with a line as a text, after a comma where one stands before.
 #[tactic(auto, using(crate::proofs::ObjectTexts::adds_text))]
-fn line_after(
-    alloc: Global,
-    text: Vec<u8>,
-    later: bool,
-    line: &[u8],
-) -> Result<Vec<u8>, AllocError>
+fn line_after(alloc: Global, text: Vec<u8>, later: bool, line: &[u8]) -> Result<Vec<u8>, AllocError>
     ensures { IfOk result (λ new. new.items
         ≡ text.items ++ (comma_if later ++ compact_text (text_data line.now))) }
 {

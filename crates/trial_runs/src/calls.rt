@@ -21,8 +21,8 @@ use crate::calls::twins::are_equal;
 use clue_rules::{Towers, Unequal};
 use play_midend::Session;
 use puzzle_cli::Draw;
-use std::io::Write;
 use std::io;
+use std::io::Write;
 
 /// A Towers puzzle with one solution, 123 231 312.
 const TOWERS: &str = "3:3//////3/////";
@@ -31,11 +31,7 @@ const TOWERS: &str = "3:3//////3/////";
 const UNEQUAL: &str = "3:0,0L,0L,0U,0,0,0U,0,0,";
 
 /// Makes the call with this name in a session of this game.
-pub(crate) fn make_call(
-    rt: &(impl Print + AllocGlobal),
-    game: &str,
-    name: &str,
-) -> io::Result<()> {
+pub(crate) fn make_call(rt: &(impl Print + AllocGlobal), game: &str, name: &str) -> io::Result<()> {
     match (game, call_named(name)) {
         ("towers", Some((start, call))) => tell::<Towers>(rt, TOWERS, start, call),
         ("unequal", Some((start, call))) => tell::<Unequal>(rt, UNEQUAL, start, call),

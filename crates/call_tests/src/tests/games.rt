@@ -6,7 +6,8 @@ ghost use Rattle.std.specs.Prelude.{◌≡◌, false};
 use super::rows::{Row, check};
 use play_midend::Session;
 use puzzle_cli::{
-    Draw, Facts, Fault, GameFiles, Plain, Response, Text, Unwritten, Voice, play, play_with, read_words,
+    Draw, Facts, Fault, GameFiles, Plain, Response, Text, Unwritten, Voice, play, play_with,
+    read_words,
 };
 use puzzle_io::{MemorySink, MemorySource, Sink, Source};
 use std::alloc::Global;
