@@ -112,10 +112,10 @@ fn open_squares(candidates: &Candidates) -> usize {
 
 // Whether narrowed guesses find the solution, and the list has it alone.
 fn falls_to_narrowed_guesses<P: Game>(alloc: Global, hard: &(&str, &str)) -> bool {
-    let (Ok(puzzle), Ok(Move::Solve(wanted))) = (
-        puzzle::<P>(9, hard.0),
-        read_move(hard.1.as_bytes()),
-    ) else {
+    let Ok(puzzle) = puzzle::<P>(9, hard.0) else {
+        return false;
+    };
+    let Ok(Move::Solve(wanted)) = read_move(hard.1.as_bytes()) else {
         return false;
     };
     if !stays_open(&puzzle) || only_solution(&puzzle) != Some(wanted) {

@@ -19,13 +19,17 @@ fn begun(alloc: Global, puzzle: Towers) -> Result<Session<Towers>, PlayFault> {
         size: puzzle.size(),
         letter: None,
     };
+    let next_params = Params {
+        size: puzzle.size(),
+        letter: None,
+    };
     let extras = Extras {
         seed: None,
         auxinfo: None,
         ui: None,
         time: None,
     };
-    Session::new(alloc, params, params, puzzle, extras)
+    Session::new(alloc, params, next_params, puzzle, extras)
 }
 
 /// A new game of that puzzle.

@@ -131,7 +131,7 @@ struct Reads(u64, u64, usize, Option<&'static str>);
 
 impl Row for Reads {
     fn holds(&self, alloc: Global) -> bool {
-        for call in self.0..self.1 + 1 {
+        for call in self.0..self.1.saturating_add(1) {
             let reads = Settings {
                 piece: 1,
                 fails_at: call,

@@ -26,36 +26,38 @@ fn used_board() -> Option<Board>
     Some(board)
 }
 
-// The change that a move makes on the used board, by its text, or by the word restart.
-fn change(alloc: Global, board: &Board, text: &str) -> Result<Change, PlayFault> {
-    let Ok(towers) = puzzle::<Towers>(3, PUZZLE) else {
-        return Err(PlayFault::BadMove);
-    };
-    if board.size().get() != towers.size().get() {
-        return Err(PlayFault::BadMove);
-    }
+// The move of a text, or of the word restart.
+fn move_of(text: &str) -> Result<Move, PlayFault> {
     match text {
-        "restart" => change_of(alloc, &towers, board, &Move::Restart),
-        _ => change_of(alloc, &towers, board, &read_move(text.as_bytes())?),
+        "restart" => Ok(Move::Restart),
+        _ => read_move(text.as_bytes()),
     }
 }
 
-// A move that changes something, and is taken back.
+// Whether the move changes something, and is taken back.
+fn is_taken_back(alloc: Global, towers: &Towers, first: &Board, m: &Move) -> bool {
+    if first.size().get() != towers.size().get() {
+        return false;
+    }
+    let mut board = *first;
+    let Ok(mut change) = change_of(alloc, towers, &board, m) else {
+        return false;
+    };
+    board.swap(&mut change);
+    let is_changed = board != *first;
+    board.swap(&mut change);
+    is_changed && board == *first
+}
+
+// A move on the used board.
 struct TakenBack(&'static str);
 
 impl Row for TakenBack {
     fn holds(&self, alloc: Global) -> bool {
-        let Some(first) = used_board() else {
-            return false;
-        };
-        let mut board = first;
-        let Ok(mut change) = change(alloc, &board, self.0) else {
-            return false;
-        };
-        board.swap(&mut change);
-        let is_changed = board != first;
-        board.swap(&mut change);
-        is_changed && board == first
+        match (puzzle::<Towers>(3, PUZZLE), used_board(), move_of(self.0)) {
+            (Ok(towers), Some(first), Ok(m)) => is_taken_back(alloc, &towers, &first, &m),
+            _ => false,
+        }
     }
 }
 
@@ -74,17 +76,18 @@ fn each_move_is_taken_back(rt: HostRuntime) {
     check(&rt, rt.alloc(), ROWS);
 }
 
-fn is_refused(alloc: Global) -> bool {
-    match used_board() {
-        Some(board) => matches!(
-            change(alloc, &board, "P0,0,1"),
+fn is_refused(alloc: Global, towers: &Towers, board: &Board, m: &Move) -> bool {
+    board.size().get() == towers.size().get()
+        && matches!(
+            change_of(alloc, towers, board, m),
             Err(PlayFault::FilledSquare)
-        ),
-        None => false,
-    }
+        )
 }
 
 #[test]
 fn a_mark_of_a_filled_square_is_refused(rt: HostRuntime) {
-    assert!(rt; is_refused(rt.alloc()));
+    let towers = puzzle::<Towers>(3, PUZZLE).expect(&rt, "a puzzle");
+    let board = used_board().expect(&rt, "a board");
+    let m = Move::Pencil { x: 0, y: 0, n: 1 };
+    assert!(rt; is_refused(rt.alloc(), &towers, &board, &m));
 }
