@@ -2,6 +2,7 @@
 
 use super::worked::{only_solution, puzzle};
 use clue_rules::{Game, Towers, Unequal};
+use latin_board::Grid;
 use play_midend::{Move, read_move};
 use std::alloc::Global;
 use trail_solver::{Answer, Candidates, Rules, solutions, solve};
@@ -110,20 +111,38 @@ fn open_squares(candidates: &Candidates) -> usize {
     open
 }
 
-// Whether narrowed guesses find the solution, and the list has it alone.
-fn falls_to_narrowed_guesses<P: Game>(alloc: Global, hard: &(&str, &str)) -> bool {
-    let Ok(puzzle) = puzzle::<P>(9, hard.0) else {
-        return false;
-    };
-    let Ok(Move::Solve(wanted)) = read_move(hard.1.as_bytes()) else {
-        return false;
-    };
-    if !stays_open(&puzzle) || only_solution(&puzzle) != Some(wanted) {
-        return false;
+fn is_only(found: &Option<Grid>, wanted: &Grid) -> bool {
+    match found {
+        Some(grid) => *grid == *wanted,
+        None => false,
     }
-    match solutions(alloc, &puzzle, 2) {
-        Ok(listed) => listed.as_slice() == [wanted].as_slice(),
+}
+
+fn is_alone(listed: &[Grid], wanted: &Grid) -> bool {
+    listed.len() == 1 && listed[0] == *wanted
+}
+
+// Whether narrowed guesses find the solution, and the list has it alone.
+fn is_found_and_listed<P: Rules>(alloc: Global, puzzle: &P, wanted: &Grid) -> bool {
+    match solutions(alloc, puzzle, 2) {
+        Ok(listed) => {
+            is_alone(listed.as_slice(), wanted) && is_only(&only_solution(puzzle), wanted)
+        }
         Err(_) => false,
+    }
+}
+
+fn is_solution_found<P: Rules>(alloc: Global, puzzle: &P, m: &Move) -> bool {
+    match m {
+        Move::Solve(wanted) => is_found_and_listed(alloc, puzzle, wanted),
+        _ => false,
+    }
+}
+
+fn falls_to_narrowed_guesses<P: Game>(alloc: Global, hard: &(&str, &str)) -> bool {
+    match (puzzle::<P>(9, hard.0), read_move(hard.1.as_bytes())) {
+        (Ok(puzzle), Ok(m)) => stays_open(&puzzle) && is_solution_found(alloc, &puzzle, &m),
+        _ => false,
     }
 }
 
