@@ -16,6 +16,9 @@ from board.files import why
 #: How long a line may take before somebody is asked whether to go on waiting, and from then on between two questions.
 FIRST_WAIT, NEXT_WAIT = 0.4, 0.1
 
+#: The name that the program is called by, whatever its file is called: by this one it answers in objects.
+NAME = 'puzzles-json'
+
 #: Called while the program is at work; True where nobody is to wait any more.
 Waiting = Callable[[], bool]
 
@@ -40,7 +43,8 @@ class Program:
         try:
             # In a session of its own no key and no closed window ends it: it ends with its input.
             self._process = subprocess.Popen(
-                [path, game, *words],
+                [NAME, game, *words],
+                executable=path,
                 stdin=subprocess.PIPE,
                 stdout=subprocess.PIPE,
                 stderr=subprocess.PIPE,
@@ -66,7 +70,12 @@ class Program:
             self._input.flush()
         except OSError:
             self._end()
-        return reply_of(json.loads(self._line(waiting)))
+        answer = self._line(waiting)
+        try:
+            return reply_of(json.loads(answer))
+        except ValueError:
+            self.stop()
+            raise Gone('its answer is no object: it is not puzzles-json') from None
 
     def stop(self) -> None:
         """Ends it. Its game is not saved by that."""
@@ -146,10 +155,16 @@ def started_with(path: str, game: str, content: bytes, waiting: Optional[Waiting
 def save_to(path: str, game: str, content: bytes, target: str, waiting: Optional[Waiting] = None) -> str:
     """Has the program save this content's game to a file, as it saves every file. Gives what it complains of, or nothing. Raises `Stopped`."""
     with text_file(content) as file:
-        words: List[str] = [path, game, '--load', f'/proc/self/fd/{file.fileno()}', '--save', target]
+        words: List[str] = [NAME, game, '--load', f'/proc/self/fd/{file.fileno()}', '--save', target]
         try:
             process = subprocess.Popen(
-                words, stdin=subprocess.DEVNULL, stdout=subprocess.DEVNULL, stderr=subprocess.PIPE, pass_fds=[file.fileno()], start_new_session=True
+                words,
+                executable=path,
+                stdin=subprocess.DEVNULL,
+                stdout=subprocess.DEVNULL,
+                stderr=subprocess.PIPE,
+                pass_fds=[file.fileno()],
+                start_new_session=True,
             )
         except (OSError, ValueError) as error:
             return why(error)

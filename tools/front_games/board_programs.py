@@ -5,6 +5,7 @@ from __future__ import annotations
 import os
 import signal
 import time
+from pathlib import Path
 from typing import Callable, Dict
 
 from front_games.board_lives import is_gone
@@ -17,6 +18,9 @@ KEPT = 'state/puzzles/towers.sav'
 
 #: A program that never answers.
 SILENT = b'#!/bin/sh\nexec sleep 100\n'
+
+#: A program that answers by plain lines.
+PLAIN = b'#!/bin/sh\nwhile read -r line; do echo ok; done\n'
 
 #: Stands between the front and the program. It takes long over `completable` and one move, and the memory for some replies is lacking: for one the move is
 #: made and its reply is lost, the other one is refused.
@@ -111,6 +115,19 @@ def silent(front: BoardFront, room: Room, name: str) -> None:
         front.same(f'{name}, in lines: the status', window.status(), 1)
 
 
+def other_names(front: BoardFront, room: Room, name: str) -> None:
+    """The file of the program may have any name; a program that answers by plain lines is told for what it is."""
+    for file, content in (('another', Path(front.program).read_bytes()), ('plain', PLAIN)):
+        room.put(file, content, 0o755)
+    for words, shown in ((['towers'], 'move 0/0'), (['--lines', 'towers'], 'towers 1/1>')):
+        env = {**front.env(room), 'PUZZLES_JSON': os.path.join(room.path, 'another')}
+        with front.window(room, [*words, ID], env=env) as window:
+            front.look(f'{name}: another name, {words}', room, window, Look('', [shown]))
+        with front.window(room, words, env={**env, 'PUZZLES_JSON': os.path.join(room.path, 'plain')}) as window:
+            front.look(f'{name}: no object, {words}', room, window, Look('', ['its answer is no object: it is not']))
+            front.same(f'{name}: the status, {words}', window.status(), 1)
+
+
 def wait_for_program(window: Window) -> bool:
     """Whether the front has started a program, which has a session of its own, or does so in a moment."""
     end = time.monotonic() + 10
@@ -147,6 +164,7 @@ CASES: Dict[str, Callable[[BoardFront, Room, str], None]] = {
     'the program takes long': long_work,
     'the program gives no answer': no_answer,
     'the program never answers': silent,
+    'programs by other names': other_names,
     'no memory': no_memory,
     'a full history': full_history,
 }
