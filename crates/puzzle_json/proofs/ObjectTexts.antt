@@ -1,5 +1,5 @@
 -- The text of an object: what each member adds, and what the whole reads as.
-use Rattle.std.proofs.Common.{◌≡◌, ℕ, suc, ◌≤◌, Bool, true, false, List, [], ◌∷◌, ◌++◌, map, codes, Option, Some, None, option_map, option_and_then, refl, sym, ap, ap₂, subst, ◌∙◌, append_assoc, append-nil, arith}
+use Rattle.std.proofs.Common.{◌≡◌, ℕ, suc, ◌≤◌, Bool, true, false, List, [], ◌∷◌, ◌++◌, map, codes, Option, Some, None, option_map, option_and_then, refl, sym, ap, ap₂, ◌∙◌, append_assoc, append-nil, arith}
 use Rattle.std.specs.Prelude.{max, Result, Ok, Err, IfOk}
 use Rattle.byte_text.specs.Cuts.{Lacks}
 use Rattle.json.specs.Token.{Token, string as string_token}
@@ -14,7 +14,7 @@ use Rattle.json.proofs.Numbered.{value-HasNumbers, ArePrintableOrBad-tokens}
 use Rattle.serde_json.specs.Data.{Data, null, boolean, number, string, array, object, Items, no_items, item, Members, no_members, member, put, depth, items_depth, members_depth}
 use Rattle.serde_json.specs.Read.{of_json, of_items, of_members, read, max_depth}
 use Rattle.serde_json.specs.View.{items_of}
-use Rattle.serde_json.specs.Written.{has_float, outline, items_outline, members_outline, IsInOrder, comma_if, compact_text, items_text, members_text}
+use Rattle.serde_json.specs.Written.{outline, items_outline, members_outline, IsInOrder, comma_if, compact_text, items_text, members_text}
 use Rattle.serde_json.proofs.Texts.{tokens_from_order, print-outline}
 use Rattle.puzzle_json.specs.declared.further_line.FurtherLine.{FurtherLine}
 use Rattle.puzzle_json.specs.declared.further_line.FurtherLine.TheVariants.{Board, Completable, Hint}
@@ -23,7 +23,7 @@ use Rattle.puzzle_json.specs.FurtherLines.{further_key}
 use Rattle.puzzle_json.specs.Replies.{name_data, reply_members, reply_data}
 use Rattle.puzzle_json.specs.ObjectLines.{Fits, IsSpelled, IsLineOf}
 use Rattle.puzzle_json.specs.Inner.ObjectTexts.{key_text, AddsMember, IsPlain}
-use Rattle.puzzle_json.specs.Laws.Spellings.{no_float_or, spelled_reply}
+use Rattle.puzzle_json.specs.Laws.Spellings.{spelled_reply}
 use Rattle.puzzle_json.proofs.ReplyLines.{lines_of-front, lines_of-none}
 
 -- two things that hold of a value, and what follows from both

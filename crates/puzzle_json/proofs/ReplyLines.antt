@@ -1,10 +1,10 @@
 -- The lines of a reply, cut off its front one by one, and texts byte by byte.
-use Rattle.std.proofs.Common.{◌≡◌, ◌≢◌, ℕ, suc, ◌+◌, ◌-◌, ◌<◌, ◌≤◌, ◌==◌, true, false, if◌then◌else◌, List, [], ◌∷◌, ◌++◌, length, map, take, get_or, encode_utf8, sym, ap, refl, ◌∙◌, append_assoc, append-nil, arith}
-use Rattle.std.proofs.lemmas.List.{take_more, map-append}
+use Rattle.std.proofs.Common.{◌≡◌, ◌≢◌, ℕ, suc, ◌+◌, ◌-◌, ◌<◌, ◌≤◌, ◌==◌, true, false, if◌then◌else◌, List, [], ◌∷◌, ◌++◌, length, take, get_or, encode_utf8, sym, ap, refl, ◌∙◌, append_assoc, append-nil, arith}
+use Rattle.std.proofs.lemmas.List.{take_more}
 use Rattle.std.proofs.lemmas.Bool.Decides.{nat_tests}
 use Rattle.byte_text.specs.Cuts.{Lacks}
 use Rattle.puzzle_cli.specs.Lines.{onto, segments}
-use Rattle.puzzle_json.specs.Texts.{latin_text, text_data, lines_of}
+use Rattle.puzzle_json.specs.Texts.{latin_text, lines_of}
 
 some_onto : (b : ℕ) (ps : List (List ℕ)) → 1 ≤ length (onto b ps)
 some_onto b [] = omega arith

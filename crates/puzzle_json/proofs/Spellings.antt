@@ -1,5 +1,5 @@
 -- Which of what is told has one text.
-use Rattle.std.proofs.Common.{◌≡◌, ℕ, false, [], ◌∷◌, Option, Some, None, refl, sym, subst, arith}
+use Rattle.std.proofs.Common.{ℕ, false, [], ◌∷◌, Option, Some, None, refl, sym, subst, arith}
 use Rattle.std.specs.List.{range_with_len}
 use Rattle.std.specs.Prelude.{◌*◌}
 use Rattle.number_sets.specs.Sets.{has_number}

@@ -10,7 +10,7 @@ use Rattle.puzzle_json.specs.ObjectLines.{Fits, OrLost}
 use Rattle.puzzle_json.specs.Sessions.{session_data}
 use Rattle.puzzle_json.specs.JsonReplies.{IsReplyLine, IsObjectLine, Tells, JsonReply}
 use Rattle.puzzle_json.specs.declared.further_line.FurtherLine.{FurtherLine}
-use Rattle.puzzle_json.specs.declared.further_line.FurtherLine.TheVariants.{Board, Completable, Hint as AskHint}
+use Rattle.puzzle_json.specs.declared.further_line.FurtherLine.TheVariants.{Board, Hint as AskHint}
 use Rattle.std.specs.Prelude.{◌≢◌}
 use Rattle.latin_board.specs.Squares.{GridValue}
 use Rattle.latin_board.specs.Boards.{BoardValue, grid_of}

@@ -4,7 +4,7 @@ use Rattle.json.specs.Print.{quoted}
 use Rattle.json.specs.Tree.{HasNumbers}
 use Rattle.serde_json.specs.Data.{Data, Members, member}
 use Rattle.serde_json.specs.Read.{of_json}
-use Rattle.serde_json.specs.Written.{outline, comma_if, compact_text, members_text}
+use Rattle.serde_json.specs.Written.{outline, comma_if, members_text}
 
 -- a key and its colon, after a comma where a member stands before
 abbrev pub key_text : Bool → List ℕ → List ℕ
