@@ -1,4 +1,4 @@
-"""What a program may have: a stack of 64 KB, and memory for some times what it says."""
+"""What a program may have: memory for some times what it says."""
 
 from __future__ import annotations
 
@@ -7,10 +7,6 @@ import resource
 from harness import run
 from harness.game import ID, save_text
 from objects.agreement import Pair
-from outside.small_stack import BOARDS, COMMANDS, STACK
-
-#: The lines that the plain program doesn't know.
-FURTHER = b'board\ncompletable\nhint\n'
 
 #: As many bytes as a kept value can have in a save that may be loaded, all of them LF: each is a line of its own.
 LINES = b'\n' * (16_777_216 - 1000)
@@ -19,17 +15,6 @@ SESSION = b'{"game":"Towers","id":"%s","position":1,"states":1,"status":"playing
 
 
 def cases(pair: Pair) -> None:
-    for board in BOARDS:
-        with pair.report.case(f'a stack of 64 KB: {board.name}') as case:
-            words, script = [pair.objects, board.game, '--id', board.id], FURTHER + COMMANDS + FURTHER
-            wanted = run(words, case.room, input=script)
-            found = run(words, case.room, input=script, limits={resource.RLIMIT_STACK: STACK})
-            case.same('the end', found, wanted)
-            case.same('the status', found.status, 0)
-    long_save(pair)
-
-
-def long_save(pair: Pair) -> None:
     """A reply of 16 million lines, in four times the memory that its object has bytes."""
     with pair.report.case('a save with a value of 16 MiB of LF, in four times the memory of its object') as case:
         text = save_text(0).replace(b'DESC    ', b'SEED    :%d:%s\nDESC    ' % (len(LINES), LINES))

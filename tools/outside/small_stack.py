@@ -1,10 +1,11 @@
-"""Every command with a stack of 64 KB, on boards of size 9 that the search goes deep for: the program says what it says with more."""
+"""Every command of both programs with a stack of 64 KB, on boards of size 9 that the search goes deep for: they say what they say with more."""
 
 from __future__ import annotations
 
 import resource
 from typing import NamedTuple
 
+from harness import Report, run
 from outside.runs import Run, Tests
 
 STACK = 64 * 1024
@@ -33,6 +34,9 @@ solve
 id
 '''
 
+#: The lines that the plain program doesn't know.
+FURTHER = b'board\ncompletable\nhint\n'
+
 
 class Board(NamedTuple):
     """A puzzle of size 9 by its game and ID."""
@@ -55,10 +59,20 @@ BOARDS = [
 ]
 
 
-def cases(tests: Tests) -> None:
+def plain(tests: Tests) -> None:
     for board in BOARDS:
-        with tests.case(f'a stack of 64 KB: {board.name}') as case:
+        with tests.case(f'puzzles: {board.name}') as case:
             row = Run(board.name, [board.game, '--id', board.id, '--save', 'deep.sav'], COMMANDS, output=None, made=['deep.sav'])
             wanted = tests.play(case, row)
             saved = case.room.read('deep.sav')
             tests.play(case, row._replace(output=wanted, holds={'deep.sav': saved}), limits={resource.RLIMIT_STACK: STACK})
+
+
+def objects(report: Report, program: str) -> None:
+    for board in BOARDS:
+        with report.case(f'puzzles-json: {board.name}') as case:
+            words, script = [program, board.game, '--id', board.id], FURTHER + COMMANDS + FURTHER
+            wanted = run(words, case.room, input=script)
+            found = run(words, case.room, input=script, limits={resource.RLIMIT_STACK: STACK})
+            case.same('the end', found, wanted)
+            case.same('the status', found.status, 0)

@@ -40,4 +40,5 @@ PARTS = [
     Part('how the program saves, wherever the file lies and whoever shares it', 'tools/test_saving', ['PUZZLES'], 2, is_of_build=True),
     Part('the texts for users, and what the documents name', 'tools/test_texts', ['PUZZLES', 'OBJECTS']),
     Part('the program, from outside', 'tools/program_tests', ['PUZZLES'], is_of_build=True),
+    Part('a small stack', 'tools/test_stack', ['PUZZLES', 'OBJECTS']),
 ]
