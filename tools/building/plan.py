@@ -22,7 +22,7 @@ SECONDS = {
     'safe_save': 485,
     'puzzle_io': 82,
     'puzzle_cli': 298,
-    'puzzle_json': 184,
+    'json_replies': 184,
     'puzzles': 171,
 }
 

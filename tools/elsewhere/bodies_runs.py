@@ -137,7 +137,7 @@ PATHS = [
     ('src/a.rt', 'impl PartialEq for Size {\n', 4, 'words::a::SizePartialEq::f'),
     ('src/a.rt', "impl<'a, W: Write> fmt::Write for Log<'a, W> {\n", 4, 'words::a::LogWrite::f'),
     ('src/a.rt', 'impl<T: Drop> From<AllocFailed<T>> for Fault {\n', 4, 'words::a::FaultFromAllocFailed::f'),
-    ('src/a.rt', 'impl<P: Draw> Voice<P> for Plain {\n', 4, 'words::a::PlainVoice::f'),
+    ('src/a.rt', 'impl<P: Draw> Format<P> for Plain {\n', 4, 'words::a::PlainFormat::f'),
     ('src/a.rt', 'pub trait Rules {\n', 4, 'words::a::Rules::f'),
     ('src/a.rt', 'mod inner {\n', 4, ''),
     ('src/a.rt', 'impl Size {\n    fn g() {\n', 8, ''),

@@ -8,7 +8,7 @@ from typing import Dict, List, Set, Tuple
 from trusting.contracts import Rust
 from trusting.definitions import Meaning, Part, Source, Specs, words
 
-#: The contracts of the headline: the file and the function.
+#: The contracts of what README promises and of what `main` calls: the file and the function.
 PROMISES = [
     ('crates/trail_solver/src/solver.rt', 'solve'),
     ('crates/puzzle_gen/src/generator.rt', 'generate'),
@@ -18,6 +18,13 @@ PROMISES = [
     ('crates/puzzle_cli/src/session_run.rt', 'run'),
     ('crates/puzzle_cli/src/run_laws.rt', 'laws'),
     ('crates/safe_save/src/saving.rt', 'save'),
+    ('crates/board_checks/src/checks.rt', 'errors'),
+    ('crates/board_checks/src/hints.rt', 'find_hint'),
+    ('crates/json_replies/src/reply_laws.rt', 'laws'),
+    ('crates/puzzle_cli/src/program.rt', 'play'),
+    ('crates/puzzles/src/program_name.rt', 'program_name'),
+    ('crates/puzzles/src/whole_game.rt', 'play_words'),
+    ('crates/puzzles/src/ending.rt', 'status_of'),
 ]
 
 

@@ -8,8 +8,8 @@ from typing import Dict, Iterator, List, NamedTuple, Tuple
 
 from trusting.definitions import ROOT, Meaning, Part, imports
 
-#: Crates whose impls are for tests and measurements alone.
-FOR_TESTS = re.compile(r'tests$|^trial_runs$')
+#: Crates whose impls are for tests, measurements and examples alone.
+FOR_TESTS = re.compile(r'tests$|^trial_runs$|^client$')
 
 #: An item of a file, from its attributes and comments to its end.
 TYPE = re.compile(r'^((?: *(?://|#\[).*\n)*)pub(?:\(crate\))? (?:struct|enum) (\w+)[^;{]*(?:;|\{(?:.*\n)*?\}\n)', re.MULTILINE)
@@ -94,11 +94,11 @@ class Rust:
         return known.ghosts
 
     def contract(self, path: str, name: str) -> Tuple[Meaning, str]:
-        """The contract of a public function, and its head."""
+        """The contract of a function that other files call, and its head."""
         file = ROOT / path
         text = file.read_text(encoding='utf-8')
-        match = re.search(rf'^ *pub fn {name}\b.*?(?=^ *\{{[\n}}])', text, re.MULTILINE | re.DOTALL)
+        match = re.search(rf'^ *(?:pub(?:\(crate\))? )fn {name}\b.*?(?=^ *\{{[\n}}])', text, re.MULTILINE | re.DOTALL)
         if not match:
-            raise ValueError(f'{path} has no public function {name}')
+            raise ValueError(f'{path} has no function {name} that other files call')
         head = re.split(r'^ *(?:requires|ensures)\b', match[0], maxsplit=1, flags=re.MULTILINE)[0]
         return Code(file, text).part(f'{name}', match.start(), match[0]), head

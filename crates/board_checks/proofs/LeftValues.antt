@@ -20,9 +20,6 @@ values_below_more c cell set n below of has = record {
       (cases_eq k cell);
 }
 
-pub values_below_all : (c : CandidatesValue) (k : ℕ) → HaveValuesBelow c k → k ≡ c.size * c.size → HaveValues c
-values_below_all c k below e = record { each = λ cell inside. below.each cell (omega (arith, inside, e)) }
-
 -- a square whose set is empty has none
 pub lacks_values : (c : CandidatesValue) (cell set : ℕ) → cell < c.size * c.size → IsSetOf c cell set → IsEmpty set → HaveValues c → ⊥
 lacks_values c cell set inside of empty have =

@@ -1,12 +1,11 @@
 -- A replay of a trail, and the fronts after which no empty square has only one candidate.
-use Rattle.std.proofs.Common.{◌≡◌, ◌≢◌, ℕ, ◌+◌, ◌-◌, ◌<◌, ◌≤◌, true, not, List, [], ◌∷◌, length, take, refl, sym, ap, ◌∙◌, subst, ⊎_elim, take_all, arith}
+use Rattle.std.proofs.Common.{◌≡◌, ◌≢◌, ℕ, ◌+◌, ◌-◌, ◌<◌, ◌≤◌, List, [], ◌∷◌, length, take, refl, sym, ap, ◌∙◌, subst, ⊎_elim, take_all, arith}
 use Rattle.std.proofs.lemmas.Bool.{cases_eq}
 use Rattle.std.proofs.lemmas.List.{length-append, take-take}
 use Rattle.latin_board.specs.Squares.{GridValue}
-use Rattle.trail_solver.specs.Pairs.{IsPrefix, has_pair}
-use Rattle.trail_solver.specs.Candidates.{CandidatesValue, IsCandidates, IsEarlier, may_be}
+use Rattle.trail_solver.specs.Candidates.{CandidatesValue, IsEarlier}
 use Rattle.trail_solver.specs.Replays.{IsNext}
-use Rattle.trail_solver.proofs.Earlier.{earlier_refl, earlier_trans, prefix_length, was_left}
+use Rattle.trail_solver.proofs.Earlier.{earlier_refl, earlier_trans, prefix_length}
 use Rattle.trail_solver.proofs.Fronts.{rest_next}
 use Rattle.board_checks.specs.Hints.{IsLastLeft, IsSoonest}
 
@@ -36,16 +35,6 @@ next_length later old new cell n = ap length n.trail ∙ length-append old.trail
 -- after no front of the trail an empty square has only one candidate
 pub record HaveNoneYet (g : GridValue) (c : CandidatesValue) : Type 0 where
   pub none : (shorter : CandidatesValue) → IsEarlier shorter c → (k v : ℕ) → IsLastLeft g shorter k v → ⊥
-
--- with all candidates there
-none_at_start : (g : GridValue) (c : CandidatesValue) → 3 ≤ c.size → c.trail ≡ [] → HaveNoneYet g c
-none_at_start g c small empty = record {
-  none = λ shorter less k v left.
-      let all : (u : ℕ) → may_be shorter k u ≡ true = λ u. was_left shorter c k u less (ap (λ (ps : List (ℕ × ℕ)). not (has_pair ps k u)) empty) in
-      let one : 1 ≡ v = left.only.alone 1 (omega arith) (omega (arith, small, less.size)) (all 1) in
-      let two : 2 ≡ v = left.only.alone 2 (omega arith) (omega (arith, small, less.size)) (all 2) in
-      omega (arith, one, two);
-}
 
 -- what another square has left is as before
 left_before : (g : GridValue) (later old new : CandidatesValue) (cell k v : ℕ) → IsNext later old new cell → k ≢ cell → IsLastLeft g new k v
@@ -84,15 +73,6 @@ pub record IsReplayed (g : GridValue) (c front : CandidatesValue) : Type 0 where
   pub less : IsEarlier front c
   pub yet : HaveNoneYet g front
 
-pub replay_start : (g : GridValue) (c front : CandidatesValue) → IsCandidates c → front.size ≡ c.size → front.trail ≡ [] → IsReplayed g c front
-replay_start g c front valid size empty = record {
-  less = record {
-    size = sym size;
-    adds = let P : List (ℕ × ℕ) → Type 0 = λ ps. IsPrefix ps c.trail in subst P (sym empty) (record { is = refl });
-  };
-  yet = none_at_start g front (omega (arith, valid.smallest, size)) empty;
-}
-
 -- one pair more
 pub replay_more : (g : GridValue) (c old new : CandidatesValue) (cell : ℕ) → IsReplayed g c old → IsNext c old new cell
     → ((v : ℕ) → IsLastLeft g new cell v → ⊥) → IsReplayed g c new
@@ -113,8 +93,3 @@ replay_found g c old new cell value r n left =
       left = left;
       first = λ shorter before fewer k v there. r.yet.none shorter (shorter_front shorter old c before r.less (omega (arith, count, fewer))) k v there;
     }
-
--- at the end of the trail
-pub replay_end : (g : GridValue) (c front : CandidatesValue) → IsReplayed g c front → front ≡ c → (cell value : ℕ) → IsLastLeft g c cell value → ⊥
-replay_end g c front r e cell value left =
-    r.yet.none front (earlier_refl front) cell value (subst (λ (d : CandidatesValue). IsLastLeft g d cell value) (sym e) left)

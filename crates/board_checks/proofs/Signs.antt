@@ -38,6 +38,7 @@ below_most w n x within keeps = elim (cases_eq n 0) [
   | inr other ↦ let same = keeps (omega arith) in rw (ne_eqb n 0 other) (omega arith)
 ]
 
+-- what a square may hold is no less than its least number
 above_least : (n x : ℕ) → 1 ≤ x → (0 < n → x ≡ n) → least_of n ≤ x
 above_least n x low keeps = elim (cases_eq n 0) [
   | inl blank ↦ rw (eq-eqb n 0 blank) low

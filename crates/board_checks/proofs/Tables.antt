@@ -15,6 +15,7 @@ pub record AreTold (n : ℕ) (P : ℕ → Type 0) (found : List Bool) : Type 0 w
   pub told : (k : ℕ) → k < n → IsTrue (get_or found k false) ↔ P k
   pub rest : (k : ℕ) → n ≤ k → get_or found k false ≡ false
 
+-- at first nothing is told of any entry
 pub none_told : (P : ℕ → Type 0) (m : ℕ) → AreTold 0 P (replicate m false)
 none_told P m = record {
   told = λ k low. absurd (omega arith);
@@ -24,6 +25,7 @@ none_told P m = record {
   ];
 }
 
+-- one entry more is told
 pub one_more_told : (P : ℕ → Type 0) (n : ℕ) (b : Bool) (found : List Bool) → n < length found → IsTrue b ↔ P n → AreTold n P found
     → AreTold (n + 1) P (set found n b)
 one_more_told P n b found inside here h = record {
@@ -34,6 +36,7 @@ one_more_told P n b found inside here h = record {
   rest = λ k low. get_or-set_other found n k b false (λ same. omega arith) ∙ h.rest k (omega arith);
 }
 
+-- when all entries are told, the table tells of each
 pub all_told : (P : ℕ → Type 0) (n : ℕ) (found : List Bool) → AreTold n P found → ((k : ℕ) → P k → k < n)
     → (k : ℕ) → IsTrue (get_or found k false) ↔ P k
 all_told P n found h within k = elim (cases_lt k n) [

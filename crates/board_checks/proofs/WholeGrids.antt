@@ -149,6 +149,7 @@ pub record AreErrorsOf (p : Puzzle) (demand : Spot → Option Demand) (g : GridV
   pub repeated : (cell : ℕ) → IsTrue (has_repeated e cell) ↔ IsRepeated g cell
   pub broken : (spot : Spot) → IsTrue (has_broken e spot) ↔ IsBrokenAt demand g spot
 
+-- a grid with an error has no solution that keeps its numbers
 pub errors_wrong : (p : Puzzle) (demand : Spot → Option Demand) (g : GridValue) (e : ErrorsValue) → AreDemandsOf p demand
     → AreErrorsOf p demand g e → HasError e → (h : GridValue) → Completes p g h → ⊥
 errors_wrong p demand g e laws found error h c = elim error [

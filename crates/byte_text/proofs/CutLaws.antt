@@ -35,18 +35,22 @@ cut_whole c (b ∷ bs) =
 same_self : (c : ℕ) → (c == c) ≡ true
 same_self c = grind (arith, nat_tests)
 
+-- what comes before the first separator, where the text is cut there
 pub before_at : (c : ℕ) (xs ys : List ℕ) → Lacks c xs → before c (xs ++ c ∷ ys) ≡ xs
 before_at c [] ys lacks = rw (same_self c) refl
 before_at c (x ∷ xs) ys lacks = rw (apart_eqb x c lacks.0) (ap (λ zs. x ∷ zs) (before_at c xs ys lacks.1))
 
+-- what comes behind the first separator, where the text is cut there
 pub behind_at : (c : ℕ) (xs ys : List ℕ) → Lacks c xs → behind c (xs ++ c ∷ ys) ≡ Some ys
 behind_at c [] ys lacks = rw (same_self c) refl
 behind_at c (x ∷ xs) ys lacks = rw (apart_eqb x c lacks.0) (behind_at c xs ys lacks.1)
 
+-- a text without the separator comes before it whole
 pub before_all : (c : ℕ) (xs : List ℕ) → Lacks c xs → before c xs ≡ xs
 before_all c [] lacks = refl
 before_all c (x ∷ xs) lacks = rw (apart_eqb x c lacks.0) (ap (λ zs. x ∷ zs) (before_all c xs lacks.1))
 
+-- behind a separator that isn't there nothing comes
 pub behind_none_in : (c : ℕ) (xs : List ℕ) → Lacks c xs → behind c xs ≡ None
 behind_none_in c [] lacks = refl
 behind_none_in c (x ∷ xs) lacks = rw (apart_eqb x c lacks.0) (behind_none_in c xs lacks.1)
@@ -61,6 +65,7 @@ pieces_more c (b ∷ bs) rest =
       | false ↦ λ found. ap (onto_first b) (pieces_more c bs rest found)
     ]
 
+-- a text without the separator is one piece
 pub pieces_last : (c : ℕ) (bs : List ℕ) → behind c bs ≡ None → slice_split (λ b. b == c) bs ≡ bs ∷ []
 pieces_last c [] = λ none. refl
 pieces_last c (b ∷ bs) =

@@ -13,6 +13,7 @@ abbrev all_digits : List ℕ → Bool
 all_digits [] = true
 all_digits (b ∷ bs) = is_digit b && all_digits bs
 
+-- the value of the digits, behind digits of this value
 abbrev value_onto : ℕ → List ℕ → ℕ
 value_onto n [] = n
 value_onto n (b ∷ bs) = value_onto (n * 10 + (b - 48)) bs
@@ -126,6 +127,7 @@ digits_again greatest m within fits =
     let value = digits_value-decimal own m below in
     from_again greatest 0 (decimal m) (digits_decimal own m below) (rw value within) ∙ ap Some value
 
+-- the decimal of a number is read as that number
 pub number_again : (greatest m : ℕ) → m ≤ greatest → greatest < 2 ^ 64 → decimal_value greatest (decimal m) ≡ Some m
 number_again greatest m within fits =
     let below : m < 2 ^ 64 = omega arith in

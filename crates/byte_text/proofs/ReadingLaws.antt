@@ -8,5 +8,6 @@ pub bind_taken : {A B E : Type 0} (step : Result A E) (rest : A → Result B E) 
 bind_taken (Ok a) rest whole is = (a, refl, is)
 bind_taken (Err e) rest whole is = cc
 
+-- after a step that gave a value, the rest is done with it
 pub bind_again : {A B E : Type 0} (step : Result A E) (rest : A → Result B E) (value : A) → step ≡ Ok value → step >>= rest ≡ rest value
 bind_again step rest value is = ap (λ r. r >>= rest) is

@@ -6,6 +6,7 @@ use Rattle.byte_text.specs.Bytes.{digit_zero, digit_nine}
 abbrev pub is_digit : ℕ → Bool
 is_digit b = nat_le digit_zero b && nat_le b digit_nine
 
+-- whether the text begins with a digit
 abbrev pub begins_digit : List ℕ → Bool
 begins_digit [] = false
 begins_digit (b ∷ bs) = is_digit b
@@ -15,6 +16,7 @@ abbrev pub digit_onto : ℕ → ℕ → ℕ → Option ℕ
 digit_onto greatest n b =
     if is_digit b && nat_le (n * 10 + (b - digit_zero)) greatest then Some (n * 10 + (b - digit_zero)) else None
 
+-- the number whose first digits have this value and whose others follow, or none where it gets above the greatest or a byte is no digit
 abbrev pub number_from : ℕ → ℕ → List ℕ → Option ℕ
 number_from greatest n [] = Some n
 number_from greatest n (b ∷ bs) = option_and_then (λ m. number_from greatest m bs) (digit_onto greatest n b)

@@ -13,11 +13,13 @@ plain_puzzle givens hopeless asked = record {
   clued = λ place. false;
 }
 
+-- a given is no greater than the size, whether it is asked for or not
 pub given_within : (givens : GridValue) (asked : Bool) (cell : ℕ) → IsGrid givens → cell < givens.size * givens.size
     → (if asked then number_at givens cell else 0) ≤ givens.size
 given_within givens true cell h inside = number_within givens h cell inside
 given_within givens false cell h inside = omega arith
 
+-- where no given is asked for, each Latin square of the size is a solution
 free_solved : (givens g : GridValue) (hopeless : Bool) → IsGrid g → IsLatin g → g.size ≡ givens.size
     → Solves (plain_puzzle givens hopeless false) g
 free_solved givens g hopeless is_grid latin size = record {
@@ -28,12 +30,14 @@ free_solved givens g hopeless is_grid latin size = record {
   clues = refl;
 }
 
+-- a solution stays one where a given is taken away
 pub cut_solved : (givens g : GridValue) (hopeless asked keep : Bool) → Solves (plain_puzzle givens hopeless asked) g
     → Solves (plain_puzzle givens hopeless (asked && keep)) g
 cut_solved givens g hopeless true true s = s
 cut_solved givens g hopeless true false s = free_solved givens g hopeless s.is_grid s.latin s.same_size
 cut_solved givens g hopeless false keep s = s
 
+-- without its given each Latin square of the size is a solution
 pub cut_none : (givens g : GridValue) (hopeless asked : Bool) → IsGrid g → IsLatin g → g.size ≡ givens.size
     → Solves (plain_puzzle givens hopeless (asked && false)) g
 cut_none givens g hopeless true is_grid latin size = free_solved givens g hopeless is_grid latin size

@@ -41,6 +41,7 @@ pub record IsFilledBy {X : Type 0} (empty : X) (n : ℕ) (f : ℕ → X) (i : �
 pub filled_none : {X : Type 0} (empty : X) (n : ℕ) (f : ℕ → X) → IsFilledBy empty n f 0 (replicate n empty)
 filled_none empty n f = record { filled = filled_begin empty n; front = refl }
 
+-- one entry more is filled in
 pub filled_more : {X : Type 0} (empty : X) (n : ℕ) (f : ℕ → X) (i : ℕ) (xs : List X) (v : X) → i < n → v ≡ f i
     → IsFilledBy empty n f i xs → IsFilledBy empty n f (i + 1) (set xs i v)
 filled_more empty n f i xs v inside is h =

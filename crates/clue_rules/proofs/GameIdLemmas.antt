@@ -165,6 +165,7 @@ with_taken D letters desc_at IsDesc text (Seeded p seed) id reads h read =
     let is : Seeded p seed ≡ id = cc in
     subst (λ v. IsIdText letters IsDesc v text) is h
 
+-- a text that is read as an ID is one by the grammar, of what was read
 pub id_taken : (D : Type 0) (letters : List ℕ) (has_adjacent : Bool) (desc_at : ℕ → List ℕ → Result D IdFault)
     (IsDesc : ℕ → D → List ℕ → Type 0) (text : List ℕ) (id : GameId D)
     → ReadsGrammar D desc_at IsDesc → id_at letters has_adjacent desc_at text ≡ Ok id → IsIdText letters IsDesc id text
@@ -173,6 +174,7 @@ id_taken D letters has_adjacent desc_at IsDesc text id reads read =
     let steps = bind_taken (id_parts_at letters has_adjacent text) (with_description desc_at) id read in
     with_taken D letters desc_at IsDesc text steps.0 id reads (id_parts_taken letters has_adjacent text steps.0 steps.1) steps.2
 
+-- a text that is an ID by the grammar is read as what it spells
 pub id_again : (D : Type 0) (letters : List ℕ) (has_adjacent : Bool) (desc_at : ℕ → List ℕ → Result D IdFault)
     (IsDesc : ℕ → D → List ℕ → Type 0) (text : List ℕ) (id : GameId D)
     → LacksSeparators letters → ReadsGrammar D desc_at IsDesc → IsIdText letters IsDesc id text

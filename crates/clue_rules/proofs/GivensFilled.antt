@@ -1,15 +1,11 @@
 -- The givens of a Towers description, filled byte by byte.
-use Rattle.std.proofs.Common.{◌≡◌, ℕ, ◌+◌, ◌-◌, ◌*◌, ◌<◌, ◌≤◌, true, List, [], ◌++◌, take, set, replicate, subst, sym, ap, ◌∙◌, arith, All}
+use Rattle.std.proofs.Common.{◌≡◌, ℕ, ◌+◌, ◌-◌, ◌*◌, ◌<◌, ◌≤◌, true, List, ◌++◌, take, set, replicate, sym, ap, ◌∙◌, arith}
 use Rattle.std.specs.List.{flat_map}
-use Rattle.std.proofs.lemmas.List.Elements.{All-head}
 use Rattle.clue_rules.specs.Inner.Filled.{IsFilledTo}
 use Rattle.clue_rules.specs.TowersText.{blanks_of, is_square_part, squares_of}
-use Rattle.clue_rules.specs.Laws.SquarePart.{squares_of_digit, squares_of_letter}
-use Rattle.byte_text.specs.Bytes.{digit_zero, digit_nine, letter_a, letter_z}
+use Rattle.clue_rules.specs.Laws.SquarePart.{squares_of_letter}
+use Rattle.byte_text.specs.Bytes.{letter_a, letter_z}
 use Rattle.clue_rules.proofs.FilledLemmas.{filled_one, filled_run}
-
-pub digit_within : (w b : ℕ) → digit_zero ≤ b → b ≤ digit_nine → All (λ n. n ≤ w) (squares_of b) → b - digit_zero ≤ w
-digit_within w b low high within = All-head (λ n. n ≤ w) (b - digit_zero) [] (subst (All (λ n. n ≤ w)) (squares_of_digit b low high) within)
 
 -- a digit sets one square
 pub digit_filled : (w n place v : ℕ) (xs ys : List ℕ) → ys ≡ set xs place v → IsFilledTo 0 (w * w) place xs → n ≡ w

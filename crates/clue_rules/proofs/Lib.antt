@@ -2,9 +2,10 @@ pub mod CluePartLemmas
 pub mod FilledLemmas
 pub mod GameIdLemmas
 pub mod GivensFilled
+pub mod GivensNarrowed
 pub mod KeptCandidates
 pub mod KeptItemLemmas
-pub mod LatinPasses
+pub mod LineSets
 pub mod LineSquares
 pub mod LineSteps
 pub mod LineTallying
@@ -15,7 +16,6 @@ pub mod ParameterLemmas
 pub mod PieceLemmas
 pub mod QuietSteps
 pub mod RangeLemmas
-pub mod RulePasses
 pub mod SettledLines
 pub mod SignLemmas
 pub mod SignSteps
@@ -27,3 +27,4 @@ pub mod UnequalTables
 pub mod UnequalWritten
 pub mod ViewLines
 pub mod ViewSteps
+pub mod WaitingLines

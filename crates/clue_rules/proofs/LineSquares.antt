@@ -37,6 +37,7 @@ line_cell_once w line i j below first second same = elim (cases_lt line w) [
 
 -- ---- the squares from a place
 
+-- two squares from a place are two squares of its line
 pub view_index_apart : (w place i j : ℕ) → i < w → j < w → i ≢ j → view_index w place i ≢ view_index w place j
 view_index_apart w place i j first second apart =
     elim (cases_lt place w) [
@@ -50,6 +51,7 @@ view_index_apart w place i j first second apart =
       ]
     ]
 
+-- a square from a place is on the grid
 pub view_inside : (w place k : ℕ) → place < 4 * w → k < w → view_cell w place k < w * w
 view_inside w place k inside low =
     line_cell_inside w (view_line w place) (view_index w place k) (view_line_low w place inside) (view_index_low w place k low)

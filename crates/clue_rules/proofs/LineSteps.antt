@@ -10,16 +10,17 @@ use Rattle.trail_solver.specs.Pairs.{IsPair}
 use Rattle.trail_solver.specs.Candidates.{CandidatesValue, IsSetOf, IsEarlier, IsOnly, IsWithin, may_be}
 use Rattle.trail_solver.proofs.Earlier.{earlier_refl, only_later, was_left}
 use Rattle.clue_rules.specs.Inner.Narrowing.{AreSetsOf, IsSquare, KeepsInView, Narrows, StruckBelow}
-use Rattle.clue_rules.specs.Inner.LineTallies.{IsPossible, IsWholeTally, IsSettledTally, IsKeptOf, IsLineStruck, HoldValuesTo}
+use Rattle.clue_rules.specs.Inner.LineTallies.{IsPossible, IsWholeTally, IsQuietTally, IsKeptOf, IsLineStruck, HoldValuesTo}
 use Rattle.clue_rules.specs.Struck.{IsOnePlace, IsPeerStruck, IsPlaceStruck, IsLatinStruck}
 use Rattle.clue_rules.specs.Views.{view_cell}
 use Rattle.clue_rules.specs.declared.lines.latin.LineTally.{LineTally}
 use Rattle.clue_rules.proofs.Narrowings.{on_true, on_false}
 use Rattle.clue_rules.proofs.KeptCandidates.{along_whole}
-use Rattle.clue_rules.proofs.LineTallying.{possible_stays, taken_goes, displaced_goes, settled_kept}
+use Rattle.clue_rules.proofs.LineTallying.{possible_stays, taken_goes, displaced_goes, quiet_kept}
 
 -- ---- from the sets that are kept along a line to a step of narrowing
 
+-- a step along a place narrows where each solution keeps its numbers there
 pub along_narrows : {S : GridValue → Type 0} {T : CandidatesValue → ℕ → ℕ → Type 0} {place : ℕ} {kept : List ℕ}
     {old new : CandidatesValue} {r : Bool}
     → ((g : GridValue) → S g → g.size ≡ old.size → IsWithin old g → (k : ℕ) → k < old.size
@@ -50,6 +51,7 @@ pub record IsAlong (w line place : ℕ) : Type 0 where
   pub line_is : line < 2 * w
   pub cells : (k : ℕ) → view_cell w place k ≡ line_cell w line k
 
+-- a square of a Latin square and its number are a pair of the size
 pub grid_pair : (g : GridValue) (w cell : ℕ) → IsSquare g → g.size ≡ w → cell < w * w → IsPair w cell (number_at g cell)
 grid_pair g w cell s size inside =
     let here : cell < g.size * g.size = subst (λ (n : ℕ). cell < n * n) (sym size) inside in
@@ -195,6 +197,7 @@ line_refuted c line place sets a is none = record {
   struck = tt;
 }
 
+-- a step along a line by its tally narrows for Latin squares, and leaves nothing there that the line strikes
 pub line_narrows : (old new : CandidatesValue) (line place : ℕ) (sets kept : List ℕ) (t : LineTally) (left : Bool)
     → IsAlong old.size line place → AreSetsOf old place sets → IsWholeTally sets old.size t
     → ((k : ℕ) → k < old.size → IsKeptOf t (slice_index sets k) (slice_index kept k)) → KeepsInView place kept old new left
@@ -204,8 +207,8 @@ line_narrows old new line place sets kept t left a is whole keeps h =
     (λ first e cell v s. line_struck old line place sets kept t a is whole keeps first e cell v s) h
 
 -- where every value may stay, nothing goes
-pub line_settled : (c : CandidatesValue) (line place : ℕ) (sets : List ℕ) (t : LineTally) → IsAlong c.size line place
-    → AreSetsOf c place sets → IsWholeTally sets c.size t → IsSettledTally t → Narrows IsSquare (IsLineStruck line) c c true
-line_settled c line place sets t a is whole settled =
-    line_narrows c c line place sets sets t true a is whole (settled_kept sets c.size t whole settled)
+pub line_quiet : (c : CandidatesValue) (line place : ℕ) (sets : List ℕ) (t : LineTally) → IsAlong c.size line place
+    → AreSetsOf c place sets → IsWholeTally sets c.size t → IsQuietTally t → Narrows IsSquare (IsLineStruck line) c c true
+line_quiet c line place sets t a is whole settled =
+    line_narrows c c line place sets sets t true a is whole (quiet_kept sets c.size t whole settled)
     (along_whole place sets sets c is (λ k low. refl))

@@ -4,7 +4,7 @@ use Rattle.std.proofs.lemmas.Bool.{cases_Bool, cases_lt, cases_eq, cases_order, 
 use Rattle.std.proofs.Math.ListN.{length-set}
 use Rattle.number_sets.specs.Sets.{has_number, no_numbers, IsEmpty, IsShared, IsSingle, IsSubset}
 use Rattle.number_sets.proofs.Members.{has_number-none}
-use Rattle.clue_rules.specs.Inner.LineTallies.{IsPossible, IsTally, IsWholeTally, IsSinglesOf, IsCounted, IsClash, IsForced, IsFree, IsHidden, IsSettledTally, MayStay, IsKeptOf, HoldValuesTo}
+use Rattle.clue_rules.specs.Inner.LineTallies.{IsPossible, IsTally, IsWholeTally, IsSinglesOf, IsCounted, IsClash, IsForced, IsFree, IsHidden, IsQuietTally, MayStay, IsKeptOf, HoldValuesTo}
 use Rattle.clue_rules.specs.declared.lines.latin.LineTally.{LineTally}
 use Rattle.clue_rules.proofs.FilledLemmas.{entries_more}
 use Rattle.clue_rules.proofs.RangeLemmas.{below_one_more}
@@ -226,9 +226,9 @@ kept_nothing t set forced kept many f there two none = rw none (record {
 })
 
 -- where the values that just one set has are those that are alone in one, every value may stay
-pub settled_kept : (sets : List ℕ) (w : ℕ) (t : LineTally) → IsWholeTally sets w t → IsSettledTally t → (k : ℕ) → k < w
+pub quiet_kept : (sets : List ℕ) (w : ℕ) (t : LineTally) → IsWholeTally sets w t → IsQuietTally t → (k : ℕ) → k < w
     → IsKeptOf t (slice_index sets k) (slice_index sets k)
-settled_kept sets w t h settled k inside =
+quiet_kept sets w t h settled k inside =
     let own : (u : ℕ) → has_number (slice_index sets k) u ≡ true → has_number t.singles u ≡ true → IsSingle (slice_index sets k) u =
     λ u has alone.
     let by = (h.tally.singles u).0 alone in

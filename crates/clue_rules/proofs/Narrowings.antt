@@ -1,19 +1,21 @@
 -- Steps of narrowing, one after another.
-use Rattle.std.proofs.Common.{◌≡◌, ◌≢◌, ℕ, ◌+◌, ◌-◌, ◌*◌, ◌<◌, ◌≤◌, ◌⊎◌, length, Bool, true, false, inl, inr, sym, ◌∙◌, subst, arith}
+use Rattle.std.proofs.Common.{◌≡◌, ℕ, ◌+◌, ◌*◌, ◌≤◌, ◌⊎◌, Bool, true, false, inl, inr, sym, ◌∙◌, subst, arith}
 use Rattle.std.specs.Bool.{OnTrue, OnFalse}
 use Rattle.std.proofs.Math.Nat.{mul-le-mul_left}
 use Rattle.latin_board.specs.Squares.{GridValue}
 use Rattle.trail_solver.specs.Pairs.{IsPair}
 use Rattle.trail_solver.specs.Candidates.{CandidatesValue, IsEarlier}
-use Rattle.trail_solver.proofs.Earlier.{earlier_trans, prefix_length, stays_gone}
+use Rattle.trail_solver.proofs.Earlier.{earlier_trans, stays_gone}
 use Rattle.clue_rules.specs.Inner.Narrowing.{LacksStruck, Narrows, NoneStruck, StruckBelow}
 use Rattle.clue_rules.specs.Struck.{IsGivenStruck, NoneLeft}
 use Rattle.clue_rules.proofs.RangeLemmas.{below_cases}
 
+-- what follows of a fact holds where the fact does, for an answer that is true
 pub on_true : (b : Bool) {P Q : Type 0} → (P → Q) → OnTrue b P → OnTrue b Q
 on_true true f h = f h
 on_true false f h = tt
 
+-- the same, for an answer that is false
 pub on_false : (b : Bool) {P Q : Type 0} → (P → Q) → OnFalse b P → OnFalse b Q
 on_false true f h = tt
 on_false false f h = f h
@@ -21,10 +23,6 @@ on_false false f h = f h
 pub on_either : (b : Bool) {P : Type 0} → P → OnTrue b P
 on_either true p = p
 on_either false p = tt
-
-pub on_both : (b : Bool) {P Q R : Type 0} → (P → Q → R) → OnTrue b P → OnTrue b Q → OnTrue b R
-on_both true f p q = f p q
-on_both false f p q = tt
 
 lacks_by : {T U : CandidatesValue → ℕ → ℕ → Type 0} {a b : CandidatesValue}
     → ((first : CandidatesValue) → IsEarlier first a → (cell v : ℕ) → IsPair first.size cell v → U first cell v → T first cell v)
@@ -79,20 +77,11 @@ below_more {T = T} {n = n} one two = narrows_then (λ first cell v s. below_case
 
 -- ---- how long it can go on
 
-cube_most : (w : ℕ) → w ≤ 9 → w * w * w ≤ 729
+pub cube_most : (w : ℕ) → w ≤ 9 → w * w * w ≤ 729
 cube_most w small =
     let square = mul-le-mul_left w small in
     let cube = mul-le-mul_left (w * w) small in
     omega (arith, square, cube)
-
--- the trail that a step made longer is nearer to its greatest length
-pub trail_nearer : (old new : CandidatesValue) (size before after : ℕ) → IsEarlier old new → before ≡ length old.trail
-    → after ≡ length new.trail → before ≢ after → after ≤ size * size * size → size ≤ 9
-    → 729 - length new.trail < 729 - length old.trail
-trail_nearer old new size before after e was is grew bound small =
-    let le = prefix_length old.trail new.trail e.adds in
-    let most = cube_most size small in
-    omega arith
 
 -- what the givens rule out is gone after the first step, and what is struck in the end
 pub struck_gone : (T : CandidatesValue → ℕ → ℕ → Type 0) {givens : GridValue} (r : Bool) (first old new c : CandidatesValue)

@@ -51,6 +51,7 @@ size_taken letters has_adjacent w (b ∷ bs) p = λ read.
     let same = refused_else (b == letter_d) (letter_at letters w bs) BadParams p plain.1 in
     rw (eqb-true b letter_d same.0) (letter_taken letters w bs p same.1)
 
+-- a text that is read as parameters is one by the grammar, of those that were read
 pub params_taken : (letters : List ℕ) (has_adjacent : Bool) (text : List ℕ) (p : Params)
     → params_at letters has_adjacent text ≡ Ok p → IsParamText letters p text
 unfolding params_at
@@ -85,6 +86,7 @@ letter_part_begins : (letter : Option ℕ) → begins_digit (letter_part letter)
 letter_part_begins None = refl
 letter_part_begins (Some letter) = refl
 
+-- a text that is one by the grammar is read as the parameters that it spells
 pub params_again : (letters : List ℕ) (has_adjacent : Bool) (text : List ℕ) (p : Params) → IsParamText letters p text
     → params_at letters has_adjacent text ≡ Ok p
 unfolding params_at

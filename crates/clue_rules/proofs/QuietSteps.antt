@@ -1,5 +1,5 @@
 -- Steps after which no line has anything left to strike, but for those that are to be looked at again.
-use Rattle.std.proofs.Common.{◌≡◌, ◌≢◌, ℕ, ◌+◌, ◌*◌, ◌<◌, ◌≤◌, ◌⊎◌, false, List, length, nat_lt, take, take_all, inl, inr, refl, sym, ap, ◌∙◌, subst, arith}
+use Rattle.std.proofs.Common.{◌≡◌, ◌≢◌, ℕ, ◌*◌, ◌<◌, ◌≤◌, ◌⊎◌, false, List, length, nat_lt, take, take_all, inl, inr, refl, sym, ap, ◌∙◌, subst, arith}
 use Rattle.std.proofs.lemmas.Bool.{both_ways, cases_Bool, cases_eq, cases_lt, eq-eqb, lt-ltb, ne_eqb}
 use Rattle.std.proofs.lemmas.List.{take-take}
 use Rattle.number_sets.specs.Sets.{has_number}
@@ -9,7 +9,7 @@ use Rattle.trail_solver.specs.Candidates.{CandidatesValue, IsEarlier, may_be}
 use Rattle.trail_solver.proofs.Earlier.{earlier_refl, prefix_length, stays_gone, was_left}
 use Rattle.clue_rules.specs.Inner.ChangedLines.{LosesLine}
 use Rattle.clue_rules.specs.Inner.Narrowing.{LacksStruck}
-use Rattle.clue_rules.specs.Inner.QuietLines.{AreSameAlong, IsOfLine, AreQuietBut, AreQuiet, ArePassed, IsPassed, IsUntouched, Notes, NotesBut, NotesIn, Strikes}
+use Rattle.clue_rules.specs.Inner.QuietLines.{AreSameAlong, IsOfLine, AreQuietBut, IsUntouched, Notes, NotesBut, NotesIn, Strikes}
 use Rattle.clue_rules.specs.declared.lines.changed.ChangedLines.{ChangedLines}
 
 -- ---- candidates of which each are earlier than the last
@@ -37,6 +37,7 @@ same_trail a b h same =
 
 -- ---- lines along which nothing changed
 
+-- nothing changed along any line of the same candidates
 pub same_refl : (line : ℕ) (c : CandidatesValue) → AreSameAlong line c c
 same_refl line c = record { size = refl; each = λ k v inside. refl }
 
@@ -97,6 +98,7 @@ untouched_then a b c s t u line one two out =
 idle_first : (a b c : CandidatesValue) → IsEarlier a b → IsEarlier b c → length c.trail ≡ length a.trail → length b.trail ≡ length a.trail
 idle_first a b c h k same = omega (arith, prefix_length a.trail b.trail h.adds, prefix_length b.trail c.trail k.adds)
 
+-- two steps, one after the other
 pub notes_then : (a b c : CandidatesValue) (s t u : ℕ) → IsEarlier a b → IsEarlier b c → NotesIn a b s t → NotesIn b c t u → NotesIn a c s u
 notes_then a b c s t u h k one two = record {
   each = λ line inside. untouched_then a b c s t u line (one.each line inside) (two.each line (omega (arith, h.size)));
@@ -112,6 +114,7 @@ both_refl c sets = record { latin = notes_refl c sets.latin; rule = notes_refl c
 pub both_kept : (old new : CandidatesValue) (sets : ChangedLines) → new ≡ old → Notes old new sets sets
 both_kept old new sets same = subst (λ (c : CandidatesValue). Notes old c sets sets) (sym same) (both_refl old sets)
 
+-- of both sets
 pub both_then : (a b c : CandidatesValue) (s t u : ChangedLines) → IsEarlier a b → IsEarlier b c → Notes a b s t → Notes b c t u → Notes a c s u
 both_then a b c s t u h k one two = record {
   latin = notes_then a b c s.latin t.latin u.latin h k one.latin two.latin;
@@ -135,19 +138,6 @@ strikes_noted Struck w line s t a b own size inside h notes lacks = record {
   others = λ k low apart. notes.each k low;
   own = λ out. quiet_along Struck w line a b own size h (notes.each line inside out).1 lacks;
   gains = notes.gains;
-}
-
--- and then one of which only is known what it notes
-pub strikes_then : (Struck : CandidatesValue → ℕ → ℕ → Type 0) (w line s t u : ℕ) (a b c : CandidatesValue) → IsOfLine w line Struck → a.size ≡ w
-    → line < 2 * a.size → IsEarlier a b → IsEarlier b c → Strikes Struck line a b s t → NotesIn b c t u → Strikes Struck line a c s u
-strikes_then Struck w line s t u a b c own size inside h k one two = record {
-  others = λ i low apart. untouched_then a b c s t u i (one.others i low apart) (two.each i (omega (arith, h.size)));
-  own = λ out.
-      let was = two.each line (omega (arith, h.size)) out in
-      quiet_along Struck w line b c own (h.size ∙ size) k was.1 (lacks_later Struck b c k (one.own was.0));
-  gains = λ same i out.
-      let first = idle_first a b c h k same in
-      two.gains (same ∙ sym first) i (one.gains first i out);
 }
 
 -- steps from both ends of a line, of which the second may take the line off the set where nothing went
@@ -183,7 +173,8 @@ lost_itself line s t loses = loses line ∙ rw (eq-eqb line line refl) (elim (ca
   | inr lacks ↦ rw lacks refl
 ])
 
-lost_one : (line k s t : ℕ) → LosesLine line s t → (k ≡ line) ⊎ (has_number s k ≡ false) → has_number t k ≡ false
+-- a set that lost a line has neither it nor what it lacked before
+pub lost_one : (line k s t : ℕ) → LosesLine line s t → (k ≡ line) ⊎ (has_number s k ≡ false) → has_number t k ≡ false
 lost_one line k s t loses out = elim (cases_eq k line) [
   | inl same ↦ subst (λ (i : ℕ). has_number t i ≡ false) (sym same) (lost_itself line s t loses)
   | inr apart ↦ elim out [
@@ -224,28 +215,6 @@ quiet_struck Struck w line s t u a b own size h loses step quiet k inside out =
           quiet_along (Struck k) w k a b (own k) size h was.1
           (lacks_later (Struck k) a b h (quiet k here (sym (lost_other line k s t loses apart) ∙ was.0)))
     ]
-
--- ---- lines that were looked at in a pass that took nothing
-
--- one line more
-pub passed_more : (first now new : CandidatesValue) (n s t : ℕ) → IsEarlier first now → IsEarlier now new → IsPassed n now new s t
-    → ArePassed n first now s → ArePassed (n + 1) first new t
-passed_more first now new n s t h k step passed same line low =
-    let mid = idle_first first now new h k same in
-    step (same ∙ sym mid) line (elim (cases_eq line n) [
-      | inl last ↦ inl last
-      | inr apart ↦ inr (passed mid line (omega arith))
-    ])
-
--- a line that is taken off the set, and a step along it
-pub passed_struck : (Struck : CandidatesValue → ℕ → ℕ → Type 0) (line s t u : ℕ) (a b : CandidatesValue) → LosesLine line s t
-    → Strikes Struck line a b t u → IsPassed line a b s u
-passed_struck Struck line s t u a b loses step same k out = step.gains same k (lost_one line k s t loses out)
-
--- after a pass that took nothing, no line was left to look at
-pub quiet_idle : (Struck : ℕ → CandidatesValue → ℕ → ℕ → Type 0) (set : ℕ) (a b : CandidatesValue) → IsEarlier a b
-    → length b.trail ≡ length a.trail → ArePassed (2 * a.size) a b set → AreQuietBut set Struck b → AreQuiet Struck b
-quiet_idle Struck set a b h same passed quiet line inside = quiet line inside (passed same line (omega (arith, inside, h.size)))
 
 -- where every line is in the set, nothing is said of any
 pub quiet_all : (Struck : ℕ → CandidatesValue → ℕ → ℕ → Type 0) (set : ℕ) (c : CandidatesValue)

@@ -28,6 +28,7 @@ signs_held v g valid h = record {
         let parts = and_parts (holds_towards v g a Right) (holds_towards v g a Down) here in
         elim next.points [ inl right ↦ rw right at parts.0 | inr below ↦ rw below at parts.1 ]
 
+-- where all signs hold, the test of them answers so
 pub held_signs : (v : UnequalValue) (g : GridValue) → HoldsSigns v g → holds_signs v g ≡ true
 held_signs v g h =
     range_all _ 0 (v.size * v.size)

@@ -2,14 +2,13 @@
 use Rattle.std.proofs.Common.{◌≡◌, ℕ, ◌+◌, ◌*◌, ◌<◌, Bool, true, false, nat_lt, not, List, set, take, refl, sym, ap, ◌∙◌, inl, inr, arith, ◌==◌, slice_index_or}
 use Rattle.std.proofs.Math.Seq.{take-set-lt}
 use Rattle.std.proofs.lemmas.Bool.{eq-eqb, ne_eqb, cases_eq}
-use Rattle.std.proofs.lemmas.List.{length-take, drop-set-lt, length-set, get_or-set_same, get_or-set_other}
 use Rattle.clue_rules.specs.declared.unequal.direction.Direction.{Direction}
 use Rattle.clue_rules.specs.declared.unequal.item.Item.{Item}
 use Rattle.clue_rules.specs.declared.unequal.item.Item.TheVariants.{RightSign, LowerSign, Given}
 use Rattle.clue_rules.specs.declared.unequal.sign.Sign.{Sign}
 use Rattle.clue_rules.specs.declared.unequal.sign.Sign.TheVariants.{Absent}
 use Rattle.clue_rules.specs.Items.{kept_items}
-use Rattle.clue_rules.specs.Inner.UnequalFields.{KeepsSigns, HoldsSignsOf}
+use Rattle.clue_rules.specs.Inner.UnequalFields.{HoldsSignsOf}
 use Rattle.clue_rules.specs.Inner.UnequalItems.{item_cell, without_item}
 use Rattle.clue_rules.specs.Unequal.{UnequalValue, IsUnequal, cut_unequal, item_at, item_number, has_item, is_present, sign_towards, signs_towards}
 use Rattle.clue_rules.specs.Laws.KeptItems.{kept-all, kept-same, not_positive}
@@ -17,21 +16,6 @@ use Rattle.clue_rules.specs.Laws.UnequalItems.{number_of_item_at, has_is_item, n
 use Rattle.clue_rules.specs.Laws.Signs.{none_at_end}
 use Rattle.clue_rules.proofs.FilledLemmas.{IsFilledBy, filled_more}
 use Rattle.clue_rules.proofs.KeptItemLemmas.{kept-but_one}
-
--- a place that is emptied
-pub emptied : (w : ℕ) (d : Direction) (places : List Sign) (cell : ℕ) → KeepsSigns w d places → cell < w * w
-    → KeepsSigns w d (set places cell Absent)
-emptied w d places cell h inside = record {
-  padded = record {
-    count = length-set places cell Absent ∙ h.padded.count;
-    within = h.padded.within;
-    rest = drop-set-lt (w * w) places cell Absent inside ∙ h.padded.rest;
-  };
-  ends = λ k none. rw (take-set-lt (w * w) places cell Absent inside) (elim (cases_eq k cell) [
-    | inl same ↦ rw same (get_or-set_same (take (w * w) places) cell Absent Absent (omega (arith, length-take (w * w) places, h.padded.count, h.padded.within)))
-    | inr other ↦ get_or-set_other (take (w * w) places) cell k Absent Absent other ∙ h.ends k none
-  ]);
-}
 
 pub emptied_front : (n : ℕ) (places : List Sign) (cell : ℕ) → cell < n → take n (set places cell Absent) ≡ set (take n places) cell Absent
 emptied_front n places cell inside = take-set-lt n places cell Absent inside
@@ -86,11 +70,13 @@ without_cut v i valid = by (item_at v.size i) refl
 
 -- a table that is filled from the front: one sign more, and all signs
 
+-- one sign more is filled in
 pub sign_filled : (w : ℕ) (sign : ℕ → ℕ → Sign) (d : Direction) (cell : ℕ) (places : List Sign) (s : Sign) → cell < 81
     → s ≡ sign_towards w sign d cell → IsFilledBy Absent 81 (sign_towards w sign d) cell places
     → IsFilledBy Absent 81 (sign_towards w sign d) (cell + 1) (set places cell s)
 sign_filled w sign d cell places s room is h = filled_more Absent 81 (sign_towards w sign d) cell places s room is h
 
+-- when the squares of the grid are passed, the signs of the direction are there
 pub signs_filled : (w : ℕ) (sign : ℕ → ℕ → Sign) (d : Direction) (cell : ℕ) (places : List Sign) → cell ≡ w * w
     → IsFilledBy Absent 81 (sign_towards w sign d) cell places → HoldsSignsOf w sign d places
 signs_filled w sign d cell places all h =

@@ -29,6 +29,7 @@ back_along g line =
     ∙ get_or-line_of g line (g.size - 1 - k) (omega arith)
     ∙ sym (get_or-map-range_with_len back 0 g.size k k 0 within (omega arith)))
 
+-- what is seen from a place is the numbers in its squares
 pub view_of-numbers : (g : GridValue) (place : ℕ) → place < 4 * g.size → view_of g place ≡ numbers_from g place g.size
 view_of-numbers g place inside =
     let w = g.size in

@@ -31,6 +31,7 @@ use Rattle.clue_rules.proofs.KeptCandidates.{along_whole}
 
 -- ---- the numbers from a place
 
+-- an entry of what is seen from a place is the number in that square
 pub view_number : (g : GridValue) (place k : ℕ) → place < 4 * g.size → k < g.size
     → slice_index (view_of g place) k ≡ number_at g (view_cell g.size place k)
 view_number g place k inside low =

@@ -6,7 +6,8 @@ pub mod Items
 -- the puzzles: what they are, which grids meet their clues or signs, and their items
 pub mod Towers
 pub mod Unequal
--- what narrowing rules out
+-- puzzles of givens alone, and what narrowing rules out
+pub mod Givens
 pub mod Struck
 -- the texts: for each its grammar, the form that is written, and what is read; and the faults of reading
 pub mod IdFaults

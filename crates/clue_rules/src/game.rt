@@ -1,5 +1,5 @@
 //! What the mid-end and the programs know of a game.
-ghost use Rattle.std.specs.Prelude.{◌≡◌, ℕ, ◌≤◌, Bool, false, List, Result, Ok, IsTrue, ◌↔◌, IfOk, IfErr};
+ghost use Rattle.std.specs.Prelude.{◌≡◌, ℕ, ◌≤◌, false, List, Result, Ok, IsTrue, ◌↔◌, IfOk, IfErr};
 ghost use Rattle.std.specs.Option.{option_map_or};
 ghost use Rattle.latin_board.specs.Edges.{edge_place};
 ghost use Rattle.clue_rules.specs.declared.game.TheConstants.{MOST_ITEMS};
@@ -23,9 +23,6 @@ pub trait Game: Rules {
 
     ghost letter_codes: { List ℕ };
 
-    // The collection's game has an adjacent mode.
-    ghost has_adjacent: { Bool };
-
     // The text describes the puzzle.
     ghost describes: { List ℕ → Self → Type 0 };
 
@@ -42,10 +39,6 @@ pub trait Game: Rules {
     /// The letters of the difficulties that may stand behind `d` in the game's parameters.
     fn letters() -> &'static str
         ensures { result.now ≡ letter_codes };
-
-    /// Whether the collection's game has an adjacent mode, which isn't supported here.
-    fn has_adjacent_mode() -> bool
-        ensures { result ≡ has_adjacent };
 
     /// Whether both are the same puzzle.
     fn same(&self, other: &Self) -> bool

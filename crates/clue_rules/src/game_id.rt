@@ -5,10 +5,11 @@ ghost use Rattle.byte_text.specs.Reading.{Gives};
 ghost use Rattle.clue_rules.specs.declared.game_id.GameId.{GameId};
 ghost use Rattle.clue_rules.specs.GameIds.{IsIdText, id_at, describes_at, is_separator, params_part, from_separator, id_parts_at, id_map};
 ghost use Rattle.clue_rules.specs.IdFaults.{NotForMemory};
+ghost use Rattle.clue_rules.specs.Parameters.{has_adjacent_mode};
 
 use crate::game::Game;
 use crate::id_fault::IdFault;
-use crate::params::{Params, read_params};
+use crate::params::{Params, has_adjacent_mode, read_params};
 use byte_text::number;
 
 /// A game ID: the parameters with a puzzle of their size, or with the seed of one.
@@ -26,7 +27,7 @@ pub enum GameId<P> {
 /// `ForeignSeed` behind `#`; `NoDescription` where none of these stands; `BadSeed`; those of `Game::read_desc`. It takes no
 /// memory, so `OutOfMemory` is never among them.
 pub fn read_id<P: Game>(text: &[u8]) -> Result<GameId<P>, IdFault>
-    ensures value { result ≡ id_at P.letter_codes P.has_adjacent P.desc_at text.now }
+    ensures value { result ≡ id_at P.letter_codes (has_adjacent_mode P.title) P.desc_at text.now }
     ensures found { IfOk result (λ id.
         IsIdText P.letter_codes (describes_at P.puzzle P.valid P.describes) id text.now) }
     ensures only { (id : GameId P)
@@ -39,9 +40,9 @@ pub fn read_id<P: Game>(text: &[u8]) -> Result<GameId<P>, IdFault>
 
 #[tactic(auto, unfolding(crate::specs::GameIds::id_at))]
 fn parse_id<P: Game>(text: &[u8]) -> Result<GameId<P>, IdFault>
-    ensures { result ≡ id_at P.letter_codes P.has_adjacent P.desc_at text.now }
+    ensures { result ≡ id_at P.letter_codes (has_adjacent_mode P.title) P.desc_at text.now }
 {
-    match read_id_parts(P::letters(), P::has_adjacent_mode(), text) {
+    match read_id_parts(P::letters(), has_adjacent_mode(P::name()), text) {
         Ok(GameId::Described(params, description)) => {
             let puzzle = P::read_desc(params.size, description)?;
             Ok(GameId::Described(params, puzzle))

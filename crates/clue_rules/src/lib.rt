@@ -2,7 +2,7 @@
 //!
 //! Both games are `Rules` of the solver and a `Game` of the mid-end. All in which they differ is in `towers` and `unequal`;
 //! what both do along the rows and columns of a grid is in `lines`. Parameters and game IDs are read alike for both, but
-//! that one of the games has an adjacent mode.
+//! that one of the games has an adjacent mode. A game of another crate has `narrow_by_givens` for its rows and columns.
 //!
 //! A game ID is read, its puzzle solved, and its description written:
 //!
@@ -26,6 +26,7 @@ mod unequal;
 pub use game::{Game, MOST_ITEMS};
 pub use game_id::{GameId, read_id};
 pub use id_fault::IdFault;
+pub use lines::by_givens::narrow_by_givens;
 pub use lines::views::view_cell;
 pub use params::Params;
 pub use towers::Towers;

@@ -1,7 +1,7 @@
 //! The parameters of a game: a size, and a difficulty letter or none.
 
 ghost use Rattle.std.specs.Prelude.{◌≡◌, List, ℕ, Contains, Result, Ok, Err, IfOk, IfSome};
-ghost use Rattle.clue_rules.specs.Parameters.{IsParamText, letter_at, behind_size, params_at};
+ghost use Rattle.clue_rules.specs.Parameters.{IsParamText, letter_at, has_adjacent_mode, behind_size, params_at};
 
 use crate::game::Game;
 use crate::id_fault::IdFault;
@@ -23,11 +23,11 @@ impl Params {
     ///
     /// Refused, in this order, as `BadSize`, `AdjacentMode` where the game has that mode, `BadLetter`, `BadParams`.
     pub fn read<P: Game>(text: &[u8]) -> Result<Params, IdFault>
-        ensures value { result ≡ params_at P.letter_codes P.has_adjacent text.now }
+        ensures value { result ≡ params_at P.letter_codes (has_adjacent_mode P.title) text.now }
         ensures found { IfOk result (λ p. IsParamText P.letter_codes p text.now) }
         ensures only { (p : Params) → IsParamText P.letter_codes p text.now → result ≡ Ok p }
     {
-        read_params(P::letters(), P::has_adjacent_mode(), text)
+        read_params(P::letters(), has_adjacent_mode(P::name()), text)
     }
 
     ghost use Rattle.std.specs.Prelude.{◌≡◌, List, ℕ, Contains, IfSome};
@@ -48,6 +48,13 @@ impl Params {
         }
         text
     }
+}
+
+/// Whether the collection's game of this name has an adjacent mode, which isn't supported here: Unequal alone has one.
+pub(crate) fn has_adjacent_mode(name: &str) -> bool
+    ensures { result ≡ has_adjacent_mode name.now }
+{
+    name == "Unequal"
 }
 
 /// The parameters that the text says, of a game with these letters.

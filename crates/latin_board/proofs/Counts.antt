@@ -19,12 +19,14 @@ pub times_in_more_no : (f : ℕ → ℕ) (v k times : ℕ) → times ≡ times_i
     → times ≡ times_in v (map f (range_with_len 0 (k + 1)))
 times_in_more_no f v k times so_far here = rw (times_in_more f v k, ne_eqb (f k) v here) (omega arith)
 
+-- a value at the head of a list is in it once more
 pub times_in_head : (v x : ℕ) (xs : List ℕ) → x ≡ v → times_in v (x ∷ xs) ≡ 1 + times_in v xs
 times_in_head v x xs here = rw (sum_by-cons (λ n. cond (eqb n v) 1 0) x xs, eq-eqb x v here) refl
 
 times_in_tail : (v x : ℕ) (xs : List ℕ) → times_in v xs ≤ times_in v (x ∷ xs)
 times_in_tail v x xs = rw (sum_by-cons (λ n. cond (eqb n v) 1 0) x xs) (omega arith)
 
+-- another value at the head makes no difference
 pub times_in_other : (v x : ℕ) (xs : List ℕ) → (x ≡ v → ⊥) → times_in v (x ∷ xs) ≡ times_in v xs
 times_in_other v x xs other = rw (sum_by-cons (λ n. cond (eqb n v) 1 0) x xs, ne_eqb x v other) (omega arith)
 

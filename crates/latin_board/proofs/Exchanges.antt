@@ -7,6 +7,7 @@ use Rattle.latin_board.specs.Changes.{ChangeValue, OneSquare, WholeBoard, FitsBo
 restored : (xs : List ℕ) (i x : ℕ) → set (set xs i x) i (get_or xs i 0) ≡ xs
 restored xs i x = rw (set-set xs i x (get_or xs i 0)) (set-get_or xs i 0)
 
+-- the change that an exchange leaves brings the board back
 pub board_restored : (b : BoardValue) (change : ChangeValue) → board_after (board_after b change) (change_after b change) ≡ b
 board_restored b (OneSquare s) = λ i. record b {
   numbers = restored b.numbers s.cell s.number i;
@@ -14,6 +15,7 @@ board_restored b (OneSquare s) = λ i. record b {
 }
 board_restored b (WholeBoard other) = refl
 
+-- and then the change is what it was
 pub change_restored : (b : BoardValue) (change : ChangeValue) → IsBoard b → FitsBoard b change
     → change_after (board_after b change) (change_after b change) ≡ change
 change_restored b (OneSquare s) valid fits =

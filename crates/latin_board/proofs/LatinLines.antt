@@ -20,14 +20,17 @@ some_width w cell inside =
           absurd (omega (arith, rw nothing at inside))
     ]
 
+-- the squares of a row
 pub line_cell-row : (w row k : ℕ) → row < w → line_cell w row k ≡ row * w + k
 line_cell-row w row k low = rw (lt-ltb row w low) refl
 
+-- the squares of a column
 pub line_cell-column : (w column k : ℕ) → line_cell w (w + column) k ≡ k * w + column
 line_cell-column w column k =
     let back : (w + column) - w ≡ column = omega arith in
     rw (le-ltb (w + column) w (omega arith), back) refl
 
+-- a square of a line is one of the grid
 pub line_cell_inside : (w line k : ℕ) → line < 2 * w → k < w → line_cell w line k < w * w
 line_cell_inside w line k below within =
     elim (cases_lt line w) [
@@ -35,17 +38,21 @@ line_cell_inside w line k below within =
       | inr column ↦ rw (le-ltb line w column) (mul-add-lt k w (line - w) w within (omega arith))
     ]
 
+-- the line of a row's number is that row
 pub line_of-row : (g : GridValue) (row : ℕ) → row < g.size → line_of g row ≡ row_of g row
 line_of-row g row low = rw (lt-ltb row g.size low) refl
 
+-- the line of a column's number, which comes after the rows, is that column
 pub line_of-column : (g : GridValue) (column : ℕ) → line_of g (g.size + column) ≡ column_of g column
 line_of-column g column =
     let back : (g.size + column) - g.size ≡ column = omega arith in
     rw (le-ltb (g.size + column) g.size (omega arith), back) refl
 
+-- a line is as long as the grid is wide
 pub length-line_of : (g : GridValue) (line : ℕ) → length (line_of g line) ≡ g.size
 length-line_of g line = length-map-range_with_len (λ k. number_at g (line_cell g.size line k)) 0 g.size
 
+-- an entry of a line is the number in that square
 pub get_or-line_of : (g : GridValue) (line k : ℕ) → k < g.size → get_or (line_of g line) k 0 ≡ number_at g (line_cell g.size line k)
 get_or-line_of g line k within =
     get_or-map-range_with_len (λ k. number_at g (line_cell g.size line k)) 0 g.size k k 0 within (omega arith)
@@ -57,6 +64,7 @@ line_cell_of_row w cell inside =
 
 -- ---- a Latin square by its lines
 
+-- each line of a Latin square has each value once
 pub latin_line : (g : GridValue) → IsLatin g → (line : ℕ) → line < 2 * g.size → HasEachOnce g.size (line_of g line)
 latin_line g latin line below =
     elim (cases_lt line g.size) [
@@ -66,6 +74,7 @@ latin_line g latin line below =
           rw (split, line_of-column g (line - g.size)) (latin.columns (line - g.size) (omega arith))
     ]
 
+-- a grid whose lines have each value once is a Latin square
 pub latin_from_lines : (g : GridValue) → ((line : ℕ) → line < 2 * g.size → HasEachOnce g.size (line_of g line)) → IsLatin g
 latin_from_lines g lines = record {
   rows = λ row below. rw (← line_of-row g row below) (lines row (omega arith));
@@ -92,6 +101,7 @@ no_blank w line len once k within blank =
     ]) in
     omega arith
 
+-- no square of a Latin square's line is blank
 pub line_full : (g : GridValue) → IsLatin g → (line k : ℕ) → line < 2 * g.size → k < g.size → 0 < number_at g (line_cell g.size line k)
 line_full g latin line k below within =
     elim (cases_lt 0 (number_at g (line_cell g.size line k))) [
@@ -100,6 +110,7 @@ line_full g latin line k below within =
           (get_or-line_of g line k within ∙ omega arith))
     ]
 
+-- a Latin square is full
 pub latin_full : (g : GridValue) → IsLatin g → IsFull g
 latin_full g latin = record {
   each = λ cell inside.
@@ -111,6 +122,7 @@ latin_full g latin = record {
 
 -- ---- two squares of a line differ
 
+-- two squares of a line of a Latin square differ
 pub line_differs : (g : GridValue) → IsGrid g → IsLatin g → (line i j : ℕ) → line < 2 * g.size → i < g.size → j < g.size → i ≢ j
     → number_at g (line_cell g.size line i) ≢ number_at g (line_cell g.size line j)
 line_differs g valid latin line i j below first second apart = λ same.
@@ -168,6 +180,7 @@ peers_on_line w a b peers =
       | inr columns ↦ (w + a % w, a / w, b / w, peers_on_column w a b some peers columns)
     ]
 
+-- two squares of a Latin square that share a line differ
 pub peers_differ : (g : GridValue) → IsGrid g → IsLatin g → (a b : ℕ) → ArePeers g.size a b → number_at g a ≢ number_at g b
 peers_differ g valid latin a b peers = λ same.
     let found = peers_on_line g.size a b peers in

@@ -27,6 +27,7 @@ each_once_test_decides w line =
     Decides-like (each_once_test w line) (λ all v low high. all v low (omega arith)) (λ once v low high. once v low (omega arith))
     (all_in_range (λ v. eqb (times_in v line) 1) (λ v. times_in v line ≡ 1) (λ v. Decides-eqb (times_in v line) 1) 1 w)
 
+-- the test answers whether a grid is a Latin square
 pub latin_test_decides : (g : GridValue) → (latin_test g ≡ true) ↔ IsLatin g
 latin_test_decides g =
     Decides-like (latin_test g)

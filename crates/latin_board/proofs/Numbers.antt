@@ -3,6 +3,7 @@ use Rattle.std.proofs.Common.{◌≡◌, ℕ, ◌*◌, ◌<◌, ◌≤◌, ap, s
 use Rattle.std.proofs.lemmas.List.{ext_get_or}
 use Rattle.latin_board.specs.Squares.{GridValue, IsGrid, number_at}
 
+-- no number of a grid is above its size
 pub number_within : (g : GridValue) → IsGrid g → (cell : ℕ) → cell < g.size * g.size → number_at g cell ≤ g.size
 number_within g valid cell inside = valid.within cell 0 (omega (arith, valid.count))
 

@@ -20,6 +20,7 @@ places_apart w line i j below apart =
           (λ same. apart (sym (div-mul-add i w (line - w) low) ∙ ap (λ cell. cell / w) same ∙ div-mul-add j w (line - w) low))
     ]
 
+-- two squares of a line are peers
 pub line_peers : (w line i j : ℕ) → line < 2 * w → i < w → j < w → i ≢ j → ArePeers w (line_cell w line i) (line_cell w line j)
 line_peers w line i j below first second apart = record {
   first = line_cell_inside w line i below first;

@@ -4,6 +4,7 @@ use Rattle.latin_board.specs.Squares.{GridValue, IsGrid}
 use Rattle.number_sets.specs.Sets.{has_number, no_numbers, flip_number}
 use Rattle.latin_board.specs.Marks.{IsMarkSet}
 
+-- a board: its numbers, its pencil marks, both flags, and which clues are marked as done
 pub record BoardValue : Type 0 where
   pub size : ℕ
   pub numbers : List ℕ

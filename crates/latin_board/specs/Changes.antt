@@ -12,6 +12,7 @@ pub record SquareValue : Type 0 where
   pub completed : Bool
   pub cheated : Bool
 
+-- a change of one square, or of the whole board
 pub data ChangeValue : Type 0 where
   OneSquare : SquareValue → ChangeValue
   WholeBoard : BoardValue → ChangeValue

@@ -8,14 +8,17 @@ use Rattle.std.proofs.lemmas.Bool.Decides.{Decides-like, Decides-and, Decides-eq
 use Rattle.latin_board.specs.Squares.{GridValue}
 use Rattle.latin_board.specs.Boards.{BoardValue}
 
+-- whether two grids are the same, by their sizes and numbers
 abbrev pub same_grid : GridValue → GridValue → Bool
 same_grid a b = a.size == b.size && pointwise ◌==◌ a.numbers b.numbers
 
+-- whether two boards are the same, by all that they have
 abbrev pub same_board : BoardValue → BoardValue → Bool
 same_board a b =
     a.size == b.size && pointwise ◌==◌ a.numbers b.numbers && pointwise ◌==◌ a.marks b.marks
     && beq a.completed b.completed && beq a.cheated b.cheated && a.done == b.done
 
+-- the test of two grids answers whether they are equal
 pub same_grid_decides : (a b : GridValue) → Decides (same_grid a b) (a ≡ b)
 same_grid_decides a b =
     Decides-like (same_grid a b) (λ h i. record { size = h.0 i; numbers = h.1 i })
@@ -24,6 +27,7 @@ same_grid_decides a b =
     subst Same same (refl, refl))
     (Decides-and _ _ (Decides-eqb a.size b.size) (bytes_decides a.numbers b.numbers))
 
+-- the test of two boards answers whether they are equal
 pub same_board_decides : (a b : BoardValue) → Decides (same_board a b) (a ≡ b)
 same_board_decides a b =
     Decides-like (same_board a b)

@@ -9,11 +9,18 @@ use crate::size::Size;
 ///
 /// It is x for (x, -1) above the grid, w + x for (x, w) below it, 2w + y for (-1, y) left of it and 3w + y for (w, y)
 /// right of it, and `None` elsewhere, corners included.
-#[tactic(auto, using(crate::proofs::EdgePlaces::place_leads_back))]
+#[tactic(auto, using(crate::proofs::EdgePlaces::place_leads_back, crate::proofs::EdgePlaces::place_is_within))]
 pub fn edge_place(size: Size, x: i8, y: i8) -> Option<u8>
     ensures value { result ≡ edge_place size x y }
     ensures within { IfSome result (λ place. place < 4 * size) }
     ensures back { IfSome result (λ place. edge_xy size place ≡ (x, y)) }
+{
+    place_at(size, x, y)
+}
+
+// The number alone.
+fn place_at(size: Size, x: i8, y: i8) -> Option<u8>
+    ensures value { result ≡ edge_place size x y }
 {
     let width = size.get() as i8;
     if 0 <= x && x < width {

@@ -9,33 +9,42 @@ use Rattle.number_sets.specs.Sets.{has_number, flip_number, numbers_to, IsEmpty,
 
 -- ---- members and bits
 
+-- the bit of a number that is in the set
 pub bit-from_number : (m k : ℕ) → has_number m k ≡ true → bit_at m k ≡ 1
 bit-from_number m k e = eqb-true (bit_at m k) 1 e
 
+-- where the bit is set, the number is in
 pub number-from_bit : (m k : ℕ) → bit_at m k ≡ 1 → has_number m k ≡ true
 number-from_bit m k e = eq-eqb (bit_at m k) 1 e
 
+-- the bit of a number that isn't in the set
 pub bit-from_no_number : (m k : ℕ) → has_number m k ≡ false → bit_at m k ≡ 0
 bit-from_no_number m k e =
     let small = bit_at-lt m k in
     elim (cases_eq (bit_at m k) 1) [ inl one ↦ absurd (both_ways (has_number m k) e (number-from_bit m k one)) | inr other ↦ omega arith ]
 
+-- where the bit isn't set, the number isn't in
 pub no_number-from_bit : (m k : ℕ) → bit_at m k ≡ 0 → has_number m k ≡ false
 no_number-from_bit m k e = ap (λ b. eqb b 1) e
 
+-- where two sets have the same bit at two places, both have the numbers or neither
 pub number-from_same_bit : (m j n k : ℕ) → bit_at m j ≡ bit_at n k → has_number m j ≡ has_number n k
 number-from_same_bit m j n k e = ap (λ b. eqb b 1) e
 
+-- the empty set has no number
 pub has_number-none : (k : ℕ) → has_number 0 k ≡ false
 has_number-none k = no_number-from_bit 0 k (bit_at-zero k)
 
+-- a set has no number whose power of two is above it
 pub has_number-above : (m k j : ℕ) → m < 2 ^ k → k ≤ j → has_number m j ≡ false
 has_number-above m k j h l = no_number-from_bit m j (bit_at_above m k j h l)
 
+-- so each number that it has is less than the count of its bits
 pub below_from_number : (m k j : ℕ) → m < 2 ^ k → has_number m j ≡ true → j < k
 below_from_number m k j h e =
     elim (cases_lt j k) [ inl l ↦ l | inr l ↦ absurd (both_ways (has_number m j) (has_number-above m k j h l) e) ]
 
+-- what either of two has
 pub has_number-or : (a b k : ℕ) → has_number (bit_or a b) k ≡ (has_number a k || has_number b k)
 has_number-or a b k =
     let e = bit_at_or a b k in
@@ -46,6 +55,7 @@ has_number-or a b k =
           rw x (number-from_same_bit (bit_or a b) k b k (omega (arith, e))))
     ]
 
+-- what both of two have
 pub has_number-and : (a b k : ℕ) → has_number (bit_and a b) k ≡ (has_number a k && has_number b k)
 has_number-and a b k =
     let e = bit_at_and a b k in
@@ -56,6 +66,7 @@ has_number-and a b k =
           rw x (no_number-from_bit (bit_and a b) k (omega (arith, e))))
     ]
 
+-- sets that have the same numbers are the same
 pub same_set : (a b : ℕ) → ((k : ℕ) → has_number a k ≡ has_number b k) → a ≡ b
 same_set a b h =
     same_from_bits a b (λ k. elim (cases_Bool (has_number a k)) [
@@ -63,12 +74,15 @@ same_set a b h =
       | inr x ↦ bit-from_no_number a k x ∙ sym (bit-from_no_number b k (sym (h k) ∙ x))
     ])
 
+-- a set without a number is the empty one
 pub none_from_numbers : (m : ℕ) → ((k : ℕ) → has_number m k ≡ false) → m ≡ 0
 none_from_numbers m h = same_set m 0 (λ k. h k ∙ sym (has_number-none k))
 
+-- a set moved down by k has what is k higher in it
 pub has_number-shr : (m k j : ℕ) → has_number (m / 2 ^ k) j ≡ has_number m (k + j)
 has_number-shr m k j = number-from_same_bit (m / 2 ^ k) j m (k + j) (ap (λ n. n % 2) (shr-shr m k j))
 
+-- a set that has none from k on is below that power of two
 pub below_from_numbers : (m k : ℕ) → ((j : ℕ) → k ≤ j → has_number m j ≡ false) → m < 2 ^ k
 below_from_numbers m k h =
     let none : m / 2 ^ k ≡ 0 = none_from_numbers (m / 2 ^ k) (λ j. has_number-shr m k j ∙ h (k + j) (omega arith)) in
@@ -76,6 +90,7 @@ below_from_numbers m k h =
     let e : 0 * 2 ^ k + m % 2 ^ k ≡ m = rw none at (shr_split m k) in
     omega arith
 
+-- a set moved down by one
 pub has_number-half : (m k : ℕ) → has_number (m / 2) k ≡ has_number m (k + 1)
 has_number-half m k = number-from_same_bit (m / 2) k m (k + 1) (rw add-one (sym (bit_at-suc m k)))
 
@@ -85,14 +100,17 @@ has_number-double m k = let e : m * 2 / 2 ≡ m = omega arith in sym (has_number
 has_number-double_low : (m : ℕ) → has_number (m * 2) 0 ≡ false
 has_number-double_low m = no_number-from_bit (m * 2) 0 (bit_at_lowest (m * 2) ∙ omega arith)
 
+-- below w, a set has what its remainder has
 pub has_number-mod : (m w k : ℕ) → k < w → has_number (m % 2 ^ w) k ≡ has_number m k
 has_number-mod m w k h =
     number-from_same_bit (m % 2 ^ w) k m k
     (sym (bit_at_cat_low (m / 2 ^ w) w (m % 2 ^ w) k h) ∙ ap (λ n. bit_at n k) (shr_split m w))
 
+-- the set of k alone has k
 pub has_number-one_same : (k : ℕ) → has_number (2 ^ k) k ≡ true
 has_number-one_same k = number-from_bit (2 ^ k) k (bit_at-pow_same k)
 
+-- and nothing else
 pub number_of_one : (k j : ℕ) → has_number (2 ^ k) j ≡ true → j ≡ k
 number_of_one k j e =
     elim (cases_eq j k) [
@@ -100,6 +118,7 @@ number_of_one k j e =
       | inr other ↦ absurd (both_ways (has_number (2 ^ k) j) (no_number-from_bit (2 ^ k) j (bit_at-pow_other k j other)) e)
     ]
 
+-- both at once, as a test
 pub has_number-one : (n k : ℕ) → has_number (2 ^ n) k ≡ eqb k n
 has_number-one n k =
     elim (cases_eq k n) [
@@ -229,6 +248,7 @@ raised_all m b h e = has_number-mod (m * 2) 16 (b + 1) (omega arith) ∙ has_num
 
 -- ---- tests of a set and of two
 
+-- a set that isn't empty has a number
 pub some_number : (set : ℕ) → set ≢ 0 → set < 2 ^ 16 → (n : ℕ) × (has_number set n ≡ true)
 some_number set some small =
     let p : 0 < set = omega arith in
@@ -271,6 +291,7 @@ and-subset a b h =
       | inr e ↦ rw e refl
     ])
 
+-- whether one set is within another, as their common part tells
 pub subset_test : (a b : ℕ) → MatchBool (eqb (bit_and a b) a) (IsSubset a b) (IsSubset a b → ⊥)
 subset_test a b =
     elim (cases_eq (bit_and a b) a) [

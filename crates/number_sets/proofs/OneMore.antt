@@ -15,9 +15,11 @@ pub record IsAdded (m k n : ℕ) : Type 0 where
   pub from : m ≡ (above * 2) * 2 ^ k + below
   pub to : n ≡ (above * 2 + 1) * 2 ^ k + below
 
+-- a bit that is added where there was none makes the multiple of its power odd
 pub odd_multiple : (a p r : ℕ) → (a * 2) * p + r + p ≡ (a * 2 + 1) * p + r
 odd_multiple a p r = omega arith
 
+-- adding the power of a number that isn't in puts it in
 pub added_with : (m k n : ℕ) → has_number m k ≡ false → n ≡ m + 2 ^ k → IsAdded m k n
 added_with m k n e h =
     let q = m / 2 ^ k in
@@ -32,6 +34,7 @@ added_with m k n e h =
       to = h ∙ ap (λ x. x + 2 ^ k) (sym parts) ∙ odd_multiple (q / 2) (2 ^ k) (m % 2 ^ k);
     }
 
+-- what was before the power of a number was added
 pub added_without : (m k n : ℕ) → has_number n k ≡ true → m + 2 ^ k ≡ n → IsAdded m k n
 added_without m k n e h =
     let q = n / 2 ^ k in
@@ -52,10 +55,12 @@ bit-here b k r h =
     let none : k - k ≡ 0 = omega arith in
     bit_at_cat_high b k r k h (omega arith) ∙ ap (bit_at b) none ∙ bit_at_lowest b
 
+-- the number wasn't in before
 pub added_lacks : {m k n : ℕ} → IsAdded m k n → has_number m k ≡ false
 added_lacks {m} {k} {n} h =
     rw h.from (no_number-from_bit _ k (bit-here (h.above * 2) k h.below h.small ∙ omega arith))
 
+-- it is in now
 pub added_has : {m k n : ℕ} → IsAdded m k n → has_number n k ≡ true
 added_has {m} {k} {n} h =
     rw h.to (number-from_bit _ k (bit-here (h.above * 2 + 1) k h.below h.small ∙ omega arith))
@@ -70,6 +75,7 @@ bit-higher a k r j h l =
     ∙ sym (bit_at-suc (a * 2 + 1) (j - k - 1)) ∙ ap (bit_at (a * 2 + 1)) (sym e)
     ∙ sym (bit_at_cat_high (a * 2 + 1) k r j h (omega arith))
 
+-- every other number is in as before
 pub added_other : {m k n : ℕ} → IsAdded m k n → (j : ℕ) → j ≢ k → has_number n j ≡ has_number m j
 added_other {m} {k} {n} h j ne =
     let bits : bit_at ((h.above * 2) * 2 ^ k + h.below) j ≡ bit_at ((h.above * 2 + 1) * 2 ^ k + h.below) j =
@@ -79,6 +85,7 @@ added_other {m} {k} {n} h j ne =
     ] in
     number-from_same_bit n j m j (ap (λ x. bit_at x j) h.to ∙ sym bits ∙ ap (λ x. bit_at x j) (sym h.from))
 
+-- there is one number more
 pub added_ones : {m k n : ℕ} → IsAdded m k n → count_ones n ≡ count_ones m + 1
 added_ones {m} {k} {n} h =
     let none : count_ones 0 ≡ 0 = omega (arith, ones_le_self 0) in
@@ -89,12 +96,8 @@ added_ones {m} {k} {n} h =
     let high = ap count_ones h.to ∙ ones_cat k (h.above * 2 + 1) h.below h.small in
     omega (arith, ones_le_self 1)
 
+-- where both were below a power of two, the set is still
 pub added_below : {m k n : ℕ} → IsAdded m k n → (w : ℕ) → m < 2 ^ w → k < w → n < 2 ^ w
 added_below {m} {k} {n} h w small inside =
     below_from_numbers n w (λ j l.
     added_other h j (omega arith) ∙ has_number-above m w j small l)
-
-pub added_above : {m k n : ℕ} → IsAdded m k n → m < n
-added_above {m} {k} {n} h =
-    let p = pow_pos k in let e = odd_multiple h.above (2 ^ k) h.below in
-    omega (arith, h.from, h.to)

@@ -46,6 +46,7 @@ drop_there : (links : List Link) (n : ℕ) (r : Link) → n < length links → r
 drop_there links n r inside is =
     rw add-one (drop-cons links n r inside ∙ ap (λ x. x ∷ drop (suc n) links) (sym is))
 
+-- another change at a link with the same move leaves the list of moves
 pub moves_of-set : (links : List Link) (n : ℕ) (r q : Link) → r ≡ get_or links n r → q.made ≡ r.made
     → moves_of (set links n q) ≡ moves_of links
 moves_of-set links n r q is made = map-set_same (λ (k : Link). k.made) links n q r (made ∙ ap (λ (k : Link). k.made) is)

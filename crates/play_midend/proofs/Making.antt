@@ -7,6 +7,7 @@ use Rattle.trail_solver.specs.Puzzles.{Puzzle}
 use Rattle.play_midend.specs.declared.moves.Move.{Move}
 use Rattle.play_midend.specs.Steps.{refusal_of, unless_refused, moved, step, Makes}
 
+-- a move that isn't refused is made
 pub step_allowed : (p : Puzzle) (b : BoardValue) (m : Move) → refusal_of p b m ≡ None → step p b m ≡ Ok (moved p b m)
 step_allowed p b m allowed = ap (λ o. unless_refused o (moved p b m)) allowed
 
@@ -20,4 +21,5 @@ makes p b m change valid allowed fits board = record {
   change_back = change_restored b change valid fits;
 }
 
+-- what a search has to know of changes
 pub ruleset changes = (makes, step_allowed, board_restored, change_restored, fits_after)

@@ -123,6 +123,7 @@ pub legal_list_played : {P : Type 0} (p : Puzzle) (puzzle : P) (params next_para
 legal_list_played p puzzle params next_params extras ms legal few =
     played_along p (started puzzle params next_params extras) [] ms legal.playable (omega arith) (λ none. legal.no_restart_first)
 
+-- a list of moves that was played can be played in turn, has room, and leads to the session of these moves
 pub accepted_list_legal : {P : Type 0} (p : Puzzle) (puzzle : P) (params next_params : Params) (extras : Extras) (ms : List Move)
     (last : History P)
     → played_all p (started puzzle params next_params extras) ms ≡ Ok last
@@ -157,6 +158,7 @@ undone_to {P} h (suc n) position low =
     ∙ ap (result_and_then (λ (before : History P). undone_times n before)) (undone_once h (position + n) more)
     ∙ undone_to h n position low
 
+-- undoing all moves leads back to the start
 pub undo_leads_back : (P : Type 0) → UndoLeadsBack P
 undo_leads_back P h n position low at =
     subst (λ k. undone_times n (at_position h k) ≡ Ok (at_position h position)) (sym at) (undone_to h n position low)

@@ -96,6 +96,7 @@ coordinate_again (negsuc n) h =
     (subst (λ (text : List ℕ). Lacks comma text × (coordinate_at text ≡ Some (negsuc zero))) (sym minus_one)
     ((λ e. absurd (omega arith), (λ e. absurd (omega arith), tt)), refl))
 
+-- a text of two coordinates
 abbrev IsTwo : List ℕ → ℤ × ℤ → Type 0
 IsTwo text t = IsCoordinate t.0 × IsCoordinate t.1 × (text ≡ coordinate_text t.0 ++ (comma ∷ coordinate_text t.1))
 
@@ -208,6 +209,7 @@ read_found text (Ok m) is =
     move_taken text m (elim (move_by text) as (λ o. Ok m ≡ ok_or o (move_fault text) → o ≡ Some m) [ None ↦ λ e. cc | Some k ↦ λ e. cc ] is)
 read_found text (Err e) is = tt
 
+-- a text of a move is read as that move and no other
 pub read_only : (text : List ℕ) (result : Result Move PlayFault) → result ≡ move_at text → (m : Move) → IsMoveText m text → result ≡ Ok m
 unfolding move_at
 read_only text result is m h = is ∙ rw (move_again text m h) refl

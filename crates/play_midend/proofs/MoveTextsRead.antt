@@ -8,6 +8,7 @@ use Rattle.play_midend.proofs.MoveTextLaws.{read_found, read_only}
 pub text_taken : (text : List ℕ) (m : Move) → move_at text ≡ Ok m → IsMoveText m text
 text_taken text m is = let read : Result Move PlayFault = Ok m in read_found text read (sym is)
 
+-- the text of a move is read as that move
 pub text_again : (text : List ℕ) (m : Move) → IsMoveText m text → move_at text ≡ Ok m
 text_again text m is = read_only text (move_at text) refl m is
 

@@ -48,6 +48,7 @@ solved_not_for_memory p h (inl a) = let e = a.1 in cc
 solved_not_for_memory p h (inr (inl a)) = let e = a.1 in cc
 solved_not_for_memory p h (inr (inr a)) = refusal_not_for_memory (full_refusal h.position) (with_move h (Solve a.0)) (λ e. grind arith) (sym a.2)
 
+-- what a call gives, leaving memory aside, is no want of memory
 pub call_not_for_memory : {P : Type 0} (p : Puzzle) (h : History P) (call : Call) → CallGives p h call (Err OutOfMemory) → ⊥
 call_not_for_memory p h (Play m) is = played_not_for_memory p h m (sym is)
 call_not_for_memory p h FromStart is = restarted_not_for_memory h (sym is)

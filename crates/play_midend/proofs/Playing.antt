@@ -51,6 +51,7 @@ allowed_parts p position board m restart allowed room = record {
       let some : Some HistoryFull ≡ None = rw test at room in cc;
 }
 
+-- a move that isn't refused in a session is allowed at its position
 pub allowed_in : {P : Type 0} (p : Puzzle) (h : History P) (m : Move) → refusal_in p h m ≡ None → Allowed p h.position (shown p h) m
 allowed_in p h m allowed =
     let first = or_none (first_state_refusal h.position m) (option_or (refusal_of p (shown p h) m) (full_refusal h.position)) allowed in
@@ -67,6 +68,7 @@ pub accepted : {A : Type 0} (refusal : Option PlayFault) (a b : A) → unless_re
 accepted None a b e = (refl, cc)
 accepted (Some fault) a b e = cc
 
+-- where a value comes of it, there was no refusal
 pub not_refused : (o : Option PlayFault) {A : Type 0} (a : A) → IsOk (unless_refused o a) → o ≡ None
 not_refused None a h = refl
 not_refused (Some fault) a h = cc

@@ -15,6 +15,7 @@ pub replay_from-append : (p : Puzzle) (b : BoardValue) (ms ns : List Move)
 replay_from-append p b [] ns = refl
 replay_from-append p b (m ∷ ms) ns = replay_from-append p (after_move p b m) ms ns
 
+-- moves that can be made in turn, and others behind them
 pub ArePlayable-append : (p : Puzzle) (b : BoardValue) (ms ns : List Move) → ArePlayable p b ms → ArePlayable p (replay_from p b ms) ns
     → ArePlayable p b (ms ++ ns)
 ArePlayable-append p b [] ns h more = more
@@ -25,6 +26,7 @@ ArePlayable-take p b zero ms h = tt
 ArePlayable-take p b (suc n) [] h = tt
 ArePlayable-take p b (suc n) (m ∷ ms) h = (h.0, ArePlayable-take p (after_move p b m) n ms h.1)
 
+-- a list that doesn't begin with a restart has no beginning that does
 pub restart_first-take : (n : ℕ) (ms : List Move) → begins_with_restart ms ≡ false → begins_with_restart (take n ms) ≡ false
 restart_first-take zero ms h = refl
 restart_first-take (suc n) [] h = refl

@@ -58,6 +58,7 @@ undone_is h new =
       | false ↦ λ later is. (eqb-false h.position 1 later, cc)
     ] refl
 
+-- where redo gives a session, it wasn't at the last state, and is one further
 pub redone_is : {P : Type 0} (h new : History P) → redone h ≡ Ok new
     → (h.position ≢ length h.moves + 1) × (at_position h (h.position + 1) ≡ new)
 redone_is h new =
@@ -87,6 +88,7 @@ valid_solved p h new v (inr (inl several)) = cc (several.1)
 valid_solved p h new v (inr (inr one)) =
     valid_played p h new (Solve one.0) v (solved_as_played p h one.0 one.1 ∙ sym one.2)
 
+-- what a call makes of a valid session is valid
 pub valid_called : {P : Type 0} (p : Puzzle) (h new : History P) (call : Call) → IsValid p h → CallGives p h call (Ok new) → IsValid p new
 valid_called p h new (Play m) v is = valid_played p h new m v (sym is)
 valid_called p h new FromStart v is = valid_played p h new Restart v (sym is)
@@ -127,15 +129,18 @@ move_taken_back {P} p h m v =
       board = ap (λ ms. replay_from p (start_of p) ms) past_is;
     })
 
+-- undo takes a move back
 pub undo_takes_back : {P : Type 0} (puzzle : P → Puzzle) → UndoTakesBack puzzle
 undo_takes_back {P} puzzle old new m v is =
     let p = puzzle old.puzzle in
     let a = accepted (refusal_in p old m) (with_move old m) new is in
     subst (λ (k : History P). IsOkAnd (undone k) (IsSameBack p old)) a.1 (move_taken_back p old m v)
 
+-- undo takes a restart back
 pub undo_takes_restart_back : {P : Type 0} (puzzle : P → Puzzle) → UndoTakesRestartBack puzzle
 undo_takes_restart_back puzzle old new v is = undo_takes_back puzzle old new Restart v is
 
+-- undo takes a solution back that was filled in
 pub undo_takes_solve_back : {P : Type 0} (puzzle : P → Puzzle) → UndoTakesSolveBack puzzle
 undo_takes_solve_back puzzle old new v (inl none) = cc (none.1)
 undo_takes_solve_back puzzle old new v (inr (inl several)) = cc (several.1)
@@ -160,6 +165,7 @@ redone_back {P} p h v other =
     let again : h.position - 1 + 1 ≡ h.position = omega arith in
     rw test (ap (λ k. let r : Result (History P) PlayFault = Ok (at_position h k) in r) again)
 
+-- redo makes again what was undone
 pub redo_takes_undo_back : {P : Type 0} (puzzle : P → Puzzle) → RedoTakesUndoBack puzzle
 redo_takes_undo_back {P} puzzle old new v is =
     let u = undone_is old new is in

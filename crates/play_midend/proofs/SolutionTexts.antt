@@ -70,6 +70,7 @@ square_size_again =
     from_size P 3 refl (from_size P 4 refl (from_size P 5 refl (from_size P 6 refl (from_size P 7 refl (from_size P 8 refl
     (from_size P 9 refl (λ w low high. absurd (omega arith))))))))
 
+-- so many squares are those of a grid of this width
 pub record IsSize (n w : ℕ) : Type 0 where
   pub smallest : 3 ≤ w
   pub largest : w ≤ 9
@@ -87,6 +88,7 @@ row_taken n k v w rest here later =
       | false ↦ λ other read. later read
     ] refl
 
+-- a width from 3 to 9 is that of its own squares
 square_of : (w : ℕ) → 3 ≤ w → w ≤ 9 → IsSize (w * w) w
 square_of w low high = record { smallest = low; largest = high; count = refl }
 

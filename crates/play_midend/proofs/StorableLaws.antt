@@ -33,6 +33,7 @@ same_game_solved p h new (inr (inl several)) = cc (several.1)
 same_game_solved p h new (inr (inr one)) =
     same_game_played p h new (Solve one.0) (solved_as_played p h one.0 one.1 ∙ sym one.2)
 
+-- a call changes neither the puzzle of a session nor its parameters
 pub same_game_called : {P : Type 0} (p : Puzzle) (h new : History P) (call : Call) → CallGives p h call (Ok new) → IsSameGame h new
 same_game_called p h new (Play m) is = same_game_played p h new m (sym is)
 same_game_called p h new FromStart is = same_game_played p h new Restart (sym is)

@@ -22,6 +22,7 @@ Decides-grid_test g =
     (λ grid. (((grid.smallest, grid.largest), grid.count), grid.within))
     (Decides-and _ _ (Decides-and _ _ size (Decides-eqb (length g.numbers) (g.size * g.size))) each)
 
+-- a solution of the puzzle is filled in where it is played
 pub solutions_are_filled_in : SolutionsAreFilledIn
 solutions_are_filled_in p b g = (
   λ none.

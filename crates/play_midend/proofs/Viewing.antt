@@ -11,6 +11,7 @@ use Rattle.play_midend.specs.Histories.{past, shown, IsValid, at_position, undon
 use Rattle.play_midend.specs.Inner.Links.{moves_of, viewed, AreLinked}
 use Rattle.play_midend.proofs.Linking.{shown_linked, legal_linked}
 
+-- the moves up to the position, of the session that contracts see
 pub past_viewed : {P : Type 0} (s : Inside P) → past (viewed s) ≡ take s.past (moves_of s.links.items)
 past_viewed s = let e : s.past + 1 - 1 ≡ s.past = omega arith in ap (λ k. take k (moves_of s.links.items)) e
 

@@ -3,6 +3,7 @@ use Rattle.std.specs.Prelude.{ℕ, List, codes}
 use Rattle.play_midend.specs.declared.fault.PlayFault.{PlayFault}
 use Rattle.play_midend.specs.declared.fault.PlayFault.TheVariants.{BadMove, Unsupported, OffGrid, OffRange, GivenSquare, FilledSquare, BadSolution, HistoryFull, OutOfMemory, NothingToUndo, NothingToRedo, NothingToRestart, NoSolution, SeveralSolutions}
 
+-- the number of a fault
 abbrev pub play_fault_number : PlayFault → ℕ
 play_fault_number BadMove = 1
 play_fault_number Unsupported = 2
@@ -19,6 +20,7 @@ play_fault_number NothingToRestart = 12
 play_fault_number NoSolution = 13
 play_fault_number SeveralSolutions = 14
 
+-- the name of a fault
 abbrev pub play_fault_name : PlayFault → List ℕ
 play_fault_name BadMove = codes "BadMove"
 play_fault_name Unsupported = codes "Unsupported"

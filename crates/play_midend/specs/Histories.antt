@@ -28,9 +28,11 @@ pub record History (P : Type 0) : Type 0 where
 abbrev pub past : {P : Type 0} → History P → List Move
 past h = take (h.position - 1) h.moves
 
+-- the board at the position
 abbrev pub shown : {P : Type 0} → Puzzle → History P → BoardValue
 shown p h = replay p (past h)
 
+-- what is so of each session: its moves can be made in turn, and its position is one of its states
 pub record IsValid {P : Type 0} (p : Puzzle) (h : History P) : Type 0 where
   pub size : h.params.size ≡ p.size
   pub legal : IsLegal p h.moves
@@ -61,6 +63,7 @@ started puzzle params next_params extras = record {
 abbrev pub with_move : {P : Type 0} → History P → Move → History P
 with_move h m = record h { moves = past h ++ m ∷ []; position = h.position + 1 }
 
+-- the same list of moves, shown at another position
 abbrev pub at_position : {P : Type 0} → History P → ℕ → History P
 at_position h position = record h { position = position }
 
@@ -68,9 +71,11 @@ at_position h position = record h { position = position }
 abbrev pub restart_refusal : ℕ → Option PlayFault
 restart_refusal position = if position == 1 then Some NothingToRestart else None
 
+-- the refusal of a move at the first state, where it is a restart
 abbrev pub first_state_refusal : ℕ → Move → Option PlayFault
 first_state_refusal position m = if is_restart m then restart_refusal position else None
 
+-- the refusal of a move at the last position
 abbrev pub full_refusal : ℕ → Option PlayFault
 full_refusal position = if position == MOST_STATES then Some HistoryFull else None
 
@@ -79,9 +84,11 @@ abbrev pub refusal_in : {P : Type 0} → Puzzle → History P → Move → Optio
 refusal_in p h m =
     option_or (first_state_refusal h.position m) (option_or (refusal_of p (shown p h) m) (full_refusal h.position))
 
+-- a move, or its first refusal
 abbrev pub played : {P : Type 0} → Puzzle → History P → Move → Result (History P) PlayFault
 played p h m = unless_refused (refusal_in p h m) (with_move h m)
 
+-- a restart, or its first refusal
 abbrev pub restarted : {P : Type 0} → History P → Result (History P) PlayFault
 restarted h =
     unless_refused (option_or (restart_refusal h.position) (full_refusal h.position)) (with_move h Restart)
@@ -94,9 +101,11 @@ SolveGives p h exact =
     ⊎ ((g : GridValue) × IsOnlySolution p g
     × (exact ≡ unless_refused (full_refusal h.position) (with_move h (Solve g))))
 
+-- the state before
 abbrev pub undone : {P : Type 0} → History P → Result (History P) PlayFault
 undone h = if h.position == 1 then Err NothingToUndo else Ok (at_position h (h.position - 1))
 
+-- the state behind, which a session has where moves were undone
 abbrev pub redone : {P : Type 0} → History P → Result (History P) PlayFault
 redone h =
     if h.position == length h.moves + 1 then Err NothingToRedo else Ok (at_position h (h.position + 1))
@@ -106,6 +115,7 @@ abbrev pub IsRefusal : {A : Type 0} → Result A PlayFault → PlayFault → Typ
 IsRefusal exact OutOfMemory = IsOk exact
 IsRefusal exact fault = exact ≡ Err fault
 
+-- a refusal of solving, OutOfMemory among them
 abbrev pub IsSolveRefusal : {P : Type 0} → Puzzle → History P → PlayFault → Type 0
 IsSolveRefusal {P} p h fault =
     (exact : Result (History P) PlayFault) × SolveGives p h exact × IsRefusal exact fault

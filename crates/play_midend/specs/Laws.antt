@@ -36,6 +36,7 @@ CallGives p h ToSolution exact = SolveGives p h exact
 CallGives p h Undo exact = exact ≡ undone h
 CallGives p h Redo exact = exact ≡ redone h
 
+-- whether the call may be refused for want of memory: undo and redo never are
 abbrev pub may_take_memory : Call → Bool
 may_take_memory (Play m) = true
 may_take_memory FromStart = true
@@ -91,11 +92,13 @@ UndoTakesBack {P} puzzle =
     (old new : History P) (m : Move) → let p = puzzle old.puzzle in
     IsValid p old → played p old m ≡ Ok new → IsOkAnd (undone new) (IsSameBack p old)
 
+-- the same of a restart by its own call
 abbrev pub UndoTakesRestartBack : {P : Type 0} → (P → Puzzle) → Type 0
 UndoTakesRestartBack {P} puzzle =
     (old new : History P) → let p = puzzle old.puzzle in
     IsValid p old → restarted old ≡ Ok new → IsOkAnd (undone new) (IsSameBack p old)
 
+-- the same of a solution that was filled in
 abbrev pub UndoTakesSolveBack : {P : Type 0} → (P → Puzzle) → Type 0
 UndoTakesSolveBack {P} puzzle =
     (old new : History P) → let p = puzzle old.puzzle in

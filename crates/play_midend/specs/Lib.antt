@@ -3,6 +3,8 @@
 -- the refusals by number and name, and the texts of moves
 pub mod Faults
 pub mod MoveTexts
+-- what a session keeps for a save
+pub mod Extras
 -- one move on a board, the value of a session with what each call makes of it, and moves played in turn
 pub mod Steps
 pub mod Histories

@@ -34,6 +34,7 @@ pub record AreBytes (x y n : ℕ) : Type 0 where
   pub y_is : y ≤ 255
   pub n_is : n ≤ 255
 
+-- a grid without a blank
 pub record IsFullGrid (g : GridValue) : Type 0 where
   pub grid : IsGrid g
   pub full : IsFull g
@@ -67,20 +68,25 @@ abbrev pub all_three : Option ℕ → Option ℕ → Option ℕ → Option (ℕ 
 all_three (Some x) (Some y) (Some n) = Some (x, y, n)
 all_three _ _ _ = None
 
+-- the first of three numbers, which was read, with the two behind
 abbrev pub three_from : Option ℕ → List ℕ → Option (ℕ × ℕ × ℕ)
 three_from x rest =
     option_and_then (λ last. all_three x (decimal_value 255 (before comma rest)) (decimal_value 255 last)) (behind comma rest)
 
+-- three numbers round two commas, each up to 255
 abbrev pub three_at : List ℕ → Option (ℕ × ℕ × ℕ)
 three_at text = option_and_then (λ rest. three_from (decimal_value 255 (before comma text)) rest) (behind comma text)
 
+-- a coordinate of a place on the edge: -1, or up to 127
 abbrev pub coordinate_at : List ℕ → Option ℤ
 coordinate_at text = if bytes_eq text (codes "-1") then Some (negsuc zero) else option_map pos (decimal_value 127 text)
 
+-- both coordinates, where both are there
 abbrev pub both : Option ℤ → Option ℤ → Option (ℤ × ℤ)
 both (Some x) (Some y) = Some (x, y)
 both _ _ = None
 
+-- two coordinates round a comma
 abbrev pub two_at : List ℕ → Option (ℤ × ℤ)
 two_at text = option_and_then (λ rest. both (coordinate_at (before comma text)) (coordinate_at rest)) (behind comma text)
 
@@ -94,13 +100,16 @@ size_by_count n =
 abbrev pub digit_at : ℕ → ℕ → Option ℕ
 digit_at w b = if nat_le (digit 1) b && nat_le b (digit w) then Some (b - digit_zero) else None
 
+-- the numbers that the digits of a text are, one for each byte
 abbrev pub digits_at : ℕ → List ℕ → Option (List ℕ)
 digits_at w [] = Some []
 digits_at w (b ∷ bs) = option_and_then (λ n. option_map (λ ns. n ∷ ns) (digits_at w bs)) (digit_at w b)
 
+-- a text of digits, as a grid of this size
 abbrev pub solution_of : List ℕ → ℕ → Option GridValue
 solution_of text w = option_map (λ ns. record { size = w; numbers = ns }) (digits_at w text)
 
+-- a text of digits, as the grid that has so many squares
 abbrev pub solution_at : List ℕ → Option GridValue
 solution_at text = option_and_then (λ w. solution_of text w) (size_by_count (length text))
 

@@ -64,6 +64,7 @@ with_mark_flipped b cell n = record b { marks = slice_set b.marks cell (flip_num
 abbrev pub marks_of_all : BoardValue → ℕ → ℕ
 marks_of_all b cell = if number_at (grid_of b) cell == 0 then numbers_to b.size else marks_at b cell
 
+-- the board after `M`
 abbrev pub all_marked : BoardValue → BoardValue
 all_marked b = record b { marks = map (marks_of_all b) (range_with_len 0 (b.size * b.size)) }
 
@@ -80,6 +81,7 @@ filled b g = record b {
 abbrev pub givens_of : Puzzle → GridValue
 givens_of p = record { size = p.size; numbers = map p.given (range_with_len 0 (p.size * p.size)) }
 
+-- the board at the start of a puzzle: its givens
 abbrev pub start_of : Puzzle → BoardValue
 start_of p = start_board (givens_of p)
 
@@ -107,10 +109,12 @@ step p b m = unless_refused (refusal_of p b m) (moved p b m)
 abbrev pub after_move : Puzzle → BoardValue → Move → BoardValue
 after_move p b m = result_unwrap_or (step p b m) b
 
+-- a list of moves, made from a board in turn
 abbrev pub replay_from : Puzzle → BoardValue → List Move → BoardValue
 replay_from p b [] = b
 replay_from p b (m ∷ ms) = replay_from p (after_move p b m) ms
 
+-- and from the start of the puzzle
 abbrev pub replay : Puzzle → List Move → BoardValue
 replay p ms = replay_from p (start_of p) ms
 
@@ -119,10 +123,12 @@ abbrev pub ArePlayable : Puzzle → BoardValue → List Move → Type 0
 ArePlayable p b [] = Unit {0}
 ArePlayable p b (m ∷ ms) = IsOk (step p b m) × ArePlayable p (after_move p b m) ms
 
+-- whether the move is a restart
 abbrev pub is_restart : Move → Bool
 is_restart Restart = true
 is_restart _ = false
 
+-- whether the first move is one
 abbrev pub begins_with_restart : List Move → Bool
 begins_with_restart [] = false
 begins_with_restart (m ∷ ms) = is_restart m

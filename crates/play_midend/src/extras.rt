@@ -1,55 +1,32 @@
 //! The bytes that a session keeps for a save file.
 
-ghost use Rattle.std.specs.Prelude.{◌≡◌};
-
 use std::marker::Model;
 
-/// Bytes that are kept as they are. Contracts see the list of them.
-#[derive(Drop, Debug)]
-pub struct KeptBytes {
-    bytes: Vec<u8>,
-}
-
-impl Model for KeptBytes {
-    ghost use Rattle.std.specs.Prelude.{ℕ, List};
-
-    ghost Value = { List ℕ };
-
-    ghost view = { λ kept. kept.bytes.items };
-}
-
-impl KeptBytes {
-    /// Keeps these bytes, and takes no memory.
-    pub fn new(bytes: Vec<u8>) -> KeptBytes
-        ensures { result ≡ bytes.items }
-    {
-        KeptBytes { bytes }
-    }
-
-    /// The bytes.
-    pub fn as_slice(&self) -> &[u8]
-        ensures { result.now ≡ self.now }
-    {
-        &self.bytes
-    }
-
-    /// Gives the bytes back, and takes no memory.
-    pub fn into_vec(self) -> Vec<u8>
-        ensures { result.items ≡ self }
-    {
-        self.bytes
-    }
-}
-
 /// What a session keeps for a save file and never looks into.
+///
+/// Contracts see the bytes alone, and not how much room each vector has: sessions that keep equal bytes are equal.
 #[derive(Drop, Debug)]
 pub struct Extras {
     /// The seed of the usual program's generator.
-    pub seed: Option<KeptBytes>,
+    pub seed: Option<Vec<u8>>,
     /// What that program's solver needs besides.
-    pub auxinfo: Option<KeptBytes>,
+    pub auxinfo: Option<Vec<u8>>,
     /// The state of its user interface.
-    pub ui: Option<KeptBytes>,
+    pub ui: Option<Vec<u8>>,
     /// The time that was played.
-    pub time: Option<KeptBytes>,
+    pub time: Option<Vec<u8>>,
+}
+
+impl Model for Extras {
+    ghost use Rattle.std.specs.Prelude.{option_map, vec_items};
+    ghost use Rattle.play_midend.specs.Extras.{ExtrasValue};
+
+    ghost Value = { ExtrasValue };
+
+    ghost view = { λ extras. record {
+      seed = option_map vec_items extras.seed;
+      auxinfo = option_map vec_items extras.auxinfo;
+      ui = option_map vec_items extras.ui;
+      time = option_map vec_items extras.time;
+    } };
 }

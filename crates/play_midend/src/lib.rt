@@ -21,7 +21,7 @@ mod session_laws;
 mod step;
 mod texts;
 
-pub use extras::{Extras, KeptBytes};
+pub use extras::Extras;
 pub use fault::PlayFault;
 pub use moves::Move;
 pub use session::{MOST_STATES, Session};

@@ -34,6 +34,7 @@ positive_again : (n : ℕ) → 1 ≤ n → positive n ≡ Some n
 positive_again zero some = absurd (omega arith)
 positive_again (suc n) some = refl
 
+-- a count that is read is one from 1 to MOST_STATES, and its text is the decimal of it
 pub count_taken : (value : List ℕ) (n : ℕ) → count_at value ≡ Some n → (value ≡ decimal n) × (1 ≤ n) × (n ≤ MOST_STATES)
 count_taken value n is =
     let read = and_then_taken positive (decimal_value MOST_STATES value) n is in
@@ -41,9 +42,11 @@ count_taken value n is =
     let number = number_taken MOST_STATES read.0 value (lit< tt) read.1 in
     (number.0 ∙ ap decimal some.0, some.1, omega (arith, number.1, some.0))
 
+-- the decimal of such a number is read as that count
 pub count_again : (n : ℕ) → 1 ≤ n → n ≤ MOST_STATES → count_at (decimal n) ≡ Some n
 count_again n some few = rw (number_again MOST_STATES n few (lit< tt)) (positive_again n some)
 
+-- where no fault comes of it, the test holds
 pub fault_unless_taken : (test : Bool) (fault : LoadFault) → fault_unless test fault ≡ None → test ≡ true
 fault_unless_taken true fault none = refl
 fault_unless_taken false fault none = cc
@@ -152,6 +155,7 @@ pub record Counted (m : MetValue) : Type 0 where
   pub first : 1 ≤ p
   pub inside : p ≤ n
 
+-- in records without a fault, the counts that were met go together
 pub counted : {P : Type 0} (game : SavedGame P) (rs : List KeyedRecord) → AreRight game [] rs → Counted (met rs)
 counted game rs right = by_counts (count_met (met rs) States) (count_met (met rs) Position) refl refl (right_end game [] rs right)
   where

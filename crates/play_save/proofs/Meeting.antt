@@ -22,6 +22,7 @@ same_met m n first states =
     let same : own ≡ other = cc in
     same
 
+-- where no fault comes of it, the header stands for the first time and its value is right
 pub once_taken : (seen : Bool) (fault : Option LoadFault) → once seen fault ≡ None → (seen ≡ false) × (fault ≡ None)
 once_taken true fault none = cc
 once_taken false fault none = (refl, none)
@@ -48,6 +49,7 @@ first_added before k value none j = by_rank (rank k == rank j) refl
     by_rank false other =
         ap first_of (values_of-append j before (one (Header k) value)) ∙ rw (other, append-nil) refl
 
+-- what was met after one more record without a fault
 pub met_added : {P : Type 0} (game : SavedGame P) (before : List KeyedRecord) (k : Key) (value : List ℕ)
     → fault_by game (met before) k value ≡ None → met (before ++ one k value) ≡ added (met before) k value
 met_added game before (Header k) value none =

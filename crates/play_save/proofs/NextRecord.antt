@@ -8,6 +8,7 @@ use Rattle.play_save.specs.Records.{Entry, AreBreaks, BeginsWith, record_at}
 use Rattle.play_save.specs.Views.{entry_of, parts_of}
 use Rattle.play_save.proofs.RecordLaws.{record_taken, record_again, end_taken, end_again, record_fault}
 
+-- what a step of reading answers
 abbrev pub Answer : Type 0
 Answer = Result (Option (Record × Bor (List ℕ))) LoadFault
 

@@ -7,15 +7,18 @@ pub map_taken : {A B : Type 0} (f : A → B) (o : Option A) (y : B)
 map_taken f None y is = cc
 map_taken f (Some x) y is = (x, refl, cc)
 
+-- where something comes of two steps, something came of the first
 pub and_then_taken : {A B : Type 0} (f : A → Option B) (o : Option A) (y : B)
     → option_and_then f o ≡ Some y → (x : A) × (o ≡ Some x) × (f x ≡ Some y)
 and_then_taken f None y is = cc
 and_then_taken f (Some x) y is = (x, refl, is)
 
+-- where a value comes of it, it was there
 pub ok_or_taken : {A E : Type 0} (o : Option A) (e : E) (y : A) → ok_or o e ≡ Ok y → o ≡ Some y
 ok_or_taken None e y is = cc
 ok_or_taken (Some x) e y is = cc
 
+-- the same of a result whose fault is passed over
 pub result_taken : {A E F : Type 0} (r : Result A E) (fault : F) (y : A) → ok_or (result_ok r) fault ≡ Ok y → r ≡ Ok y
 result_taken (Ok x) fault y is = cc
 result_taken (Err e) fault y is = cc
@@ -35,6 +38,7 @@ pub ok_else : {A E : Type 0} (test : Bool) (fault : E) (r : Result A E) (y : A)
 ok_else true fault r y is = cc
 ok_else false fault r y is = (refl, is)
 
+-- where a value comes of it, the test holds and the value is that one
 pub ok_where : {A E : Type 0} (test : Bool) (x : A) (fault : E) (y : A)
     → cond test (Ok x) (Err fault) ≡ Ok y → (test ≡ true) × (x ≡ y)
 ok_where true x fault y is = (refl, cc)

@@ -96,6 +96,7 @@ value_again value rest =
     rw (le-leb (length value) (length (value ++ rest)) within)
     (rw (take_at value rest (length value) refl, drop_at value rest (length value) refl) refl)
 
+-- a text that is a length, a colon, the value of that length, and the rest
 record IsSized (value rest : List ℕ) (text : List ℕ) : Type 0 where
   digits : List ℕ
   spelled : text ≡ digits ++ (colon ∷ (value ++ rest))
@@ -173,6 +174,7 @@ or_end_again : (bs : List ℕ) (e : Entry) (rest : List ℕ)
 or_end_again [] e rest some is = absurd (omega arith)
 or_end_again (b ∷ bs) e rest some is = rw is refl
 
+-- a record that is read is what the text begins with
 pub record_taken : (bs : List ℕ) (e : Entry) (rest : List ℕ) → record_at bs ≡ Ok (Some (e, rest)) → BeginsWith e rest bs
 unfolding record_at
 record_taken bs e rest is =
@@ -195,6 +197,7 @@ record_taken bs e rest is =
     no_break_in [] ys eight is_none = absurd (omega arith)
     no_break_in (x ∷ xs) ys eight is_none = is_none
 
+-- what a text begins with is read as its record
 pub record_again : (bs : List ℕ) (e : Entry) (rest : List ℕ) → BeginsWith e rest bs → record_at bs ≡ Ok (Some (e, rest))
 unfolding record_at
 record_again bs e rest h =
@@ -221,6 +224,7 @@ pub end_taken : (bs : List ℕ) → record_at bs ≡ Ok None → AreBreaks bs
 unfolding record_at
 end_taken bs is = all_skipped bs (or_end_none (skip_breaks bs) is)
 
+-- line breaks alone are read as the end
 pub end_again : (bs : List ℕ) → AreBreaks bs → record_at bs ≡ Ok None
 unfolding record_at
 end_again bs are = ap record_or_end (skip_all bs are)
@@ -234,6 +238,7 @@ or_end_fault (b ∷ bs) fault is = by_read (record_behind (b ∷ bs)) is
     by_read (Some parts) none = cc
     by_read None none = cc
 
+-- what is no record is Malformed
 pub record_fault : (bs : List ℕ) (fault : LoadFault) → record_at bs ≡ Err fault → fault ≡ Malformed
 unfolding record_at
 record_fault bs fault is = or_end_fault (skip_breaks bs) fault is

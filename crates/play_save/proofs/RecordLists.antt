@@ -28,10 +28,12 @@ at_place (Kept Seed) = refl
 at_place (Count States) = refl
 at_place k = refl
 
+-- headers of the same place are the same
 pub same_key : (j k : HeaderKey) → (rank j == rank k) ≡ true → j ≡ k
 same_key j k same =
     sym (at_place j) ∙ ap (λ n. get_or headers n SaveFile) (eqb-true (rank j) (rank k) same) ∙ at_place k
 
+-- a header has its own place
 pub own_rank : (k : HeaderKey) → (rank k == rank k) ≡ true
 own_rank k = eq-eqb (rank k) (rank k) refl
 
@@ -40,6 +42,7 @@ pub kept_each : (value : KeptKey → Option (List ℕ)) (k : KeptKey) → kept_a
 kept_each value Seed = refl
 kept_each value k = refl
 
+-- kept values that are the same by each key are the same
 pub same_extras : (a b : Extras) → ((k : KeptKey) → kept_at a k ≡ kept_at b k) → a ≡ b
 same_extras a b same =
     let seed = same Seed in
@@ -61,6 +64,7 @@ onto_values-append k (Header j) value xs ys = by_rank (rank j == rank k)
     by_rank false = refl
 onto_values-append k key value xs ys = refl
 
+-- the values in two lists of records, one after the other
 pub values_of-append : (k : HeaderKey) (xs ys : List KeyedRecord)
     → values_of k (xs ++ ys) ≡ values_of k xs ++ values_of k ys
 values_of-append k [] ys = refl
@@ -73,6 +77,7 @@ onto_states-append : (k : Key) (value : List ℕ) (xs ys : List KeyedState)
 onto_states-append (State k) value xs ys = refl
 onto_states-append k value xs ys = refl
 
+-- the state records in two lists of records, one after the other
 pub states_in-append : (xs ys : List KeyedRecord) → states_in (xs ++ ys) ≡ states_in xs ++ states_in ys
 states_in-append [] ys = refl
 states_in-append (x ∷ xs) ys =

@@ -29,6 +29,7 @@ Follow (r ∷ rs) nothing = ⊥
 Follow (r ∷ rs) broken = ⊥
 Follow (r ∷ rs) (first m more) = (r ≡ m) × Follow rs more
 
+-- all records that are needed: those before, and more from the listing
 pub record IsNeeded {P : Type 0} (game : SavedGame P) (before : List KeyedRecord) (listing : Listing) (all : List KeyedRecord)
     : Type 0 where
   pub more : List KeyedRecord

@@ -90,6 +90,7 @@ same_count m n m_first m_few n_first n_few text =
 abbrev tail_of : {P : Type 0} → SavedGame P → History P → List KeyedRecord
 tail_of game h = tail_records game.title (game.desc_of h.puzzle) h
 
+-- the text behind the first record
 abbrev behind_first : {P : Type 0} → SavedGame P → History P → List ℕ
 behind_first game h = line_feed ∷ records_text (tail_of game h)
 
@@ -99,6 +100,7 @@ written_text : {P : Type 0} (game : SavedGame P) (h : History P)
 unfolding save_of
 written_text game h = refl
 
+-- what is read of a written text: its first record, and the others to the end
 record Read {P : Type 0} (game : SavedGame P) (h : History P) (text : List ℕ) : Type 0 where
   head : BeginsWith format_record (behind_first game h) text
   all : AreToTheEnd (tail_of game h) (behind_first game h)
@@ -178,6 +180,7 @@ ends_later [] y ys ends = ends
 ends_later (x ∷ []) y ys ends = ends
 ends_later (x ∷ z ∷ xs) y ys ends = ends_later (z ∷ xs) y ys ends
 
+-- another session that has the same save has as many moves and the same position
 record IsSameSave {P : Type 0} (game : SavedGame P) (h other : History P) : Type 0 where
   saved : AreSaved game other (tail_of game h)
   count : length other.moves ≡ length h.moves
@@ -275,6 +278,7 @@ no_other_saved {P} game of_game owes h other valid of s position =
         let read_q = owes.texts.reads.again w text q q_is in
         cc
 
+-- what is written of one session is the save of no other
 pub written_saves_no_other : {P : Type 0} (game : SavedGame P) (of_game : P → Type 0)
     → Owes game of_game → WrittenSavesNoOther game of_game
 written_saves_no_other {P} game of_game owes h other valid of t =

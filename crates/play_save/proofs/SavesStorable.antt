@@ -13,6 +13,7 @@ use Rattle.play_save.specs.Laws.{SavesAreStorable}
 params_said : (letters : List ℕ) (p : Params) (values : List (List ℕ)) → IsOne (IsParamText letters p) values → IsParams letters p
 params_said letters p values (text, stands, said) = said.params
 
+-- what saves ask of a game, each game gives
 pub saves_are_storable : {P : Type 0} (rules : RulesGhosts P) (game : GameGhosts P) → SavesAreStorable (saves_of rules game) rules.valid
 saves_are_storable rules game h text save =
     let values = save.saved.values in

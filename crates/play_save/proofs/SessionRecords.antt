@@ -25,6 +25,7 @@ use Rattle.play_save.proofs.WrittenRecords.{AreKnown}
 abbrev pub tail_records : {P : Type 0} → List ℕ → List ℕ → History P → List KeyedRecord
 tail_records title desc h = game_records title h ++ (body_records desc h ++ state_records desc h)
 
+-- the state records of some moves
 abbrev states_of : List ℕ → List Move → List KeyedRecord
 states_of desc ms = map (state_record desc) ms
 

@@ -19,6 +19,7 @@ use Rattle.play_save.specs.FirstFaults.{solution_alone, restart_of, state_move, 
 use Rattle.play_save.proofs.OptionSteps.{and_then_taken, result_taken}
 use Rattle.play_save.proofs.GameTexts.{IsGame, same_puzzle, restart_taken, restart_again, other_puzzle}
 
+-- where a result gives a value, it was this one
 pub ok_taken : {A E : Type 0} (r : Result A E) (a : A) → result_ok r ≡ Some a → r ≡ Ok a
 ok_taken (Ok b) a is = cc
 ok_taken (Err e) a is = cc

@@ -22,6 +22,7 @@ use Rattle.play_save.specs.KeyedRecords.{KeyedRecord, keyed, BeginsWithAll}
 use Rattle.play_save.specs.Written.{record_text, records_text}
 use Rattle.play_save.proofs.RecordLaws.{record_again, end_again}
 
+-- whether the key is a header's or a state's
 abbrev pub is_known : Key → Bool
 is_known Other = false
 is_known _ = true
@@ -76,6 +77,7 @@ length_written n few =
 abbrev pub entry_written : KeyedRecord → Entry
 entry_written r = record { key = key_name r.key; value = r.value }
 
+-- the text of a record, behind line breaks, begins with that record
 pub written_begins : (r : KeyedRecord) (breaks more : List ℕ)
     → AreBreaks breaks → is_known r.key ≡ true → length r.value ≤ 99999999
     → BeginsWith (entry_written r) (line_feed ∷ more) (breaks ++ (record_text r ++ more))
@@ -103,6 +105,7 @@ AreToTheEnd [] text = AreBreaks text
 AreToTheEnd (r ∷ rs) text =
     (e : Entry) × (rest : List ℕ) × (keyed e ≡ r) × BeginsWith e rest text × AreToTheEnd rs rest
 
+-- all keys are known
 abbrev pub AreKnown : List KeyedRecord → Type 0
 AreKnown [] = Unit {0}
 AreKnown (r ∷ rs) = (is_known r.key ≡ true) × AreKnown rs

@@ -3,6 +3,7 @@ use Rattle.std.specs.Prelude.{ℕ, List, codes}
 use Rattle.play_save.specs.declared.fault.LoadFault.{LoadFault}
 use Rattle.play_save.specs.declared.fault.LoadFault.TheVariants.{NotASave, Malformed, Version, WrongGame, Repeated, EarlyState, Unsupported, BadParams, BadDesc, BadCount, Missing, BadState, TooLarge, OutOfMemory}
 
+-- the number of a fault
 abbrev pub load_fault_number : LoadFault → ℕ
 load_fault_number NotASave = 1
 load_fault_number Malformed = 2
@@ -19,6 +20,7 @@ load_fault_number (BadState i) = 12
 load_fault_number TooLarge = 13
 load_fault_number OutOfMemory = 14
 
+-- the name of a fault
 abbrev pub load_fault_name : LoadFault → List ℕ
 load_fault_name NotASave = codes "NotASave"
 load_fault_name Malformed = codes "Malformed"

@@ -36,10 +36,12 @@ use Rattle.play_save.specs.SaveTexts.{SavedGame, collection, is_solve}
 abbrev pub saved_params_at : {P : Type 0} → SavedGame P → List ℕ → Result Params IdFault
 saved_params_at game value = params_at game.letters game.has_adjacent value
 
+-- a number that isn't 0
 abbrev pub positive : ℕ → Option ℕ
 positive zero = None
 positive (suc n) = Some (suc n)
 
+-- a count: a decimal from 1 to MOST_STATES
 abbrev pub count_at : List ℕ → Option ℕ
 count_at value = option_and_then positive (decimal_value MOST_STATES value)
 
@@ -48,10 +50,12 @@ pub record MetValue : Type 0 where
   pub first : HeaderKey → Option (List ℕ)
   pub states : List KeyedState
 
+-- the first of a list, if there is one
 abbrev pub first_of : {A : Type 0} → List A → Option A
 first_of [] = None
 first_of (v ∷ vs) = Some v
 
+-- what these records say
 abbrev pub met : List KeyedRecord → MetValue
 met rs = record { first = λ k. first_of (values_of k rs); states = states_in rs }
 
@@ -59,9 +63,11 @@ met rs = record { first = λ k. first_of (values_of k rs); states = states_in rs
 abbrev pub params_met : {P : Type 0} → SavedGame P → MetValue → WhoseParams → Option Params
 params_met game m whose = option_and_then (λ value. result_ok (saved_params_at game value)) (m.first (ParamsOf whose))
 
+-- a count, as it reads
 abbrev pub count_met : MetValue → WhichCount → Option ℕ
 count_met m which = option_and_then count_at (m.first (Count which))
 
+-- the values that are kept as they are
 abbrev pub extras_met : MetValue → Extras
 extras_met m = each_kept (λ k. m.first (Kept k))
 
@@ -75,6 +81,7 @@ abbrev pub once : Bool → Option LoadFault → Option LoadFault
 once true fault = Some Repeated
 once false fault = fault
 
+-- parameters that can't be read
 abbrev pub params_fault : Result Params IdFault → Option LoadFault
 params_fault (Ok p) = None
 params_fault (Err fault) = Some BadParams
@@ -84,6 +91,7 @@ abbrev pub go_together : WhichCount → ℕ → ℕ → Bool
 go_together States n position = nat_le position n
 go_together Position position n = nat_le position n
 
+-- of two counts, the other one
 abbrev pub other_count : WhichCount → WhichCount
 other_count States = Position
 other_count Position = States
@@ -99,11 +107,13 @@ abbrev pub text_fault : Result Move PlayFault → Option LoadFault
 text_fault (Err HintOrSign) = Some Unsupported
 text_fault _ = None
 
+-- a state record that holds a hint or a spent sign; a restart's text is no move
 abbrev pub state_fault : StateKey → List ℕ → Option LoadFault
 state_fault AnyMove value = text_fault (move_at value)
 state_fault SolveMove value = text_fault (move_at value)
 state_fault RestartMove value = None
 
+-- a state record may come only behind both counts
 abbrev pub behind_counts : MetValue → Option LoadFault → Option LoadFault
 behind_counts m fault = if is_some (count_met m States) && is_some (count_met m Position) then fault else Some EarlyState
 
@@ -129,6 +139,7 @@ abbrev pub has_all : Option ℕ → Option ℕ → ℕ → Bool
 has_all (Some n) (Some position) states = nat_le n (states + 1)
 has_all _ _ states = false
 
+-- whether all that the counts ask for was met
 abbrev pub is_complete : MetValue → Bool
 is_complete m = has_all (count_met m States) (count_met m Position) (length m.states)
 
@@ -138,6 +149,7 @@ pub data Listing : Type 0 where
   broken : Listing
   first : KeyedRecord → Listing → Listing
 
+-- the first record of a text and those behind it, by what reading it gave
 abbrev pub listed : (List ℕ → Listing) → Result (Option (Entry × List ℕ)) LoadFault → Listing
 listed more (Err fault) = broken
 listed more (Ok None) = nothing
@@ -148,6 +160,7 @@ unfoldable pub listing_within : ℕ → List ℕ → Listing
 listing_within zero text = nothing
 listing_within (suc n) text = listed (listing_within n) (record_at text)
 
+-- the records of a whole text
 unfoldable pub records_of : List ℕ → Listing
 records_of text = listing_within (length text) text
 
@@ -156,6 +169,7 @@ abbrev pub unless : {A : Type 0} → Option LoadFault → Result A LoadFault →
 unless None more = more
 unless (Some fault) more = Err fault
 
+-- the records up to the last that is needed, behind those before, or the first fault among them
 abbrev pub needed : {P : Type 0} → SavedGame P → List KeyedRecord → Listing → Result (List KeyedRecord) LoadFault
 needed game before nothing = if is_complete (met before) then Ok before else Err Missing
 needed game before broken = if is_complete (met before) then Ok before else Err Malformed
@@ -167,9 +181,11 @@ needed game before (first r more) =
 abbrev pub solution_alone : Move → Option Move
 solution_alone m = if is_solve m then Some m else None
 
+-- a restart, where its description is that of the puzzle
 abbrev pub restart_of : {P : Type 0} → SavedGame P → P → P → Option Move
 restart_of game p q = if bytes_eq (game.desc_of q) (game.desc_of p) then Some Restart else None
 
+-- the move that a state record says by its key and its value
 abbrev pub state_move : {P : Type 0} → SavedGame P → P → StateKey → List ℕ → Option Move
 state_move game p AnyMove value = result_ok (move_at value)
 state_move game p SolveMove value = option_and_then solution_alone (result_ok (move_at value))
@@ -181,6 +197,7 @@ abbrev pub move_played : {P : Type 0} → SavedGame P → History P → ℕ → 
 move_played game h i None = Err (BadState i)
 move_played game h i (Some m) = ok_or (result_ok (played (game.puzzle h.puzzle) h m)) (BadState i)
 
+-- a state record, played where it says a move that can be made
 abbrev pub state_played : {P : Type 0} → SavedGame P → History P → ℕ → KeyedState → Result (History P) LoadFault
 state_played game h i s = move_played game h i (state_move game h.puzzle s.key s.value)
 
@@ -196,6 +213,7 @@ session_with game m params next_params position puzzle =
     states_played game (started puzzle params next_params (extras_met m)) 1 m.states
     >>= λ last. Ok (at_position last position)
 
+-- the session of a description, where that can be read
 abbrev pub session_at : {P : Type 0} → SavedGame P → MetValue → Params → Params → List ℕ → ℕ → Result (History P) LoadFault
 session_at game m params next_params desc position =
     ok_or (result_ok (game.desc_at params.size desc)) BadDesc
@@ -214,10 +232,12 @@ abbrev pub head_or_fault : Entry → List ℕ → Result (List ℕ) LoadFault
 head_or_fault e rest =
     if bytes_eq e.key (codes "SAVEFILE") && bytes_eq e.value collection then Ok rest else Err NotASave
 
+-- what follows the first record, where there is one
 abbrev pub behind_head : Result (Option (Entry × List ℕ)) LoadFault → Result (List ℕ) LoadFault
 behind_head (Ok (Some parts)) = head_or_fault parts.0 parts.1
 behind_head _ = Err NotASave
 
+-- what was met up to the last record that is needed
 abbrev pub met_in : {P : Type 0} → SavedGame P → Listing → Result MetValue LoadFault
 met_in game listing = needed game [] listing >>= λ rs. Ok (met rs)
 

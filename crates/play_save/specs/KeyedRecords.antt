@@ -14,6 +14,7 @@ pub record KeyedRecord : Type 0 where
   pub key : Key
   pub value : List ℕ
 
+-- an entry, by its key
 abbrev pub keyed : Entry → KeyedRecord
 keyed e = record { key = key_of e.key; value = e.value }
 
@@ -33,6 +34,7 @@ abbrev pub onto_values : HeaderKey → Key → List ℕ → List (List ℕ) → 
 onto_values k (Header j) value values = if rank j == rank k then (value ∷ values) else values
 onto_values k _ value values = values
 
+-- the values that a header has in some records
 abbrev pub values_of : HeaderKey → List KeyedRecord → List (List ℕ)
 values_of k [] = []
 values_of k (r ∷ rs) = onto_values k r.key r.value (values_of k rs)
@@ -42,6 +44,7 @@ abbrev pub onto_states : Key → List ℕ → List KeyedState → List KeyedStat
 onto_states (State k) value states = record { key = k; value = value } ∷ states
 onto_states _ value states = states
 
+-- the state records among them
 abbrev pub states_in : List KeyedRecord → List KeyedState
 states_in [] = []
 states_in (r ∷ rs) = onto_states r.key r.value (states_in rs)
@@ -55,6 +58,7 @@ abbrev pub once_if_kept : Option (List ℕ) → List (List ℕ)
 once_if_kept None = []
 once_if_kept (Some value) = value ∷ []
 
+-- whether the key is a state's
 abbrev pub is_state : Key → Bool
 is_state (State k) = true
 is_state _ = false
@@ -71,6 +75,7 @@ may_be_last (State k) = true
 may_be_last (Header (Count which)) = true
 may_be_last _ = false
 
+-- the last record is a state's
 abbrev pub EndsWithState : List KeyedRecord → Type 0
 EndsWithState [] = ⊥
 EndsWithState (r ∷ []) = may_be_last r.key ≡ true

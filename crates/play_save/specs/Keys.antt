@@ -20,16 +20,19 @@ abbrev pub params_rank : WhoseParams → ℕ
 params_rank Next = 3
 params_rank Current = 4
 
+-- the place of a kept key among the headers
 abbrev pub kept_rank : KeptKey → ℕ
 kept_rank Seed = 5
 kept_rank AuxInfo = 7
 kept_rank Ui = 8
 kept_rank Time = 9
 
+-- the place of a count among them
 abbrev pub count_rank : WhichCount → ℕ
 count_rank States = 10
 count_rank Position = 11
 
+-- the place of a header, which tells it from the others
 abbrev pub rank : HeaderKey → ℕ
 rank SaveFile = 0
 rank FormatVersion = 1
@@ -46,20 +49,24 @@ state_name AnyMove = codes "MOVE"
 state_name SolveMove = codes "SOLVE"
 state_name RestartMove = codes "RESTART"
 
+-- the name of parameters
 abbrev pub params_name : WhoseParams → List ℕ
 params_name Next = codes "PARAMS"
 params_name Current = codes "CPARAMS"
 
+-- the name of what is kept
 abbrev pub kept_name : KeptKey → List ℕ
 kept_name Seed = codes "SEED"
 kept_name AuxInfo = codes "AUXINFO"
 kept_name Ui = codes "UI"
 kept_name Time = codes "TIME"
 
+-- the name of a count
 abbrev pub count_name : WhichCount → List ℕ
 count_name States = codes "NSTATES"
 count_name Position = codes "STATEPOS"
 
+-- the name of a header
 abbrev pub header_name : HeaderKey → List ℕ
 header_name SaveFile = codes "SAVEFILE"
 header_name FormatVersion = codes "VERSION"
@@ -70,6 +77,7 @@ header_name (Kept k) = kept_name k
 header_name (Count which) = count_name which
 header_name PrivateDesc = codes "PRIVDESC"
 
+-- the name of a key
 abbrev pub key_name : Key → List ℕ
 key_name (Header k) = header_name k
 key_name (State k) = state_name k
@@ -86,18 +94,21 @@ kept_key_of name =
     else (if bytes_eq name (codes "UI") then Header (Kept Ui) else (if bytes_eq name (codes "TIME") then Header (Kept Time)
     else Other)))
 
+-- what has the name, parameters and counts among it
 abbrev pub pair_key_of : List ℕ → Key
 pair_key_of name =
     if bytes_eq name (codes "PARAMS") then Header (ParamsOf Next) else (if bytes_eq name (codes "CPARAMS") then Header (ParamsOf Current)
     else (if bytes_eq name (codes "NSTATES") then Header (Count States) else (if bytes_eq name (codes "STATEPOS") then Header (Count Position)
     else kept_key_of name)))
 
+-- what has the name, single headers among it
 abbrev pub header_key_of : List ℕ → Key
 header_key_of name =
     if bytes_eq name (codes "SAVEFILE") then Header SaveFile else (if bytes_eq name (codes "VERSION") then Header FormatVersion
     else (if bytes_eq name (codes "GAME") then Header Title else (if bytes_eq name (codes "DESC") then Header Desc
     else (if bytes_eq name (codes "PRIVDESC") then Header PrivateDesc else pair_key_of name))))
 
+-- what has the name, of all keys
 unfoldable pub key_of : List ℕ → Key
 key_of name =
     if bytes_eq name (codes "MOVE") then State AnyMove else (if bytes_eq name (codes "SOLVE") then State SolveMove
@@ -110,5 +121,6 @@ kept_at extras AuxInfo = extras.auxinfo
 kept_at extras Ui = extras.ui
 kept_at extras Time = extras.time
 
+-- the kept values, by their keys
 abbrev pub each_kept : (KeptKey → Option (List ℕ)) → Extras
 each_kept value = record { seed = value Seed; auxinfo = value AuxInfo; ui = value Ui; time = value Time }

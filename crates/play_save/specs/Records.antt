@@ -16,13 +16,16 @@ pub record Entry : Type 0 where
 abbrev pub is_break : ℕ → Bool
 is_break b = (b == line_feed) || (b == carriage_return)
 
+-- whether the text begins with LF or CR
 abbrev pub begins_with_break : List ℕ → Bool
 begins_with_break [] = false
 begins_with_break (b ∷ bs) = is_break b
 
+-- nothing but LF and CR
 abbrev pub AreBreaks : List ℕ → Type 0
 AreBreaks bytes = AllByRecursion (λ b. is_break b ≡ true) bytes
 
+-- whether the text is empty
 abbrev pub is_empty : List ℕ → Bool
 is_empty [] = true
 is_empty (b ∷ bs) = false
@@ -63,10 +66,12 @@ field_at bytes = option_map (λ rest. (before colon bytes, rest)) (behind colon 
 abbrev pub value_at : ℕ → List ℕ → Option (List ℕ × List ℕ)
 value_at n bytes = if nat_le n (length bytes) then Some (take n bytes, drop n bytes) else None
 
+-- the value behind its length, and the rest
 abbrev pub value_behind : List ℕ → Option (List ℕ × List ℕ)
 value_behind bytes =
     option_and_then (λ field. option_and_then (λ n. value_at n field.1) (length_at field.0)) (field_at bytes)
 
+-- a record of a key and of a value with the rest behind it
 abbrev pub record_of : List ℕ → List ℕ × List ℕ → Entry × List ℕ
 record_of key parts = (record { key = unpadded key; value = parts.0 }, parts.1)
 
@@ -76,6 +81,7 @@ record_behind bytes =
     option_and_then (λ field. if length field.0 == 8 then option_map (record_of field.0) (value_behind field.1) else None)
     (field_at bytes)
 
+-- the first record and the rest, where line breaks were passed
 abbrev pub record_or_end : List ℕ → Result (Option (Entry × List ℕ)) LoadFault
 record_or_end [] = Ok None
 record_or_end (b ∷ bs) = ok_or (option_map Some (record_behind (b ∷ bs))) Malformed

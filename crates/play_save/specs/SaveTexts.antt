@@ -6,7 +6,7 @@ use Rattle.trail_solver.specs.declared.rules.Rules.{Ghosts as RulesGhosts}
 use Rattle.clue_rules.specs.declared.game.Game.{Ghosts as GameGhosts}
 use Rattle.clue_rules.specs.declared.id_fault.IdFault.{IdFault}
 use Rattle.clue_rules.specs.declared.params.Params.{Params}
-use Rattle.clue_rules.specs.Parameters.{IsParamText}
+use Rattle.clue_rules.specs.Parameters.{IsParamText, has_adjacent_mode}
 use Rattle.clue_rules.specs.GameIds.{describes_at}
 use Rattle.play_midend.specs.declared.moves.Move.{Move}
 use Rattle.play_midend.specs.declared.moves.Move.TheVariants.{Solve, Restart}
@@ -52,7 +52,7 @@ saved_game title letters has_adjacent puzzle of_game describes desc_at desc_of =
 -- the same, of what `Rules` and `Game` say of a type P: `saves_of P.Rules P.Game.own`
 abbrev pub saves_of : {P : Type 0} → RulesGhosts P → GameGhosts P → SavedGame P
 saves_of rules game =
-    saved_game game.title game.letter_codes game.has_adjacent rules.puzzle rules.valid game.describes game.desc_at game.desc_of
+    saved_game game.title game.letter_codes (has_adjacent_mode game.title) rules.puzzle rules.valid game.describes game.desc_at game.desc_of
 
 -- the value of the first record, which names the format
 abbrev pub collection : List ℕ
@@ -62,6 +62,7 @@ collection = codes "Simon Tatham's Portable Puzzle Collection"
 abbrev pub format_record : Entry
 format_record = record { key = codes "SAVEFILE"; value = collection }
 
+-- whether the move fills in a solution
 abbrev pub is_solve : Move → Bool
 is_solve (Solve g) = true
 is_solve _ = false

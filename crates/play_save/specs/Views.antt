@@ -4,6 +4,7 @@ use Rattle.std.specs.Borrow.{Bor}
 use Rattle.play_save.specs.declared.record.Record.{Record}
 use Rattle.play_save.specs.Records.{Entry}
 
+-- a record, as contracts see it
 abbrev pub entry_of : Record → Entry
 entry_of r = record { key = r.key.now; value = r.value.now }
 

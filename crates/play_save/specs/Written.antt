@@ -24,6 +24,7 @@ use Rattle.byte_text.specs.Bytes.{colon, line_feed}
 unfoldable pub record_text : KeyedRecord → List ℕ
 record_text r = padded (key_name r.key) ++ (colon ∷ (decimal (length r.value) ++ (colon ∷ (r.value ++ (line_feed ∷ [])))))
 
+-- records, one after another
 abbrev pub records_text : List KeyedRecord → List ℕ
 records_text [] = []
 records_text (r ∷ rs) = record_text r ++ records_text rs
@@ -32,6 +33,7 @@ records_text (r ∷ rs) = record_text r ++ records_text rs
 abbrev pub with_value : Key → List ℕ → KeyedRecord
 with_value k value = record { key = k; value = value }
 
+-- the record of a header
 abbrev pub header_record : HeaderKey → List ℕ → KeyedRecord
 header_record k value = with_value (Header k) value
 

@@ -1,6 +1,6 @@
 //! Loading: a save text is read record by record, and its session is played.
 
-ghost use Rattle.std.specs.Prelude.{◌≡◌, ◌+◌, ◌-◌, ◌<◌, ◌≤◌, Some, None, Ok, Err, ok_or, IfOk, IfErr, length, map};
+ghost use Rattle.std.specs.Prelude.{◌≡◌, ◌+◌, ◌-◌, ◌<◌, ◌≤◌, Some, None, Ok, Err, ok_or, IfOk, IfErr, length, map, option_map, vec_items};
 ghost use Rattle.std.specs.Result.{result_ok};
 ghost use Rattle.byte_text.specs.Reading.{Gives, GivesUnless};
 ghost use Rattle.play_midend.specs.declared.session.TheConstants.{MOST_STATES};
@@ -17,7 +17,7 @@ use crate::record::next_record;
 use crate::save_format::{COLLECTION, MOST_BYTES, is_solve};
 use clue_rules::{Game, Params};
 use latin_board::Size;
-use play_midend::{Extras, KeptBytes, Move, PlayFault, Session, read_move};
+use play_midend::{Extras, Move, PlayFault, Session, read_move};
 use std::alloc::{AllocError, Global};
 
 // What follows the first record, which has to name the format.
@@ -53,11 +53,11 @@ fn find<'a, P: Game>(alloc: Global, bytes: &'a [u8]) -> Result<Met<'a>, LoadFaul
 }
 
 // The bytes of a record, kept for the session.
-fn kept(alloc: Global, bytes: Option<&[u8]>) -> Result<Option<KeptBytes>, AllocError>
-    ensures { IfOk result (λ kept. kept ≡ bytes_of bytes.entry) }
+fn kept(alloc: Global, bytes: Option<&[u8]>) -> Result<Option<Vec<u8>>, AllocError>
+    ensures { IfOk result (λ kept. option_map vec_items kept ≡ bytes_of bytes.entry) }
 {
     match bytes {
-        Some(bytes) => Ok(Some(KeptBytes::new(bytes.to_vec(alloc)?))),
+        Some(bytes) => Ok(Some(bytes.to_vec(alloc)?)),
         None => Ok(None),
     }
 }

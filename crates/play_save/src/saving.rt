@@ -1,6 +1,6 @@
 //! Saving: the records of a session, written in their order.
 
-ghost use Rattle.std.specs.Prelude.{◌≡◌, ◌+◌, ◌++◌, length, Some, IfOk, IfErr, OnOk};
+ghost use Rattle.std.specs.Prelude.{◌≡◌, ◌+◌, ◌++◌, length, Some, option_map, vec_items, IfOk, IfErr, OnOk};
 ghost use Rattle.std.specs.Fmt.{decimal};
 ghost use Rattle.play_save.specs.declared.key.HeaderKey.TheVariants.{Count};
 ghost use Rattle.play_midend.specs.Steps.{is_restart};
@@ -10,7 +10,7 @@ use crate::fault::LoadFault;
 use crate::key::{HeaderKey, KeptKey, Key, StateKey, WhichCount, WhoseParams};
 use crate::save_format::{COLLECTION, is_solve};
 use clue_rules::Game;
-use play_midend::{Extras, KeptBytes, Move, Session, write_move};
+use play_midend::{Move, Session, write_move};
 use std::alloc::{AllocError, Global};
 
 // Writes a record.
@@ -41,12 +41,12 @@ fn put_count(text: &mut Vec<u8>, which: WhichCount, count: usize) -> Result<(), 
 }
 
 // Writes bytes that are kept, where there are any.
-fn put_kept(text: &mut Vec<u8>, key: KeptKey, kept: &Option<KeptBytes>) -> Result<(), AllocError>
+fn put_kept(text: &mut Vec<u8>, key: KeptKey, kept: &Option<Vec<u8>>) -> Result<(), AllocError>
     ensures { OnOk result (text.new.items
-        ≡ text.old.items ++ records_text (kept_record key kept.now)) }
+        ≡ text.old.items ++ records_text (kept_record key (option_map vec_items kept.now))) }
 {
     if let Some(bytes) = kept {
-        put(text, Key::Header(HeaderKey::Kept(key)), bytes.as_slice())?;
+        put(text, Key::Header(HeaderKey::Kept(key)), bytes)?;
     }
     Ok(())
 }

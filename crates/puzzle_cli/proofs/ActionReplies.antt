@@ -13,10 +13,9 @@ use Rattle.puzzle_cli.specs.declared.command.Request.TheVariants.{Act}
 use Rattle.puzzle_cli.specs.declared.command.Action.{Action}
 use Rattle.puzzle_cli.specs.declared.command.Action.TheVariants.{Play, Solve}
 use Rattle.puzzle_cli.specs.declared.reply.refusal.Refusal.{Refusal}
-use Rattle.puzzle_cli.specs.declared.reply.refusal.Refusal.TheVariants
 use Rattle.puzzle_cli.specs.Commands.{action_copied}
 use Rattle.puzzle_cli.specs.GameFacts.{GameFacts}
-use Rattle.puzzle_cli.specs.Refusals.{refusal_name}
+use Rattle.puzzle_cli.specs.Refusals.{play_refusal}
 use Rattle.puzzle_cli.specs.Replies.{Explains}
 use Rattle.puzzle_cli.specs.SolutionTexts.{solve_sentence}
 use Rattle.puzzle_cli.specs.SessionReplies.{IsCallRead, call_sentence, sentence_outcome, RequestGives, RequestTakesMemory}
@@ -62,13 +61,14 @@ refused_or_no_memory (Err other) OutOfMemory true why = cc
 refused_or_no_memory exact fault true why = inl why
 
 module _ {P : Type 0} (f : GameFacts P) (h new : History P) where
+  -- why an action is refused
   abbrev IsExplained : Action (List ℕ) → Refusal → Type 0
   IsExplained action refusal = Explains (RequestGives f h (Act action)) (RequestTakesMemory f h (Act action)) refusal
 
   -- a call that was refused is explained, where no sentence stands for the refusal
   call_explained : (action : Action (List ℕ)) (call : Call) (fault : PlayFault) → IsCallRead action (Ok call)
       → call_sentence call fault ≡ None → Answered (f.rules.puzzle h.puzzle) h call (Err fault) new
-      → IsExplained action (TheVariants.Play fault)
+      → IsExplained action (play_refusal fault)
   call_explained action call fault read none (stays, (exact, gives, why)) =
       elim (refused_or_no_memory exact fault (may_take_memory call) why) [
         | inl is ↦ inl (
@@ -86,7 +86,7 @@ module _ {P : Type 0} (f : GameFacts P) (h new : History P) where
             read,
             (refused.2.0, subst (λ (x : Result (History P) PlayFault). CallGives (f.rules.puzzle h.puzzle) h call x) refused.2.1 gives, refused.0),
           ),
-          ap (λ (fault : PlayFault). refusal_name (TheVariants.Play fault)) refused.1,
+          ap play_refusal refused.1,
         )
       ]
 
@@ -96,14 +96,15 @@ module _ {P : Type 0} (f : GameFacts P) (h new : History P) where
 
   explained : (action : Action (List ℕ)) (read : Result Call PlayFault) (fault : PlayFault) → IsCallRead action read
       → (read ≢ Ok ToSolution) ⊎ (solve_sentence fault ≡ None) → ReadAnswered (f.rules.puzzle h.puzzle) h read (Err fault) new
-      → IsExplained action (TheVariants.Play fault)
+      → IsExplained action (play_refusal fault)
   explained action (Ok call) fault is (inl n) answer =
       call_explained action call fault is (no_sentence call fault (λ e. n (ap Ok e))) answer
   explained action (Ok ToSolution) fault is (inr none) answer = call_explained action ToSolution fault is none answer
   explained action (Ok call) fault is (inr none) answer = call_explained action call fault is refl answer
   explained action (Err other) fault is none (stays, e) = inl (Err other, is, cc)
 
-  pub refused_said : (action : Action (List ℕ)) (fault : PlayFault) (refusal : Refusal) → refusal ≡ TheVariants.Play fault
+  -- a refused action is told by its refusal
+  pub refused_said : (action : Action (List ℕ)) (fault : PlayFault) (refusal : Refusal) → refusal ≡ play_refusal fault
       → (action ≢ Solve) ⊎ (solve_sentence fault ≡ None)
       → ActionAnswered (f.rules.puzzle h.puzzle) h action (Err fault) new → IsExplained action refusal
   refused_said action fault refusal same (inl n) (read, is, answer) =
@@ -114,7 +115,7 @@ module _ {P : Type 0} (f : GameFacts P) (h new : History P) where
   pub solve_refused : {T : Type 0} (action : Action (List ℕ)) (answer : Result (Unit {0}) PlayFault) (result : Result T Refusal)
       → ActionAnswered (f.rules.puzzle h.puzzle) h action answer new
       → IfErr result (λ refusal. (fault : PlayFault) × (answer ≡ Err fault) × (solve_sentence fault ≡ None)
-      × (refusal ≡ TheVariants.Play fault)) → IfErr result (IsExplained action)
+      × (refusal ≡ play_refusal fault)) → IfErr result (IsExplained action)
   solve_refused action answer (Ok text) answered why = tt
   solve_refused action answer (Err refusal) answered (fault, is, none, same) =
       refused_said action fault refusal same (inr none)

@@ -153,6 +153,7 @@ module _ {S : Type 0} {reply : ReplyRule S} {quit : Line → Bool} {old now : Po
     -- ---- a piece was read
 
     module _ (n : ℕ) (piece : List ℕ) (fits : n ≤ length piece) (consumed : Consumes now.to_come new.to_come (take n piece)) where
+      -- what was read so far, with the beginning of the piece
       abbrev more : List ℕ
       more = so_far.read ++ take n piece
 

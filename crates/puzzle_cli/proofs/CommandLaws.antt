@@ -18,7 +18,8 @@ use Rattle.puzzle_cli.specs.Inner.CommandReading.{rest_behind, entry_at, nonzero
 
 -- ---- tables
 
-entry_taken : {A : Type 0} (rows : List (List ℕ × A)) (line : List ℕ) (a : A) → entry_at rows line ≡ Some a → IsEntry rows line a
+-- what is found under a text is an entry there
+pub entry_taken : {A : Type 0} (rows : List (List ℕ × A)) (line : List ℕ) (a : A) → entry_at rows line ≡ Some a → IsEntry rows line a
 entry_taken [] line a h = cc
 entry_taken {A} (row ∷ rows) line a h =
     elim (bytes_eq line row.0) as (λ t. bytes_eq line row.0 ≡ t → cond t (Some row.1) (entry_at rows line) ≡ Some a
@@ -147,6 +148,7 @@ spelled_read b bs =
       | Some c ↦ λ some. (b ∷ bs, refl, command_taken (b ∷ bs) c some)
     ] refl
 
+-- each line is read as what it is by the table of commands
 pub line_is_read : (line : Line) → IsRead line (read_at line)
 line_is_read None = refl
 line_is_read (Some []) = refl
@@ -165,6 +167,7 @@ word_read line c h = inl (entry_taken words line c h)
 
 -- ---- the line that ends a run
 
+-- a line that isn't read as `quit` doesn't end the run
 pub goes_on : (line : Line) (read : Reading (List ℕ)) → IsRead line read → read ≢ Ok (Some Quit) → is_quit line ≡ false
 unfolding command_at
 goes_on None read is n = refl

@@ -15,10 +15,12 @@ natural : (z : ℤ) → z ≤ℤ pos 9 → int_lt z (pos 0) ≡ false → coordi
 natural (pos n) high above = let small : n < 10 = omega (arith, ints) in decimal_digit n small
 natural (negsuc n) high above = cc
 
+-- the text of the coordinate -1
 pub negative_text : (z : ℤ) → SFits w8 z → negsuc zero ≤ℤ z → int_lt (to_z w8 (of_z w8 z)) (pos 0) ≡ true
     → coordinate_text z ≡ 45 ∷ 49 ∷ []
 negative_text z fits low below = negative z low (rw to_z-of_z at below)
 
+-- the text of a coordinate that has one digit
 pub natural_text : (z : ℤ) → SFits w8 z → z ≤ℤ pos 9 → int_lt (to_z w8 (of_z w8 z)) (pos 0) ≡ false
     → coordinate_text z ≡ (48 + nat_abs (to_z w8 (of_z w8 z))) ∷ []
 natural_text z fits high above = rw to_z-of_z (natural z high (rw to_z-of_z at above))

@@ -11,7 +11,6 @@ pub mod ActionReplies
 pub mod Starting
 pub mod ListedOnce
 pub mod RepliesOnce
-pub mod ReplyTexts
 pub mod CallReplies
 pub mod ReplySteps
 pub mod UndoReplies
@@ -21,3 +20,4 @@ pub mod KnownReplies
 pub mod SaveReplies
 pub mod SeededReplies
 pub mod LinesAnswered
+pub mod PlainReplies

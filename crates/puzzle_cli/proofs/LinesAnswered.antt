@@ -32,7 +32,7 @@ use Rattle.puzzle_cli.specs.GameFacts.{GameFacts}
 use Rattle.puzzle_cli.specs.NewSessions.{new_game, generated_game, id_refusal, IsIdRead, IdBegins, TextBegins}
 use Rattle.puzzle_cli.specs.SolutionTexts.{EndsInSolution, move_line, listed_lines}
 use Rattle.puzzle_cli.specs.SessionReplies.{Outcome, ok_line, text_outcome, view_text, IsCallRead, IsSaidOf, CallReplies, ReadReplies, RequestGives, call_sentence, sentence_outcome}
-use Rattle.puzzle_cli.specs.Replies.{AmpleReply, ReadGives, begun, written}
+use Rattle.puzzle_cli.specs.Replies.{AmpleReply, ReadGives, begun, left, plain_text}
 use Rattle.puzzle_cli.specs.Runs.{RepliesInTurn}
 use Rattle.puzzle_cli.specs.RunLaws.{OutputIsThere, SeedsGenerate}
 use Rattle.puzzle_cli.proofs.CommandLaws.{line_is_read}
@@ -59,6 +59,7 @@ module _ {P : Type 0} (p : Puzzle) (h : History P) where
       slice_get_read moves (length moves) (length moves - 1) (Filling g) refl (omega arith)
       (sym (get_or_push (past h) (Filling g) (Filling g) (length moves - 1) (omega arith)))
 
+  -- some outcome answers the call
   abbrev HasAnswer : Call → Type 0
   HasAnswer call = (outcome : Outcome P) × CallReplies p h call outcome
 
@@ -151,8 +152,7 @@ module _ {P : Type 0} (f : GameFacts P) (taken : IdsAreTaken f) (seeds : SeedsGe
   line_answered : (old : Option (History P)) (line : Line) → (bytes : List ℕ) × (new : Option (History P)) × AmpleReply f old line bytes new
   line_answered old line =
       let given = read_given old (read_at line) in
-      let said = written old given.0 in
-      (said.0, said.1, (read_at line, line_is_read line, (given.0, given.1, refl)))
+      (plain_text given.0, left old given.0, (given.0, (read_at line, line_is_read line, given.1), refl, refl))
 
   pub lines_answered : (lines : List Line) (old : Option (History P))
       → (bytes : List ℕ) × (new : Option (History P)) × RepliesInTurn (AmpleReply f) lines old bytes new

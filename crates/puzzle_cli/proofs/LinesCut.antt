@@ -31,6 +31,7 @@ abbrev join : List ℕ → List (List ℕ) → List (List ℕ)
 join front [] = front ∷ []
 join front (segment ∷ rest) = (front ++ segment) ∷ rest
 
+-- pieces between line ends, as lines
 abbrev lines_of : List (List ℕ) → List Line
 lines_of ps = map (λ segment. as_line (unless_long segment)) ps
 
@@ -61,6 +62,7 @@ lines_of-join front (b ∷ bs) =
           ∙ ap (λ part. ended_from part bs ++ as_line (last_from part bs) ∷ []) (sym (pushed-short front b))
     ]
 
+-- the lines of some bytes are those that ended, and the last
 pub all_lines-by-parts : (bytes : List ℕ) → all_lines bytes ≡ ended_from (Some []) bytes ++ as_line (last_from (Some []) bytes) ∷ []
 all_lines-by-parts bytes = ap lines_of (sym (join-segments bytes)) ∙ lines_of-join [] bytes
 

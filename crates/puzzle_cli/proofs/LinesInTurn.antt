@@ -1,5 +1,5 @@
 -- Lines that are answered, one list of lines after another.
-use Rattle.std.proofs.Common.{◌≡◌, ℕ, Bool, true, false, if◌then◌else◌, List, [], ◌∷◌, ◌++◌, refl, sym, ap, ◌∙◌, subst, append_assoc, append-nil, take}
+use Rattle.std.proofs.Common.{◌≡◌, ℕ, Bool, true, false, if◌then◌else◌, List, [], ◌∷◌, ◌++◌, refl, sym, ap, ◌∙◌, subst, append_assoc, take}
 use Rattle.std.proofs.KnownBytes.{Appends-nil, Appends-trans}
 use Rattle.std.specs.Io.KnownBytes.{Appends}
 use Rattle.puzzle_cli.specs.Lines.{Line, ReplyRule}
@@ -116,12 +116,6 @@ module _ {S : Type 0} (reply : ReplyRule S) (quit : Line → Bool) where
       → Goes reply quit Unsent (xs ++ ys) old new
   Unsent-more xs ys old new q = (q.0, Breaks-more xs ys old new q.1)
 
-  -- one line, whose reply went out
-  pub Goes-answered : (line : Line) (old new : Progress S) (bytes : List ℕ) → quit line ≡ false → new.failed ≡ false
-      → reply old.session line bytes new.session → Appends old.taken new.taken bytes → Goes reply quit More (line ∷ []) old new
-  Goes-answered line old new bytes no_quit works said went =
-      (rw no_quit, works, (bytes, (bytes, new.session, [], said, sym (append-nil bytes), (refl, refl)), went))
-
   -- one line, whose reply didn't go out
   pub Goes-unsent : (line : Line) (old new : Progress S) (bytes : List ℕ) (count : ℕ) → new.failed ≡ true
       → reply old.session line bytes new.session → Appends old.taken new.taken (take count bytes)
@@ -142,9 +136,3 @@ module _ {S : Type 0} (reply : ReplyRule S) (quit : Line → Bool) where
       front = went;
     },
   )
-
-  -- one line that ends the run
-  pub Goes-quit : (line : Line) (old new : Progress S) → quit line ≡ true → new.failed ≡ false → new.session ≡ old.session
-      → new.taken ≡ old.taken → Goes reply quit Quit (line ∷ []) old new
-  Goes-quit line old new quits works stays same =
-      (rw quits refl, works, rw quits ([], (refl, stays), subst (λ t. Appends old.taken t []) (sym same) (Appends-nil old.taken)))

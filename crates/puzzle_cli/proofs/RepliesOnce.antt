@@ -28,13 +28,14 @@ use Rattle.puzzle_cli.specs.GameFacts.{GameFacts}
 use Rattle.puzzle_cli.specs.NewSessions.{IsIdRead, IdBegins, TextBegins, generated_game}
 use Rattle.puzzle_cli.specs.SessionReplies.{Outcome, text_outcome, IsCallRead, IsSaidOf, CallSays, ReadReplies, RequestGives}
 use Rattle.puzzle_cli.specs.SolutionTexts.{listed_lines, move_line}
-use Rattle.puzzle_cli.specs.Replies.{ReadGives, AmpleReply, begun, written}
+use Rattle.puzzle_cli.specs.Replies.{ReadGives, AmpleGives, AmpleReply, begun, left, plain_text}
 use Rattle.puzzle_cli.specs.Runs.{RepliesInTurn}
 use Rattle.puzzle_cli.proofs.CommandLaws.{read_once}
 use Rattle.puzzle_cli.proofs.ListedOnce.{first_once}
 
 -- ---- calls
 
+-- an action is read as one call
 pub call_read_once : (action : Action (List ℕ)) (one other : Result Call PlayFault) → IsCallRead action one → IsCallRead action other → one ≡ other
 call_read_once (Play text) (Ok one) (Ok other) (m, h, is) (k, l, so) =
     let a : move_by text ≡ Some m = move_again text m h in let b : move_by text ≡ Some k = move_again text k l in cc
@@ -122,20 +123,20 @@ module _ {P : Type 0} (f : GameFacts P) (laws : ItemLaws f.rules) (ids : IdsAreR
   gives_once (Some h) (Ok (Some (Ask request))) one other is so = request_once h request one other is so
   gives_once old read one other is so = is ∙ sym so
 
-  pub reply_once : (old : Option (History P)) (line : Line) (a b : List ℕ) (m n : Option (History P))
-      → AmpleReply f old line a m → AmpleReply f old line b n → (a ≡ b) × (m ≡ n)
-  reply_once old line a b m n (r, read, (one, x, is)) (s, scan, (other, y, so)) =
+  -- a line has one outcome
+  pub outcome_once : (old : Option (History P)) (line : Line) (one other : Outcome P)
+      → AmpleGives f old line one → AmpleGives f old line other → one ≡ other
+  outcome_once old line one other (r, read, is) (s, scan, so) =
       let same : s ≡ r = read_once line s scan ∙ sym (read_once line r read) in
-      let once = gives_once old r one other x (subst (λ (q : Reading (List ℕ)). ReadGives f old q other) same y) in
-      let pair = sym is ∙ ap (written old) once ∙ so in
-      (ap (λ (w : List ℕ × Option (History P)). w.0) pair, ap (λ (w : List ℕ × Option (History P)). w.1) pair)
+      gives_once old r one other is (subst (λ (q : Reading (List ℕ)). ReadGives f old q other) same so)
 
   pub output_once : (lines : List Line) (old m n : Option (History P)) (a b : List ℕ)
       → RepliesInTurn (AmpleReply f) lines old a m → RepliesInTurn (AmpleReply f) lines old b n → (a ≡ b) × (m ≡ n)
   output_once [] old m n a b (none, stays) (nothing, rests) = (none ∙ sym nothing, stays ∙ sym rests)
-  output_once (line ∷ lines) old m n a b (x, mid, rest, said, whole, runs) (y, then, more, told, all, goes) =
-      let once = reply_once old line x y mid then said told in
+  output_once (line ∷ lines) old m n a b (x, mid, rest, (one, is, says, leaves), whole, runs) (y, then, more, (other, so, tells, stays), all, goes) =
+      let once = outcome_once old line one other is so in
+      let same : mid ≡ then = leaves ∙ ap (left old) once ∙ sym stays in
       let goes_on : RepliesInTurn (AmpleReply f) lines mid more n =
-      subst (λ (s : Option (History P)). RepliesInTurn (AmpleReply f) lines s more n) (sym once.1) goes in
+      subst (λ (s : Option (History P)). RepliesInTurn (AmpleReply f) lines s more n) (sym same) goes in
       let later = output_once lines mid m n rest more runs goes_on in
-      (whole ∙ ap (λ l. l ++ rest) once.0 ∙ ap (λ l. y ++ l) later.0 ∙ sym all, later.1)
+      (whole ∙ ap (λ l. l ++ rest) (says ∙ ap plain_text once ∙ sym tells) ∙ ap (λ l. y ++ l) later.0 ∙ sym all, later.1)

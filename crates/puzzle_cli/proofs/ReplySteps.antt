@@ -1,51 +1,37 @@
--- A reply begins a session, answers a call of the one that there is, or leaves what there is; so a refused line leaves it.
-use Rattle.std.proofs.Common.{◌≡◌, ◌⊎◌, ℕ, List, Option, Some, None, Ok, Err, refl, sym, ap, ◌∙◌, inl, inr}
+-- A line begins a session, is a call of the one that there is, or leaves what there is.
+use Rattle.std.proofs.Common.{◌≡◌, ◌⊎◌, ℕ, List, Option, Some, Ok, Err, refl, ap, inl, inr}
 use Rattle.play_midend.specs.Histories.{History}
 use Rattle.play_midend.specs.Laws.{Call}
 use Rattle.puzzle_cli.specs.Commands.{Reading}
 use Rattle.puzzle_cli.specs.declared.command.Command.TheVariants.{New, Ask}
+use Rattle.puzzle_cli.specs.declared.reply.refusal.Refusal.TheVariants.{Memory}
 use Rattle.puzzle_cli.specs.GameFacts.{GameFacts}
 use Rattle.puzzle_cli.specs.NewSessions.{TextBegins}
-use Rattle.puzzle_cli.specs.SessionReplies.{ok_line}
-use Rattle.puzzle_cli.specs.Replies.{refusal_line, ReadSays}
-use Rattle.puzzle_cli.specs.RunLaws.{AnswersCall, RefusedLinesLeave}
-use Rattle.puzzle_cli.proofs.ReplyTexts.{not_ok, made_or_refused}
-use Rattle.puzzle_cli.proofs.CallReplies.{written_by, request_told}
+use Rattle.puzzle_cli.specs.SessionReplies.{Outcome, ok_line}
+use Rattle.puzzle_cli.specs.Replies.{ReadGives, ReadTakesMemory, ReadMayGive, left}
+use Rattle.puzzle_cli.specs.RunLaws.{AnswersCall}
+use Rattle.puzzle_cli.proofs.CallReplies.{ample_or_none, told}
 
-module _ {P : Type 0} (f : GameFacts P) (old new : Option (History P)) (bytes : List ℕ) where
+module _ {P : Type 0} (f : GameFacts P) (old : Option (History P)) (outcome : Outcome P) where
+  -- one step of a session, by what began it or left it
   abbrev pub Step : Type 0
   Step =
-      ((id : List ℕ) × (k : History P) × TextBegins f id (Ok k) × (bytes ≡ ok_line) × (new ≡ Some k))
-      ⊎ ((h : History P) × (call : Call) × (old ≡ Some h) × AnswersCall f h call bytes new) ⊎ (new ≡ old)
+      ((id : List ℕ) × (k : History P) × TextBegins f id (Ok k) × (outcome ≡ Ok (ok_line, Some k)))
+      ⊎ ((h : History P) × (call : Call) × (old ≡ Some h) × AnswersCall f h call outcome) ⊎ (left old outcome ≡ old)
 
-pub reply_step : {P : Type 0} (f : GameFacts P) (old new : Option (History P)) (bytes : List ℕ) (read : Reading (List ℕ))
-    → ReadSays f old read bytes new → Step f old new bytes
-reply_step f old new bytes (Ok (Some (New id))) (inl (outcome, (Ok k, begins, is), e)) =
-    let w = written_by old new bytes outcome _ is e in inl (id, k, begins, w.0, w.1)
-reply_step f old new bytes (Ok (Some (New id))) (inl (outcome, (Err fault, begins, is), e)) =
-    inr (inr ((written_by old new bytes outcome _ is e).1))
-reply_step f (Some h) new bytes (Ok (Some (Ask request))) says =
-    elim (request_told f h request bytes new says) [
-      | inl told ↦ inr (inl (h, told.0, refl, told.2))
-      | inr left ↦ inr (inr left.1)
+-- what a line that was read gives is such a step
+step : {P : Type 0} (f : GameFacts P) (old : Option (History P)) (outcome : Outcome P) (read : Reading (List ℕ))
+    → ReadGives f old read outcome ⊎ (ReadTakesMemory f old read × (outcome ≡ Err Memory)) → Step f old outcome
+step f old outcome (Ok (Some (New id))) (inl (Ok k, begins, is)) = inl (id, k, begins, is)
+step f old outcome (Ok (Some (New id))) (inl (Err fault, begins, is)) = inr (inr (ap (left old) is))
+step f (Some h) outcome (Ok (Some (Ask request))) given =
+    elim (told f h request outcome given) [
+      | inl calls ↦ inr (inl (h, calls.0, refl, calls.2))
+      | inr stays ↦ inr (inr stays.1)
     ]
-reply_step f old new bytes read (inl (outcome, is, e)) = inr (inr ((written_by old new bytes outcome _ is e).1))
-reply_step f old new bytes read (inr (takes, name, stays)) = inr (inr stays)
+step f old outcome read (inl is) = inr (inr (ap (left old) is))
+step f old outcome read (inr (takes, memory)) = inr (inr (ap (left old) memory))
 
--- ---- a line that is refused
-
-call_refused : {P : Type 0} (f : GameFacts P) (h : History P) (call : Call) (bytes name : List ℕ) (new : Option (History P))
-    → bytes ≡ refusal_line name → AnswersCall f h call bytes new → new ≡ Some h
-call_refused f h call bytes name None named answers = absurd answers
-call_refused f h call bytes name (Some k) named (Ok u, gives, made) = absurd (made_or_refused call bytes name made named)
-call_refused f h call bytes name (Some k) named (Err fault, (stays, why), told) = ap Some stays
-
-pub refused_lines_leave : {P : Type 0} (f : GameFacts P) → RefusedLinesLeave f
-refused_lines_leave f old new line bytes (read, is, says) (name, named) =
-    elim (reply_step f old new bytes read says) [
-      | inl begins ↦ absurd (not_ok bytes name begins.3 named)
-      | inr other ↦ elim other [
-        | inl calls ↦ call_refused f calls.0 calls.1 bytes name new named calls.3 ∙ sym calls.2
-        | inr stays ↦ stays
-      ]
-    ]
+pub reply_step : {P : Type 0} (f : GameFacts P) (old : Option (History P)) (outcome : Outcome P) (read : Reading (List ℕ))
+    → ReadMayGive f old read outcome → Step f old outcome
+reply_step f old outcome read gives = step f old outcome read (ample_or_none f old read outcome gives)

@@ -1,4 +1,4 @@
--- The reply to `save` begins the session again.
+-- The answer to `save` begins the session again.
 use Rattle.std.proofs.Common.{◌≡◌, ◌<◌, length, codes, Result, Ok, Err, inl, inr, refl, ap, ◌∙◌}
 use Rattle.std.proofs.lemmas.Bool.{cases_lt}
 use Rattle.puzzle_gen.proofs.ItemLaws.{ItemLaws}

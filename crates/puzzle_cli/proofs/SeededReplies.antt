@@ -1,5 +1,5 @@
 -- The game of a seed that was begun has one solution, which `solve` answers and a list has.
-use Rattle.std.proofs.Common.{◌≡◌, ◌≢◌, ℕ, List, [], ◌∷◌, ◌++◌, length, codes, Option, Some, Result, Ok, Err, inl, inr, refl, sym, ap, subst, arith, append-nil, length-append}
+use Rattle.std.proofs.Common.{◌≡◌, ◌≢◌, ℕ, List, [], ◌∷◌, ◌++◌, length, codes, Option, Some, Result, Ok, Err, inr, refl, sym, ap, subst, arith, append-nil, length-append}
 use Rattle.std.specs.Fmt.{decimal}
 use Rattle.std.specs.Option.{IsSomeAnd}
 use Rattle.std.proofs.lemmas.Bool.{ne_eqb}
@@ -30,13 +30,12 @@ use Rattle.puzzle_cli.specs.Commands.{IsRead}
 use Rattle.puzzle_cli.specs.GameFacts.{GameFacts}
 use Rattle.puzzle_cli.specs.NewSessions.{new_game, generated_game, IsIdRead, IdBegins}
 use Rattle.puzzle_cli.specs.SolutionTexts.{grid_digits, grid_line, listed_lines, move_line}
-use Rattle.puzzle_cli.specs.SessionReplies.{ok_line, shown_board, text_outcome}
-use Rattle.puzzle_cli.specs.Replies.{ReadSays, begun}
-use Rattle.puzzle_cli.specs.RunLaws.{Asks, IsTheReply, HasJustOne, SeededLinesHaveOne, seeded_line, solve_line, list_two_line}
+use Rattle.puzzle_cli.specs.SessionReplies.{shown_board, text_outcome}
+use Rattle.puzzle_cli.specs.Replies.{ReadGives, left}
+use Rattle.puzzle_cli.specs.RunLaws.{Asks, IsTheAnswer, HasJustOne, SeededLinesHaveOne, seeded_line, solve_line, list_two_line}
 use Rattle.puzzle_cli.proofs.CommandLaws.{word_read}
 use Rattle.puzzle_cli.proofs.RepliesOnce.{IdsAreReadOnce}
-use Rattle.puzzle_cli.proofs.ReplyTexts.{not_ok}
-use Rattle.puzzle_cli.proofs.CallReplies.{said_to, written_by}
+use Rattle.puzzle_cli.proofs.CallReplies.{given_to}
 use Rattle.puzzle_cli.proofs.KnownReplies.{the_answer}
 
 solve_asks : Asks solve_line (Act Solve)
@@ -59,7 +58,7 @@ one_line g =
 
 module _ {P : Type 0} (f : GameFacts P) (laws : ItemLaws f.rules) (ids : IdsAreReadOnce f) where
   solve_answers : (params : Params) (puzzle : P) (g : GridValue) → IsOnlySolution (f.rules.puzzle puzzle) g
-      → IsTheReply f (Some (new_game params puzzle)) solve_line (move_line (Filling g)) (Some (with_move (new_game params puzzle) (Filling g)))
+      → IsTheAnswer f (Some (new_game params puzzle)) solve_line (move_line (Filling g)) (Some (with_move (new_game params puzzle) (Filling g)))
   solve_answers params puzzle g only =
       let h = new_game params puzzle in
       let new = with_move h (Filling g) in
@@ -67,7 +66,7 @@ module _ {P : Type 0} (f : GameFacts P) (laws : ItemLaws f.rules) (ids : IdsAreR
       (Ok ToSolution, refl, (Ok new, inr (inr (g, only, refl)), (move_line (Filling g), (g, refl, refl), refl)))
 
   list_has : (h : History P) (g : GridValue) → IsOnlySolution (f.rules.puzzle h.puzzle) g
-      → IsTheReply f (Some h) list_two_line (grid_line g) (Some h)
+      → IsTheAnswer f (Some h) list_two_line (grid_line g) (Some h)
   list_has h g only =
       the_answer f laws ids h h list_two_line (Listing 2) (grid_line g) list_two_asks
       (g ∷ [], AreFirst-only (Solves (f.rules.puzzle h.puzzle)) 2 g only.solves only.only (omega arith), ap (λ text. text_outcome h text) (sym (one_line g)))
@@ -112,19 +111,17 @@ module _ {P : Type 0} (f : GameFacts P) (laws : ItemLaws f.rules) (ids : IdsAreR
       subst (λ (r : Result (GameId P) IdFault). IdBegins f r (Ok k)) (sym same) begins in
       made_has_one params seed k gives.0 gives.1 gives.2
 
-  said_has_one : (old new : Option (History P)) (params : Params) (seed : ℕ) (id : List ℕ) → IsIdRead f id (Ok (Seeded params seed))
-      → ReadSays f old (Ok (Some (New id))) ok_line new → IsSomeAnd new (HasJustOne f (square_of params.size seed))
-  said_has_one old new params seed id is (inl (outcome, (Ok k, (read, scan, begins), out), e)) =
-      let left = written_by old new ok_line outcome (begun (Ok k)) out e in
-      subst (λ (o : Option (History P)). IsSomeAnd o (HasJustOne f (square_of params.size seed))) (sym left.1)
+  said_has_one : (old new : Option (History P)) (params : Params) (seed : ℕ) (id text : List ℕ) → IsIdRead f id (Ok (Seeded params seed))
+      → ReadGives f old (Ok (Some (New id))) (Ok (text, new)) → IsSomeAnd new (HasJustOne f (square_of params.size seed))
+  said_has_one old new params seed id text is (Ok k, (read, scan, begins), out) =
+      let begun : new ≡ Some k = ap (left old) out in
+      subst (λ (o : Option (History P)). IsSomeAnd o (HasJustOne f (square_of params.size seed))) (sym begun)
       (begun_has_one params seed k read (ids id (Ok (Seeded params seed)) read is scan) begins)
-  said_has_one old new params seed id is (inl (outcome, (Err fault, begins, out), e)) =
-      absurd (not_ok ok_line _ refl (written_by old new ok_line outcome (begun (Err fault)) out e).0)
-  said_has_one old new params seed id is (inr (takes, name, stays)) = absurd (not_ok ok_line (codes "OutOfMemory") refl name)
+  said_has_one old new params seed id text is (Err fault, begins, out) = cc
 
   pub seeded_lines_have_one : SeededLinesHaveOne f
-  seeded_lines_have_one old new params seed letters within reply =
+  seeded_lines_have_one old new params seed text letters within gives =
       let id = params_text params ++ exclamation ∷ decimal seed in
       let reads : IsRead (seeded_line params seed) (Ok (Some (New id))) = (codes "new " ++ id, refl, inr refl) in
-      said_has_one old new params seed id (letters, within, refl)
-      (said_to f old (seeded_line params seed) (Ok (Some (New id))) ok_line new reads reply)
+      said_has_one old new params seed id text (letters, within, refl)
+      (given_to f old (seeded_line params seed) (Ok (Some (New id))) (Ok (text, new)) reads gives)

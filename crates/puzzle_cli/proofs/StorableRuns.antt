@@ -1,4 +1,4 @@
--- A run that begins with a session that can be stored, or with none, ends so, in any manner of answering.
+-- A run that begins with a session that can be stored, or with none, ends so, in any format.
 use Rattle.std.proofs.Common.{ℕ, List, [], ◌∷◌, Bool, Option, sym, subst, inl, inr}
 use Rattle.play_midend.specs.Histories.{History}
 use Rattle.puzzle_gen.proofs.ItemLaws.{ItemLaws}
@@ -6,18 +6,19 @@ use Rattle.puzzle_cli.specs.declared.run_end.End.{End}
 use Rattle.puzzle_cli.specs.declared.run_end.End.TheVariants.{Finished, ReadFault, WriteFault}
 use Rattle.puzzle_cli.specs.Lines.{Line, ReplyRule}
 use Rattle.puzzle_cli.specs.GameFacts.{GameFacts}
-use Rattle.puzzle_cli.specs.Voices.{AllLeaveAsPlain}
+use Rattle.puzzle_cli.specs.Formats.{LeavesAsAnswers}
 use Rattle.puzzle_cli.specs.Runs.{Point, RepliesInTurn, Ends}
 use Rattle.puzzle_cli.specs.RunLaws.{IsNoneOrStorable}
-use Rattle.puzzle_cli.proofs.StorableReplies.{replies_stay_storable}
+use Rattle.puzzle_cli.proofs.StorableReplies.{answers_stay_storable}
 
-module _ {P : Type 0} (f : GameFacts P) (laws : ItemLaws f.rules) (reply : ReplyRule (Option (History P))) (leaves : AllLeaveAsPlain f reply) where
+module _ {P : Type 0} (f : GameFacts P) (laws : ItemLaws f.rules) (reply : ReplyRule (Option (History P))) (leaves : LeavesAsAnswers f reply) where
   reply_storable : (old new : Option (History P)) (line : Line) (bytes : List ℕ) → IsNoneOrStorable f old → reply old line bytes new
       → IsNoneOrStorable f new
   reply_storable old new line bytes s said =
-      let plain = leaves old new line bytes said in
-      replies_stay_storable f laws old new line plain.0 s plain.1
+      let given = leaves old new line bytes said in
+      subst (λ (o : Option (History P)). IsNoneOrStorable f o) (sym given.2) (answers_stay_storable f laws old line given.0 s given.1)
 
+  -- and so can what replies in turn leave
   in_turn : (lines : List Line) (old new : Option (History P)) (written : List ℕ) → IsNoneOrStorable f old
       → RepliesInTurn reply lines old written new → IsNoneOrStorable f new
   in_turn [] old new written s (w, e) = subst (λ (o : Option (History P)). IsNoneOrStorable f o) (sym e) s

@@ -1,24 +1,25 @@
--- `undo` and `redo` in a run take back what was made, and what was undone.
-use Rattle.std.proofs.Common.{◌≡◌, ℕ, true, List, codes, Option, Some, None, Result, Ok, Err, IsOk, refl, sym, ap, ◌∙◌, subst}
-use Rattle.std.specs.Option.{IsSomeAnd}
+-- The lines `undo` and `redo` take back what was made, and what was undone.
+use Rattle.std.proofs.Common.{◌≡◌, ℕ, true, List, codes, get_or, Option, Some, Result, Ok, Err, refl, sym, ap, ◌∙◌, subst, arith}
 use Rattle.std.specs.Result.{IsOkAnd}
+use Rattle.latin_board.specs.Squares.{GridValue}
 use Rattle.trail_solver.specs.Puzzles.{Puzzle}
 use Rattle.play_midend.specs.declared.fault.PlayFault.{PlayFault}
-use Rattle.play_midend.specs.Faults.{play_fault_name}
+use Rattle.play_midend.specs.declared.fault.PlayFault.TheVariants.{NoSolution, SeveralSolutions}
+use Rattle.play_midend.specs.declared.moves.Move.TheVariants.{Solve as Filling}
 use Rattle.play_midend.specs.Histories.{History, IsValid, undone, redone}
-use Rattle.play_midend.specs.Laws.{Call, IsSameBack, may_take_memory}
+use Rattle.play_midend.specs.Laws.{Call, ToSolution, IsSameBack, may_take_memory}
 use Rattle.play_midend.specs.Laws
 use Rattle.play_midend.proofs.SessionLaws.{call_taken_back, redo_takes_undo_back}
 use Rattle.puzzle_cli.specs.declared.command.Command.TheVariants.{Ask}
 use Rattle.puzzle_cli.specs.declared.command.Request.TheVariants.{Act}
 use Rattle.puzzle_cli.specs.declared.command.Action.TheVariants.{Undo, Redo}
 use Rattle.puzzle_cli.specs.GameFacts.{GameFacts}
-use Rattle.puzzle_cli.specs.SessionReplies.{ok_line}
-use Rattle.puzzle_cli.specs.Replies.{Reply}
-use Rattle.puzzle_cli.specs.RunLaws.{AnswersCall, Asks, IsMade, undo_line, redo_line, UndoLineTakesBack, RedoLineTakesUndoBack}
+use Rattle.puzzle_cli.specs.SolutionTexts.{move_line, no_solution_line, several_solutions_line}
+use Rattle.puzzle_cli.specs.SessionReplies.{Outcome, text_outcome, ok_line}
+use Rattle.puzzle_cli.specs.Replies.{LineGives, left, plain_text}
+use Rattle.puzzle_cli.specs.RunLaws.{AnswersCall, Asks, IsMade, IsToldOf, undo_line, redo_line, UndoLineTakesBack, RedoLineTakesUndoBack}
 use Rattle.puzzle_cli.proofs.CommandLaws.{word_read}
-use Rattle.puzzle_cli.proofs.ReplyTexts.{not_ok, told_made}
-use Rattle.puzzle_cli.proofs.CallReplies.{replies_are_calls}
+use Rattle.puzzle_cli.proofs.CallReplies.{lines_are_calls}
 
 -- ---- undo and redo
 
@@ -28,45 +29,59 @@ undo_asks = (codes "undo", refl, word_read (codes "undo") (Ask (Act Undo)) refl)
 redo_asks : Asks redo_line (Act Redo)
 redo_asks = (codes "redo", refl, word_read (codes "redo") (Ask (Act Redo)) refl)
 
--- what is said of an undo that succeeds
-undo_said : {P : Type 0} (f : GameFacts P) (p : Puzzle) (h k : History P) (said : List ℕ) (last : Option (History P))
-    → IsOkAnd (undone k) (IsSameBack p h) → AnswersCall f k Laws.Undo said last → (said ≡ ok_line) × IsSomeAnd last (IsSameBack p h)
-undo_said f p h k said None back told = absurd told
-undo_said {P} f p h k said (Some z) back (Ok u, gives, told) =
-    (told, subst (λ (r : Result (History P) PlayFault). IsOkAnd r (IsSameBack p h)) (sym gives) back)
-undo_said {P} f p h k said (Some z) back (Err fault, (stays, (exact, gives, is)), told) =
+-- what comes of an undo that succeeds
+undo_said : {P : Type 0} (f : GameFacts P) (p : Puzzle) (h k : History P) (outcome : Outcome P)
+    → IsOkAnd (undone k) (IsSameBack p h) → AnswersCall f k Laws.Undo outcome
+    → (last : History P) × (outcome ≡ text_outcome last ok_line) × IsSameBack p h last
+undo_said {P} f p h k outcome back (Ok u, last, gives, (text, made, is)) =
+    (last, is ∙ ap (text_outcome last) made, subst (λ (r : Result (History P) PlayFault). IsOkAnd r (IsSameBack p h)) (sym gives) back)
+undo_said {P} f p h k outcome back (Err fault, last, (stays, (exact, gives, is)), told) =
     absurd (subst (λ (r : Result (History P) PlayFault). IsOkAnd r (IsSameBack p h)) (sym gives ∙ is) back)
 
-after_made : {P : Type 0} (f : GameFacts P) (h : History P) (call : Call) (bytes said : List ℕ) (new last : Option (History P))
-    → IsValid (f.rules.puzzle h.puzzle) h → may_take_memory call ≡ true → IsMade call bytes → AnswersCall f h call bytes new
-    → Reply f new undo_line said last → (said ≡ ok_line) × IsSomeAnd last (IsSameBack (f.rules.puzzle h.puzzle) h)
-after_made f h call bytes said None last valid takes made answer reply = absurd answer
-after_made f h call bytes said (Some k) last valid takes made (Ok u, gives, told) reply =
-    undo_said f (f.rules.puzzle h.puzzle) h k said last (call_taken_back f.rules.puzzle h k call valid takes gives)
-    (replies_are_calls f k undo_line (Act Undo) Laws.Undo said last undo_asks refl reply)
-after_made f h call bytes said (Some k) last valid takes made (Err fault, gives, told) reply =
-    let no_ok : IsOk {T = Unit {0}} {E = PlayFault} (Err fault) = told_made call (Err fault) bytes told made in cc
+-- a solution's move is no sentence
+other_line : (g : GridValue) (line : List ℕ) → move_line (Filling g) ≡ line → 83 ≡ get_or line 0 0
+other_line g line is = ap (λ l. get_or l 0 0) is
+
+-- what was made was not refused
+not_refused : {P : Type 0} (call : Call) (fault : PlayFault) (text : List ℕ) (k : History P) (new : Option (History P)) → IsMade call text
+    → IsToldOf call (Err fault) k (Ok (text, new)) → ⊥
+not_refused ToSolution NoSolution text k new (g, made) told =
+    let e : 83 ≡ 78 = other_line g no_solution_line (sym made ∙ ap plain_text told) in omega (arith, e)
+not_refused ToSolution SeveralSolutions text k new (g, made) told =
+    let e : 83 ≡ 77 = other_line g several_solutions_line (sym made ∙ ap plain_text told) in omega (arith, e)
+not_refused call fault text k new made told = cc
+
+after_made : {P : Type 0} (f : GameFacts P) (h : History P) (call : Call) (text : List ℕ) (new : Option (History P)) (outcome : Outcome P)
+    → IsValid (f.rules.puzzle h.puzzle) h → may_take_memory call ≡ true → IsMade call text → AnswersCall f h call (Ok (text, new))
+    → LineGives f new undo_line outcome → (last : History P) × (outcome ≡ text_outcome last ok_line) × IsSameBack (f.rules.puzzle h.puzzle) h last
+after_made {P} f h call text new outcome valid takes made (Ok u, k, gives, (said, tells, is)) then =
+    let stays : new ≡ Some k = ap (left (Some h)) is in
+    undo_said f (f.rules.puzzle h.puzzle) h k outcome (call_taken_back f.rules.puzzle h k call valid takes gives)
+    (lines_are_calls f k undo_line (Act Undo) Laws.Undo outcome undo_asks refl
+    (subst (λ (o : Option (History P)). LineGives f o undo_line outcome) stays then))
+after_made f h call text new outcome valid takes made (Err fault, k, gives, told) then = absurd (not_refused call fault text k new made told)
 
 pub undo_line_takes_back : {P : Type 0} (f : GameFacts P) → UndoLineTakesBack f
-undo_line_takes_back f h line request call bytes said new last valid asks is takes made reply again =
-    after_made f h call bytes said new last valid takes made (replies_are_calls f h line request call bytes new asks is reply) again
+undo_line_takes_back f h line request call text new outcome valid asks is takes made first then =
+    after_made f h call text new outcome valid takes made (lines_are_calls f h line request call (Ok (text, new)) asks is first) then
 
--- what is said of a redo that succeeds
-redo_said : {P : Type 0} (f : GameFacts P) (h k : History P) (said : List ℕ) (last : Option (History P)) → redone k ≡ Ok h
-    → AnswersCall f k Laws.Redo said last → (said ≡ ok_line) × (last ≡ Some h)
-redo_said f h k said None back told = absurd told
-redo_said f h k said (Some z) back (Ok u, gives, told) = let same : z ≡ h = cc in (told, ap Some same)
-redo_said f h k said (Some z) back (Err fault, (stays, (exact, gives, is)), told) = cc
+-- what comes of a redo that succeeds
+redo_said : {P : Type 0} (f : GameFacts P) (h k : History P) (outcome : Outcome P) → redone k ≡ Ok h
+    → AnswersCall f k Laws.Redo outcome → outcome ≡ text_outcome h ok_line
+redo_said f h k outcome back (Ok u, last, gives, (text, made, is)) =
+    let same : last ≡ h = cc in is ∙ ap (text_outcome last) made ∙ ap (λ s. text_outcome s ok_line) same
+redo_said f h k outcome back (Err fault, last, (stays, (exact, gives, is)), told) = cc
 
-after_undo : {P : Type 0} (f : GameFacts P) (h : History P) (said : List ℕ) (new last : Option (History P))
-    → IsValid (f.rules.puzzle h.puzzle) h → AnswersCall f h Laws.Undo ok_line new → Reply f new redo_line said last
-    → (said ≡ ok_line) × (last ≡ Some h)
-after_undo f h said None last valid answer reply = absurd answer
-after_undo f h said (Some k) last valid (Ok u, gives, told) reply =
-    redo_said f h k said last (redo_takes_undo_back f.rules.puzzle h k valid (sym gives))
-    (replies_are_calls f k redo_line (Act Redo) Laws.Redo said last redo_asks refl reply)
-after_undo f h said (Some k) last valid (Err fault, gives, told) reply = absurd (not_ok ok_line (play_fault_name fault) refl told)
+after_undo : {P : Type 0} (f : GameFacts P) (h : History P) (text : List ℕ) (new : Option (History P)) (outcome : Outcome P)
+    → IsValid (f.rules.puzzle h.puzzle) h → AnswersCall f h Laws.Undo (Ok (text, new)) → LineGives f new redo_line outcome
+    → outcome ≡ text_outcome h ok_line
+after_undo {P} f h text new outcome valid (Ok u, k, gives, (said, made, is)) then =
+    let stays : new ≡ Some k = ap (left (Some h)) is in
+    redo_said f h k outcome (redo_takes_undo_back f.rules.puzzle h k valid (sym gives))
+    (lines_are_calls f k redo_line (Act Redo) Laws.Redo outcome redo_asks refl
+    (subst (λ (o : Option (History P)). LineGives f o redo_line outcome) stays then))
+after_undo f h text new outcome valid (Err fault, k, gives, told) then = cc
 
 pub redo_line_takes_undo_back : {P : Type 0} (f : GameFacts P) → RedoLineTakesUndoBack f
-redo_line_takes_undo_back f h said new last valid reply again =
-    after_undo f h said new last valid (replies_are_calls f h undo_line (Act Undo) Laws.Undo ok_line new undo_asks refl reply) again
+redo_line_takes_undo_back f h text new outcome valid first then =
+    after_undo f h text new outcome valid (lines_are_calls f h undo_line (Act Undo) Laws.Undo (Ok (text, new)) undo_asks refl first) then

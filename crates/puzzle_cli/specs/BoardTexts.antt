@@ -22,6 +22,7 @@ marks_line b cell =
     if length (mark_digits (marks_at b cell)) == 0 then []
     else digit (cell % b.size) ∷ comma ∷ digit (cell / b.size) ∷ colon ∷ (mark_digits (marks_at b cell) ++ line_feed ∷ [])
 
+-- the lines of the squares that have marks, or a sentence where none has
 abbrev pub marks_lines : BoardValue → List ℕ
 marks_lines b = lines_or (codes "no marks") (flat_map (marks_line b) (range_with_len 0 (b.size * b.size)))
 

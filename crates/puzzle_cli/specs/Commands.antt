@@ -77,16 +77,19 @@ action_map f Redo = Redo
 action_map f Restart = Restart
 action_map f Solve = Solve
 
+-- a request with its text changed
 abbrev pub request_map : {X Y : Type 0} → (X → Y) → Request X → Request Y
 request_map f (Act action) = Act (action_map f action)
 request_map f (Tell view) = Tell view
 request_map f (Listing n) = Listing n
 
+-- a command with its text changed
 abbrev pub command_map : {X Y : Type 0} → (X → Y) → Command X → Command Y
 command_map f (New id) = New (f id)
 command_map f Quit = Quit
 command_map f (Ask request) = Ask (request_map f request)
 
+-- what was read, with its text changed
 abbrev pub read_map : {X Y : Type 0} → (X → Y) → Reading X → Reading Y
 read_map f (Ok None) = Ok None
 read_map f (Ok (Some command)) = Ok (Some (command_map f command))
@@ -96,12 +99,15 @@ read_map f (Err fault) = Err fault
 abbrev pub action_copied : {X : Type 0} → Action (Bor X) → Action X
 action_copied action = action_map (λ text. text.now) action
 
+-- a request with its text, and not the loan of it
 abbrev pub request_copied : {X : Type 0} → Request (Bor X) → Request X
 request_copied request = request_map (λ text. text.now) request
 
+-- a command with its text
 abbrev pub command_copied : {X : Type 0} → Command (Bor X) → Command X
 command_copied command = command_map (λ text. text.now) command
 
+-- what was read, with its text
 abbrev pub read_copied : {X : Type 0} → Reading (Bor X) → Reading X
 read_copied read = read_map (λ text. text.now) read
 

@@ -3,11 +3,13 @@ use Rattle.std.specs.Prelude.{ℕ, List, [], codes}
 use Rattle.puzzle_cli.specs.declared.run_end.End.{End}
 use Rattle.puzzle_cli.specs.declared.run_end.End.TheVariants.{Finished, ReadFault, WriteFault}
 
+-- the number of an end
 abbrev pub end_number : End → ℕ
 end_number Finished = 1
 end_number ReadFault = 2
 end_number WriteFault = 3
 
+-- the name of an end
 abbrev pub end_name : End → List ℕ
 end_name Finished = codes "Finished"
 end_name ReadFault = codes "ReadFault"

@@ -4,16 +4,16 @@ use Rattle.puzzle_cli.specs.declared.start.command_fault.CommandFault.TheVariant
 use Rattle.puzzle_cli.specs.declared.start.command_fault.CommandFault.TheVariants.{OutOfMemory as WordsOutOfMemory}
 use Rattle.puzzle_cli.specs.CommandFault.{command_fault_status}
 use Rattle.puzzle_cli.specs.StartFault.{start_fault_status, start_fault_line}
-use Rattle.puzzle_cli.specs.End.{end_status, end_fault_line}
 use Rattle.puzzle_cli.specs.declared.fault.Fault.{Fault}
-use Rattle.puzzle_cli.specs.declared.fault.Fault.TheVariants.{Words, Start, Run, LoadFile, SaveFile, Output, OutOfMemory}
+use Rattle.puzzle_cli.specs.declared.fault.Fault.TheVariants.{Words, Start, LoadFile, SaveFile, Input, Output, OutOfMemory}
 
+-- the status of the program
 abbrev pub fault_status : Fault → ℕ
 fault_status (Words fault) = command_fault_status fault
 fault_status (Start fault) = start_fault_status fault
-fault_status (Run end) = end_status end
 fault_status LoadFile = 1
 fault_status (SaveFile left) = 1
+fault_status Input = 1
 fault_status Output = 1
 fault_status OutOfMemory = 1
 
@@ -23,9 +23,9 @@ fault_line (Words (BadWords text)) = []
 fault_line (Words (HelpAsked text)) = []
 fault_line (Words WordsOutOfMemory) = codes "out of memory"
 fault_line (Start fault) = start_fault_line fault
-fault_line (Run end) = end_fault_line end
 fault_line LoadFile = codes "cannot read the file"
 fault_line (SaveFile left) = codes "cannot write the file"
+fault_line Input = codes "cannot read the input"
 fault_line Output = codes "cannot write the output"
 fault_line OutOfMemory = codes "out of memory"
 
@@ -34,7 +34,7 @@ abbrev pub fault_left_at : Fault → Option (List ℕ)
 fault_left_at (SaveFile left) = option_map string_bytes left
 fault_left_at (Words fault) = None
 fault_left_at (Start fault) = None
-fault_left_at (Run end) = None
 fault_left_at LoadFile = None
+fault_left_at Input = None
 fault_left_at Output = None
 fault_left_at OutOfMemory = None

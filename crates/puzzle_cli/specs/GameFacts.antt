@@ -1,7 +1,8 @@
 -- What the replies know of a game, in one record.
-use Rattle.std.specs.Prelude.{ℕ, Bool, List, Result}
+use Rattle.std.specs.Prelude.{ℕ, Bool, List, [], Result}
 use Rattle.latin_board.specs.Boards.{BoardValue}
 use Rattle.clue_rules.specs.declared.id_fault.IdFault.{IdFault}
+use Rattle.clue_rules.specs.Parameters.{has_adjacent_mode}
 use Rattle.clue_rules.specs.declared.game.Game.{Ghosts as OfGame}
 use Rattle.trail_solver.specs.declared.rules.Rules.{Ghosts}
 use Rattle.puzzle_cli.specs.declared.draw.Draw.{Ghosts as OfDraw}
@@ -18,15 +19,23 @@ pub record GameFacts (P : Type 0) : Type 1 where
   pub desc_of : P → List ℕ
   pub drawing : P → BoardValue → List ℕ
 
--- the facts of a game, by what its traits say
-abbrev pub facts_of : {P : Type 0} → Ghosts P → OfGame P → OfDraw P → GameFacts P
-facts_of rules game draw = record {
+-- the facts of a game whose boards are drawn so, by what its traits say
+abbrev pub facts_with : {P : Type 0} → Ghosts P → OfGame P → (P → BoardValue → List ℕ) → GameFacts P
+facts_with rules game drawing = record {
   title = game.title;
   letters = game.letter_codes;
-  has_adjacent = game.has_adjacent;
+  has_adjacent = has_adjacent_mode game.title;
   rules = rules;
   describes = game.describes;
   desc_at = game.desc_at;
   desc_of = game.desc_of;
-  drawing = draw.drawing;
+  drawing = drawing;
 }
+
+-- the facts of a game that has pictures
+abbrev pub facts_of : {P : Type 0} → Ghosts P → OfGame P → OfDraw P → GameFacts P
+facts_of rules game draw = facts_with rules game draw.drawing
+
+-- the facts of any game, as far as a session begins by them: no picture is drawn yet
+abbrev pub undrawn_facts : {P : Type 0} → Ghosts P → OfGame P → GameFacts P
+undrawn_facts rules game = facts_with rules game (λ puzzle board. [])

@@ -19,6 +19,7 @@ abbrev pub IsIdRead : {P : Type 0} → GameFacts P → List ℕ → Result (Game
 IsIdRead f text (Ok id) = IsIdText f.letters (describes_at f.rules.puzzle f.rules.valid f.describes) id text
 IsIdRead f text (Err fault) = id_at f.letters f.has_adjacent f.desc_at text ≡ Err fault
 
+-- nothing that a save has kept
 abbrev pub no_extras : Extras
 no_extras = record { seed = None; auxinfo = None; ui = None; time = None }
 

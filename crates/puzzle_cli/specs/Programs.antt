@@ -14,7 +14,6 @@ use Rattle.puzzle_cli.specs.Lines.{ReplyRule}
 use Rattle.puzzle_cli.specs.Commands.{is_quit}
 use Rattle.puzzle_cli.specs.GameFacts.{GameFacts}
 use Rattle.puzzle_cli.specs.NewSessions.{TextBegins}
-use Rattle.puzzle_cli.specs.Replies.{Reply}
 use Rattle.puzzle_cli.specs.RunLaws.{IsNoneOrStorable}
 use Rattle.puzzle_cli.specs.Runs.{Point, Ends}
 use Rattle.puzzle_cli.specs.Starts.{saved_facts}
@@ -97,14 +96,10 @@ IsUnsaved writes path text fault = (((left : Option Word) × (fault ≡ SaveFile
 -- ---- all of it
 
 -- the file was read, the game was played and finished, and its text was saved, each where there is one
-pub record IsDoneBy {P : Type 0} (f : GameFacts P) (reply : GameReply P) (reads : Reads) (writes : Writes) (args : Args)
+pub record IsDone {P : Type 0} (f : GameFacts P) (reply : GameReply P) (reads : Reads) (writes : Writes) (args : Args)
     (old new : Devices P) : Type 0 where
   pub bytes : Option (List ℕ)
   pub text : Option (List ℕ)
   pub played : IsPlayed f reply args.id bytes args.save old new text
   pub loaded : IsLoaded reads args.load bytes
   pub saved : IsSaved writes args.save text
-
--- all of it, where the replies are the plain ones
-abbrev pub IsDone : {P : Type 0} → GameFacts P → Reads → Writes → Args → Devices P → Devices P → Type 0
-IsDone f reads writes args old new = IsDoneBy f (Reply f) reads writes args old new

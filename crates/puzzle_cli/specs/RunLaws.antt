@@ -1,5 +1,5 @@
 -- Laws of the replies to lines, over what is written and what is left: any run's, since a run writes nothing but replies.
-use Rattle.std.specs.Prelude.{◌≡◌, ◌⊎◌, ℕ, ◌<◌, ◌≤◌, ◌^◌, true, IsTrue, codes, List, ◌∷◌, ◌++◌, length, Option, Some, None, unwrap_or, Result, Ok, Err}
+use Rattle.std.specs.Prelude.{◌≡◌, ◌⊎◌, ℕ, ◌<◌, ◌≤◌, ◌^◌, true, IsTrue, codes, List, ◌∷◌, ◌++◌, length, Option, Some, None, Result, Ok, Err}
 use Rattle.std.specs.Fmt.{decimal}
 use Rattle.std.specs.Option.{IsSomeAnd}
 use Rattle.byte_text.specs.Bytes.{exclamation}
@@ -13,7 +13,6 @@ use Rattle.puzzle_gen.specs.SeededSquares.{square_of}
 use Rattle.puzzle_gen.specs.Pruning.{all_but}
 use Rattle.play_midend.specs.declared.fault.PlayFault.{PlayFault}
 use Rattle.play_midend.specs.declared.moves.Move.TheVariants.{Solve as Filling}
-use Rattle.play_midend.specs.Faults.{play_fault_name}
 use Rattle.play_midend.specs.Histories.{History, IsValid, IsStorable}
 use Rattle.play_midend.specs.Laws.{Call, ToSolution, IsSameBack, Answered, may_take_memory}
 use Rattle.play_save.specs.declared.fault.LoadFault.TheVariants.{TooLarge}
@@ -21,6 +20,7 @@ use Rattle.play_save.specs.declared.save_format.TheConstants.{MOST_BYTES}
 use Rattle.puzzle_cli.specs.declared.command.Command.TheVariants.{Ask}
 use Rattle.puzzle_cli.specs.declared.command.Request.{Request}
 use Rattle.puzzle_cli.specs.declared.command.Request.TheVariants.{Act}
+use Rattle.puzzle_cli.specs.declared.reply.refusal.Refusal.TheVariants.{Memory}
 use Rattle.puzzle_cli.specs.declared.start.start_fault.StartFault.{StartFault}
 use Rattle.puzzle_cli.specs.declared.start.start_fault.StartFault.TheVariants.{Load, OutOfMemory}
 use Rattle.puzzle_cli.specs.Lines.{Line}
@@ -28,8 +28,8 @@ use Rattle.puzzle_cli.specs.Commands.{Reading, IsRead}
 use Rattle.puzzle_cli.specs.GameFacts.{GameFacts}
 use Rattle.puzzle_cli.specs.Starts.{FileBegins}
 use Rattle.puzzle_cli.specs.SolutionTexts.{move_line, grid_line}
-use Rattle.puzzle_cli.specs.SessionReplies.{ok_line, shown_board, IsCallRead, call_sentence}
-use Rattle.puzzle_cli.specs.Replies.{refusal_line, AmpleReply, Reply}
+use Rattle.puzzle_cli.specs.SessionReplies.{Outcome, text_outcome, sentence_outcome, ok_line, shown_board, IsCallRead, call_sentence}
+use Rattle.puzzle_cli.specs.Replies.{LineGives, AmpleGives, AmpleReply, left}
 use Rattle.puzzle_cli.specs.Runs.{RepliesInTurn}
 
 -- ---- lines
@@ -45,15 +45,6 @@ abbrev pub Asks : Line → Request (List ℕ) → Type 0
 Asks line request = IsRead line (Ok (Some (Ask request)))
 
 -- ---- any line
-
--- the bytes name a refusal
-abbrev pub IsRefusalLine : List ℕ → Type 0
-IsRefusalLine bytes = (name : List ℕ) × (bytes ≡ refusal_line name)
-
--- a line that is refused leaves the session
-abbrev pub RefusedLinesLeave : {P : Type 0} → GameFacts P → Type 0
-RefusedLinesLeave {P} f =
-    (old new : Option (History P)) (line : Line) (bytes : List ℕ) → Reply f old line bytes new → IsRefusalLine bytes → new ≡ old
 
 -- with ample memory there is one output and one session for each list of lines
 abbrev pub OutputIsOne : {P : Type 0} → GameFacts P → Type 0
@@ -79,11 +70,11 @@ abbrev pub IsNoneOrStorable : {P : Type 0} → GameFacts P → Option (History P
 IsNoneOrStorable f None = Unit {0}
 IsNoneOrStorable f (Some h) = IsStorable f.rules.puzzle f.rules.valid f.letters h
 
--- each reply leaves one where it began with one
-abbrev pub RepliesStayStorable : {P : Type 0} → GameFacts P → Type 0
-RepliesStayStorable {P} f =
-    (old new : Option (History P)) (line : Line) (bytes : List ℕ)
-    → IsNoneOrStorable f old → Reply f old line bytes new → IsNoneOrStorable f new
+-- each answer leaves one where it began with one
+abbrev pub AnswersStayStorable : {P : Type 0} → GameFacts P → Type 0
+AnswersStayStorable {P} f =
+    (old : Option (History P)) (line : Line) (outcome : Outcome P)
+    → IsNoneOrStorable f old → LineGives f old line outcome → IsNoneOrStorable f (left old outcome)
 
 -- ---- the session's own calls
 
@@ -92,42 +83,42 @@ abbrev pub IsCallOf : Request (List ℕ) → Call → Type 0
 IsCallOf (Act action) call = IsCallRead action (Ok call)
 IsCallOf _ call = ⊥
 
--- what is said of a call: of a solution its move, else `ok`; the name of a refusal, or why there is no solution to fill in
+-- what is said of a call that was made: of a solution its move, else `ok`
 abbrev pub IsMade : Call → List ℕ → Type 0
-IsMade ToSolution bytes = (g : GridValue) × (bytes ≡ move_line (Filling g))
-IsMade _ bytes = bytes ≡ ok_line
+IsMade ToSolution text = (g : GridValue) × (text ≡ move_line (Filling g))
+IsMade _ text = text ≡ ok_line
 
-abbrev pub IsRefused : Call → PlayFault → List ℕ → Type 0
-IsRefused call fault bytes = bytes ≡ unwrap_or (call_sentence call fault) (refusal_line (play_fault_name fault))
+-- what comes of a call's answer: the text; the refusal, or why there is no solution to fill in
+abbrev pub IsToldOf : {P : Type 0} → Call → Result (Unit {0}) PlayFault → History P → Outcome P → Type 0
+IsToldOf call (Ok u) new outcome = (text : List ℕ) × IsMade call text × (outcome ≡ text_outcome new text)
+IsToldOf call (Err fault) new outcome = outcome ≡ sentence_outcome new (call_sentence call fault) fault
 
-abbrev pub IsToldOf : Call → Result (Unit {0}) PlayFault → List ℕ → Type 0
-IsToldOf call (Ok u) bytes = IsMade call bytes
-IsToldOf call (Err fault) bytes = IsRefused call fault bytes
+-- the session answered the call, and the outcome tells the answer and the session that the call left
+abbrev pub AnswersCall : {P : Type 0} → GameFacts P → History P → Call → Outcome P → Type 0
+AnswersCall {P} f h call outcome =
+    (answer : Result (Unit {0}) PlayFault) × (new : History P)
+    × Answered (f.rules.puzzle h.puzzle) h call answer new × IsToldOf call answer new outcome
 
--- a session that answered the call is left, and the bytes tell the answer
-abbrev pub AnswersCall : {P : Type 0} → GameFacts P → History P → Call → List ℕ → Option (History P) → Type 0
-AnswersCall f h call bytes new =
-    IsSomeAnd new (λ k. (answer : Result (Unit {0}) PlayFault)
-    × Answered (f.rules.puzzle h.puzzle) h call answer k × IsToldOf call answer bytes)
-
--- a line that asks for a call: the session answers the call, and the reply tells the answer
-abbrev pub RepliesAreCalls : {P : Type 0} → GameFacts P → Type 0
-RepliesAreCalls {P} f =
-    (h : History P) (line : Line) (request : Request (List ℕ)) (call : Call) (bytes : List ℕ) (new : Option (History P))
-    → Asks line request → IsCallOf request call → Reply f (Some h) line bytes new
-    → AnswersCall f h call bytes new
+-- a line that asks for a call: the session answers the call, and this is what comes of it
+abbrev pub LinesAreCalls : {P : Type 0} → GameFacts P → Type 0
+LinesAreCalls {P} f =
+    (h : History P) (line : Line) (request : Request (List ℕ)) (call : Call) (outcome : Outcome P)
+    → Asks line request → IsCallOf request call → LineGives f (Some h) line outcome → AnswersCall f h call outcome
 
 -- a line that asks for no call leaves the session
 abbrev pub OtherRequestsLeave : {P : Type 0} → GameFacts P → Type 0
 OtherRequestsLeave {P} f =
-    (h : History P) (line : Line) (request : Request (List ℕ)) (bytes : List ℕ) (new : Option (History P))
-    → Asks line request → ((call : Call) → IsCallOf request call → ⊥) → Reply f (Some h) line bytes new → new ≡ Some h
+    (h : History P) (line : Line) (request : Request (List ℕ)) (outcome : Outcome P)
+    → Asks line request → ((call : Call) → IsCallOf request call → ⊥) → LineGives f (Some h) line outcome
+    → left (Some h) outcome ≡ Some h
 
 -- ---- undo and redo
 
+-- the line `undo`
 abbrev pub undo_line : Line
 undo_line = Some (codes "undo")
 
+-- the line `redo`
 abbrev pub redo_line : Line
 redo_line = Some (codes "redo")
 
@@ -135,29 +126,28 @@ redo_line = Some (codes "redo")
 -- parameters and kept bytes are as before
 abbrev pub UndoLineTakesBack : {P : Type 0} → GameFacts P → Type 0
 UndoLineTakesBack {P} f =
-    (h : History P) (line : Line) (request : Request (List ℕ)) (call : Call) (bytes said : List ℕ) (new last : Option (History P))
-    → IsValid (f.rules.puzzle h.puzzle) h → Asks line request → IsCallOf request call → may_take_memory call ≡ true → IsMade call bytes
-    → Reply f (Some h) line bytes new → Reply f new undo_line said last
-    → (said ≡ ok_line) × IsSomeAnd last (IsSameBack (f.rules.puzzle h.puzzle) h)
+    (h : History P) (line : Line) (request : Request (List ℕ)) (call : Call) (text : List ℕ) (new : Option (History P)) (outcome : Outcome P)
+    → IsValid (f.rules.puzzle h.puzzle) h → Asks line request → IsCallOf request call → may_take_memory call ≡ true → IsMade call text
+    → LineGives f (Some h) line (Ok (text, new)) → LineGives f new undo_line outcome
+    → (last : History P) × (outcome ≡ text_outcome last ok_line) × IsSameBack (f.rules.puzzle h.puzzle) h last
 
--- `undo` that answered `ok`, and then `redo`: it answers `ok`, and the whole session is as before, later moves included
+-- `undo` that wasn't refused, and then `redo`: it answers `ok`, and the whole session is as before, later moves included
 abbrev pub RedoLineTakesUndoBack : {P : Type 0} → GameFacts P → Type 0
 RedoLineTakesUndoBack {P} f =
-    (h : History P) (said : List ℕ) (new last : Option (History P)) → IsValid (f.rules.puzzle h.puzzle) h
-    → Reply f (Some h) undo_line ok_line new → Reply f new redo_line said last → (said ≡ ok_line) × (last ≡ Some h)
+    (h : History P) (text : List ℕ) (new : Option (History P)) (outcome : Outcome P) → IsValid (f.rules.puzzle h.puzzle) h
+    → LineGives f (Some h) undo_line (Ok (text, new)) → LineGives f new redo_line outcome → outcome ≡ text_outcome h ok_line
 
--- ---- one reply
+-- ---- one answer
 
--- with ample memory the line is answered by these bytes and leaves this session; the one other reply is OutOfMemory, and leaves
--- what there was
-pub record IsTheReply {P : Type 0} (f : GameFacts P) (old : Option (History P)) (line : Line) (bytes : List ℕ) (new : Option (History P))
+-- with ample memory the line is answered by this text and leaves this session; the one other outcome is the refusal Memory
+pub record IsTheAnswer {P : Type 0} (f : GameFacts P) (old : Option (History P)) (line : Line) (text : List ℕ) (new : Option (History P))
     : Type 0 where
-  pub ample : AmpleReply f old line bytes new
-  pub others : (said : List ℕ) (left : Option (History P)) → Reply f old line said left
-      → ((said ≡ bytes) × (left ≡ new)) ⊎ ((said ≡ refusal_line (codes "OutOfMemory")) × (left ≡ old))
+  pub ample : AmpleGives f old line (Ok (text, new))
+  pub others : (outcome : Outcome P) → LineGives f old line outcome → (outcome ≡ Ok (text, new)) ⊎ (outcome ≡ Err Memory)
 
 -- ---- saving and loading
 
+-- the line `save`
 abbrev pub save_line : Line
 save_line = Some (codes "save")
 
@@ -166,11 +156,11 @@ abbrev pub IsLoadedBack : {P : Type 0} → History P → List ℕ → Result (Hi
 IsLoadedBack h bytes (Ok first) = first ≡ h
 IsLoadedBack h bytes (Err fault) = (fault ≡ OutOfMemory) ⊎ ((MOST_BYTES < length bytes) × (fault ≡ Load TooLarge))
 
--- The reply to `save`, as a file, begins the session again, and no other; it does so where it is no longer than a save may be.
+-- The answer to `save`, as a file, begins the session again, and no other; it does so where it is no longer than a save may be.
 abbrev pub SaveLineLoadsBack : {P : Type 0} → GameFacts P → Type 0
 SaveLineLoadsBack {P} f =
     (h : History P) → IsNoneOrStorable f (Some h)
-    → (bytes : List ℕ) × IsTheReply f (Some h) save_line bytes (Some h)
+    → (bytes : List ℕ) × IsTheAnswer f (Some h) save_line bytes (Some h)
     × ((first : Result (History P) StartFault) → FileBegins f bytes first → IsLoadedBack h bytes first)
     × (length bytes ≤ MOST_BYTES → FileBegins f bytes (Ok h))
 
@@ -180,9 +170,11 @@ SaveLineLoadsBack {P} f =
 abbrev pub seeded_line : Params → ℕ → Line
 seeded_line params seed = Some (codes "new " ++ params_text params ++ exclamation ∷ decimal seed)
 
+-- the line `solve`
 abbrev pub solve_line : Line
 solve_line = Some (codes "solve")
 
+-- the line `list 2`
 abbrev pub list_two_line : Line
 list_two_line = Some (codes "list 2")
 
@@ -193,12 +185,12 @@ pub record HasJustOne {P : Type 0} (f : GameFacts P) (g : GridValue) (h : Histor
   pub needed : (i : ℕ) → i < f.rules.items_of (f.rules.puzzle h.puzzle).size → IsTrue (f.rules.has h.puzzle i)
       → HasSeveralSolutions (f.rules.puzzle (f.rules.cut h.puzzle (all_but i)))
   pub solved : History P
-  pub solves : IsTheReply f (Some h) solve_line (move_line (Filling g)) (Some solved)
+  pub solves : IsTheAnswer f (Some h) solve_line (move_line (Filling g)) (Some solved)
   pub shows : (shown_board f solved).numbers ≡ g.numbers
-  pub listed : IsTheReply f (Some h) list_two_line (grid_line g) (Some h)
+  pub listed : IsTheAnswer f (Some h) list_two_line (grid_line g) (Some h)
 
 -- the game of a seed that was begun: its puzzle has just the seed's square as solution
 abbrev pub SeededLinesHaveOne : {P : Type 0} → GameFacts P → Type 0
 SeededLinesHaveOne {P} f =
-    (old new : Option (History P)) (params : Params) (seed : ℕ) → IsParams f.letters params → seed < 2 ^ 64
-    → Reply f old (seeded_line params seed) ok_line new → IsSomeAnd new (HasJustOne f (square_of params.size seed))
+    (old new : Option (History P)) (params : Params) (seed : ℕ) (text : List ℕ) → IsParams f.letters params → seed < 2 ^ 64
+    → LineGives f old (seeded_line params seed) (Ok (text, new)) → IsSomeAnd new (HasJustOne f (square_of params.size seed))

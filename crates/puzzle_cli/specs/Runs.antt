@@ -36,9 +36,11 @@ pub record Progress (S : Type 0) : Type 0 where
   pub taken : Option (List ℕ)
   pub failed : Bool
 
+-- how far they have come, by a session and a sink
 abbrev pub progress_at : {S W : Type 0} → OfSink W → S → W → Progress S
 progress_at of_sink session sink = record { session = session; taken = of_sink.taken sink; failed = of_sink.has_failed sink }
 
+-- how far they have come at a point of a run
 abbrev pub progress_of : {S : Type 0} → Point S → Progress S
 progress_of point = record { session = point.session; taken = point.taken; failed = point.write_failed }
 
@@ -49,10 +51,12 @@ RepliesInTurn {S} reply (line ∷ lines) old written new =
     (bytes : List ℕ) × (mid : S) × (rest : List ℕ) × reply old line bytes mid × (written ≡ bytes ++ rest)
     × RepliesInTurn reply lines mid rest new
 
+-- whether one of the lines ends the run
 abbrev pub has_quit : (Line → Bool) → List Line → Bool
 has_quit quit [] = false
 has_quit quit (line ∷ lines) = if quit line then true else has_quit quit lines
 
+-- the lines before the first that does
 abbrev pub before_quit : (Line → Bool) → List Line → List Line
 before_quit quit [] = []
 before_quit quit (line ∷ lines) = if quit line then [] else line ∷ before_quit quit lines

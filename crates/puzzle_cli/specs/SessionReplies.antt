@@ -18,13 +18,14 @@ use Rattle.puzzle_cli.specs.declared.command.Action.TheVariants.{Play, Undo, Red
 use Rattle.puzzle_cli.specs.declared.command.View.{View}
 use Rattle.puzzle_cli.specs.declared.command.View.TheVariants.{Show, Marks, Status, Id, Done, Save}
 use Rattle.puzzle_cli.specs.declared.reply.refusal.Refusal.{Refusal}
-use Rattle.puzzle_cli.specs.declared.reply.refusal.Refusal.TheVariants
+use Rattle.puzzle_cli.specs.Refusals.{play_refusal}
 use Rattle.puzzle_cli.specs.BoardTexts.{marks_lines, status_words, done_lines}
 use Rattle.puzzle_cli.specs.SolutionTexts.{listed_lines, IsLastMove, solve_sentence}
 use Rattle.play_save.specs.Written.{save_of}
 use Rattle.puzzle_cli.specs.GameFacts.{GameFacts}
 use Rattle.byte_text.specs.Bytes.{line_feed, colon}
 
+-- the line of a call that was made
 abbrev pub ok_line : List ℕ
 ok_line = codes "ok" ++ line_feed ∷ []
 
@@ -41,8 +42,8 @@ abbrev pub shown_board : {P : Type 0} → GameFacts P → History P → BoardVal
 shown_board f h = shown (f.rules.puzzle h.puzzle) h
 
 -- the ID of the game that is played, in its written form
-abbrev pub id_line : {P : Type 0} → GameFacts P → History P → List ℕ
-id_line f h = params_text h.params ++ colon ∷ [] ++ f.desc_of h.puzzle ++ line_feed ∷ []
+abbrev pub id_words : {P : Type 0} → GameFacts P → History P → List ℕ
+id_words f h = params_text h.params ++ colon ∷ [] ++ f.desc_of h.puzzle
 
 -- ---- calls
 
@@ -68,7 +69,7 @@ call_sentence call fault = None
 -- a sentence, or else the refusal
 abbrev pub sentence_outcome : {P : Type 0} → History P → Option (List ℕ) → PlayFault → Outcome P
 sentence_outcome h (Some sentence) fault = text_outcome h sentence
-sentence_outcome h None fault = Err (TheVariants.Play fault)
+sentence_outcome h None fault = Err (play_refusal fault)
 
 -- what is said of a call's answer
 abbrev pub CallSays : {P : Type 0} → History P → Call → Result (History P) PlayFault → Outcome P → Type 0
@@ -86,7 +87,7 @@ CallTakesMemory {P} p h call = (new : History P) × CallGives p h call (Ok new) 
 -- what is said to a call that was read, or to a text that is no move
 abbrev pub ReadReplies : {P : Type 0} → Puzzle → History P → Result Call PlayFault → Outcome P → Type 0
 ReadReplies p h (Ok call) outcome = CallReplies p h call outcome
-ReadReplies p h (Err fault) outcome = outcome ≡ Err (TheVariants.Play fault)
+ReadReplies p h (Err fault) outcome = outcome ≡ Err (play_refusal fault)
 
 -- ---- views
 
@@ -95,7 +96,7 @@ abbrev pub view_text : {P : Type 0} → GameFacts P → History P → View → L
 view_text f h Show = f.drawing h.puzzle (shown_board f h)
 view_text f h Marks = marks_lines (shown_board f h)
 view_text f h Status = status_words (shown_board f h) h.position (length h.moves + 1) ++ line_feed ∷ []
-view_text f h Id = id_line f h
+view_text f h Id = id_words f h ++ line_feed ∷ []
 view_text f h Done = done_lines (shown_board f h)
 view_text f h Save = save_of f.title f.desc_of h
 

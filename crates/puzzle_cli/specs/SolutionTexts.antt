@@ -15,9 +15,11 @@ use Rattle.byte_text.specs.Bytes.{line_feed, digit}
 abbrev pub grid_digits : GridValue → List ℕ
 grid_digits g = map digit g.numbers
 
+-- these digits as a line
 abbrev pub grid_line : GridValue → List ℕ
 grid_line g = grid_digits g ++ line_feed ∷ []
 
+-- the lines of some grids, or `none`
 abbrev pub listed_lines : List GridValue → List ℕ
 listed_lines listed = lines_or (codes "none") (flat_map grid_line listed)
 
@@ -29,12 +31,15 @@ move_line m = move_text m ++ line_feed ∷ []
 abbrev pub EndsInSolution : {P : Type 0} → History P → GridValue → Type 0
 EndsInSolution h g = slice_get h.moves (length h.moves - 1) ≡ Some (Solve g)
 
+-- the text is the line of the solution that was filled in last
 abbrev pub IsLastMove : {P : Type 0} → History P → List ℕ → Type 0
 IsLastMove h text = (g : GridValue) × EndsInSolution h g × (text ≡ move_line (Solve g))
 
+-- what `solve` says where there is no solution
 abbrev pub no_solution_line : List ℕ
 no_solution_line = codes "No solution exists for this puzzle" ++ line_feed ∷ []
 
+-- what `solve` says where there are several
 abbrev pub several_solutions_line : List ℕ
 several_solutions_line = codes "Multiple solutions exist for this puzzle" ++ line_feed ∷ []
 

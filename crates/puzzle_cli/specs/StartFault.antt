@@ -8,12 +8,14 @@ use Rattle.play_save.specs.Faults.{load_fault_name}
 use Rattle.puzzle_cli.specs.declared.start.start_fault.StartFault.{StartFault}
 use Rattle.puzzle_cli.specs.declared.start.start_fault.StartFault.TheVariants.{Id, Gen, Load, OutOfMemory}
 
+-- the number of a fault
 abbrev pub start_fault_number : StartFault → ℕ
 start_fault_number (Id fault) = 1
 start_fault_number (Gen fault) = 2
 start_fault_number (Load fault) = 3
 start_fault_number OutOfMemory = 4
 
+-- the name of a fault: that of what it comes from
 abbrev pub start_fault_name : StartFault → List ℕ
 start_fault_name (Id fault) = id_fault_name fault
 start_fault_name (Gen fault) = gen_fault_name fault

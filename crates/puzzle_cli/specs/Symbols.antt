@@ -9,6 +9,7 @@ use Rattle.byte_text.specs.Bytes.{line_feed, space, dot, digit}
 abbrev pub square_symbol : ℕ → ℕ
 square_symbol n = if n == 0 then dot else digit n
 
+-- the symbol of a square of the board
 abbrev pub square_at : BoardValue → ℕ → ℕ
 square_at b cell = square_symbol (number_at (grid_of b) cell)
 

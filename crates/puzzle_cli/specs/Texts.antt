@@ -3,6 +3,7 @@ use Rattle.std.specs.Prelude.{ℕ, List}
 use Rattle.puzzle_cli.specs.declared.reply.text.Text.{Text}
 use Rattle.puzzle_cli.specs.declared.reply.text.Text.TheVariants.{Short, Clues, Solved, Long}
 
+-- the bytes of a text
 abbrev pub text_bytes : Text → List ℕ
 text_bytes (Short text) = text.bytes
 text_bytes (Clues lines) = lines.items

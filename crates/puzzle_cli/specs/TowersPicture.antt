@@ -7,6 +7,7 @@ use Rattle.clue_rules.specs.Towers.{clue_of}
 use Rattle.puzzle_cli.specs.Symbols.{square_at, spaced_line}
 use Rattle.byte_text.specs.Bytes.{dash, digit}
 
+-- the byte at the corners of the picture
 abbrev pub corner : ℕ
 corner = 43
 
@@ -14,6 +15,7 @@ corner = 43
 abbrev pub clue_symbol : ℕ → ℕ
 clue_symbol clue = if clue == 0 then dash else digit clue
 
+-- the symbol of the clue at a place
 abbrev pub clue_at : TowersValue → ℕ → ℕ
 clue_at p place = clue_symbol (clue_of p place)
 

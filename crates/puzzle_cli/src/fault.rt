@@ -15,13 +15,13 @@ pub enum Fault {
     Words(CommandFault),
     /// The first session is refused.
     Start(StartFault),
-    /// A device failed in the run.
-    Run(End),
     /// The file to load can't be read.
     LoadFile,
     /// The file to save to can't be written. Where the save stands all the same, it is this path.
     SaveFile(Option<String>),
-    /// Help can't be written to standard output.
+    /// The input can't be read, or is too long.
+    Input,
+    /// The output can't be written.
     Output,
     /// A growth was refused.
     OutOfMemory,
@@ -35,8 +35,11 @@ impl Fault {
         match self {
             Fault::Words(fault) => fault.status(),
             Fault::Start(fault) => fault.status(),
-            Fault::Run(end) => end.status(),
-            Fault::LoadFile | Fault::SaveFile(_) | Fault::Output | Fault::OutOfMemory => 1,
+            Fault::LoadFile
+            | Fault::SaveFile(_)
+            | Fault::Input
+            | Fault::Output
+            | Fault::OutOfMemory => 1,
         }
     }
 
@@ -48,10 +51,10 @@ impl Fault {
             Fault::Words(CommandFault::BadWords(_) | CommandFault::HelpAsked(_)) => line_of(""),
             Fault::Words(CommandFault::OutOfMemory) => line_of("out of memory"),
             Fault::Start(fault) => fault.fault_line(),
-            Fault::Run(end) => end.fault_line(),
             Fault::LoadFile => line_of("cannot read the file"),
             Fault::SaveFile(_) => line_of("cannot write the file"),
-            Fault::Output => line_of("cannot write the output"),
+            Fault::Input => End::ReadFault.fault_line(),
+            Fault::Output => End::WriteFault.fault_line(),
             Fault::OutOfMemory => line_of("out of memory"),
         }
     }

@@ -4,11 +4,11 @@
 //! session, asks something of it, or ends the run. [`Draw`] is what a game adds to be played so: its picture. What is
 //! printed of a session can be had alone: [`picture`], [`marks_text`], [`status_text`] and [`done_text`].
 //!
-//! [`play`] is a whole game: from what the words of a command line say, over the file to load and a run, to the file that it is
-//! saved to. It knows files by the trait [`GameFiles`].
+//! What a line makes of a session is one call, [`obey`], and its answer a value: what is said, or the [`Refusal`]. A [`Format`] tells it in
+//! its words; [`Plain`] is that of [`run`], which is [`run_with`] at it. The loop over lines alone, for any [`Machine`], is [`run_machine`].
 //!
-//! Both answer plainly. [`run_with`] and [`play_with`] answer in any manner, which is a [`Voice`]; [`Plain`] is that of [`run`] and [`play`]. The loop
-//! over lines alone, for any [`Machine`], is [`run_machine`].
+//! [`play`] is a whole game in any format: from what the words of a command line say, over the file to load and a run, to the file that
+//! it is saved to. It knows files by the trait [`GameFiles`].
 //!
 //! A reply is made whole before its first byte is written. A refused line leaves the session as it was. [`laws`] has what holds
 //! of the replies in turn: `undo` and `redo`, refusals, that each reply is a step of the session's own calls, that what `save`
@@ -24,6 +24,7 @@
 mod command;
 mod draw;
 mod fault;
+mod format;
 mod line;
 mod program;
 mod reply;
@@ -32,16 +33,18 @@ mod run_laws;
 mod session_run;
 mod start;
 mod view;
-mod voice;
 
 pub use command::line_fault::LineFault;
 pub use draw::{Draw, picture};
 pub use fault::Fault;
+pub use format::{Format, Plain};
 pub use line::line_loop::run_machine;
 pub use line::machine::{Machine, Response};
 pub use program::game_files::{GameFiles, Unwritten};
-pub use program::{play, play_with};
+pub use program::play;
+pub use reply::answers::obey;
 pub use reply::facts::Facts;
+pub use reply::refusal::Refusal;
 pub use reply::text::Text;
 pub use run_end::End;
 pub use run_laws::laws;
@@ -52,6 +55,6 @@ pub use start::command_line::{Args, GameName, read_words, read_words_of};
 pub use start::program_texts::{PUZZLES, ProgramTexts};
 pub use start::start_fault::StartFault;
 pub use view::done_clues::done_text;
+pub use view::id::id_text;
 pub use view::pencil_marks::marks_text;
-pub use view::status::status_text;
-pub use voice::{Plain, Voice};
+pub use view::status::{status_text, status_word};

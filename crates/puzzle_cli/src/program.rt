@@ -2,7 +2,7 @@
 
 ghost use Rattle.std.specs.Prelude.{◌≡◌, ◌≢◌, false, IfErr, OnOk};
 ghost use Rattle.puzzle_cli.specs.Faults.{fault_status};
-ghost use Rattle.puzzle_cli.specs.Programs.{IsDone, IsDoneBy};
+ghost use Rattle.puzzle_cli.specs.Programs.{IsDone};
 ghost use Rattle.puzzle_cli.specs.Runs.{point_at};
 
 pub(crate) mod game_files;
@@ -10,25 +10,25 @@ pub(crate) mod game_text;
 
 use crate::draw::Draw;
 use crate::fault::Fault;
+use crate::format::Format;
 use crate::program::game_files::{GameFiles, load_file, save_file};
 use crate::program::game_text::game_text;
 use crate::reply::facts::Facts;
 use crate::start::command_line::{Args, GameName};
-use crate::voice::{Plain, Voice};
 use clue_rules::{Towers, Unequal};
 use puzzle_io::{Sink, Source};
 use std::alloc::Global;
 
-/// Plays the game that the words name, from the file to load to the file to save to.
+/// Plays the game that the words name, from the file to load to the file to save to, with replies in this format.
 ///
 /// The first session is that of the game ID, that of the file to load, or none. The lines of the source are answered to the sink
-/// as by [`run`](crate::run). The session that is left is saved, where there is one and the words name a file to save to.
+/// as by [`run_with`](crate::run_with). The session that is left is saved, where there is one and the words name a file to save to.
 ///
-/// `LoadFile` and `SaveFile` where a file can't be read or written, `Start` where the first session is refused, `Run` where a device
-/// failed, and `OutOfMemory`, each with a status other than 0. Nothing is saved after a fault.
+/// `LoadFile` and `SaveFile` where a file can't be read or written, `Start` where the first session is refused, `Input` and `Output`
+/// where a device failed, and `OutOfMemory`, each with a status other than 0. Nothing is saved after a fault.
 ///
 /// Where the words name both an ID and a file to load, the file is read and not used. Neither device has failed before.
-pub fn play<F: GameFiles, R: Source, W: Sink>(
+pub fn play<T: Format<Towers> + Format<Unequal>, F: GameFiles, R: Source, W: Sink>(
     alloc: Global,
     args: &Args,
     files: &F,
@@ -38,39 +38,12 @@ pub fn play<F: GameFiles, R: Source, W: Sink>(
     requires source { R.has_failed source.old ≡ false }
     requires sink { W.has_failed sink.old ≡ false }
     ensures towers { args.now.game ≡ GameName.Towers → OnOk result
-        (IsDone ⟦<Towers as Facts>⟧.facts (F.reads files.now) (F.writes files.now) args.now
-        (λ session. point_at R.Source W.Sink session source.old sink.old)
-        (λ session. point_at R.Source W.Sink session source.new sink.new)) }
-    ensures unequal { args.now.game ≡ GameName.Unequal → OnOk result
-        (IsDone ⟦<Unequal as Facts>⟧.facts (F.reads files.now) (F.writes files.now) args.now
-        (λ session. point_at R.Source W.Sink session source.old sink.old)
-        (λ session. point_at R.Source W.Sink session source.new sink.new)) }
-    ensures status { IfErr result (λ fault. fault_status fault ≢ 0) }
-    ensures flushed { OnOk result (W.flushed sink.old ≡ W.taken sink.old
-        → W.flushed sink.new ≡ W.taken sink.new) }
-{
-    play_with::<Plain, F, R, W>(alloc, args, files, source, sink)
-}
-
-/// Does so in any manner: as [`play`], whose manner is [`Plain`]. The sessions are saved as there.
-///
-/// Neither device has failed before.
-pub fn play_with<V: Voice<Towers> + Voice<Unequal>, F: GameFiles, R: Source, W: Sink>(
-    alloc: Global,
-    args: &Args,
-    files: &F,
-    source: &mut R,
-    sink: &mut W,
-) -> Result<(), Fault>
-    requires source { R.has_failed source.old ≡ false }
-    requires sink { W.has_failed sink.old ≡ false }
-    ensures towers { args.now.game ≡ GameName.Towers → OnOk result
-        (IsDoneBy ⟦<Towers as Facts>⟧.facts ⟦<V as Voice<Towers>>⟧.reply (F.reads files.now)
+        (IsDone ⟦<Towers as Facts>⟧.facts ⟦<T as Format<Towers>>⟧.reply (F.reads files.now)
         (F.writes files.now) args.now
         (λ session. point_at R.Source W.Sink session source.old sink.old)
         (λ session. point_at R.Source W.Sink session source.new sink.new)) }
     ensures unequal { args.now.game ≡ GameName.Unequal → OnOk result
-        (IsDoneBy ⟦<Unequal as Facts>⟧.facts ⟦<V as Voice<Unequal>>⟧.reply (F.reads files.now)
+        (IsDone ⟦<Unequal as Facts>⟧.facts ⟦<T as Format<Unequal>>⟧.reply (F.reads files.now)
         (F.writes files.now) args.now
         (λ session. point_at R.Source W.Sink session source.old sink.old)
         (λ session. point_at R.Source W.Sink session source.new sink.new)) }
@@ -79,13 +52,13 @@ pub fn play_with<V: Voice<Towers> + Voice<Unequal>, F: GameFiles, R: Source, W: 
         → W.flushed sink.new ≡ W.taken sink.new) }
 {
     match args.game {
-        GameName::Towers => play_as::<V, Towers, F, R, W>(alloc, args, files, source, sink),
-        GameName::Unequal => play_as::<V, Unequal, F, R, W>(alloc, args, files, source, sink),
+        GameName::Towers => play_as::<T, Towers, F, R, W>(alloc, args, files, source, sink),
+        GameName::Unequal => play_as::<T, Unequal, F, R, W>(alloc, args, files, source, sink),
     }
 }
 
 // Plays this game so, whichever the words name.
-fn play_as<V: Voice<P>, P: Draw, F: GameFiles, R: Source, W: Sink>(
+fn play_as<T: Format<P>, P: Draw, F: GameFiles, R: Source, W: Sink>(
     alloc: Global,
     args: &Args,
     files: &F,
@@ -95,7 +68,7 @@ fn play_as<V: Voice<P>, P: Draw, F: GameFiles, R: Source, W: Sink>(
     requires source { R.has_failed source.old ≡ false }
     requires sink { W.has_failed sink.old ≡ false }
     ensures done { OnOk result
-        (IsDoneBy ⟦<P as Facts>⟧.facts V.reply (F.reads files.now) (F.writes files.now) args.now
+        (IsDone ⟦<P as Facts>⟧.facts T.reply (F.reads files.now) (F.writes files.now) args.now
         (λ session. point_at R.Source W.Sink session source.old sink.old)
         (λ session. point_at R.Source W.Sink session source.new sink.new)) }
     ensures status { IfErr result (λ fault. fault_status fault ≢ 0) }
@@ -103,7 +76,7 @@ fn play_as<V: Voice<P>, P: Draw, F: GameFiles, R: Source, W: Sink>(
         → W.flushed sink.new ≡ W.taken sink.new) }
 {
     let bytes = load_file(files, &args.load)?;
-    let text = game_text::<V, P, R, W>(alloc, args, &bytes, source, sink)?;
+    let text = game_text::<T, P, R, W>(alloc, args, &bytes, source, sink)?;
     save_file(files, &args.save, &text)?;
     Ok(())
 }

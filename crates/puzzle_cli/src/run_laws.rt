@@ -1,14 +1,14 @@
-//! The laws of the replies to lines. They speak of what `run` writes and leaves, so the function here does nothing.
-ghost use Rattle.puzzle_cli.specs.RunLaws.{LinesAreReadOnce, RefusedLinesLeave, OutputIsOne, OutputIsThere, RepliesStayStorable, RepliesAreCalls, OtherRequestsLeave, UndoLineTakesBack, RedoLineTakesUndoBack, SaveLineLoadsBack, SeededLinesHaveOne};
+//! The laws of what lines make of sessions. They speak of what `obey` answers and `run` writes, so the function here does nothing.
+ghost use Rattle.puzzle_cli.specs.RunLaws.{LinesAreReadOnce, OutputIsOne, OutputIsThere, AnswersStayStorable, LinesAreCalls, OtherRequestsLeave, UndoLineTakesBack, RedoLineTakesUndoBack, SaveLineLoadsBack, SeededLinesHaveOne};
 
 use crate::draw::Draw;
 use crate::reply::facts::Facts;
 
-/// The laws of the replies that `run` gives to lines, in any game.
+/// The laws of what [`obey`](crate::obey) makes of lines, in any game; each format tells it in its words.
 ///
-/// Each line is read in one way. A line that is refused leaves the session. With ample memory there is one output and one
+/// Each line is read in one way. With ample memory there is one output and one
 /// session for each list of lines, where each seed has a puzzle or a refusal, as `generate` answers. Where a session can be
-/// stored, or there is none, so it is after each reply.
+/// stored, or there is none, so it is after each line.
 ///
 /// A line that asks for a call of the session is answered as the session answers the call; one that asks for anything else
 /// leaves the session. A move, a restart or a solution that was made and then `undo` give back the board, the past, the
@@ -19,11 +19,10 @@ use crate::reply::facts::Facts;
 /// without any one of its items; `solve` answers that solution, and `list 2` has it alone.
 pub fn laws<P: Draw>()
     ensures read_once { LinesAreReadOnce }
-    ensures refused { RefusedLinesLeave ⟦<P as Facts>⟧.facts }
     ensures one_output { OutputIsOne ⟦<P as Facts>⟧.facts }
     ensures output { OutputIsThere ⟦<P as Facts>⟧.facts }
-    ensures stays_storable { RepliesStayStorable ⟦<P as Facts>⟧.facts }
-    ensures calls { RepliesAreCalls ⟦<P as Facts>⟧.facts }
+    ensures stays_storable { AnswersStayStorable ⟦<P as Facts>⟧.facts }
+    ensures calls { LinesAreCalls ⟦<P as Facts>⟧.facts }
     ensures others { OtherRequestsLeave ⟦<P as Facts>⟧.facts }
     ensures undone { UndoLineTakesBack ⟦<P as Facts>⟧.facts }
     ensures redone { RedoLineTakesUndoBack ⟦<P as Facts>⟧.facts }

@@ -6,11 +6,11 @@ ghost use Rattle.puzzle_cli.specs.RunLaws.{IsNoneOrStorable};
 ghost use Rattle.puzzle_cli.specs.Runs.{point_at, Ends};
 
 use crate::draw::Draw;
+use crate::format::session_machine::SessionMachine;
+use crate::format::{Format, Plain};
 use crate::line::line_loop::run_machine;
 use crate::reply::facts::Facts;
 use crate::run_end::End;
-use crate::voice::spoken::Spoken;
-use crate::voice::{Plain, Voice};
 use play_midend::Session;
 use puzzle_io::{Sink, Source};
 use std::alloc::Global;
@@ -48,10 +48,10 @@ pub fn run<P: Draw, R: Source, W: Sink>(
     run_with::<Plain, P, R, W>(alloc, session, source, sink)
 }
 
-/// Does so in any manner: as [`run`], whose manner is [`Plain`].
+/// Does so in any format: as [`run`], whose format is [`Plain`].
 ///
 /// Neither device has failed before.
-pub fn run_with<V: Voice<P>, P: Draw, R: Source, W: Sink>(
+pub fn run_with<T: Format<P>, P: Draw, R: Source, W: Sink>(
     alloc: Global,
     session: Option<Session<P>>,
     source: &mut R,
@@ -61,13 +61,13 @@ pub fn run_with<V: Voice<P>, P: Draw, R: Source, W: Sink>(
     requires sink { W.has_failed sink.old ≡ false }
     ensures storable { IsNoneOrStorable ⟦<P as Facts>⟧.facts session
         → IsNoneOrStorable ⟦<P as Facts>⟧.facts result.0 }
-    ensures ends { Ends V.reply is_quit result.1
+    ensures ends { Ends T.reply is_quit result.1
         (point_at R.Source W.Sink session source.old sink.old)
         (point_at R.Source W.Sink result.0 source.new sink.new) }
     ensures flushed { W.flushed sink.old ≡ W.taken sink.old → result.1 ≢ End.WriteFault
         → W.flushed sink.new ≡ W.taken sink.new }
 {
-    let mut machine = Spoken::<V, P>::new(session);
+    let mut machine = SessionMachine::<T, P>::new(session);
     let end = run_machine(alloc, &mut machine, source, sink);
     (machine.into_session(), end)
 }

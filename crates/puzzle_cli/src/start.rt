@@ -1,12 +1,13 @@
 //! The first session of the program: of a game ID, of a file, or none.
 
 ghost use Rattle.std.specs.Prelude.{◌≡◌, Ok, None, IfOk, IfErr, IfSome, IsSomeAnd};
-ghost use Rattle.play_save.specs.SaveTexts.{SaveText};
+ghost use Rattle.play_save.specs.SaveTexts.{saves_of, SaveText};
 ghost use Rattle.play_save.specs.FirstFaults.{load_at};
 ghost use Rattle.puzzle_cli.specs.CommandLine.{NotBoth};
+ghost use Rattle.puzzle_cli.specs.GameFacts.{undrawn_facts};
 ghost use Rattle.puzzle_cli.specs.NewSessions.{TextBegins, IsStartRefusal};
 ghost use Rattle.puzzle_cli.specs.RunLaws.{IsNoneOrStorable};
-ghost use Rattle.puzzle_cli.specs.Starts.{saved_facts, IsFileRefusal};
+ghost use Rattle.puzzle_cli.specs.Starts.{IsFileRefusal};
 
 pub(crate) mod command_fault;
 pub(crate) mod command_line;
@@ -15,10 +16,9 @@ pub(crate) mod program_texts;
 pub(crate) mod refused_words;
 pub(crate) mod start_fault;
 
-use crate::draw::Draw;
-use crate::reply::facts::Facts;
 use crate::reply::new_session::new_session;
 use crate::start::start_fault::StartFault;
+use clue_rules::Game;
 use play_midend::Session;
 use play_save::load;
 use std::alloc::Global;
@@ -29,22 +29,22 @@ use std::alloc::Global;
 /// either where memory is refused, which is `StartFault::OutOfMemory` also where the fault inside says so.
 ///
 /// A session that it gives can be stored.
-pub fn begin<P: Draw>(
+pub fn begin<P: Game>(
     alloc: Global,
     id: Option<&[u8]>,
     file: Option<&[u8]>,
 ) -> Result<Option<Session<P>>, StartFault>
     requires { NotBoth id file }
     ensures none { id.entry ≡ None → file.entry ≡ None → result ≡ Ok None }
-    ensures storable { IfOk result (IsNoneOrStorable ⟦<P as Facts>⟧.facts) }
+    ensures storable { IfOk result (IsNoneOrStorable (undrawn_facts P.Rules P.Game.own)) }
     ensures of_id { IfSome id.entry (λ text. IfOk result (λ first. IsSomeAnd first (λ session.
-        TextBegins ⟦<P as Facts>⟧.facts text.now (Ok session)))) }
+        TextBegins (undrawn_facts P.Rules P.Game.own) text.now (Ok session)))) }
     ensures id_refused { IfSome id.entry (λ text. IfErr result
-        (IsStartRefusal (TextBegins ⟦<P as Facts>⟧.facts text.now))) }
+        (IsStartRefusal (TextBegins (undrawn_facts P.Rules P.Game.own) text.now))) }
     ensures of_file { IfSome file.entry (λ bytes. IfOk result (λ first. IsSomeAnd first (λ session.
-        SaveText (saved_facts ⟦<P as Facts>⟧.facts) session bytes.now))) }
+        SaveText (saves_of P.Rules P.Game.own) session bytes.now))) }
     ensures file_refused { IfSome file.entry (λ bytes. IfErr result
-        (IsFileRefusal (load_at (saved_facts ⟦<P as Facts>⟧.facts) bytes.now))) }
+        (IsFileRefusal (load_at (saves_of P.Rules P.Game.own) bytes.now))) }
 {
     match (id, file) {
         (Some(id), _) => Ok(Some(new_session(alloc, id)?)),

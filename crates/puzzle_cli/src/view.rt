@@ -2,5 +2,6 @@
 
 pub(crate) mod decimal_text;
 pub(crate) mod done_clues;
+pub(crate) mod id;
 pub(crate) mod pencil_marks;
 pub(crate) mod status;

@@ -50,6 +50,7 @@ line_once w d turns symbols f some step in_turn in_symbols made = λ v low high.
 
 -- ---- the square
 
+-- the number in a row and a column of it
 number_in : (w row column : ℕ) (rows columns symbols : List ℕ) → row < w → column < w
     → number_at (combined w rows columns symbols) (row * w + column)
     ≡ get_or symbols ((get_or rows row 0 + get_or columns column 0) % w) 0 + 1

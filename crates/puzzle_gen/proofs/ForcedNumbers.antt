@@ -1,5 +1,5 @@
 -- What rows and columns force stands so in every Latin square that has what was found.
-use Rattle.std.proofs.Common.{◌≡◌, ◌≢◌, ℕ, zero, suc, replicate, ◌+◌, ◌*◌, ◌/◌, ◌%◌, ◌<◌, ◌≤◌, Bool, true, false, List, length, get_or, set, inl, inr, refl, sym, ◌∙◌, ap, subst, arith}
+use Rattle.std.proofs.Common.{◌≡◌, ◌≢◌, ℕ, ◌+◌, ◌*◌, ◌/◌, ◌%◌, ◌<◌, ◌≤◌, Bool, true, false, List, length, get_or, set, inl, inr, refl, sym, ◌∙◌, ap, subst, arith}
 use Rattle.std.specs.Bool.{OnTrue}
 use Rattle.std.proofs.lemmas.Bool.{cases_eq}
 use Rattle.std.proofs.lemmas.List.{get_or-set_same, get_or-set_other}
@@ -111,12 +111,6 @@ full_is_only p found full size has two =
     a.each cell within (full.each cell within) ∙ sym (b.each cell within (full.each cell within))))
 
 -- ---- steps of the loops
-
--- at first nothing is seen
-pub none_seen : (n v : ℕ) → get_or (replicate n false) v false ≡ false
-none_seen zero v = refl
-none_seen (suc n) zero = refl
-none_seen (suc n) (suc v) = none_seen n v
 
 -- one square more is written
 pub written_more : (old new : GridValue) (f : ℕ → ℕ) (k value : ℕ) → new.numbers ≡ set old.numbers k value

@@ -8,6 +8,7 @@ use Rattle.trail_solver.specs.declared.rules.Rules.{Ghosts}
 use Rattle.trail_solver.specs.contracts.rules.Rules.TheBound.{Met}
 use Rattle.trail_solver.specs.Solutions.{IsOnlySolution}
 
+-- what a game owes of its items: how they are cut, and what the full puzzle of a grid has
 pub record ItemLaws {P : Type 0} (f : Ghosts P) : Type 0 where
   pub cut_valid : (p : P) (keep : ℕ → Bool) → f.valid p → f.valid (f.cut p keep)
   pub cut_size : (p : P) (keep : ℕ → Bool) → f.valid p → (f.puzzle (f.cut p keep)).size ≡ (f.puzzle p).size
@@ -65,6 +66,7 @@ full_only f g laws grid latin h s =
     let some : 0 < (f.puzzle (f.full_of g)).given cell = omega (arith, (latin_full g latin).each cell within, given) in
     s.givens cell there some ∙ given)
 
+-- what is cut from the full puzzle of a Latin square has the square as a solution, and its items are those that stayed
 pub cuts_of_full : {P : Type 0} (f : Ghosts P) (g : GridValue) → ItemLaws f → IsGrid g → IsLatin g → AreCuts f g
 cuts_of_full {P} f g laws grid latin =
     let is_valid = laws.full_valid g grid latin in

@@ -99,6 +99,7 @@ order_of_permutation n xs same =
 
 -- ---- lists that are filled up in place
 
+-- a range that was made has its length
 pub length_range_made : (n : ℕ) (xs : List ℕ) → xs ≡ range_with_len 0 n → length xs ≡ n
 length_range_made n xs made = ap length made ∙ length-range_with_len 0 n
 

@@ -272,6 +272,7 @@ same_kept {P} f g order p q cuts first second (suc k) i small before =
     same_bool (f.has p i) (f.has q i) (HasSeveralSolutions (f.puzzle (rest_puzzle f g order p i))) (first.each i small)
     (subst Rest (sym same) (second.each i small))
 
+-- pruning in one order gives one puzzle
 pub pruned_one : {P : Type 0} (f : Ghosts P) (g : GridValue) (order : List ℕ) (p q : P) → AreCuts f g → IsPruned f g order p
     → IsPruned f g order q → p ≡ q
 pruned_one f g order p q cuts first second =
@@ -282,6 +283,7 @@ pruned_one f g order p q cuts first second =
 
 -- ---- without any item that is kept there are two solutions
 
+-- without any item that stayed, there are several solutions
 pub pruned_needed : {P : Type 0} (f : Ghosts P) (g : GridValue) (order : List ℕ) (p : P) → AreCuts f g → IsPruned f g order p
     → (i : ℕ) → i < f.items_of g.size → IsTrue (f.has p i) → HasSeveralSolutions (f.puzzle (f.cut p (all_but i)))
 pruned_needed {P} f g order p cuts pruned i small there =

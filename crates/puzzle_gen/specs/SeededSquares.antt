@@ -25,6 +25,7 @@ abbrev pub seeded_number : ℕ → List ℕ → List ℕ → List ℕ → ℕ �
 seeded_number w rows columns symbols cell =
     slice_index symbols ((slice_index rows (cell / w) + slice_index columns (cell % w)) % w) + 1
 
+-- the grid of all these numbers
 abbrev pub combined : ℕ → List ℕ → List ℕ → List ℕ → GridValue
 combined w rows columns symbols =
     record { size = w; numbers = map (seeded_number w rows columns symbols) (range_with_len 0 (w * w)) }

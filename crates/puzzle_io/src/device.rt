@@ -1,8 +1,8 @@
 //! What a source and a sink of bytes have to keep, and the fault that both answer.
 
-ghost use Rattle.std.specs.Prelude.{◌≡◌, ℕ, ◌≤◌, Bool, true, Option, List, length, IfOk, OnOk, IsErr, is_err, is_some, codes};
+ghost use Rattle.std.specs.Prelude.{◌≡◌, ℕ, ◌≤◌, Bool, true, Option, None, List, length, IfOk, OnOk, IsErr, is_err, is_some, codes};
 ghost use Rattle.std.specs.Io.KnownBytes.{Keeps, ReadConsumes, WriteAppends};
-ghost use Rattle.puzzle_io.specs.Device.{write_failed};
+ghost use Rattle.puzzle_io.specs.Device.{IsPassedOn, write_failed};
 
 use thiserror::Error;
 
@@ -57,8 +57,8 @@ pub trait Sink {
     // The bytes that were taken, where the sink tells them. A sink tells them always or never.
     ghost taken: { Self → Option (List ℕ) };
 
-    // The bytes that had been taken when it was last flushed, told where those taken are.
-    ghost flushed: { Self → Option (List ℕ) };
+    // The bytes that had been taken when it was last flushed, where the sink tells them too. It tells them always or never.
+    ghost flushed: { Self → Option (List ℕ) } = { λ _. None };
 
     // Whether a write or a flush has failed, or a write of some bytes took none.
     ghost has_failed: { Self → Bool };
@@ -78,7 +78,8 @@ pub trait Sink {
     fn flush(&mut self) -> Result<(), DeviceFault>
         ensures bytes { Keeps (taken self.old) (taken self.new) }
         ensures told { is_some (taken self.new) ≡ is_some (taken self.old) }
-        ensures flushed { OnOk result (flushed self.new ≡ taken self.new) }
+        ensures flushed { OnOk result (IsPassedOn (flushed self.new) (taken self.new)) }
+        ensures flushed_told { is_some (flushed self.new) ≡ is_some (flushed self.old) }
         ensures failed { has_failed self.new ≡ is_err result }
         ensures stays_failed { has_failed self.old ≡ true → IsErr result };
 }

@@ -39,8 +39,6 @@ impl<W: Write> ToWrite<W> {
 impl<W: Write> Sink for ToWrite<W> {
     ghost taken = { λ _. None };
 
-    ghost flushed = { λ _. None };
-
     ghost has_failed = { λ s. s.failed };
 
     fn write(&mut self, bytes: &[u8]) -> Result<usize, DeviceFault>

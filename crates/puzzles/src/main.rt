@@ -1,7 +1,7 @@
 //! Towers and Unequal as programs: `puzzles GAME [--id ID] [--load FILE] [--save FILE]`, and `puzzles-json` with the same words.
 //!
 //! Each line of standard input is answered on standard output: by lines of text, or, where the program is called `puzzles-json`, by
-//! one JSON object on one line ([`manner`]). The words of the process, the file to load, the first session, the run from standard
+//! one JSON object on one line ([`program_name`]). The words of the process, the file to load, the first session, the run from standard
 //! input to standard output, the file to save to, in this order ([`whole_game`]). The first fault ends the program with its status and
 //! its line on standard error; help goes to standard output ([`ending`]).
 #![tactic(auto)]
@@ -9,8 +9,8 @@
 mod ending;
 mod json_texts;
 mod load_file;
-mod manner;
 mod process_words;
+mod program_name;
 mod system_files;
 mod whole_game;
 

@@ -4,22 +4,22 @@ ghost use Rattle.std.specs.Prelude.{IfErr};
 ghost use Rattle.puzzles.specs.Endings.{IsHelpOrFails};
 
 use crate::json_texts::PUZZLES_JSON;
-use crate::manner::{Manner, manner_of};
 use crate::process_words::{args, process_words};
+use crate::program_name::{ProgramName, program_name};
 use crate::system_files::SystemFiles;
 use clue_rules::{Towers, Unequal};
-use puzzle_cli::{Fault, PUZZLES, Plain, ProgramTexts, Voice, play_with};
+use json_replies::Json;
+use puzzle_cli::{Fault, Format, PUZZLES, Plain, ProgramTexts, play};
 use puzzle_io::{FromRead, ToWrite};
-use puzzle_json::Json;
 use std::fs::File;
 use std::io;
 use std::random::RandomSource;
 use std::rt::{Env, Files};
 
-/// Reads the command line and plays the game that it names, in the manner of the name that the program is called by, as
-/// [`play_with`](puzzle_cli::play_with) does: from standard input to standard output, over the files of the system.
+/// Reads the command line and plays the game that it names, in the format of the name that the program is called by, as
+/// [`play`](puzzle_cli::play) does: from standard input to standard output, over the files of the system.
 ///
-/// `Words` where the words of the process are refused, or ask for help; else the faults of `play_with`. Each but help has a status other
+/// `Words` where the words of the process are refused, or ask for help; else the faults of `play`. Each but help has a status other
 /// than 0.
 pub(crate) fn play_words<R: Env + Files<File = File> + RandomSource + Input + Print + AllocGlobal>(
     rt: &R,
@@ -27,15 +27,15 @@ pub(crate) fn play_words<R: Env + Files<File = File> + RandomSource + Input + Pr
     ensures { IfErr result IsHelpOrFails }
 {
     let words = process_words(rt).map_err(Fault::Words)?;
-    match manner_of(&words) {
-        Manner::Plain => play_in::<Plain, R>(rt, &PUZZLES, &words),
-        Manner::Objects => play_in::<Json, R>(rt, &PUZZLES_JSON, &words),
+    match program_name(&words) {
+        ProgramName::Puzzles => play_in::<Plain, R>(rt, &PUZZLES, &words),
+        ProgramName::PuzzlesJson => play_in::<Json, R>(rt, &PUZZLES_JSON, &words),
     }
 }
 
-// Does so in this manner, for a program with these texts.
+// Does so in this format, for a program with these texts.
 fn play_in<
-    V: Voice<Towers> + Voice<Unequal>,
+    T: Format<Towers> + Format<Unequal>,
     R: Files<File = File> + RandomSource + Input + Print + AllocGlobal,
 >(rt: &R, texts: &ProgramTexts, words: &[String]) -> Result<(), Fault>
     ensures { IfErr result IsHelpOrFails }
@@ -44,5 +44,5 @@ fn play_in<
     let files = SystemFiles { rt };
     let mut source = FromRead::new(rt.reader());
     let mut sink = ToWrite::new(io::writer(rt));
-    play_with::<V, _, _, _>(rt.alloc(), &args, &files, &mut source, &mut sink)
+    play::<T, _, _, _>(rt.alloc(), &args, &files, &mut source, &mut sink)
 }

@@ -6,15 +6,18 @@ use Rattle.safe_save.specs.Changes.{image_of, ChangesGoOn}
 use Rattle.safe_save.specs.declared.changes.FolderChange.{FolderChange}
 
 module _ (old : List FolderChange) (change : FolderChange) where
+  -- the changes with one more behind
   abbrev grown : List FolderChange
   grown = old ++ change ∷ []
 
+  -- there is one change more
   size : length grown ≡ length old + 1
   size = length-append old (change ∷ [])
 
   front : (k : ℕ) (name : List ℕ) → k ≤ length old → image_of (take k grown) name ≡ image_of (take k old) name
   front k name le = ap (λ all. image_of all name) (take-append-le k old (change ∷ []) le)
 
+  -- and with the last one, the folder is that of all changes
   whole : (k : ℕ) (name : List ℕ) → k ≡ length old + 1 → image_of (take k grown) name ≡ image_of grown name
   whole k name is = ap (λ all. image_of all name) (take_all k grown (omega (arith, size, is)))
 

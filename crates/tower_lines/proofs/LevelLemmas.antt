@@ -1,5 +1,5 @@
 -- The levels of starts: how a value at the end leads from one to another, and that each start that a filling begins with has one.
-use Rattle.std.proofs.Common.{◌≡◌, ◌≢◌, ℕ, ◌+◌, ◌-◌, ◌^◌, ◌<◌, ◌≤◌, ◌⊎◌, inl, inr, true, false, ◌||◌, eqb, ltb, List, [], ◌∷◌, ◌++◌, length, get_or, refl, sym, ap, ◌∙◌, arith, append_assoc, count_ones}
+use Rattle.std.proofs.Common.{◌≡◌, ◌≢◌, ℕ, ◌+◌, ◌-◌, ◌^◌, ◌<◌, ◌≤◌, ◌↔◌, inl, inr, true, false, ◌||◌, eqb, ltb, List, [], ◌∷◌, ◌++◌, length, get_or, refl, sym, ap, ◌∙◌, arith, append_assoc}
 use Rattle.std.specs.List.{list_all}
 use Rattle.std.proofs.lemmas.Bool.{eqb-true, eqb-false, eq-eqb, ne_eqb, lt-ltb, le-ltb, cases_eq, cases_lt, cases_Bool, false≢true, both_ways, or_left}
 use Rattle.std.proofs.Math.Bool.{or-false}
@@ -9,7 +9,7 @@ use Rattle.tower_lines.specs.TowersSeen.{seen, seen_after}
 use Rattle.number_sets.specs.Sets.{has_number}
 use Rattle.tower_lines.specs.LineFillings.{IsStart, IsFilling}
 use Rattle.tower_lines.specs.Inner.LineMasks.{is_in}
-use Rattle.tower_lines.specs.Inner.Levels.{IsLowMask, IsAtLevel, IsLastStep, IsLeastStep, IsLowStep, IsStep}
+use Rattle.tower_lines.specs.Inner.Levels.{LacksLeast, IsMove, IsLowMask, IsAtLevel, IsLastStep, IsLeastStep, IsLowStep, IsStep}
 use Rattle.number_sets.proofs.Members.{has_number-below}
 use Rattle.tower_lines.proofs.LowMaskLemmas.{low_mask_of, low_unique, low_bit, low_more, low_same, whole_of, whole_half, tower_half, least_tells, least_told, rest_low, rest_last}
 use Rattle.tower_lines.proofs.MaskLemmas.{is_in-push, is_in-push_same, tower_is, tower, seen-more}
@@ -126,6 +126,21 @@ at_low_lacks {sets} {clue} {level} p at low = at.last ∙ ne_eqb level clue (λ 
 
 -- ---- the step from one level to another
 
+-- a value below the greatest after a start at a level
+pushed_at : {sets : List ℕ} {clue level mask level_then mask_then : ℕ} (p : List ℕ) (k : ℕ) → k + 1 < length sets → IsAtLevel sets clue level mask p
+    → IsStart sets (p ++ (k + 1) ∷ []) → IsLowMask (length sets) mask_then (p ++ (k + 1) ∷ []) → seen (p ++ (k + 1) ∷ []) ≡ level_then → level_then ≤ clue
+    → (level ≡ clue) ↔ (level_then ≡ clue) → IsAtLevel sets clue level_then mask_then (p ++ (k + 1) ∷ [])
+pushed_at {sets} {clue} {level} {mask} {level_then} p k value at start used shown low same = record {
+  start = start;
+  used = used;
+  low = low;
+  shown = shown;
+  last = greatest_in_push p (length sets) k value ∙ at.last ∙ elim (cases_eq level clue) [
+    | inl there ↦ eq-eqb level clue there ∙ sym (eq-eqb level_then clue (same.0 there))
+    | inr apart ↦ ne_eqb level clue apart ∙ sym (ne_eqb level_then clue (λ e. apart (same.1 e)))
+  ];
+}
+
 -- the greatest value after a start at a level
 last_step_from : {sets : List ℕ} {clue k level mask level_then mask_then : ℕ} (p : List ℕ) → IsAtLevel sets clue level mask p → length p < length sets
     → has_number (get_or sets (length p) 0) (k + 1) ≡ true → IsLastStep (length sets) clue k level mask level_then mask_then
@@ -146,7 +161,7 @@ last_step_from {sets} {clue} {k} {level} {mask} {level_then} {mask_then} p at ro
 
 -- whether a start lacks the least value, by its mask
 lacks_least : {sets : List ℕ} {clue level mask : ℕ} (p : List ℕ) → 1 < length sets → IsAtLevel sets clue level mask p
-    → ((level < clue) × (count_ones mask ≡ length p)) ⊎ ((level ≡ clue) × (count_ones mask + 1 ≡ length p)) → is_in 1 p ≡ false
+    → LacksLeast (length p) clue level mask → is_in 1 p ≡ false
 lacks_least {sets} {clue} {level} p more at told =
     elim told [
       | inl low ↦ least_told p (rest_low p at.start (at_low_lacks p at low.0) at.used) (omega (arith, low.1))
@@ -169,24 +184,13 @@ least_step_from {sets} {clue} {k} {level} {mask} {level_then} {mask_then} p at r
       fresh = ap (λ v. is_in v p) (sym one) ∙ fresh;
     } in
     let used : IsLowMask (length sets) mask_then (p ++ (k + 1) ∷ []) = rw s.same (low_same p (k + 1) at.used (λ j l e. omega arith)) in
-    let greatest = greatest_in_push p (length sets) k (omega arith) in
     elim s.moves [
-      | inl first ↦ (let lacks = at_low_lacks p at (omega (arith, first.1, first.2)) in
-          let fresh : is_in 1 p ≡ false = ap (is_in 1) (nil_from_length p first.0) in
-          record {
-            start = start_more p (k + 1) at.start (next fresh);
-            used = used;
-            low = omega (arith, first.2);
-            shown = omega (arith, shown_first p (k + 1) first.0, at.shown, first.1);
-            last = greatest ∙ lacks ∙ sym (ne_eqb level_then clue (λ e. omega (arith, first.2)));
-          })
-      | inr later ↦ record {
-        start = start_more p (k + 1) at.start (next (lacks_least p more at later.2));
-        used = used;
-        low = omega (arith, later.1, at.low);
-        shown = omega (arith, shown_later p k value at.start later.0, at.shown, later.1);
-        last = greatest ∙ at.last ∙ ap (λ l. eqb l clue) (sym later.1);
-      }
+      | inl first ↦ (let fresh : is_in 1 p ≡ false = ap (is_in 1) (nil_from_length p first.0) in
+          pushed_at p k (omega arith) at (start_more p (k + 1) at.start (next fresh)) used (omega (arith, shown_first p (k + 1) first.0, at.shown, first.1))
+          (omega (arith, first.2)) (λ e. omega (arith, first.1, first.2), λ e. omega (arith, first.2)))
+      | inr later ↦ pushed_at p k (omega arith) at (start_more p (k + 1) at.start (next (lacks_least p more at later.2))) used
+          (omega (arith, shown_later p k value at.start later.0, at.shown, later.1)) (omega (arith, later.1, at.low))
+          (λ e. omega (arith, later.1), λ e. omega (arith, later.1))
     ]
 
 -- a value between them
@@ -206,33 +210,16 @@ low_step_from {sets} {clue} {k} {level} {mask} {level_then} {mask_then} p at roo
     } in
     let start = start_more p (k + 1) at.start next in
     let used : IsLowMask (length sets) mask_then (p ++ (k + 1) ∷ []) = rw s.more (low_more p k bit is at.used value s.fresh) in
-    let greatest = greatest_in_push p (length sets) k (omega arith) in
     elim s.moves [
-      | inl same ↦ (let has = at.last ∙ eq-eqb level clue same.0 in
-          record {
-            start = start;
-            used = used;
-            low = omega (arith, same.1);
-            shown = omega (arith, shown_same p k start has, at.shown, same.0, same.1);
-            last = greatest ∙ has ∙ sym (eq-eqb level_then clue same.1);
-          })
+      | inl same ↦ pushed_at p k (omega arith) at start used
+          (omega (arith, shown_same p k start (at.last ∙ eq-eqb level clue same.0), at.shown, same.0, same.1)) (omega (arith, same.1)) (λ e. same.1, λ e. same.0)
       | inr low ↦ elim low [
-        | inl hidden ↦ (let lacks = at_low_lacks p at hidden.0 in
-            record {
-              start = start;
-              used = used;
-              low = omega (arith, hidden.0, hidden.2);
-              shown = omega (arith, shown_more p k bit is at.start lacks at.used, tower_none mask bit hidden.1, at.shown, hidden.2);
-              last = greatest ∙ lacks ∙ sym (ne_eqb level_then clue (λ e. omega (arith, hidden.0, hidden.2)));
-            })
-        | inr tower ↦ (let lacks = at_low_lacks p at (omega (arith, tower.1, tower.2)) in
-            record {
-              start = start;
-              used = used;
-              low = omega (arith, tower.2);
-              shown = omega (arith, shown_more p k bit is at.start lacks at.used, tower_one mask bit tower.0, at.shown, tower.1);
-              last = greatest ∙ lacks ∙ sym (ne_eqb level_then clue (λ e. omega (arith, tower.2)));
-            })
+        | inl hidden ↦ (let shown = shown_more p k bit is at.start (at_low_lacks p at hidden.0) at.used in
+            pushed_at p k (omega arith) at start used (omega (arith, shown, tower_none mask bit hidden.1, at.shown, hidden.2))
+            (omega (arith, hidden.0, hidden.2)) (λ e. omega (arith, hidden.2), λ e. omega (arith, hidden.2)))
+        | inr tower ↦ (let shown = shown_more p k bit is at.start (at_low_lacks p at (omega (arith, tower.1, tower.2))) at.used in
+            pushed_at p k (omega arith) at start used (omega (arith, shown, tower_one mask bit tower.0, at.shown, tower.1))
+            (omega (arith, tower.2)) (λ e. omega (arith, tower.1, tower.2), λ e. omega (arith, tower.2)))
       ]
     ]
 
@@ -378,7 +365,7 @@ stepped_between {sets} {clue} {level} {mask} p k some value at lacks =
     let low = at_low (p ++ (k + 1) ∷ []) at (greatest_in_push p (length sets) k value ∙ lacks) in
     let fresh : has_number m.0 bit ≡ false = low_bit p k bit is m.1 inside ∙ next.fresh in
     let more = low_unique (p ++ (k + 1) ∷ []) at.used (low_more p k bit is m.1 inside fresh) in
-    let moves : ((seen p ≡ clue) × (level ≡ clue)) ⊎ (((seen p < clue) × (2 ^ bit ≤ m.0) × (level ≡ seen p)) ⊎ ((m.0 < 2 ^ bit) × (level ≡ seen p + 1) × (level < clue))) =
+    let moves : IsMove clue bit (seen p) m.0 level =
     inr (elim (cases_lt m.0 (2 ^ bit)) [
       | inl small ↦ (let one = tower_one m.0 bit small in inr (small, omega arith, low))
       | inr large ↦ (let none = tower_none m.0 bit large in inl (omega arith, large, omega arith))

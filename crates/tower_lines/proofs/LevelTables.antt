@@ -1,20 +1,27 @@
 -- What a value more does to levels that have the masks of all starts, and to those of starts that a filling begins with.
-use Rattle.std.proofs.Common.{◌≡◌, ◌≢◌, ℕ, ◌+◌, ◌-◌, ◌<◌, ◌≤◌, ◌↔◌, true, List, [], ◌∷◌, ◌++◌, length, get_or, take, drop, refl, sym, ap, ◌∙◌, subst, arith, append_assoc}
-use Rattle.std.proofs.lemmas.Bool.{eqb-false, ne_eqb}
+use Rattle.std.proofs.Common.{◌≡◌, ◌≢◌, ℕ, ◌+◌, ◌-◌, ◌<◌, ◌≤◌, ◌↔◌, inl, inr, true, List, [], ◌∷◌, ◌++◌, length, get_or, take, drop, refl, sym, ap, ◌∙◌, subst, arith, append_assoc}
+use Rattle.std.proofs.lemmas.Bool.{cases_lt, eqb-false, ne_eqb}
 use Rattle.std.proofs.Math.Bool.{and-false}
 use Rattle.std.proofs.lemmas.List.{append-nil, nil_from_length, length_push, get_or_at, take_all, take_more, take-append-drop, length-take-le, drop_more}
 use Rattle.number_sets.specs.Sets.{has_number}
 use Rattle.tower_lines.specs.TowersSeen.{seen}
 use Rattle.tower_lines.specs.LineFillings.{IsStart, IsFilling, IsSupported}
 use Rattle.tower_lines.specs.Inner.MaskSets.{has_at}
-use Rattle.tower_lines.specs.Inner.Levels.{IsAtLevel, IsStep, LeadsTo, IsPassing, AreReached, AreContinued, AreLow, AreFew, IsReachedFrom, IsPassed, IsKeptBy}
+use Rattle.tower_lines.specs.Inner.Levels.{IsAtLevel, IsStep, LeadsTo, IsPassing, AreReached, AreContinued, AreFew, IsReachedFrom, IsPassed, IsKeptBy}
 use Rattle.number_sets.proofs.Members.{has_number-none, none_from_numbers}
 use Rattle.tower_lines.proofs.LevelLemmas.{has_greatest, at_last, step_from, stepped, front_level}
-use Rattle.tower_lines.proofs.LowMaskLemmas.{low_unique, low_small}
+use Rattle.tower_lines.proofs.LowMaskLemmas.{low_unique}
 use Rattle.tower_lines.proofs.SeenLemmas.{seen_most, seen_some}
 use Rattle.tower_lines.proofs.StartLemmas.{start_next}
 
 -- ---- the levels of the starts with so many values
+
+-- without values a start is at the first level, which isn't the last
+first_level : {sets : List ℕ} {clue level mask : ℕ} → IsAtLevel sets clue level mask [] → (mask ≡ 0) × (level < clue)
+first_level {sets} {clue} {level} {mask} at =
+    let apart : level ≢ clue = eqb-false level clue (sym at.last) in
+    let low = at.low in
+    (none_from_numbers mask (λ k. at.used.bits k ∙ and-false _), omega arith)
 
 -- the start without values, before any place
 pub first_reached : {sets : List ℕ} {clue : ℕ} (levels : List (List ℕ)) → 0 < length sets
@@ -38,8 +45,8 @@ first_reached {sets} {clue} levels some first level mask = (
       let P : List ℕ → Type 0 = λ line. IsAtLevel sets clue level mask line in
       let at = subst P (nil_from_length l.0 l.1) l.2 in
       let zero : level ≡ 0 = sym at.shown in
-      let apart : level ≢ clue = eqb-false level clue (sym at.last) in
-      (first level mask).1 (zero, none_from_numbers mask (λ k. at.used.bits k ∙ and-false _), omega arith),
+      let known = first_level at in
+      (first level mask).1 (zero, known.0, omega (arith, known.1)),
 )
 
 -- a start of one value more, in two parts
@@ -81,7 +88,7 @@ next_reached {sets} {clue} {place} {levels} next inside reached is level mask = 
       let long = f.1 in (
         f.0 ++ (from.k + 1) ∷ [],
         length_push f.0 (from.k + 1) ∙ ap (λ n. n + 1) long,
-        step_from f.0 f.2 (omega arith) (rw long from.candidate) (step_at (sym long) by.step),
+        step_from f.0 f.2 (omega arith) (rw long from.candidate) (step_at (sym long) by.link),
       ),
   λ l.
       let parts = pushed place l.0 l.2.start l.1 in
@@ -100,27 +107,28 @@ next_reached {sets} {clue} {place} {levels} next inside reached is level mask = 
           level = back.level_before;
           mask = back.mask_before;
           here = (reached back.level_before back.mask_before).1 (p, long, back.front);
-          step = step_at long back.step;
+          link = step_at long back.step;
         };
       },
 )
 
--- the masks of starts are without the least and the greatest value
-pub reached_low : {sets : List ℕ} {clue place : ℕ} (levels : List (List ℕ)) → AreReached sets clue place levels → AreLow (length sets) levels
-reached_low {sets} {clue} {place} levels reached level mask e =
-    let f = (reached level mask).0 e in
-    low_small f.0 f.2.used
-
 -- a start shows no more towers than it has values, and one at least where it has any
-pub reached_few : {sets : List ℕ} {clue place : ℕ} (levels : List (List ℕ)) → AreReached sets clue place levels → AreFew place levels
+pub reached_few : {sets : List ℕ} {clue place : ℕ} (levels : List (List ℕ)) → AreReached sets clue place levels → AreFew clue place levels
 reached_few {sets} {clue} {place} levels reached level mask e =
     let f = (reached level mask).0 e in
-    let most : seen f.0 ≤ length f.0 = seen_most [] f.0 in (
-      omega (arith, f.1, f.2.shown),
-      λ some.
-          let least = seen_some f.0 (omega (arith, f.1)) in
-          omega (arith, f.2.shown),
-    )
+    let most : seen f.0 ≤ length f.0 = seen_most [] f.0 in
+    let least : 0 < place → 0 < level = λ some. let shown = seen_some f.0 (omega (arith, f.1)) in omega (arith, f.2.shown) in
+    record {
+      most = omega (arith, f.1, f.2.shown);
+      least = least;
+      some = λ has. elim (cases_lt 0 place) [
+        | inl more ↦ least more
+        | inr none ↦
+            let zero : length f.0 ≡ 0 = omega (arith, f.1) in
+            let first = first_level (subst (λ line. IsAtLevel sets clue level mask line) (nil_from_length f.0 zero) f.2) in
+            absurd (elim has [ inl value ↦ omega (arith, value, first.0) | inr last ↦ omega (arith, last, first.1) ])
+      ];
+    }
 
 -- a start with all values at the last level is a filling
 pub reached_filling : {sets : List ℕ} {clue : ℕ} (levels : List (List ℕ)) → 0 < length sets → AreReached sets clue (length sets) levels
@@ -154,8 +162,8 @@ continued_step : {sets : List ℕ} {after : List (List ℕ)} {clue place k level
     → length p ≡ place → has_number (get_or sets place 0) (k + 1) ≡ true → IsAtLevel sets clue level mask p → LeadsTo place (length sets) clue k after level mask
     → (rest : List ℕ) × IsFilling sets clue (p ++ (k + 1) ∷ rest)
 continued_step {sets} {after} {clue} {place} {k} {level} {mask} p inside continued long candidate at leads =
-    let then = step_from p at (omega arith) (rw long candidate) (step_at (sym long) leads.step) in
-    let more = continued.only leads.level_then leads.mask_then (p ++ (k + 1) ∷ []) leads.there (length_push p (k + 1) ∙ ap (λ n. n + 1) long) then in
+    let then = step_from p at (omega arith) (rw long candidate) (step_at (sym long) leads.link) in
+    let more = continued.only leads.level leads.mask (p ++ (k + 1) ∷ []) leads.here (length_push p (k + 1) ∙ ap (λ n. n + 1) long) then in
     let whole : (p ++ (k + 1) ∷ []) ++ more.0 ≡ p ++ (k + 1) ∷ more.0 = append_assoc p ((k + 1) ∷ []) more.0 in
     let P : List ℕ → Type 0 = λ line. IsFilling sets clue line in
     (more.0, subst P whole more.1)
@@ -178,10 +186,10 @@ passing_step {sets} {levels} {after} {clue} {place} {level} {mask} p k s inside 
       low = at.low;
       here = (reached level mask).1 (p, long, at);
       leads = record {
-        level_then = seen (p ++ (k + 1) ∷ []);
-        mask_then = then.0;
-        there = continued.all (seen (p ++ (k + 1) ∷ [])) then.0 (p ++ (k + 1) ∷ []) s (length_push p (k + 1) ∙ ap (λ n. n + 1) long) then.1 filling';
-        step = subst M same_mask (subst L same_level (step_at long back.step));
+        level = seen (p ++ (k + 1) ∷ []);
+        mask = then.0;
+        here = continued.all (seen (p ++ (k + 1) ∷ [])) then.0 (p ++ (k + 1) ∷ []) s (length_push p (k + 1) ∙ ap (λ n. n + 1) long) then.1 filling';
+        link = subst M same_mask (subst L same_level (step_at long back.step));
       };
     }
 

@@ -1,15 +1,17 @@
 -- One value of a set after another, and what they add to the levels.
-use Rattle.std.proofs.Common.{◌≡◌, ◌≢◌, ℕ, ◌+◌, ◌-◌, ◌^◌, ◌<◌, ◌≤◌, ◌⊎◌, ◌↔◌, inl, inr, Bool, true, false, not, ◌&&◌, ◌||◌, eqb, leb, List, refl, sym, ap, ◌∙◌, subst, arith}
+use Rattle.std.proofs.Common.{◌≡◌, ◌≢◌, ℕ, ◌+◌, ◌-◌, ◌^◌, ◌<◌, ◌≤◌, ◌⊎◌, ◌↔◌, inl, inr, true, false, not, ◌&&◌, ◌||◌, eqb, leb, List, refl, sym, ap, ◌∙◌, subst, arith}
 use Rattle.std.proofs.lemmas.Bool.{cases_eq, both_ways, and_parts, and_from, or_cases, or_left, or_right, not-true, not_from_false, eqb-true, eq-eqb, false_from_ne_true, leb-true, le-leb}
+use Rattle.std.proofs.Math.Bool.{and-true}
 use Rattle.std.proofs.lemmas.Nat.{pow_pos}
 use Rattle.number_sets.specs.Sets.{has_number}
 use Rattle.number_sets.proofs.Members.{power_most, same_set, has_number-none}
 use Rattle.number_sets.proofs.OneMore.{IsAdded, added_without, added_lacks, added_other}
 use Rattle.tower_lines.specs.Inner.Levels.{AreAdded}
-use Rattle.tower_lines.proofs.LevelMoves.{added_both, added_none}
+use Rattle.tower_lines.proofs.LevelAdditions.{added_both, added_none}
 
 -- ---- a set without one of its numbers
 
+-- the others are what is left without one value
 abbrev pub AreOthers : ℕ → ℕ → ℕ → Type 0
 AreOthers left value others = (n : ℕ) → has_number others n ≡ (has_number left n && not (eqb n value))
 
@@ -38,13 +40,9 @@ others_less left value others here are =
           subst P (sym is) (others_lack left value others are ∙ sym (added_lacks added))
       | inr other ↦
           let lacks : eqb n value ≡ false = false_from_ne_true (eqb n value) (λ s. other (eqb-true n value s)) in
-          are n ∙ ap (λ b. has_number left n && not b) lacks ∙ whole (has_number left n) ∙ added_other added n other
+          are n ∙ ap (λ b. has_number left n && not b) lacks ∙ and-true (has_number left n) ∙ added_other added n other
     ]) in
     omega arith
-  where
-    whole : (b : Bool) → (b && true) ≡ b
-    whole true = refl
-    whole false = refl
 
 -- ---- the values of a set that are done
 
@@ -71,6 +69,7 @@ none_done width values left k is d =
     both_ways (has_number left (k + 1)) d.done
     (is (k + 1) ∙ and_from _ _ d.candidate (and_from _ _ (le-leb 1 (k + 1) (omega arith)) (le-leb (k + 1) width (omega arith))))
 
+-- one value less is left
 pub fewer_left : (width values left value others : ℕ) → AreLeft width values left → AreOthers left value others → AreLeft width values others
 fewer_left width values left value others are others_are n e = are n (others_inside left value others n others_are e)
 
@@ -112,10 +111,12 @@ pub record IsGiven (Given : ℕ → ℕ → ℕ → Type 0) (width values left l
   pub done : IsDone width values left k
   pub given : Given k level mask
 
+-- before the first value nothing is given
 pub given_none : (Given : ℕ → ℕ → ℕ → Type 0) (width values left : ℕ) (old : List (List ℕ))
     → ((n : ℕ) → has_number left n ≡ (has_number values n && (leb 1 n && leb n width))) → AreAdded (IsGiven Given width values left) old old
 given_none Given width values left old is = added_none (IsGiven Given width values left) old (λ level mask r. none_done width values left r.k is r.done)
 
+-- one value more gives what it leads to
 pub given_more : (Given : ℕ → ℕ → ℕ → Type 0) (width values left value others : ℕ) (old mid now : List (List ℕ)) → AreLeft width values left
     → has_number left value ≡ true → AreOthers left value others → AreAdded (IsGiven Given width values left) old mid → AreAdded (Given (value - 1)) mid now
     → AreAdded (IsGiven Given width values others) old now

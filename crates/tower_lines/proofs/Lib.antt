@@ -1,9 +1,8 @@
 -- Lemmas on masks and sets of masks, and on the levels of a line's starts.
 pub mod CheckLemmas
-pub mod LevelLeast
+pub mod LevelAdditions
 pub mod LevelLemmas
-pub mod LevelMoves
-pub mod LevelPasses
+pub mod LevelSteps
 pub mod LevelTables
 pub mod LevelValues
 pub mod LowMaskLemmas

@@ -31,11 +31,9 @@ low_mask_of {sets} p start =
       },
     )
 
+-- a list has one low mask
 pub low_unique : {width m n : ℕ} (p : List ℕ) → IsLowMask width m p → IsLowMask width n p → m ≡ n
 low_unique {width} {m} {n} p h i = same_set m n (λ k. h.bits k ∙ sym (i.bits k))
-
-pub low_small : {width mask : ℕ} (p : List ℕ) → IsLowMask width mask p → mask < 2 ^ (width - 2)
-low_small {width} {mask} p h = below_from_numbers mask (width - 2) (λ j l. h.bits j ∙ rw (le-ltb (j + 2) width (omega arith)) refl)
 
 -- a value between the least and the greatest is in the mask where it is in the list
 pub low_bit : {width mask : ℕ} (p : List ℕ) (k bit : ℕ) → k ≡ bit + 1 → IsLowMask width mask p → bit + 2 < width
@@ -84,6 +82,7 @@ pub record IsWhole (sets p : List ℕ) : Type 0 where
   pub ones : count_ones mask ≡ length p
   pub small : mask < 2 ^ (length sets - 1)
 
+-- a start that lacks the greatest value has such a mask
 pub whole_of : {sets : List ℕ} (p : List ℕ) → IsStart sets p → is_in (length sets) p ≡ false → IsWhole sets p
 whole_of {sets} p start lacks =
     let b = mask_of p start in

@@ -15,12 +15,15 @@ use Rattle.number_sets.proofs.Members.{has_number-none, below_from_number, below
 use Rattle.tower_lines.proofs.SeenLemmas.{seen-append}
 use Rattle.tower_lines.proofs.StartLemmas.{start_next}
 
+-- a list with a value more has what it had, and that value
 pub is_in-push : (p : List ℕ) (x y : ℕ) → is_in y (p ++ x ∷ []) ≡ (is_in y p || eqb x y)
 is_in-push p x y = list_any-append (λ z. eqb z y) p (x ∷ []) ∙ ap (λ b. is_in y p || b) (or-false (eqb x y))
 
+-- it has that value
 pub is_in-push_same : (p : List ℕ) (x y : ℕ) → x ≡ y → is_in y (p ++ x ∷ []) ≡ true
 is_in-push_same p x y e = is_in-push p x y ∙ ap (λ b. is_in y p || b) (eq-eqb x y e) ∙ or-true (is_in y p)
 
+-- of the others it has those that it had
 pub is_in-push_other : (p : List ℕ) (x y : ℕ) → y ≢ x → is_in y (p ++ x ∷ []) ≡ is_in y p
 is_in-push_other p x y ne = is_in-push p x y ∙ ap (λ b. is_in y p || b) (ne_eqb x y (λ e. ne (sym e))) ∙ or-false (is_in y p)
 
@@ -60,6 +63,7 @@ masked_along sets (x ∷ s) q h b =
     } in
     rw whole at (masked_along sets s (q ++ x ∷ []) (rw whole h) more)
 
+-- each start has a mask
 pub mask_of : {sets : List ℕ} (p : List ℕ) → IsStart sets p → IsMasked sets p
 mask_of {sets} p h = masked_along sets p [] h record {
   mask = 0;

@@ -1,14 +1,14 @@
 -- Sets of masks as words of 64 masks each: a word's masks one bit up or down, a set from its words.
 use Rattle.std.proofs.Common.{◌≡◌, ◌≢◌, ℕ, ◌+◌, ◌-◌, ◌*◌, ◌/◌, ◌%◌, ◌^◌, ◌<◌, ◌≤◌, ◌↔◌, inl, inr, Bool, true, false, not, ◌&&◌, eqb, leb, ltb, List, [], ◌∷◌, length, get_or, set, replicate, refl, sym, ap, ◌∙◌, arith, bit_and, count_ones, w64}
 use Rattle.std.specs.Bool.{MatchBool}
-use Rattle.std.specs.Int.{bit_at, bit_not, trailing_zeros}
-use Rattle.std.proofs.lemmas.Bool.{MatchBool-at_true, MatchBool-at_false, not-true, not_from_false, agree_below, agree_below_at, both_ways, cases_Bool, cases_eq, cases_lt, ne_eqb, ltb-true, lt-ltb, le-ltb, lt-leb, le-leb, false_from_ne_true}
-use Rattle.std.proofs.lemmas.Nat.{pow_pos, pow-add, pow_below, shl-shr, mod_below, one_shl}
-use Rattle.std.proofs.lemmas.Nat.Bits.{bit_at_not, bit_at-trailing_zeros, and_pow}
+use Rattle.std.specs.Int.{bit_not, trailing_zeros}
+use Rattle.std.proofs.lemmas.Bool.{MatchBool-at_true, MatchBool-at_false, not-true, not_from_false, agree_below, agree_below_at, both_ways, cases_Bool, cases_eq, cases_lt, ne_eqb, ltb-true, lt-ltb, le-ltb, lt-leb, le-leb, false_from_ne_true, and_left, and_right}
+use Rattle.std.proofs.Math.Bool.{and-true, and-false, and_comm}
+use Rattle.std.proofs.lemmas.Nat.{shl-shr, mod_below, one_shl}
+use Rattle.std.proofs.lemmas.Nat.Bits.{bit_at_not, bit_at_lowest, bit_at-trailing_zeros}
 use Rattle.std.proofs.lemmas.List.{get_or-set_same, get_or-set_other, get_or_past, length-set, length-replicate, get_or-replicate}
-use Rattle.std.proofs.Math.Nat.{pow-le-pow_right}
 use Rattle.number_sets.specs.Sets.{has_number}
-use Rattle.number_sets.proofs.Members.{bit-from_number, bit-from_no_number, number-from_bit, no_number-from_bit, has_number-none, has_number-and, has_number-shr, has_number-mod, has_number-one, has_number-below, power_most}
+use Rattle.number_sets.proofs.Members.{bit-from_number, bit-from_no_number, number-from_bit, no_number-from_bit, has_number-none, has_number-and, has_number-shr, has_number-mod, has_number-one, power_most}
 use Rattle.number_sets.proofs.OneMore.{added_with, added_below}
 use Rattle.tower_lines.specs.Inner.MaskSets.{has_mask}
 
@@ -20,6 +20,7 @@ word_of i b h = omega arith
 bit_of : (i b : ℕ) → b < 64 → (64 * i + b) % 64 ≡ b
 bit_of i b h = omega arith
 
+-- a mask is in the set where the bit of its word is set
 pub has_mask-at : (words : List ℕ) (i b : ℕ) → b < 64 → has_mask words (64 * i + b) ≡ has_number (get_or words i 0) b
 has_mask-at words i b h = rw (word_of i b h, bit_of i b h) refl
 
@@ -27,11 +28,9 @@ has_mask-at words i b h = rw (word_of i b h, bit_of i b h) refl
 pub has_number-low : (i b k : ℕ) → b < 64 → k < 6 → has_number (64 * i + b) k ≡ has_number b k
 has_number-low i b k h low = sym (has_number-mod (64 * i + b) 6 k low) ∙ ap (λ n. has_number n k) (bit_of i b h)
 
-pub has_number-high : (i b j : ℕ) → b < 64 → has_number (64 * i + b) (6 + j) ≡ has_number i j
-has_number-high i b j h = sym (has_number-shr (64 * i + b) 6 j) ∙ ap (λ n. has_number n j) (word_of i b h)
-
 -- ---- a word's masks with a bit that they lack, and without one that they have
 
+-- a word of all masks below 64 that have the bit
 abbrev pub with_bit : ℕ → ℕ
 with_bit k = get_or (12297829382473034410 ∷ 14757395258967641292 ∷ 17361641481138401520 ∷ 18374966859414961920 ∷ 18446462603027742720 ∷ 18446744069414584320 ∷ []) k 0
 
@@ -56,17 +55,9 @@ pub raised_word : (w k b : ℕ) → k < 6 → b < 64
 raised_word w k b small h =
     rw (has_number-and (w * 2 ^ (2 ^ k) % 2 ^ 64) (with_bit k) b, has_number-with_bit k b small h)
     (elim (cases_Bool (has_number b k)) [
-      | inl e ↦ rw (e, has_number-up w (2 ^ k) b (power_most b k e) h) (and_true (has_number w (b - 2 ^ k)))
-      | inr e ↦ rw e (and_false (has_number (w * 2 ^ (2 ^ k) % 2 ^ 64) b))
+      | inl e ↦ rw (e, has_number-up w (2 ^ k) b (power_most b k e) h) (and-true (has_number w (b - 2 ^ k)))
+      | inr e ↦ rw e (and-false (has_number (w * 2 ^ (2 ^ k) % 2 ^ 64) b))
     ])
-  where
-    and_true : (b : Bool) → (b && true) ≡ b
-    and_true true = refl
-    and_true false = refl
-
-    and_false : (b : Bool) → (b && false) ≡ false
-    and_false true = refl
-    and_false false = refl
 
 has_number-not : (n b : ℕ) → n < 2 ^ 64 → b < 64 → has_number (bit_not w64 n) b ≡ not (has_number n b)
 has_number-not n b small h =
@@ -85,17 +76,11 @@ has_number-lacks a n b small h = has_number-and a (bit_not w64 n) b ∙ ap (λ t
 has_number-down : (w s b : ℕ) → has_number (w / 2 ^ s) b ≡ has_number w (b + s)
 has_number-down w s b = let e : s + b ≡ b + s = omega arith in has_number-shr w s b ∙ ap (has_number w) e
 
-and_swap : (a b : Bool) → (a && b) ≡ (b && a)
-and_swap true true = refl
-and_swap true false = refl
-and_swap false true = refl
-and_swap false false = refl
-
 pub lowered_word : (w k b : ℕ) → k < 6 → b < 64
     → has_number (bit_and (w / 2 ^ (2 ^ k)) (bit_not w64 (with_bit k))) b ≡ (not (has_number b k) && has_number w (b + 2 ^ k))
 lowered_word w k b small h =
     has_number-lacks (w / 2 ^ (2 ^ k)) (with_bit k) b (with_bit_small k small) h
-    ∙ rw (has_number-with_bit k b small h, has_number-down w (2 ^ k) b) (and_swap (has_number w (b + 2 ^ k)) (not (has_number b k)))
+    ∙ rw (has_number-with_bit k b small h, has_number-down w (2 ^ k) b) (and_comm (has_number w (b + 2 ^ k)) (not (has_number b k)))
 
 -- ---- the bit below 6: the mask stays in its word
 
@@ -123,130 +108,55 @@ word_without_low words i k b place low h is =
           rw (e, place) (sym (has_mask-at words i (b + 2 ^ k) more)))
     ])
 
--- ---- the bit from 6 on: the mask moves to another word, by so many
-abbrev pub step_of : ℕ → ℕ
-step_of k = 1 * 2 ^ (k - 6) % 2 ^ 64
+-- ---- the tables, whose rows are sets of two words
 
-step_is : (k : ℕ) → k ≤ 8 → step_of k ≡ 2 ^ (k - 6)
-step_is k h = one_shl (k - 6) 64 (omega arith)
+-- the masks of two words that pass each row's test are those of the row
+abbrev are_rows : List (List ℕ) → (ℕ → ℕ → Bool) → Bool
+are_rows table test = agree_below (λ k. agree_below (λ m. has_mask (get_or table k []) m) (λ m. test k m) 128) (λ k. true) 9
 
-step_masks : (k : ℕ) → 6 ≤ k → k ≤ 8 → 2 ^ k ≡ 64 * step_of k
-step_masks k high h =
-    let e : 6 + (k - 6) ≡ k = omega arith in
-    rw (step_is k h) (ap (λ n. 2 ^ n) (sym e) ∙ pow-add 2 6 (k - 6))
+row_has : (table : List (List ℕ)) (test : ℕ → ℕ → Bool) → are_rows table test ≡ true → (k m : ℕ) → k < 9 → m < 128
+    → has_mask (get_or table k []) m ≡ test k m
+row_has table test all k m few small =
+    agree_below_at (λ n. has_mask (get_or table k []) n) (λ n. test k n) 128 m
+    (agree_below_at (λ j. agree_below (λ n. has_mask (get_or table j []) n) (λ n. test j n) 128) (λ j. true) 9 k all few) small
 
-has_number-word : (i b k : ℕ) → b < 64 → 6 ≤ k → has_number (64 * i + b) k ≡ has_number i (k - 6)
-has_number-word i b k h high =
-    let e : 6 + (k - 6) ≡ k = omega arith in ap (has_number (64 * i + b)) (sym e) ∙ has_number-high i b (k - 6) h
+-- the masks that have so many values
+abbrev counts : List (List ℕ)
+counts = (1 ∷ 0 ∷ []) ∷ (4295033110 ∷ 1 ∷ []) ∷ (282668995843688 ∷ 4295033110 ∷ []) ∷ (78274679833913472 ∷ 282668995843688 ∷ []) ∷ (1614655367130677248 ∷ 78274679833913472 ∷ []) ∷ (7530159316599308288 ∷ 1614655367130677248 ∷ []) ∷ (9223372036854775808 ∷ 7530159316599308288 ∷ []) ∷ (0 ∷ 9223372036854775808 ∷ []) ∷ (0 ∷ 0 ∷ []) ∷ []
 
--- the word's masks lack the bit, or have it
-pub step_none : (i b k : ℕ) → b < 64 → 6 ≤ k → k < 8 → bit_and i (step_of k) ≡ 0 → has_number (64 * i + b) k ≡ false
-step_none i b k h high small none =
-    let e : bit_at i (k - 6) * 2 ^ (k - 6) ≡ 0 = sym (and_pow i (k - 6)) ∙ rw (step_is k (omega arith)) at none in
-    let p = pow_pos (k - 6) in
-    has_number-word i b k h high ∙ false_from_ne_true (has_number i (k - 6)) (λ t.
-    let one : 1 * 2 ^ (k - 6) ≡ 0 = ap (λ n. n * 2 ^ (k - 6)) (sym (bit-from_number i (k - 6) t)) ∙ e in
-    absurd (omega arith))
+-- a value more is one bit more
+abbrev pub with_count : ℕ → List ℕ
+with_count count = get_or counts count []
 
-pub step_some : (i b k : ℕ) → b < 64 → 6 ≤ k → k < 8 → bit_and i (step_of k) ≢ 0 → has_number (64 * i + b) k ≡ true
-step_some i b k h high small some =
-    has_number-word i b k h high ∙ elim (cases_Bool (has_number i (k - 6))) [
-      | inl e ↦ e
-      | inr e ↦ (let none : bit_and i (2 ^ (k - 6)) ≡ 0 * 2 ^ (k - 6) = and_pow i (k - 6) ∙ ap (λ n. n * 2 ^ (k - 6)) (bit-from_no_number i (k - 6) e) in
-          absurd (some (rw (step_is k (omega arith)) (omega arith))))
-    ]
-
-pub step_inside : (i k : ℕ) → 6 ≤ k → k < 8 → bit_and i (step_of k) ≢ 0 → step_of k ≤ i
-step_inside i k high small some =
-    rw (step_is k (omega arith)) (power_most i (k - 6) (sym (has_number-word i 0 k (omega arith) high) ∙ step_some i 0 k (omega arith) high small some))
-
-pub word_with_none : (words : List ℕ) (i k b : ℕ) → b < 64 → 6 ≤ k → k < 8 → bit_and i (step_of k) ≡ 0
-    → has_number 0 b ≡ (has_number (64 * i + b) k && has_mask words (64 * i + b - 2 ^ k))
-word_with_none words i k b h high small none = rw (has_number-none b, step_none i b k h high small none) refl
-
-pub word_with_high : (words : List ℕ) (i k b : ℕ) → b < 64 → 6 ≤ k → k < 8 → bit_and i (step_of k) ≢ 0
-    → has_number (get_or words (i - step_of k) 0) b ≡ (has_number (64 * i + b) k && has_mask words (64 * i + b - 2 ^ k))
-word_with_high words i k b h high small some =
-    let inside = step_inside i k high small some in
-    let moved = step_masks k high (omega arith) in
-    let place : 64 * i + b - 2 ^ k ≡ 64 * (i - step_of k) + b = omega arith in
-    rw (step_some i b k h high small some, place) (sym (has_mask-at words (i - step_of k) b h))
-
-pub word_without_high : (words : List ℕ) (i k b : ℕ) → b < 64 → 6 ≤ k → k < 8 → bit_and i (step_of k) ≡ 0
-    → has_number (get_or words (i + step_of k) 0) b ≡ (not (has_number (64 * i + b) k) && has_mask words (64 * i + b + 2 ^ k))
-word_without_high words i k b h high small none =
-    let moved = step_masks k high (omega arith) in
-    let place : 64 * i + b + 2 ^ k ≡ 64 * (i + step_of k) + b = omega arith in
-    rw (step_none i b k h high small none, place) (sym (has_mask-at words (i + step_of k) b h))
-
-pub word_without_some : (words : List ℕ) (i k b : ℕ) → b < 64 → 6 ≤ k → k < 8 → bit_and i (step_of k) ≢ 0
-    → has_number 0 b ≡ (not (has_number (64 * i + b) k) && has_mask words (64 * i + b + 2 ^ k))
-word_without_some words i k b h high small some = rw (has_number-none b, step_some i b k h high small some) refl
-
--- the words end before the one that the masks would come from
-pub word_without_past : (words : List ℕ) (i k b : ℕ) → b < 64 → 6 ≤ k → k < 8 → bit_and i (step_of k) ≡ 0 → length words ≤ i + step_of k
-    → has_number 0 b ≡ (not (has_number (64 * i + b) k) && has_mask words (64 * i + b + 2 ^ k))
-word_without_past words i k b h high small none past =
-    ap (λ n. has_number n b) (sym (get_or_past words (i + step_of k) 0 past)) ∙ word_without_high words i k b h high small none
-
--- ---- the masks of a word that have so many values
-
-abbrev pub with_count : ℕ → ℕ → ℕ
-with_count count i = get_or (get_or ((1 ∷ 0 ∷ []) ∷ (4295033110 ∷ 1 ∷ []) ∷ (282668995843688 ∷ 4295033110 ∷ []) ∷ (78274679833913472 ∷ 282668995843688 ∷ []) ∷ (1614655367130677248 ∷ 78274679833913472 ∷ []) ∷ (7530159316599308288 ∷ 1614655367130677248 ∷ []) ∷ (9223372036854775808 ∷ 7530159316599308288 ∷ []) ∷ (0 ∷ 9223372036854775808 ∷ []) ∷ (0 ∷ 0 ∷ []) ∷ []) count []) i 0
-
--- whether a word of the masks with so many values is right
-abbrev is_counted : ℕ → ℕ → Bool
-is_counted count i = agree_below (λ b. has_number (with_count count i) b) (λ b. eqb (count_ones (64 * i + b)) count) 64
-
-pub has_number-with_count : (count i b : ℕ) → count < 9 → i < 2 → b < 64 → has_number (with_count count i) b ≡ eqb (count_ones (64 * i + b)) count
+pub with_count_has : (count m : ℕ) → count < 9 → m < 128 → has_mask (with_count count) m ≡ eqb (count_ones m) count
 unfolding lib.Count.ones
-has_number-with_count count i b few small h =
-    let words : agree_below (λ w. is_counted count w) (λ w. true) 2 ≡ true =
-    agree_below_at (λ j. agree_below (λ w. is_counted j w) (λ w. true) 2) (λ j. true) 9 count refl few in
-    let bits : is_counted count i ≡ true = agree_below_at (λ w. is_counted count w) (λ w. true) 2 i words small in
-    agree_below_at (λ n. has_number (with_count count i) n) (λ n. eqb (count_ones (64 * i + n)) count) 64 b bits h
+with_count_has count m few small = row_has counts (λ k n. eqb (count_ones n) k) refl count m few small
 
--- ---- the masks of a word that are below a power of two
+-- the masks that are below a power of two
+abbrev bounds : List (List ℕ)
+bounds = (1 ∷ 0 ∷ []) ∷ (3 ∷ 0 ∷ []) ∷ (15 ∷ 0 ∷ []) ∷ (255 ∷ 0 ∷ []) ∷ (65535 ∷ 0 ∷ []) ∷ (4294967295 ∷ 0 ∷ []) ∷ (18446744073709551615 ∷ 0 ∷ []) ∷ (18446744073709551615 ∷ 18446744073709551615 ∷ []) ∷ (18446744073709551615 ∷ 18446744073709551615 ∷ []) ∷ []
 
-abbrev pub below_bit : ℕ → ℕ → ℕ
-below_bit k i = get_or (get_or ((1 ∷ 0 ∷ []) ∷ (3 ∷ 0 ∷ []) ∷ (15 ∷ 0 ∷ []) ∷ (255 ∷ 0 ∷ []) ∷ (65535 ∷ 0 ∷ []) ∷ (4294967295 ∷ 0 ∷ []) ∷ (18446744073709551615 ∷ 0 ∷ []) ∷ (18446744073709551615 ∷ 18446744073709551615 ∷ []) ∷ (18446744073709551615 ∷ 18446744073709551615 ∷ []) ∷ []) k []) i 0
+-- the word of the masks that are below a power of two
+abbrev pub below_bit : ℕ → List ℕ
+below_bit k = get_or bounds k []
 
--- whether a word of these masks is right
-abbrev is_below : ℕ → ℕ → Bool
-is_below k i = agree_below (λ b. has_number (below_bit k i) b) (λ b. ltb (64 * i + b) (2 ^ k)) 64
+-- the masks below a bit, by its table
+pub below_bit_has : (k m : ℕ) → k < 9 → m < 128 → has_mask (below_bit k) m ≡ ltb m (2 ^ k)
+below_bit_has k m few small = row_has bounds (λ j n. ltb n (2 ^ j)) refl k m few small
 
-pub has_number-below_bit : (k i b : ℕ) → k < 9 → i < 2 → b < 64 → has_number (below_bit k i) b ≡ ltb (64 * i + b) (2 ^ k)
-has_number-below_bit k i b few small h =
-    let words : agree_below (λ w. is_below k w) (λ w. true) 2 ≡ true =
-    agree_below_at (λ j. agree_below (λ w. is_below j w) (λ w. true) 2) (λ j. true) 9 k refl few in
-    let bits : is_below k i ≡ true = agree_below_at (λ w. is_below k w) (λ w. true) 2 i words small in
-    agree_below_at (λ n. has_number (below_bit k i) n) (λ n. ltb (64 * i + n) (2 ^ k)) 64 b bits h
-
-ltb_high : (k i b : ℕ) → 2 ^ k ≤ 64 * i → ltb (64 * i + b) (2 ^ k) ≡ false
-ltb_high k i b h = le-ltb (64 * i + b) (2 ^ k) (omega arith)
-
-pub lower_later : (i k b : ℕ) → k < 6 → i ≢ 0 → has_number 0 b ≡ ltb (64 * i + b) (2 ^ k)
-lower_later i k b low later = let p = pow_below k 6 low in has_number-none b ∙ sym (ltb_high k i b (omega arith))
-
-pub lower_whole : (i k b : ℕ) → b < 64 → 6 ≤ k → k ≤ 8 → i < step_of k → has_number (2 ^ 64 - 1) b ≡ ltb (64 * i + b) (2 ^ k)
-lower_whole i k b h high small inside =
-    let moved = step_masks k high small in
-    has_number-below 64 b ∙ lt-ltb b 64 h ∙ sym (lt-ltb (64 * i + b) (2 ^ k) (omega arith))
-
-pub lower_past : (i k b : ℕ) → 6 ≤ k → k ≤ 8 → step_of k ≤ i → has_number 0 b ≡ ltb (64 * i + b) (2 ^ k)
-lower_past i k b high small past =
-    let moved = step_masks k high small in
-    has_number-none b ∙ sym (ltb_high k i b (omega arith))
-
-pub not_below : (m n : ℕ) → not (ltb m n) ≡ leb n m
+not_below : (m n : ℕ) → not (ltb m n) ≡ leb n m
 not_below m n =
     elim (cases_lt m n) [
       | inl low ↦ rw (lt-ltb m n low, lt-leb n m low) refl
       | inr high ↦ rw (le-ltb m n high, le-leb n m high) refl
     ]
 
+pub above_bit_has : (k m : ℕ) → k < 9 → m < 128 → not (has_mask (below_bit k) m) ≡ leb (2 ^ k) m
+above_bit_has k m few small = ap not (below_bit_has k m few small) ∙ not_below m (2 ^ k)
+
 -- ---- a set from its words
 
+-- behind its last word a set has no mask
 pub has_mask-past : (words : List ℕ) (m : ℕ) → 64 * length words ≤ m → has_mask words m ≡ false
 has_mask-past words m h =
     let past : length words ≤ m / 64 = omega arith in
@@ -281,12 +191,14 @@ pub record AreFilled (test : ℕ → Bool) (words : List ℕ) (n i : ℕ) : Type
   pub room : length words ≡ n
   pub masks : (m : ℕ) → m < 64 * i → has_mask words m ≡ test m
 
+-- before the first word nothing is filled in
 pub filled_none : (test : ℕ → Bool) (n : ℕ) → AreFilled test (replicate n 0) n 0
 filled_none test n = record {
   room = length-replicate n 0;
   masks = λ m h. absurd (omega arith);
 }
 
+-- one word more is filled in
 pub filled_more : (test : ℕ → Bool) (words : List ℕ) (n i w : ℕ) → AreFilled test words n i → i < n
     → ((b : ℕ) → b < 64 → has_number w b ≡ test (64 * i + b)) → AreFilled test (set words i w) n (i + 1)
 filled_more test words n i w before inside here =
@@ -300,6 +212,7 @@ filled_more test words n i w before inside here =
       ];
     }
 
+-- when all words are filled in, the set has just the masks that pass the test
 pub filled_all : (test : ℕ → Bool) (words : List ℕ) (n i : ℕ) → AreFilled test words n i → n ≤ i
     → ((m : ℕ) → 64 * n ≤ m → test m ≡ false) → (m : ℕ) → has_mask words m ≡ test m
 filled_all test words n i filled end past m =
@@ -309,12 +222,55 @@ filled_all test words n i filled end past m =
       | inr outside ↦ has_mask-past words m (omega arith) ∙ sym (past m outside)
     ]
 
--- the masks that the words have room for, and those past them
-pub filled_inside : (test : ℕ → Bool) (words : List ℕ) (n i : ℕ) → AreFilled test words n i → n ≤ i → (m : ℕ) → m < 64 * n → has_mask words m ≡ test m
-filled_inside test words n i filled end m inside = filled.masks m (omega arith)
+-- no mask past the words comes of one inside by one of its values
+pub with_past_low : (words : List ℕ) (n k m : ℕ) → length words ≡ n → k < 6 → 64 * n ≤ m → (has_number m k && has_mask words (m - 2 ^ k)) ≡ false
+with_past_low words n k m room low past =
+    elim (cases_Bool (has_number m k)) [
+      | inl e ↦ (let most = power_most (m % 64) k (has_number-mod m 6 k low ∙ e) in
+          rw e (has_mask-past words (m - 2 ^ k) (omega (arith, room, past, most))))
+      | inr e ↦ rw e refl
+    ]
 
-pub filled_past : (test : ℕ → Bool) (words : List ℕ) (n i : ℕ) → AreFilled test words n i → (m : ℕ) → 64 * n ≤ m → has_mask words m ≡ false
-filled_past test words n i filled m past = has_mask-past words m (omega (arith, filled.room))
+-- ---- the last bit of a set of two words: the masks of the second word have it
+
+has_last : (m : ℕ) → has_number m 6 ≡ has_number (m / 64) 0
+has_last m = sym (has_number-shr m 6 0)
+
+pub with_last_has : (words : List ℕ) (n m : ℕ) → n ≡ 2 → length words ≡ n
+    → has_mask (set (replicate n 0) 1 (get_or words 0 0)) m ≡ (has_number m 6 && has_mask words (m - 2 ^ 6))
+with_last_has words n m two long =
+    let room : length (replicate {A = ℕ} n 0) ≡ n = length-replicate n 0 in
+    elim (cases_eq (m / 64) 1) [
+      | inl second ↦ (let word : (m - 64) / 64 ≡ 0 = omega arith in
+          let bit : (m - 64) % 64 ≡ m % 64 = omega arith in
+          has_mask-set_same (replicate n 0) 1 (get_or words 0 0) m (omega (arith, room, two)) second ∙ rw (has_last m, second, word, bit) refl)
+      | inr other ↦ has_mask-set_other (replicate n 0) 1 (get_or words 0 0) m other ∙ has_mask-none n m ∙ sym (elim (cases_Bool (has_number m 6)) [
+        | inl has ↦ (let odd : m / 64 % 2 ≡ 1 = sym (bit_at_lowest (m / 64)) ∙ bit-from_number (m / 64) 0 (sym (has_last m) ∙ has) in
+            and_right _ _ (has_mask-past words (m - 64) (omega (arith, long, two, odd, other))))
+        | inr lacks ↦ rw lacks refl
+      ])
+    ]
+
+pub without_last_has : (words : List ℕ) (n m : ℕ) → n ≡ 2 → length words ≡ n
+    → has_mask (set (replicate n 0) 0 (get_or words 1 0)) m ≡ (not (has_number m 6) && has_mask words (m + 2 ^ 6))
+without_last_has words n m two long =
+    let room : length (replicate {A = ℕ} n 0) ≡ n = length-replicate n 0 in
+    elim (cases_eq (m / 64) 0) [
+      | inl first ↦ (let word : (m + 64) / 64 ≡ 1 = omega arith in
+          let bit : (m + 64) % 64 ≡ m % 64 = omega arith in
+          has_mask-set_same (replicate n 0) 0 (get_or words 1 0) m (omega (arith, room, two)) first ∙ rw (has_last m, first, word, bit) refl)
+      | inr other ↦ has_mask-set_other (replicate n 0) 0 (get_or words 1 0) m other ∙ has_mask-none n m
+          ∙ sym (and_right _ _ (has_mask-past words (m + 64) (omega (arith, long, two))))
+    ]
+
+-- two tests that agree on the masks of two words take the same masks out of a set of two words at most
+pub same_taken : (words : List ℕ) (test other : ℕ → Bool) (n : ℕ) → length words ≡ n → n ≤ 2 → ((m : ℕ) → m < 128 → test m ≡ other m)
+    → (m : ℕ) → (has_mask words m && test m) ≡ (has_mask words m && other m)
+same_taken words test other n room small agree m =
+    elim (cases_lt m 128) [
+      | inl inside ↦ ap (λ b. has_mask words m && b) (agree m inside)
+      | inr past ↦ (let none = has_mask-past words m (omega (arith, room)) in and_left _ _ none ∙ sym (and_left _ _ none))
+    ]
 
 -- ---- words without a mask
 
@@ -348,11 +304,3 @@ not_empty masks empty test = (
   λ r. not_from_false empty (false_from_ne_true empty (λ e.
       both_ways (has_mask masks r.0) (MatchBool-at_true ((m : ℕ) → has_mask masks m ≡ false) ((m : ℕ) × (has_mask masks m ≡ true)) e test r.0) r.1)),
 )
-
--- the masks of a line of at most eight squares are in one word
-pub one_word : (width : ℕ) → width ≤ 8 → 2 ^ (width - 2) ≤ 64
-one_word width short =
-    let some : 1 ≤ 2 = omega arith in
-    let few : width - 2 ≤ 6 = omega arith in
-    let most : 2 ^ (width - 2) ≤ 2 ^ 6 = pow-le-pow_right some few in
-    omega arith

@@ -15,6 +15,7 @@ seen_after-append b (x ∷ p) s =
     let g = rw f at e in
     omega (arith, g)
 
+-- of a list in two parts, what is seen of the first, and behind it of the second
 pub seen-append : (p s : List ℕ) → seen (p ++ s) ≡ seen p + seen_after p s
 seen-append p s = seen_after-append [] p s
 
@@ -22,6 +23,7 @@ step_most : (b : Bool) (n m : ℕ) → n ≤ m → cond b 1 0 + n ≤ m + 1
 step_most true n m h = omega arith
 step_most false n m h = omega arith
 
+-- no more towers are seen than there are
 pub seen_most : (b p : List ℕ) → seen_after b p ≤ length p
 seen_most b [] = omega arith
 seen_most b (x ∷ p) = omega (arith, step_most (list_all (λ y. ltb y x) b) _ (length p) (seen_most (b ++ x ∷ []) p))

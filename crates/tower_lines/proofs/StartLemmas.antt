@@ -16,6 +16,7 @@ is_in-place x (y ∷ p) e =
       | inr other ↦ (let rest = is_in-place x p (rw other at e) in (rest.0 + 1, omega (arith, rest.1), rw add-one rest.2))
     ]
 
+-- a list has each of its entries
 pub is_in-at : (x : ℕ) (p : List ℕ) (i : ℕ) → i < length p → get_or p i 0 ≡ x → is_in x p ≡ true
 is_in-at x p i l e = list_any_at (λ y. eqb y x) p i 0 l (eq-eqb (get_or p i 0) x e)
 
@@ -38,6 +39,7 @@ pub record IsNextValue (sets p : List ℕ) (v : ℕ) : Type 0 where
   pub candidate : has_number (get_or sets (length p) 0) v ≡ true
   pub fresh : is_in v p ≡ false
 
+-- of a start that goes on, what is known of its next value
 pub start_next : {sets : List ℕ} (p : List ℕ) (v : ℕ) (s : List ℕ) → IsStart sets (p ++ v ∷ s) → IsNextValue sets p v
 start_next {sets} p v s h =
     let n = length-append p (v ∷ s) in
@@ -64,6 +66,7 @@ push_each P p v each last j l =
       | inr more ↦ (let e : j ≡ length p = omega arith in rw e (rw (get_or_at p v [] 0 (length p) refl) last))
     ]
 
+-- a start with such a value more is a start
 pub start_more : {sets : List ℕ} (p : List ℕ) (v : ℕ) → IsStart sets p → IsNextValue sets p v → IsStart sets (p ++ v ∷ [])
 start_more {sets} p v h next =
     record {

@@ -1,6 +1,6 @@
 //! The values that each square of a line with a clue can take.
 
-ghost use Rattle.std.specs.Prelude.{◌≡◌, ℕ, ◌-◌, ◌*◌, ◌^◌, ◌<◌, ◌≤◌, ◌↔◌, true, false, [], length, replicate, slice_index, slice_index_or, IsTrue, List};
+ghost use Rattle.std.specs.Prelude.{◌≡◌, ℕ, ◌+◌, ◌<◌, ◌≤◌, ◌↔◌, true, false, [], length, replicate, slice_index, slice_index_or, IsTrue, List};
 ghost use Rattle.number_sets.specs.Sets.{has_number, no_numbers};
 ghost use Rattle.tower_lines.specs.LineFillings.{IsFilling, IsSupported};
 ghost use Rattle.tower_lines.specs.Inner.MaskSets.{has_at};
@@ -25,8 +25,8 @@ pub fn supported(sets: &[NumberSet], clue: u8) -> [NumberSet; 9]
 {
     match sets.len() {
         0 => no_values(),
-        1..=8 => supported_by::<1>(sets, clue),
-        _ => supported_by::<2>(sets, clue),
+        1..=8 => supported_by::<1>(sets, usize::from(clue)),
+        _ => supported_by::<2>(sets, usize::from(clue)),
     }
 }
 
@@ -50,32 +50,34 @@ fn is_reached(sets: &[NumberSet], clue: u8) -> bool
 {
     match sets.len() {
         0 => clue == 0,
-        1..=8 => is_reached_by::<1>(sets, clue),
-        _ => is_reached_by::<2>(sets, clue),
+        1..=8 => is_reached_by::<1>(sets, usize::from(clue)),
+        _ => is_reached_by::<2>(sets, usize::from(clue)),
     }
 }
 
 // The same, by masks in so many words.
-fn is_reached_by<const W: usize>(sets: &[NumberSet], clue: u8) -> bool
+fn is_reached_by<const W: usize>(sets: &[NumberSet], clue: usize) -> bool
     requires some { 0 < length sets.now }
     requires short { length sets.now ≤ 9 }
     requires clue { clue ≤ 9 }
-    requires room { 2 ^ (length sets.now - 2) ≤ 64 * W }
+    requires room { length sets.now ≤ 7 + W }
+    requires words { 0 < W }
     requires small { W ≤ 2 }
     ensures { IsTrue result ↔ ((line : List ℕ) × IsFilling sets.now clue line) }
 {
     let mut starts = [no_levels(); 10];
     add_starts::<W>(sets, clue, &mut starts);
     let whole = &starts[sets.len()];
-    !whole[usize::from(clue)].is_empty()
+    !whole[clue].is_empty()
 }
 
 // What is supported, by masks in so many words.
-fn supported_by<const W: usize>(sets: &[NumberSet], clue: u8) -> [NumberSet; 9]
+fn supported_by<const W: usize>(sets: &[NumberSet], clue: usize) -> [NumberSet; 9]
     requires some { 0 < length sets.now }
     requires short { length sets.now ≤ 9 }
     requires clue { clue ≤ 9 }
-    requires room { 2 ^ (length sets.now - 2) ≤ 64 * W }
+    requires room { length sets.now ≤ 7 + W }
+    requires words { 0 < W }
     requires small { W ≤ 2 }
     ensures { (place value : ℕ) → (has_number (slice_index result place) value ≡ true)
         ↔ IsSupported sets.now clue place value }
@@ -92,11 +94,12 @@ fn supported_by<const W: usize>(sets: &[NumberSet], clue: u8) -> [NumberSet; 9]
 }
 
 // Puts for each number of places the levels of the starts that have so many values where no level has a mask yet.
-fn add_starts<const W: usize>(sets: &[NumberSet], clue: u8, starts: &mut [Levels<W>; 10])
+fn add_starts<const W: usize>(sets: &[NumberSet], clue: usize, starts: &mut [Levels<W>; 10])
     requires some { 0 < length sets.now }
     requires short { length sets.now ≤ 9 }
     requires clue { clue ≤ 9 }
-    requires room { 2 ^ (length sets.now - 2) ≤ 64 * W }
+    requires room { length sets.now ≤ 7 + W }
+    requires words { 0 < W }
     requires small { W ≤ 2 }
     requires blank { (place level mask : ℕ) → place < 10 → has_at (slice_index_or starts.old place []) level mask ≡ false }
     ensures { (place : ℕ) → place ≤ length sets.now

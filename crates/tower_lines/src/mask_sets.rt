@@ -1,6 +1,6 @@
 //! Sets of masks of values. Bit k of a mask stands for the value k + 2, since the least value is in no mask.
 
-ghost use Rattle.std.specs.Prelude.{◌≡◌, ℕ, ◌+◌, ◌-◌, ◌*◌, ◌^◌, ◌<◌, ◌≤◌, ◌==◌, ◌&&◌, ◌||◌, true, false, not, nat_le, nat_lt, List, count_ones};
+ghost use Rattle.std.specs.Prelude.{◌≡◌, ℕ, ◌+◌, ◌-◌, ◌*◌, ◌^◌, ◌<◌, ◌≤◌, ◌==◌, ◌&&◌, ◌||◌, true, false, not, length, nat_le, nat_lt, List, count_ones};
 ghost use Rattle.std.specs.Bool.{MatchBool};
 ghost use Rattle.number_sets.specs.Sets.{has_number};
 ghost use Rattle.tower_lines.specs.Inner.MaskSets.{has_mask};
@@ -91,11 +91,7 @@ impl<const W: usize> MaskSet<W> {
     pub fn intersection(&self, other: &Self) -> Self
         ensures { (m : ℕ) → has_mask result m ≡ (has_mask self.now m && has_mask other.now m) }
     {
-        let mut words = [0; W];
-        for i in 0..W {
-            words[i] = self.words[i] & other.words[i];
-        }
-        MaskSet { words }
+        self.common(&other.words)
     }
 
     /// Whether the set has no mask.
@@ -112,7 +108,8 @@ impl<const W: usize> MaskSet<W> {
 
     /// The masks with no value greater than that of the bit, which shows it where it is the next one.
     pub fn showing(&self, bit: u8) -> Self
-        requires { bit < 8 }
+        requires bit { bit < 8 }
+        requires small { W ≤ 2 }
         ensures { (m : ℕ) → has_mask result m ≡ (has_mask self.now m && nat_lt m (2 ^ (bit + 1))) }
     {
         self.below(bit + 1)
@@ -120,7 +117,8 @@ impl<const W: usize> MaskSet<W> {
 
     /// The masks with a value greater than that of the bit, which hides it where it is the next one.
     pub fn hiding(&self, bit: u8) -> Self
-        requires { bit < 8 }
+        requires bit { bit < 8 }
+        requires small { W ≤ 2 }
         ensures { (m : ℕ) → has_mask result m ≡ (has_mask self.now m && nat_le (2 ^ (bit + 1)) m) }
     {
         self.from(bit + 1)
@@ -132,55 +130,71 @@ impl<const W: usize> MaskSet<W> {
         requires small { W ≤ 2 }
         ensures { (m : ℕ) → has_mask result m ≡ (has_mask self.now m && (count_ones m == count)) }
     {
-        let mut words = [0; W];
-        for i in 0..W {
-            words[i] = self.words[i] & WITH_COUNT[count][i];
-        }
-        MaskSet { words }
+        let _words = &self.words;
+        self.common(&WITH_COUNT[count])
     }
 
-    // The masks whose values are all lower than that of the bit.
-    fn below(&self, bit: u8) -> Self
-        requires { bit ≤ 8 }
+    /// The masks whose values are all lower than that of the bit.
+    pub fn below(&self, bit: u8) -> Self
+        requires bit { bit ≤ 8 }
+        requires small { W ≤ 2 }
         ensures { (m : ℕ) → has_mask result m ≡ (has_mask self.now m && nat_lt m (2 ^ bit)) }
     {
-        let mut words = [0; W];
-        for i in 0..W {
-            words[i] = self.words[i] & lower_masks(i, bit);
-        }
-        MaskSet { words }
+        let _words = &self.words;
+        self.common(&BELOW_BIT[usize::from(bit)])
     }
 
-    // The masks that have a value no lower than that of the bit.
-    fn from(&self, bit: u8) -> Self
-        requires { bit ≤ 8 }
+    /// The masks that have a value no lower than that of the bit.
+    pub fn from(&self, bit: u8) -> Self
+        requires bit { bit ≤ 8 }
+        requires small { W ≤ 2 }
         ensures { (m : ℕ) → has_mask result m ≡ (has_mask self.now m && nat_le (2 ^ bit) m) }
+    {
+        let _words = &self.words;
+        self.apart(&BELOW_BIT[usize::from(bit)])
+    }
+
+    // The masks that are in the other words, too.
+    fn common(&self, others: &[u64]) -> Self
+        requires { W ≤ length others.now }
+        ensures { (m : ℕ) → has_mask result m ≡ (has_mask self.now m && has_mask others.now m) }
     {
         let mut words = [0; W];
         for i in 0..W {
-            words[i] = self.words[i] & !lower_masks(i, bit);
+            words[i] = self.words[i] & others[i];
         }
         MaskSet { words }
     }
 
-    /// The masks that lack the bit, with it. Those that would be past the last word are lost.
+    // The masks that are not in the other words.
+    fn apart(&self, others: &[u64]) -> Self
+        requires { W ≤ length others.now }
+        ensures { (m : ℕ) → has_mask result m ≡ (has_mask self.now m && not (has_mask others.now m)) }
+    {
+        let mut words = [0; W];
+        for i in 0..W {
+            words[i] = self.words[i] & !others[i];
+        }
+        MaskSet { words }
+    }
+
+    /// The masks that lack the bit, with it.
     pub fn with(&self, bit: u8) -> Self
-        requires { bit < 8 }
-        ensures inside { (m : ℕ) → m < 64 * W → has_mask result m ≡ (has_number m bit && has_mask self.now (m - 2 ^ bit)) }
-        ensures past { (m : ℕ) → 64 * W ≤ m → has_mask result m ≡ false }
+        requires bit { bit < 5 + W }
+        requires small { W ≤ 2 }
+        ensures { (m : ℕ) → has_mask result m ≡ (has_number m bit && has_mask self.now (m - 2 ^ bit)) }
     {
         if bit < 6 {
             self.with_low(bit)
         } else {
-            self.with_high(bit)
+            self.with_last()
         }
     }
 
     // The same for a bit with which masks stay in their words.
     fn with_low(&self, bit: u8) -> Self
         requires { bit < 6 }
-        ensures inside { (m : ℕ) → m < 64 * W → has_mask result m ≡ (has_number m bit && has_mask self.now (m - 2 ^ bit)) }
-        ensures past { (m : ℕ) → 64 * W ≤ m → has_mask result m ≡ false }
+        ensures { (m : ℕ) → has_mask result m ≡ (has_number m bit && has_mask self.now (m - 2 ^ bit)) }
     {
         let shift = 1u32 << bit;
         let having = WITH_BIT[usize::from(bit)];
@@ -191,46 +205,27 @@ impl<const W: usize> MaskSet<W> {
         MaskSet { words }
     }
 
-    // The same for a bit with which masks are in other words.
-    fn with_high(&self, bit: u8) -> Self
-        requires low { 6 ≤ bit }
-        requires high { bit < 8 }
-        ensures inside { (m : ℕ) → m < 64 * W → has_mask result m ≡ (has_number m bit && has_mask self.now (m - 2 ^ bit)) }
-        ensures past { (m : ℕ) → 64 * W ≤ m → has_mask result m ≡ false }
+    // The same for the last bit of a set of two words, with which masks are in the other word.
+    fn with_last(&self) -> Self
+        requires { W ≡ 2 }
+        ensures { (m : ℕ) → has_mask result m ≡ (has_number m 6 && has_mask self.now (m - 2 ^ 6)) }
     {
         let mut words = [0; W];
-        for i in 0..W {
-            words[i] = self.word_with(i, bit);
-        }
+        words[1] = self.words[0];
         MaskSet { words }
-    }
-
-    // The word at i of the set with such a bit more.
-    fn word_with(&self, i: usize, bit: u8) -> u64
-        requires inside { i < W }
-        requires low { 6 ≤ bit }
-        requires high { bit < 8 }
-        ensures { (b : ℕ) → b < 64 → has_number result b
-            ≡ (has_number (64 * i + b) bit && has_mask self.now (64 * i + b - 2 ^ bit)) }
-    {
-        let step = 1 << (bit - 6);
-        if i & step == 0 {
-            0
-        } else {
-            self.words[i - step]
-        }
     }
 
     /// The masks that have the bit, without it.
     pub fn without(&self, bit: u8) -> Self
-        requires { bit < 8 }
+        requires bit { bit < 5 + W }
+        requires small { W ≤ 2 }
         ensures { (m : ℕ) → has_mask result m
             ≡ (not (has_number m bit) && has_mask self.now (m + 2 ^ bit)) }
     {
         if bit < 6 {
             self.without_low(bit)
         } else {
-            self.without_high(bit)
+            self.without_last()
         }
     }
 
@@ -249,49 +244,13 @@ impl<const W: usize> MaskSet<W> {
         MaskSet { words }
     }
 
-    // The same for a bit without which masks are in other words.
-    fn without_high(&self, bit: u8) -> Self
-        requires low { 6 ≤ bit }
-        requires high { bit < 8 }
-        ensures { (m : ℕ) → has_mask result m
-            ≡ (not (has_number m bit) && has_mask self.now (m + 2 ^ bit)) }
+    // The same for the last bit of a set of two words, without which masks are in the other word.
+    fn without_last(&self) -> Self
+        requires { W ≡ 2 }
+        ensures { (m : ℕ) → has_mask result m ≡ (not (has_number m 6) && has_mask self.now (m + 2 ^ 6)) }
     {
         let mut words = [0; W];
-        for i in 0..W {
-            words[i] = self.word_without(i, bit);
-        }
-        // The proof needs to know that there are no more than W words.
-        let _ = &self.words;
+        words[0] = self.words[1];
         MaskSet { words }
     }
-
-    // The word at i of the set without such a bit.
-    fn word_without(&self, i: usize, bit: u8) -> u64
-        requires inside { i < W }
-        requires low { 6 ≤ bit }
-        requires high { bit < 8 }
-        ensures { (b : ℕ) → b < 64 → has_number result b
-            ≡ (not (has_number (64 * i + b) bit) && has_mask self.now (64 * i + b + 2 ^ bit)) }
-    {
-        let step = 1 << (bit - 6);
-        if i & step == 0 && step < W - i {
-            self.words[i + step]
-        } else {
-            0
-        }
-    }
-}
-
-// The masks of the word at i whose values are all lower than that of the bit. A set has two words at most, whose masks are in the table.
-fn lower_masks(i: usize, bit: u8) -> u64
-    requires { bit ≤ 8 }
-    ensures { (b : ℕ) → b < 64 → has_number result b ≡ nat_lt (64 * i + b) (2 ^ bit) }
-{
-    if i < 2 {
-        return BELOW_BIT[usize::from(bit)][i];
-    }
-    if bit < 6 {
-        return 0;
-    }
-    if i < 1 << (bit - 6) { u64::MAX } else { 0 }
 }

@@ -73,6 +73,7 @@ narrows_nothing c = record { less = earlier_refl c; keeps = λ g s. s.within; re
 pub narrows_none : (c : CandidatesValue) → ((g : GridValue) → IsLatinWithin c g → ⊥) → NarrowsLatin c c false
 narrows_none c none = record { less = earlier_refl c; keeps = λ g s. s.within; refutes = none }
 
+-- two steps that narrow for Latin squares, one after the other
 pub narrows_then : (a b c : CandidatesValue) (result : Bool) → NarrowsLatin a b true → NarrowsLatin b c result → NarrowsLatin a c result
 narrows_then a b c true n m = record {
   less = earlier_trans a b c n.less m.less;
@@ -105,6 +106,7 @@ pub record StrikesRights (old new : CandidatesValue) (pairing : Pairing) (left r
 pub strikes_nothing : (c : CandidatesValue) (pairing : Pairing) (left rights : ℕ) → StrikesRights c c pairing left rights
 strikes_nothing c pairing left rights = record { less = earlier_refl c; keeps = λ g w _. w }
 
+-- one pair more of a crowd's rights is struck
 pub strikes_more : (old now new : CandidatesValue) (pairing : Pairing) (left rights right cell value : ℕ) → StrikesRights old now pairing left rights
     → right < old.size → has_number rights right ≡ true → cell ≡ pair_cell old.size pairing left right → value ≡ pair_value pairing right
     → Removes now new cell value → StrikesRights old new pairing left rights

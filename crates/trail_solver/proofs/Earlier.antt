@@ -12,9 +12,11 @@ use Rattle.trail_solver.specs.Candidates.{CandidatesValue, IsEarlier, IsOnly, Is
 pub prefix_refl : (ps : List (ℕ × ℕ)) → IsPrefix ps ps
 prefix_refl ps = record { is = take_all (length ps) ps (omega arith) }
 
+-- a list is the beginning of itself with more behind
 pub prefix-append : (ps qs : List (ℕ × ℕ)) → IsPrefix ps (ps ++ qs)
 prefix-append ps qs = record { is = take_at ps qs (length ps) refl }
 
+-- a beginning is no longer than the whole
 pub prefix_length : (ps qs : List (ℕ × ℕ)) → IsPrefix ps qs → length ps ≤ length qs
 prefix_length ps qs h = omega (arith, length-take (length ps) qs, ap length h.is)
 
@@ -39,9 +41,11 @@ prefix_with_pair ps cell value =
 
 -- ---- earlier and later candidates
 
+-- candidates are earlier than themselves, where nothing more has gone
 pub earlier_refl : (c : CandidatesValue) → IsEarlier c c
 earlier_refl c = record { size = refl; adds = prefix_refl c.trail }
 
+-- earlier than what is earlier
 pub earlier_trans : (a b c : CandidatesValue) → IsEarlier a b → IsEarlier b c → IsEarlier a c
 earlier_trans a b c h k = record { size = k.size ∙ h.size; adds = prefix_trans a.trail b.trail c.trail h.adds k.adds }
 

@@ -20,6 +20,7 @@ module _ (p : Puzzle) where
   abbrev Begins : List ℕ → GridValue → Type 0
   Begins front g = Solves p g × ((k : ℕ) → k < length front → number_at g k ≡ get_or front k 0)
 
+  -- the solutions that begin with these numbers and go on with v or a greater one
   abbrev GoesOn : List ℕ → ℕ → GridValue → Type 0
   GoesOn front v g = Begins front g × (v ≤ number_at g (length front))
 
@@ -112,6 +113,7 @@ module _ (p : Puzzle) where
         let all = first_from front next inside (p.size + 1) 0 limit (omega arith) in
         (all.0, AreFirst-same (GoesOn front 0) (Begins front) limit all.0 (λ g a. a.0) (λ g b. (b, omega arith)) all.1)
 
+  -- for each limit there are the first solutions of a puzzle
   pub first_solutions : (limit : ℕ) → HasFirst (Solves p) limit
   first_solutions limit =
       elim (cases_lt p.size 3) [

@@ -13,6 +13,7 @@ fits_same A B None to from f = λ g b. f g (from g b)
 fits_same A B (One g) to from f = (to g f.0, λ h b. f.1 h (from h b))
 fits_same A B (Several g h) to from f = (to g f.0, to h f.1, f.2)
 
+-- what is added of one kind of grids is added of the same kind under another name
 pub adds_same : (A B : GridValue → Type 0) (found answer : Answer) → ((g : GridValue) → A g → B g) → ((g : GridValue) → B g → A g)
     → Adds A found answer → Adds B found answer
 adds_same A B None answer to from f = fits_same A B answer to from f

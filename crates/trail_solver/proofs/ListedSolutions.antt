@@ -43,6 +43,7 @@ AreFirst-none A limit n = record {
   others = λ g a. absurd (n g a);
 }
 
+-- of none at all, the empty list has the first
 pub AreFirst-full : (A : GridValue → Type 0) (limit : ℕ) → limit ≡ 0 → AreFirst A limit []
 AreFirst-full A limit e = record {
   few = omega arith;
@@ -106,6 +107,7 @@ AreFirst-then A B C limit xs ys ac bc split below f h =
 pub lists_nothing : (A : GridValue → Type 0) (limit : ℕ) (xs : List GridValue) → AreFirst A (limit - length xs) [] → Lists A limit xs xs
 lists_nothing A limit xs f = record { more = []; whole = sym (append-nil xs); first = f }
 
+-- what is listed of one kind of grids is listed of the same kind under another name
 pub lists_same : (A B : GridValue → Type 0) (limit : ℕ) (xs ys : List GridValue) → ((g : GridValue) → A g → B g)
     → ((g : GridValue) → B g → A g) → Lists A limit xs ys → Lists B limit xs ys
 lists_same A B limit xs ys to from f = record { more = f.more; whole = f.whole; first = AreFirst-same A B (limit - length xs) f.more to from f.first }

@@ -12,9 +12,11 @@ use Rattle.trail_solver.proofs.AmongCandidates.{none_at_gone, none_where_filled}
 use Rattle.trail_solver.proofs.FilledGrids.{solution_pair, only_filled, filled_within}
 use Rattle.trail_solver.proofs.ListedSolutions.{AreFirst-none, AreFirst-full, AreFirst-only, lists_nothing, lists_same, lists_then}
 
+-- where there is no grid of the kind, the list stays
 pub none_lists : (A : GridValue → Type 0) (limit : ℕ) (xs : List GridValue) → ((h : GridValue) → A h → ⊥) → Lists A limit xs xs
 none_lists A limit xs n = lists_nothing A limit xs (AreFirst-none A (limit - length xs) n)
 
+-- where there is just one and room for it, it comes to the end of the list
 pub only_lists : (A : GridValue → Type 0) (g : GridValue) (limit : ℕ) (xs ys : List GridValue) → A g → ((h : GridValue) → A h → h ≡ g)
     → length xs < limit → ys ≡ xs ++ g ∷ [] → Lists A limit xs ys
 only_lists A g limit xs ys a only room e = record {

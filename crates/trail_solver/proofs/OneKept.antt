@@ -37,6 +37,7 @@ pub may_be-removed : (old new : CandidatesValue) (cell value c v : ℕ) → Remo
 may_be-removed old new cell value c v r =
     ap (λ (ps : List (ℕ × ℕ)). not (has_pair ps c v)) r.trail ∙ ap not (has_pair-with_pair old.trail cell value c v)
 
+-- candidates were earlier before a pair was removed
 pub removed_earlier : (old new : CandidatesValue) (cell value : ℕ) → Removes old new cell value → IsEarlier old new
 removed_earlier old new cell value r = record {
   size = r.size;

@@ -11,6 +11,7 @@ use Rattle.trail_solver.specs.Inner.Pairings.{IsPairing, pair_cell, pair_value}
 use Rattle.trail_solver.specs.declared.pairing.Pairing.{Pairing}
 use Rattle.trail_solver.specs.declared.pairing.Pairing.TheVariants.{Line, Value}
 
+-- the pair of a left and a right is one of the size
 pub pair_is_one : (w : ℕ) (pairing : Pairing) (left right : ℕ) → IsPairing w pairing → left < w → right < w
     → IsPair w (pair_cell w pairing left right) (pair_value pairing right)
 pair_is_one w (Line line) left right is first second = record {

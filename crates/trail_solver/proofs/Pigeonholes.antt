@@ -51,6 +51,7 @@ at_least (suc n) crowd rights f count h =
     let rest = at_least n c.0 r.0 f fewer (rest_injects c.0 k.0 crowd r.0 rights f c.1 r.1 h) in
     omega (arith, rest, added_ones r.1)
 
+-- where each of a crowd has a right of its own, there are no fewer rights than lefts
 pub pigeonhole : (crowd rights : ℕ) (f : ℕ → ℕ) → Injects crowd rights f → count_ones crowd ≤ count_ones rights
 pigeonhole crowd rights f h = at_least (count_ones crowd) crowd rights f refl h
 

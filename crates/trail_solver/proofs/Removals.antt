@@ -7,7 +7,6 @@ use Rattle.std.proofs.lemmas.List.Folds.{length-flat_map-take, list_any-append}
 use Rattle.std.proofs.lemmas.Option.{get_or_from_slice_get, slice_get_within}
 use Rattle.std.proofs.lemmas.Grind.{flat_map-append}
 use Rattle.std.proofs.lemmas.Nat.{zero_from_ones}
-use Rattle.latin_board.specs.declared.grid.TheConstants.{CELLS}
 use Rattle.number_sets.specs.Sets.{has_number, IsEmpty}
 use Rattle.number_sets.proofs.Members.{has_number-none, has_number-above, below_from_numbers, below_from_number}
 use Rattle.trail_solver.specs.declared.trail.Removal.{Removal}
@@ -17,7 +16,7 @@ use Rattle.trail_solver.specs.Candidates.{CandidatesValue, AreCandidates}
 use Rattle.trail_solver.specs.Inner.Fields.{AgreesWithTrail, AreFields, FlipsSet, GivesBack, IsRemoval, IsUpperPart, trail_of}
 use Rattle.trail_solver.proofs.Trails.{same_pair}
 use Rattle.trail_solver.proofs.SetPairs.{IsRest, has_pair-pairs_of, length-pairs_of, pairs_of_none, pairs_parted}
-use Rattle.trail_solver.proofs.AgreeingSets.{agrees_struck, agrees_returned, last_are_pairs, pairs_fit, squares_fit, trail_fits}
+use Rattle.trail_solver.proofs.AgreeingSets.{agrees_struck, agrees_returned, last_are_pairs, pairs_fit, trail_fits}
 
 -- what is so of each is so of the last, and of those before it
 All-last : {X : Type 0} (P : X → Type 0) → (xs : List X) (x : X) → All P (xs ++ x ∷ []) → P x
@@ -76,11 +75,6 @@ are_left c cell set v there has = record {
   absent = λ u h. not-true (has_pair c.trail cell u) (there u h).1;
 }
 
-pub left_inside : (w : ℕ) (sets : List ℕ) (rs : List Removal) (pairs cell set : ℕ) → AreFields w sets rs pairs → AreLeft w (trail_of rs) cell set → cell < CELLS
-left_inside w sets rs pairs cell set k left =
-    let p = left.pairs left.some.0 left.some.1 in
-    omega (arith, p.inside, squares_fit w k.agrees.largest)
-
 pub fields_struck : (w : ℕ) (old new : List ℕ) (rs : List Removal) (pairs cell set : ℕ) → AreFields w old rs pairs
     → AreLeft w (trail_of rs) cell set → FlipsSet old new cell set
     → AreFields w new (rs ++ (record { cell = cell; values = set }) ∷ []) (pairs + count_ones set)
@@ -103,6 +97,7 @@ room_for_last w sets rs r pairs k =
 pub fields_bound : (w : ℕ) (sets : List ℕ) (rs : List Removal) (pairs : ℕ) → AreFields w sets rs pairs → pairs ≤ w * w * w
 fields_bound w sets rs pairs k = omega (arith, k.count, trail_fits w sets (trail_of rs) k.agrees)
 
+-- there is room in the trail for all pairs that were removed
 pub fields_fit : (w : ℕ) (sets : List ℕ) (rs : List Removal) (pairs : ℕ) → AreFields w sets rs pairs → pairs ≤ PAIRS
 fields_fit w sets rs pairs k = omega (arith, fields_bound w sets rs pairs k, pairs_fit w k.agrees.largest)
 

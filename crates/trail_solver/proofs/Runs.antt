@@ -4,7 +4,6 @@ use Rattle.latin_board.specs.Squares.{GridValue}
 use Rattle.trail_solver.specs.declared.answer.Answer.{Answer}
 use Rattle.trail_solver.specs.Inner.Added.{Adds}
 use Rattle.trail_solver.specs.Inner.Runs.{RunAdds}
-use Rattle.trail_solver.proofs.JoinedAnswers.{adds_same}
 
 -- a run with a limit may be left
 pub left_limited : (A : GridValue → Type 0) (limit : Option ℕ) (found answer : Answer) → limit ≢ None → RunAdds A limit false found answer
@@ -16,11 +15,6 @@ pub left_anyhow : (A B : GridValue → Type 0) (limit : Option ℕ) (found answe
     → RunAdds B limit false first last
 left_anyhow A B (Some most) found answer first last left = tt
 left_anyhow A B None found answer first last left = left
-
-pub run_same : (A B : GridValue → Type 0) (limit : Option ℕ) (all : Bool) (found answer : Answer) → ((g : GridValue) → A g → B g)
-    → ((g : GridValue) → B g → A g) → RunAdds A limit all found answer → RunAdds B limit all found answer
-run_same A B limit true found answer to from adds = adds_same A B found answer to from adds
-run_same A B limit false found answer to from left = left_anyhow A B limit found answer found answer left
 
 -- a run that went through all adds all
 pub through_all : (A : GridValue → Type 0) (limit : Option ℕ) (all : Bool) (found answer : Answer) → all ≡ true → RunAdds A limit all found answer

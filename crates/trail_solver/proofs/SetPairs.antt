@@ -17,10 +17,12 @@ use Rattle.trail_solver.proofs.Trails.{same_pair, pair_from_test, test_from_pair
 unfoldable pub pairs_to : ℕ → ℕ → ℕ → List (ℕ × ℕ)
 pairs_to cell set k = filter (λ p. has_number set p.1) (map (λ v. (cell, v)) (range_with_len 0 k))
 
+-- the pairs of a set are those of its numbers below 16
 pub pairs_whole : (cell set : ℕ) → pairs_of cell set ≡ pairs_to cell set 16
 unfolding pairs_of pairs_to
 pairs_whole cell set = refl
 
+-- of no numbers at all there are no pairs
 pub to_zero : (cell set : ℕ) → pairs_to cell set zero ≡ []
 unfolding pairs_to
 to_zero cell set = refl
@@ -167,6 +169,7 @@ length_to cell (suc k) set small =
           ]))
     ]
 
+-- there is a pair for each number of the set
 pub length-pairs_of : (cell set : ℕ) → set < 2 ^ 16 → length (pairs_of cell set) ≡ count_ones set
 length-pairs_of cell set small = ap length (pairs_whole cell set) ∙ length_to cell 16 set small
 
@@ -180,6 +183,7 @@ none_to cell set k =
     (λ n lacks before none. to_without cell set n lacks ∙ before (λ j less. none j (omega arith)))
     k
 
+-- an empty set has no pairs
 pub pairs_of_none : (cell set : ℕ) → IsEmpty set → pairs_of cell set ≡ []
 pairs_of_none cell set none = pairs_whole cell set ∙ none_to cell set 16 (λ j less. none j)
 
@@ -260,6 +264,7 @@ to_grows cell set n (suc m) =
       | inr lacks ↦ omega (arith, before, next, ap length (to_without cell set (n + m) lacks))
     ]
 
+-- a set has more pairs than those of its numbers below one that it has
 pub to_less : (cell set n : ℕ) → n < 16 → has_number set n ≡ true → length (pairs_to cell set n) < length (pairs_of cell set)
 to_less cell set n low has =
     let e : n + 1 + (15 - n) ≡ 16 = omega (arith, low) in

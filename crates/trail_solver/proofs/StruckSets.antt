@@ -17,6 +17,7 @@ pub record Strikes (old new : CandidatesValue) (cell set : ℕ) : Type 0 where
   pub trail : new.trail ≡ old.trail ++ pairs_of cell set
   pub small : set < 2 ^ 16
 
+-- candidates were earlier before a set was struck
 pub struck_earlier : (old new : CandidatesValue) (cell set : ℕ) → Strikes old new cell set → IsEarlier old new
 struck_earlier old new cell set s = record {
   size = s.size;
@@ -49,6 +50,7 @@ rest_struck old new cell set c v s other =
 pub record AreMissing (values kept missing : ℕ) : Type 0 where
   pub is : (v : ℕ) → has_number missing v ≡ (has_number values v && not (has_number kept v))
 
+-- the values that a square has and a set lacks are candidates of the square
 pub missing_are : (c : CandidatesValue) (cell values kept missing : ℕ) → IsSetOf c cell values
     → ((v : ℕ) → has_number missing v ≡ (has_number values v && not (has_number kept v))) → AreCandidates c cell missing
 missing_are c cell values kept missing is left v has =

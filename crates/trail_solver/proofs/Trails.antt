@@ -14,10 +14,12 @@ use Rattle.trail_solver.specs.Pairs.{IsPair, AreApart, has_pair}
 abbrev pub same_pair : ℕ → ℕ → ℕ × ℕ → Bool
 same_pair cell value p = eqb cell p.0 && eqb value p.1
 
+-- where the test of two pairs holds, both parts are the same
 pub pair_from_test : (a b c d : ℕ) → (eqb a b && eqb c d) ≡ true → (a ≡ b) × (c ≡ d)
 pair_from_test a b c d h =
     let parts = and_parts (eqb a b) (eqb c d) h in (eqb-true a b parts.0, eqb-true c d parts.1)
 
+-- where both parts are the same, the test of two pairs holds
 pub test_from_pair : (a b c d : ℕ) → a ≡ b → c ≡ d → (eqb a b && eqb c d) ≡ true
 test_from_pair a b c d h k = and_from (eqb a b) (eqb c d) (eq-eqb a b h) (eq-eqb c d k)
 
@@ -25,6 +27,7 @@ no_pair_turned : (a b c d : ℕ) → (eqb a b && eqb c d) ≡ false → (eqb b a
 no_pair_turned a b c d h =
     false_from_ne_true (eqb b a && eqb d c) (λ e. let p = pair_from_test b a d c e in both_ways (eqb a b && eqb c d) h (test_from_pair a b c d (sym p.0) (sym p.1)))
 
+-- a list with a pair more behind has what it had, and that pair
 pub has_pair-push : (ps : List (ℕ × ℕ)) (p : ℕ × ℕ) (cell value : ℕ)
     → has_pair (ps ++ p ∷ []) cell value ≡ (has_pair ps cell value || same_pair cell value p)
 has_pair-push [] p cell value = or-false (same_pair cell value p)
@@ -74,6 +77,7 @@ apart_absent (p ∷ ps) qs a c v h =
 abbrev pair_number : ℕ → ℕ × ℕ → ℕ
 pair_number w p = p.0 * w + (p.1 - 1)
 
+-- each pair of the list is one of the size
 abbrev AreOf : ℕ → List (ℕ × ℕ) → Type 0
 AreOf w ps = (cell value : ℕ) → has_pair ps cell value ≡ true → IsPair w cell value
 

@@ -21,6 +21,7 @@ use crate::calls::twins::are_equal;
 use clue_rules::{Towers, Unequal};
 use play_midend::Session;
 use puzzle_cli::Draw;
+use std::alloc::Global;
 use std::io;
 use std::io::Write;
 
@@ -49,6 +50,19 @@ pub(crate) fn list_calls(rt: &impl Print) -> io::Result<()> {
     Ok(())
 }
 
+/// What came of a call.
+#[derive(Drop)]
+enum Told {
+    /// Memory was refused before it.
+    Fixture,
+    /// It was refused, by this name; and how the session is after it.
+    Refused(&'static str, &'static str),
+    /// How the session is after it, and what the call made.
+    Made(&'static str, Vec<u8>),
+    /// Memory was refused after it.
+    Afterwards,
+}
+
 // Makes a call in one of two sessions that are equal, and says what came of it.
 fn tell<P: Draw>(
     rt: &(impl Print + AllocGlobal),
@@ -56,27 +70,49 @@ fn tell<P: Draw>(
     start: Start,
     call: &Call,
 ) -> io::Result<()> {
-    let alloc = rt.alloc();
+    print_told(rt, &call_told::<P>(rt.alloc(), id, start, call))
+}
+
+fn print_told(rt: &impl Print, told: &Told) -> io::Result<()> {
+    match told {
+        Told::Fixture => println!(rt; "fixture"),
+        Told::Refused(name, likeness) => println!(rt; "{name}\n{likeness}"),
+        Told::Made(likeness, text) => {
+            println!(rt; "ok\n{likeness}")?;
+            io::writer(rt).write_all(text)
+        }
+        Told::Afterwards => println!(rt; "afterwards"),
+    }
+}
+
+fn call_told<P: Draw>(alloc: Global, id: &str, start: Start, call: &Call) -> Told {
     let (Some(mut session), Some(mut twin)) = (
         session_at::<P>(alloc, id, start),
         session_at::<P>(alloc, id, start),
     ) else {
-        return println!(rt; "fixture");
+        return Told::Fixture;
     };
-    let made = match make(alloc, id, &mut session, call) {
-        Ok(made) => made,
-        Err(NotMade::Fixture) => return println!(rt; "fixture"),
-        Err(NotMade::Refused(name)) => {
-            let likeness = likeness(&mut session, &mut twin);
-            return println!(rt; "{name}\n{likeness}");
+    made_told(alloc, id, call, &mut session, &mut twin)
+}
+
+fn made_told<P: Draw>(
+    alloc: Global,
+    id: &str,
+    call: &Call,
+    session: &mut Session<P>,
+    twin: &mut Session<P>,
+) -> Told {
+    match make(alloc, id, session, call) {
+        Err(NotMade::Fixture) => Told::Fixture,
+        Err(NotMade::Refused(name)) => Told::Refused(name, likeness(session, twin)),
+        Ok(made) => {
+            let likeness = likeness(session, twin);
+            match made.text(alloc) {
+                Ok(text) => Told::Made(likeness, text),
+                Err(_) => Told::Afterwards,
+            }
         }
-    };
-    let likeness = likeness(&mut session, &mut twin);
-    let Ok(text) = made.text(alloc) else {
-        return println!(rt; "afterwards");
-    };
-    println!(rt; "ok\n{likeness}")?;
-    io::writer(rt).write_all(&text)
+    }
 }
 
 fn likeness<P: Draw>(session: &mut Session<P>, twin: &mut Session<P>) -> &'static str {

@@ -21,6 +21,7 @@ use Rattle.board_checks.specs.Laws.TwoSquares.{two_all, two_pairs}
 
 -- ---- where there is a sign
 
+-- a sign that is present says something
 pub present_said : (s : Sign) → is_present s ≡ true → IsSaid s
 present_said Absent present none = false≢true present
 present_said FirstGreater present none = cc
@@ -38,9 +39,11 @@ demanded_between v a b d valid e =
     let there = cond_some (is_present s) (sign_demand s a b) d e in
     record { next = said_next v a b valid (present_said s there.0); is = there.1 }
 
+-- the demand of the sign between a square and the next on its right
 pub right_demand : (v : UnequalValue) (cell : ℕ) → demand_if_present (sign_between v cell (cell + 1)) cell (cell + 1) ≡ unequal_demand v (RightOf cell)
 right_demand v cell = ap (λ (s : Sign). demand_if_present s cell (cell + 1)) (right_between v cell)
 
+-- the demand of the sign between a square and the next below
 pub below_demand : (v : UnequalValue) (cell : ℕ) → 3 ≤ v.size
     → demand_if_present (sign_between v cell (cell + v.size)) cell (cell + v.size) ≡ unequal_demand v (Below cell)
 below_demand v cell small = ap (λ (s : Sign). demand_if_present s cell (cell + v.size)) (below_between v cell small)

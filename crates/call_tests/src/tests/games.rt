@@ -1,4 +1,4 @@
-//! Games from the words of a command line to the file that is saved, over files of the tests' own, in the plain manner and in
+//! Games from the words of a command line to the file that is saved, over files of the tests' own, in the plain format and in
 //! another one.
 
 ghost use Rattle.std.specs.Prelude.{◌≡◌, false};
@@ -6,8 +6,7 @@ ghost use Rattle.std.specs.Prelude.{◌≡◌, false};
 use super::rows::{Row, check};
 use play_midend::Session;
 use puzzle_cli::{
-    Draw, Facts, Fault, GameFiles, Plain, Response, Text, Unwritten, Voice, play, play_with,
-    read_words,
+    Draw, Facts, Fault, Format, GameFiles, Plain, Response, Text, Unwritten, play, read_words,
 };
 use puzzle_io::{MemorySink, MemorySource, Sink, Source};
 use std::alloc::Global;
@@ -70,15 +69,17 @@ impl GameFiles for TwoFiles {
 // Answers by a dot where the plain reply has any bytes.
 enum Dots {}
 
-impl<P: Draw> Voice<P> for Dots {
-    ghost use Rattle.puzzle_cli.specs.Voices.{LeavesAsPlain};
+impl<P: Draw> Format<P> for Dots {
+    ghost use Rattle.std.specs.Prelude.{ℕ, List};
+    ghost use Rattle.puzzle_cli.specs.Replies.{Reply};
 
-    ghost reply = { λ old line _ new. LeavesAsPlain ⟦<P as Facts>⟧.facts old line new };
+    ghost reply = { λ old line _ new.
+        (said : List ℕ) × Reply ⟦<P as Facts>⟧.facts old line said new };
 
-    ghost leaves_as_plain = { λ _ _ _ _ left. left };
+    ghost leaves_as_answers = { λ _ _ _ _ told. (told.1.0, told.1.1, told.1.3) };
 
     fn answer(alloc: Global, session: &mut Option<Session<P>>, line: Option<&[u8]>) -> Response {
-        match <Plain as Voice<P>>::answer(alloc, session, line) {
+        match <Plain as Format<P>>::answer(alloc, session, line) {
             Response::Reply(_) => Response::Reply(Text::line(".")),
             silent => silent,
         }
@@ -112,9 +113,9 @@ impl Played {
             return false;
         };
         let ended = if self.1 {
-            play_with::<Dots, _, _, _>(alloc, &args, &files, &mut source, &mut sink)
+            play::<Dots, _, _, _>(alloc, &args, &files, &mut source, &mut sink)
         } else {
-            play(alloc, &args, &files, &mut source, &mut sink)
+            play::<Plain, _, _, _>(alloc, &args, &files, &mut source, &mut sink)
         };
         sink.taken() == self.3 && self.has_ended(ended)
     }

@@ -1,5 +1,5 @@
 -- Sets of lines that gain and lose lines.
-use Rattle.std.specs.Prelude.{◌≡◌, ℕ, ◌+◌, ◌/◌, ◌%◌, ◌==◌, ◌||◌, ◌&&◌, not}
+use Rattle.std.specs.Prelude.{◌≡◌, ℕ, ◌+◌, ◌/◌, ◌%◌, ◌<◌, ◌==◌, ◌||◌, ◌&&◌, not, true, false}
 use Rattle.number_sets.specs.Sets.{has_number}
 
 -- new is old with one line more
@@ -13,3 +13,16 @@ GainsLinesOf w cell old new = (k : ℕ) → has_number new k ≡ (has_number old
 -- new is old without one line
 abbrev pub LosesLine : ℕ → ℕ → ℕ → Type 0
 LosesLine line old new = (k : ℕ) → has_number new k ≡ (has_number old k && not (k == line))
+
+-- none of the first lines is in the set
+abbrev pub HasNoneBelow : ℕ → ℕ → Type 0
+HasNoneBelow count set = (line : ℕ) → line < count → has_number set line ≡ false
+
+-- the line is one of the first, and in the set
+abbrev pub IsOneBelow : ℕ → ℕ → ℕ → Type 0
+IsOneBelow count set line = (line < count) × (has_number set line ≡ true)
+
+-- the line is one of the first, and new is old without it
+pub record IsTaken (count old new line : ℕ) : Type 0 where
+  pub one : IsOneBelow count old line
+  pub rest : LosesLine line old new

@@ -54,8 +54,8 @@ abbrev pub IsClash : LineTally → ℕ → Type 0
 IsClash t set = ((v : ℕ) → has_number set v ≡ false) ⊎ ((v : ℕ) × IsSingle set v × (has_number t.singles v ≡ true))
 
 -- the values that just one of the sets has are those that are alone in one
-abbrev pub IsSettledTally : LineTally → Type 0
-IsSettledTally t = (v : ℕ) → (has_number t.once v && not (has_number t.twice v)) ≡ has_number t.singles v
+abbrev pub IsQuietTally : LineTally → Type 0
+IsQuietTally t = (v : ℕ) → (has_number t.once v && not (has_number t.twice v)) ≡ has_number t.singles v
 
 -- the value is in just one of the sets
 pub record IsHidden (t : LineTally) (value : ℕ) : Type 0 where

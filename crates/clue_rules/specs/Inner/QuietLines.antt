@@ -1,5 +1,5 @@
 -- Which lines have nothing left to strike, and which are to be looked at again.
-use Rattle.std.specs.Prelude.{◌≡◌, ◌≢◌, ℕ, ◌*◌, ◌<◌, ◌⊎◌, false, length}
+use Rattle.std.specs.Prelude.{◌≡◌, ◌≢◌, ℕ, ◌*◌, ◌<◌, false, length}
 use Rattle.number_sets.specs.Sets.{has_number}
 use Rattle.latin_board.specs.Lines.{line_cell}
 use Rattle.trail_solver.specs.Candidates.{CandidatesValue, may_be}
@@ -19,10 +19,6 @@ IsOfLine w line Struck =
 -- no candidate is left that is struck along a line, for each line that isn't in the set
 abbrev pub AreQuietBut : ℕ → (ℕ → CandidatesValue → ℕ → ℕ → Type 0) → CandidatesValue → Type 0
 AreQuietBut set Struck c = (line : ℕ) → line < 2 * c.size → has_number set line ≡ false → LacksStruck (Struck line) c c
-
--- nor for any line
-abbrev pub AreQuiet : (ℕ → CandidatesValue → ℕ → ℕ → Type 0) → CandidatesValue → Type 0
-AreQuiet Struck c = (line : ℕ) → line < 2 * c.size → LacksStruck (Struck line) c c
 
 -- after a step, a line that isn't in the set wasn't before, and lost no candidate
 abbrev pub IsUntouched : CandidatesValue → CandidatesValue → ℕ → ℕ → ℕ → Type 0
@@ -54,12 +50,3 @@ pub record NotesBut (line : ℕ) (old new : CandidatesValue) (before after : ℕ
   pub others : (k : ℕ) → k < 2 * old.size → k ≢ line → IsUntouched old new before after k
   pub own : has_number after line ≡ false → AreSameAlong line old new
   pub gains : GainsByLoss old new before after
-
--- where a step takes no candidate, the set has lost a line and gained none
-abbrev pub IsPassed : ℕ → CandidatesValue → CandidatesValue → ℕ → ℕ → Type 0
-IsPassed line old new before after =
-    length new.trail ≡ length old.trail → (k : ℕ) → (k ≡ line) ⊎ (has_number before k ≡ false) → has_number after k ≡ false
-
--- where a step takes no candidate, the set has none of the first lines
-abbrev pub ArePassed : ℕ → CandidatesValue → CandidatesValue → ℕ → Type 0
-ArePassed count old new after = length new.trail ≡ length old.trail → (line : ℕ) → line < count → has_number after line ≡ false

@@ -78,6 +78,7 @@ clues_in_taken w fs clues read =
     let same : Ok (map clue_in fs) ≡ Ok clues = readable.1 in
     (readable.0, cc)
 
+-- clues that are read are those that the text spells, one for each place and none above the width
 pub clues_taken : (w : ℕ) (part clues : List ℕ) → clues_at w part ≡ Ok clues
     → (part ≡ clue_part clues) × (length clues ≡ 4 * w) × AllByRecursion (λ clue. clue ≤ w) clues
 unfolding clues_at

@@ -5,6 +5,7 @@ use Rattle.clue_rules.specs.declared.id_fault.IdFault.TheVariants.{TooFew, TooMa
 use Rattle.clue_rules.specs.IdFaults.{exactly}
 use Rattle.clue_rules.specs.Laws.Refusals.{refused_then}
 
+-- a list that is taken has the length that was asked for
 pub exactly_taken : {X : Type 0} (n : ℕ) (xs ys : List X) → exactly n xs ≡ Ok ys → (xs ≡ ys) × (length xs ≡ n)
 exactly_taken n xs ys is =
     let enough = refused_then (nat_lt (length xs) n) TooFew _ ys is in
@@ -12,6 +13,7 @@ exactly_taken n xs ys is =
     let same : Ok xs ≡ Ok ys = not_many.1 in
     (cc, omega (arith, ltb-false _ _ enough.0, ltb-false _ _ not_many.0))
 
+-- a list of that length is taken
 pub exactly_again : {X : Type 0} (n : ℕ) (xs : List X) → length xs ≡ n → exactly n xs ≡ Ok xs
 exactly_again n xs count = rw (le-ltb (length xs) n (omega arith), le-ltb n (length xs) (omega arith)) refl
 

@@ -125,6 +125,7 @@ pub pieces_some : (text : List ℕ) (pieces : List Piece) → 0 < length pieces 
 pieces_some text [] some h = absurd (omega arith)
 pieces_some text (p ∷ pieces) some h = pieces_again text p pieces h
 
+-- a grid has squares
 pub square_some : (w : ℕ) → 3 ≤ w → 0 < w * w
 square_some w small = grind arith
 

@@ -9,6 +9,7 @@ use Rattle.clue_rules.specs.Items.{kept_items}
 
 -- ---- one list
 
+-- what is kept of a list is as long as the list
 pub length-kept : {X : Type 0} (empty : X) (keep : ℕ → Bool) (i : ℕ) (xs : List X) → length (kept_items empty keep i xs) ≡ length xs
 length-kept empty keep i [] = refl
 length-kept empty keep i (x ∷ xs) = ap suc (length-kept empty keep (i + 1) xs)
@@ -17,12 +18,14 @@ same_either : {X : Type 0} (b : Bool) (x : X) → x ≡ (if b then x else x)
 same_either true x = refl
 same_either false x = refl
 
+-- an entry stays where its item is kept, and is empty else
 pub entry-kept : {X : Type 0} (empty : X) (keep : ℕ → Bool) (i : ℕ) (xs : List X) (k j : ℕ) → i + k ≡ j
     → slice_index_or (kept_items empty keep i xs) k empty ≡ (if keep j then slice_index_or xs k empty else empty)
 entry-kept empty keep i [] k j e = same_either (keep j) empty
 entry-kept empty keep i (x ∷ xs) zero j e = let here : i ≡ j = omega arith in rw here refl
 entry-kept empty keep i (x ∷ xs) (suc k) j e = entry-kept empty keep (i + 1) xs k j (omega arith)
 
+-- where all are kept, the list is as it was
 pub kept-all : {X : Type 0} (empty : X) (i : ℕ) (xs : List X) → kept_items empty (λ j. true) i xs ≡ xs
 kept-all empty i [] = refl
 kept-all empty i (x ∷ xs) = ap (λ ys. x ∷ ys) (kept-all empty (i + 1) xs)
@@ -33,6 +36,7 @@ both_kept true false x y = refl
 both_kept false true x y = refl
 both_kept false false x y = refl
 
+-- what is kept of what was kept is what both keep
 pub kept-kept : {X : Type 0} (empty : X) (first second : ℕ → Bool) (i : ℕ) (xs : List X)
     → kept_items empty second i (kept_items empty first i xs) ≡ kept_items empty (λ j. first j && second j) i xs
 kept-kept empty first second i [] = refl
@@ -73,6 +77,7 @@ kept-within w keep i (x ∷ xs) h = (either (keep i) h.0, kept-within w keep (i 
     either true h = h
     either false h = omega arith
 
+-- numbers that were no greater than the width are so still
 pub All-kept : (w : ℕ) (keep : ℕ → Bool) (i : ℕ) (xs : List ℕ) → All (λ n. n ≤ w) xs → All (λ n. n ≤ w) (kept_items zero keep i xs)
 All-kept w keep i xs h =
     All-from_recursion (λ n. n ≤ w) (kept_items zero keep i xs) (kept-within w keep i xs (recursion_from_All (λ n. n ≤ w) xs h))
@@ -106,6 +111,7 @@ none_asked i xs k number = rw (entry-kept zero (λ j. false) i xs k (i + k) refl
 abbrev pub has_item : {X : Type 0} → (X → Bool) → X → ℕ → List X → List ℕ → ℕ → Bool
 has_item present empty n xs givens i = if nat_lt i n then present (slice_index_or xs i empty) else nat_lt 0 (slice_index givens (i - n))
 
+-- an item is there where it was there and is kept
 pub present_kept : {X : Type 0} (present : X → Bool) (empty : X) → present empty ≡ false → (b : Bool) (x : X)
     → present (if b then x else empty) ≡ (present x && b)
 present_kept present empty none true x = elim (present x) as (λ t. t ≡ (t && true)) [ true ↦ refl | false ↦ refl ]

@@ -13,6 +13,7 @@ use Rattle.clue_rules.specs.Laws.RangeTests.{some_if}
 
 -- directions and letters
 
+-- the letter of a direction is read as that direction
 pub direction_of-letter : (d : Direction) → direction_of (letter_of d) ≡ Some d
 direction_of-letter Up = refl
 direction_of-letter Right = refl
@@ -48,12 +49,15 @@ letter_no_comma Left e = omega arith
 
 -- members of lists
 
+-- a list has its head
 pub contains_here : {X : Type 0} (x y : X) (xs : List X) → y ≡ x → Contains (y ∷ xs) x
 contains_here x y xs e = (0, omega arith, e)
 
+-- a list has what its tail has
 pub contains_there : {X : Type 0} (x y : X) (xs : List X) → Contains xs x → Contains (y ∷ xs) x
 contains_there x y xs h = (suc h.0, omega (arith, h.1), h.2)
 
+-- what a list has is its head or in its tail
 pub contains_cases : {X : Type 0} (x y : X) (xs : List X) → Contains (y ∷ xs) x → (y ≡ x) ⊎ Contains xs x
 contains_cases x y xs h = at h.0 h.1 h.2
   where
@@ -107,6 +111,7 @@ among_letters (x ∷ ds) d e = go (λ h. among_letters ds d h) (letter_of x == l
 
 -- the pieces as texts
 
+-- what is written behind the number of a square is the letters of its directions
 pub letters_at : (pieces : List Piece) (cell : ℕ)
     → drop 1 (piece_at (map piece_text pieces) cell) ≡ map letter_of (directions_at pieces cell)
 letters_at [] cell = refl

@@ -19,17 +19,20 @@ some_else : (t : Bool) (x y : ℕ) → (if t then None else Some x) ≡ Some y �
 some_else true x y e = absurd (cc)
 some_else false x y e = (refl, cc)
 
+-- the neighbour on the right, which the last square of a row hasn't
 pub right_of : (w a b : ℕ) → neighbour w a Right ≡ Some b → (a % w + 1 ≡ w → ⊥) × (b ≡ a + 1)
 right_of w a b e =
     let there = some_else (a % w + 1 == w) (a + 1) b e in
     (eqb-false (a % w + 1) w there.0, sym there.1)
 
+-- the neighbour below, which is on the grid
 pub below_of : (w a b : ℕ) → neighbour w a Down ≡ Some b → (b < w * w) × (b ≡ a + w)
 below_of w a b e =
     let there = cond_some (nat_lt (a + w) (w * w)) (a + w) b e in
     let fits : a + w < w * w = ltb-true (a + w) (w * w) there.0 in
     (omega (arith, there.1), sym there.1)
 
+-- of two neighbours the first comes before the second in reading order
 pub next_order : (w a b : ℕ) → 3 ≤ w → IsNext w a b → a < b
 next_order w a b small h = elim h.points [
   | inl right ↦ omega (arith, (right_of w a b right).1)
@@ -67,6 +70,7 @@ pub record IsOnLineBefore (w a b : ℕ) : Type 0 where
   pub first : line_cell w line place ≡ a
   pub second : line_cell w line (place + 1) ≡ b
 
+-- two neighbours follow one another on a line
 pub next_line : (w a b : ℕ) → 3 ≤ w → IsNext w a b → IsOnLineBefore w a b
 next_line w a b small h =
     let some : 0 < w = omega (arith, small) in
@@ -98,6 +102,7 @@ next_line w a b small h =
           }
     ]
 
+-- the second of two neighbours is on the grid
 pub next_inside : (w a b : ℕ) → 3 ≤ w → IsNext w a b → b < w * w
 next_inside w a b small h =
     let on = next_line w a b small h in

@@ -10,11 +10,13 @@ use Rattle.clue_rules.specs.IdFaults.{NotForMemory, exactly}
 use Rattle.clue_rules.specs.TowersText.{fields, is_clue_field, clues_in, clues_at, is_square_part, squares_of, givens_at, givens_behind, towers_at}
 use Rattle.clue_rules.specs.UnequalText.{pieces_of, has_number, has_letters, points_inside, contradicts, puzzle_in, puzzle_at, unequal_at}
 
+-- where neither of two readings is refused for want of memory, both in turn aren't
 pub not_for_memory-then : {A B : Type 0} (r : Result A IdFault) (f : A → Result B IdFault) → NotForMemory r → ((a : A) → NotForMemory (f a))
     → NotForMemory (r >>= f)
 not_for_memory-then (Ok a) f h k = k a
 not_for_memory-then (Err e) f h k = h
 
+-- where neither of two results is a want of memory, a choice of them isn't
 pub not_for_memory-if : {A : Type 0} (b : Bool) (x y : Result A IdFault) → NotForMemory x → NotForMemory y → NotForMemory (if b then x else y)
 not_for_memory-if true x y h k = h
 not_for_memory-if false x y h k = k

@@ -135,6 +135,7 @@ square_there : (line : ℕ) (a b : CandidatesValue) (cell : ℕ) → AreSameAlon
 square_there line a b cell same on u =
     ap (λ (i : ℕ). may_be b i u) on.2 ∙ same.each on.0 u on.1 ∙ ap (λ (i : ℕ). may_be a i u) (sym on.2)
 
+-- what the signs along a line strike can be told from its squares
 pub signs_own : (v : UnequalValue) (line : ℕ) → IsOfLine v.size line (unequal.IsStruckAlong v line)
 signs_own v line a b size same cell value s =
     let k = s.0 in

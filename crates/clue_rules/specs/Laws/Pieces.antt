@@ -15,6 +15,7 @@ abbrev pub pieces_left : Option (List ℕ) → List (List ℕ)
 pieces_left None = []
 pieces_left (Some rest) = comma_pieces rest
 
+-- the pieces of a text are what comes before its first comma, and those of what comes behind
 pub split_once : (bs : List ℕ) → comma_pieces bs ≡ before comma bs ∷ pieces_left (behind comma bs)
 split_once bs = elim (behind comma bs) as (λ o. behind comma bs ≡ o → comma_pieces bs ≡ before comma bs ∷ pieces_left o) [
   | None ↦ λ e. pieces_last comma bs e ∙ ap (λ xs. xs ∷ []) (sym (cut_whole comma bs e))
@@ -29,6 +30,7 @@ pieces-join p (q ∷ ps) h =
     let rest : List ℕ = join_with_byte comma (q ∷ ps) in
     split_once (p ++ comma ∷ rest) ∙ rw (before_at comma p rest h.0, behind_at comma p rest h.0) (ap (λ qs. p ∷ qs) (pieces-join q ps h.1))
 
+-- an empty piece more at the end is a separator more
 pub join-push : (c : ℕ) (p : List ℕ) (ps : List (List ℕ)) → join_with_byte c ((p ∷ ps) ++ [] ∷ []) ≡ join_with_byte c (p ∷ ps) ++ c ∷ []
 join-push c p [] = refl
 join-push c p (q ∷ ps) = rw (join-push c q ps) (sym (append_assoc p (c ∷ join_with_byte c (q ∷ ps)) (c ∷ [])))
@@ -43,6 +45,7 @@ dropped_last (p ∷ q ∷ ps) = elim (dropped_last (q ∷ ps)) [
   | inr e ↦ inr (ap (λ qs. p ∷ qs) e)
 ]
 
+-- an empty last piece is dropped again
 pub drop-push : (ps : List (List ℕ)) → without_empty_last (ps ++ [] ∷ []) ≡ ps
 drop-push [] = refl
 drop-push ([] ∷ []) = refl

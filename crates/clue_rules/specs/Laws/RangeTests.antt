@@ -18,6 +18,7 @@ all_in_range p a (suc n) i e low high =
       | inr same ↦ let here : i ≡ a = omega arith in rw here parts.0
     ]
 
+-- a test that holds for each number of a range holds for all
 pub range_all : (p : ℕ → Bool) (a n : ℕ) → ((i : ℕ) → a ≤ i → i < a + n → p i ≡ true) → list_all p (range_with_len a n) ≡ true
 range_all p a zero h = refl
 range_all p a (suc n) h =
@@ -44,6 +45,7 @@ some_in_range p a (suc n) e = elim (or_cases (p a) (list_any p (range_with_len (
 pub none_in_range : (p : ℕ → Bool) (a n i : ℕ) → list_any p (range_with_len a n) ≡ false → a ≤ i → i < a + n → p i ≡ false
 none_in_range p a n i e low high = false_from_ne_true (p i) (λ h. false≢true (sym e ∙ range_some p a n i low high h))
 
+-- one that fails for each number of a range holds for none
 pub range_none : (p : ℕ → Bool) (a n : ℕ) → ((i : ℕ) → a ≤ i → i < a + n → p i ≡ false) → list_any p (range_with_len a n) ≡ false
 range_none p a n h =
     false_from_ne_true (list_any p (range_with_len a n))

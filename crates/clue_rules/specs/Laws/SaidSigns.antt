@@ -14,6 +14,7 @@ use Rattle.clue_rules.specs.Laws.RangeTests.{range_some, none_in_range, range_no
 use Rattle.clue_rules.specs.Laws.Neighbours.{IsNext, towards, next_inside}
 use Rattle.clue_rules.specs.Laws.Letters.{says_contains, contains_says}
 
+-- each direction is one of all
 pub all_has : (d : Direction) → Contains directions d
 all_has Up = (0, omega arith, refl)
 all_has Right = (1, omega arith, refl)
@@ -50,6 +51,7 @@ tested_says w pieces a b e =
 
 -- ---- squares that contradict each other
 
+-- pieces that say of no two squares that each is greater contradict nowhere
 pub never_contradict : (w : ℕ) (pieces : List (List ℕ))
     → ((a b : ℕ) → a < w * w → says_greater w pieces a b ≡ true → says_greater w pieces b a ≡ true → ⊥) → contradicts w pieces ≡ false
 unfolding contradicts

@@ -25,9 +25,11 @@ second_said e = cc
 
 -- ---- where a sign stands
 
+-- the sign between a square and the next on its right
 pub right_between : (v : UnequalValue) (a : ℕ) → sign_between v a (a + 1) ≡ right_sign v a
 right_between v a = rw (eq-eqb (a + 1) (a + 1) refl) refl
 
+-- the sign between a square and the next below
 pub below_between : (v : UnequalValue) (a : ℕ) → 3 ≤ v.size → sign_between v a (a + v.size) ≡ lower_sign v a
 below_between v a small = rw (ne_eqb (a + v.size) (a + 1) (λ e. omega arith), eq-eqb (a + v.size) (a + v.size) refl) refl
 
@@ -83,6 +85,7 @@ greater_first v a b valid next h = elim (greater_next v a b valid h) [
       absurd (omega (arith, next_order v.size a b valid.givens.smallest next, next_order v.size b a valid.givens.smallest down.0))
 ]
 
+-- where the second of two neighbours is the greater one, the sign says so
 pub greater_second : (v : UnequalValue) (a b : ℕ) → IsUnequal v → IsNext v.size a b → IsGreater v b a → sign_between v a b ≡ SecondGreater
 greater_second v a b valid next h = elim (greater_next v b a valid h) [
   | inl up ↦ absurd (omega (arith, next_order v.size a b valid.givens.smallest next, next_order v.size b a valid.givens.smallest up.0))
@@ -127,10 +130,12 @@ greater_tested v a b t value = rw value (greater_decides v a b)
 
 -- ---- the signs that a rule gives
 
+-- an entry of the signs towards a direction is the sign there
 pub sign_at : (w : ℕ) (sign : ℕ → ℕ → Sign) (d : Direction) (cell : ℕ) → cell < w * w
     → slice_index_or (signs_towards w sign d) cell Absent ≡ sign_towards w sign d cell
 sign_at w sign d cell inside = get_or-map-range_with_len (sign_towards w sign d) 0 (w * w) cell cell Absent inside (omega arith)
 
+-- where there is no neighbour in a direction, there is no sign
 pub none_at_end : (w : ℕ) (sign : ℕ → ℕ → Sign) (d : Direction) (cell : ℕ) → neighbour w cell d ≡ None
     → slice_index_or (signs_towards w sign d) cell Absent ≡ Absent
 none_at_end w sign d cell none = elim (cases_lt cell (w * w)) [
@@ -139,6 +144,7 @@ none_at_end w sign d cell none = elim (cases_lt cell (w * w)) [
       get_or_past (signs_towards w sign d) cell Absent (omega (arith, length-map-range_with_len (sign_towards w sign d) 0 (w * w)))
 ]
 
+-- a puzzle of any signs between neighbours and of a valid grid's numbers is one of Unequal
 pub signed_valid : (w : ℕ) (sign : ℕ → ℕ → Sign) (givens : List ℕ) → IsGrid (record { size = w; numbers = givens })
     → IsUnequal (signed_puzzle w sign givens)
 signed_valid w sign givens is_grid = record {
@@ -149,6 +155,7 @@ signed_valid w sign givens is_grid = record {
   below_ends = none_at_end w sign Down;
 }
 
+-- its sign between two neighbours is the one that was given
 pub signed_between : (w : ℕ) (sign : ℕ → ℕ → Sign) (givens : List ℕ) (a b : ℕ) → 3 ≤ w → IsNext w a b
     → sign_between (signed_puzzle w sign givens) a b ≡ sign a b
 signed_between w sign givens a b small h = elim h.points [

@@ -41,6 +41,7 @@ byte_taken w b bs is =
 pub squares_of_underscore : (b : ℕ) → b ≡ underscore → squares_of b ≡ []
 squares_of_underscore b same = rw same refl
 
+-- a letter stands for as many blank squares as its place in the alphabet
 pub squares_of_letter : (b : ℕ) → letter_a ≤ b → b ≤ letter_z → squares_of b ≡ replicate (blanks_of b) 0
 squares_of_letter b low high = rw (letter_true b low high) refl
 

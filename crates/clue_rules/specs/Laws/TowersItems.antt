@@ -28,6 +28,7 @@ one_clue_decides n m =
     (λ h. elim (cases_lt 0 n) [ inl low ↦ inr (h low) | inr none ↦ inl (omega arith) ])
     (Decides-or _ _ (Decides-eqb n 0) (Decides-eqb m n))
 
+-- the test of the clues answers whether all hold
 pub clues_decide : (v : TowersValue) (g : GridValue) → Decides (holds_clues v g) (HoldsClues v g)
 clues_decide v g =
     Decides-like (holds_clues v g)
@@ -41,14 +42,17 @@ clues_tested v g t value = Decides-at _ _ value (clues_decide v g)
 
 -- ---- what holds of every puzzle
 
+-- the width is from 3 to 9
 pub valid_size : (v : TowersValue) → IsTowers v → (3 ≤ v.size) × (v.size ≤ 9)
 valid_size v h = (h.givens.smallest, h.givens.largest)
 
+-- a given is at most the width
 pub valid_given : (v : TowersValue) (cell : ℕ) → IsTowers v → cell < v.size * v.size → slice_index v.givens cell ≤ v.size
 valid_given v cell h inside = number_within (towers_given_grid v) h.givens cell inside
 
 -- ---- cuts
 
+-- a cut is a puzzle
 pub cut_valid : (v : TowersValue) (keep : ℕ → Bool) → IsTowers v → IsTowers (cut_towers v keep)
 cut_valid v keep h = record {
   givens = IsGrid-kept (towers_given_grid v) keep (4 * v.size) h.givens;
@@ -56,18 +60,23 @@ cut_valid v keep h = record {
   clues_within = All-kept v.size keep 0 v.clues h.clues_within;
 }
 
+-- a cut has the items that were there and are in the set
 pub cut_has : (v : TowersValue) (keep : ℕ → Bool) (i : ℕ) → has_towers (cut_towers v keep) i ≡ (has_towers v i && keep i)
 cut_has v keep i = has_item-kept (nat_lt 0) zero refl (4 * v.size) v.clues v.givens keep i
 
+-- to keep every item changes nothing
 pub cut_all : (v : TowersValue) → cut_towers v (λ i. true) ≡ v
 cut_all v = rw (kept-all zero 0 v.clues, kept-all zero (4 * v.size) v.givens) refl
 
+-- two cuts are one, by the items in both sets
 pub cut_cut : (v : TowersValue) (first second : ℕ → Bool) → cut_towers (cut_towers v first) second ≡ cut_towers v (λ i. first i && second i)
 cut_cut v first second = rw (kept-kept zero first second 0 v.clues, kept-kept zero first second (4 * v.size) v.givens) refl
 
+-- the widths that are generated have few items
 pub few_items : (w : ℕ) → 3 ≤ w → w ≤ 6 → towers_items w ≤ MOST_ITEMS
 few_items w low high = small_widths (λ n. towers_items n ≤ MOST_ITEMS) (omega arith) (omega arith) (omega arith) (omega arith) w low high
 
+-- sets that agree on the items that the puzzle has cut it alike
 pub cut_agrees : (v : TowersValue) (a b : ℕ → Bool) → IsTowers v
     → ((i : ℕ) → i < towers_items v.size → has_towers v i ≡ true → a i ≡ b i) → cut_towers v a ≡ cut_towers v b
 cut_agrees v a b h same =
@@ -110,6 +119,7 @@ length-column g column = length-map-range_with_len (λ r. number_at g (r * g.siz
 length-row : (g : GridValue) (row : ℕ) → length (row_of g row) ≡ g.size
 length-row g row = length-map-range_with_len (λ c. number_at g (row * g.size + c)) 0 g.size
 
+-- from each place as many squares are seen as the grid is wide
 pub length-view_of : (g : GridValue) (place : ℕ) → length (view_of g place) ≡ g.size
 length-view_of g place =
     edge_cases (λ line. length line ≡ g.size) g.size place _ _ _ _
@@ -125,6 +135,7 @@ full_clue : (g : GridValue) (place : ℕ) → place < 4 * g.size → clue_of (fu
 full_clue g place inside =
     get_or-map-range_with_len (λ place. seen (view_of g place)) 0 (4 * g.size) place place 0 inside (omega arith)
 
+-- the full puzzle of a valid grid is one of Towers
 pub full_valid : (g : GridValue) → IsGrid g → IsTowers (full_towers g)
 full_valid g h = record {
   givens = h;
@@ -134,12 +145,14 @@ full_valid g h = record {
       (λ k d inside. seen_within g (slice_index_or (range_with_len 0 (4 * g.size)) k d));
 }
 
+-- the full puzzle has every item
 pub full_has : (g : GridValue) (i : ℕ) → IsGrid g → IsLatin g → i < towers_items g.size → has_towers (full_towers g) i ≡ true
 full_has g i is_grid latin inside =
     has_item-full (nat_lt 0) zero (4 * g.size) (full_towers g).clues g i latin
     (λ low. rw (full_clue g i low) (lt-ltb 0 (seen (view_of g i)) (seen_some (view_of g i) (omega (arith, length-view_of g i, is_grid.smallest)))))
     inside
 
+-- a Latin square solves its full puzzle
 pub full_solved : (g : GridValue) → IsGrid g → IsLatin g → Solves (towers_puzzle (full_towers g)) g
 full_solved g is_grid latin = record {
   is_grid = is_grid;

@@ -25,9 +25,11 @@ use Rattle.clue_rules.specs.Laws.KeptItems.{length-kept, entry-kept, kept-all, k
 
 -- what holds of every puzzle
 
+-- the width is from 3 to 9
 pub valid_size : (v : UnequalValue) → IsUnequal v → (3 ≤ v.size) × (v.size ≤ 9)
 valid_size v h = (h.givens.smallest, h.givens.largest)
 
+-- a given is at most the width
 pub valid_given : (v : UnequalValue) (cell : ℕ) → IsUnequal v → cell < v.size * v.size → slice_index v.givens cell ≤ v.size
 valid_given v cell h inside = number_within (unequal_given_grid v) h.givens cell inside
 
@@ -51,6 +53,7 @@ right_item w i small h =
       number = rw (div-mul-add (i / (w - 1)) w (i % (w - 1)) (omega (arith, column)), cell_column) (omega arith);
     }
 
+-- the item of a number has that number
 pub number_of_item_at : (w i : ℕ) → 3 ≤ w → item_number w (item_at w i) ≡ i
 number_of_item_at w i small = elim (cases_lt i (pairs_across w)) [
   | inl right ↦ rw (lt-ltb i (pairs_across w) right) (right_item w i small right).number
@@ -97,6 +100,7 @@ is_given_item w cell inside =
       back = rw (le-ltb (2 * n + cell) n (omega arith), le-ltb (2 * n + cell) (2 * n) (omega arith)) (ap (λ k. Given k) back);
     }
 
+-- a sign that isn't present is none
 pub not_present : (s : Sign) → is_present s ≡ false → s ≡ Absent
 not_present Absent h = refl
 not_present FirstGreater h = cc
@@ -130,6 +134,7 @@ has_is_item v (Given cell) valid here = elim (cases_lt cell (v.size * v.size)) [
 
 -- ---- cuts
 
+-- a cut is a puzzle
 pub cut_valid : (v : UnequalValue) (keep : ℕ → Bool) → IsUnequal v → IsUnequal (cut_unequal v keep)
 cut_valid v keep h = record {
   givens = IsGrid-kept (unequal_given_grid v) (keeps_kind v.size keep Given) 0 h.givens;
@@ -154,14 +159,17 @@ cut_has_item v keep (LowerSign cell) =
 cut_has_item v keep (Given cell) =
     rw (entry-kept zero (keeps_kind v.size keep Given) 0 v.givens cell cell (omega arith)) (present_kept (nat_lt 0) zero refl _ (slice_index v.givens cell))
 
+-- a cut has the items that were there and are in the set
 pub cut_has : (v : UnequalValue) (keep : ℕ → Bool) (i : ℕ) → IsUnequal v
     → has_unequal (cut_unequal v keep) i ≡ (has_unequal v i && keep i)
 cut_has v keep i h =
     cut_has_item v keep (item_at v.size i) ∙ ap (λ j. has_unequal v i && keep j) (number_of_item_at v.size i h.givens.smallest)
 
+-- to keep every item changes nothing
 pub cut_all : (v : UnequalValue) → cut_unequal v (λ i. true) ≡ v
 cut_all v = rw (kept-all Absent 0 v.right, kept-all Absent 0 v.below, kept-all zero 0 v.givens) refl
 
+-- two cuts are one, by the items in both sets
 pub cut_cut : (v : UnequalValue) (first second : ℕ → Bool)
     → cut_unequal (cut_unequal v first) second ≡ cut_unequal v (λ i. first i && second i)
 cut_cut v first second =
@@ -172,6 +180,7 @@ cut_cut v first second =
         ≡ kept_items empty (keeps_kind v.size (λ i. first i && second i) kind) 0 xs
     twice empty kind xs = kept-kept empty (keeps_kind v.size first kind) (keeps_kind v.size second kind) 0 xs
 
+-- the widths that are generated have few items
 pub few_items : (w : ℕ) → 3 ≤ w → w ≤ 6 → unequal_items w ≤ MOST_ITEMS
 few_items w low high = small_widths (λ n. unequal_items n ≤ MOST_ITEMS) (omega arith) (omega arith) (omega arith) (omega arith) w low high
 
@@ -264,6 +273,7 @@ cut_none v g is_grid latin size = record {
 
 -- ---- the full puzzle
 
+-- the full puzzle of a Latin square is a puzzle
 pub full_valid : (g : GridValue) → IsGrid g → IsUnequal (full_unequal g)
 full_valid g h = signed_valid g.size (sign_in_grid g) g.numbers h
 
@@ -292,6 +302,7 @@ full_holds g cell d small next = by (neighbour g.size cell d) next
     by (Some b) next =
         rw (signed_between g.size (sign_in_grid g) g.numbers cell b small (next b refl)) (sign_of_holds (number_at g cell) (number_at g b))
 
+-- a Latin square solves its full puzzle
 pub full_solved : (g : GridValue) → IsGrid g → IsLatin g → Solves (unequal_puzzle (full_unequal g)) g
 full_solved g is_grid latin = record {
   is_grid = is_grid;
@@ -312,6 +323,7 @@ full_present g a b is_grid latin next =
     rw (signed_between g.size (sign_in_grid g) g.numbers a b is_grid.smallest next)
     (sign_present (number_at g a) (number_at g b) (rw (on.first, on.second) at differ))
 
+-- the full puzzle has every item
 pub full_has : (g : GridValue) (i : ℕ) → IsGrid g → IsLatin g → i < unequal_items g.size → has_unequal (full_unequal g) i ≡ true
 full_has g i is_grid latin inside =
     let n : ℕ = pairs_across g.size in

@@ -35,6 +35,7 @@ same_sign_decides FirstGreater SecondGreater = (λ e. absurd (cc), λ e. absurd 
 same_sign_decides SecondGreater Absent = (λ e. absurd (cc), λ e. absurd (cc))
 same_sign_decides SecondGreater FirstGreater = (λ e. absurd (cc), λ e. absurd (cc))
 
+-- the test of two puzzles answers whether they are equal
 pub same_unequal_decides : (p q : UnequalValue) → Decides (same_unequal p q) (p ≡ q)
 same_unequal_decides p q =
     Decides-like (same_unequal p q) (λ h i. record { size = h.0.0.0 i; right = h.0.0.1 i; below = h.0.1 i; givens = h.1 i })
@@ -44,5 +45,6 @@ same_unequal_decides p q =
     ))
     (Decides-and _ _ (Decides-and _ _ (Decides-and _ _ (Decides-eqb p.size q.size) (pointwise_decides same_sign_decides p.right q.right)) (pointwise_decides same_sign_decides p.below q.below)) (bytes_decides p.givens q.givens))
 
+-- and so does a value that is known to be its answer
 pub same_unequal_tested : (p q : UnequalValue) (t : Bool) → t ≡ same_unequal p q → IsTrue t ↔ (p ≡ q)
 same_unequal_tested p q t value = Decides-at _ _ value (same_unequal_decides p q)

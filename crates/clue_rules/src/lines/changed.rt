@@ -1,7 +1,7 @@
 //! Which rows and columns have to be looked at again.
 
-ghost use Rattle.clue_rules.specs.Inner.ChangedLines.{GainsLine, GainsLinesOf, LosesLine};
-ghost use Rattle.std.specs.Prelude.{◌≡◌, ℕ, ◌+◌, ◌*◌, ◌/◌, ◌%◌, ◌<◌, ◌==◌, nat_lt};
+ghost use Rattle.clue_rules.specs.Inner.ChangedLines.{GainsLine, GainsLinesOf, HasNoneBelow, IsOneBelow, IsTaken, LosesLine};
+ghost use Rattle.std.specs.Prelude.{◌≡◌, ℕ, ◌+◌, ◌*◌, ◌/◌, ◌%◌, ◌<◌, ◌==◌, nat_lt, true, IfNone, MatchOption};
 ghost use Rattle.number_sets.specs.Sets.{has_number, no_numbers};
 
 use latin_board::Size;
@@ -39,12 +39,6 @@ impl Lines {
         }
     }
 
-    fn is_empty(self) -> bool
-        ensures { result ≡ (self == no_numbers) }
-    {
-        self.bits == 0
-    }
-
     fn has(self, line: u8) -> bool
         requires { line < 32 }
         ensures { result ≡ has_number self line }
@@ -59,17 +53,41 @@ impl Lines {
         self.bits |= 1 << line;
     }
 
-    // Takes the line out of the set, and tells whether it was in.
-    fn take(&mut self, line: u8) -> bool
-        requires { line < 32 }
-        ensures was { result ≡ has_number self.old line }
-        ensures rest { LosesLine line self.old self.new }
+    // Takes out a line that is in the set.
+    fn remove(&mut self, line: u8)
+        requires inside { line < 32 }
+        requires has { has_number self.old line ≡ true }
+        ensures { LosesLine line self.old self.new }
     {
-        if !self.has(line) {
-            return false;
-        }
         self.bits ^= 1 << line;
-        true
+    }
+
+    // One of the first lines that is in the set, if any is: the next from a line on, or else the least.
+    fn next(self, from: u8, count: u8) -> Option<u8>
+        requires from { from < 32 }
+        requires count { count < 32 }
+        ensures { MatchOption result (HasNoneBelow count self) (IsOneBelow count self) }
+    {
+        let waiting = self.bits & Lines::first(count).bits;
+        let later = waiting & u32::MAX << from;
+        let next = if later == 0 { waiting } else { later };
+        if next == 0 {
+            return None;
+        }
+        Some(next.trailing_zeros() as u8)
+    }
+
+    // Takes one of the first lines out of the set, if any is in it: the next from a line on, or else the least.
+    fn take_next(&mut self, from: u8, count: u8) -> Option<u8>
+        requires from { from < 32 }
+        requires count { count < 32 }
+        ensures line { MatchOption result (HasNoneBelow count self.old)
+            (IsTaken count self.old self.new) }
+        ensures same { IfNone result (self.new ≡ self.old) }
+    {
+        let line = self.next(from, count)?;
+        self.remove(line);
+        Some(line)
     }
 }
 
@@ -152,37 +170,39 @@ impl ChangedLines {
         self.rule.insert(column);
     }
 
-    /// Whether what rows and columns say is to be looked at again in some line.
-    pub fn latin_is_settled(&self) -> bool
-        ensures { result ≡ (self.now.latin == no_numbers) }
-    {
-        self.latin.is_empty()
-    }
-
-    /// Whether the game's own rule is to be looked at again in some line.
-    pub fn rule_is_settled(&self) -> bool
-        ensures { result ≡ (self.now.rule == no_numbers) }
-    {
-        self.rule.is_empty()
-    }
-
-    /// Whether the line is to be looked at again for what it says as a row or column; from now on it isn't.
-    pub fn take_latin(&mut self, line: u8) -> bool
-        requires { line < 32 }
-        ensures was { result ≡ has_number self.old.latin line }
-        ensures rest { LosesLine line self.old.latin self.new.latin }
+    /// A line among the first that is to be looked at again for what it says as a row or column, if any is: the next from
+    /// a line on, or else the least. From now on it isn't.
+    pub fn take_latin(&mut self, from: u8, count: u8) -> Option<u8>
+        requires from { from < 32 }
+        requires count { count < 32 }
+        ensures line { MatchOption result (HasNoneBelow count self.old.latin)
+            (IsTaken count self.old.latin self.new.latin) }
+        ensures same { IfNone result (self.new.latin ≡ self.old.latin) }
         ensures rule { self.new.rule ≡ self.old.rule }
     {
-        self.latin.take(line)
+        self.latin.take_next(from, count)
     }
 
-    /// Whether the line is to be looked at again for the game's own rule; from now on it isn't.
-    pub fn take_rule(&mut self, line: u8) -> bool
+    /// A line among the first that is to be looked at again for the game's own rule, if any is, in the same way.
+    pub fn take_rule(&mut self, from: u8, count: u8) -> Option<u8>
+        requires from { from < 32 }
+        requires count { count < 32 }
+        ensures line { MatchOption result (HasNoneBelow count self.old.rule)
+            (IsTaken count self.old.rule self.new.rule) }
+        ensures same { IfNone result (self.new.rule ≡ self.old.rule) }
+        ensures latin { self.new.latin ≡ self.old.latin }
+    {
+        self.rule.take_next(from, count)
+    }
+
+    /// Notes that the line isn't to be looked at again for the game's own rule.
+    pub fn leave_rule_out(&mut self, line: u8)
         requires { line < 32 }
-        ensures was { result ≡ has_number self.old.rule line }
         ensures rest { LosesLine line self.old.rule self.new.rule }
         ensures latin { self.new.latin ≡ self.old.latin }
     {
-        self.rule.take(line)
+        if self.rule.has(line) {
+            self.rule.remove(line);
+        }
     }
 }

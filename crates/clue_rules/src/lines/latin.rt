@@ -2,9 +2,9 @@
 
 ghost use Rattle.std.specs.Prelude.{ℕ, ◌-◌, ◌*◌, ◌<◌, ◌≤◌, ◌&&◌, true, false, MatchOption, slice_index};
 ghost use Rattle.std.specs.Bool.{OnTrue};
-ghost use Rattle.clue_rules.specs.Inner.Narrowing.{IsSquare, Narrows, NoneStruck};
-ghost use Rattle.clue_rules.specs.Inner.QuietLines.{AreQuiet, AreQuietBut, Notes, NotesIn, IsPassed, ArePassed};
-ghost use Rattle.clue_rules.specs.Inner.LineTallies.{AreImpossible, IsWholeTally, IsSettledTally, IsSinglesOf, IsCounted, IsClash, IsForced, IsFree, IsKeptOf, IsLineStruck};
+ghost use Rattle.clue_rules.specs.Inner.Narrowing.{IsSquare, Narrows};
+ghost use Rattle.clue_rules.specs.Inner.QuietLines.{Notes};
+ghost use Rattle.clue_rules.specs.Inner.LineTallies.{AreImpossible, IsWholeTally, IsQuietTally, IsSinglesOf, IsCounted, IsClash, IsForced, IsFree, IsKeptOf, IsLineStruck};
 ghost use Rattle.clue_rules.specs.Views.{front_place};
 
 use crate::lines::changed::ChangedLines;
@@ -13,65 +13,12 @@ use crate::lines::views::{LINE, front_place};
 use number_sets::NumberSet;
 use trail_solver::Candidates;
 
-/// Takes away what rows and columns rule out in the lines that changed, until they say no more: the value of a square that
-/// has just one goes from the rest of its lines, and all other values go from a square that is the one place of a value in a
-/// line. Where all other lines said no more before, none does.
-#[tactic(auto, using(crate::proofs::Narrowings::trail_nearer))]
-pub(crate) fn settle_latin(candidates: &mut Candidates, changed: &mut ChangedLines) -> bool
-    ensures narrows { Narrows IsSquare NoneStruck candidates.old candidates.new result }
-    ensures quiet { OnTrue result (AreQuietBut changed.old.latin IsLineStruck candidates.old
-        → AreQuiet IsLineStruck candidates.new) }
-    ensures rule { NotesIn candidates.old candidates.new changed.old.rule changed.new.rule }
-{
-    let _size = candidates.size();
-    loop {
-        if changed.latin_is_settled() {
-            return true;
-        }
-        let before = candidates.trail_len();
-        if !strike_changed(candidates, changed) {
-            return false;
-        }
-        if candidates.trail_len() == before {
-            return true;
-        }
-    }
-}
-
-// Looks once at the lines that changed. Where nothing goes, none is left to look at.
-fn strike_changed(candidates: &mut Candidates, changed: &mut ChangedLines) -> bool
-    ensures narrows { Narrows IsSquare NoneStruck candidates.old candidates.new result }
-    ensures quiet { OnTrue result (AreQuietBut changed.old.latin IsLineStruck candidates.old
-        → AreQuietBut changed.new.latin IsLineStruck candidates.new) }
-    ensures passed { OnTrue result (ArePassed (2 * candidates.old.size)
-        candidates.old candidates.new changed.new.latin) }
-    ensures rule { NotesIn candidates.old candidates.new changed.old.rule changed.new.rule }
-{
-    let width = candidates.size().get();
-    for line in 0..2 * width {
-        if !strike_if_changed(candidates, line, changed) {
-            return false;
-        }
-    }
-    true
-}
-
-// Looks at a row or column if it changed.
-fn strike_if_changed(candidates: &mut Candidates, line: u8, changed: &mut ChangedLines) -> bool
-    requires { line < 2 * candidates.old.size }
-    ensures narrows { Narrows IsSquare NoneStruck candidates.old candidates.new result }
-    ensures quiet { OnTrue result (AreQuietBut changed.old.latin IsLineStruck candidates.old
-        → AreQuietBut changed.new.latin IsLineStruck candidates.new) }
-    ensures passed { OnTrue result (IsPassed line
-        candidates.old candidates.new changed.old.latin changed.new.latin) }
-    ensures rule { NotesIn candidates.old candidates.new changed.old.rule changed.new.rule }
-{
-    let _size = candidates.size();
-    !changed.take_latin(line) || strike_line(candidates, line, changed)
-}
-
-// Takes away what one row or column rules out.
-fn strike_line(candidates: &mut Candidates, line: u8, changed: &mut ChangedLines) -> bool
+/// Takes away what one row or column rules out, and notes the lines that lost candidates: the value of a square that has just
+/// one goes from the rest of the line, and all other values go from a square that is the one place of a value in it. Answers
+/// false where nothing is left for some square or value.
+// Searches spend most of their time here.
+#[inline(always)]
+pub(crate) fn strike_line(candidates: &mut Candidates, line: u8, changed: &mut ChangedLines) -> bool
     requires { line < 2 * candidates.old.size }
     ensures narrows { Narrows IsSquare (IsLineStruck line) candidates.old candidates.new result }
     ensures notes { Notes candidates.old candidates.new changed.old changed.new }
@@ -83,7 +30,7 @@ fn strike_line(candidates: &mut Candidates, line: u8, changed: &mut ChangedLines
     let Some(tally) = tally_of(&sets, width) else {
         return false;
     };
-    if tally.is_settled() {
+    if tally.is_quiet() {
         return true;
     }
     let kept = tally.kept_in_line(&sets, width);
@@ -134,7 +81,7 @@ fn single_of(set: NumberSet) -> NumberSet
 impl LineTally {
     ghost use Rattle.std.specs.Prelude.{ℕ, ◌<◌, MatchOption, slice_index};
     ghost use Rattle.std.specs.Bool.{OnTrue};
-    ghost use Rattle.clue_rules.specs.Inner.LineTallies.{IsCounted, IsClash, IsForced, IsFree, IsKeptOf, IsSettledTally};
+    ghost use Rattle.clue_rules.specs.Inner.LineTallies.{IsCounted, IsClash, IsForced, IsFree, IsKeptOf, IsQuietTally};
 
     // The tally with one set more, or none where the set is empty or its only value is alone in another set.
     #[tactic(auto, using(crate::proofs::LineTallying::clash_twice))]
@@ -156,8 +103,8 @@ impl LineTally {
     }
 
     // Whether the values that just one set has are those that are alone in one, so that all may stay.
-    fn is_settled(&self) -> bool
-        ensures { OnTrue result (IsSettledTally self.now) }
+    fn is_quiet(&self) -> bool
+        ensures { OnTrue result (IsQuietTally self.now) }
     {
         self.once.difference(self.twice) == self.singles
     }

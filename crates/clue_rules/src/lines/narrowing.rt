@@ -7,10 +7,10 @@ ghost use Rattle.latin_board.specs.Squares.{GridValue};
 ghost use Rattle.trail_solver.specs.Candidates.{CandidatesValue};
 ghost use Rattle.clue_rules.specs.Inner.LineTallies.{IsLineStruck};
 ghost use Rattle.clue_rules.specs.Inner.Narrowing.{IsSquare, Narrows, NoneStruck, IsStruckByLines, LacksStruck};
-ghost use Rattle.clue_rules.specs.Inner.QuietLines.{AreQuiet, AreQuietBut, NotesIn, Strikes, IsOfLine, IsPassed, ArePassed};
+ghost use Rattle.clue_rules.specs.Inner.QuietLines.{AreQuietBut, NotesIn, Strikes, IsOfLine};
 
 use crate::lines::changed::ChangedLines;
-use crate::lines::latin::settle_latin;
+use crate::lines::latin::strike_line;
 use trail_solver::Candidates;
 
 /// The rule of a game, as far as it speaks of the squares of one row or column.
@@ -73,7 +73,8 @@ pub(crate) fn narrow_by_lines_of<P: LineRules>(
     settle(p, candidates, &mut changed)
 }
 
-// Looks at the lines that changed, until none does.
+// Looks at the lines that changed, until none does: along the next one for what it says as a row or column, and where
+// none is left for that, along the next one for the game's rule.
 fn settle<P: LineRules>(p: &P, candidates: &mut Candidates, changed: &mut ChangedLines) -> bool
     requires { candidates.old.size ≡ P.width p.now }
     ensures narrows { Narrows (P.sought p.now) NoneStruck candidates.old candidates.new result }
@@ -81,97 +82,23 @@ fn settle<P: LineRules>(p: &P, candidates: &mut Candidates, changed: &mut Change
         → AreQuietBut changed.old.rule (P.rules_out p.now) candidates.old
         → LacksStruck (IsStruckByLines (P.rules_out p.now)) candidates.new candidates.new) }
 {
-    settle_latin(candidates, changed) && settle_rules(p, candidates, changed)
-}
-
-// Looks at the game's rule along the lines that changed, until none does.
-#[tactic(auto, using(crate::proofs::Narrowings::trail_nearer))]
-fn settle_rules<P: LineRules>(
-    p: &P,
-    candidates: &mut Candidates,
-    changed: &mut ChangedLines,
-) -> bool
-    requires { candidates.old.size ≡ P.width p.now }
-    ensures narrows { Narrows (P.sought p.now) NoneStruck candidates.old candidates.new result }
-    ensures latin { OnTrue result (AreQuiet IsLineStruck candidates.old
-        → AreQuiet IsLineStruck candidates.new) }
-    ensures quiet { OnTrue result (AreQuietBut changed.old.rule (P.rules_out p.now) candidates.old
-        → AreQuiet (P.rules_out p.now) candidates.new) }
-{
-    let _size = candidates.size();
+    let count = 2 * candidates.size().get();
+    let (mut latin_from, mut rule_from) = (0, 0);
     loop {
-        if changed.rule_is_settled() {
-            return true;
-        }
-        let before = candidates.trail_len();
-        if !strike_changed_rules(p, candidates, changed) {
-            return false;
-        }
-        if candidates.trail_len() == before {
+        let _length = candidates.trail_len();
+        if let Some(line) = changed.take_latin(latin_from, count) {
+            latin_from = line + 1;
+            if !strike_line(candidates, line, changed) {
+                return false;
+            }
+        } else if let Some(line) = changed.take_rule(rule_from, count) {
+            latin_from = 0;
+            rule_from = line + 1;
+            if !p.strike_along(candidates, line, changed) {
+                return false;
+            }
+        } else {
             return true;
         }
     }
-}
-
-// Looks at the game's rule once along the lines that changed. Where nothing goes, none is left to look at.
-fn strike_changed_rules<P: LineRules>(
-    p: &P,
-    candidates: &mut Candidates,
-    changed: &mut ChangedLines,
-) -> bool
-    requires { candidates.old.size ≡ P.width p.now }
-    ensures narrows { Narrows (P.sought p.now) NoneStruck candidates.old candidates.new result }
-    ensures latin { OnTrue result (AreQuiet IsLineStruck candidates.old
-        → AreQuiet IsLineStruck candidates.new) }
-    ensures quiet { OnTrue result (AreQuietBut changed.old.rule (P.rules_out p.now) candidates.old
-        → AreQuietBut changed.new.rule (P.rules_out p.now) candidates.new) }
-    ensures passed { OnTrue result (ArePassed (2 * candidates.old.size)
-        candidates.old candidates.new changed.new.rule) }
-{
-    let width = candidates.size().get();
-    for line in 0..2 * width {
-        if !strike_rule_if_changed(p, candidates, line, changed) {
-            return false;
-        }
-    }
-    true
-}
-
-// Looks at the game's rule along a line if it changed.
-fn strike_rule_if_changed<P: LineRules>(
-    p: &P,
-    candidates: &mut Candidates,
-    line: u8,
-    changed: &mut ChangedLines,
-) -> bool
-    requires size { candidates.old.size ≡ P.width p.now }
-    requires line { line < 2 * candidates.old.size }
-    ensures narrows { Narrows (P.sought p.now) NoneStruck candidates.old candidates.new result }
-    ensures latin { OnTrue result (AreQuiet IsLineStruck candidates.old
-        → AreQuiet IsLineStruck candidates.new) }
-    ensures quiet { OnTrue result (AreQuietBut changed.old.rule (P.rules_out p.now) candidates.old
-        → AreQuietBut changed.new.rule (P.rules_out p.now) candidates.new) }
-    ensures passed { OnTrue result (IsPassed line
-        candidates.old candidates.new changed.old.rule changed.new.rule) }
-{
-    let _size = candidates.size();
-    !changed.take_rule(line) || strike_rule(p, candidates, line, changed)
-}
-
-// Takes away what the rule strikes along a line, and then what rows and columns say of what is left.
-fn strike_rule<P: LineRules>(
-    p: &P,
-    candidates: &mut Candidates,
-    line: u8,
-    changed: &mut ChangedLines,
-) -> bool
-    requires size { candidates.old.size ≡ P.width p.now }
-    requires line { line < 2 * candidates.old.size }
-    ensures narrows { Narrows (P.sought p.now) NoneStruck candidates.old candidates.new result }
-    ensures latin { OnTrue result (AreQuiet IsLineStruck candidates.old
-        → AreQuiet IsLineStruck candidates.new) }
-    ensures rule { OnTrue result (Strikes (P.rules_out p.now line) line
-        candidates.old candidates.new changed.old.rule changed.new.rule) }
-{
-    p.strike_along(candidates, line, changed) && settle_latin(candidates, changed)
 }

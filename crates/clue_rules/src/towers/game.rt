@@ -20,8 +20,6 @@ impl Game for Towers {
 
     ghost letter_codes = { codes "ehxu" };
 
-    ghost has_adjacent = { false };
-
     ghost describes = { λ text p. IsTowersText p text };
 
     ghost desc_at = { towers_at };
@@ -35,10 +33,6 @@ impl Game for Towers {
     /// Easy, Hard, Extreme and Unreasonable.
     fn letters() -> &'static str {
         "ehxu"
-    }
-
-    fn has_adjacent_mode() -> bool {
-        false
     }
 
     fn same(&self, other: &Towers) -> bool {

@@ -109,7 +109,7 @@ fn leave_out_if_idle(candidates: &Candidates, before: usize, line: u8, changed: 
     ensures longer { before ≢ length candidates.now.trail → changed.new.rule ≡ changed.old.rule }
 {
     if candidates.trail_len() == before {
-        let _changed_by_front = changed.take_rule(line);
+        changed.leave_rule_out(line);
     }
 }
 

@@ -20,8 +20,6 @@ impl Game for Unequal {
 
     ghost letter_codes = { codes "tekxr" };
 
-    ghost has_adjacent = { true };
-
     ghost describes = { λ text p. IsUnequalText p text };
 
     ghost desc_at = { unequal_at };
@@ -35,10 +33,6 @@ impl Game for Unequal {
     /// Trivial, Easy, Tricky, Extreme and Recursive.
     fn letters() -> &'static str {
         "tekxr"
-    }
-
-    fn has_adjacent_mode() -> bool {
-        true
     }
 
     #[tactic(auto, using(crate::specs::Laws::UnequalSameness::same_unequal_tested))]

@@ -10,12 +10,14 @@ pub record IsPadded (w : ℕ) (places : List ℕ) : Type 0 where
   pub count : length places ≡ CELLS
   pub rest : drop (w * w) places ≡ replicate (CELLS - w * w) 0
 
+-- the places of a grid of the width: numbers of it first, and blanks behind its squares
 pub record KeepsNumbers (w : ℕ) (places : List ℕ) : Type 0 where
   pub smallest : 3 ≤ w
   pub largest : w ≤ 9
   pub padded : IsPadded w places
   pub within : All (λ n. n ≤ w) places
 
+-- the places of the marks of a grid of the width, and the done marks of its edge
 pub record KeepsMarks (w : ℕ) (places : List ℕ) (done : ℕ) : Type 0 where
   pub padded : IsPadded w places
   pub within : All (IsMarkSet w) places

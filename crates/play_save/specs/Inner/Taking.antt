@@ -20,12 +20,15 @@ use Rattle.play_save.specs.FirstFaults.{MetValue, first_of, count_met, fault_by}
 abbrev pub state_of : StateRecord → KeyedState
 state_of s = record { key = s.key; value = s.value.now }
 
+-- the bytes that a loan shows
 abbrev pub bytes_of : Option (Bor (List ℕ)) → Option (List ℕ)
 bytes_of kept = option_map (λ bytes. bytes.now) kept
 
+-- a header record as contracts see it
 abbrev pub header_of : HeaderRecord → KeyedRecord
 header_of r = record { key = Header r.key; value = r.value.now }
 
+-- what was met, as contracts see it
 abbrev pub met_of : Met → MetValue
 met_of f = record { first = λ k. first_of (values_of k (map header_of f.headers.items)); states = map state_of f.states.items }
 
@@ -38,6 +41,7 @@ pub record IsPlayable (m : MetValue) : Type 0 where
 abbrev pub with_first : (HeaderKey → Option (List ℕ)) → HeaderKey → List ℕ → HeaderKey → Option (List ℕ)
 with_first first k value j = if rank k == rank j then Some value else first j
 
+-- the value of a header that stands once, or one state record more
 abbrev pub added : MetValue → Key → List ℕ → MetValue
 added m (Header k) value = record m { first = with_first m.first k value }
 added m (State k) value = record m { states = m.states ++ record { key = k; value = value } ∷ [] }

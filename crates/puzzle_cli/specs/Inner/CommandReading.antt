@@ -20,6 +20,7 @@ abbrev pub entry_at : {A : Type 0} → List (List ℕ × A) → List ℕ → Opt
 entry_at [] line = None
 entry_at (row ∷ rows) line = if bytes_eq line row.0 then Some row.1 else entry_at rows line
 
+-- the command of a word without an argument
 abbrev pub word_at : List ℕ → Option (Command (List ℕ))
 word_at line = entry_at words line
 
@@ -27,6 +28,7 @@ word_at line = entry_at words line
 abbrev pub nonzero : ℕ → Option ℕ
 nonzero n = if n == 0 then None else Some n
 
+-- a limit: a decimal from 1 to MOST_LISTED
 abbrev pub limit_at : List ℕ → Option ℕ
 limit_at text = option_and_then nonzero (decimal_value MOST_LISTED text)
 

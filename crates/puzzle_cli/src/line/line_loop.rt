@@ -1,8 +1,9 @@
 //! The loop of a run: bytes are read, cut into lines, and each line is answered by a machine.
 
-ghost use Rattle.std.specs.Prelude.{◌≡◌, ◌≢◌, ℕ, ◌+◌, ◌≤◌, ◌∷◌, [], Some, false, length, take, is_err, IfOk, OnOk, OnErr};
+ghost use Rattle.std.specs.Prelude.{◌≡◌, ◌≢◌, ℕ, ◌+◌, ◌≤◌, ◌∷◌, [], Some, false, length, take, is_err, is_some, IfOk, OnOk, OnErr};
 ghost use Rattle.std.specs.Option.{option_copied};
 ghost use Rattle.std.specs.Io.KnownBytes.{Appends, Consumes, IsAtEnd, Keeps};
+ghost use Rattle.puzzle_io.specs.Device.{IsPassedOn};
 ghost use Rattle.puzzle_cli.specs.Lines.{as_line};
 ghost use Rattle.puzzle_cli.specs.Inner.LineBuffer.{ended_from, last_from};
 ghost use Rattle.puzzle_cli.specs.Runs.{point_at, progress_at, Ends};
@@ -182,7 +183,9 @@ fn answer_line<M: Machine, W: Sink>(
 fn send<W: Sink>(sink: &mut W, bytes: &[u8]) -> Result<(), DeviceFault>
     requires { W.has_failed sink.old ≡ false }
     ensures failed { W.has_failed sink.new ≡ is_err result }
-    ensures flushed { OnOk result (W.flushed sink.new ≡ W.taken sink.new) }
+    ensures flushed { OnOk result (IsPassedOn (W.flushed sink.new) (W.taken sink.new)) }
+    ensures flushed_told { is_some (W.flushed sink.new) ≡ is_some (W.flushed sink.old) }
+    ensures told { is_some (W.taken sink.new) ≡ is_some (W.taken sink.old) }
     ensures ok { OnOk result (Appends (W.taken sink.old) (W.taken sink.new) bytes.now) }
     ensures err { OnErr result ((count : ℕ) × Appends (W.taken sink.old) (W.taken sink.new)
         (take count bytes.now)) }

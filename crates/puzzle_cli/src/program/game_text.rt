@@ -1,6 +1,7 @@
 //! A game from its first session to the text to be saved.
 
 ghost use Rattle.std.specs.Prelude.{◌≡◌, ◌≢◌, false, option_map, vec_items, IfOk, IfErr, OnOk};
+ghost use Rattle.std.specs.Option.{option_copied};
 ghost use Rattle.puzzle_cli.specs.Faults.{fault_status};
 ghost use Rattle.puzzle_cli.specs.Programs.{IsFirst, IsFinished, IsPlayed, text_to_save};
 ghost use Rattle.puzzle_cli.specs.RunLaws.{IsNoneOrStorable};
@@ -8,20 +9,20 @@ ghost use Rattle.puzzle_cli.specs.Runs.{point_at};
 
 use crate::draw::Draw;
 use crate::fault::Fault;
+use crate::format::Format;
 use crate::reply::facts::Facts;
 use crate::run_end::End;
 use crate::session_run::run_with;
 use crate::start::begin;
 use crate::start::command_line::Args;
 use crate::start::start_fault::StartFault;
-use crate::voice::Voice;
 use play_midend::Session;
 use play_save::save;
 use puzzle_io::{Sink, Source};
 use std::alloc::Global;
 
-/// Plays a game in this manner, from the session of the ID or of the file's bytes on, or from none, and gives the text to be saved.
-pub(crate) fn game_text<V: Voice<P>, P: Draw, R: Source, W: Sink>(
+/// Plays a game with replies in this format, from the session of the ID or of the file's bytes on, or from none, and gives the text to be saved.
+pub(crate) fn game_text<T: Format<P>, P: Draw, R: Source, W: Sink>(
     alloc: Global,
     args: &Args,
     bytes: &Option<Vec<u8>>,
@@ -30,7 +31,7 @@ pub(crate) fn game_text<V: Voice<P>, P: Draw, R: Source, W: Sink>(
 ) -> Result<Option<Vec<u8>>, Fault>
     requires source { R.has_failed source.old ≡ false }
     requires sink { W.has_failed sink.old ≡ false }
-    ensures played { IfOk result (λ text. IsPlayed ⟦<P as Facts>⟧.facts V.reply args.now.id
+    ensures played { IfOk result (λ text. IsPlayed ⟦<P as Facts>⟧.facts T.reply args.now.id
         (option_map vec_items bytes.now) args.now.save
         (λ session. point_at R.Source W.Sink session source.old sink.old)
         (λ session. point_at R.Source W.Sink session source.new sink.new)
@@ -40,7 +41,7 @@ pub(crate) fn game_text<V: Voice<P>, P: Draw, R: Source, W: Sink>(
         → W.flushed sink.new ≡ W.taken sink.new) }
 {
     let first = first_session::<P>(alloc, &args.id, bytes)?;
-    let last = run_game::<V, P, R, W>(alloc, first, source, sink)?;
+    let last = run_game::<T, P, R, W>(alloc, first, source, sink)?;
     let text = text_of(alloc, &last, &args.save)?;
     Ok(text)
 }
@@ -55,15 +56,23 @@ fn first_session<P: Draw>(
         (IsFirst ⟦<P as Facts>⟧.facts id.now (option_map vec_items bytes.now)) }
     ensures storable { IfOk result (IsNoneOrStorable ⟦<P as Facts>⟧.facts) }
 {
-    match (id, bytes) {
-        (Some(id), _) => begin::<P>(alloc, Some(id.as_bytes()), None),
-        (None, Some(bytes)) => begin::<P>(alloc, None, Some(bytes)),
-        (None, None) => begin::<P>(alloc, None, None),
+    match id {
+        Some(id) => begin::<P>(alloc, Some(id.as_bytes()), None),
+        None => begin::<P>(alloc, None, file_of(bytes)),
     }
 }
 
-// Runs the game in this manner, and gives the session that is left.
-fn run_game<V: Voice<P>, P: Draw, R: Source, W: Sink>(
+fn file_of(bytes: &Option<Vec<u8>>) -> Option<&[u8]>
+    ensures { option_copied result ≡ option_map vec_items bytes.now }
+{
+    match bytes {
+        Some(bytes) => Some(bytes),
+        None => None,
+    }
+}
+
+// Runs the game with replies in this format, and gives the session that is left.
+fn run_game<T: Format<P>, P: Draw, R: Source, W: Sink>(
     alloc: Global,
     first: Option<Session<P>>,
     source: &mut R,
@@ -72,17 +81,18 @@ fn run_game<V: Voice<P>, P: Draw, R: Source, W: Sink>(
     requires storable { IsNoneOrStorable ⟦<P as Facts>⟧.facts first }
     requires source { R.has_failed source.old ≡ false }
     requires sink { W.has_failed sink.old ≡ false }
-    ensures finished { IfOk result (λ last. IsFinished ⟦<P as Facts>⟧.facts V.reply
+    ensures finished { IfOk result (λ last. IsFinished ⟦<P as Facts>⟧.facts T.reply
         (point_at R.Source W.Sink first source.old sink.old)
         (point_at R.Source W.Sink last source.new sink.new)) }
     ensures status { IfErr result (λ fault. fault_status fault ≢ 0) }
     ensures flushed { OnOk result (W.flushed sink.old ≡ W.taken sink.old
         → W.flushed sink.new ≡ W.taken sink.new) }
 {
-    let (last, end) = run_with::<V, P, R, W>(alloc, first, source, sink);
+    let (last, end) = run_with::<T, P, R, W>(alloc, first, source, sink);
     match end {
         End::Finished => Ok(last),
-        End::ReadFault | End::WriteFault => Err(Fault::Run(end)),
+        End::ReadFault => Err(Fault::Input),
+        End::WriteFault => Err(Fault::Output),
     }
 }
 

@@ -1,12 +1,13 @@
 //! The answers to lines: what a line makes of a session, or of none, and what is said to it.
-ghost use Rattle.std.specs.Prelude.{◌≡◌, Some, Ok, IfOk, IfErr, OnErr};
+ghost use Rattle.std.specs.Prelude.{◌≡◌, ◌∷◌, ◌++◌, [], false, Some, Ok, Err, IfOk, IfErr, OnErr};
 ghost use Rattle.std.specs.Option.{option_copied};
+ghost use Rattle.byte_text.specs.Bytes.{line_feed};
 ghost use Rattle.play_save.specs.Written.{save_of};
 ghost use Rattle.puzzle_cli.specs.Texts.{text_bytes};
 ghost use Rattle.puzzle_cli.specs.Commands.{is_quit, action_copied, request_copied, IsInRange};
-ghost use Rattle.puzzle_cli.specs.SessionReplies.{id_line, view_text, ViewTakesMemory, RequestGives, RequestTakesMemory};
-ghost use Rattle.puzzle_cli.specs.Replies.{Reply, Explains};
-ghost use Rattle.puzzle_cli.specs.Inner.Answers.{IsLineReply, IsLineRefusal, ActionAnswered};
+ghost use Rattle.puzzle_cli.specs.SessionReplies.{id_words, view_text, ViewTakesMemory, RequestGives, RequestTakesMemory};
+ghost use Rattle.puzzle_cli.specs.Replies.{LineGives, Explains};
+ghost use Rattle.puzzle_cli.specs.Inner.Answers.{ActionAnswered};
 ghost use Rattle.puzzle_cli.specs.Machines.{IsResponse};
 
 use crate::command::line_fault::LineFault;
@@ -20,40 +21,31 @@ use crate::reply::solution_list::solution_list;
 use crate::reply::solve_reply::solve_reply;
 use crate::reply::text::Text;
 use crate::view::done_clues::done_text;
+use crate::view::id::id_text;
 use crate::view::pencil_marks::marks_text;
 use crate::view::status::status_text;
-use crate::voice::{Plain, Voice};
-use clue_rules::Game;
 use latin_board::OutOfMemory;
 use play_midend::{PlayFault, Session, read_move};
 use play_save::save;
 use std::alloc::Global;
 
-impl<P: Draw> Voice<P> for Plain {
-    ghost reply = { Reply ⟦<P as Facts>⟧.facts };
-
-    ghost leaves_as_plain = { λ _ _ _ bytes said. (bytes, said) };
-
-    fn answer(alloc: Global, session: &mut Option<Session<P>>, line: Option<&[u8]>) -> Response {
-        match obey(alloc, session, line) {
-            Ok(answer) => answer,
-            Err(refusal) => Response::Reply(Text::refused(refusal.name())),
-        }
-    }
-}
-
-// What is answered to a line, or why it is refused.
+/// What a line makes of a session, or of none, and what is said to it, or why it is refused; `None` is a line that is too long. Each
+/// format tells this answer in its words.
+///
+/// A line that is refused leaves the session as it was, and ends no run.
 #[tactic(auto, using(crate::proofs::CommandLaws::goes_on))]
-fn obey<P: Draw>(
+pub fn obey<P: Draw>(
     alloc: Global,
     session: &mut Option<Session<P>>,
     line: Option<&[u8]>,
 ) -> Result<Response, Refusal>
-    ensures ok { IfOk result (λ answer. IsResponse (IsLineReply ⟦<P as Facts>⟧.facts) is_quit
-        session.old (option_copied line.entry) answer session.new) }
+    ensures ok { IfOk result (λ answer. IsResponse
+        (λ old line said new. LineGives ⟦<P as Facts>⟧.facts old line (Ok (said, new)))
+        is_quit session.old (option_copied line.entry) answer session.new) }
     ensures err { OnErr result (session.new ≡ session.old) }
-    ensures why { IfErr result
-        (IsLineRefusal ⟦<P as Facts>⟧.facts session.old (option_copied line.entry)) }
+    ensures goes_on { OnErr result (is_quit (option_copied line.entry) ≡ false) }
+    ensures why { IfErr result (λ refusal.
+        LineGives ⟦<P as Facts>⟧.facts session.old (option_copied line.entry) (Err refusal)) }
 {
     match read_command(line)? {
         None => Ok(Response::Silence),
@@ -135,21 +127,17 @@ fn tell<P: Draw>(alloc: Global, session: &Session<P>, view: View) -> Result<Text
         View::Show => Ok(Text::Long(picture(alloc, session)?)),
         View::Marks => Ok(Text::Long(marks_text(alloc, session)?)),
         View::Status => Ok(Text::line(status_text(session).as_str())),
-        View::Id => Ok(Text::Long(id_text(alloc, session)?)),
+        View::Id => Ok(Text::Long(id_line(alloc, session)?)),
         View::Done => Ok(Text::Clues(done_text(session))),
         View::Save => Ok(Text::Long(save_text(alloc, session)?)),
     }
 }
 
-// The ID of the game that is played, as a line.
-fn id_text<P: Draw>(alloc: Global, session: &Session<P>) -> Result<Vec<u8>, OutOfMemory>
-    ensures { IfOk result (λ text. text.items ≡ id_line ⟦<P as Facts>⟧.facts session.now) }
+fn id_line<P: Draw>(alloc: Global, session: &Session<P>) -> Result<Vec<u8>, OutOfMemory>
+    ensures { IfOk result (λ text.
+        text.items ≡ id_words ⟦<P as Facts>⟧.facts session.now ++ line_feed ∷ []) }
 {
-    let mut text = Vec::new(alloc);
-    text.extend_from_slice(&session.params().write())?;
-    text.push(b':')?;
-    let description = session.puzzle().write_desc(alloc).map_err(|_| OutOfMemory)?;
-    text.extend_from_slice(&description)?;
+    let mut text = id_text(alloc, session)?;
     text.push(b'\n')?;
     Ok(text)
 }

@@ -1,4 +1,4 @@
-//! Why a line is refused, by the word that is printed.
+//! Why a line is refused.
 
 ghost use Rattle.std.specs.Prelude.{◌≡◌, ◌≤◌, length};
 ghost use Rattle.puzzle_cli.specs.Refusals.{refusal_name};
@@ -10,20 +10,20 @@ use play_midend::PlayFault;
 
 /// Why a line is refused.
 #[derive(Clone, Copy)]
-pub(crate) enum Refusal {
+pub enum Refusal {
     /// The line is no command, or there is no session.
     Line(LineFault),
     /// The game ID begins no session.
     Start(StartFault),
     /// The session refuses.
     Play(PlayFault),
-    /// A growth was refused.
+    /// A growth was refused, wherever it was.
     Memory,
 }
 
 impl Refusal {
-    /// The word by which the refusal is printed.
-    pub(crate) fn name(&self) -> &'static str
+    /// The word by which the refusal is told.
+    pub fn name(&self) -> &'static str
         ensures name { result.now ≡ refusal_name self.now }
         ensures short { length result.now ≤ 16 }
     {
@@ -49,23 +49,29 @@ impl From<LineFault> for Refusal {
 
 impl From<StartFault> for Refusal {
     ghost use Rattle.std.specs.Prelude.{◌≡◌};
-    ghost use Rattle.puzzle_cli.specs.declared.reply.refusal.Refusal.TheVariants.{Start};
+    ghost use Rattle.puzzle_cli.specs.Refusals.{start_refusal};
 
-    ghost from_gives = { λ fault refusal. refusal ≡ Start fault };
+    ghost from_gives = { λ fault refusal. refusal ≡ start_refusal fault };
 
     fn from(fault: StartFault) -> Refusal {
-        Refusal::Start(fault)
+        match fault {
+            StartFault::OutOfMemory => Refusal::Memory,
+            fault => Refusal::Start(fault),
+        }
     }
 }
 
 impl From<PlayFault> for Refusal {
     ghost use Rattle.std.specs.Prelude.{◌≡◌};
-    ghost use Rattle.puzzle_cli.specs.declared.reply.refusal.Refusal.TheVariants.{Play};
+    ghost use Rattle.puzzle_cli.specs.Refusals.{play_refusal};
 
-    ghost from_gives = { λ fault refusal. refusal ≡ Play fault };
+    ghost from_gives = { λ fault refusal. refusal ≡ play_refusal fault };
 
     fn from(fault: PlayFault) -> Refusal {
-        Refusal::Play(fault)
+        match fault {
+            PlayFault::OutOfMemory => Refusal::Memory,
+            fault => Refusal::Play(fault),
+        }
     }
 }
 

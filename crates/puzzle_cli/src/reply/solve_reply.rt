@@ -1,6 +1,7 @@
 //! What `solve` makes of a session, and what is said of it.
 ghost use Rattle.std.specs.Prelude.{◌≡◌, Some, None, Err, IfOk, IfErr, OnOk};
 ghost use Rattle.play_midend.specs.declared.fault.PlayFault.{PlayFault};
+ghost use Rattle.puzzle_cli.specs.Refusals.{play_refusal};
 ghost use Rattle.puzzle_cli.specs.Texts.{text_bytes};
 ghost use Rattle.latin_board.specs.Squares.{GridValue};
 ghost use Rattle.puzzle_cli.specs.SolutionTexts.{move_line, solve_sentence, EndsInSolution, IsLastMove};
@@ -28,7 +29,7 @@ pub(crate) fn solve_reply<P: Game>(
     ensures ok { IfErr answer (λ fault. IfOk result (λ text.
         solve_sentence fault ≡ Some (text_bytes text))) }
     ensures err { IfErr result (λ refusal. (fault : PlayFault) × (answer ≡ Err fault)
-        × (solve_sentence fault ≡ None) × (refusal ≡ Refusal.Play fault)) }
+        × (solve_sentence fault ≡ None) × (refusal ≡ play_refusal fault)) }
 {
     match answer {
         Ok(()) => Ok(Text::Solved(solution_line(session))),
@@ -36,7 +37,7 @@ pub(crate) fn solve_reply<P: Game>(
         Err(PlayFault::SeveralSolutions) => {
             Ok(Text::line("Multiple solutions exist for this puzzle"))
         }
-        Err(fault) => Err(Refusal::Play(fault)),
+        Err(fault) => Err(Refusal::from(fault)),
     }
 }
 

@@ -25,7 +25,8 @@ pub fn status_text<P: Game>(session: &Session<P>) -> ArrayString<32>
     text
 }
 
-fn status_word(board: &Board) -> &'static str
+/// Whether the board is played, solved, or was helped with, in a word.
+pub fn status_word(board: &Board) -> &'static str
     ensures word { result.now ≡ status_word board.now }
     ensures short { length result.now ≤ 7 }
 {

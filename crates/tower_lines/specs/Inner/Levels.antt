@@ -1,7 +1,7 @@
 -- Starts of a line by levels: how many towers they show, and which values they have but for the greatest of all, of the line's length, and
 -- the least, 1. Nothing after the greatest value is seen, so a start has it just where it shows all the towers of the clue: that is the last level.
 -- And whether a start has the least value is told by how many values it has.
-use Rattle.std.specs.Prelude.{◌≡◌, ℕ, ◌+◌, ◌^◌, ◌<◌, ◌≤◌, ◌⊎◌, ◌↔◌, true, false, ◌&&◌, nat_lt, List, ◌++◌, ◌-◌, length, slice_index, ◌==◌, count_ones}
+use Rattle.std.specs.Prelude.{◌≡◌, ℕ, ◌+◌, ◌^◌, ◌<◌, ◌≤◌, ◌⊎◌, ◌↔◌, true, false, ◌&&◌, Bool, nat_lt, List, ◌++◌, length, ◌==◌, count_ones}
 use Rattle.number_sets.specs.Sets.{has_number}
 use Rattle.tower_lines.specs.TowersSeen.{seen}
 use Rattle.tower_lines.specs.LineFillings.{IsStart, IsFilling}
@@ -27,11 +27,14 @@ pub record IsLastStep (width clue k level mask level_then mask_then : ℕ) : Typ
   pub after : level_then ≡ clue
   pub same : mask_then ≡ mask
 
--- how the least value leads from a level of starts with so many values that lack it to another: it is seen where it is the first, and else hidden.
--- A start has all its values in the mask but for the least, and for the greatest at the last level.
+-- a start at the level with so many values lacks the least one: its mask has all of them but for the greatest, which it has at the last level
+abbrev pub LacksLeast : ℕ → ℕ → ℕ → ℕ → Type 0
+LacksLeast place clue level mask = ((level < clue) × (count_ones mask ≡ place)) ⊎ ((level ≡ clue) × (count_ones mask + 1 ≡ place))
+
+-- how the least value leads from a level of starts with so many values that lack it to another: it is seen where it is the first, and else hidden
 abbrev pub IsLeastMove : ℕ → ℕ → ℕ → ℕ → ℕ → Type 0
 IsLeastMove place clue level mask level_then = ((place ≡ 0) × (level_then ≡ level + 1) × (level_then < clue))
-    ⊎ ((0 < place) × (level_then ≡ level) × (((level < clue) × (count_ones mask ≡ place)) ⊎ ((level ≡ clue) × (count_ones mask + 1 ≡ place))))
+    ⊎ ((0 < place) × (level_then ≡ level) × LacksLeast place clue level mask)
 
 -- the least value leads to the same mask
 pub record IsLeastStep (place width clue k level mask level_then mask_then : ℕ) : Type 0 where
@@ -60,10 +63,6 @@ IsStep place width clue k level mask level_then mask_then =
     IsLastStep width clue k level mask level_then mask_then
     ⊎ (IsLeastStep place width clue k level mask level_then mask_then ⊎ IsLowStep width clue k level mask level_then mask_then)
 
--- the value is a candidate of the square at the place
-abbrev pub IsCandidateAt : List ℕ → ℕ → ℕ → Type 0
-IsCandidateAt sets place k = has_number (slice_index sets place) (k + 1) ≡ true
-
 -- the levels have the masks of all starts with so many values, and no other
 abbrev pub AreReached : List ℕ → ℕ → ℕ → List (List ℕ) → Type 0
 AreReached sets clue place levels = (level mask : ℕ)
@@ -76,34 +75,20 @@ pub record AreContinued (sets : List ℕ) (clue place : ℕ) (levels : List (Lis
   pub all : (level mask : ℕ) (line rest : List ℕ) → length line ≡ place → IsAtLevel sets clue level mask line
       → IsFilling sets clue (line ++ rest) → has_at levels level mask ≡ true
 
--- the value leads from the levels to the mask at the level
-pub record IsReachedBy (place width clue k : ℕ) (levels : List (List ℕ)) (level_then mask_then : ℕ) : Type 0 where
+-- a mask of the levels that has the link
+pub record IsLinked (Link : ℕ → ℕ → Type 0) (levels : List (List ℕ)) : Type 0 where
   pub level : ℕ
   pub mask : ℕ
   pub here : has_at levels level mask ≡ true
-  pub step : IsStep place width clue k level mask level_then mask_then
+  pub link : Link level mask
+
+-- the value leads from the levels to the mask at the level
+abbrev pub IsReachedBy : ℕ → ℕ → ℕ → ℕ → List (List ℕ) → ℕ → ℕ → Type 0
+IsReachedBy place width clue k levels level_then mask_then = IsLinked (λ level mask. IsStep place width clue k level mask level_then mask_then) levels
 
 -- the value leads from the mask at the level to the levels
-pub record LeadsTo (place width clue k : ℕ) (levels : List (List ℕ)) (level mask : ℕ) : Type 0 where
-  pub level_then : ℕ
-  pub mask_then : ℕ
-  pub there : has_at levels level_then mask_then ≡ true
-  pub step : IsStep place width clue k level mask level_then mask_then
-
--- a value between the least and the greatest leads from some mask at the level to the one at the other
-pub record IsMovedFrom (clue k : ℕ) (levels : List (List ℕ)) (level level_then mask_then : ℕ) : Type 0 where
-  pub mask : ℕ
-  pub here : has_at levels level mask ≡ true
-  pub fresh : has_number mask k ≡ false
-  pub more : mask_then ≡ mask + 2 ^ k
-  pub moves : IsMove clue k level mask level_then
-
--- a value between the least and the greatest leads from the mask at the level to the levels
-pub record LeadsLow (clue k : ℕ) (levels : List (List ℕ)) (level mask : ℕ) : Type 0 where
-  pub level_then : ℕ
-  pub there : has_at levels level_then (mask + 2 ^ k) ≡ true
-  pub fresh : has_number mask k ≡ false
-  pub moves : IsMove clue k level mask level_then
+abbrev pub LeadsTo : ℕ → ℕ → ℕ → ℕ → List (List ℕ) → ℕ → ℕ → Type 0
+LeadsTo place width clue k levels level mask = IsLinked (λ level_then mask_then. IsStep place width clue k level mask level_then mask_then) levels
 
 -- a mask of the level that is in the set too
 pub record IsCommon (levels : List (List ℕ)) (set : List ℕ) (level mask : ℕ) : Type 0 where
@@ -114,13 +99,21 @@ pub record IsCommon (levels : List (List ℕ)) (set : List ℕ) (level mask : �
 abbrev pub AreAdded : (ℕ → ℕ → Type 0) → List (List ℕ) → List (List ℕ) → Type 0
 AreAdded Added old new = (level mask : ℕ) → (has_at new level mask ≡ true) ↔ ((has_at old level mask ≡ true) ⊎ Added level mask)
 
--- no mask of the levels has a value from the width on, and none has the least or the greatest
-abbrev pub AreLow : ℕ → List (List ℕ) → Type 0
-AreLow width levels = (level mask : ℕ) → has_at levels level mask ≡ true → mask < 2 ^ (width - 2)
+-- the same, and it is told whether any are added
+pub record AreNoted (Added : ℕ → ℕ → Type 0) (old new : List (List ℕ)) (told : Bool) : Type 0 where
+  pub added : AreAdded Added old new
+  pub some : (told ≡ true) ↔ ((level : ℕ) × (mask : ℕ) × Added level mask)
 
--- only levels that starts with so many values can show have masks: no more towers than values, and one at least where there is a value
-abbrev pub AreFew : ℕ → List (List ℕ) → Type 0
-AreFew place levels = (level mask : ℕ) → has_at levels level mask ≡ true → (level ≤ place) × (0 < place → 0 < level)
+-- what a start with so many values shows: no more towers than values, and one at least where it has a value. It has one where its mask has one, and
+-- at the last level, where it has the greatest.
+pub record IsFew (clue place level mask : ℕ) : Type 0 where
+  pub most : level ≤ place
+  pub least : 0 < place → 0 < level
+  pub some : (0 < mask) ⊎ (level ≡ clue) → 0 < level
+
+-- only what starts with so many values show has masks
+abbrev pub AreFew : ℕ → ℕ → List (List ℕ) → Type 0
+AreFew clue place levels = (level mask : ℕ) → has_at levels level mask ≡ true → IsFew clue place level mask
 
 -- some candidate leads from the levels to the mask at the level
 pub record IsReachedFrom (place width clue values : ℕ) (levels : List (List ℕ)) (level mask : ℕ) : Type 0 where

@@ -1,7 +1,7 @@
 //! Whether two sessions are equal, found out without memory.
 
 use latin_board::Board;
-use play_midend::{KeptBytes, Session};
+use play_midend::Session;
 use puzzle_cli::{Draw, done_text};
 
 /// Whether two sessions are equal: in their puzzles, parameters and kept bytes, in all moves, the later ones included, and in the
@@ -24,7 +24,7 @@ fn have_equal_games<P: Draw>(one: &Session<P>, other: &Session<P>) -> bool {
         && keep_the_same(&one.extras().time, &other.extras().time)
 }
 
-fn keep_the_same(one: &Option<KeptBytes>, other: &Option<KeptBytes>) -> bool {
+fn keep_the_same(one: &Option<Vec<u8>>, other: &Option<Vec<u8>>) -> bool {
     match (one, other) {
         (Some(one), Some(other)) => one.as_slice() == other.as_slice(),
         (None, None) => true,

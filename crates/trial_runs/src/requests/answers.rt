@@ -39,36 +39,28 @@ pub(crate) struct Answer {
 impl Answer {
     /// The answer to a text.
     pub(crate) fn of<P: Game>(alloc: Global, text: &[u8]) -> Result<Answer, AllocError> {
-        let fault = match load::<P>(alloc, text) {
-            Ok(session) => return Answer::loaded(alloc, &session),
-            Err(fault) => fault,
-        };
-        let name = fault.name();
-        let in_full = match fault {
-            LoadFault::BadState(index) => format!(in alloc; "{name} {index}\n")?,
-            _ => format!(in alloc; "{name}\n")?,
-        };
+        match load::<P>(alloc, text) {
+            Ok(session) => Answer::loaded(alloc, &session),
+            Err(fault) => Answer::refused(alloc, fault),
+        }
+    }
+
+    fn refused(alloc: Global, fault: LoadFault) -> Result<Answer, AllocError> {
+        let in_full = refusal(alloc, fault)?;
         Ok(Answer {
             number: fault.number(),
-            name,
-            in_full: in_full.as_bytes().to_vec(alloc)?,
+            name: fault.name(),
+            in_full,
         })
     }
 
     fn loaded<P: Game>(alloc: Global, session: &Session<P>) -> Result<Answer, AllocError> {
+        let in_full = status_and_save(alloc, session)?;
         let (number, name) = if loads_again(alloc, session) {
             (0, "loads")
         } else {
             (CHANGED, "changed")
         };
-        let status = word(session);
-        let position = session.position();
-        let states = session.states();
-        let status = format!(in alloc; "{status} {position}/{states}\n")?;
-        let mut in_full = status.as_bytes().to_vec(alloc)?;
-        if let Ok(text) = save(alloc, session) {
-            in_full.extend_from_slice(&text)?;
-        }
         Ok(Answer {
             number,
             name,
@@ -87,6 +79,34 @@ impl Answer {
         digest.take(&self.in_full);
         digest.0
     }
+}
+
+// The name of a refusal as a line, with its index if it has one.
+fn refusal(alloc: Global, fault: LoadFault) -> Result<Vec<u8>, AllocError> {
+    let name = fault.name();
+    match fault {
+        LoadFault::BadState(index) => format!(in alloc; "{name} {index}\n")?
+            .as_bytes()
+            .to_vec(alloc),
+        _ => format!(in alloc; "{name}\n")?.as_bytes().to_vec(alloc),
+    }
+}
+
+// The status of a session as a line, and its save.
+fn status_and_save<P: Game>(alloc: Global, session: &Session<P>) -> Result<Vec<u8>, AllocError> {
+    let mut text = status_line(alloc, session)?;
+    if let Ok(own) = save(alloc, session) {
+        text.extend_from_slice(&own)?;
+    }
+    Ok(text)
+}
+
+fn status_line<P: Game>(alloc: Global, session: &Session<P>) -> Result<Vec<u8>, AllocError> {
+    let word = word(session);
+    let (position, states) = (session.position(), session.states());
+    format!(in alloc; "{word} {position}/{states}\n")?
+        .as_bytes()
+        .to_vec(alloc)
 }
 
 /// The word of the status line.

@@ -122,12 +122,12 @@ impl Damage {
             return Ok(None);
         }
         let (front, rest) = text.split_at(place);
-        let text = match self {
-            Damage::ByteLeftOut => joined(alloc, &[front, &rest[1..]])?,
-            Damage::ByteDoubled => joined(alloc, &[front, &rest[..1], rest])?,
-            _ => front.to_vec(alloc)?,
+        let parts: [&[u8]; 2] = match self {
+            Damage::ByteLeftOut => [front, &rest[1..]],
+            Damage::ByteDoubled => [&text[..place + 1], rest],
+            _ => [front, &[]],
         };
-        Ok(Some(text))
+        Ok(Some(joined(alloc, &parts)?))
     }
 }
 
@@ -153,9 +153,7 @@ fn without_record(
     if place >= records.len() {
         return Ok(None);
     }
-    let mut text = joined(alloc, &records[..place])?;
-    text.extend_from_slice(&joined(alloc, &records[place + 1..])?)?;
-    Ok(Some(text))
+    Ok(Some(joined_twice(alloc, &records[..place], &records[place + 1..])?))
 }
 
 fn with_record_twice(
@@ -166,9 +164,7 @@ fn with_record_twice(
     if place >= records.len() {
         return Ok(None);
     }
-    let mut text = joined(alloc, &records[..place + 1])?;
-    text.extend_from_slice(&joined(alloc, &records[place..])?)?;
-    Ok(Some(text))
+    Ok(Some(joined_twice(alloc, &records[..place + 1], &records[place..])?))
 }
 
 // The first has to stand before the second.
@@ -184,6 +180,14 @@ fn with_exchange(
     let mut records = records.to_vec(alloc)?;
     records.swap(first, second);
     Ok(Some(joined(alloc, &records)?))
+}
+
+fn joined_twice(alloc: Global, front: &[&[u8]], rest: &[&[u8]]) -> Result<Vec<u8>, AllocError> {
+    let mut text = joined(alloc, front)?;
+    for part in rest {
+        text.extend_from_slice(part)?;
+    }
+    Ok(text)
 }
 
 fn joined(alloc: Global, parts: &[&[u8]]) -> Result<Vec<u8>, AllocError> {

@@ -9,7 +9,7 @@ use crate::timing::checks::{BoardCheck, CHECKS};
 use crate::timing::objects::BoardReply;
 use crate::timing::times::{Subject, Times};
 use clue_rules::{Game, Towers, Unequal};
-use puzzle_json::Shows;
+use json_replies::Shows;
 use std::alloc::Global;
 use std::io;
 use std::rt::Clock;

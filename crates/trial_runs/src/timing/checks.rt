@@ -2,8 +2,8 @@
 
 use crate::timing::batches::Call;
 use board_checks::{Hint, errors, find_hint};
+use json_replies::Shows;
 use play_midend::Session;
-use puzzle_json::Shows;
 use std::alloc::Global;
 use trail_solver::{Answer, completion};
 

@@ -4,9 +4,7 @@ use super::PUZZLE;
 use crate::tests::rows::{Row, check};
 use crate::tests::worked::puzzle;
 use clue_rules::{Params, Towers};
-use play_midend::{
-    Extras, KeptBytes, Move, PlayFault, Session, laws, move_list_laws, read_move, write_move,
-};
+use play_midend::{Extras, Move, PlayFault, Session, laws, move_list_laws, read_move, write_move};
 use std::alloc::{AllocError, Global};
 use trail_solver::Rules;
 
@@ -42,9 +40,9 @@ fn texts_are_read_as_they_are_written(rt: HostRuntime) {
 
 fn extras_of(alloc: Global) -> Result<Extras, AllocError> {
     Ok(Extras {
-        seed: Some(KeptBytes::new(Vec::from_slice(alloc, b"12")?)),
+        seed: Some(Vec::from_slice(alloc, b"12")?),
         auxinfo: None,
-        ui: Some(KeptBytes::new(Vec::new(alloc))),
+        ui: Some(Vec::new(alloc)),
         time: None,
     })
 }
@@ -113,10 +111,4 @@ fn answers_each_call(session: &mut Session<Towers>) -> bool {
 fn each_call_once(rt: HostRuntime) {
     let mut session = super::new_game(rt.alloc()).expect(&rt, "a session");
     assert!(rt; answers_each_call(&mut session));
-}
-
-#[test]
-fn bytes_that_are_kept(rt: HostRuntime) {
-    let bytes = Vec::from_slice(rt.alloc(), b"x").expect(&rt, "memory");
-    assert!(rt; KeptBytes::new(bytes).into_vec().as_slice() == b"x".as_slice());
 }

@@ -6,9 +6,8 @@ use Rattle.puzzle_cli.specs.GameFacts.{facts_of}
 use Rattle.puzzle_cli.specs.Inner.CommandReading.{read_at}
 use Rattle.puzzle_cli.proofs.CommandLaws.{line_is_read, read_once}
 use Rattle.puzzle_cli.proofs.RepliesOnce.{IdsAreReadOnce, ids_once, output_once}
-use Rattle.puzzle_cli.proofs.ReplySteps.{refused_lines_leave}
-use Rattle.puzzle_cli.proofs.StorableReplies.{replies_stay_storable}
-use Rattle.puzzle_cli.proofs.CallReplies.{replies_are_calls, other_requests_leave}
+use Rattle.puzzle_cli.proofs.StorableReplies.{answers_stay_storable}
+use Rattle.puzzle_cli.proofs.CallReplies.{lines_are_calls, other_requests_leave}
 use Rattle.puzzle_cli.proofs.UndoReplies.{undo_line_takes_back, redo_line_takes_undo_back}
 use Rattle.puzzle_cli.proofs.LinesAnswered.{output_is_there}
 use Rattle.puzzle_cli.proofs.SaveReplies.{save_line_loads_back}
@@ -42,13 +41,10 @@ returns-clause-output g c =
     (describes_at f.rules.puzzle f.rules.valid f.describes) text id (reads g))
 
 pub returns-clause-stays_storable : goal.returns-clause-stays_storable
-returns-clause-stays_storable g c = replies_stay_storable (facts_of g.P.Rules g.P.Game g.P.Draw) (laws_of g.met.P.Rules)
-
-pub returns-clause-refused : goal.returns-clause-refused
-returns-clause-refused g c = refused_lines_leave (facts_of g.P.Rules g.P.Game g.P.Draw)
+returns-clause-stays_storable g c = answers_stay_storable (facts_of g.P.Rules g.P.Game g.P.Draw) (laws_of g.met.P.Rules)
 
 pub returns-clause-calls : goal.returns-clause-calls
-returns-clause-calls g c = replies_are_calls (facts_of g.P.Rules g.P.Game g.P.Draw)
+returns-clause-calls g c = lines_are_calls (facts_of g.P.Rules g.P.Game g.P.Draw)
 
 pub returns-clause-others : goal.returns-clause-others
 returns-clause-others g c = other_requests_leave (facts_of g.P.Rules g.P.Game g.P.Draw)

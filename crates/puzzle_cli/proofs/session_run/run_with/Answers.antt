@@ -14,6 +14,6 @@ returns-clause-storable g c = λ begins.
     let Stored : Option (History _) → Type 0 = λ session. IsNoneOrStorable f session in
     let old = point_at g.R.Source g.W.Sink c.new-machine.result c.args.source.now c.args.sink.now in
     let new = point_at g.R.Source g.W.Sink c.run_machine-end.new.machine c.run_machine-end.new.source c.run_machine-end.new.sink in
-    let stays = ends_storable f (laws_of g.met.P.Rules) g.V.Voice.reply g.met.V.Voice.leaves_as_plain is_quit
+    let stays = ends_storable f (laws_of g.met.P.Rules) g.T.Format.reply g.met.T.Format.leaves_as_answers is_quit
     c.run_machine-end.result old new (subst Stored (sym c.new-machine.ensures) begins) c.run_machine-end.ensures.ends in
     subst Stored (sym c.into_session.ensures) stays

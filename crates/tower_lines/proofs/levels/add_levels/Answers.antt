@@ -2,7 +2,7 @@
 use Rattle.std.proofs.Common.{◌≡◌, ℕ, ◌+◌, not, ◌&&◌, leb, ap, ◌∙◌}
 use Rattle.number_sets.specs.Sets.{has_number}
 use Rattle.tower_lines.specs.Inner.Levels.{IsReachedBy, IsReachedFrom}
-use Rattle.tower_lines.proofs.LevelMoves.{added_as}
+use Rattle.tower_lines.proofs.LevelAdditions.{added_as}
 use Rattle.tower_lines.proofs.LevelValues.{AreOthers, others_less, all_left, fewer_left, given_none, given_more}
 use Rattle.tower_lines.proofs.levels.add_levels.Goals as goal
 
@@ -31,7 +31,7 @@ loop-value-preserved g c =
     record {
       left = fewer_left c.args.width c.args.values left value others c.loop-value.invariant.left are;
       added = given_more (λ k level mask. IsReachedBy c.args.place c.args.width c.args.clue k c.args.levels.now level mask) c.args.width c.args.values left value others
-          c.args.next.now c.loop-value.next c.add_moved.new.next c.loop-value.invariant.left here are c.loop-value.invariant.added c.add_moved.ensures;
+          c.args.next.now c.loop-value.next c.add_reached.new.next c.loop-value.invariant.left here are c.loop-value.invariant.added c.add_reached.ensures;
     }
 
 pub returns : goal.returns

@@ -3,10 +3,10 @@ use Rattle.std.proofs.Common.{◌≡◌, ℕ, ◌+◌, true, not, ◌&&◌, ◌|
 use Rattle.std.proofs.lemmas.Bool.{both_ways}
 use Rattle.number_sets.specs.Sets.{has_number}
 use Rattle.tower_lines.specs.Inner.Levels.{IsPassing, IsPassed}
-use Rattle.tower_lines.proofs.LevelMoves.{added_as, added_alone}
+use Rattle.tower_lines.proofs.LevelAdditions.{added_as, added_alone}
 use Rattle.tower_lines.proofs.LevelValues.{AreOthers, AreGiving, others_less, all_left, fewer_left, given_none, given_more, giving_none, giving_more, giving_skipped}
 use Rattle.tower_lines.proofs.levels.pass_back.Goals as goal
-use Rattle.tower_lines.proofs.levels.pass_back.Goals.{then-add_passing, else-add_passing}
+use Rattle.tower_lines.proofs.levels.pass_back.Goals.{then-add_leading, else-add_leading}
 
 pub loop-value-init : goal.loop-value-init
 loop-value-init g c =
@@ -40,14 +40,14 @@ loop-value-preserved g c =
     let P : ℕ → Type 0 = λ more. AreGiving Passing width values others more in
     record {
       left = fewer_left width values left value others inside are;
-      added = given_more Passing width values left value others c.no_levels-before.result c.loop-value.before c.add_passing.new.before inside here are
-          c.loop-value.invariant.added c.add_passing.ensures.before;
-      kept = elim c.if-add_passing.branch [
-        | then-add_passing w ↦ subst P (sym w.kept-is) (giving_more Passing width values left value others kept w.union-kept.result inside here are
-            (c.add_passing.ensures.some.0 w.if-add_passing.true)
+      added = given_more Passing width values left value others c.no_levels-before.result c.loop-value.before c.add_leading.new.before inside here are
+          c.loop-value.invariant.added c.add_leading.ensures.added;
+      kept = elim c.if-add_leading.branch [
+        | then-add_leading w ↦ subst P (sym w.kept-is) (giving_more Passing width values left value others kept w.union-kept.result inside here are
+            (c.add_leading.ensures.some.0 w.if-add_leading.true)
             (λ n. w.union-kept.ensures.members n ∙ ap (λ b. has_number kept n || b) (w.one.ensures.members n)) c.loop-value.invariant.kept)
-        | else-add_passing w ↦ subst P (sym w.kept-is) (giving_skipped Passing width values left value others kept inside here are
-            (λ r. both_ways c.add_passing.result w.if-add_passing.false (c.add_passing.ensures.some.1 r)) c.loop-value.invariant.kept)
+        | else-add_leading w ↦ subst P (sym w.kept-is) (giving_skipped Passing width values left value others kept inside here are
+            (λ r. both_ways c.add_leading.result w.if-add_leading.false (c.add_leading.ensures.some.1 r)) c.loop-value.invariant.kept)
       ];
     }
 

@@ -5,8 +5,8 @@ use Rattle.std.proofs.lemmas.List.{get_or-set_same, get_or-set_other, set-append
 use Rattle.std.proofs.lemmas.Grind.{get_or_default_zero}
 use Rattle.tower_lines.specs.Inner.MaskSets.{has_at}
 use Rattle.tower_lines.specs.Inner.Levels.{AreReached, IsReachedFrom}
-use Rattle.tower_lines.proofs.LevelMoves.{added_alone}
-use Rattle.tower_lines.proofs.LevelTables.{first_reached, next_reached, reached_low, reached_few}
+use Rattle.tower_lines.proofs.LevelAdditions.{added_alone}
+use Rattle.tower_lines.proofs.LevelTables.{first_reached, next_reached, reached_few}
 use Rattle.tower_lines.proofs.line_fillings.add_starts.Goals as goal
 
 -- a write at the start of the second part is one after the first part
@@ -39,7 +39,7 @@ add_levels-requires g c =
     let same = c.split_at_mut-done.ensures.by_index.0 place [] (omega arith) in
     let L : List (List ℕ) → Type 0 = λ l. AreReached c.args.sets.now c.args.clue place l in
     let reached = subst L (sym same) (c.loop-place.invariant.reached place (omega arith)) in
-    (search rules, (search rules, (omega arith, (c.requires.short, (c.requires.clue, (c.requires.room, (c.requires.small, (reached_low levels reached, reached_few levels reached))))))))
+    (search rules, (search rules, (omega arith, (c.requires.room, (c.requires.clue, (c.requires.small, reached_few levels reached))))))
 
 pub loop-place-preserved : goal.loop-place-preserved
 loop-place-preserved g c =

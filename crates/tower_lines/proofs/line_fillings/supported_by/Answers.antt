@@ -38,7 +38,7 @@ pub pass_back-requires : goal.pass_back-requires
 pass_back-requires g c =
     let at = c.loop-place.place - 1 in
     let few = reached_few (get_or c.add_starts.new.starts at []) (c.add_starts.ensures at (omega arith)) in
-    (search rules, (search rules, (omega (arith, c.loop-place.invariant.inside), (c.requires.short, (c.requires.clue, (c.requires.small, few))))))
+    (search rules, (search rules, (omega (arith, c.loop-place.invariant.inside), (c.requires.room, (c.requires.clue, (c.requires.small, few))))))
 
 pub loop-place-preserved : goal.loop-place-preserved
 loop-place-preserved g c =

@@ -1,5 +1,5 @@
 use Rattle.std.proofs.Common.{◌∙◌}
-use Rattle.clue_rules.proofs.LineSteps.{line_refuted, line_narrows, line_settled}
+use Rattle.clue_rules.proofs.LineSteps.{line_refuted, line_narrows, line_quiet}
 use Rattle.clue_rules.proofs.lines.latin.strike_line.Goals as goal
 
 pub returns-in_default-clause-narrows : goal.returns-in_default-clause-narrows
@@ -19,10 +19,10 @@ returns-clause-narrows c =
     (rw (c.get-width.ensures.value ∙ c.size-size.ensures.value) at c.kept_in_line-kept.ensures)
     c.keep_in_view.ensures.kept
 
-pub returns-then-is_settled-clause-narrows : goal.returns-then-is_settled-clause-narrows
-returns-then-is_settled-clause-narrows c =
-    line_settled c.args.candidates.now c.args.line c.front_place-place.result c.view_sets-sets.result c.in-Some.tally
+pub returns-then-is_quiet-clause-narrows : goal.returns-then-is_quiet-clause-narrows
+returns-then-is_quiet-clause-narrows c =
+    line_quiet c.args.candidates.now c.args.line c.front_place-place.result c.view_sets-sets.result c.in-Some.tally
     (record { line_is = c.requires; cells = rw c.size-size.ensures.value at c.front_place-place.ensures.cells })
     c.view_sets-sets.ensures
     (rw (c.get-width.ensures.value ∙ c.size-size.ensures.value) at c.in-Some.ensures)
-    c.if-is_settled.ensures
+    c.if-is_quiet.ensures

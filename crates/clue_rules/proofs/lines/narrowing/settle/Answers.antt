@@ -1,26 +1,77 @@
+use Rattle.std.proofs.Common.{◌*◌, ◌<◌, ◌≡◌, ◌∙◌, arith}
 use Rattle.std.proofs.lemmas.Bool.{OnTrue_at}
-use Rattle.clue_rules.specs.Inner.LineTallies.{IsLineStruck}
-use Rattle.clue_rules.specs.Inner.QuietLines.{AreQuiet, AreQuietBut}
-use Rattle.clue_rules.proofs.Narrowings.{narrows_for, narrows_on, on_both}
-use Rattle.clue_rules.proofs.QuietSteps.{quiet_noted}
-use Rattle.clue_rules.proofs.RulePasses.{lines_quiet}
+use Rattle.clue_rules.specs.Inner.QuietLines.{Strikes}
+use Rattle.clue_rules.proofs.WaitingLines.{latin_nearer, look_latin, look_rule, looks_done, looks_then, rule_nearer, trail_most}
 use Rattle.clue_rules.proofs.lines.narrowing.settle.Goals as goal
 
-pub returns-then-settle_latin-clause-narrows : goal.returns-then-settle_latin-clause-narrows
-returns-then-settle_latin-clause-narrows g c =
-    narrows_on (narrows_for (g.met.P.LineRules.squares c.args.p.now) c.if-settle_latin.ensures.narrows) c.settle_rules.ensures.narrows
+pub loop-line-smaller-else-not-strike_line : goal.loop-line-smaller-else-not-strike_line
+loop-line-smaller-else-not-strike_line g c =
+    let now = c.loop-line.candidates in
+    let most =
+    trail_most c.args.candidates.now now c.trail_len-length.result c.loop-line.invariant.looks.narrows.less c.size.ensures.valid.largest
+    c.trail_len-length.ensures.value c.trail_len-length.ensures.bound in
+    latin_nearer (2 * c.get-count.result) c.in-Some.line now c.strike_line.new.candidates c.loop-line.changed c.take_latin.new.self
+    c.strike_line.new.changed (omega (arith, c.get-count.ensures.largest)) most c.strike_line.ensures.narrows.less c.in-Some.ensures.line
+    c.in-Some.ensures.rule c.strike_line.ensures.notes
 
-pub returns-then-settle_latin-clause-quiet : goal.returns-then-settle_latin-clause-quiet
-returns-then-settle_latin-clause-quiet g c =
+pub loop-line-preserved-else-not-strike_line : goal.loop-line-preserved-else-not-strike_line
+loop-line-preserved-else-not-strike_line g c =
     let p = c.args.p.now in
-    let Struck = g.P.LineRules.rules_out p in
-    let old = c.args.candidates.now in
-    let mid = c.settle_latin.new.candidates in
-    let before = c.args.changed.now in
-    let settled =
-    OnTrue_at {P = AreQuietBut before.latin IsLineStruck old → AreQuiet IsLineStruck mid} c.if-settle_latin.true c.settle_latin.ensures.quiet in
-    on_both c.settle_rules.result
-    (λ latin rule quiet others. lines_quiet Struck c.settle_rules.new.candidates (latin (settled quiet))
-    (rule (quiet_noted Struck (g.P.LineRules.width p) before.rule c.settle_latin.new.changed.rule old mid (g.met.P.LineRules.own_line p) c.requires
-    c.settle_latin.ensures.narrows.less c.settle_latin.ensures.rule others)))
-    c.settle_rules.ensures.latin c.settle_rules.ensures.quiet
+    let first = c.args.candidates.now in
+    let now = c.loop-line.candidates in
+    let looks = c.loop-line.invariant.looks in
+    let size : now.size ≡ first.size = looks.narrows.less.size in
+    let inside : c.in-Some.line < 2 * now.size = omega (arith, c.in-Some.ensures.line.one.0, c.get-count.ensures.value, c.size.ensures.value, size) in
+    record {
+      looks = looks_then first now c.strike_line.new.candidates c.args.changed.now c.loop-line.changed c.strike_line.new.changed looks
+          (look_latin (g.P.LineRules.sought p) (g.P.LineRules.rules_out p) (g.P.LineRules.width p) c.in-Some.line now c.strike_line.new.candidates
+          c.loop-line.changed c.take_latin.new.self c.strike_line.new.changed (g.met.P.LineRules.squares p) (g.met.P.LineRules.own_line p)
+          (size ∙ c.requires) inside c.in-Some.ensures.line.rest c.in-Some.ensures.rule
+          (rw c.if-not-strike_line.false at c.strike_line.ensures.narrows) c.strike_line.ensures.notes);
+      latin = omega (arith, c.in-Some.ensures.line.one.0);
+      rule = c.loop-line.invariant.rule;
+    }
+
+pub loop-line-smaller : goal.loop-line-smaller
+loop-line-smaller g c =
+    let now = c.loop-line.candidates in
+    let Struck = g.P.LineRules.rules_out c.args.p.now c.in-Some-take_rule.line in
+    let most =
+    trail_most c.args.candidates.now now c.trail_len-length.result c.loop-line.invariant.looks.narrows.less c.size.ensures.valid.largest
+    c.trail_len-length.ensures.value c.trail_len-length.ensures.bound in
+    let struck = OnTrue_at {P = Strikes Struck c.in-Some-take_rule.line now c.strike_along.new.candidates c.take_rule.new.self.rule c.strike_along.new.changed.rule}
+    c.if-not-strike_along.false c.strike_along.ensures.rule in
+    rule_nearer Struck (2 * c.get-count.result) c.in-Some-take_rule.line now c.strike_along.new.candidates c.loop-line.changed
+    c.take_rule.new.self c.strike_along.new.changed (omega (arith, c.get-count.ensures.largest)) most c.strike_along.ensures.narrows.less
+    (c.in-Some-take_rule.ensures.latin ∙ c.in_default.ensures.same) (rw c.in_default.ensures.rule at c.in-Some-take_rule.ensures.line)
+    c.strike_along.ensures.latin struck
+
+pub loop-line-preserved : goal.loop-line-preserved
+loop-line-preserved g c =
+    let p = c.args.p.now in
+    let first = c.args.candidates.now in
+    let now = c.loop-line.candidates in
+    let new = c.strike_along.new.candidates in
+    let looks = c.loop-line.invariant.looks in
+    let size : now.size ≡ first.size = looks.narrows.less.size in
+    let taken = rw c.in_default.ensures.rule at c.in-Some-take_rule.ensures.line in
+    let struck = OnTrue_at {P = Strikes (g.P.LineRules.rules_out p c.in-Some-take_rule.line) c.in-Some-take_rule.line now new c.take_rule.new.self.rule c.strike_along.new.changed.rule}
+    c.if-not-strike_along.false c.strike_along.ensures.rule in
+    record {
+      looks = looks_then first now new c.args.changed.now c.loop-line.changed c.strike_along.new.changed looks
+          (look_rule (g.P.LineRules.sought p) (g.P.LineRules.rules_out p) (g.P.LineRules.width p) c.in-Some-take_rule.line now new c.loop-line.changed
+          c.take_rule.new.self c.strike_along.new.changed (g.met.P.LineRules.own_line p) (size ∙ c.requires)
+          (c.in-Some-take_rule.ensures.latin ∙ c.in_default.ensures.same) taken.rest
+          (rw c.if-not-strike_along.false at c.strike_along.ensures.narrows) c.strike_along.ensures.latin struck);
+      latin = omega arith;
+      rule = omega (arith, taken.one.0);
+    }
+
+pub returns-in_default-take_rule-clause-quiet : goal.returns-in_default-take_rule-clause-quiet
+returns-in_default-take_rule-clause-quiet g c =
+    let p = c.args.p.now in
+    let looks = c.loop-line.invariant.looks in
+    looks_done (g.P.LineRules.sought p) (g.P.LineRules.rules_out p) (2 * c.get-count.result) c.args.candidates.now c.loop-line.candidates
+    c.args.changed.now c.loop-line.changed looks
+    (omega (arith, c.get-count.ensures.value, c.size.ensures.value, looks.narrows.less.size)) c.in_default.ensures.line
+    (rw c.in_default.ensures.rule at c.in_default-take_rule.ensures.line)

@@ -5,6 +5,7 @@ use Rattle.clue_rules.proofs.TowersKept.{towers_kept}
 use Rattle.clue_rules.proofs.towers.description.read_towers.Goals as goal
 use Rattle.clue_rules.proofs.towers.description.read_towers.Goals.{in-Some+in_ok-givens-in-Some, in-None}
 
+-- the size, as a function
 abbrev size_of : GridValue → ℕ
 size_of g = g.size
 

@@ -1,4 +1,4 @@
-use Rattle.std.proofs.Common.{ℕ, ◌≡◌, ◌∙◌, ap, arith}
+use Rattle.std.proofs.Common.{◌≡◌, ◌∙◌, ap, arith}
 use Rattle.latin_board.specs.Squares.{number_at}
 use Rattle.latin_board.proofs.FoundNumbers.{found_none, found_more, once_decided}
 use Rattle.latin_board.proofs.grid.Grid.has_each_once.Goals as goal

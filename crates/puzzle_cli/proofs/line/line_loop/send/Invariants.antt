@@ -1,4 +1,4 @@
-use Rattle.std.proofs.Common.{length, ◌-◌, ◌≡◌, ◌≤◌, false, take}
+use Rattle.std.proofs.Common.{length, ◌-◌, ◌≡◌, ◌≤◌, false, is_some, take}
 use Rattle.std.specs.Io.KnownBytes.{Appends}
 use Rattle.puzzle_cli.proofs.line.line_loop.send.Given as goal
 
@@ -6,6 +6,7 @@ use Rattle.puzzle_cli.proofs.line.line_loop.send.Given as goal
 abbrev pub invariant-loop-sent : goal.invariant-loop-sent
 invariant-loop-sent g l =
     (l.sent ≤ length l.bytes) × (g.W.Sink.has_failed l.sink ≡ false)
+    × (g.W.Sink.flushed l.sink ≡ g.W.Sink.flushed l.fn.sink) × (is_some (g.W.Sink.taken l.sink) ≡ is_some (g.W.Sink.taken l.fn.sink))
     × Appends (g.W.Sink.taken l.fn.sink) (g.W.Sink.taken l.sink) (take l.sent l.bytes)
 
 abbrev pub decreases-loop-sent : goal.decreases-loop-sent

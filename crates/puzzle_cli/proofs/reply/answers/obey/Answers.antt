@@ -4,9 +4,13 @@ use Rattle.std.proofs.lemmas.Result.{err_from_is_err_and}
 use Rattle.puzzle_cli.proofs.CommandLaws.{goes_on}
 use Rattle.puzzle_cli.proofs.reply.answers.obey.Goals as goal
 
+pub returns-in_err-read_command-clause-goes_on : goal.returns-in_err-read_command-clause-goes_on
+returns-in_err-read_command-clause-goes_on g c =
+    let e = err_from_is_err_and c.from_residual.result c.from_residual.ensures.1 in
+    let fault = c.in_err-read_command.field-0.0 in
+    rw e.1 (goes_on (option_copied c.args.line) (Err fault) c.in_err-read_command.ensures.read (λ same. cc))
+
 pub returns-in_err-read_command-clause-why : goal.returns-in_err-read_command-clause-why
 returns-in_err-read_command-clause-why g c =
     let e = err_from_is_err_and c.from_residual.result c.from_residual.ensures.1 in
-    let fault = c.in_err-read_command.field-0.0 in
-    let read = c.in_err-read_command.ensures.read in
-    rw e.1 (goes_on (option_copied c.args.line) (Err fault) read (λ same. cc), (Err fault, read, inl (ap Err e.2)))
+    rw e.1 (Err c.in_err-read_command.field-0.0, c.in_err-read_command.ensures.read, inl (ap Err e.2))

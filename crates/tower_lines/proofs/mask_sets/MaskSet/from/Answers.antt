@@ -1,23 +1,8 @@
-use Rattle.std.proofs.Common.{◌+◌, ◌*◌, ◌^◌, ◌&&◌, not, leb, get_or, ap, ◌∙◌, arith}
-use Rattle.std.proofs.lemmas.Bool.{and_left}
-use Rattle.number_sets.specs.Sets.{has_number}
+use Rattle.std.proofs.Common.{◌∙◌, ◌^◌, leb, not, arith}
 use Rattle.tower_lines.specs.Inner.MaskSets.{has_mask}
-use Rattle.tower_lines.proofs.MaskSetLemmas.{has_mask-at, has_mask-past, has_number-lacks, not_below, filled_none, filled_more, filled_all}
+use Rattle.tower_lines.proofs.MaskSetLemmas.{below_bit, above_bit_has, same_taken}
 use Rattle.tower_lines.proofs.mask_sets.MaskSet.from.Goals as goal
 
-pub loop-i-init : goal.loop-i-init
-loop-i-init g c = filled_none (λ m. has_mask c.args.self.now m && leb (2 ^ c.args.bit) m) g.row.W
-
-pub loop-i-preserved : goal.loop-i-preserved
-loop-i-preserved g c =
-    let i = c.loop-i.i in
-    let a = c.self.inside.words in
-    filled_more (λ m. has_mask c.args.self.now m && leb (2 ^ c.args.bit) m) c.loop-i.words g.row.W i _ c.loop-i.invariant c.loop-i-test.true
-    (λ b h. rw (← c.self.view_is, has_mask-at a i b h)
-    (has_number-lacks (get_or a i 0) c.lower_masks.result b c.lower_masks.type_inv h
-    ∙ ap (λ t. has_number (get_or a i 0) b && t) (ap not (c.lower_masks.ensures b h) ∙ not_below (64 * i + b) (2 ^ c.args.bit))))
-
 pub returns : goal.returns
-returns g c =
-    filled_all (λ m. has_mask c.args.self.now m && leb (2 ^ c.args.bit) m) c.loop-i.words g.row.W c.loop-i.i c.loop-i.invariant c.loop-i-test.false
-    (λ m past. rw (← c.self.view_is) (and_left _ _ (has_mask-past c.self.inside.words m (omega (arith, c.self.told)))))
+returns g c = λ m. rw c.from.ensures at (c.apart.ensures m) ∙ rw (← c.self.view_is) (same_taken c.self.inside.words (λ n. not (has_mask (below_bit c.args.bit) n)) (λ n. leb (2 ^ c.args.bit) n)
+    g.row.W c.self.told c.requires.small (λ n small. above_bit_has c.args.bit n (omega (arith, c.requires.bit)) small) m)

@@ -1,24 +1,8 @@
-use Rattle.std.proofs.Common.{◌&&◌, eqb, get_or, ap, ◌∙◌, arith, count_ones}
-use Rattle.std.proofs.lemmas.Bool.{and_left}
-use Rattle.number_sets.specs.Sets.{has_number}
-use Rattle.number_sets.proofs.Members.{has_number-and}
+use Rattle.std.proofs.Common.{◌∙◌, eqb, count_ones, arith}
 use Rattle.tower_lines.specs.Inner.MaskSets.{has_mask}
-use Rattle.tower_lines.proofs.MaskSetLemmas.{has_mask-at, has_mask-past, with_count, has_number-with_count, filled_none, filled_more, filled_all}
+use Rattle.tower_lines.proofs.MaskSetLemmas.{with_count, with_count_has, same_taken}
 use Rattle.tower_lines.proofs.mask_sets.MaskSet.of_count.Goals as goal
 
-pub loop-i-init : goal.loop-i-init
-loop-i-init g c = filled_none (λ m. has_mask c.args.self.now m && eqb (count_ones m) c.args.count) g.row.W
-
-pub loop-i-preserved : goal.loop-i-preserved
-loop-i-preserved g c =
-    let i = c.loop-i.i in
-    let a = c.self.inside.words in
-    filled_more (λ m. has_mask c.args.self.now m && eqb (count_ones m) c.args.count) c.loop-i.words g.row.W i _ c.loop-i.invariant c.loop-i-test.true
-    (λ b h. rw (← c.self.view_is, has_mask-at a i b h)
-    (has_number-and (get_or a i 0) (with_count c.args.count i) b
-    ∙ ap (λ t. has_number (get_or a i 0) b && t) (has_number-with_count c.args.count i b (omega arith) (omega arith) h)))
-
 pub returns : goal.returns
-returns g c =
-    filled_all (λ m. has_mask c.args.self.now m && eqb (count_ones m) c.args.count) c.loop-i.words g.row.W c.loop-i.i c.loop-i.invariant c.loop-i-test.false
-    (λ m past. rw (← c.self.view_is) (and_left _ _ (has_mask-past c.self.inside.words m (omega (arith, c.self.told)))))
+returns g c = λ m. c.common.ensures m ∙ rw (← c.self.view_is) (same_taken c.self.inside.words (λ n. has_mask (with_count c.args.count) n) (λ n. eqb (count_ones n) c.args.count)
+    g.row.W c.self.told c.requires.small (λ n small. with_count_has c.args.count n (omega (arith, c.requires.count)) small) m)

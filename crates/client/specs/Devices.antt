@@ -1,0 +1,7 @@
+-- What the sink of this crate is.
+use Rattle.std.specs.Prelude.{ℕ, List, Bool}
+
+-- the bytes that were taken, and whether a call has failed
+pub record SheetState : Type 0 where
+  pub taken : List ℕ
+  pub failed : Bool

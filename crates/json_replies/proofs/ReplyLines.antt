@@ -1,0 +1,53 @@
+-- The lines of a reply, cut off its front one by one, and texts byte by byte.
+use Rattle.std.proofs.Common.{◌≡◌, ◌≢◌, ℕ, suc, ◌+◌, ◌-◌, ◌<◌, ◌≤◌, ◌==◌, true, false, if◌then◌else◌, List, [], ◌∷◌, ◌++◌, length, take, get_or, encode_utf8, sym, ap, refl, ◌∙◌, append_assoc, append-nil, arith}
+use Rattle.std.proofs.lemmas.List.{take_more}
+use Rattle.std.proofs.lemmas.Bool.Decides.{nat_tests}
+use Rattle.byte_text.specs.Cuts.{Lacks}
+use Rattle.puzzle_cli.specs.Lines.{onto, segments}
+use Rattle.json_replies.specs.Texts.{latin_text, lines_of}
+
+some_onto : (b : ℕ) (ps : List (List ℕ)) → 1 ≤ length (onto b ps)
+some_onto b [] = omega arith
+some_onto b (p ∷ ps) = omega arith
+
+-- LF separates at least one segment
+pub some_segments : (bytes : List ℕ) → 1 ≤ length (segments bytes)
+some_segments [] = omega arith
+some_segments (b ∷ bs) =
+    elim (b == 10) as (λ t. 1 ≤ length (if t then [] ∷ segments bs else onto b (segments bs)))
+    [ true ↦ omega arith | false ↦ some_onto b (segments bs) ]
+
+other : (b : ℕ) → b ≢ 10 → (b == 10) ≡ false
+other b apart = grind (arith, nat_tests)
+
+-- a line, its LF, and what follows
+segments-front : (line rest : List ℕ) → Lacks 10 line → segments (line ++ 10 ∷ rest) ≡ line ∷ segments rest
+segments-front [] rest lacks = refl
+segments-front (b ∷ bs) rest lacks =
+    ap (λ t. if t then [] ∷ segments (bs ++ 10 ∷ rest) else onto b (segments (bs ++ 10 ∷ rest))) (other b lacks.0)
+    ∙ ap (onto b) (segments-front bs rest lacks.1)
+
+segments-whole : (line : List ℕ) → Lacks 10 line → segments line ≡ line ∷ []
+segments-whole [] lacks = refl
+segments-whole (b ∷ bs) lacks =
+    ap (λ t. if t then [] ∷ segments bs else onto b (segments bs)) (other b lacks.0) ∙ ap (onto b) (segments-whole bs lacks.1)
+
+take_front : (p : List ℕ) (ps : List (List ℕ)) → 1 ≤ length ps → take (length (p ∷ ps) - 1) (p ∷ ps) ≡ p ∷ take (length ps - 1) ps
+take_front p ps some = let n : length (p ∷ ps) - 1 ≡ suc (length ps - 1) = omega arith in ap (λ k. take k (p ∷ ps)) n
+
+pub lines_of-front : (line rest : List ℕ) → Lacks 10 line → lines_of (line ++ 10 ∷ rest) ≡ line ∷ lines_of rest
+lines_of-front line rest lacks =
+    ap (λ ps. take (length ps - 1) ps) (segments-front line rest lacks) ∙ take_front line (segments rest) (some_segments rest)
+
+pub lines_of-none : (line : List ℕ) → Lacks 10 line → lines_of line ≡ []
+lines_of-none line lacks = ap (λ ps. take (length ps - 1) ps) (segments-whole line lacks)
+
+latin-push : (xs : List ℕ) (b : ℕ) → latin_text (xs ++ b ∷ []) ≡ latin_text xs ++ encode_utf8 b
+latin-push [] b = append-nil (encode_utf8 b)
+latin-push (x ∷ xs) b =
+    ap (λ l. encode_utf8 x ++ l) (latin-push xs b) ∙ sym (append_assoc (encode_utf8 x) (latin_text xs) (encode_utf8 b))
+
+-- the text of one byte more
+pub one_more_byte : (bytes : List ℕ) (i : ℕ) → i < length bytes
+    → latin_text (take (i + 1) bytes) ≡ latin_text (take i bytes) ++ encode_utf8 (get_or bytes i 0)
+one_more_byte bytes i inside = ap latin_text (take_more bytes i 0 inside) ∙ latin-push (take i bytes) (get_or bytes i 0)

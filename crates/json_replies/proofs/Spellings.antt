@@ -1,0 +1,97 @@
+-- Which of what is told has one text.
+use Rattle.std.proofs.Common.{ℕ, false, [], ◌∷◌, Option, Some, None, refl, sym, subst, arith}
+use Rattle.std.specs.List.{range_with_len}
+use Rattle.std.specs.Prelude.{◌*◌}
+use Rattle.number_sets.specs.Sets.{has_number}
+use Rattle.latin_board.specs.Squares.{number_at}
+use Rattle.latin_board.specs.Boards.{BoardValue, grid_of, marks_at}
+use Rattle.trail_solver.specs.Puzzles.{Puzzle}
+use Rattle.trail_solver.specs.declared.answer.Answer.{Answer}
+use Rattle.trail_solver.specs.declared.answer.Answer.TheVariants.{None as NoSolution, One, Several}
+use Rattle.serde_json.specs.Data.{Data}
+use Rattle.serde_json.specs.Written.{has_float}
+use Rattle.play_midend.specs.Histories.{History}
+use Rattle.board_checks.specs.Errors.{ErrorsValue, has_repeated}
+use Rattle.board_checks.specs.declared.hints.Hint.{Hint}
+use Rattle.board_checks.specs.declared.hints.Hint.TheVariants.{Follows, Nothing, Contradiction}
+use Rattle.puzzle_cli.specs.GameFacts.{GameFacts}
+use Rattle.puzzle_cli.specs.SessionReplies.{shown_board}
+use Rattle.json_replies.specs.declared.further_line.FurtherLine.{FurtherLine}
+use Rattle.json_replies.specs.declared.further_line.FurtherLine.TheVariants.{Board, Completable, Hint as AskHint}
+use Rattle.json_replies.specs.Counts.{count_data}
+use Rattle.json_replies.specs.ObjectLines.{Fits}
+use Rattle.json_replies.specs.Sessions.{session_data}
+use Rattle.json_replies.specs.Boards.{when, numbers_data, givens_data, mark_set_data, marks_data, repeats_data, board_data}
+use Rattle.json_replies.specs.FurtherLines.{BoardFacts, IsAnswer, answer_data, hint_data}
+use Rattle.json_replies.specs.Laws.Spellings.{no_float_or, listed_fits, when_fits}
+
+-- what is told of a session
+pub session_fits : {P : Type 0} (f : GameFacts P) (session : Option (History P)) → Fits 1 (session_data f session)
+session_fits f None = record { whole = refl; flat = omega arith }
+session_fits f (Some h) = record { whole = refl; flat = omega arith }
+
+count_fits : (n : ℕ) → Fits 0 (count_data n)
+count_fits n = record { whole = refl; flat = omega arith }
+
+numbers_fit : (b : BoardValue) → Fits 1 (numbers_data b)
+numbers_fit b = listed_fits 0 (λ cell. count_data (number_at (grid_of b) cell) ∷ []) (λ cell. (count_fits _, tt)) (range_with_len 0 (b.size * b.size))
+
+givens_fit : (p : Puzzle) → Fits 1 (givens_data p)
+givens_fit p = listed_fits 0 (λ cell. count_data (p.given cell) ∷ []) (λ cell. (count_fits _, tt)) (range_with_len 0 (p.size * p.size))
+
+mark_set_fits : (marks : ℕ) → Fits 1 (mark_set_data marks)
+mark_set_fits marks =
+    listed_fits 0 (λ n. when (has_number marks n) (count_data n)) (λ n. when_fits 0 (has_number marks n) (count_data n) (count_fits n)) (range_with_len 1 9)
+
+marks_fit : (b : BoardValue) → Fits 2 (marks_data b)
+marks_fit b = listed_fits 1 (λ cell. mark_set_data (marks_at b cell) ∷ []) (λ cell. (mark_set_fits (marks_at b cell), tt)) (range_with_len 0 (b.size * b.size))
+
+repeats_fit : (w : ℕ) (e : ErrorsValue) → Fits 1 (repeats_data w e)
+repeats_fit w e =
+    listed_fits 0 (λ cell. when (has_repeated e cell) (count_data cell))
+    (λ cell. when_fits 0 (has_repeated e cell) (count_data cell) (count_fits cell)) (range_with_len 0 (w * w))
+
+pub board_fits : (p : Puzzle) (b : BoardValue) (e : ErrorsValue) (clues signs : Data) → Fits 2 clues → Fits 2 signs
+    → Fits 3 (board_data p b e clues signs)
+board_fits p b e clues signs clues_fit signs_fit =
+    let repeats = repeats_fit b.size e in
+    let givens = givens_fit p in
+    let marks = marks_fit b in
+    let numbers = numbers_fit b in
+    let a = clues_fit.flat in
+    let c = repeats.flat in
+    let d = givens.flat in
+    let h = marks.flat in
+    let i = numbers.flat in
+    let j = signs_fit.flat in
+    record {
+      whole = no_float_or (has_float clues) _ clues_fit.whole (no_float_or (has_float (repeats_data b.size e)) _ repeats.whole
+          (no_float_or (has_float (givens_data p)) _ givens.whole (no_float_or (has_float (marks_data b)) _ marks.whole
+          (no_float_or (has_float (numbers_data b)) _ numbers.whole (no_float_or (has_float signs) false signs_fit.whole refl)))));
+      flat = omega arith;
+    }
+
+answer_fits : (found : Answer) → Fits 3 (answer_data found)
+answer_fits NoSolution = record { whole = refl; flat = omega arith }
+answer_fits (One g) = record { whole = refl; flat = omega arith }
+answer_fits (Several g h) = record { whole = refl; flat = omega arith }
+
+hint_fits : (hint : Hint) → Fits 3 (hint_data hint)
+hint_fits (Follows cell value) = record { whole = refl; flat = omega arith }
+hint_fits Nothing = record { whole = refl; flat = omega arith }
+hint_fits Contradiction = record { whole = refl; flat = omega arith }
+
+-- the clues and signs fit
+pub record ListsFit {P : Type 0} (b : BoardFacts P) : Type 0 where
+  pub clues : (p : P) (shown : BoardValue) (e : ErrorsValue) → Fits 2 (b.clues p shown e)
+  pub signs : (p : P) (shown : BoardValue) (e : ErrorsValue) → Fits 2 (b.signs p shown e)
+
+-- what is told in answer
+pub told_fits : {P : Type 0} (f : GameFacts P) (b : BoardFacts P) → ListsFit b → (h : History P) (which : FurtherLine) (answer : Data)
+    → IsAnswer f b h which answer → Fits 3 answer
+told_fits f b fit h Board answer told =
+    let shown = shown_board f h in
+    subst (Fits 3) (sym told.2) (board_fits (f.rules.puzzle h.puzzle) shown told.0 (b.clues h.puzzle shown told.0) (b.signs h.puzzle shown told.0)
+    (fit.clues h.puzzle shown told.0) (fit.signs h.puzzle shown told.0))
+told_fits f b fit h Completable answer told = subst (Fits 3) (sym told.2) (answer_fits told.0)
+told_fits f b fit h AskHint answer told = subst (Fits 3) (sym told.4) (hint_fits told.0)

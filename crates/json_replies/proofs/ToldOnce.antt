@@ -1,0 +1,151 @@
+-- One line of an object tells one reply.
+use Rattle.std.proofs.Common.{◌≡◌, ℕ, List, [], ◌∷◌, get_or, map, codes, Option, Some, None, refl, sym, ap, ap₂, ◌∙◌, arith}
+use Rattle.std.proofs.lemmas.List.{append_cancel_right}
+use Rattle.std.proofs.lemmas.Str.{encodes_same}
+use Rattle.byte_text.specs.Bytes.{line_feed}
+use Rattle.serde_json.specs.Data.{Data, null, string, array, object, Items, item, Members, no_members, member}
+use Rattle.serde_json.specs.Read.{read}
+use Rattle.serde_json.specs.View.{items_of}
+use Rattle.serde_json.specs.Written.{compact_text}
+use Rattle.serde_json.proofs.OnLiterals.{serde_json_on_literals}
+use Rattle.play_midend.specs.Histories.{History}
+use Rattle.puzzle_cli.specs.GameFacts.{GameFacts}
+use Rattle.puzzle_cli.specs.Replies.{plain_text, refusal_line}
+use Rattle.json_replies.specs.declared.further_line.FurtherLine.{FurtherLine}
+use Rattle.json_replies.specs.declared.further_line.FurtherLine.TheVariants.{Board, Completable, Hint}
+use Rattle.json_replies.specs.Texts.{latin_text, text_data, lines_of, lines_text}
+use Rattle.json_replies.specs.ObjectLines.{IsLineOf, lost_line}
+use Rattle.json_replies.specs.Sessions.{game_data, session_data}
+use Rattle.json_replies.specs.Replies.{name_data, reply_members, reply_data, refused_name}
+use Rattle.json_replies.specs.FurtherLines.{BoardFacts, further_key, IsFurtherLine}
+use Rattle.json_replies.specs.ReplyLaws.{ObjectsTellOneReply, ObjectsAreNotLost}
+use Rattle.json_replies.proofs.WholeReplies.{lines_are_the_reply}
+
+-- one line has one object
+one_object : (d e : Data) (bytes : List ℕ) → IsLineOf d bytes → IsLineOf e bytes → d ≡ e
+one_object d e bytes one other =
+    let same : compact_text d ≡ compact_text e =
+    append_cancel_right (compact_text d) (compact_text e) (line_feed ∷ []) (sym one.text ∙ other.text) in
+    let both : Some d ≡ Some e = sym one.reads ∙ ap read same ∙ other.reads in
+    cc both
+
+-- the members of an object
+abbrev first : Data → Data
+first (object (member k d ms)) = d
+first _ = null
+
+-- the second and the third member of an object
+abbrev second : Data → Data
+second (object (member k d (member l e ms))) = e
+second _ = null
+
+-- the third member of an object
+abbrev third : Data → Data
+third (object (member k d (member l e (member m g ms)))) = g
+third _ = null
+
+-- the texts of a list
+abbrev texts_in : Items → List (List ℕ)
+texts_in (item (string s) ds) = s ∷ texts_in ds
+texts_in _ = []
+
+-- the strings of an array
+abbrev texts_of : Data → List (List ℕ)
+texts_of (array ds) = texts_in ds
+texts_of _ = []
+
+texts_told : (lines : List (List ℕ)) → texts_in (items_of (map text_data lines)) ≡ map latin_text lines
+texts_told [] = refl
+texts_told (line ∷ lines) = ap (λ ts. latin_text line ∷ ts) (texts_told lines)
+
+-- texts determine their bytes
+lines_same : (xs ys : List (List ℕ)) → map latin_text xs ≡ map latin_text ys → xs ≡ ys
+lines_same [] [] is = refl
+lines_same [] (y ∷ ys) is = absurd (cc is)
+lines_same (x ∷ xs) [] is = absurd (cc is)
+lines_same (x ∷ xs) (y ∷ ys) is =
+    let first : latin_text x ≡ latin_text y = cc is in
+    let later : map latin_text xs ≡ map latin_text ys = cc is in
+    ap₂ (λ a l. a ∷ l) (encodes_same x y first) (lines_same xs ys later)
+
+names_same : (a b : Option (List ℕ)) → name_data a ≡ name_data b → a ≡ b
+names_same None None is = refl
+names_same None (Some b) is = absurd (cc is)
+names_same (Some a) None is = absurd (cc is)
+names_same (Some a) (Some b) is = let texts : latin_text a ≡ latin_text b = cc is in ap Some (encodes_same a b texts)
+
+pub objects_tell_one_reply : {P : Type 0} (f : GameFacts P) → ObjectsTellOneReply f
+objects_tell_one_reply f one other new last bytes ends stops tells says =
+    let said = plain_text one in
+    let told = plain_text other in
+    let is = one_object _ _ bytes tells says in
+    let lines : lines_of said ≡ lines_of told =
+    lines_same _ _ (sym (texts_told (lines_of said)) ∙ ap (λ d. texts_of (second d)) is ∙ texts_told (lines_of told)) in (
+      sym (lines_are_the_reply said ends) ∙ ap lines_text lines ∙ lines_are_the_reply told stops,
+      names_same (refused_name one) (refused_name other) (ap first is),
+      ap third is,
+    )
+
+-- the data that the line of a lost object reads as
+abbrev lost_data : Data
+lost_data = object (member (codes "lost") (string (codes "OutOfMemory")) no_members)
+
+-- the object that tells of a want of memory
+abbrev lost_text : List ℕ
+lost_text = codes "{\"lost\":\"OutOfMemory\"}"
+
+lost_reads : read lost_text ≡ Some lost_data
+unfolding serde_json_on_literals
+lost_reads = refl
+
+-- the key of an object's first member
+abbrev first_key : Data → List ℕ
+first_key (object (member k d ms)) = k
+first_key _ = []
+
+-- the first letter of an object's first key tells its line from that one
+key_apart : (d : Data) (b : ℕ) (bytes : List ℕ) → IsLineOf d bytes → get_or (first_key d) 0 0 ≡ b → bytes ≡ lost_line → b ≡ 108
+key_apart d b bytes told begins lost =
+    let same : compact_text d ≡ lost_text = append_cancel_right (compact_text d) lost_text (line_feed ∷ []) (sym told.text ∙ lost) in
+    let both : Some d ≡ Some lost_data = sym told.reads ∙ ap read same ∙ lost_reads in
+    let is : d ≡ lost_data = cc both in
+    sym begins ∙ ap (λ e. get_or (first_key e) 0 0) is
+
+-- the first letter of the key that tells one of the further lines from others
+abbrev first_letter : FurtherLine → ℕ
+first_letter Board = 98
+first_letter Completable = 99
+first_letter Hint = 104
+
+answer_begins : (which : FurtherLine) (answer : Data) (others : Members)
+    → get_or (first_key (object (member (further_key which) answer others))) 0 0 ≡ first_letter which
+answer_begins Board answer others = refl
+answer_begins Completable answer others = refl
+answer_begins Hint answer others = refl
+
+other_letter : (which : FurtherLine) → first_letter which ≡ 108 → ⊥
+other_letter Board is = omega arith
+other_letter Completable is = omega arith
+other_letter Hint is = omega arith
+
+r_is_no_l : (b : ℕ) → b ≡ 114 → b ≡ 108 → ⊥
+r_is_no_l b is other = omega arith
+
+reply_not_lost : (refused : Option (List ℕ)) (reply : List ℕ) (session : Data) (bytes : List ℕ) → IsLineOf (reply_data refused reply session) bytes
+    → bytes ≡ lost_line → ⊥
+reply_not_lost refused reply session bytes told lost =
+    r_is_no_l 114 refl (key_apart (reply_data refused reply session) 114 bytes told refl lost)
+
+further_not_lost : {P : Type 0} (f : GameFacts P) (b : BoardFacts P) (which : FurtherLine) (new : Option (History P)) (bytes : List ℕ)
+    → IsFurtherLine f b which new bytes → bytes ≡ lost_line → ⊥
+further_not_lost f b which None bytes told lost =
+    reply_not_lost (Some (codes "NoGame")) (refusal_line (codes "NoGame")) null bytes told lost
+further_not_lost f b which (Some h) bytes told lost =
+    let others = reply_members None [] (game_data f h) in
+    other_letter which (key_apart (object (member (further_key which) told.0 others)) (first_letter which) bytes told.2 (answer_begins which told.0 others) lost)
+
+pub objects_are_not_lost : {P : Type 0} (f : GameFacts P) (b : BoardFacts P) → ObjectsAreNotLost f b
+objects_are_not_lost f b = record {
+  replies = λ outcome new bytes told. reply_not_lost (refused_name outcome) (plain_text outcome) (session_data f new) bytes told;
+  answers = further_not_lost f b;
+}

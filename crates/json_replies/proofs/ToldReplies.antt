@@ -1,0 +1,121 @@
+-- What is said to a line, in an object.
+use Rattle.std.proofs.Common.{◌≡◌, ℕ, ◌==◌, true, false, true≢false, List, [], ◌∷◌, length, Option, Some, None, Ok, Err, refl, sym, ap, subst, ◌∙◌, inl, inr, arith}
+use Rattle.std.proofs.lemmas.Bool.Decides.{nat_tests}
+use Rattle.serde_json.specs.Data.{Data}
+use Rattle.play_midend.specs.Histories.{History}
+use Rattle.puzzle_cli.specs.Lines.{Line}
+use Rattle.puzzle_cli.specs.GameFacts.{GameFacts}
+use Rattle.puzzle_cli.specs.declared.command.line_fault.LineFault.TheVariants.{BadCommand}
+use Rattle.puzzle_cli.specs.declared.reply.refusal.Refusal.TheVariants.{Line as OfLine}
+use Rattle.puzzle_cli.specs.Commands.{Reading, IsRead, IsEntry, is_quit}
+use Rattle.puzzle_cli.specs.Inner.CommandReading.{command_at, read_at}
+use Rattle.puzzle_cli.specs.Replies.{LineGives, left}
+use Rattle.puzzle_cli.proofs.CommandLaws.{entry_taken, line_is_read, goes_on}
+use Rattle.json_replies.specs.Replies.{reply_data}
+use Rattle.json_replies.specs.ObjectLines.{Fits, OrLost, IsLineOf}
+use Rattle.json_replies.specs.Sessions.{session_data}
+use Rattle.json_replies.specs.JsonReplies.{TellsOutcome, TellsLine, JsonReply}
+use Rattle.json_replies.specs.declared.further_line.FurtherLine.{FurtherLine}
+use Rattle.json_replies.specs.declared.further_line.FurtherLine.TheVariants.{Board, Completable, Hint as AskHint}
+use Rattle.std.specs.Prelude.{◌≢◌}
+use Rattle.latin_board.specs.Squares.{GridValue}
+use Rattle.latin_board.specs.Boards.{BoardValue, grid_of}
+use Rattle.board_checks.specs.Errors.{ErrorsValue}
+use Rattle.json_replies.specs.Boards.{board_data}
+use Rattle.board_checks.specs.Hints.{IsSound, IsDeduced, IsForced}
+use Rattle.board_checks.specs.declared.hints.Hint.{Hint}
+use Rattle.board_checks.specs.declared.hints.Hint.TheVariants.{Nothing}
+use Rattle.puzzle_cli.specs.SessionReplies.{Outcome, shown_board}
+use Rattle.json_replies.specs.FurtherLines.{BoardFacts, AreErrors, further_at, further_key, further_words, IsFurtherLine, IsAnswer, hint_data}
+use Rattle.json_replies.proofs.Spellings.{session_fits}
+
+pub tells_nothing : {P : Type 0} (f : GameFacts P) (said : List ℕ) (last new : Option (History P)) (bytes : List ℕ)
+    → (length said == 0) ≡ true → bytes ≡ [] → TellsOutcome f (Ok (said, last)) new bytes
+tells_nothing f [] last new bytes none is = is
+tells_nothing f (x ∷ said) last new bytes none is =
+    let some : (length (x ∷ said) == 0) ≡ false = grind (arith, nat_tests) in
+    absurd (true≢false (sym none ∙ some))
+
+pub tells_said : {P : Type 0} (f : GameFacts P) (said : List ℕ) (last new : Option (History P)) (bytes : List ℕ)
+    → (length said == 0) ≡ false → OrLost (IsLineOf (reply_data None said (session_data f new))) bytes → TellsOutcome f (Ok (said, last)) new bytes
+tells_said f [] last new bytes some told = absurd (true≢false some)
+tells_said f (x ∷ said) last new bytes some told = told
+
+-- what is told of a session can be written
+pub session_spelled : {P : Type 0} (f : GameFacts P) (session : Option (History P)) (told : Data) → told ≡ session_data f session → Fits 1 told
+session_spelled f session told is = subst (Fits 1) (sym is) (session_fits f session)
+
+-- ---- what is said to a line
+
+-- a further word is the key of its line
+key_of : (text : List ℕ) (which : FurtherLine) → IsEntry further_words text which → Some text ≡ Some (further_key which)
+key_of text which (inl (same, is)) = ap Some same ∙ ap (λ w. Some (further_key w)) (sym is)
+key_of text which (inr (_, inl (same, is))) = ap Some same ∙ ap (λ w. Some (further_key w)) (sym is)
+key_of text which (inr (_, inr (_, inl (same, is)))) = ap Some same ∙ ap (λ w. Some (further_key w)) (sym is)
+key_of text which (inr (_, inr (_, inr (_, none)))) = absurd none
+
+-- the lines beside the commands are no commands
+further_read : (which : FurtherLine) → read_at (Some (further_key which)) ≡ Err BadCommand
+unfolding command_at
+further_read Board = refl
+further_read Completable = refl
+further_read AskHint = refl
+
+no_command : (line : Line) (which : FurtherLine) → further_at line ≡ Some which → IsRead line (Err BadCommand)
+no_command None which is = cc
+no_command (Some text) which is =
+    let key = key_of text which (entry_taken further_words text which is) in
+    subst (λ (l : Line). IsRead l (Err BadCommand)) (sym key)
+    (subst (λ (r : Reading (List ℕ)). IsRead (Some (further_key which)) r) (further_read which) (line_is_read (Some (further_key which))))
+
+pub no_quit : (line : Line) (which : FurtherLine) → further_at line ≡ Some which → is_quit line ≡ false
+no_quit line which is = goes_on line (Err BadCommand) (no_command line which is) (λ same. cc)
+
+pub further_told : {P : Type 0} (f : GameFacts P) (b : BoardFacts P) (old : Option (History P)) (line : Line) (which : FurtherLine) (bytes : List ℕ)
+    → further_at line ≡ Some which → OrLost (IsFurtherLine f b which old) bytes → JsonReply f b old line bytes old
+further_told f b old line which bytes is told = record {
+  leaves = (Err (OfLine BadCommand), (Err BadCommand, no_command line which is, inl refl), refl);
+  told = subst (λ w. TellsLine f b old line w bytes old) (sym is) (refl, told);
+}
+
+-- the object of a reply tells its outcome
+pub outcome_told : {P : Type 0} (f : GameFacts P) (b : BoardFacts P) (old : Option (History P)) (line : Line) (outcome : Outcome P)
+    (bytes : List ℕ) (new : Option (History P)) → further_at line ≡ None → LineGives f old line outcome → new ≡ left old outcome
+    → TellsOutcome f outcome new bytes → JsonReply f b old line bytes new
+outcome_told f b old line outcome bytes new is gives leaves told = record {
+  leaves = (outcome, gives, leaves);
+  told = subst (λ w. TellsLine f b old line w bytes new) (sym is) (outcome, gives, leaves, told);
+}
+
+pub said_told : {P : Type 0} (f : GameFacts P) (b : BoardFacts P) (old : Option (History P)) (line : Line) (said read bytes : List ℕ)
+    (new : Option (History P)) → further_at line ≡ None → LineGives f old line (Ok (said, new)) → read ≡ said
+    → TellsOutcome f (Ok (read, new)) new bytes → JsonReply f b old line bytes new
+said_told f b old line said read bytes new is gives same told =
+    outcome_told f b old line (Ok (said, new)) bytes new is gives refl (subst (λ s. TellsOutcome f (Ok (s, new)) new bytes) same told)
+
+-- the answer of a hint
+pub hint_told : {P : Type 0} (f : GameFacts P) (b : BoardFacts P) (h : History P) (puzzle : P) (g : GridValue) (hint : Hint) (which : FurtherLine) (answer : Data)
+    → which ≡ AskHint → puzzle ≡ h.puzzle → g ≡ grid_of (shown_board f h) → IsSound (f.rules.puzzle puzzle) g hint
+    → IsDeduced (f.rules.puzzle puzzle) (b.strikes puzzle) g hint
+    → ((cell : ℕ) → IsForced (b.strikes puzzle) g cell → hint ≢ Nothing) → answer ≡ hint_data hint → IsAnswer f b h which answer
+hint_told {P} f b h puzzle g hint which answer asked is shown sound deduced strong told =
+    let F : P → GridValue → Type 0 = λ x y. IsSound (f.rules.puzzle x) y hint × IsDeduced (f.rules.puzzle x) (b.strikes x) y hint
+    × ((cell : ℕ) → IsForced (b.strikes x) y cell → hint ≢ Nothing) in
+    let all : F h.puzzle (grid_of (shown_board f h)) = subst (F h.puzzle) shown (subst (λ x. F x g) is (sound, deduced, strong)) in
+    subst (λ w. IsAnswer f b h w answer) (sym asked) (hint, all.0, all.1, all.2, told)
+
+-- the answer of the board
+pub board_told : {P : Type 0} (f : GameFacts P) (b : BoardFacts P) (h : History P) (puzzle : P) (g : GridValue) (board : BoardValue) (e : ErrorsValue)
+    (which : FurtherLine) (clues signs answer : Data) → which ≡ Board → puzzle ≡ h.puzzle → g ≡ grid_of board → board ≡ shown_board f h
+    → AreErrors (b.demand puzzle) g e → clues ≡ b.clues puzzle board e → signs ≡ b.signs puzzle board e
+    → answer ≡ board_data (f.rules.puzzle puzzle) board e clues signs → IsAnswer f b h which answer
+board_told {P} f b h puzzle g board e which clues signs answer asked is grid shown errors of_clues of_signs told =
+    let F : P → BoardValue → Type 0 = λ x y. AreErrors (b.demand x) (grid_of y) e
+    × (answer ≡ board_data (f.rules.puzzle x) y e (b.clues x y e) (b.signs x y e)) in
+    let here : F puzzle board = (
+      subst (λ x. AreErrors (b.demand puzzle) x e) grid errors,
+      told ∙ ap (λ d. board_data (f.rules.puzzle puzzle) board e d signs) of_clues
+          ∙ ap (λ d. board_data (f.rules.puzzle puzzle) board e (b.clues puzzle board e) d) of_signs,
+    ) in
+    let all : F h.puzzle (shown_board f h) = subst (F h.puzzle) shown (subst (λ x. F x board) is here) in
+    subst (λ w. IsAnswer f b h w answer) (sym asked) (e, all.0, all.1)

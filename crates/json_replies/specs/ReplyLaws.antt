@@ -1,0 +1,40 @@
+-- Laws of what is told as JSON: an object determines the plain reply.
+use Rattle.std.specs.Prelude.{◌≡◌, ◌≢◌, ℕ, List, [], ◌∷◌, ◌++◌, Option, Some}
+use Rattle.byte_text.specs.Bytes.{line_feed}
+use Rattle.play_midend.specs.Histories.{History}
+use Rattle.puzzle_cli.specs.GameFacts.{GameFacts}
+use Rattle.puzzle_cli.specs.SessionReplies.{Outcome}
+use Rattle.puzzle_cli.specs.Replies.{plain_text}
+use Rattle.json_replies.specs.Texts.{lines_of, lines_text}
+use Rattle.json_replies.specs.ObjectLines.{lost_line, OrLost}
+use Rattle.json_replies.specs.Replies.{refused_name, IsReplyLine}
+use Rattle.json_replies.specs.Sessions.{session_data}
+use Rattle.json_replies.specs.declared.further_line.FurtherLine.{FurtherLine}
+use Rattle.json_replies.specs.FurtherLines.{BoardFacts, further_key, IsFurtherLine}
+use Rattle.json_replies.specs.JsonReplies.{JsonReply}
+
+-- LF is the last of the bytes
+abbrev pub EndsInLineFeed : List ℕ → Type 0
+EndsInLineFeed said = (front : List ℕ) × (said ≡ front ++ line_feed ∷ [])
+
+-- the lines that are told of a reply that ends in LF, each with LF, are the reply
+abbrev pub LinesAreTheReply : Type 0
+LinesAreTheReply = (said : List ℕ) → EndsInLineFeed said → lines_text (lines_of said) ≡ said
+
+-- one line of an object tells one reply that ends so, one refusal or none, and one session
+abbrev pub ObjectsTellOneReply : {P : Type 0} → GameFacts P → Type 0
+ObjectsTellOneReply {P} f =
+    (one other : Outcome P) (new last : Option (History P)) (bytes : List ℕ)
+    → EndsInLineFeed (plain_text one) → EndsInLineFeed (plain_text other) → IsReplyLine f one new bytes → IsReplyLine f other last bytes
+    → (plain_text one ≡ plain_text other) × (refused_name one ≡ refused_name other) × (session_data f new ≡ session_data f last)
+
+-- no object's line is the one that tells that an object was lost
+pub record ObjectsAreNotLost {P : Type 0} (f : GameFacts P) (b : BoardFacts P) : Type 0 where
+  pub replies : (outcome : Outcome P) (new : Option (History P)) (bytes : List ℕ) → IsReplyLine f outcome new bytes → bytes ≢ lost_line
+  pub answers : (which : FurtherLine) (new : Option (History P)) (bytes : List ℕ) → IsFurtherLine f b which new bytes → bytes ≢ lost_line
+
+-- the lines beside the commands leave the session, and are answered from it
+abbrev pub AnswersLeave : {P : Type 0} → GameFacts P → BoardFacts P → Type 0
+AnswersLeave {P} f b =
+    (which : FurtherLine) (old new : Option (History P)) (bytes : List ℕ) → JsonReply f b old (Some (further_key which)) bytes new
+    → (new ≡ old) × OrLost (IsFurtherLine f b which old) bytes

@@ -1,0 +1,122 @@
+//! The format of the program `puzzles-json`: each reply is one JSON object on one line.
+
+ghost use Rattle.std.specs.Prelude.{◌≡◌, Ok, Err, IfOk};
+ghost use Rattle.std.specs.Option.{option_copied};
+ghost use Rattle.puzzle_cli.specs.Texts.{text_bytes};
+ghost use Rattle.json_replies.specs.FurtherLines.{IsFurtherLine};
+ghost use Rattle.json_replies.specs.JsonReplies.{JsonReply, TellsOutcome};
+ghost use Rattle.json_replies.specs.ObjectLines.{IsLineOf, OrLost, lost_line};
+ghost use Rattle.json_replies.specs.Replies.{IsReplyLine, reply_data};
+ghost use Rattle.json_replies.specs.Sessions.{session_data};
+
+use crate::further::answer_line;
+use crate::further_line::{FurtherLine, read_further};
+use crate::object_line::reply_object;
+use crate::session::session_value;
+use crate::shown::{ShownFacts, Shows};
+use latin_board::OutOfMemory;
+use play_midend::Session;
+use puzzle_cli::{Draw, Facts, Format, LineFault, Refusal, Response, Text, obey};
+use std::alloc::Global;
+
+/// Each reply is one JSON object on one line: the refusal or null, the lines that the plain program says, and the session that is left;
+/// or the answer to one of the lines beside the commands.
+///
+/// Where the object can't be made for want of memory, the line is `{"lost":"OutOfMemory"}`, and the session is left as the plain
+/// program leaves it.
+pub enum Json {}
+
+impl<P: Shows> Format<P> for Json {
+    ghost reply = { JsonReply ⟦<P as Facts>⟧.facts ⟦<P as ShownFacts>⟧.board_facts };
+
+    ghost leaves_as_answers = { λ old new line bytes said. said.leaves };
+
+    fn answer(alloc: Global, session: &mut Option<Session<P>>, line: Option<&[u8]>) -> Response {
+        match read_further(line) {
+            Some(which) => Response::Reply(further_object(alloc, session, which)),
+            None => match obey(alloc, session, line) {
+                Ok(response) => match response {
+                    Response::Reply(said) => {
+                        Response::Reply(said_object(alloc, session, said.as_bytes()))
+                    }
+                    Response::Silence => Response::Silence,
+                    Response::Quit => Response::Quit,
+                },
+                Err(refusal) => Response::Reply(refused_object(alloc, session, refusal)),
+            },
+        }
+    }
+}
+
+// The object that answers one of the lines beside the commands: NoGame where there is no session.
+fn further_object<P: Shows>(alloc: Global, session: &Option<Session<P>>, which: FurtherLine) -> Text
+    ensures { OrLost (IsFurtherLine ⟦<P as Facts>⟧.facts ⟦<P as ShownFacts>⟧.board_facts
+        which session.now) (text_bytes result) }
+{
+    let Some(shown) = session else {
+        return refused_object(alloc, session, Refusal::Line(LineFault::NoGame));
+    };
+    match answer_line(alloc, shown, which) {
+        Ok(line) => Text::Long(line),
+        Err(_) => lost(),
+    }
+}
+
+// The object of what is said; nothing where nothing is said.
+#[tactic(auto, using(crate::proofs::ToldReplies::tells_nothing, crate::proofs::ToldReplies::tells_said))]
+fn said_object<P: Draw>(alloc: Global, session: &Option<Session<P>>, said: &[u8]) -> Text
+    ensures { TellsOutcome ⟦<P as Facts>⟧.facts (Ok (said.now, session.now)) session.now
+        (text_bytes result) }
+{
+    if said.is_empty() {
+        return Text::Long(Vec::new(alloc));
+    }
+    object(alloc, session, None, said)
+}
+
+// The object of a refusal.
+fn refused_object<P: Draw>(alloc: Global, session: &Option<Session<P>>, refusal: Refusal) -> Text
+    ensures { OrLost (IsReplyLine ⟦<P as Facts>⟧.facts (Err refusal) session.now)
+        (text_bytes result) }
+{
+    let name = refusal.name();
+    let line = Text::refused(name);
+    object(alloc, session, Some(name.as_bytes()), line.as_bytes())
+}
+
+// The object's line, or what is said where memory is wanting.
+fn object<P: Draw>(
+    alloc: Global,
+    session: &Option<Session<P>>,
+    refused: Option<&[u8]>,
+    reply: &[u8],
+) -> Text
+    ensures { OrLost (IsLineOf (reply_data (option_copied refused.entry) reply.now
+        (session_data ⟦<P as Facts>⟧.facts session.now))) (text_bytes result) }
+{
+    match object_line(alloc, session, refused, reply) {
+        Ok(line) => Text::Long(line),
+        Err(_) => lost(),
+    }
+}
+
+#[tactic(auto, using(crate::proofs::ToldReplies::session_spelled))]
+fn object_line<P: Draw>(
+    alloc: Global,
+    session: &Option<Session<P>>,
+    refused: Option<&[u8]>,
+    reply: &[u8],
+) -> Result<Vec<u8>, OutOfMemory>
+    ensures { IfOk result (λ line. IsLineOf (reply_data (option_copied refused.entry) reply.now
+        (session_data ⟦<P as Facts>⟧.facts session.now)) line.items) }
+{
+    let session = session_value(alloc, session)?;
+    Ok(reply_object(alloc, refused, reply, &session)?)
+}
+
+// What is said where memory is wanting.
+fn lost() -> Text
+    ensures { text_bytes result ≡ lost_line }
+{
+    Text::line("{\"lost\":\"OutOfMemory\"}")
+}

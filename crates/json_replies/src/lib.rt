@@ -1,0 +1,20 @@
+//! What a puzzle program says as JSON: a reply, the session that it leaves, and the board that is shown.
+//!
+//! [`Json`] is a format of the program: what a line makes of a session ([`obey`](puzzle_cli::obey)) is told as one object on one line.
+#![tactic(auto)]
+
+mod board;
+mod clue_lists;
+mod format;
+mod further;
+mod further_line;
+mod lists;
+mod object_line;
+mod reply_laws;
+mod session;
+mod shown;
+mod text;
+
+pub use format::Json;
+pub use reply_laws::laws;
+pub use shown::{ShownFacts, Shows};

@@ -1,0 +1,171 @@
+//! The line of an object, member by member: it has the text of each once, and that of a reply grows line by line, since a reply
+//! can have millions.
+
+ghost use Rattle.std.specs.Prelude.{◌≡◌, ◌∷◌, ◌++◌, [], None, IfOk};
+ghost use Rattle.std.specs.Option.{option_copied};
+ghost use Rattle.byte_text.specs.Bytes.{line_feed};
+ghost use Rattle.json.specs.Print.{quoted};
+ghost use Rattle.serde_json.specs.Data.{object, member};
+ghost use Rattle.serde_json.specs.View.{view};
+ghost use Rattle.serde_json.specs.Written.{comma_if, compact_text, members_text};
+ghost use Rattle.json_replies.specs.Texts.{text_data, lines_data};
+ghost use Rattle.json_replies.specs.FurtherLines.{further_key};
+ghost use Rattle.json_replies.specs.Replies.{name_data, reply_members, reply_data};
+ghost use Rattle.json_replies.specs.ObjectLines.{Fits, IsSpelled, IsLineOf};
+ghost use Rattle.json_replies.specs.Inner.ObjectTexts.{key_text, AddsMember, IsPlain};
+
+use crate::further_line::FurtherLine;
+use crate::text::{latin_text, text_value};
+use byte_text::cut;
+use json::Writer;
+use serde_json::Value;
+use std::alloc::{AllocError, Global};
+
+/// The line of a reply's object: the refusal, the lines, the session that is left.
+#[tactic(auto, using(crate::proofs::ObjectTexts::reply_is_line))]
+pub(crate) fn reply_object(
+    alloc: Global,
+    refused: Option<&[u8]>,
+    reply: &[u8],
+    session: &Value,
+) -> Result<Vec<u8>, AllocError>
+    requires { Fits 1 (view session.now) }
+    ensures { IfOk result (λ line. IsLineOf
+        (reply_data (option_copied refused.entry) reply.now (view session.now)) line.items) }
+{
+    let mut line = Vec::with_capacity(alloc, reply.len())?;
+    line.push(b'{')?;
+    reply_members_after(alloc, line, false, refused, reply, session)
+}
+
+/// The line of the object that answers one of the lines beside the commands: the answer, and what each object has.
+pub(crate) fn answer_object(
+    alloc: Global,
+    which: FurtherLine,
+    answer: &Value,
+    session: &Value,
+) -> Result<Vec<u8>, AllocError>
+    requires answer { Fits 3 (view answer.now) }
+    requires session { Fits 1 (view session.now) }
+    ensures { IfOk result (λ line. IsLineOf (object (member (further_key which) (view answer.now)
+        (reply_members None [] (view session.now)))) line.items) }
+{
+    let mut line = Vec::new(alloc);
+    line.push(b'{')?;
+    let line = member_after(alloc, line, false, which.key(), answer)?;
+    reply_members_after(alloc, line, true, None, b"", session)
+}
+
+// The line with what each object has, with its end and LF.
+fn reply_members_after(
+    alloc: Global,
+    line: Vec<u8>,
+    later: bool,
+    refused: Option<&[u8]>,
+    reply: &[u8],
+    session: &Value,
+) -> Result<Vec<u8>, AllocError>
+    requires { Fits 1 (view session.now) }
+    ensures text { IfOk result (λ new. new.items ≡ (line.items ++ members_text later
+        (reply_members (option_copied refused.entry) reply.now (view session.now)))
+        ++ line_feed ∷ []) }
+    ensures plain { IfOk result (λ _. IsPlain (view session.now)) }
+{
+    let name = name_value(alloc, refused)?;
+    let line = member_after(alloc, line, later, "refused", &name)?;
+    let line = key_after(line, true, "reply")?;
+    let line = lines_after(alloc, line, reply)?;
+    let mut line = member_after(alloc, line, true, "session", session)?;
+    line.push(b'}')?;
+    line.push(b'\n')?;
+    Ok(line)
+}
+
+// The name of a refusal, or null.
+fn name_value(alloc: Global, name: Option<&[u8]>) -> Result<Value, AllocError>
+    ensures { IfOk result (λ value. view value ≡ name_data (option_copied name.entry)) }
+{
+    match name {
+        Some(name) => text_value(alloc, name),
+        None => Ok(Value::from(())),
+    }
+}
+
+// The text with a member.
+#[tactic(auto, using(crate::proofs::ObjectTexts::adds_member, crate::proofs::ObjectTexts::written_is_plain))]
+fn member_after(
+    alloc: Global,
+    text: Vec<u8>,
+    later: bool,
+    key: &str,
+    value: &Value,
+) -> Result<Vec<u8>, AllocError>
+    requires { IsSpelled (view value.now) }
+    ensures adds { IfOk result (λ new. AddsMember later key.now (view value.now) text.items new.items) }
+    ensures plain { IfOk result (λ _. IsPlain (view value.now)) }
+{
+    let mut text = key_after(text, later, key)?;
+    text.extend_from_slice(&value.to_vec(alloc)?)?;
+    Ok(text)
+}
+
+// The text with a key and its colon.
+#[tactic(auto, using(crate::proofs::ObjectTexts::adds_key))]
+fn key_after(text: Vec<u8>, later: bool, key: &str) -> Result<Vec<u8>, AllocError>
+    ensures { IfOk result (λ new. new.items ≡ text.items ++ key_text later key.now) }
+{
+    let text = comma_after(text, later)?;
+    let mut text = quoted_after(text, key)?;
+    text.push(b':')?;
+    Ok(text)
+}
+
+// The text with a comma, where something stands before.
+fn comma_after(text: Vec<u8>, later: bool) -> Result<Vec<u8>, AllocError>
+    ensures { IfOk result (λ new. new.items ≡ text.items ++ comma_if later) }
+{
+    let mut text = text;
+    if later {
+        text.push(b',')?;
+    }
+    Ok(text)
+}
+
+// The text with a list of the reply's lines, each without its LF.
+#[tactic(auto, using(crate::proofs::ObjectTexts::one_more_line, crate::proofs::ObjectTexts::no_more_line))]
+fn lines_after(alloc: Global, before: Vec<u8>, reply: &[u8]) -> Result<Vec<u8>, AllocError>
+    ensures { IfOk result (λ new. new.items ≡ before.items ++ compact_text (lines_data reply.now)) }
+{
+    let mut text = before;
+    text.push(b'[')?;
+    let mut rest = reply;
+    let mut later = false;
+    while let (line, Some(more)) = cut(rest, b'\n') {
+        text = line_after(alloc, text, later, line)?;
+        later = true;
+        rest = more;
+    }
+    text.push(b']')?;
+    Ok(text)
+}
+
+// The text with a line as a text, after a comma where one stands before.
+#[tactic(auto, using(crate::proofs::ObjectTexts::adds_text))]
+fn line_after(alloc: Global, text: Vec<u8>, later: bool, line: &[u8]) -> Result<Vec<u8>, AllocError>
+    ensures { IfOk result (λ new. new.items
+        ≡ text.items ++ (comma_if later ++ compact_text (text_data line.now))) }
+{
+    let text = comma_after(text, later)?;
+    let line = latin_text(alloc, line)?;
+    quoted_after(text, line.as_str())
+}
+
+// The text with a quoted one.
+#[tactic(auto, using(crate::proofs::ObjectTexts::one_token))]
+fn quoted_after(text: Vec<u8>, inner: &str) -> Result<Vec<u8>, AllocError>
+    ensures { IfOk result (λ new. new.items ≡ text.items ++ quoted inner.now) }
+{
+    let mut writer = Writer::new(text);
+    writer.string(inner)?;
+    Ok(writer.into_inner())
+}

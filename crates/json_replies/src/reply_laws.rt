@@ -1,0 +1,18 @@
+//! The laws of what is told as JSON. They speak of what [`Json`](crate::Json) says, so the function here does nothing.
+
+ghost use Rattle.json_replies.specs.ReplyLaws.{LinesAreTheReply, ObjectsTellOneReply, ObjectsAreNotLost, AnswersLeave};
+
+use crate::shown::{ShownFacts, Shows};
+use puzzle_cli::Facts;
+
+/// The laws of the objects that answer lines, in any game.
+///
+/// The lines that are told of a reply that ends in LF, each with LF, are the reply. So two such replies that are told by the same
+/// bytes are the same reply, and what is told of the session that they leave is the same. No object's line is
+/// `{"lost":"OutOfMemory"}`. The lines `board`, `completable` and `hint` leave the session, and are answered from it.
+pub fn laws<P: Shows>()
+    ensures lines { LinesAreTheReply }
+    ensures one_reply { ObjectsTellOneReply ⟦<P as Facts>⟧.facts }
+    ensures not_lost { ObjectsAreNotLost ⟦<P as Facts>⟧.facts ⟦<P as ShownFacts>⟧.board_facts }
+    ensures answers { AnswersLeave ⟦<P as Facts>⟧.facts ⟦<P as ShownFacts>⟧.board_facts }
+{}

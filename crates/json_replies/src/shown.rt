@@ -1,0 +1,127 @@
+//! What a game adds to be told as JSON: the clues and signs of its boards.
+
+ghost use Rattle.std.specs.Prelude.{◌≡◌, IfOk};
+ghost use Rattle.latin_board.specs.Boards.{BoardValue};
+ghost use Rattle.serde_json.specs.Data.{Data, array, no_items};
+ghost use Rattle.serde_json.specs.View.{view};
+ghost use Rattle.board_checks.specs.Errors.{ErrorsValue};
+ghost use Rattle.json_replies.specs.ObjectLines.{Fits};
+ghost use Rattle.json_replies.specs.FurtherLines.{BoardFacts};
+
+use crate::clue_lists::{clues_value, signs_value};
+use board_checks::{BoardErrors, Deduces, Demands};
+use clue_rules::{Towers, Unequal};
+use latin_board::Board;
+use puzzle_cli::Draw;
+use serde_json::Value;
+use std::alloc::{AllocError, Global};
+use trail_solver::Rules;
+
+/// A game whose boards can be told.
+pub trait Shows: Draw + Demands + Deduces {
+    // The clues that stand at the edges of a board, and the signs between its squares.
+    ghost clues: { Self → BoardValue → ErrorsValue → Data };
+
+    ghost signs: { Self → BoardValue → ErrorsValue → Data };
+
+    /// The clues at the edges of a board of the puzzle's size, each with whether it is done, and an error.
+    fn tell_clues(
+        &self,
+        alloc: Global,
+        board: &Board,
+        errors: &BoardErrors,
+    ) -> Result<Value, AllocError>
+        requires { board.now.size ≡ (Self.puzzle self.now).size }
+        ensures { IfOk result (λ list. view list ≡ clues self.now board.now errors.now) };
+
+    /// The signs between the squares of a board of the puzzle's size, each with whether it is an error.
+    fn tell_signs(
+        &self,
+        alloc: Global,
+        board: &Board,
+        errors: &BoardErrors,
+    ) -> Result<Value, AllocError>
+        requires { board.now.size ≡ (Self.puzzle self.now).size }
+        ensures { IfOk result (λ list. view list ≡ signs self.now board.now errors.now) };
+
+    // Both are lists of flat objects without a float, at most.
+    ghost clues_fit: { (p : Self) (b : BoardValue) (e : ErrorsValue) → Fits 2 (clues p b e) };
+
+    ghost signs_fit: { (p : Self) (b : BoardValue) (e : ErrorsValue) → Fits 2 (signs p b e) };
+}
+
+impl Shows for Towers {
+    ghost use Rattle.json_replies.specs.ClueLists.{clues_data};
+    ghost use Rattle.json_replies.specs.Laws.Spellings.{clues_fit, none_fits};
+
+    ghost clues = { clues_data };
+
+    ghost signs = { λ _ _ _. array no_items };
+
+    ghost clues_fit = { clues_fit };
+
+    ghost signs_fit = { λ _ _ _. none_fits };
+
+    fn tell_clues(
+        &self,
+        alloc: Global,
+        board: &Board,
+        errors: &BoardErrors,
+    ) -> Result<Value, AllocError> {
+        clues_value(alloc, self, board, errors)
+    }
+
+    fn tell_signs(
+        &self,
+        alloc: Global,
+        _board: &Board,
+        _errors: &BoardErrors,
+    ) -> Result<Value, AllocError> {
+        Ok(Value::from(Vec::new(alloc)))
+    }
+}
+
+impl Shows for Unequal {
+    ghost use Rattle.json_replies.specs.ClueLists.{signs_data};
+    ghost use Rattle.json_replies.specs.Laws.Spellings.{signs_fit, none_fits};
+
+    ghost clues = { λ _ _ _. array no_items };
+
+    ghost signs = { λ p _ e. signs_data p e };
+
+    ghost clues_fit = { λ _ _ _. none_fits };
+
+    ghost signs_fit = { λ p _ e. signs_fit p e };
+
+    fn tell_clues(
+        &self,
+        alloc: Global,
+        _board: &Board,
+        _errors: &BoardErrors,
+    ) -> Result<Value, AllocError> {
+        Ok(Value::from(Vec::new(alloc)))
+    }
+
+    fn tell_signs(
+        &self,
+        alloc: Global,
+        _board: &Board,
+        errors: &BoardErrors,
+    ) -> Result<Value, AllocError> {
+        signs_value(alloc, self, errors)
+    }
+}
+
+/// What the answers beside the commands know of a game, as one word for contracts.
+pub trait ShownFacts {
+    ghost board_facts: { BoardFacts Self };
+}
+
+impl<P: Shows> ShownFacts for P {
+    ghost board_facts = { record {
+      demand = P.demand;
+      strikes = P.strikes;
+      clues = P.clues;
+      signs = P.signs;
+    } };
+}

@@ -1,6 +1,0 @@
--- Counts as numbers of JSON.
-use Rattle.std.specs.Prelude.{ℕ}
-use Rattle.serde_json.specs.Data.{Data, number, unsigned}
-
-abbrev pub count_data : ℕ → Data
-count_data n = number (unsigned n)

@@ -1,7 +1,0 @@
-use Rattle.std.proofs.Common.{◌&&◌, eqb, count_ones}
-use Rattle.tower_lines.specs.Inner.MaskSets.{has_mask}
-use Rattle.tower_lines.proofs.MaskSetLemmas.{AreFilled}
-use Rattle.tower_lines.proofs.mask_sets.MaskSet.of_count.Given as goal
-
-abbrev pub invariant-loop-i : goal.invariant-loop-i
-invariant-loop-i g l = AreFilled (λ m. has_mask l.self m && eqb (count_ones m) l.count) l.words g.row.W l.i
