@@ -143,6 +143,13 @@ pub fn write_move(alloc: Global, m: &Move) -> Result<Vec<u8>, PlayFault>
     ensures text { IfOk result (λ text. text.items ≡ move_text m.now) }
     ensures only_out_of_memory { IfErr result (λ fault. fault ≡ PlayFault.OutOfMemory) }
 {
+    Ok(text_of(alloc, m)?)
+}
+
+// The text of any move: that of a restart is empty.
+fn text_of(alloc: Global, m: &Move) -> Result<Vec<u8>, AllocError>
+    ensures { IfOk result (λ text. text.items ≡ move_text m.now) }
+{
     let text = match *m {
         Move::Real { x, y, n } => format!(in alloc; "R{x},{y},{n}")?.into_bytes(),
         Move::Pencil { x, y, n } => format!(in alloc; "P{x},{y},{n}")?.into_bytes(),
