@@ -10,6 +10,7 @@ use Rattle.play_midend.specs.Steps.{step, after_move, replay_from, ArePlayable, 
 pub after_step : (p : Puzzle) (b : BoardValue) (m : Move) (c : BoardValue) → step p b m ≡ Ok c → after_move p b m ≡ c
 after_step p b m c stepped = ap (λ r. result_unwrap_or r b) stepped
 
+-- one list of moves after another
 pub replay_from-append : (p : Puzzle) (b : BoardValue) (ms ns : List Move)
     → replay_from p b (ms ++ ns) ≡ replay_from p (replay_from p b ms) ns
 replay_from-append p b [] ns = refl

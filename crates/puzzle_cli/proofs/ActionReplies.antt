@@ -80,13 +80,9 @@ module _ {P : Type 0} (f : GameFacts P) (h new : History P) where
             ap (λ (s : Option (List ℕ)). sentence_outcome h s fault) (sym none),
           ),
         )
-        | inr refused ↦ inr (
-          (
-            call,
-            read,
-            (refused.2.0, subst (λ (x : Result (History P) PlayFault). CallGives (f.rules.puzzle h.puzzle) h call x) refused.2.1 gives, refused.0),
-          ),
-          ap play_refusal refused.1,
+        | inr refused ↦ let (takes, memory, (k, gave)) = refused in inr (
+          (call, read, takes, (k, subst (λ (x : Result (History P) PlayFault). CallGives (f.rules.puzzle h.puzzle) h call x) gave gives)),
+          ap play_refusal memory,
         )
       ]
 

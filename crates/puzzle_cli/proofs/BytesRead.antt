@@ -5,10 +5,11 @@ use Rattle.std.proofs.KnownBytes.{Consumes-kept, Consumes-trans}
 use Rattle.std.specs.Io.KnownBytes.{Consumes, IsAtEnd, Keeps}
 use Rattle.puzzle_cli.specs.Lines.{Line, ReplyRule, as_line, all_lines, ended_lines}
 use Rattle.puzzle_cli.specs.Inner.LineBuffer.{ended_from, last_from}
-use Rattle.puzzle_cli.specs.Runs.{longest_input, Point, Progress, progress_of, before_quit, Served, WereRead, AreAll, Ends}
+use Rattle.puzzle_cli.specs.Runs.{Point, Progress, before_quit, Served, WereRead, AreAll, Ends}
 use Rattle.puzzle_cli.specs.Inner.Steps.{Goes}
 use Rattle.puzzle_cli.specs.declared.line.line_loop.Flow.{Flow}
 use Rattle.puzzle_cli.specs.declared.line.line_loop.Flow.TheVariants.{More, Quit, Unsent}
+use Rattle.puzzle_cli.specs.declared.line.line_loop.TheConstants.{INPUT_BYTES}
 use Rattle.puzzle_cli.specs.declared.run_end.End.TheVariants.{Finished, ReadFault, WriteFault}
 use Rattle.puzzle_cli.proofs.LinesCut.{ended_from-append, last_from-append, all_lines-by-parts, ended_lines-by-parts}
 use Rattle.puzzle_cli.proofs.LinesInTurn.{before_quit-all, Goes-after, Quit-more, Unsent-more}
@@ -85,8 +86,9 @@ module _ {S : Type 0} (reply : ReplyRule S) (quit : Line → Bool) where
   -- a step that went out served the lines before quit
   served : (flow : Flow) (lines : List Line) (old new : Progress S) → (flow ≡ Unsent → ⊥) → Goes reply quit flow lines old new
       → (new.failed ≡ false) × Served reply (before_quit quit lines) old new
-  served More lines old new went p = (p.1, subst (λ l. Served reply l old new) (sym (before_quit-all quit lines p.0)) p.2)
-  served Quit lines old new went p = (p.1, p.2)
+  served More lines old new went (no_quit, works, done) =
+      (works, subst (λ l. Served reply l old new) (sym (before_quit-all quit lines no_quit)) done)
+  served Quit lines old new went (quits, works, done) = (works, done)
   served Unsent lines old new went p = absurd (went refl)
 
   -- ---- what was read so far
@@ -96,55 +98,55 @@ module _ {S : Type 0} (reply : ReplyRule S) (quit : Line → Bool) where
     pub read : List ℕ
     pub consumed : Consumes old.to_come now.to_come read
     pub counted : length read ≡ count
-    pub answered : Goes reply quit More (ended_from (Some []) read) (progress_of old) (progress_of now)
+    pub answered : Goes reply quit More (ended_from (Some []) read) old.answers now.answers
     pub rest : part ≡ last_from (Some []) read
 
 module _ {S : Type 0} {reply : ReplyRule S} {quit : Line → Bool} {old now : Point S} {count : ℕ} {part : Line}
     (so_far : HasRead reply quit old now count part) where
   -- a read failed, or all that a run reads was read
-  pub ReadFault-ends : count ≤ longest_input → (now.read_failed ≡ true) ⊎ (count ≡ longest_input) → Ends reply quit ReadFault old now
+  pub ReadFault-ends : count ≤ INPUT_BYTES → (now.read_failed ≡ true) ⊎ (count ≡ INPUT_BYTES) → Ends reply quit ReadFault old now
   ReadFault-ends most cause =
-      let done = ended_read reply quit More so_far.read (progress_of old) (progress_of now) so_far.answered in
-      let why : (now.read_failed ≡ true) ⊎ (length so_far.read ≡ longest_input) =
+      let (no_quit, works, done) = ended_read reply quit More so_far.read old.answers now.answers so_far.answered in
+      let why : (now.read_failed ≡ true) ⊎ (length so_far.read ≡ INPUT_BYTES) =
       elim cause [ inl fails ↦ inl fails | inr full ↦ inr (so_far.counted ∙ full) ] in
-      (done.1, (so_far.read, (so_far.consumed, omega (arith, so_far.counted)), why, done.0, done.2))
+      (works, (so_far.read, (so_far.consumed, omega (arith, so_far.counted)), why, no_quit, done))
 
   module _ (new : Point S) where
     -- no more was read
-    pub stays_read : Keeps now.to_come new.to_come → progress_of now ≡ progress_of new → HasRead reply quit old new count part
+    pub stays_read : Keeps now.to_come new.to_come → now.answers ≡ new.answers → HasRead reply quit old new count part
     stays_read keeps same = record {
       read = so_far.read;
       consumed = Consumes-kept old.to_come now.to_come new.to_come so_far.read so_far.consumed keeps;
       counted = so_far.counted;
       answered =
-          subst (λ (p : Progress S). Goes reply quit More (ended_from (Some []) so_far.read) (progress_of old) p) same so_far.answered;
+          subst (λ (p : Progress S). Goes reply quit More (ended_from (Some []) so_far.read) old.answers p) same so_far.answered;
       rest = so_far.rest;
     }
 
     -- ---- the input is at its end, and its last line comes
 
-    module _ (few : count < longest_input) (n : ℕ) (piece : List ℕ) (none : n ≡ 0)
+    module _ (few : count < INPUT_BYTES) (n : ℕ) (piece : List ℕ) (none : n ≡ 0)
         (consumed : Consumes now.to_come new.to_come (take n piece)) (at_end : IsAtEnd new.to_come) (works : new.read_failed ≡ false) where
       were_all : WereRead old new so_far.read × AreAll new so_far.read
       were_all =
           let same = Consumes-none old.to_come now.to_come new.to_come so_far.read piece n none so_far.consumed consumed in
           ((same, omega (arith, so_far.counted)), (at_end, omega (arith, so_far.counted)))
 
-      all_gone : (flow : Flow) → Goes reply quit flow (as_line part ∷ []) (progress_of now) (progress_of new)
-          → Goes reply quit flow (all_lines so_far.read) (progress_of old) (progress_of new)
+      all_gone : (flow : Flow) → Goes reply quit flow (as_line part ∷ []) now.answers new.answers
+          → Goes reply quit flow (all_lines so_far.read) old.answers new.answers
       all_gone flow goes =
-          all_read reply quit flow so_far.read part (progress_of old) (progress_of now) (progress_of new) so_far.answered so_far.rest goes
+          all_read reply quit flow so_far.read part old.answers now.answers new.answers so_far.answered so_far.rest goes
 
       -- it was answered or is quit
       pub Finished-at-end : (flow : Flow) → (flow ≡ Unsent → ⊥)
-          → Goes reply quit flow (as_line part ∷ []) (progress_of now) (progress_of new)
+          → Goes reply quit flow (as_line part ∷ []) now.answers new.answers
           → Ends reply quit Finished old new
       Finished-at-end flow went goes =
-          let done = served reply quit flow (all_lines so_far.read) (progress_of old) (progress_of new) went (all_gone flow goes) in
+          let done = served reply quit flow (all_lines so_far.read) old.answers new.answers went (all_gone flow goes) in
           (works, done.0, (so_far.read, were_all.0, inl (were_all.1, done.1)))
 
       -- its reply didn't go out
-      pub WriteFault-at-end : Goes reply quit Unsent (as_line part ∷ []) (progress_of now) (progress_of new)
+      pub WriteFault-at-end : Goes reply quit Unsent (as_line part ∷ []) now.answers new.answers
           → Ends reply quit WriteFault old new
       WriteFault-at-end goes =
           let done = all_gone Unsent goes in
@@ -163,13 +165,13 @@ module _ {S : Type 0} {reply : ReplyRule S} {quit : Line → Bool} {old now : Po
       length-more : length more ≡ count + n
       length-more = omega (arith, length-append so_far.read (take n piece), length-take-le n piece fits, so_far.counted)
 
-      more_answered : (flow : Flow) → Goes reply quit flow (ended_from part (take n piece)) (progress_of now) (progress_of new)
-          → Goes reply quit flow (ended_from (Some []) more) (progress_of old) (progress_of new)
+      more_answered : (flow : Flow) → Goes reply quit flow (ended_from part (take n piece)) now.answers new.answers
+          → Goes reply quit flow (ended_from (Some []) more) old.answers new.answers
       more_answered flow goes =
-          Goes-bytes reply quit flow (Some []) part so_far.read (take n piece) (progress_of old) (progress_of now) (progress_of new)
+          Goes-bytes reply quit flow (Some []) part so_far.read (take n piece) old.answers now.answers new.answers
           so_far.answered so_far.rest goes
 
-      pub reads_on : (line : Line) → Goes reply quit More (ended_from part (take n piece)) (progress_of now) (progress_of new)
+      pub reads_on : (line : Line) → Goes reply quit More (ended_from part (take n piece)) now.answers new.answers
           → line ≡ last_from part (take n piece) → HasRead reply quit old new (count + n) line
       reads_on line goes cut = record {
         read = more;
@@ -179,17 +181,17 @@ module _ {S : Type 0} {reply : ReplyRule S} {quit : Line → Bool} {old now : Po
         rest = cut ∙ last_from-bytes (Some []) part so_far.read (take n piece) so_far.rest;
       }
 
-      module _ (within : count + n ≤ longest_input) (works : new.read_failed ≡ false) where
+      module _ (within : count + n ≤ INPUT_BYTES) (works : new.read_failed ≡ false) where
         -- a line that ends in it is quit
-        pub Finished-at-quit : Goes reply quit Quit (ended_from part (take n piece)) (progress_of now) (progress_of new)
+        pub Finished-at-quit : Goes reply quit Quit (ended_from part (take n piece)) now.answers new.answers
             → Ends reply quit Finished old new
         Finished-at-quit goes =
-            let done = ended_read reply quit Quit more (progress_of old) (progress_of new) (more_answered Quit goes) in
-            (works, done.1, (more, (more_consumed, omega (arith, length-more)), inr (done.0, done.2)))
+            let (quits, still_works, done) = ended_read reply quit Quit more old.answers new.answers (more_answered Quit goes) in
+            (works, still_works, (more, (more_consumed, omega (arith, length-more)), inr (quits, done)))
 
         -- the reply to a line that ends in it didn't go out
-        pub WriteFault-in-piece : Goes reply quit Unsent (ended_from part (take n piece)) (progress_of now) (progress_of new)
+        pub WriteFault-in-piece : Goes reply quit Unsent (ended_from part (take n piece)) now.answers new.answers
             → Ends reply quit WriteFault old new
         WriteFault-in-piece goes =
-            let done = ended_read reply quit Unsent more (progress_of old) (progress_of new) (more_answered Unsent goes) in
+            let done = ended_read reply quit Unsent more old.answers new.answers (more_answered Unsent goes) in
             (works, done.0, (more, (more_consumed, omega (arith, length-more)), inr done.1))

@@ -13,7 +13,7 @@ use Rattle.puzzle_cli.specs.declared.reply.refusal.Refusal.TheVariants.{Memory}
 use Rattle.puzzle_cli.specs.Lines.{Line}
 use Rattle.puzzle_cli.specs.Commands.{Reading, IsRead}
 use Rattle.puzzle_cli.specs.GameFacts.{GameFacts}
-use Rattle.puzzle_cli.specs.SessionReplies.{Outcome, IsSaidOf, CallSays, CallTakesMemory, RequestGives, RequestTakesMemory}
+use Rattle.puzzle_cli.specs.SessionReplies.{Outcome, IsSaidOf, CallSays, RequestGives, RequestTakesMemory}
 use Rattle.puzzle_cli.specs.Replies.{ReadGives, ReadTakesMemory, ReadMayGive, LineGives, left}
 use Rattle.puzzle_cli.specs.RunLaws.{AnswersCall, IsCallOf, IsMade, IsToldOf, LinesAreCalls, OtherRequestsLeave}
 use Rattle.puzzle_cli.proofs.CommandLaws.{read_once}
@@ -63,8 +63,9 @@ module _ {P : Type 0} (f : GameFacts P) (h : History P) where
   no_memory_told call = refl
 
   -- OutOfMemory in place of success
-  no_memory_answered : (call : Call) → CallTakesMemory (f.rules.puzzle h.puzzle) h call → AnswersCall f h call (Err Memory)
-  no_memory_answered call (k, gives, takes) =
+  no_memory_answered : (call : Call) → may_take_memory call ≡ true → (k : History P) → CallGives (f.rules.puzzle h.puzzle) h call (Ok k)
+      → AnswersCall f h call (Err Memory)
+  no_memory_answered call takes k gives =
       let exact : Result (History P) PlayFault = Ok k in
       let why : MatchBool (may_take_memory call) (IsRefusal exact OutOfMemory) (exact ≡ Err OutOfMemory) =
       subst (λ (b : Bool). MatchBool b (IsRefusal exact OutOfMemory) (exact ≡ Err OutOfMemory)) (sym takes) refl in
@@ -84,8 +85,8 @@ module _ {P : Type 0} (f : GameFacts P) (h : History P) where
   told (Act action) outcome (inl (Ok call, is, (exact, gives, says))) = inl (call, is, exactly_answered call exact outcome gives says)
   told (Act action) outcome (inl (Err fault, is, out)) =
       inr ((λ call calls. let same : Err fault ≡ Ok call = call_read_once action (Err fault) (Ok call) is calls in cc), ap (left (Some h)) out)
-  told (Act action) outcome (inr ((call, is, takes), memory)) =
-      inl (call, is, subst (AnswersCall f h call) (sym memory) (no_memory_answered call takes))
+  told (Act action) outcome (inr ((call, is, takes, (k, gives)), memory)) =
+      inl (call, is, subst (AnswersCall f h call) (sym memory) (no_memory_answered call takes k gives))
   told (Tell view) outcome (inl out) = inr ((λ call never. never), ap (left (Some h)) out)
   told (Listing n) outcome (inl (listed, first, out)) = inr ((λ call never. never), ap (left (Some h)) out)
   told request outcome (inr (takes, memory)) = inr ((λ call never. never), ap (left (Some h)) memory)

@@ -74,10 +74,10 @@ nonzero_taken m n h =
 
 limit_taken : (text : List ℕ) (n : ℕ) → limit_at text ≡ Some n → (1 ≤ n) × (n ≤ MOST_LISTED) × (text ≡ decimal n)
 limit_taken text n h =
-    let read = then_taken nonzero (decimal_value MOST_LISTED text) n h in
-    let found = number_taken MOST_LISTED read.0 text (omega arith) read.1 in
-    let is = nonzero_taken read.0 n read.2 in
-    (is.0, omega (arith, is.1, found.1), found.0 ∙ ap decimal is.1)
+    let (m, read, most) = then_taken nonzero (decimal_value MOST_LISTED text) n h in
+    let (spelled, within) = number_taken MOST_LISTED m text (omega arith) read in
+    let (least, is) = nonzero_taken m n most in
+    (least, omega (arith, is, within), spelled ∙ ap decimal is)
 
 limit_again : (n : ℕ) → 1 ≤ n → n ≤ MOST_LISTED → limit_at (decimal n) ≡ Some n
 limit_again n least most =
@@ -89,17 +89,17 @@ limit_again n least most =
 argument_taken : (line : List ℕ) (c : Command (List ℕ)) → argument_at line ≡ Some c → HasArgument c line
 argument_taken line c h =
     elim (or_taken (option_map New (rest_behind (codes "new ") line)) _ c h) [
-      | inl e ↦ let m = map_taken New (rest_behind (codes "new ") line) c e in
-          subst (λ (c : Command (List ℕ)). HasArgument c line) m.2 (behind_taken (codes "new ") line m.0 m.1)
+      | inl e ↦ let (id, behind, is) = map_taken New (rest_behind (codes "new ") line) c e in
+          subst (λ (c : Command (List ℕ)). HasArgument c line) is (behind_taken (codes "new ") line id behind)
       | inr rest ↦ elim (or_taken (option_map (λ text. Ask (Act (Play text))) (rest_behind (codes "move ") line)) _ c rest) [
-        | inl e ↦ let m = map_taken (λ text. Ask (Act (Play text))) (rest_behind (codes "move ") line) c e in
-            subst (λ (c : Command (List ℕ)). HasArgument c line) m.2 (behind_taken (codes "move ") line m.0 m.1)
+        | inl e ↦ let (text, behind, is) = map_taken (λ text. Ask (Act (Play text))) (rest_behind (codes "move ") line) c e in
+            subst (λ (c : Command (List ℕ)). HasArgument c line) is (behind_taken (codes "move ") line text behind)
         | inr e ↦
-            let m = map_taken (λ n. Ask (Listing n)) (option_and_then limit_at (rest_behind (codes "list ") line)) c e in
-            let text = then_taken limit_at (rest_behind (codes "list ") line) m.0 m.1 in
-            let limit = limit_taken text.0 m.0 text.2 in
-            subst (λ (c : Command (List ℕ)). HasArgument c line) m.2
-            (limit.0, limit.1, behind_taken (codes "list ") line text.0 text.1 ∙ ap (λ t. codes "list " ++ t) limit.2)
+            let (n, found, is) = map_taken (λ n. Ask (Listing n)) (option_and_then limit_at (rest_behind (codes "list ") line)) c e in
+            let (text, behind, reads) = then_taken limit_at (rest_behind (codes "list ") line) n found in
+            let (least, most, spelled) = limit_taken text n reads in
+            subst (λ (c : Command (List ℕ)). HasArgument c line) is
+            (least, most, behind_taken (codes "list ") line text behind ∙ ap (λ t. codes "list " ++ t) spelled)
       ]
     ]
 
@@ -114,7 +114,7 @@ unfolding command_at
 command_again c line (inl h) = ap (λ o. option_or o (argument_at line)) (entry_again words line c h)
 command_again (New id) line (inr h) = rw h refl
 command_again (Ask (Act (Play text))) line (inr h) = rw h refl
-command_again (Ask (Listing n)) line (inr h) = rw h.2 (ap (option_map (λ n. Ask (Listing n))) (limit_again n h.0 h.1))
+command_again (Ask (Listing n)) line (inr (least, most, is)) = rw is (ap (option_map (λ n. Ask (Listing n))) (limit_again n least most))
 command_again c line (inr h) = absurd h
 
 -- no command's line is empty
@@ -132,12 +132,12 @@ command_full c (b ∷ bs) h = not_empty (b ∷ bs) (λ e. cc)
 -- each line is read in one way
 pub read_once : (line : Line) (read : Reading (List ℕ)) → IsRead line read → read ≡ read_at line
 read_once line (Ok None) h = rw h refl
-read_once line (Ok (Some c)) h = rw (h.1, command_full c h.0 h.2, command_again c h.0 h.2) refl
+read_once line (Ok (Some c)) (text, is, spelled) = rw (is, command_full c text spelled, command_again c text spelled) refl
 read_once line (Err LongLine) h = rw h refl
-read_once line (Err BadCommand) h =
-    elim (command_at h.0) as (λ o. command_at h.0 ≡ o → Err BadCommand ≡ read_at line) [
-      | None ↦ λ none. rw (h.1, not_empty h.0 h.2, none) refl
-      | Some c ↦ λ some. absurd (h.3 c (command_taken h.0 c some))
+read_once line (Err BadCommand) (text, is, full, other) =
+    elim (command_at text) as (λ o. command_at text ≡ o → Err BadCommand ≡ read_at line) [
+      | None ↦ λ none. rw (is, not_empty text full, none) refl
+      | Some c ↦ λ some. absurd (other c (command_taken text c some))
     ] refl
 read_once line (Err NoGame) h = absurd h
 

@@ -8,11 +8,13 @@ pub mod BytesRead
 pub mod LinesInTurn
 pub mod BytesSent
 pub mod ActionReplies
+pub mod FilledIn
 pub mod Starting
 pub mod ListedOnce
 pub mod RepliesOnce
 pub mod CallReplies
 pub mod ReplySteps
+pub mod RepliesTold
 pub mod UndoReplies
 pub mod StorableReplies
 pub mod StorableRuns

@@ -1,8 +1,5 @@
 -- With ample memory each line has a reply, and so each list of lines an output.
-use Rattle.std.proofs.Common.{◌≡◌, ℕ, ◌+◌, ◌-◌, List, [], ◌∷◌, ◌++◌, length, Option, Some, None, Result, Ok, Err, inl, inr, refl, sym, ap, arith, length-append}
-use Rattle.std.proofs.lemmas.List.{get_or_push}
-use Rattle.std.proofs.lemmas.Option.{slice_get_read}
-use Rattle.latin_board.specs.Squares.{GridValue}
+use Rattle.std.proofs.Common.{◌≡◌, ℕ, List, [], ◌∷◌, ◌++◌, Option, Some, None, Result, Ok, Err, inl, inr, refl, sym, ap}
 use Rattle.trail_solver.specs.Puzzles.{Puzzle}
 use Rattle.trail_solver.proofs.FirstSolutions.{first_solutions, solutions_counted}
 use Rattle.clue_rules.specs.declared.id_fault.IdFault.{IdFault}
@@ -11,10 +8,9 @@ use Rattle.clue_rules.specs.declared.game_id.GameId.TheVariants.{Described, Seed
 use Rattle.clue_rules.specs.GameIds.{IsIdText, id_at, describes_at}
 use Rattle.play_midend.specs.declared.fault.PlayFault.{PlayFault}
 use Rattle.play_midend.specs.declared.fault.PlayFault.TheVariants.{NoSolution, SeveralSolutions}
-use Rattle.play_midend.specs.declared.moves.Move.{Move}
 use Rattle.play_midend.specs.declared.moves.Move.TheVariants.{Solve as Filling}
 use Rattle.play_midend.specs.MoveTexts.{move_by, move_fault}
-use Rattle.play_midend.specs.Histories.{History, past, with_move, full_refusal, played, restarted, undone, redone}
+use Rattle.play_midend.specs.Histories.{History, with_move, full_refusal, played, restarted, undone, redone}
 use Rattle.play_midend.specs.Steps.{unless_refused}
 use Rattle.play_midend.specs.Laws.{Call, ToSolution, CallGives}
 use Rattle.play_midend.specs.Laws
@@ -30,12 +26,13 @@ use Rattle.puzzle_cli.specs.Commands.{Reading}
 use Rattle.puzzle_cli.specs.Inner.CommandReading.{read_at}
 use Rattle.puzzle_cli.specs.GameFacts.{GameFacts}
 use Rattle.puzzle_cli.specs.NewSessions.{new_game, generated_game, id_refusal, IsIdRead, IdBegins, TextBegins}
-use Rattle.puzzle_cli.specs.SolutionTexts.{EndsInSolution, move_line, listed_lines}
-use Rattle.puzzle_cli.specs.SessionReplies.{Outcome, ok_line, text_outcome, view_text, IsCallRead, IsSaidOf, CallReplies, ReadReplies, RequestGives, call_sentence, sentence_outcome}
+use Rattle.puzzle_cli.specs.SolutionTexts.{move_line, listed_lines}
+use Rattle.puzzle_cli.specs.SessionReplies.{Outcome, ok_line, text_outcome, view_text, IsCallRead, IsSaidOf, ReadReplies, RequestGives, call_sentence, sentence_outcome}
 use Rattle.puzzle_cli.specs.Replies.{AmpleReply, ReadGives, begun, left, plain_text}
 use Rattle.puzzle_cli.specs.Runs.{RepliesInTurn}
 use Rattle.puzzle_cli.specs.RunLaws.{OutputIsThere, SeedsGenerate}
 use Rattle.puzzle_cli.proofs.CommandLaws.{line_is_read}
+use Rattle.puzzle_cli.proofs.FilledIn.{ends_in}
 
 -- ---- calls
 
@@ -51,17 +48,9 @@ call_read Restart = (Ok Laws.FromStart, refl)
 call_read Solve = (Ok ToSolution, refl)
 
 module _ {P : Type 0} (p : Puzzle) (h : History P) where
-  -- the last move is the one that was made
-  ends_in : (g : GridValue) → EndsInSolution (with_move h (Filling g)) g
-  ends_in g =
-      let moves : List Move = past h ++ Filling g ∷ [] in
-      let long : length moves ≡ length (past h) + 1 = length-append (past h) (Filling g ∷ []) in
-      slice_get_read moves (length moves) (length moves - 1) (Filling g) refl (omega arith)
-      (sym (get_or_push (past h) (Filling g) (Filling g) (length moves - 1) (omega arith)))
-
   -- some outcome answers the call
   abbrev HasAnswer : Call → Type 0
-  HasAnswer call = (outcome : Outcome P) × CallReplies p h call outcome
+  HasAnswer call = (outcome : Outcome P) × ReadReplies p h (Ok call) outcome
 
   refused_so : (call : Call) (fault : PlayFault) → CallGives p h call (Err fault) → HasAnswer call
   refused_so call fault gives = (sentence_outcome h (call_sentence call fault) fault, (Err fault, gives, refl))
@@ -80,7 +69,7 @@ module _ {P : Type 0} (p : Puzzle) (h : History P) where
               (
                 Ok new,
                 inr (inr (one.0, one.1, ap (λ (o : Option PlayFault). unless_refused o new) (sym room))),
-                (move_line (Filling one.0), (one.0, ends_in one.0, refl), refl),
+                (move_line (Filling one.0), (one.0, ends_in h one.0, refl), refl),
               ),
             )
       ] refl
@@ -158,9 +147,9 @@ module _ {P : Type 0} (f : GameFacts P) (taken : IdsAreTaken f) (seeds : SeedsGe
       → (bytes : List ℕ) × (new : Option (History P)) × RepliesInTurn (AmpleReply f) lines old bytes new
   lines_answered [] old = ([], old, (refl, refl))
   lines_answered (line ∷ lines) old =
-      let first = line_answered old line in
-      let later = lines_answered lines first.1 in
-      (first.0 ++ later.0, later.1, (first.0, first.1, later.0, first.2, refl, later.2))
+      let (bytes, mid, says) = line_answered old line in
+      let (rest, new, more) = lines_answered lines mid in
+      (bytes ++ rest, new, (bytes, mid, rest, says, refl, more))
 
 pub output_is_there : {P : Type 0} (f : GameFacts P) → IdsAreTaken f → OutputIsThere f
 output_is_there f taken seeds lines old = lines_answered f taken seeds lines old

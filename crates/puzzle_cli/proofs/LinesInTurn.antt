@@ -49,18 +49,18 @@ module _ (quit : Line → Bool) where
 module _ {S : Type 0} (reply : ReplyRule S) where
   pub RepliesInTurn-append : (xs ys : List Line) (old mid new : S) (v w : List ℕ) → RepliesInTurn reply xs old v mid
       → RepliesInTurn reply ys mid w new → RepliesInTurn reply (xs ++ ys) old (v ++ w) new
-  RepliesInTurn-append [] ys old mid new v w p q =
-      let from_old : RepliesInTurn reply ys old w new = subst (λ s. RepliesInTurn reply ys s w new) p.1 q in
-      subst (λ l. RepliesInTurn reply ys old l new) (sym (ap (λ l. l ++ w) p.0)) from_old
-  RepliesInTurn-append (x ∷ xs) ys old mid new v w p q =
-      (p.0, p.1, p.2 ++ w, p.3, ap (λ l. l ++ w) p.4 ∙ append_assoc p.0 p.2 w, RepliesInTurn-append xs ys p.1 mid new p.2 w p.5 q)
+  RepliesInTurn-append [] ys old mid new v w (none, stays) q =
+      let from_old : RepliesInTurn reply ys old w new = subst (λ s. RepliesInTurn reply ys s w new) stays q in
+      subst (λ l. RepliesInTurn reply ys old l new) (sym (ap (λ l. l ++ w) none)) from_old
+  RepliesInTurn-append (x ∷ xs) ys old mid new v w (bytes, next, rest, said, whole, more) q =
+      (bytes, next, rest ++ w, said, ap (λ l. l ++ w) whole ∙ append_assoc bytes rest w, RepliesInTurn-append xs ys next mid new rest w more q)
 
   pub Served-append : (xs ys : List Line) (old mid new : Progress S) → Served reply xs old mid → Served reply ys mid new
       → Served reply (xs ++ ys) old new
-  Served-append xs ys old mid new p q = (
-    p.0 ++ q.0,
-    RepliesInTurn-append xs ys old.session mid.session new.session p.0 q.0 p.1 q.1,
-    Appends-trans old.taken mid.taken new.taken p.0 q.0 p.2 q.2,
+  Served-append xs ys old mid new (front, said, took) (rest, says, takes) = (
+    front ++ rest,
+    RepliesInTurn-append xs ys old.session mid.session new.session front rest said says,
+    Appends-trans old.taken mid.taken new.taken front rest took takes,
   )
 
 module _ {S : Type 0} (reply : ReplyRule S) (quit : Line → Bool) where
@@ -101,16 +101,16 @@ module _ {S : Type 0} (reply : ReplyRule S) (quit : Line → Bool) where
 
   pub Goes-after : (flow : Flow) (xs ys : List Line) (old mid new : Progress S)
       → Goes reply quit More xs old mid → Goes reply quit flow ys mid new → Goes reply quit flow (xs ++ ys) old new
-  Goes-after More xs ys old mid new p q =
-      (has_quit-append quit xs ys p.0 ∙ q.0, q.1, Served-append reply xs ys old mid new p.2 q.2)
-  Goes-after Quit xs ys old mid new p q =
-      let both : Served reply (xs ++ before_quit quit ys) old new = Served-append reply xs (before_quit quit ys) old mid new p.2 q.2 in
-      (has_quit-append quit xs ys p.0 ∙ q.0, q.1, subst (λ l. Served reply l old new) (sym (before_quit-append quit xs ys p.0)) both)
-  Goes-after Unsent xs ys old mid new p q = (q.0, Breaks-after xs ys old mid new p.0 p.2 q.1)
+  Goes-after More xs ys old mid new (no_quit, works, served) (none, still_works, serves) =
+      (has_quit-append quit xs ys no_quit ∙ none, still_works, Served-append reply xs ys old mid new served serves)
+  Goes-after Quit xs ys old mid new (no_quit, works, served) (quits, still_works, serves) =
+      let both : Served reply (xs ++ before_quit quit ys) old new = Served-append reply xs (before_quit quit ys) old mid new served serves in
+      (has_quit-append quit xs ys no_quit ∙ quits, still_works, subst (λ l. Served reply l old new) (sym (before_quit-append quit xs ys no_quit)) both)
+  Goes-after Unsent xs ys old mid new (no_quit, works, served) (fails, breaks) = (fails, Breaks-after xs ys old mid new no_quit served breaks)
 
   pub Quit-more : (xs ys : List Line) (old new : Progress S) → Goes reply quit Quit xs old new → Goes reply quit Quit (xs ++ ys) old new
-  Quit-more xs ys old new q =
-      (has_quit-more quit xs ys q.0, q.1, subst (λ l. Served reply l old new) (sym (before_quit-more quit xs ys q.0)) q.2)
+  Quit-more xs ys old new (quits, works, served) =
+      (has_quit-more quit xs ys quits, works, subst (λ l. Served reply l old new) (sym (before_quit-more quit xs ys quits)) served)
 
   pub Unsent-more : (xs ys : List Line) (old new : Progress S) → Goes reply quit Unsent xs old new
       → Goes reply quit Unsent (xs ++ ys) old new

@@ -56,8 +56,8 @@ module _ {P : Type 0} (p : Puzzle) (h : History P) where
   solves_once one other (inr (inr a)) (inl b) = absurd (b.0 a.0 a.1.solves)
   solves_once one other (inr (inr a)) (inr (inl b)) =
       absurd (b.0.differ (a.1.only b.0.one b.0.one_solves ∙ sym (a.1.only b.0.other b.0.other_solves)))
-  solves_once one other (inr (inr a)) (inr (inr b)) =
-      a.2 ∙ ap (λ (g : GridValue). unless_refused (full_refusal h.position) (with_move h (Filling g))) (b.1.only a.0 a.1.solves) ∙ sym b.2
+  solves_once one other (inr (inr (a, only, is))) (inr (inr (b, sole, so))) =
+      is ∙ ap (λ (g : GridValue). unless_refused (full_refusal h.position) (with_move h (Filling g))) (sole.only a only.solves) ∙ sym so
 
   call_once : (call : Call) (one other : Result (History P) PlayFault) → CallGives p h call one → CallGives p h call other → one ≡ other
   call_once ToSolution one other is so = solves_once one other is so

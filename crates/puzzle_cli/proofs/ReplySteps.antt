@@ -1,5 +1,6 @@
 -- A line begins a session, is a call of the one that there is, or leaves what there is.
-use Rattle.std.proofs.Common.{◌≡◌, ◌⊎◌, ℕ, List, Option, Some, Ok, Err, refl, ap, inl, inr}
+use Rattle.std.proofs.Common.{◌≡◌, ◌⊎◌, ℕ, List, Option, Some, None, Ok, Err, refl, sym, ap, inl, inr}
+use Rattle.play_midend.specs.declared.fault.PlayFault.{PlayFault}
 use Rattle.play_midend.specs.Histories.{History}
 use Rattle.play_midend.specs.Laws.{Call}
 use Rattle.puzzle_cli.specs.Commands.{Reading}
@@ -7,7 +8,7 @@ use Rattle.puzzle_cli.specs.declared.command.Command.TheVariants.{New, Ask}
 use Rattle.puzzle_cli.specs.declared.reply.refusal.Refusal.TheVariants.{Memory}
 use Rattle.puzzle_cli.specs.GameFacts.{GameFacts}
 use Rattle.puzzle_cli.specs.NewSessions.{TextBegins}
-use Rattle.puzzle_cli.specs.SessionReplies.{Outcome, ok_line}
+use Rattle.puzzle_cli.specs.SessionReplies.{Outcome, ok_line, sentence_outcome}
 use Rattle.puzzle_cli.specs.Replies.{ReadGives, ReadTakesMemory, ReadMayGive, left}
 use Rattle.puzzle_cli.specs.RunLaws.{AnswersCall}
 use Rattle.puzzle_cli.proofs.CallReplies.{ample_or_none, told}
@@ -26,12 +27,19 @@ step f old outcome (Ok (Some (New id))) (inl (Ok k, begins, is)) = inl (id, k, b
 step f old outcome (Ok (Some (New id))) (inl (Err fault, begins, is)) = inr (inr (ap (left old) is))
 step f (Some h) outcome (Ok (Some (Ask request))) given =
     elim (told f h request outcome given) [
-      | inl calls ↦ inr (inl (h, calls.0, refl, calls.2))
+      | inl calls ↦ let (call, is, answers) = calls in inr (inl (h, call, refl, answers))
       | inr stays ↦ inr (inr stays.1)
     ]
 step f old outcome read (inl is) = inr (inr (ap (left old) is))
 step f old outcome read (inr (takes, memory)) = inr (inr (ap (left old) memory))
 
+-- so is what may come of it
 pub reply_step : {P : Type 0} (f : GameFacts P) (old : Option (History P)) (outcome : Outcome P) (read : Reading (List ℕ))
     → ReadMayGive f old read outcome → Step f old outcome
 reply_step f old outcome read gives = step f old outcome read (ample_or_none f old read outcome gives)
+
+-- what tells a refused call leaves the session that the call left
+pub sentence_left : {P : Type 0} (h new : History P) (sentence : Option (List ℕ)) (fault : PlayFault) → new ≡ h
+    → left (Some h) (sentence_outcome new sentence fault) ≡ Some new
+sentence_left h new None fault stays = ap Some (sym stays)
+sentence_left h new (Some sentence) fault stays = refl

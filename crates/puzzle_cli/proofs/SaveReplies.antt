@@ -1,5 +1,5 @@
 -- The answer to `save` begins the session again.
-use Rattle.std.proofs.Common.{◌≡◌, ◌<◌, length, codes, Result, Ok, Err, inl, inr, refl, ap, ◌∙◌}
+use Rattle.std.proofs.Common.{◌≡◌, ◌<◌, length, codes, Some, Result, Ok, Err, inl, inr, refl, ap, ◌∙◌}
 use Rattle.std.proofs.lemmas.Bool.{cases_lt}
 use Rattle.puzzle_gen.proofs.ItemLaws.{ItemLaws}
 use Rattle.play_midend.specs.Histories.{History, IsStorable}
@@ -19,12 +19,12 @@ use Rattle.puzzle_cli.specs.declared.command.Request.TheVariants.{Tell}
 use Rattle.puzzle_cli.specs.declared.command.View.TheVariants.{Save}
 use Rattle.puzzle_cli.specs.GameFacts.{GameFacts}
 use Rattle.puzzle_cli.specs.Starts.{saved_facts, FileBegins}
-use Rattle.puzzle_cli.specs.RunLaws.{Asks, IsLoadedBack, SaveLineLoadsBack, save_line}
+use Rattle.puzzle_cli.specs.RunLaws.{Asks, IsLoadedBack, SaveLineLoadsBack}
 use Rattle.puzzle_cli.proofs.CommandLaws.{word_read}
 use Rattle.puzzle_cli.proofs.RepliesOnce.{IdsAreReadOnce}
 use Rattle.puzzle_cli.proofs.KnownReplies.{the_answer}
 
-save_asks : Asks save_line (Tell Save)
+save_asks : Asks (Some (codes "save")) (Tell Save)
 save_asks = (codes "save", refl, word_read (codes "save") (Ask (Tell Save)) refl)
 
 module _ {P : Type 0} (f : GameFacts P) (owes : Owes (saved_facts f) f.rules.valid) (h : History P)
@@ -52,7 +52,7 @@ pub save_line_loads_back : {P : Type 0} (f : GameFacts P) → ItemLaws f.rules �
     → Owes (saved_facts f) f.rules.valid → SaveLineLoadsBack f
 save_line_loads_back f laws ids owes h storable = (
   save_of f.title f.desc_of h,
-  the_answer f laws ids h h save_line (Tell Save) (save_of f.title f.desc_of h) save_asks refl,
+  the_answer f laws ids h h (Some (codes "save")) (Tell Save) (save_of f.title f.desc_of h) save_asks refl,
   loaded_back f owes h storable,
   λ small. written_is_saved (saved_facts f) f.rules.valid owes h storable small,
 )

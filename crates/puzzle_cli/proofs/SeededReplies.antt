@@ -32,16 +32,16 @@ use Rattle.puzzle_cli.specs.NewSessions.{new_game, generated_game, IsIdRead, IdB
 use Rattle.puzzle_cli.specs.SolutionTexts.{grid_digits, grid_line, listed_lines, move_line}
 use Rattle.puzzle_cli.specs.SessionReplies.{shown_board, text_outcome}
 use Rattle.puzzle_cli.specs.Replies.{ReadGives, left}
-use Rattle.puzzle_cli.specs.RunLaws.{Asks, IsTheAnswer, HasJustOne, SeededLinesHaveOne, seeded_line, solve_line, list_two_line}
+use Rattle.puzzle_cli.specs.RunLaws.{Asks, IsTheAnswer, HasJustOne, SeededLinesHaveOne, seeded_line}
 use Rattle.puzzle_cli.proofs.CommandLaws.{word_read}
 use Rattle.puzzle_cli.proofs.RepliesOnce.{IdsAreReadOnce}
 use Rattle.puzzle_cli.proofs.CallReplies.{given_to}
 use Rattle.puzzle_cli.proofs.KnownReplies.{the_answer}
 
-solve_asks : Asks solve_line (Act Solve)
+solve_asks : Asks (Some (codes "solve")) (Act Solve)
 solve_asks = (codes "solve", refl, word_read (codes "solve") (Ask (Act Solve)) refl)
 
-list_two_asks : Asks list_two_line (Listing 2)
+list_two_asks : Asks (Some (codes "list 2")) (Listing 2)
 list_two_asks =
     let two : codes "list 2" ≡ codes "list " ++ decimal 2 = ap (λ (digits : List ℕ). codes "list " ++ digits) (sym (decimal_digit 2 (omega arith))) in
     (codes "list 2", refl, inr (omega arith, omega arith, two))
@@ -58,17 +58,17 @@ one_line g =
 
 module _ {P : Type 0} (f : GameFacts P) (laws : ItemLaws f.rules) (ids : IdsAreReadOnce f) where
   solve_answers : (params : Params) (puzzle : P) (g : GridValue) → IsOnlySolution (f.rules.puzzle puzzle) g
-      → IsTheAnswer f (Some (new_game params puzzle)) solve_line (move_line (Filling g)) (Some (with_move (new_game params puzzle) (Filling g)))
+      → IsTheAnswer f (Some (new_game params puzzle)) (Some (codes "solve")) (move_line (Filling g)) (Some (with_move (new_game params puzzle) (Filling g)))
   solve_answers params puzzle g only =
       let h = new_game params puzzle in
       let new = with_move h (Filling g) in
-      the_answer f laws ids h new solve_line (Act Solve) (move_line (Filling g)) solve_asks
+      the_answer f laws ids h new (Some (codes "solve")) (Act Solve) (move_line (Filling g)) solve_asks
       (Ok ToSolution, refl, (Ok new, inr (inr (g, only, refl)), (move_line (Filling g), (g, refl, refl), refl)))
 
   list_has : (h : History P) (g : GridValue) → IsOnlySolution (f.rules.puzzle h.puzzle) g
-      → IsTheAnswer f (Some h) list_two_line (grid_line g) (Some h)
+      → IsTheAnswer f (Some h) (Some (codes "list 2")) (grid_line g) (Some h)
   list_has h g only =
-      the_answer f laws ids h h list_two_line (Listing 2) (grid_line g) list_two_asks
+      the_answer f laws ids h h (Some (codes "list 2")) (Listing 2) (grid_line g) list_two_asks
       (g ∷ [], AreFirst-only (Solves (f.rules.puzzle h.puzzle)) 2 g only.solves only.only (omega arith), ap (λ text. text_outcome h text) (sym (one_line g)))
 
   shows_solution : (params : Params) (puzzle : P) (g : GridValue) → IsOnlySolution (f.rules.puzzle puzzle) g
@@ -109,7 +109,7 @@ module _ {P : Type 0} (f : GameFacts P) (laws : ItemLaws f.rules) (ids : IdsAreR
   begun_has_one params seed k read same begins =
       let gives : IdBegins f (Ok (Seeded params seed)) (Ok k) =
       subst (λ (r : Result (GameId P) IdFault). IdBegins f r (Ok k)) (sym same) begins in
-      made_has_one params seed k gives.0 gives.1 gives.2
+      let (made, generates, is) = gives in made_has_one params seed k made generates is
 
   said_has_one : (old new : Option (History P)) (params : Params) (seed : ℕ) (id text : List ℕ) → IsIdRead f id (Ok (Seeded params seed))
       → ReadGives f old (Ok (Some (New id))) (Ok (text, new)) → IsSomeAnd new (HasJustOne f (square_of params.size seed))

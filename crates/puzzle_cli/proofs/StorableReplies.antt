@@ -1,5 +1,5 @@
 -- A session that can be stored is left so by each line.
-use Rattle.std.proofs.Common.{◌≡◌, ◌∙◌, ℕ, List, Option, Some, None, Result, Ok, Err, refl, sym, ap, subst, inl, inr}
+use Rattle.std.proofs.Common.{◌≡◌, ◌∙◌, ℕ, List, Option, Some, Result, Ok, Err, sym, ap, subst, inl, inr}
 use Rattle.clue_rules.specs.declared.game_id.GameId.{GameId}
 use Rattle.clue_rules.specs.declared.game_id.GameId.TheVariants.{Described, Seeded}
 use Rattle.clue_rules.specs.declared.id_fault.IdFault.{IdFault}
@@ -9,26 +9,20 @@ use Rattle.puzzle_gen.specs.declared.gen_fault.GenFault.{GenFault}
 use Rattle.puzzle_gen.specs.Generating.{Generates}
 use Rattle.puzzle_gen.proofs.ItemLaws.{ItemLaws}
 use Rattle.puzzle_gen.proofs.GeneratedOnce.{generated_valid}
-use Rattle.play_midend.specs.declared.fault.PlayFault.{PlayFault}
 use Rattle.play_midend.specs.Histories.{History, IsStorable}
 use Rattle.play_midend.specs.Laws.{Call}
 use Rattle.play_midend.proofs.StorableLaws.{starts_storable, storable_answered}
 use Rattle.puzzle_cli.specs.GameFacts.{GameFacts}
 use Rattle.puzzle_cli.specs.NewSessions.{no_extras, new_game, generated_game, IsIdRead, IdBegins, TextBegins}
-use Rattle.puzzle_cli.specs.SessionReplies.{Outcome, sentence_outcome, call_sentence}
+use Rattle.puzzle_cli.specs.SessionReplies.{Outcome, call_sentence}
 use Rattle.puzzle_cli.specs.Replies.{left}
 use Rattle.puzzle_cli.specs.RunLaws.{AnswersCall, IsNoneOrStorable, AnswersStayStorable}
-use Rattle.puzzle_cli.proofs.ReplySteps.{reply_step}
+use Rattle.puzzle_cli.proofs.ReplySteps.{Step, reply_step, sentence_left}
 
 -- ---- a session that can be stored
 
 kept_storable : {P : Type 0} (f : GameFacts P) (old new : Option (History P)) → new ≡ old → IsNoneOrStorable f old → IsNoneOrStorable f new
 kept_storable {P} f old new stays s = subst (λ (o : Option (History P)). IsNoneOrStorable f o) (sym stays) s
-
-sentence_left : {P : Type 0} (h new : History P) (sentence : Option (List ℕ)) (fault : PlayFault) → new ≡ h
-    → left (Some h) (sentence_outcome new sentence fault) ≡ Some new
-sentence_left h new None fault stays = ap Some (sym stays)
-sentence_left h new (Some sentence) fault stays = refl
 
 call_storable : {P : Type 0} (f : GameFacts P) (h : History P) (call : Call) (outcome : Outcome P)
     → IsNoneOrStorable f (Some h) → AnswersCall f h call outcome → IsNoneOrStorable f (left (Some h) outcome)
@@ -67,14 +61,17 @@ module _ {P : Type 0} (f : GameFacts P) (laws : ItemLaws f.rules) where
   begins_storable : (text : List ℕ) (k : History P) → TextBegins f text (Ok k) → IsNoneOrStorable f (Some k)
   begins_storable text k (read, is, begins) = id_storable text k read is begins
 
--- what a line leaves of a storable session is storable
+-- what a step leaves of a storable session is storable
+step_storable : {P : Type 0} (f : GameFacts P) → ItemLaws f.rules → (old : Option (History P)) (outcome : Outcome P)
+    → IsNoneOrStorable f old → Step f old outcome → IsNoneOrStorable f (left old outcome)
+step_storable f laws old outcome s (inl (id, k, begins, is)) =
+    kept_storable f (Some k) (left old outcome) (ap (left old) is) (begins_storable f laws id k begins)
+step_storable {P} f laws old outcome s (inr (inl (h, call, there, answers))) =
+    kept_storable f (left (Some h) outcome) (left old outcome) (ap (λ (o : Option (History P)). left o outcome) there)
+    (call_storable f h call outcome (kept_storable f old (Some h) (sym there) s) answers)
+step_storable f laws old outcome s (inr (inr stays)) = kept_storable f old (left old outcome) stays s
+
+-- so is what a line leaves of one
 pub answers_stay_storable : {P : Type 0} (f : GameFacts P) → ItemLaws f.rules → AnswersStayStorable f
-answers_stay_storable {P} f laws old line outcome s (read, is, gives) =
-    elim (reply_step f old outcome read gives) [
-      | inl begins ↦ kept_storable f (Some begins.1) (left old outcome) (ap (left old) begins.3) (begins_storable f laws begins.0 begins.1 begins.2)
-      | inr other ↦ elim other [
-        | inl calls ↦ kept_storable f (left (Some calls.0) outcome) (left old outcome) (ap (λ (o : Option (History P)). left o outcome) calls.2)
-            (call_storable f calls.0 calls.1 outcome (kept_storable f old (Some calls.0) (sym calls.2) s) calls.3)
-        | inr stays ↦ kept_storable f old (left old outcome) stays s
-      ]
-    ]
+answers_stay_storable f laws old line outcome s (read, is, gives) =
+    step_storable f laws old outcome s (reply_step f old outcome read gives)

@@ -15,8 +15,8 @@ module _ {P : Type 0} (f : GameFacts P) (laws : ItemLaws f.rules) (reply : Reply
   reply_storable : (old new : Option (History P)) (line : Line) (bytes : List ℕ) → IsNoneOrStorable f old → reply old line bytes new
       → IsNoneOrStorable f new
   reply_storable old new line bytes s said =
-      let given = leaves old new line bytes said in
-      subst (λ (o : Option (History P)). IsNoneOrStorable f o) (sym given.2) (answers_stay_storable f laws old line given.0 s given.1)
+      let (outcome, gives, left) = leaves old new line bytes said in
+      subst (λ (o : Option (History P)). IsNoneOrStorable f o) (sym left) (answers_stay_storable f laws old line outcome s gives)
 
   -- and so can what replies in turn leave
   in_turn : (lines : List Line) (old new : Option (History P)) (written : List ℕ) → IsNoneOrStorable f old
@@ -25,12 +25,12 @@ module _ {P : Type 0} (f : GameFacts P) (laws : ItemLaws f.rules) (reply : Reply
   in_turn (line ∷ lines) old new written s (bytes, mid, rest, said, w, more) =
       in_turn lines mid new rest (reply_storable old mid line bytes s said) more
 
-  pub ends_storable : (quit : Line → Bool) (end : End) (old new : Point (Option (History P))) → IsNoneOrStorable f old.session
-      → Ends reply quit end old new → IsNoneOrStorable f new.session
-  ends_storable quit Finished old new s (r, w, (read, were, inl (all, served))) = in_turn _ old.session new.session served.0 s served.1
-  ends_storable quit Finished old new s (r, w, (read, were, inr (has, served))) = in_turn _ old.session new.session served.0 s served.1
-  ends_storable quit ReadFault old new s (w, (read, were, why, has, served)) = in_turn _ old.session new.session served.0 s served.1
+  pub ends_storable : (quit : Line → Bool) (end : End) (old new : Point (Option (History P))) → IsNoneOrStorable f old.answers.session
+      → Ends reply quit end old new → IsNoneOrStorable f new.answers.session
+  ends_storable quit Finished old new s (r, w, (read, were, inl (all, served))) = in_turn _ old.answers.session new.answers.session served.0 s served.1
+  ends_storable quit Finished old new s (r, w, (read, were, inr (has, served))) = in_turn _ old.answers.session new.answers.session served.0 s served.1
+  ends_storable quit ReadFault old new s (w, (read, were, why, has, served)) = in_turn _ old.answers.session new.answers.session served.0 s served.1
   ends_storable quit WriteFault old new s (r, w, (read, were, inl (all, b))) =
-      reply_storable b.mid.session new.session b.line b.bytes (in_turn _ old.session b.mid.session b.served.0 s b.served.1) b.said
+      reply_storable b.mid.session new.answers.session b.line b.bytes (in_turn _ old.answers.session b.mid.session b.served.0 s b.served.1) b.said
   ends_storable quit WriteFault old new s (r, w, (read, were, inr b)) =
-      reply_storable b.mid.session new.session b.line b.bytes (in_turn _ old.session b.mid.session b.served.0 s b.served.1) b.said
+      reply_storable b.mid.session new.answers.session b.line b.bytes (in_turn _ old.answers.session b.mid.session b.served.0 s b.served.1) b.said

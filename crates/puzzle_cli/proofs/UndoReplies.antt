@@ -1,11 +1,9 @@
 -- The lines `undo` and `redo` take back what was made, and what was undone.
 use Rattle.std.proofs.Common.{◌≡◌, ℕ, true, List, codes, get_or, Option, Some, Result, Ok, Err, refl, sym, ap, ◌∙◌, subst, arith}
 use Rattle.std.specs.Result.{IsOkAnd}
-use Rattle.latin_board.specs.Squares.{GridValue}
 use Rattle.trail_solver.specs.Puzzles.{Puzzle}
 use Rattle.play_midend.specs.declared.fault.PlayFault.{PlayFault}
 use Rattle.play_midend.specs.declared.fault.PlayFault.TheVariants.{NoSolution, SeveralSolutions}
-use Rattle.play_midend.specs.declared.moves.Move.TheVariants.{Solve as Filling}
 use Rattle.play_midend.specs.Histories.{History, IsValid, undone, redone}
 use Rattle.play_midend.specs.Laws.{Call, ToSolution, IsSameBack, may_take_memory}
 use Rattle.play_midend.specs.Laws
@@ -14,19 +12,18 @@ use Rattle.puzzle_cli.specs.declared.command.Command.TheVariants.{Ask}
 use Rattle.puzzle_cli.specs.declared.command.Request.TheVariants.{Act}
 use Rattle.puzzle_cli.specs.declared.command.Action.TheVariants.{Undo, Redo}
 use Rattle.puzzle_cli.specs.GameFacts.{GameFacts}
-use Rattle.puzzle_cli.specs.SolutionTexts.{move_line, no_solution_line, several_solutions_line}
 use Rattle.puzzle_cli.specs.SessionReplies.{Outcome, text_outcome, ok_line}
 use Rattle.puzzle_cli.specs.Replies.{LineGives, left, plain_text}
-use Rattle.puzzle_cli.specs.RunLaws.{AnswersCall, Asks, IsMade, IsToldOf, undo_line, redo_line, UndoLineTakesBack, RedoLineTakesUndoBack}
+use Rattle.puzzle_cli.specs.RunLaws.{AnswersCall, Asks, IsMade, IsToldOf, UndoLineTakesBack, RedoLineTakesUndoBack}
 use Rattle.puzzle_cli.proofs.CommandLaws.{word_read}
 use Rattle.puzzle_cli.proofs.CallReplies.{lines_are_calls}
 
 -- ---- undo and redo
 
-undo_asks : Asks undo_line (Act Undo)
+undo_asks : Asks (Some (codes "undo")) (Act Undo)
 undo_asks = (codes "undo", refl, word_read (codes "undo") (Ask (Act Undo)) refl)
 
-redo_asks : Asks redo_line (Act Redo)
+redo_asks : Asks (Some (codes "redo")) (Act Redo)
 redo_asks = (codes "redo", refl, word_read (codes "redo") (Ask (Act Redo)) refl)
 
 -- what comes of an undo that succeeds
@@ -38,27 +35,23 @@ undo_said {P} f p h k outcome back (Ok u, last, gives, (text, made, is)) =
 undo_said {P} f p h k outcome back (Err fault, last, (stays, (exact, gives, is)), told) =
     absurd (subst (λ (r : Result (History P) PlayFault). IsOkAnd r (IsSameBack p h)) (sym gives ∙ is) back)
 
--- a solution's move is no sentence
-other_line : (g : GridValue) (line : List ℕ) → move_line (Filling g) ≡ line → 83 ≡ get_or line 0 0
-other_line g line is = ap (λ l. get_or l 0 0) is
-
--- what was made was not refused
+-- what was made was not refused: a solution's move is no sentence
 not_refused : {P : Type 0} (call : Call) (fault : PlayFault) (text : List ℕ) (k : History P) (new : Option (History P)) → IsMade call text
     → IsToldOf call (Err fault) k (Ok (text, new)) → ⊥
 not_refused ToSolution NoSolution text k new (g, made) told =
-    let e : 83 ≡ 78 = other_line g no_solution_line (sym made ∙ ap plain_text told) in omega (arith, e)
+    let e : 83 ≡ 78 = ap (λ l. get_or l 0 0) (sym made ∙ ap plain_text told) in omega (arith, e)
 not_refused ToSolution SeveralSolutions text k new (g, made) told =
-    let e : 83 ≡ 77 = other_line g several_solutions_line (sym made ∙ ap plain_text told) in omega (arith, e)
+    let e : 83 ≡ 77 = ap (λ l. get_or l 0 0) (sym made ∙ ap plain_text told) in omega (arith, e)
 not_refused call fault text k new made told = cc
 
 after_made : {P : Type 0} (f : GameFacts P) (h : History P) (call : Call) (text : List ℕ) (new : Option (History P)) (outcome : Outcome P)
     → IsValid (f.rules.puzzle h.puzzle) h → may_take_memory call ≡ true → IsMade call text → AnswersCall f h call (Ok (text, new))
-    → LineGives f new undo_line outcome → (last : History P) × (outcome ≡ text_outcome last ok_line) × IsSameBack (f.rules.puzzle h.puzzle) h last
+    → LineGives f new (Some (codes "undo")) outcome → (last : History P) × (outcome ≡ text_outcome last ok_line) × IsSameBack (f.rules.puzzle h.puzzle) h last
 after_made {P} f h call text new outcome valid takes made (Ok u, k, gives, (said, tells, is)) then =
     let stays : new ≡ Some k = ap (left (Some h)) is in
     undo_said f (f.rules.puzzle h.puzzle) h k outcome (call_taken_back f.rules.puzzle h k call valid takes gives)
-    (lines_are_calls f k undo_line (Act Undo) Laws.Undo outcome undo_asks refl
-    (subst (λ (o : Option (History P)). LineGives f o undo_line outcome) stays then))
+    (lines_are_calls f k (Some (codes "undo")) (Act Undo) Laws.Undo outcome undo_asks refl
+    (subst (λ (o : Option (History P)). LineGives f o (Some (codes "undo")) outcome) stays then))
 after_made f h call text new outcome valid takes made (Err fault, k, gives, told) then = absurd (not_refused call fault text k new made told)
 
 pub undo_line_takes_back : {P : Type 0} (f : GameFacts P) → UndoLineTakesBack f
@@ -73,15 +66,15 @@ redo_said f h k outcome back (Ok u, last, gives, (text, made, is)) =
 redo_said f h k outcome back (Err fault, last, (stays, (exact, gives, is)), told) = cc
 
 after_undo : {P : Type 0} (f : GameFacts P) (h : History P) (text : List ℕ) (new : Option (History P)) (outcome : Outcome P)
-    → IsValid (f.rules.puzzle h.puzzle) h → AnswersCall f h Laws.Undo (Ok (text, new)) → LineGives f new redo_line outcome
+    → IsValid (f.rules.puzzle h.puzzle) h → AnswersCall f h Laws.Undo (Ok (text, new)) → LineGives f new (Some (codes "redo")) outcome
     → outcome ≡ text_outcome h ok_line
 after_undo {P} f h text new outcome valid (Ok u, k, gives, (said, made, is)) then =
     let stays : new ≡ Some k = ap (left (Some h)) is in
     redo_said f h k outcome (redo_takes_undo_back f.rules.puzzle h k valid (sym gives))
-    (lines_are_calls f k redo_line (Act Redo) Laws.Redo outcome redo_asks refl
-    (subst (λ (o : Option (History P)). LineGives f o redo_line outcome) stays then))
+    (lines_are_calls f k (Some (codes "redo")) (Act Redo) Laws.Redo outcome redo_asks refl
+    (subst (λ (o : Option (History P)). LineGives f o (Some (codes "redo")) outcome) stays then))
 after_undo f h text new outcome valid (Err fault, k, gives, told) then = cc
 
 pub redo_line_takes_undo_back : {P : Type 0} (f : GameFacts P) → RedoLineTakesUndoBack f
 redo_line_takes_undo_back f h text new outcome valid first then =
-    after_undo f h text new outcome valid (lines_are_calls f h undo_line (Act Undo) Laws.Undo (Ok (text, new)) undo_asks refl first) then
+    after_undo f h text new outcome valid (lines_are_calls f h (Some (codes "undo")) (Act Undo) Laws.Undo (Ok (text, new)) undo_asks refl first) then

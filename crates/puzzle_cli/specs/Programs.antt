@@ -59,7 +59,7 @@ pub record IsFinished {P : Type 0} (f : GameFacts P) (reply : GameReply P) (old 
   pub end : End
   pub finished : end ≡ Finished
   pub ends : Ends reply is_quit end old new
-  pub storable : IsNoneOrStorable f new.session
+  pub storable : IsNoneOrStorable f new.answers.session
 
 -- the text to be saved of the session that is left: none where there is none, or the words name no file to save to
 abbrev pub text_to_save : {P : Type 0} → GameFacts P → Option Word → Option (History P) → Option (List ℕ)

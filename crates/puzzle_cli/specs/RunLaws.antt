@@ -1,4 +1,4 @@
--- Laws of the replies to lines, over what is written and what is left: any run's, since a run writes nothing but replies.
+-- Laws of what lines make of a session, over answers as values; and what the bytes of a reply tell of its answer.
 use Rattle.std.specs.Prelude.{◌≡◌, ◌⊎◌, ℕ, ◌<◌, ◌≤◌, ◌^◌, true, IsTrue, codes, List, ◌∷◌, ◌++◌, length, Option, Some, None, Result, Ok, Err}
 use Rattle.std.specs.Fmt.{decimal}
 use Rattle.std.specs.Option.{IsSomeAnd}
@@ -29,7 +29,7 @@ use Rattle.puzzle_cli.specs.GameFacts.{GameFacts}
 use Rattle.puzzle_cli.specs.Starts.{FileBegins}
 use Rattle.puzzle_cli.specs.SolutionTexts.{move_line, grid_line}
 use Rattle.puzzle_cli.specs.SessionReplies.{Outcome, text_outcome, sentence_outcome, ok_line, shown_board, IsCallRead, call_sentence}
-use Rattle.puzzle_cli.specs.Replies.{LineGives, AmpleGives, AmpleReply, left}
+use Rattle.puzzle_cli.specs.Replies.{LineGives, AmpleGives, AmpleReply, Reply, left, refusal_line}
 use Rattle.puzzle_cli.specs.Runs.{RepliesInTurn}
 
 -- ---- lines
@@ -76,6 +76,23 @@ AnswersStayStorable {P} f =
     (old : Option (History P)) (line : Line) (outcome : Outcome P)
     → IsNoneOrStorable f old → LineGives f old line outcome → IsNoneOrStorable f (left old outcome)
 
+-- ---- what the bytes of a reply tell
+
+-- the bytes name a refusal
+abbrev pub IsRefusalLine : List ℕ → Type 0
+IsRefusalLine bytes = (name : List ℕ) × (bytes ≡ refusal_line name)
+
+-- a line that is told as refused left the session
+abbrev pub RefusedLinesLeave : {P : Type 0} → GameFacts P → Type 0
+RefusedLinesLeave {P} f =
+    (old new : Option (History P)) (line : Line) (bytes : List ℕ) → Reply f old line bytes new → IsRefusalLine bytes → new ≡ old
+
+-- any other reply is the answer itself, so what holds of answers holds of bytes
+abbrev pub OtherRepliesAnswer : {P : Type 0} → GameFacts P → Type 0
+OtherRepliesAnswer {P} f =
+    (old new : Option (History P)) (line : Line) (bytes : List ℕ)
+    → Reply f old line bytes new → (IsRefusalLine bytes → ⊥) → LineGives f old line (Ok (bytes, new))
+
 -- ---- the session's own calls
 
 -- the call of a session that a request is, if any
@@ -114,28 +131,20 @@ OtherRequestsLeave {P} f =
 
 -- ---- undo and redo
 
--- the line `undo`
-abbrev pub undo_line : Line
-undo_line = Some (codes "undo")
-
--- the line `redo`
-abbrev pub redo_line : Line
-redo_line = Some (codes "redo")
-
 -- a move, a restart or a solution that was made, and then `undo`: it answers `ok`, and board, past, position, puzzle,
 -- parameters and kept bytes are as before
 abbrev pub UndoLineTakesBack : {P : Type 0} → GameFacts P → Type 0
 UndoLineTakesBack {P} f =
     (h : History P) (line : Line) (request : Request (List ℕ)) (call : Call) (text : List ℕ) (new : Option (History P)) (outcome : Outcome P)
     → IsValid (f.rules.puzzle h.puzzle) h → Asks line request → IsCallOf request call → may_take_memory call ≡ true → IsMade call text
-    → LineGives f (Some h) line (Ok (text, new)) → LineGives f new undo_line outcome
+    → LineGives f (Some h) line (Ok (text, new)) → LineGives f new (Some (codes "undo")) outcome
     → (last : History P) × (outcome ≡ text_outcome last ok_line) × IsSameBack (f.rules.puzzle h.puzzle) h last
 
 -- `undo` that wasn't refused, and then `redo`: it answers `ok`, and the whole session is as before, later moves included
 abbrev pub RedoLineTakesUndoBack : {P : Type 0} → GameFacts P → Type 0
 RedoLineTakesUndoBack {P} f =
     (h : History P) (text : List ℕ) (new : Option (History P)) (outcome : Outcome P) → IsValid (f.rules.puzzle h.puzzle) h
-    → LineGives f (Some h) undo_line (Ok (text, new)) → LineGives f new redo_line outcome → outcome ≡ text_outcome h ok_line
+    → LineGives f (Some h) (Some (codes "undo")) (Ok (text, new)) → LineGives f new (Some (codes "redo")) outcome → outcome ≡ text_outcome h ok_line
 
 -- ---- one answer
 
@@ -147,10 +156,6 @@ pub record IsTheAnswer {P : Type 0} (f : GameFacts P) (old : Option (History P))
 
 -- ---- saving and loading
 
--- the line `save`
-abbrev pub save_line : Line
-save_line = Some (codes "save")
-
 -- a file's bytes begin this session, or are refused for want of memory, or as longer than a save may be
 abbrev pub IsLoadedBack : {P : Type 0} → History P → List ℕ → Result (History P) StartFault → Type 0
 IsLoadedBack h bytes (Ok first) = first ≡ h
@@ -160,7 +165,7 @@ IsLoadedBack h bytes (Err fault) = (fault ≡ OutOfMemory) ⊎ ((MOST_BYTES < le
 abbrev pub SaveLineLoadsBack : {P : Type 0} → GameFacts P → Type 0
 SaveLineLoadsBack {P} f =
     (h : History P) → IsNoneOrStorable f (Some h)
-    → (bytes : List ℕ) × IsTheAnswer f (Some h) save_line bytes (Some h)
+    → (bytes : List ℕ) × IsTheAnswer f (Some h) (Some (codes "save")) bytes (Some h)
     × ((first : Result (History P) StartFault) → FileBegins f bytes first → IsLoadedBack h bytes first)
     × (length bytes ≤ MOST_BYTES → FileBegins f bytes (Ok h))
 
@@ -170,14 +175,6 @@ SaveLineLoadsBack {P} f =
 abbrev pub seeded_line : Params → ℕ → Line
 seeded_line params seed = Some (codes "new " ++ params_text params ++ exclamation ∷ decimal seed)
 
--- the line `solve`
-abbrev pub solve_line : Line
-solve_line = Some (codes "solve")
-
--- the line `list 2`
-abbrev pub list_two_line : Line
-list_two_line = Some (codes "list 2")
-
 -- The puzzle of the session has just this solution, and several without any one of its items. `solve` answers the solution, and
 -- the session then shows its numbers; a list of two has it alone.
 pub record HasJustOne {P : Type 0} (f : GameFacts P) (g : GridValue) (h : History P) : Type 0 where
@@ -185,9 +182,9 @@ pub record HasJustOne {P : Type 0} (f : GameFacts P) (g : GridValue) (h : Histor
   pub needed : (i : ℕ) → i < f.rules.items_of (f.rules.puzzle h.puzzle).size → IsTrue (f.rules.has h.puzzle i)
       → HasSeveralSolutions (f.rules.puzzle (f.rules.cut h.puzzle (all_but i)))
   pub solved : History P
-  pub solves : IsTheAnswer f (Some h) solve_line (move_line (Filling g)) (Some solved)
+  pub solves : IsTheAnswer f (Some h) (Some (codes "solve")) (move_line (Filling g)) (Some solved)
   pub shows : (shown_board f solved).numbers ≡ g.numbers
-  pub listed : IsTheAnswer f (Some h) list_two_line (grid_line g) (Some h)
+  pub listed : IsTheAnswer f (Some h) (Some (codes "list 2")) (grid_line g) (Some h)
 
 -- the game of a seed that was begun: its puzzle has just the seed's square as solution
 abbrev pub SeededLinesHaveOne : {P : Type 0} → GameFacts P → Type 0

@@ -3,34 +3,12 @@ use Rattle.std.specs.Prelude.{◌≡◌, ℕ, ◌<◌, ◌≤◌, Bool, true, fa
 use Rattle.std.specs.Io.KnownBytes.{Appends, Consumes, IsAtEnd}
 use Rattle.puzzle_io.specs.declared.device.Source.{Ghosts as OfSource}
 use Rattle.puzzle_io.specs.declared.device.Sink.{Ghosts as OfSink}
+use Rattle.puzzle_cli.specs.declared.line.line_loop.TheConstants.{INPUT_BYTES}
 use Rattle.puzzle_cli.specs.Lines.{Line, ReplyRule, all_lines, ended_lines}
 use Rattle.puzzle_cli.specs.declared.run_end.End.{End}
 use Rattle.puzzle_cli.specs.declared.run_end.End.TheVariants.{Finished, ReadFault, WriteFault}
 
--- the most bytes that a run reads
-abbrev pub longest_input : ℕ
-longest_input = 1000000000
-
--- A point in a run: what answers lines; the bytes that are to come in the source and those that the sink took, where they
--- tell them; and whether each has failed.
-pub record Point (S : Type 0) : Type 0 where
-  pub session : S
-  pub to_come : Option (List ℕ)
-  pub read_failed : Bool
-  pub taken : Option (List ℕ)
-  pub write_failed : Bool
-
--- the point at which a session, a source and a sink stand
-abbrev pub point_at : {S R W : Type 0} → OfSource R → OfSink W → S → R → W → Point S
-point_at of_source of_sink session source sink = record {
-  session = session;
-  to_come = of_source.to_come source;
-  read_failed = of_source.has_failed source;
-  taken = of_sink.taken sink;
-  write_failed = of_sink.has_failed sink;
-}
-
--- the same without the source: how far the answers have come
+-- How far the answers have come: what answers lines; the bytes that the sink took, where it tells them; and whether it has failed.
 pub record Progress (S : Type 0) : Type 0 where
   pub session : S
   pub taken : Option (List ℕ)
@@ -40,9 +18,16 @@ pub record Progress (S : Type 0) : Type 0 where
 abbrev pub progress_at : {S W : Type 0} → OfSink W → S → W → Progress S
 progress_at of_sink session sink = record { session = session; taken = of_sink.taken sink; failed = of_sink.has_failed sink }
 
--- how far they have come at a point of a run
-abbrev pub progress_of : {S : Type 0} → Point S → Progress S
-progress_of point = record { session = point.session; taken = point.taken; failed = point.write_failed }
+-- A point in a run: how far the answers have come; the bytes that are to come in the source, where it tells them; and whether it has failed.
+pub record Point (S : Type 0) : Type 0 where
+  pub answers : Progress S
+  pub to_come : Option (List ℕ)
+  pub read_failed : Bool
+
+-- the point at which a session, a source and a sink stand
+abbrev pub point_at : {S R W : Type 0} → OfSource R → OfSink W → S → R → W → Point S
+point_at of_source of_sink session source sink =
+    record { answers = progress_at of_sink session sink; to_come = of_source.to_come source; read_failed = of_source.has_failed source }
 
 -- the replies to the lines in turn, one after another, and what they leave
 abbrev pub RepliesInTurn : {S : Type 0} → ReplyRule S → List Line → S → List ℕ → S → Type 0
@@ -82,11 +67,11 @@ pub record Breaks {S : Type 0} (reply : ReplyRule S) (quit : Line → Bool) (lin
 
 -- the bytes were read, no more than a run reads
 abbrev pub WereRead : {S : Type 0} → Point S → Point S → List ℕ → Type 0
-WereRead old new read = Consumes old.to_come new.to_come read × (length read ≤ longest_input)
+WereRead old new read = Consumes old.to_come new.to_come read × (length read ≤ INPUT_BYTES)
 
 -- the bytes are the whole input, which is shorter than what a run reads
 abbrev pub AreAll : {S : Type 0} → Point S → List ℕ → Type 0
-AreAll new read = IsAtEnd new.to_come × (length read < longest_input)
+AreAll new read = IsAtEnd new.to_come × (length read < INPUT_BYTES)
 
 -- How a run ends that began at the one point, at the other.
 --
@@ -95,15 +80,15 @@ AreAll new read = IsAtEnd new.to_come × (length read < longest_input)
 -- WriteFault: a write or flush of the reply to a line that was read failed.
 abbrev pub Ends : {S : Type 0} → ReplyRule S → (Line → Bool) → End → Point S → Point S → Type 0
 Ends reply quit Finished old new =
-    (new.read_failed ≡ false) × (new.write_failed ≡ false) × ((read : List ℕ) × WereRead old new read
-    × ((AreAll new read × Served reply (before_quit quit (all_lines read)) (progress_of old) (progress_of new))
+    (new.read_failed ≡ false) × (new.answers.failed ≡ false) × ((read : List ℕ) × WereRead old new read
+    × ((AreAll new read × Served reply (before_quit quit (all_lines read)) old.answers new.answers)
     ⊎ ((has_quit quit (ended_lines read) ≡ true)
-    × Served reply (before_quit quit (ended_lines read)) (progress_of old) (progress_of new))))
+    × Served reply (before_quit quit (ended_lines read)) old.answers new.answers)))
 Ends reply quit ReadFault old new =
-    (new.write_failed ≡ false) × ((read : List ℕ) × WereRead old new read
-    × ((new.read_failed ≡ true) ⊎ (length read ≡ longest_input)) × (has_quit quit (ended_lines read) ≡ false)
-    × Served reply (ended_lines read) (progress_of old) (progress_of new))
+    (new.answers.failed ≡ false) × ((read : List ℕ) × WereRead old new read
+    × ((new.read_failed ≡ true) ⊎ (length read ≡ INPUT_BYTES)) × (has_quit quit (ended_lines read) ≡ false)
+    × Served reply (ended_lines read) old.answers new.answers)
 Ends reply quit WriteFault old new =
-    (new.read_failed ≡ false) × (new.write_failed ≡ true) × ((read : List ℕ) × WereRead old new read
-    × ((AreAll new read × Breaks reply quit (all_lines read) (progress_of old) (progress_of new))
-    ⊎ Breaks reply quit (ended_lines read) (progress_of old) (progress_of new)))
+    (new.read_failed ≡ false) × (new.answers.failed ≡ true) × ((read : List ℕ) × WereRead old new read
+    × ((AreAll new read × Breaks reply quit (all_lines read) old.answers new.answers)
+    ⊎ Breaks reply quit (ended_lines read) old.answers new.answers))

@@ -76,17 +76,9 @@ abbrev pub CallSays : {P : Type 0} → History P → Call → Result (History P)
 CallSays h call (Ok new) outcome = (text : List ℕ) × IsSaidOf call new text × (outcome ≡ text_outcome new text)
 CallSays h call (Err fault) outcome = outcome ≡ sentence_outcome h (call_sentence call fault) fault
 
--- what is said to a call with ample memory
-abbrev pub CallReplies : {P : Type 0} → Puzzle → History P → Call → Outcome P → Type 0
-CallReplies {P} p h call outcome = (exact : Result (History P) PlayFault) × CallGives p h call exact × CallSays h call exact outcome
-
--- The call takes memory, and nothing else refuses it.
-abbrev pub CallTakesMemory : {P : Type 0} → Puzzle → History P → Call → Type 0
-CallTakesMemory {P} p h call = (new : History P) × CallGives p h call (Ok new) × (may_take_memory call ≡ true)
-
--- what is said to a call that was read, or to a text that is no move
+-- what is said with ample memory to a call that was read, or to a text that is no move
 abbrev pub ReadReplies : {P : Type 0} → Puzzle → History P → Result Call PlayFault → Outcome P → Type 0
-ReadReplies p h (Ok call) outcome = CallReplies p h call outcome
+ReadReplies {P} p h (Ok call) outcome = (exact : Result (History P) PlayFault) × CallGives p h call exact × CallSays h call exact outcome
 ReadReplies p h (Err fault) outcome = outcome ≡ Err (play_refusal fault)
 
 -- ---- views
@@ -116,8 +108,10 @@ RequestGives f h (Tell view) outcome = outcome ≡ text_outcome h (view_text f h
 RequestGives f h (Listing n) outcome =
     (listed : List GridValue) × AreFirst (Solves (f.rules.puzzle h.puzzle)) n listed × (outcome ≡ text_outcome h (listed_lines listed))
 
--- The request's answer takes memory, and nothing else refuses it.
+-- The request's answer takes memory, and nothing else refuses it: of a call, that it gives a session.
 abbrev pub RequestTakesMemory : {P : Type 0} → GameFacts P → History P → Request (List ℕ) → Type 0
-RequestTakesMemory f h (Act action) = (call : Call) × IsCallRead action (Ok call) × CallTakesMemory (f.rules.puzzle h.puzzle) h call
+RequestTakesMemory {P} f h (Act action) =
+    (call : Call) × IsCallRead action (Ok call) × (may_take_memory call ≡ true)
+    × ((new : History P) × CallGives (f.rules.puzzle h.puzzle) h call (Ok new))
 RequestTakesMemory f h (Tell view) = ViewTakesMemory view
 RequestTakesMemory f h (Listing n) = Unit {0}

@@ -27,7 +27,7 @@ listed_lines listed = lines_or (codes "none") (flat_map grid_line listed)
 abbrev pub move_line : Move → List ℕ
 move_line m = move_text m ++ line_feed ∷ []
 
--- the last move of a session fills in a solution, or the text is that of this move
+-- the last move of a session fills in this solution
 abbrev pub EndsInSolution : {P : Type 0} → History P → GridValue → Type 0
 EndsInSolution h g = slice_get h.moves (length h.moves - 1) ≡ Some (Solve g)
 
@@ -35,16 +35,8 @@ EndsInSolution h g = slice_get h.moves (length h.moves - 1) ≡ Some (Solve g)
 abbrev pub IsLastMove : {P : Type 0} → History P → List ℕ → Type 0
 IsLastMove h text = (g : GridValue) × EndsInSolution h g × (text ≡ move_line (Solve g))
 
--- what `solve` says where there is no solution
-abbrev pub no_solution_line : List ℕ
-no_solution_line = codes "No solution exists for this puzzle" ++ line_feed ∷ []
-
--- what `solve` says where there are several
-abbrev pub several_solutions_line : List ℕ
-several_solutions_line = codes "Multiple solutions exist for this puzzle" ++ line_feed ∷ []
-
 -- the sentence that stands for a refusal of `solve`, if any
 abbrev pub solve_sentence : PlayFault → Option (List ℕ)
-solve_sentence NoSolution = Some no_solution_line
-solve_sentence SeveralSolutions = Some several_solutions_line
+solve_sentence NoSolution = Some (codes "No solution exists for this puzzle" ++ line_feed ∷ [])
+solve_sentence SeveralSolutions = Some (codes "Multiple solutions exist for this puzzle" ++ line_feed ∷ [])
 solve_sentence _ = None

@@ -16,7 +16,7 @@ use puzzle_io::{DeviceFault, Sink, Source};
 use std::alloc::Global;
 
 /// The most bytes that a run reads.
-const INPUT_BYTES: usize = 1_000_000_000;
+pub(crate) const INPUT_BYTES: usize = 1_000_000_000;
 
 /// The most bytes that are read at once.
 const PIECE_BYTES: usize = 4_096;

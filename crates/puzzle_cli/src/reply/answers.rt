@@ -92,6 +92,7 @@ fn act<P: Draw>(session: &mut Session<P>, action: Action<&[u8]>) -> Result<Text,
         (RequestTakesMemory ⟦<P as Facts>⟧.facts session.old
         (Request.Act (action_copied action.entry)))) }
 {
+    let _board = session.board();
     let answer = call(session, action);
     match action {
         Action::Solve => solve_reply(session, answer),

@@ -1,10 +1,12 @@
 //! What `solve` makes of a session, and what is said of it.
 ghost use Rattle.std.specs.Prelude.{◌≡◌, Some, None, Err, IfOk, IfErr, OnOk};
 ghost use Rattle.play_midend.specs.declared.fault.PlayFault.{PlayFault};
+ghost use Rattle.play_midend.specs.declared.moves.Move.TheVariants.{Solve};
 ghost use Rattle.puzzle_cli.specs.Refusals.{play_refusal};
 ghost use Rattle.puzzle_cli.specs.Texts.{text_bytes};
 ghost use Rattle.latin_board.specs.Squares.{GridValue};
-ghost use Rattle.puzzle_cli.specs.SolutionTexts.{move_line, solve_sentence, EndsInSolution, IsLastMove};
+ghost use Rattle.puzzle_cli.specs.SolutionTexts.{move_line, solve_sentence, IsLastMove};
+ghost use Rattle.puzzle_cli.specs.Inner.Answers.{IsFilledIn};
 
 use crate::draw::symbols::grid_digits;
 use crate::reply::refusal::Refusal;
@@ -12,7 +14,7 @@ use crate::reply::text::Text;
 use arrayvec::ArrayVec;
 use clue_rules::Game;
 use latin_board::Grid;
-use play_midend::{Move, PlayFault, Session};
+use play_midend::{PlayFault, Session};
 
 // `S`, at most 81 digits and a line feed.
 type SolveLine = ArrayVec<u8, 83>;
@@ -24,7 +26,7 @@ pub(crate) fn solve_reply<P: Game>(
     session: &Session<P>,
     answer: Result<(), PlayFault>,
 ) -> Result<Text, Refusal>
-    requires { OnOk answer ((g : GridValue) × EndsInSolution session.now g) }
+    requires { OnOk answer ((g : GridValue) × IsFilledIn (P.puzzle session.now.puzzle) session.now g) }
     ensures made { OnOk answer (IfOk result (λ text. IsLastMove session.now (text_bytes text))) }
     ensures ok { IfErr answer (λ fault. IfOk result (λ text.
         solve_sentence fault ≡ Some (text_bytes text))) }
@@ -41,19 +43,17 @@ pub(crate) fn solve_reply<P: Game>(
     }
 }
 
-// The line of the move to the last state, which fills in a solution.
+// The line of the solution that was filled in last, which the board shows.
+#[tactic(auto, using(crate::proofs::FilledIn::last_line))]
 fn solution_line<P: Game>(session: &Session<P>) -> SolveLine
-    requires { (g : GridValue) × EndsInSolution session.now g }
+    requires { (g : GridValue) × IsFilledIn (P.puzzle session.now.puzzle) session.now g }
     ensures { IsLastMove session.now result.items }
 {
-    match session.move_at(session.states() - 1) {
-        Move::Solve(grid) => grid_line(grid),
-        _ => unreachable!(),
-    }
+    grid_line(session.board().grid())
 }
 
 fn grid_line(grid: &Grid) -> SolveLine
-    ensures { result.items ≡ move_line (Move.Solve grid.now) }
+    ensures { result.items ≡ move_line (Solve grid.now) }
 {
     let mut line = ArrayVec::new();
     line.push(b'S');

@@ -6,6 +6,7 @@ use Rattle.puzzle_cli.specs.GameFacts.{facts_of}
 use Rattle.puzzle_cli.specs.Inner.CommandReading.{read_at}
 use Rattle.puzzle_cli.proofs.CommandLaws.{line_is_read, read_once}
 use Rattle.puzzle_cli.proofs.RepliesOnce.{IdsAreReadOnce, ids_once, output_once}
+use Rattle.puzzle_cli.proofs.RepliesTold.{refused_lines_leave, other_replies_answer}
 use Rattle.puzzle_cli.proofs.StorableReplies.{answers_stay_storable}
 use Rattle.puzzle_cli.proofs.CallReplies.{lines_are_calls, other_requests_leave}
 use Rattle.puzzle_cli.proofs.UndoReplies.{undo_line_takes_back, redo_line_takes_undo_back}
@@ -30,6 +31,12 @@ ids g =
 
 pub returns-clause-read_once : goal.returns-clause-read_once
 returns-clause-read_once g c = λ line. (read_at line, line_is_read line, read_once line)
+
+pub returns-clause-refused : goal.returns-clause-refused
+returns-clause-refused g c = refused_lines_leave (facts_of g.P.Rules g.P.Game g.P.Draw)
+
+pub returns-clause-answered : goal.returns-clause-answered
+returns-clause-answered g c = other_replies_answer (facts_of g.P.Rules g.P.Game g.P.Draw)
 
 pub returns-clause-one_output : goal.returns-clause-one_output
 returns-clause-one_output g c = output_once (facts_of g.P.Rules g.P.Game g.P.Draw) (laws_of g.met.P.Rules) (ids g)

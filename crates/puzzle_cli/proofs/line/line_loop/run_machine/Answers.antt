@@ -1,5 +1,6 @@
 use Rattle.std.proofs.Common.{◌≡◌, arith, refl, inl, inr}
-use Rattle.puzzle_cli.specs.Runs.{longest_input, point_at}
+use Rattle.puzzle_cli.specs.declared.line.line_loop.TheConstants.{INPUT_BYTES}
+use Rattle.puzzle_cli.specs.Runs.{point_at}
 use Rattle.puzzle_cli.proofs.BytesRead.{ReadFault-ends, stays_read, Finished-at-end, WriteFault-at-end, reads_on, Finished-at-quit, WriteFault-in-piece}
 use Rattle.puzzle_cli.proofs.line.line_loop.run_machine.Goals as goal
 
@@ -58,5 +59,5 @@ returns-in-Unsent-take_piece-clause-ends g c =
 pub returns-clause-ends : goal.returns-clause-ends
 returns-clause-ends g c =
     let old = point_at g.R.Source g.W.Sink c.args.machine.now c.args.source.now c.args.sink.now in
-    let full : c.loop-count.count ≡ longest_input = omega (arith, c.loop-count.invariant.within) in
+    let full : c.loop-count.count ≡ INPUT_BYTES = omega (arith, c.loop-count.invariant.within) in
     ReadFault-ends {old = old} c.loop-count.invariant.so_far c.loop-count.invariant.within (inr full)

@@ -1,12 +1,13 @@
 use Rattle.std.proofs.Common.{◌≡◌, ◌-◌, ◌≤◌, false}
-use Rattle.puzzle_cli.specs.Runs.{longest_input, point_at}
+use Rattle.puzzle_cli.specs.declared.line.line_loop.TheConstants.{INPUT_BYTES}
+use Rattle.puzzle_cli.specs.Runs.{point_at}
 use Rattle.puzzle_cli.proofs.BytesRead.{HasRead}
 use Rattle.puzzle_cli.proofs.line.line_loop.run_machine.Given as goal
 
 -- the lines that ended in what was read were answered
 abbrev pub invariant-loop-count : goal.invariant-loop-count
 invariant-loop-count g l = record {
-  within : l.count ≤ longest_input;
+  within : l.count ≤ INPUT_BYTES;
   works : g.R.Source.has_failed l.source ≡ false;
   flushed : g.W.Sink.flushed l.fn.sink ≡ g.W.Sink.taken l.fn.sink → g.W.Sink.flushed l.sink ≡ g.W.Sink.taken l.sink;
   so_far : HasRead g.M.Machine.reply g.M.Machine.is_quit
@@ -15,4 +16,4 @@ invariant-loop-count g l = record {
 }
 
 abbrev pub decreases-loop-count : goal.decreases-loop-count
-decreases-loop-count g l = longest_input - l.count
+decreases-loop-count g l = INPUT_BYTES - l.count

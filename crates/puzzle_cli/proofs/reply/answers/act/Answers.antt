@@ -1,17 +1,23 @@
 use Rattle.std.proofs.Common.{inl}
 use Rattle.std.proofs.lemmas.Result.{err_from_is_err_and}
 use Rattle.puzzle_cli.specs.GameFacts.{facts_of}
+use Rattle.puzzle_cli.proofs.FilledIn.{solve_fills_in}
 use Rattle.puzzle_cli.proofs.ActionReplies.{still_other, refused_said, solve_refused}
 use Rattle.puzzle_cli.proofs.reply.answers.act.Goals as goal
+
+pub solve_reply-requires : goal.solve_reply-requires
+solve_reply-requires g c =
+    solve_fills_in g.P.Rules.puzzle c.args.session.now c.board-board.ensures.valid c.call-answer.new.session c.call-answer.result
+    (rw c.in-Solve.is at c.call-answer.ensures.answered)
 
 pub returns-in_err-answer-in_default : goal.returns-in_err-answer-in_default
 returns-in_err-answer-in_default g c =
     let f = facts_of g.P.Rules g.P.Game g.P.Draw in
-    let e = err_from_is_err_and c.from_residual.result c.from_residual.ensures.1 in
+    let (refusal, is, same) = err_from_is_err_and c.from_residual.result c.from_residual.ensures.1 in
     record {
-      ok = rw e.1 tt;
-      err = rw e.1 c.in_err-answer-in_default.ensures.err;
-      why = rw e.1 (refused_said f c.args.session.now c.call-answer.new.session _ c.in_err-answer-in_default.field-0.0 e.0 e.2
+      ok = rw is tt;
+      err = rw is c.in_err-answer-in_default.ensures.err;
+      why = rw is (refused_said f c.args.session.now c.call-answer.new.session _ c.in_err-answer-in_default.field-0.0 refusal same
           (inl (still_other c.args.action c.in_default.not-Solve)) c.in_err-answer-in_default.ensures.answered);
     }
 

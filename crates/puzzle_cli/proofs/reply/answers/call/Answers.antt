@@ -10,10 +10,10 @@ use Rattle.puzzle_cli.proofs.reply.answers.call.Goals as goal
 pub returns-in_err-read_move-in-Play-clause-answered : goal.returns-in_err-read_move-in-Play-clause-answered
 returns-in_err-read_move-in-Play-clause-answered g c =
     let h = c.args.session.now in
-    let e = err_from_is_err_and c.from_residual.result c.from_residual.ensures.1 in
+    let (fault, is, same) = err_from_is_err_and c.from_residual.result c.from_residual.ensures.1 in
     rw c.in-Play.is
     (unread_answered (g.P.Rules.puzzle h.puzzle) h h c.in-Play.text.now c.from_residual.result c.in_err-read_move-in-Play.field-0.0
-    (e.1 ∙ ap Err e.2) (λ m spelled. let apart = c.in_err-read_move-in-Play.ensures.only m spelled in cc)
+    (is ∙ ap Err same) (λ m spelled. let apart = c.in_err-read_move-in-Play.ensures.only m spelled in cc)
     c.in_err-read_move-in-Play.ensures.fault refl)
 
 pub returns-in_ok-read_move-in-Play-clause-answered : goal.returns-in_ok-read_move-in-Play-clause-answered

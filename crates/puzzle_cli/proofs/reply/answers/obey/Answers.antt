@@ -12,5 +12,5 @@ returns-in_err-read_command-clause-goes_on g c =
 
 pub returns-in_err-read_command-clause-why : goal.returns-in_err-read_command-clause-why
 returns-in_err-read_command-clause-why g c =
-    let e = err_from_is_err_and c.from_residual.result c.from_residual.ensures.1 in
-    rw e.1 (Err c.in_err-read_command.field-0.0, c.in_err-read_command.ensures.read, inl (ap Err e.2))
+    let (refusal, is, same) = err_from_is_err_and c.from_residual.result c.from_residual.ensures.1 in
+    rw is (Err c.in_err-read_command.field-0.0, c.in_err-read_command.ensures.read, inl (ap Err same))
