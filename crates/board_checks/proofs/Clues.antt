@@ -66,8 +66,8 @@ pub edge_broken : (v : TowersValue) (g : GridValue) (place : ℕ)
     → IsBrokenAt (towers_demand v) g (Edge place) ↔ ((0 < clue_of v place) × IsBroken g (clue_demand v place))
 edge_broken v g place = (
   λ h.
-      let there = demanded v place h.0 h.1 in
-      (there.0, subst (IsBroken g) (sym there.1) h.2),
+      let (d, says, broken) = h in
+      let (clued, is) = demanded v place d says in (clued, subst (IsBroken g) (sym is) broken),
   λ h. (clue_demand v place, rw (lt-ltb 0 (clue_of v place) h.0) refl, h.1),
 )
 

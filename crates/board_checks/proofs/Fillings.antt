@@ -35,7 +35,7 @@ filling_from_start {w} {line} {sets} filled are start whole =
     ((are.each k inside).each (get_or filled k 0)).0 (start.candidates k (omega (arith, are.places))) in
     record {
       same_length = whole ∙ are.places ∙ sym are.squares;
-      keeps = λ k l some. (held k (omega (arith, are.squares))).2 some;
+      keeps = λ k l some. let (low, high, keeps) = held k (omega (arith, are.squares)) in keeps some;
       within = λ k d l.
           let range = held k (omega (arith, are.places)) in
           rw (get_or_default filled k d 0 l) (range.0, range.1);

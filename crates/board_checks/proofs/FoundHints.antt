@@ -61,14 +61,15 @@ none_forced p Strikes g c cell narrowed none forced =
     (λ e. e)
     (λ n. absurd (both_ways (may_be c cell u) (narrowed.struck cell u pair' (forced.others start narrowed.of_grid u pair n)) left))
     (cases_eq u forced.value) in
-    none.several cell some.0 (record {
+    let (value, pair, may) = some in
+    none.several cell value (record {
       inside = forced.inside;
       empty = forced.empty;
       only = record {
-        low = some.1.low;
-        high = some.1.high;
-        left = some.2;
-        alone = λ u low high left. is u low high left ∙ sym (is some.0 some.1.low some.1.high some.2);
+        low = pair.low;
+        high = pair.high;
+        left = may;
+        alone = λ u low high left. is u low high left ∙ sym (is value pair.low pair.high may);
       };
     })
 
@@ -82,13 +83,13 @@ deduced_hint p Strikes g c Contradiction narrowed have never = absurd never
 
 pub deduced_sound : (p : Puzzle) (Strikes : CandidatesValue → ℕ → ℕ → Type 0) (g : GridValue) (c : CandidatesValue) (found : Hint) → g.size ≡ p.size
     → IsSoonestHint g c found → IsDeduced p Strikes g found → IsSound p g found
-deduced_sound p Strikes g c (Follows cell value) size h d =
-    soonest_follows p g d.1.start d.0 cell value d.1.of_grid size d.1.less d.1.keeps d.2
+deduced_sound p Strikes g c (Follows cell value) size h (left, narrowed, soonest) =
+    soonest_follows p g narrowed.start left cell value narrowed.of_grid size narrowed.less narrowed.keeps soonest
 deduced_sound p Strikes g c Nothing size h d = tt
 deduced_sound p Strikes g c Contradiction size never d = absurd never
 
 pub none_forced_at : (p : Puzzle) (Strikes : CandidatesValue → ℕ → ℕ → Type 0) (g : GridValue) (cell : ℕ) (found : Hint) → found ≡ Nothing
     → IsDeduced p Strikes g found → IsForced Strikes g cell → ⊥
 none_forced_at p Strikes g cell found is d forced =
-    let at = subst (λ (h : Hint). IsDeduced p Strikes g h) is d in
-    none_forced p Strikes g at.0 cell at.1 at.2 forced
+    let (c, narrowed, none) = subst (λ (h : Hint). IsDeduced p Strikes g h) is d in
+    none_forced p Strikes g c cell narrowed none forced

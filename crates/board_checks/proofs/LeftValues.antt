@@ -23,5 +23,5 @@ values_below_more c cell set n below of has = record {
 -- a square whose set is empty has none
 pub lacks_values : (c : CandidatesValue) (cell set : ℕ) → cell < c.size * c.size → IsSetOf c cell set → IsEmpty set → HaveValues c → ⊥
 lacks_values c cell set inside of empty have =
-    let here = have.each cell inside in
-    both_ways (has_number set here.0) (empty here.0) ((of here.0).1 (here.1, here.2))
+    let (n, pair, has) = have.each cell inside in
+    both_ways (has_number set n) (empty n) ((of n).1 (pair, has))

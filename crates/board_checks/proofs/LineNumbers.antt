@@ -22,8 +22,8 @@ once_at_most v (x ∷ xs) apart =
     elim (cases_eq x v) [
       | inl here ↦ elim (cases_lt 0 (times_in v xs)) [
         | inl again ↦
-            let found = place_of_counted v xs again in
-            absurd (apart 0 (suc found.0) 0 (omega arith) (omega (arith, found.1)) (here ∙ sym found.2))
+            let (k, inside, is) = place_of_counted v xs again in
+            absurd (apart 0 (suc k) 0 (omega arith) (omega (arith, inside)) (here ∙ sym is))
         | inr none ↦ rw (step, eq-eqb x v here) (omega arith)
       ]
       | inr other ↦

@@ -49,16 +49,16 @@ above_least n x low keeps = elim (cases_eq n 0) [
 
 pair_filling : (w a b x y : ℕ) → (1 ≤ x) × (x ≤ w) × (0 < a → x ≡ a) → (1 ≤ y) × (y ≤ w) × (0 < b → y ≡ b) → x ≢ y
     → IsFillingIn w (a ∷ b ∷ []) (x ∷ y ∷ [])
-pair_filling w a b x y first second apart = record {
+pair_filling w a b x y (low_x, high_x, keeps_x) (low_y, high_y, keeps_y) apart = record {
   same_length = refl;
   keeps = keeps;
-  within = two_all (λ n. (1 ≤ n) × (n ≤ w)) x y (first.0, first.1) (second.0, second.1);
+  within = two_all (λ n. (1 ≤ n) × (n ≤ w)) x y (low_x, high_x) (low_y, high_y);
   apart = two_pairs (λ a b. a ≢ b) x y apart;
 }
   where
     keeps : (k : ℕ) → k < length (a ∷ b ∷ []) → 0 < get_or (a ∷ b ∷ []) k 0 → get_or (x ∷ y ∷ []) k 0 ≡ get_or (a ∷ b ∷ []) k 0
-    keeps zero low some = first.2 some
-    keeps (suc zero) low some = second.2 some
+    keeps zero low some = keeps_x some
+    keeps (suc zero) low some = keeps_y some
     keeps (suc (suc k)) low some = absurd (omega arith)
 
 -- ---- a sign
@@ -132,8 +132,8 @@ ordered_second v a b valid order h = elim (greater_next v b a valid h) [
 present_broken : (g : GridValue) (s : Sign) (a b : ℕ) → is_present s ≡ true → IsSignBroken g s a b ↔ IsBroken g (sign_demand s a b)
 present_broken g s a b present = (
   λ h.
-      let there = cond_some (is_present s) (sign_demand s a b) h.0 h.1 in
-      subst (IsBroken g) (sym there.1) h.2,
+      let (d, says, broken) = h in
+      let (there, is) = cond_some (is_present s) (sign_demand s a b) d says in subst (IsBroken g) (sym is) broken,
   λ broken. (sign_demand s a b, rw present refl, broken),
 )
 
@@ -176,10 +176,10 @@ pub right_broken : (v : UnequalValue) (g : GridValue) (cell : ℕ)
     → IsBrokenAt (unequal_demand v) g (RightOf cell) ↔ IsSignBroken g (sign_between v cell (cell + 1)) cell (cell + 1)
 right_broken v g cell =
     let same = right_demand v cell in
-    (λ h. (h.0, same ∙ h.1, h.2), λ h. (h.0, sym same ∙ h.1, h.2))
+    (λ h. let (d, says, broken) = h in (d, same ∙ says, broken), λ h. let (d, says, broken) = h in (d, sym same ∙ says, broken))
 
 pub below_broken : (v : UnequalValue) (g : GridValue) (cell : ℕ) → 3 ≤ v.size
     → IsBrokenAt (unequal_demand v) g (Below cell) ↔ IsSignBroken g (sign_between v cell (cell + v.size)) cell (cell + v.size)
 below_broken v g cell small =
     let same = below_demand v cell small in
-    (λ h. (h.0, same ∙ h.1, h.2), λ h. (h.0, sym same ∙ h.1, h.2))
+    (λ h. let (d, says, broken) = h in (d, same ∙ says, broken), λ h. let (d, says, broken) = h in (d, sym same ∙ says, broken))

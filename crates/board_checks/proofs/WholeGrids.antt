@@ -68,10 +68,10 @@ completion_fills p g h d size c on =
 
 pub never_broken : (p : Puzzle) (demand : Spot → Option Demand) (g h : GridValue) (spot : Spot) → AreDemandsOf p demand
     → g.size ≡ p.size → Completes p g h → IsBrokenAt demand g spot → ⊥
-never_broken p demand g h spot laws size c b =
+never_broken p demand g h spot laws size c (d, demanded, broken) =
     let s = c.0 in
-    let met = (laws.all h s.is_grid (latin_full h s.latin) s.same_size).0 s.clues spot b.0 b.1 in
-    b.2 (numbers_of h b.0) (completion_fills p g h b.0 size c (laws.lines spot b.0 b.1)) met
+    let met = (laws.all h s.is_grid (latin_full h s.latin) s.same_size).0 s.clues spot d demanded in
+    broken (numbers_of h d) (completion_fills p g h d size c (laws.lines spot d demanded)) met
 
 -- ---- a full grid
 
