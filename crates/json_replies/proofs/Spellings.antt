@@ -89,9 +89,9 @@ pub record ListsFit {P : Type 0} (b : BoardFacts P) : Type 0 where
 -- what is told in answer
 pub told_fits : {P : Type 0} (f : GameFacts P) (b : BoardFacts P) → ListsFit b → (h : History P) (which : FurtherLine) (answer : Data)
     → IsAnswer f b h which answer → Fits 3 answer
-told_fits f b fit h Board answer told =
+told_fits f b fit h Board answer (e, are, is) =
     let shown = shown_board f h in
-    subst (Fits 3) (sym told.2) (board_fits (f.rules.puzzle h.puzzle) shown told.0 (b.clues h.puzzle shown told.0) (b.signs h.puzzle shown told.0)
-    (fit.clues h.puzzle shown told.0) (fit.signs h.puzzle shown told.0))
-told_fits f b fit h Completable answer told = subst (Fits 3) (sym told.2) (answer_fits told.0)
-told_fits f b fit h AskHint answer told = subst (Fits 3) (sym told.4) (hint_fits told.0)
+    subst (Fits 3) (sym is) (board_fits (f.rules.puzzle h.puzzle) shown e (b.clues h.puzzle shown e) (b.signs h.puzzle shown e)
+    (fit.clues h.puzzle shown e) (fit.signs h.puzzle shown e))
+told_fits f b fit h Completable answer (found, fits, is) = subst (Fits 3) (sym is) (answer_fits found)
+told_fits f b fit h AskHint answer (hint, sound, deduced, strong, is) = subst (Fits 3) (sym is) (hint_fits hint)

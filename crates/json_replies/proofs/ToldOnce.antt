@@ -140,9 +140,9 @@ further_not_lost : {P : Type 0} (f : GameFacts P) (b : BoardFacts P) (which : Fu
     → IsFurtherLine f b which new bytes → bytes ≡ lost_line → ⊥
 further_not_lost f b which None bytes told lost =
     reply_not_lost (Some (codes "NoGame")) (refusal_line (codes "NoGame")) null bytes told lost
-further_not_lost f b which (Some h) bytes told lost =
+further_not_lost f b which (Some h) bytes (answer, is, line) lost =
     let others = reply_members None [] (game_data f h) in
-    other_letter which (key_apart (object (member (further_key which) told.0 others)) (first_letter which) bytes told.2 (answer_begins which told.0 others) lost)
+    other_letter which (key_apart (object (member (further_key which) answer others)) (first_letter which) bytes line (answer_begins which answer others) lost)
 
 pub objects_are_not_lost : {P : Type 0} (f : GameFacts P) (b : BoardFacts P) → ObjectsAreNotLost f b
 objects_are_not_lost f b = record {

@@ -102,7 +102,7 @@ hint_told {P} f b h puzzle g hint which answer asked is shown sound deduced stro
     let F : P → GridValue → Type 0 = λ x y. IsSound (f.rules.puzzle x) y hint × IsDeduced (f.rules.puzzle x) (b.strikes x) y hint
     × ((cell : ℕ) → IsForced (b.strikes x) y cell → hint ≢ Nothing) in
     let all : F h.puzzle (grid_of (shown_board f h)) = subst (F h.puzzle) shown (subst (λ x. F x g) is (sound, deduced, strong)) in
-    subst (λ w. IsAnswer f b h w answer) (sym asked) (hint, all.0, all.1, all.2, told)
+    let (sound', deduced', strong') = all in subst (λ w. IsAnswer f b h w answer) (sym asked) (hint, sound', deduced', strong', told)
 
 -- the answer of the board
 pub board_told : {P : Type 0} (f : GameFacts P) (b : BoardFacts P) (h : History P) (puzzle : P) (g : GridValue) (board : BoardValue) (e : ErrorsValue)

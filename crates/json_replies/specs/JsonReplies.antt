@@ -1,5 +1,5 @@
 -- What is said to a line as JSON, and the session that is left, or none.
-use Rattle.std.specs.Prelude.{◌≡◌, ℕ, List, [], ◌∷◌, Option, Some, None, Ok}
+use Rattle.std.specs.Prelude.{◌≡◌, ℕ, List, [], Option, Some, None, Ok}
 use Rattle.play_midend.specs.Histories.{History}
 use Rattle.puzzle_cli.specs.Lines.{Line}
 use Rattle.puzzle_cli.specs.GameFacts.{GameFacts}

@@ -1,4 +1,5 @@
-//! The laws of what is told as JSON. They speak of what [`Json`](crate::Json) says, so the function here does nothing.
+//! The laws of what is told as JSON. Each is of all that [`Json`](crate::Json) may say, and so no clause of one call, which every caller
+//! would have to carry: they are the contract of a function that does nothing.
 
 ghost use Rattle.json_replies.specs.ReplyLaws.{LinesAreTheReply, ObjectsTellOneReply, ObjectsAreNotLost, AnswersLeave};
 
