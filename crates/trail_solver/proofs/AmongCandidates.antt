@@ -27,6 +27,7 @@ at_from_kept p old kept cell value size k inside h s =
     let pair = solution_pair p h old.size cell s.0 size inside in
     (s.0, (within_earlier old kept h k.less s.1, value_one_kept old kept cell value h k pair s.1))
 
+-- and each that has it is
 pub kept_from_at : (p : Puzzle) (old kept : CandidatesValue) (cell value : ℕ) → KeepsOnly old kept cell value → (h : GridValue)
     → IsAmongAt p old cell value h → IsAmong p kept h
 kept_from_at p old kept cell value k h s = (s.0, within_one_kept old kept cell value h k s.1.0 s.1.1)

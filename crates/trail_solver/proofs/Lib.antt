@@ -15,6 +15,7 @@ pub mod GridCandidates
 pub mod AmongCandidates
 pub mod JoinedAnswers
 pub mod SearchSteps
+pub mod ShavingSteps
 pub mod Pigeonholes
 pub mod PairedSquares
 pub mod CrowdSteps

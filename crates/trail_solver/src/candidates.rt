@@ -128,6 +128,11 @@ impl Candidates {
         self.pairs
     }
 
+    // What was removed, in that order.
+    pub(crate) fn removals(&self) -> &[Removal] {
+        self.removals.as_slice()
+    }
+
     // The cell of the pair that was removed last, if any was.
     pub(crate) fn last_cell(&self) -> Option<u8>
         ensures { MatchOption result (self.now.trail ≡ [])

@@ -36,8 +36,8 @@ pub(crate) fn choose(candidates: &Candidates, failures: &Failures) -> Choice
     }
 }
 
-// Whether a value is a candidate of a square, and not the only one.
-fn is_branch(candidates: &Candidates, cell: usize, value: u8) -> bool
+/// Whether a value is a candidate of a square, and not the only one.
+pub(crate) fn is_branch(candidates: &Candidates, cell: usize, value: u8) -> bool
     ensures { OnTrue result (IsBranch candidates.now cell value) }
 {
     let width = candidates.size().get();

@@ -9,26 +9,28 @@ ghost use Rattle.trail_solver.specs.Candidates.{IsEarlier, IsWithin};
 ghost use Rattle.trail_solver.specs.Inner.Pairings.{Covers, IsPairing, LacksRights, NarrowsLatin, OthersLack};
 
 use crate::candidates::Candidates;
+use crate::losses::Losses;
 use crate::matching::{Sides, crowds};
 use crate::pairing::Pairing;
 use number_sets::NumberSet;
 
 /// Takes away what no Latin square of the candidates has by one of the pairings; false where one shows that there is none.
+/// Pairings of which no pair was lost are left out.
 #[tactic(auto, using(crate::proofs::CrowdSteps::narrows_then))]
-pub(crate) fn narrow_by_pairings(candidates: &mut Candidates) -> bool
+pub(crate) fn narrow_by_pairings(candidates: &mut Candidates, losses: &Losses) -> bool
     ensures { NarrowsLatin candidates.old candidates.new result }
 {
-    narrow_by_lines(candidates) && narrow_by_values(candidates)
+    narrow_by_lines(candidates, losses) && narrow_by_values(candidates, losses)
 }
 
 // By the pairings of the lines.
 #[tactic(auto, using(crate::proofs::CrowdSteps::narrows_then, crate::proofs::CrowdSteps::narrows_nothing))]
-fn narrow_by_lines(candidates: &mut Candidates) -> bool
+fn narrow_by_lines(candidates: &mut Candidates, losses: &Losses) -> bool
     ensures { NarrowsLatin candidates.old candidates.new result }
 {
     let width = candidates.size().get();
     for line in 0..2 * width {
-        if !narrow_by_pairing(candidates, Pairing::Line(line)) {
+        if !narrow_where_lost(candidates, Pairing::Line(line), losses) {
             return false;
         }
     }
@@ -37,16 +39,29 @@ fn narrow_by_lines(candidates: &mut Candidates) -> bool
 
 // By the pairings of the values.
 #[tactic(auto, using(crate::proofs::CrowdSteps::narrows_then, crate::proofs::CrowdSteps::narrows_nothing))]
-fn narrow_by_values(candidates: &mut Candidates) -> bool
+fn narrow_by_values(candidates: &mut Candidates, losses: &Losses) -> bool
     ensures { NarrowsLatin candidates.old candidates.new result }
 {
     let width = candidates.size().get();
     for value in 1..width + 1 {
-        if !narrow_by_pairing(candidates, Pairing::Value(value)) {
+        if !narrow_where_lost(candidates, Pairing::Value(value), losses) {
             return false;
         }
     }
     true
+}
+
+// By one pairing, unless none of its pairs was lost.
+#[tactic(auto, using(crate::proofs::CrowdSteps::narrows_nothing))]
+fn narrow_where_lost(candidates: &mut Candidates, pairing: Pairing, losses: &Losses) -> bool
+    requires { IsPairing candidates.old.size pairing }
+    ensures { NarrowsLatin candidates.old candidates.new result }
+{
+    if losses.concern(candidates.size(), pairing) {
+        narrow_by_pairing(candidates, pairing)
+    } else {
+        true
+    }
 }
 
 // By one pairing: each crowd that a matching proposes is counted.

@@ -35,6 +35,8 @@ pub(crate) struct Failures {
     squares: [u16; CELLS],
     total: u32,
     last_guess: Option<usize>,
+    /// How long the trail was when the search looked closer last.
+    pub looked: usize,
 }
 
 impl Failures {
@@ -45,6 +47,7 @@ impl Failures {
             squares: [0; CELLS],
             total: 0,
             last_guess: None,
+            looked: 0,
         }
     }
 
@@ -76,9 +79,14 @@ impl Failures {
         }
     }
 
-    /// Whether the search failed so often that it should look closer.
-    pub fn are_many(&self) -> bool {
-        self.total >= MANY
+    /// Of a search that failed so often that it should look closer: how long the trail was when it did last. Now it is so long.
+    pub fn look_closer(&mut self, length: usize) -> Option<usize> {
+        if self.total < MANY {
+            return None;
+        }
+        let last = self.looked;
+        self.looked = length;
+        Some(last)
     }
 
     /// The count of failures that is reached with so many more.

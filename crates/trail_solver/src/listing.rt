@@ -132,13 +132,13 @@ impl<P: Rules> Listing<P> {
         if !self.search.candidates.may(cell, value) {
             return Ok(());
         }
-        let mark = self.search.candidates.mark();
+        let place = self.search.place();
         let done = if self.search.assume(cell, value) {
             self.list()
         } else {
             Ok(())
         };
-        self.search.candidates.give_back(mark);
+        self.search.go_back(place);
         done
     }
 

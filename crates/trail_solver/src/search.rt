@@ -1,5 +1,5 @@
 //! A search: the rules of a puzzle, the candidates that are left, and where it failed.
-ghost use Rattle.std.specs.Prelude.{◌≡◌, ◌≢◌, ◌*◌, ◌<◌, length, None, MatchOption};
+ghost use Rattle.std.specs.Prelude.{◌≡◌, ◌≢◌, ◌*◌, ◌<◌, ◌≤◌, length, None, MatchOption};
 ghost use Rattle.std.specs.Bool.{OnFalse};
 ghost use Rattle.latin_board.specs.Squares.{GridValue};
 ghost use Rattle.trail_solver.specs.declared.trail.TheConstants.{PAIRS};
@@ -7,12 +7,12 @@ ghost use Rattle.trail_solver.specs.Inner.Squares.{AreSettled, IsBranch};
 ghost use Rattle.trail_solver.specs.Inner.Among.{IsAmong, IsAmongAt};
 ghost use Rattle.trail_solver.specs.Inner.Runs.{RunAdds};
 ghost use Rattle.trail_solver.specs.declared.answer.Answer.{Answer};
-ghost use Rattle.trail_solver.specs.Inner.Searches.{AreSame, IsFurther};
+ghost use Rattle.trail_solver.specs.Inner.Searches.{AreSame, IsFurther, SearchValue};
 ghost use Rattle.trail_solver.specs.Inner.Added.{Adds};
 ghost use Rattle.trail_solver.specs.Answers.{Fits};
 
 use crate::answer::{Answer, added};
-use crate::candidates::Candidates;
+use crate::candidates::{Candidates, Mark};
 use crate::choice::{Choice, choose};
 use crate::failures::{Failures, Side};
 use crate::narrowing::narrow_after;
@@ -23,11 +23,19 @@ use std::marker::Model;
 /// How many failures each run may have that is left for another one. The last run has no limit.
 const RUN_LIMITS: [u32; 3] = [100, 150, 225];
 
+/// A place to which a search can go back.
+#[derive(Clone, Copy)]
+pub(crate) struct Place {
+    pub mark: Mark,
+    /// How long the trail was when the search looked closer last.
+    looked: usize,
+}
+
 /// A search for the solutions of a puzzle.
 ///
 /// It narrows the candidates, tries a value in a square, gives that back, goes on without the value, and stops at the
 /// second solution. A run that fails too often is left, and the search begins anew with the failures that it has counted, so
-/// that it branches elsewhere. It takes no memory.
+/// that it branches elsewhere; before the last run, which has no limit, the candidates are shaved. It takes no memory.
 #[derive(Drop)]
 pub(crate) struct Search<P: Rules> {
     pub rules: P,
@@ -116,13 +124,13 @@ impl<P: Rules> Search<P> {
         ensures adds { RunAdds (IsAmongAt (P.puzzle self.old.rules) self.old.candidates cell value)
             limit result found.old found.new }
     {
-        let mark = self.candidates.mark();
+        let place = self.place();
         let all = if self.assume(cell, value) {
             self.run(found, limit)
         } else {
             true
         };
-        self.candidates.give_back(mark);
+        self.go_back(place);
         all
     }
 
@@ -132,10 +140,10 @@ impl<P: Rules> Search<P> {
         ensures fits { MatchOption result (limit ≢ None)
             (Fits (IsAmong (P.puzzle self.old.rules) self.old.candidates)) }
     {
-        let mark = self.candidates.mark();
+        let place = self.place();
         let mut found = Answer::None;
         let all = self.run(&mut found, limit);
-        self.candidates.give_back(mark);
+        self.go_back(place);
         if all { Some(found) } else { None }
     }
 
@@ -150,6 +158,37 @@ impl<P: Rules> Search<P> {
                 return answer;
             }
         }
+        self.last_answer()
+    }
+
+    // The same of a search that had all its limited runs: once the candidates are shaved, one run goes through all.
+    fn last_answer(&mut self) -> Answer
+        ensures same { self.new ≡ self.old }
+        ensures fits { Fits (IsAmong (P.puzzle self.old.rules) self.old.candidates) result }
+    {
+        let place = self.place();
+        let answer = self.shaved_answer();
+        self.go_back(place);
+        answer
+    }
+
+    // The same, where what shaving takes away stays away.
+    fn shaved_answer(&mut self) -> Answer
+        ensures further { IsFurther self.old self.new }
+        ensures fits { Fits (IsAmong (P.puzzle self.old.rules) self.old.candidates) result }
+    {
+        if self.shave() {
+            self.whole_answer()
+        } else {
+            Answer::None
+        }
+    }
+
+    // The same by one run without a limit.
+    fn whole_answer(&mut self) -> Answer
+        ensures same { self.new ≡ self.old }
+        ensures fits { Fits (IsAmong (P.puzzle self.old.rules) self.old.candidates) result }
+    {
         match self.attempt(None) {
             Some(answer) => answer,
             None => unreachable!(),
@@ -182,8 +221,7 @@ impl<P: Rules> Search<P> {
         self.propagate(cell, Side::Guess)
     }
 
-    // Narrows candidates that the cell lost, and notes where that failed.
-    #[tactic(auto, using(crate::proofs::AmongCandidates::among_narrowed, crate::proofs::AmongCandidates::among_earlier))]
+    // Narrows after the cell lost candidates, and notes where that failed.
     fn propagate(&mut self, cell: usize, side: Side) -> bool
         requires { cell < self.old.candidates.size * self.old.candidates.size }
         ensures further { IsFurther self.old self.new }
@@ -192,12 +230,45 @@ impl<P: Rules> Search<P> {
         ensures refutes { OnFalse result ((g : GridValue)
             → IsAmong (P.puzzle self.old.rules) self.old.candidates g → ⊥) }
     {
-        let closer = self.failures.are_many();
-        let left = narrow_after(&self.rules, &mut self.candidates, cell, closer);
+        let left = self.narrow_after(cell);
         if !left {
             self.failures.note(&self.candidates, cell, side);
         }
         left
+    }
+
+    /// Narrows after the cell lost candidates; false where that finds that no solution is left.
+    #[tactic(auto, using(crate::proofs::AmongCandidates::among_narrowed, crate::proofs::AmongCandidates::among_earlier))]
+    pub fn narrow_after(&mut self, cell: usize) -> bool
+        requires { cell < self.old.candidates.size * self.old.candidates.size }
+        ensures further { IsFurther self.old self.new }
+        ensures same { AreSame (IsAmong (P.puzzle self.old.rules) self.old.candidates)
+            (IsAmong (P.puzzle self.new.rules) self.new.candidates) }
+        ensures refutes { OnFalse result ((g : GridValue)
+            → IsAmong (P.puzzle self.old.rules) self.old.candidates g → ⊥) }
+    {
+        narrow_after(&self.rules, &mut self.candidates, &mut self.failures, cell)
+    }
+
+    /// The place where the search is, to come back to.
+    pub fn place(&self) -> Place
+        ensures { result.mark ≡ length self.now.candidates.trail }
+    {
+        Place {
+            mark: self.candidates.mark(),
+            looked: self.failures.looked,
+        }
+    }
+
+    /// Goes back to a place: each pair that was removed since is given back. The place isn't beyond where the search is.
+    #[tactic(auto, using(crate::proofs::SearchSteps::given_back))]
+    pub fn go_back(&mut self, place: Place)
+        requires { place.mark ≤ length self.old.candidates.trail }
+        ensures { (earlier : SearchValue P) → IsFurther earlier self.old
+            → place.mark ≡ length earlier.candidates.trail → self.new ≡ earlier }
+    {
+        self.candidates.give_back(place.mark);
+        self.failures.looked = place.looked;
     }
 
     // Adds the only grid of the candidates, where it is a solution. It isn't inlined, so that the grid takes no room in the

@@ -1,7 +1,10 @@
 -- What contracts see of a search.
-use Rattle.std.specs.Prelude.{◌≡◌, ◌↔◌}
+use Rattle.std.specs.Prelude.{◌≡◌, ◌↔◌, Bool}
+use Rattle.std.specs.Bool.{OnFalse}
 use Rattle.latin_board.specs.Squares.{GridValue}
 use Rattle.trail_solver.specs.Candidates.{CandidatesValue, IsEarlier}
+use Rattle.trail_solver.specs.Puzzles.{Puzzle}
+use Rattle.trail_solver.specs.Inner.Among.{IsAmong}
 
 -- the rules of a puzzle, and the candidates that are left in its squares; where the search failed isn't seen
 pub record SearchValue (P : Type 0) : Type 0 where
@@ -16,3 +19,9 @@ pub record IsFurther {P : Type 0} (earlier later : SearchValue P) : Type 0 where
 -- the same grids
 abbrev pub AreSame : (GridValue → Type 0) → (GridValue → Type 0) → Type 0
 AreSame A B = (g : GridValue) → A g ↔ B g
+
+-- pairs went that no solution among the candidates has; false tells that there is none
+pub record NarrowsSearch {P : Type 0} (puzzle : P → Puzzle) (old new : SearchValue P) (result : Bool) : Type 0 where
+  pub further : IsFurther old new
+  pub same : AreSame (IsAmong (puzzle old.rules) old.candidates) (IsAmong (puzzle new.rules) new.candidates)
+  pub refutes : OnFalse result ((g : GridValue) → IsAmong (puzzle old.rules) old.candidates g → ⊥)

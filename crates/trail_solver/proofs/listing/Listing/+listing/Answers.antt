@@ -1,11 +1,10 @@
-use Rattle.std.proofs.Common.{rules, ◌≡◌, ℕ, refl, sym, ◌∙◌, subst, OnOk, arith}
+use Rattle.std.proofs.Common.{rules, ◌≡◌, ℕ, refl, ◌∙◌, arith}
 use Rattle.std.proofs.lemmas.Bool.{OnFalse_at, OnTrue_at}
 use Rattle.std.proofs.lemmas.Result.{on_ok_weaker}
 use Rattle.trail_solver.specs.Inner.Among.{IsAmong, IsAmongAt}
 use Rattle.trail_solver.specs.Inner.Searches.{SearchValue, IsFurther}
 use Rattle.trail_solver.specs.Inner.Listed.{Lists}
-use Rattle.trail_solver.specs.declared.listing.Listing.{Listing}
-use Rattle.trail_solver.proofs.SearchSteps.{further_trans, given_back}
+use Rattle.trail_solver.proofs.SearchSteps.{further_trans}
 use Rattle.trail_solver.proofs.ListedSolutions.{lists_same}
 use Rattle.trail_solver.proofs.ListingSteps.{none_lists, value_lists_none, value_lists_more, value_lists_all}
 use Rattle.trail_solver.proofs.listing.Listing.+listing.Goals as goal
@@ -51,11 +50,7 @@ list_guess-returns-clause-same g t c =
       | list_guess-then-assume w ↦ rw w.self-is (further_trans old c.assume.new.self w.list-done.new.self.search c.assume.ensures.further w.list-done.ensures.further)
       | list_guess-else-assume w ↦ rw w.self-is c.assume.ensures.further
     ] in
-    let inside = c.self-2.inside.0.0 in
-    let P : Listing _ → Type 0 = λ l. IsFurther old l.search in
-    let last : SearchValue _ = record { rules = inside.rules; candidates = inside.candidates } in
-    let all : IsFurther old last = subst P (sym c.self-2.view_is) further in
-    given_back old last c.give_back.new.self all (c.give_back.ensures.restores old.candidates all.less (rw (← c.self.view_is) c.mark-mark.ensures))
+    c.go_back.ensures old further c.place-place.ensures
 
 pub list_guess-returns-clause-lists : goal.list_guess-returns-clause-lists
 list_guess-returns-clause-lists g t c =
@@ -66,11 +61,9 @@ list_guess-returns-clause-lists g t c =
     let Among = IsAmong (g.P.Rules.puzzle new.rules) new.candidates in
     let same = c.assume.ensures.same in
     let xs = first.listed.items in
-    let Leaves : Listing _ → Type 0 = λ l. OnOk c.if-assume.done (Lists At first.limit xs l.listed.items) in
-    let leaves : Leaves c.if-assume.self = elim c.if-assume.branch [
+    elim c.if-assume.branch [
       | list_guess-then-assume w ↦ (let ys = w.list-done.new.self.listed.items in
           rw (w.done-is, w.self-is) (on_ok_weaker w.list-done.result (λ (l : Lists Among first.limit xs ys).
           lists_same Among At first.limit xs ys (λ h. (same h).1) (λ h. (same h).0) l) w.list-done.ensures.lists))
       | list_guess-else-assume w ↦ rw (w.done-is, w.self-is) (none_lists At first.limit xs (OnFalse_at w.if-assume.false c.assume.ensures.refutes))
-    ] in
-    subst Leaves (sym c.self-2.view_is) leaves
+    ]

@@ -1,0 +1,48 @@
+-- The steps of shaving: what each does to the solutions among the candidates.
+use Rattle.std.proofs.Common.{ℕ, Bool, true, false, refl}
+use Rattle.latin_board.specs.Squares.{GridValue}
+use Rattle.trail_solver.specs.Candidates.{CandidatesValue}
+use Rattle.trail_solver.specs.Puzzles.{Puzzle}
+use Rattle.trail_solver.specs.Inner.Among.{IsAmongAt}
+use Rattle.trail_solver.specs.Inner.Searches.{SearchValue, NarrowsSearch}
+use Rattle.trail_solver.proofs.AmongCandidates.{among_earlier}
+use Rattle.trail_solver.proofs.Earlier.{earlier_refl}
+use Rattle.trail_solver.proofs.OneKept.{Removes, removed_earlier}
+use Rattle.trail_solver.proofs.SearchSteps.{further_trans, within_removed}
+
+-- no pair went
+pub shaves_nothing : {P : Type 0} (puzzle : P → Puzzle) (s : SearchValue P) → NarrowsSearch puzzle s s true
+shaves_nothing puzzle s = record {
+  further = record { rules = refl; less = earlier_refl s.candidates };
+  same = λ h. (λ m. m, λ m. m);
+  refutes = tt;
+}
+
+-- pairs went, and then more
+pub shaves_then : {P : Type 0} (puzzle : P → Puzzle) (a b c : SearchValue P) (result : Bool) → NarrowsSearch puzzle a b true
+    → NarrowsSearch puzzle b c result → NarrowsSearch puzzle a c result
+shaves_then puzzle a b c true n m = record {
+  further = further_trans a b c n.further m.further;
+  same = λ h. (λ x. (m.same h).0 ((n.same h).0 x), λ x. (n.same h).1 ((m.same h).1 x));
+  refutes = tt;
+}
+shaves_then puzzle a b c false n m = record {
+  further = further_trans a b c n.further m.further;
+  same = λ h. (λ x. (m.same h).0 ((n.same h).0 x), λ x. (n.same h).1 ((m.same h).1 x));
+  refutes = λ h x. m.refutes h ((n.same h).0 x);
+}
+
+-- a pair went that no solution has
+pub shaves_refuted : {P : Type 0} (puzzle : P → Puzzle) (old : SearchValue P) (next : CandidatesValue) (cell value : ℕ)
+    → Removes old.candidates next cell value → ((h : GridValue) → IsAmongAt (puzzle old.rules) old.candidates cell value h → ⊥)
+    → NarrowsSearch puzzle old (record { rules = old.rules; candidates = next }) true
+shaves_refuted puzzle old next cell value r refuted =
+    let less = removed_earlier old.candidates next cell value r in
+    record {
+      further = record { rules = refl; less = less };
+      same = λ h. (
+        λ m. (m.0, within_removed old.candidates next cell value h r m.1 (λ e. refuted h (m.0, (m.1, e)))),
+        λ m. among_earlier (puzzle old.rules) old.candidates next less h m,
+      );
+      refutes = tt;
+    }
