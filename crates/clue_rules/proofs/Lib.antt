@@ -1,4 +1,5 @@
 pub mod CluePartLemmas
+pub mod DeniedItems
 pub mod FilledLemmas
 pub mod GameIdLemmas
 pub mod GivensFilled

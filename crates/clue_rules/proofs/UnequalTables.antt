@@ -1,6 +1,7 @@
 -- The signs of an Unequal puzzle as two tables of 81 places: one item less.
-use Rattle.std.proofs.Common.{◌≡◌, ℕ, ◌+◌, ◌*◌, ◌<◌, Bool, true, false, nat_lt, not, List, set, take, refl, sym, ap, ◌∙◌, inl, inr, arith, ◌==◌, slice_index_or}
+use Rattle.std.proofs.Common.{◌≡◌, ℕ, ◌+◌, ◌*◌, ◌<◌, Bool, true, false, nat_lt, not, List, set, take, length, length-set, arith, refl, sym, ap, ◌∙◌, inl, inr, ◌==◌, slice_index_or}
 use Rattle.std.proofs.Math.Seq.{take-set-lt}
+use Rattle.std.proofs.lemmas.List.{drop-set-lt, get_or-set_same, get_or-set_other, length-take}
 use Rattle.std.proofs.lemmas.Bool.{eq-eqb, ne_eqb, cases_eq}
 use Rattle.clue_rules.specs.declared.unequal.direction.Direction.{Direction}
 use Rattle.clue_rules.specs.declared.unequal.item.Item.{Item}
@@ -8,8 +9,8 @@ use Rattle.clue_rules.specs.declared.unequal.item.Item.TheVariants.{RightSign, L
 use Rattle.clue_rules.specs.declared.unequal.sign.Sign.{Sign}
 use Rattle.clue_rules.specs.declared.unequal.sign.Sign.TheVariants.{Absent}
 use Rattle.clue_rules.specs.Items.{kept_items}
-use Rattle.clue_rules.specs.Inner.UnequalFields.{HoldsSignsOf}
-use Rattle.clue_rules.specs.Inner.UnequalItems.{item_cell, without_item}
+use Rattle.clue_rules.specs.Inner.UnequalFields.{HoldsSignsOf, KeepsSigns}
+use Rattle.clue_rules.specs.Inner.UnequalItems.{item_cell, turned_sign, without_item}
 use Rattle.clue_rules.specs.Unequal.{UnequalValue, IsUnequal, cut_unequal, item_at, item_number, has_item, is_present, sign_towards, signs_towards}
 use Rattle.clue_rules.specs.Laws.KeptItems.{kept-all, kept-same, not_positive}
 use Rattle.clue_rules.specs.Laws.UnequalItems.{number_of_item_at, has_is_item, not_present}
@@ -17,8 +18,27 @@ use Rattle.clue_rules.specs.Laws.Signs.{none_at_end}
 use Rattle.clue_rules.proofs.FilledLemmas.{IsFilledBy, filled_more}
 use Rattle.clue_rules.proofs.KeptItemLemmas.{kept-but_one}
 
-pub emptied_front : (n : ℕ) (places : List Sign) (cell : ℕ) → cell < n → take n (set places cell Absent) ≡ set (take n places) cell Absent
-emptied_front n places cell inside = take-set-lt n places cell Absent inside
+-- the front with one sign set
+pub sign_in_front : (n : ℕ) (places : List Sign) (cell : ℕ) (s : Sign) → cell < n → take n (set places cell s) ≡ set (take n places) cell s
+sign_in_front n places cell s inside = take-set-lt n places cell s inside
+
+-- a sign that is turned round stands where one stood
+pub turned_kept : (w : ℕ) (d : Direction) (places : List Sign) (cell : ℕ) (s t : Sign) → cell < w * w → KeepsSigns w d places
+    → s ≡ slice_index_or (take (w * w) places) cell Absent → t ≡ turned_sign s → KeepsSigns w d (set places cell t)
+turned_kept w d places cell s t inside kept is turn = record {
+  padded = record {
+    count = length-set places cell t ∙ kept.padded.count;
+    within = kept.padded.within;
+    rest = drop-set-lt (w * w) places cell t inside ∙ kept.padded.rest;
+  };
+  ends = λ k none. rw (sign_in_front (w * w) places cell t inside) (elim (cases_eq k cell) [
+    | inl same ↦
+        let gone : s ≡ Absent = is ∙ rw same at (kept.ends k none) in
+        let count : cell < length (take (w * w) places) = omega (arith, length-take (w * w) places, kept.padded.count, kept.padded.within) in
+        rw (same, get_or-set_same (take (w * w) places) cell t Absent count) (turn ∙ ap turned_sign gone)
+    | inr other ↦ rw (get_or-set_other (take (w * w) places) cell k t Absent other) (kept.ends k none)
+  ]);
+}
 
 -- to take the item of a number away is to keep all others
 

@@ -3,15 +3,14 @@
 ghost use Rattle.std.specs.Prelude.{◌≡◌, ◌<◌, ◌⊎◌, length, slice_index};
 ghost use Rattle.std.specs.Bool.{OnTrue, OnFalse};
 ghost use Rattle.latin_board.specs.Squares.{IsLatin};
-ghost use Rattle.trail_solver.specs.Puzzles.{Solves};
 ghost use Rattle.puzzle_gen.specs.Orders.{IsOrder};
-ghost use Rattle.trail_solver.specs.Solutions.{HasSeveralSolutions};
+ghost use Rattle.trail_solver.specs.Solutions.{HasSeveralSolutions, IsOnlySolution};
 ghost use Rattle.puzzle_gen.specs.Pruning.{all_but};
 ghost use Rattle.puzzle_gen.specs.Inner.OnePruned.{IsOnePruned};
 
 use crate::forced_squares::is_forced;
 use latin_board::Grid;
-use trail_solver::{Answer, Rules, solve};
+use trail_solver::{Candidates, Rules, has_other};
 
 /// The pruned puzzle of a Latin square, where the items are tried in this order.
 pub(crate) fn pruned<P: Rules>(grid: &Grid, order: &[u8]) -> P
@@ -35,10 +34,10 @@ fn item_at(order: &[u8], k: usize) -> usize
     order[k] as usize
 }
 
-// The puzzle without the item, where that has just one solution, or else the puzzle itself.
+// The puzzle without the item, where that has just one solution, or else the puzzle itself, of which the grid is the only one.
 fn tried<P: Rules>(puzzle: P, grid: &Grid, item: usize) -> P
     requires inside { item < P.items_of (P.puzzle puzzle).size }
-    requires solved { Solves (P.puzzle puzzle) grid.now }
+    requires only { IsOnlySolution (P.puzzle puzzle) grid.now }
     ensures { ((result ≡ puzzle) × HasSeveralSolutions (P.puzzle (P.cut puzzle (all_but item))))
         ⊎ ((result ≡ P.cut puzzle (all_but item))
         × (HasSeveralSolutions (P.puzzle (P.cut puzzle (all_but item))) → ⊥)) }
@@ -46,25 +45,25 @@ fn tried<P: Rules>(puzzle: P, grid: &Grid, item: usize) -> P
     let _size = puzzle.size();
     let mut fewer = puzzle;
     fewer.drop_item(item);
-    if has_several(&fewer, grid) {
+    if is_forced(&fewer, grid) {
+        return fewer;
+    }
+    if is_needed(&puzzle, grid, item) {
         puzzle
     } else {
         fewer
     }
 }
 
-// Whether two different grids solve the puzzle; the grid is one that does.
-fn has_several<P: Rules>(puzzle: &P, grid: &Grid) -> bool
-    requires { Solves (P.puzzle puzzle.now) grid.now }
-    ensures several { OnTrue result (HasSeveralSolutions (P.puzzle puzzle.now)) }
-    ensures one { OnFalse result (HasSeveralSolutions (P.puzzle puzzle.now) → ⊥) }
+// Whether two different grids solve the puzzle without the item; the grid is the only solution with it. A second one doesn't
+// meet the item, so it is sought where the item is denied.
+fn is_needed<P: Rules>(puzzle: &P, grid: &Grid, item: usize) -> bool
+    requires inside { item < P.items_of (P.puzzle puzzle.now).size }
+    requires only { IsOnlySolution (P.puzzle puzzle.now) grid.now }
+    ensures several { OnTrue result (HasSeveralSolutions (P.puzzle (P.cut puzzle.now (all_but item)))) }
+    ensures one { OnFalse result (HasSeveralSolutions (P.puzzle (P.cut puzzle.now (all_but item))) → ⊥) }
 {
-    if is_forced(puzzle, grid) {
-        return false;
-    }
-    match solve(puzzle) {
-        Answer::None => false,
-        Answer::One(_) => false,
-        Answer::Several(_, _) => true,
-    }
+    let mut candidates = Candidates::all(puzzle.size());
+    let denied = puzzle.deny_item(item, &mut candidates);
+    has_other(&denied, candidates, grid)
 }

@@ -1,11 +1,11 @@
 -- Which solutions are among candidates as these change.
-use Rattle.std.proofs.Common.{◌≡◌, ℕ, ◌*◌, ◌<◌, true, false, subst}
+use Rattle.std.proofs.Common.{◌≡◌, ◌≢◌, ℕ, ◌*◌, ◌<◌, true, false, subst}
 use Rattle.std.proofs.lemmas.Bool.{both_ways}
 use Rattle.latin_board.specs.Squares.{GridValue}
 use Rattle.trail_solver.specs.Candidates.{CandidatesValue, IsEarlier, may_be}
 use Rattle.trail_solver.specs.Inner.Squares.{IsFilled, KeepsOnly}
 use Rattle.trail_solver.specs.Puzzles.{Puzzle, Solves}
-use Rattle.trail_solver.specs.Solutions.{KeepsSolutions}
+use Rattle.trail_solver.specs.Solutions.{KeepsSolutions, HasOtherWithin}
 use Rattle.trail_solver.specs.Inner.Among.{IsAmong, IsAmongAt}
 use Rattle.trail_solver.proofs.Earlier.{within_earlier}
 use Rattle.trail_solver.proofs.FilledGrids.{solution_pair, only_filled}
@@ -45,3 +45,13 @@ pub none_where_filled : (p : Puzzle) (c : CandidatesValue) (g : GridValue) → c
 none_where_filled p c g size filled n h m =
     let P : GridValue → Type 0 = λ k. Solves p k in
     n (subst P (only_filled p c g h size filled m.0 m.1) m.0)
+
+-- one that joined a known grid is another
+pub other_among : (p : Puzzle) (c : CandidatesValue) (g first second : GridValue) → first ≡ g → IsAmong p c second → first ≢ second
+    → HasOtherWithin p c g
+other_among p c g first second same among differ = record {
+  other = second;
+  solves = among.0;
+  within = among.1;
+  differ = let P : GridValue → Type 0 = λ f. f ≢ second in subst P same differ;
+}

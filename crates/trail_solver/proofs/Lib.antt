@@ -13,6 +13,7 @@ pub mod Fronts
 pub mod FilledGrids
 pub mod GridCandidates
 pub mod AmongCandidates
+pub mod DeniedItems
 pub mod JoinedAnswers
 pub mod SearchSteps
 pub mod ShavingSteps

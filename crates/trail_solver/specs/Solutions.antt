@@ -1,5 +1,5 @@
 -- The solutions of a puzzle: none, several, or just one; and what candidates keep of them.
-use Rattle.std.specs.Prelude.{◌≡◌, ◌≢◌}
+use Rattle.std.specs.Prelude.{◌≡◌, ◌≢◌, ◌⊎◌}
 use Rattle.latin_board.specs.Squares.{GridValue}
 use Rattle.trail_solver.specs.Candidates.{CandidatesValue, IsWithin}
 use Rattle.trail_solver.specs.Puzzles.{Puzzle, Solves}
@@ -28,3 +28,20 @@ KeepsSolutions p old new = (g : GridValue) → Solves p g → IsWithin old g →
 -- no solution is within the candidates
 abbrev pub HasNoSolutionWithin : Puzzle → CandidatesValue → Type 0
 HasNoSolutionWithin p c = (g : GridValue) → Solves p g → IsWithin c g → ⊥
+
+-- a solution within the candidates is another grid than this one
+pub record HasOtherWithin (p : Puzzle) (c : CandidatesValue) (g : GridValue) : Type 0 where
+  pub other : GridValue
+  pub solves : Solves p other
+  pub within : IsWithin c other
+  pub differ : g ≢ other
+
+-- each solution within the candidates is this grid
+abbrev pub HasNoOtherWithin : Puzzle → CandidatesValue → GridValue → Type 0
+HasNoOtherWithin p c g = (h : GridValue) → Solves p h → IsWithin c h → h ≡ g
+
+-- without an item more grids solve a puzzle: within the candidates that are left the denied puzzle has some of these, and each
+-- of those within the old ones that doesn't solve the puzzle itself
+pub record Denies (puzzle without denied : Puzzle) (old new : CandidatesValue) : Type 0 where
+  pub some : (g : GridValue) → Solves denied g → IsWithin new g → Solves without g
+  pub others : (g : GridValue) → Solves without g → IsWithin old g → Solves puzzle g ⊎ (Solves denied g × IsWithin new g)

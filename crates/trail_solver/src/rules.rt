@@ -4,7 +4,7 @@ ghost use Rattle.std.specs.Bool.{OnFalse};
 ghost use Rattle.latin_board.specs.Squares.{GridValue, IsGrid, IsFull, IsLatin, number_at};
 ghost use Rattle.trail_solver.specs.Candidates.{IsEarlier};
 ghost use Rattle.trail_solver.specs.Puzzles.{Puzzle, Solves, HoldsGivens, solves_test};
-ghost use Rattle.trail_solver.specs.Solutions.{HasNoSolutionWithin, KeepsSolutions};
+ghost use Rattle.trail_solver.specs.Solutions.{Denies, HasNoSolutionWithin, KeepsSolutions};
 
 use crate::candidates::Candidates;
 use latin_board::{Grid, Size};
@@ -85,6 +85,26 @@ pub trait Rules: Copy {
     fn drop_item(&mut self, i: usize)
         requires { i < items_of (puzzle self.old).size }
         ensures { self.new ≡ cut self.old (λ j. not (j == i)) };
+
+    /// The puzzle without the item, or one that asks the opposite of it, by its clues or by the candidates that are left: what
+    /// solves the puzzle without the item is a solution of the puzzle itself, or one of these. i is below the count, and the
+    /// sizes are equal.
+    #[tactic(auto, using(crate::proofs::DeniedItems::nothing_denied))]
+    fn deny_item(&self, i: usize, candidates: &mut Candidates) -> Self
+        requires inside { i < items_of (puzzle self.now).size }
+        requires size { candidates.old.size ≡ (puzzle self.now).size }
+        ensures size { (puzzle result).size ≡ (puzzle self.now).size }
+        ensures less { IsEarlier candidates.old candidates.new }
+        ensures denies { Denies (puzzle self.now) (puzzle (cut self.now (λ j. not (j == i))))
+            (puzzle result) candidates.old candidates.new }
+    {
+        // Nothing is denied, whatever the item asks.
+        let _candidates = candidates;
+        let _size = self.size();
+        let mut fewer = *self;
+        fewer.drop_item(i);
+        fewer
+    }
 
     /// The puzzle that has every item, each with the grid's own value; the grid is Latin.
     fn full(grid: &Grid) -> Self

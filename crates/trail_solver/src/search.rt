@@ -134,17 +134,67 @@ impl<P: Rules> Search<P> {
         all
     }
 
-    // How many solutions there are among the candidates, which stay as they are, or nothing where the failures reach the limit.
-    fn attempt(&mut self, limit: Option<u32>) -> Option<Answer>
+    // What is known, with the solutions among the candidates, which stay as they are, or nothing where the failures reach the
+    // limit.
+    fn attempt(&mut self, known: &Answer, limit: Option<u32>) -> Option<Answer>
         ensures same { self.new ≡ self.old }
-        ensures fits { MatchOption result (limit ≢ None)
-            (Fits (IsAmong (P.puzzle self.old.rules) self.old.candidates)) }
+        ensures adds { MatchOption result (limit ≢ None)
+            (Adds (IsAmong (P.puzzle self.old.rules) self.old.candidates) known.now) }
     {
         let place = self.place();
-        let mut found = Answer::None;
+        let mut found = *known;
         let all = self.run(&mut found, limit);
         self.go_back(place);
         if all { Some(found) } else { None }
+    }
+
+    /// What is known, with the solutions among the candidates, which stay as they are. It ends at the second one.
+    pub fn answer_with(&mut self, known: &Answer) -> Answer
+        ensures same { self.new ≡ self.old }
+        ensures adds { Adds (IsAmong (P.puzzle self.old.rules) self.old.candidates) known.now result }
+    {
+        for more in RUN_LIMITS {
+            let limit = self.failures.after(more);
+            if let Some(answer) = self.attempt(known, Some(limit)) {
+                return answer;
+            }
+        }
+        self.last_answer(known)
+    }
+
+    // The same of a search that had all its limited runs: once the candidates are shaved, one run goes through all.
+    fn last_answer(&mut self, known: &Answer) -> Answer
+        ensures same { self.new ≡ self.old }
+        ensures adds { Adds (IsAmong (P.puzzle self.old.rules) self.old.candidates) known.now result }
+    {
+        let place = self.place();
+        let answer = self.shaved_answer(known);
+        self.go_back(place);
+        answer
+    }
+
+    // The same, where what shaving takes away stays away.
+    #[tactic(auto, using(crate::proofs::JoinedAnswers::adds_same, crate::proofs::JoinedAnswers::adds_nothing))]
+    fn shaved_answer(&mut self, known: &Answer) -> Answer
+        ensures further { IsFurther self.old self.new }
+        ensures adds { Adds (IsAmong (P.puzzle self.old.rules) self.old.candidates) known.now result }
+    {
+        if self.shave() {
+            self.whole_answer(known)
+        } else {
+            *known
+        }
+    }
+
+    // The same by one run without a limit.
+    fn whole_answer(&mut self, known: &Answer) -> Answer
+        ensures same { self.new ≡ self.old }
+        ensures adds { Adds (IsAmong (P.puzzle self.old.rules) self.old.candidates) known.now result }
+    {
+        match self.attempt(known, None) {
+            Some(answer) => answer,
+            None => unreachable!(),
+        }
     }
 
     /// How many solutions there are among the candidates, which stay as they are.
@@ -152,57 +202,25 @@ impl<P: Rules> Search<P> {
         ensures same { self.new ≡ self.old }
         ensures fits { Fits (IsAmong (P.puzzle self.old.rules) self.old.candidates) result }
     {
-        for more in RUN_LIMITS {
-            let limit = self.failures.after(more);
-            if let Some(answer) = self.attempt(Some(limit)) {
-                return answer;
-            }
-        }
-        self.last_answer()
-    }
-
-    // The same of a search that had all its limited runs: once the candidates are shaved, one run goes through all.
-    fn last_answer(&mut self) -> Answer
-        ensures same { self.new ≡ self.old }
-        ensures fits { Fits (IsAmong (P.puzzle self.old.rules) self.old.candidates) result }
-    {
-        let place = self.place();
-        let answer = self.shaved_answer();
-        self.go_back(place);
-        answer
-    }
-
-    // The same, where what shaving takes away stays away.
-    fn shaved_answer(&mut self) -> Answer
-        ensures further { IsFurther self.old self.new }
-        ensures fits { Fits (IsAmong (P.puzzle self.old.rules) self.old.candidates) result }
-    {
-        if self.shave() {
-            self.whole_answer()
-        } else {
-            Answer::None
-        }
-    }
-
-    // The same by one run without a limit.
-    fn whole_answer(&mut self) -> Answer
-        ensures same { self.new ≡ self.old }
-        ensures fits { Fits (IsAmong (P.puzzle self.old.rules) self.old.candidates) result }
-    {
-        match self.attempt(None) {
-            Some(answer) => answer,
-            None => unreachable!(),
-        }
+        self.answer_with(&Answer::None)
     }
 
     /// How many solutions there are among the candidates, which it narrows first.
     pub fn settled_answer(&mut self) -> Answer
         ensures { Fits (IsAmong (P.puzzle self.old.rules) self.old.candidates) result }
     {
+        self.settled_answer_with(&Answer::None)
+    }
+
+    /// What is known, with the solutions among the candidates, which it narrows first.
+    #[tactic(auto, using(crate::proofs::JoinedAnswers::adds_same, crate::proofs::JoinedAnswers::adds_nothing))]
+    pub fn settled_answer_with(&mut self, known: &Answer) -> Answer
+        ensures { Adds (IsAmong (P.puzzle self.old.rules) self.old.candidates) known.now result }
+    {
         if self.settle() {
-            self.answer()
+            self.answer_with(known)
         } else {
-            Answer::None
+            *known
         }
     }
 

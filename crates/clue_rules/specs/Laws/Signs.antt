@@ -17,9 +17,11 @@ use Rattle.clue_rules.specs.Laws.Neighbours.{IsNext, right_of, below_of, next_or
 abbrev pub IsSaid : Sign → Type 0
 IsSaid s = Absent ≡ s → ⊥
 
+-- both signs say something
 pub first_said : IsSaid FirstGreater
 first_said e = cc
 
+-- the one that points the other way
 pub second_said : IsSaid SecondGreater
 second_said e = cc
 

@@ -1,6 +1,6 @@
 //! The given squares of a puzzle.
 
-ghost use Rattle.std.specs.Prelude.{◌≡◌, ◌≢◌, ℕ, ◌*◌, ◌<◌, false};
+ghost use Rattle.std.specs.Prelude.{◌≡◌, ◌≢◌, ℕ, ◌*◌, ◌<◌, ◌≤◌, false};
 ghost use Rattle.latin_board.specs.Squares.{number_at};
 ghost use Rattle.trail_solver.specs.Candidates.{IsEarlier, may_be};
 ghost use Rattle.trail_solver.specs.Pairs.{IsPair};
@@ -39,4 +39,18 @@ fn keep_given(candidates: &mut Candidates, cell: usize, given: u8)
     if given > 0 {
         let _struck = strike_missing(candidates, cell, NumberSet::one(given));
     }
+}
+
+/// Takes the given of a square from its candidates, if there is one.
+#[tactic(auto, using(crate::proofs::DeniedItems::given_gone, crate::proofs::DeniedItems::given_less))]
+pub(crate) fn deny_given(candidates: &mut Candidates, cell: usize, given: u8)
+    requires cell { cell < candidates.old.size * candidates.old.size }
+    requires given { given ≤ candidates.old.size }
+    ensures less { IsEarlier candidates.old candidates.new }
+    ensures keeps { KeepsEach (λ g. number_at g cell ≢ given) candidates.old candidates.new }
+{
+    if given == 0 {
+        return;
+    }
+    candidates.remove(cell, given);
 }

@@ -1,16 +1,17 @@
 //! The rules of Towers: its clues, and what a solver and a generator know of a puzzle.
 
-ghost use Rattle.std.specs.Prelude.{◌≡◌, ◌+◌, ◌-◌, ◌*◌, ◌<◌, ◌≤◌, ◌↔◌, ◌==◌, IsTrue};
+ghost use Rattle.std.specs.Prelude.{◌≡◌, ◌≢◌, ◌+◌, ◌-◌, ◌*◌, ◌<◌, ◌≤◌, ◌↔◌, ◌==◌, IsTrue, slice_index};
 ghost use Rattle.std.specs.Bool.{OnFalse, OnTrue};
-ghost use Rattle.latin_board.specs.Squares.{IsFull};
+ghost use Rattle.latin_board.specs.Squares.{IsFull, number_at};
 ghost use Rattle.tower_lines.specs.TowersSeen.{seen};
 ghost use Rattle.clue_rules.specs.Views.{view_of};
 ghost use Rattle.trail_solver.specs.Candidates.{IsEarlier};
 ghost use Rattle.trail_solver.specs.Solutions.{HasNoSolutionWithin, KeepsSolutions};
 ghost use Rattle.clue_rules.specs.Towers.{IsTowers, holds_clue, holds_clues, HoldsClues, towers_puzzle, towers_items, has_towers, cut_towers, full_towers};
+ghost use Rattle.clue_rules.specs.Inner.Narrowing.{KeepsEach};
 ghost use Rattle.clue_rules.specs.Struck.{IsTowersStruck, NoneLeft};
 
-use crate::lines::given_squares::keep_givens;
+use crate::lines::given_squares::{deny_given, keep_givens};
 use crate::lines::narrowing::{narrow_by_lines, narrow_by_lines_of};
 use crate::lines::views::{LINE, View};
 use crate::towers::{PLACES, Towers};
@@ -51,6 +52,21 @@ impl Towers {
     {
         let width = self.givens.size().get();
         (0..4 * width).all(|place| self.holds_clue(grid, place))
+    }
+
+    // Takes the given that is the item from the candidates of its square; a clue is not denied.
+    fn deny_number(&self, item: usize, candidates: &mut Candidates)
+        requires inside { item < towers_items self.now.size }
+        requires size { candidates.old.size ≡ self.now.size }
+        ensures less { IsEarlier candidates.old candidates.new }
+        ensures keeps { KeepsEach (λ g. 4 * self.now.size ≤ item → number_at g (item - 4 * self.now.size)
+            ≢ slice_index self.now.givens (item - 4 * self.now.size)) candidates.old candidates.new }
+    {
+        let count = self.clues().len();
+        if item < count {
+            return;
+        }
+        deny_given(candidates, item - count, self.givens.get(item - count));
     }
 }
 
@@ -134,6 +150,14 @@ impl Rules for Towers {
         } else {
             self.givens.set(i - count, 0);
         }
+    }
+
+    fn deny_item(&self, i: usize, candidates: &mut Candidates) -> Towers {
+        let _size = self.size();
+        self.deny_number(i, candidates);
+        let mut fewer = *self;
+        fewer.drop_item(i);
+        fewer
     }
 
     fn full(grid: &Grid) -> Towers {

@@ -4,13 +4,13 @@ ghost use Rattle.std.specs.Prelude.{◌≡◌, ℕ, ◌*◌, ◌<◌, ◌↔◌,
 ghost use Rattle.std.specs.Bool.{OnFalse, OnTrue};
 ghost use Rattle.latin_board.specs.Squares.{IsFull, IsLatin, number_at};
 ghost use Rattle.trail_solver.specs.Candidates.{IsEarlier};
-ghost use Rattle.trail_solver.specs.Solutions.{HasNoSolutionWithin, KeepsSolutions};
+ghost use Rattle.trail_solver.specs.Solutions.{Denies, HasNoSolutionWithin, KeepsSolutions};
 ghost use Rattle.clue_rules.specs.Unequal.{IsUnequal, IsGreater, AreNeighbours, HoldsSigns, holds_signs, holds_towards, unequal_puzzle, sign_towards, sign_in_grid, full_unequal};
 ghost use Rattle.clue_rules.specs.Inner.UnequalFields.{HoldsSignsOf};
-ghost use Rattle.clue_rules.specs.Inner.UnequalItems.{item_cell, without_item};
+ghost use Rattle.clue_rules.specs.Inner.UnequalItems.{denied_item, item_cell, without_item};
 ghost use Rattle.clue_rules.specs.Struck.{IsUnequalStruck, NoneLeft};
 
-use crate::lines::given_squares::keep_givens;
+use crate::lines::given_squares::{deny_given, keep_givens};
 use crate::lines::narrowing::{narrow_by_lines, narrow_by_lines_of};
 use crate::unequal::direction::Direction;
 use crate::unequal::item::{Item, item_at, item_count};
@@ -58,7 +58,7 @@ impl Unequal {
     }
 
     // Takes an item away, where it is there.
-    #[tactic(auto, using(crate::proofs::UnequalTables::emptied_front))]
+    #[tactic(auto, using(crate::proofs::UnequalTables::sign_in_front))]
     fn take_away(&mut self, item: Item)
         requires { item_cell item < self.old.size * self.old.size }
         ensures value { self.new ≡ without_item self.old item }
@@ -69,6 +69,46 @@ impl Unequal {
             Item::LowerSign(cell) => self.below[cell] = Sign::Absent,
             Item::Given(cell) => self.givens.set(cell, 0),
         }
+    }
+
+    // Turns a sign round, or takes a given away and from the candidates of its square.
+    fn deny(&mut self, item: Item, candidates: &mut Candidates)
+        requires inside { item_cell item < self.old.size * self.old.size }
+        requires size { candidates.old.size ≡ self.old.size }
+        ensures size { self.new.size ≡ self.old.size }
+        ensures valid { IsUnequal self.old }
+        ensures less { IsEarlier candidates.old candidates.new }
+        ensures denies { Denies (unequal_puzzle self.old) (unequal_puzzle (without_item self.old item))
+            (unequal_puzzle self.new) candidates.old candidates.new }
+    {
+        match item {
+            Item::RightSign(cell) => self.turn_right(cell),
+            Item::LowerSign(cell) => self.turn_below(cell),
+            Item::Given(cell) => {
+                deny_given(candidates, cell, self.given(cell));
+                self.take_away(item);
+            }
+        }
+    }
+
+    // Turns the sign towards the right neighbour round, where there is one.
+    #[tactic(auto, using(crate::proofs::UnequalTables::sign_in_front, crate::proofs::UnequalTables::turned_kept))]
+    fn turn_right(&mut self, cell: usize)
+        requires { cell < self.old.size * self.old.size }
+        ensures value { self.new ≡ denied_item self.old (Item.RightSign cell) }
+        ensures valid { IsUnequal self.old }
+    {
+        self.right[cell] = self.right_sign(cell).turned();
+    }
+
+    // The same of the sign towards the lower neighbour.
+    #[tactic(auto, using(crate::proofs::UnequalTables::sign_in_front, crate::proofs::UnequalTables::turned_kept))]
+    fn turn_below(&mut self, cell: usize)
+        requires { cell < self.old.size * self.old.size }
+        ensures value { self.new ≡ denied_item self.old (Item.LowerSign cell) }
+        ensures valid { IsUnequal self.old }
+    {
+        self.below[cell] = self.lower_sign(cell).turned();
     }
 }
 
@@ -170,6 +210,12 @@ impl Rules for Unequal {
     fn drop_item(&mut self, i: usize) {
         let item = item_at(self.givens.size(), i);
         self.take_away(item);
+    }
+
+    fn deny_item(&self, i: usize, candidates: &mut Candidates) -> Unequal {
+        let mut denied = *self;
+        denied.deny(item_at(self.size(), i), candidates);
+        denied
     }
 
     fn full(grid: &Grid) -> Unequal

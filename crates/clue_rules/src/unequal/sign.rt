@@ -1,6 +1,7 @@
 //! What stands between neighbouring squares.
 
 ghost use Rattle.std.specs.Prelude.{◌≡◌};
+ghost use Rattle.clue_rules.specs.Inner.UnequalItems.{turned_sign};
 ghost use Rattle.clue_rules.specs.Unequal.{holds_sign, sign_of};
 
 use std::cmp::Ordering;
@@ -33,6 +34,17 @@ impl Sign {
             Sign::Absent => true,
             Sign::FirstGreater => first > second,
             Sign::SecondGreater => first < second,
+        }
+    }
+
+    /// The sign that says the opposite.
+    pub(super) fn turned(self) -> Sign
+        ensures { result ≡ turned_sign self }
+    {
+        match self {
+            Sign::Absent => Sign::Absent,
+            Sign::FirstGreater => Sign::SecondGreater,
+            Sign::SecondGreater => Sign::FirstGreater,
         }
     }
 }

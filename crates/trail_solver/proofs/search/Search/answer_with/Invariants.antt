@@ -1,5 +1,5 @@
 use Rattle.std.proofs.Common.{◌≡◌}
-use Rattle.trail_solver.proofs.search.Search.answer.Given as goal
+use Rattle.trail_solver.proofs.search.Search.answer_with.Given as goal
 
 abbrev pub invariant-loop-more : goal.invariant-loop-more
 invariant-loop-more g l = l.self ≡ l.initial.self

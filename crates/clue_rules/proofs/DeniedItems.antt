@@ -1,0 +1,233 @@
+-- An item is denied: a given goes from the candidates of its square, and a sign is turned round.
+use Rattle.std.proofs.Common.{◌≡◌, ◌≢◌, ℕ, zero, ◌+◌, ◌-◌, ◌*◌, ◌<◌, ◌≤◌, ◌⊎◌, Bool, true, false, not, List, set, length, Option, Some, None, refl, sym, ap, subst, ◌∙◌, inl, inr, arith, ◌==◌, slice_index}
+use Rattle.std.specs.Option.{option_map_or}
+use Rattle.std.proofs.lemmas.Bool.{lt-ltb, cases_lt, cases_eq, and_parts, and_from, eq-eqb, ne_eqb}
+use Rattle.std.proofs.lemmas.List.{get_or-set_same, get_or-set_other}
+use Rattle.latin_board.specs.Squares.{GridValue, IsGrid, IsLatin, number_at}
+use Rattle.latin_board.proofs.LatinLines.{line_differs}
+use Rattle.trail_solver.specs.Candidates.{CandidatesValue, IsEarlier}
+use Rattle.trail_solver.specs.Pairs.{with_pair}
+use Rattle.trail_solver.specs.Puzzles.{Solves}
+use Rattle.trail_solver.specs.Solutions.{Denies}
+use Rattle.trail_solver.proofs.OneKept.{Removes, removed_earlier}
+use Rattle.trail_solver.proofs.SearchSteps.{within_removed}
+use Rattle.clue_rules.specs.declared.unequal.direction.Direction.{Direction}
+use Rattle.clue_rules.specs.declared.unequal.direction.Direction.TheVariants.{Right, Down}
+use Rattle.clue_rules.specs.declared.unequal.item.Item.{Item}
+use Rattle.clue_rules.specs.declared.unequal.item.Item.TheVariants.{RightSign, LowerSign, Given}
+use Rattle.clue_rules.specs.declared.unequal.sign.Sign.{Sign}
+use Rattle.clue_rules.specs.declared.unequal.sign.Sign.TheVariants.{Absent, FirstGreater, SecondGreater}
+use Rattle.clue_rules.specs.Items.{kept_items}
+use Rattle.clue_rules.specs.Inner.Narrowing.{KeepsEach}
+use Rattle.clue_rules.specs.Inner.UnequalItems.{denied_item, item_cell, turned_sign, without_item}
+use Rattle.clue_rules.specs.Towers.{TowersValue, IsTowers, cut_towers, towers_puzzle}
+use Rattle.clue_rules.specs.Unequal.{UnequalValue, IsUnequal, holds_sign, holds_signs, holds_towards, lower_sign, neighbour, right_sign, sign_between, unequal_puzzle}
+use Rattle.clue_rules.specs.Laws.KeptItems.{entry-kept}
+use Rattle.clue_rules.specs.Laws.Neighbours.{IsNext, next_line}
+use Rattle.clue_rules.specs.Laws.RangeTests.{all_in_range, range_all}
+use Rattle.clue_rules.specs.Laws.Signs.{IsSaid, below_between, first_said, right_between, said_next, second_said}
+use Rattle.clue_rules.proofs.KeptItemLemmas.{kept-before}
+
+-- ---- a given
+
+pub given_less : (old new : CandidatesValue) (cell given : ℕ) → new.size ≡ old.size → new.trail ≡ with_pair old.trail cell given
+    → IsEarlier old new
+given_less old new cell given size trail = removed_earlier old new cell given (record { size = size; trail = trail })
+
+-- a grid with another number in the square is within what is left
+pub given_gone : (old new : CandidatesValue) (cell given : ℕ) → new.size ≡ old.size → new.trail ≡ with_pair old.trail cell given
+    → KeepsEach (λ g. number_at g cell ≢ given) old new
+given_gone old new cell given size trail = λ g other within. within_removed old new cell given g (record { size = size; trail = trail }) within other
+
+-- of two puzzles one has a given more: what solves the other one has that number there, or another
+given_denied : (w : ℕ) (a b : ℕ → ℕ) (m : GridValue → Bool) (k l : ℕ → Bool) (cell : ℕ) (old new : CandidatesValue)
+    → ((c : ℕ) → c ≢ cell → b c ≡ a c) → KeepsEach (λ g. number_at g cell ≢ a cell) old new
+    → Denies (record { size = w; given = a; meets = m; clued = k }) (record { size = w; given = b; meets = m; clued = l })
+    (record { size = w; given = b; meets = m; clued = l }) old new
+given_denied w a b m k l cell old new rest keeps = record {
+  some = λ g s within. s;
+  others = λ g s within. elim (cases_eq (number_at g cell) (a cell)) [
+    | inl same ↦ inl (record {
+      is_grid = s.is_grid;
+      same_size = s.same_size;
+      latin = s.latin;
+      givens = λ c inside given. elim (cases_eq c cell) [
+        | inl here ↦ let P : ℕ → Type 0 = λ n. number_at g n ≡ a n in subst P (sym here) same
+        | inr apart ↦
+            let Low : ℕ → Type 0 = λ n. 0 < n in
+            s.givens c inside (subst Low (sym (rest c apart)) given) ∙ rest c apart
+      ];
+      clues = s.clues;
+    })
+    | inr other ↦ inr (s, keeps g other within)
+  ];
+}
+
+-- an Unequal puzzle without a given
+pub number_denied : (v u : UnequalValue) (item : Item) (cell given : ℕ) (old new : CandidatesValue) → item ≡ Given cell → u ≡ without_item v (Given cell)
+    → given ≡ slice_index v.givens cell → KeepsEach (λ g. number_at g cell ≢ given) old new
+    → Denies (unequal_puzzle v) (unequal_puzzle (without_item v item)) (unequal_puzzle u) old new
+number_denied v u item cell given old new at is value keeps =
+    let P : UnequalValue → Type 0 = λ x. Denies (unequal_puzzle v) (unequal_puzzle (without_item v (Given cell))) (unequal_puzzle x) old new in
+    let Q : Item → Type 0 = λ x. Denies (unequal_puzzle v) (unequal_puzzle (without_item v x)) (unequal_puzzle u) old new in
+    let Keeps : ℕ → Type 0 = λ n. KeepsEach (λ g. number_at g cell ≢ n) old new in
+    subst Q (sym at) (subst P (sym is) (given_denied v.size (slice_index v.givens) (slice_index (set v.givens cell 0)) (holds_signs v) (λ place. false) (λ place. false) cell old new
+    (λ c apart. get_or-set_other v.givens cell c 0 0 apart) (subst Keeps value keeps)))
+
+-- a Towers puzzle without an item, of which a given went from the candidates
+pub towers_denied : (v : TowersValue) (i : ℕ) (old new : CandidatesValue) → IsTowers v
+    → KeepsEach (λ g. 4 * v.size ≤ i → number_at g (i - 4 * v.size) ≢ slice_index v.givens (i - 4 * v.size)) old new
+    → Denies (towers_puzzle v) (towers_puzzle (cut_towers v (λ j. not (j == i)))) (towers_puzzle (cut_towers v (λ j. not (j == i)))) old new
+towers_denied v i old new valid keeps = elim (cases_lt i (4 * v.size)) [
+  | inl clue ↦ record {
+    some = λ g s within. s;
+    others = λ g s within. inr (s, keeps g (λ high. absurd (omega arith)) within);
+  }
+  | inr given ↦
+      let n : ℕ = 4 * v.size in
+      let keep : ℕ → Bool = λ j. not (j == i) in
+      let clues : kept_items zero keep 0 v.clues ≡ v.clues = kept-before zero 0 i v.clues (omega (arith, valid.clue_count)) in
+      let cut : List ℕ → TowersValue = λ (xs : List ℕ). record { size = v.size; clues = xs; givens = kept_items zero keep n v.givens } in
+      let P : List ℕ → Type 0 = λ xs. Denies (towers_puzzle v) (towers_puzzle (cut xs)) (towers_puzzle (cut xs)) old new in
+      let other : (c : ℕ) → c ≢ i - n → slice_index (kept_items zero keep n v.givens) c ≡ slice_index v.givens c = λ c apart.
+      (let stays : keep (n + c) ≡ true = ap not (ne_eqb (n + c) i (λ same. apart (omega arith))) in
+      entry-kept zero keep n v.givens c (n + c) refl ∙ rw stays refl) in
+      subst P (sym clues) (given_denied v.size (slice_index v.givens) (slice_index (kept_items zero keep n v.givens)) (towers_puzzle v).meets
+      (towers_puzzle v).clued (towers_puzzle v).clued (i - n) old new other (λ g apart within. keeps g (λ high. apart) within))
+]
+
+-- ---- a sign
+
+-- the puzzle with other signs
+abbrev with_signs : UnequalValue → List Sign → List Sign → UnequalValue
+with_signs v right below = record { size = v.size; right = right; below = below; givens = v.givens }
+
+-- the same signs, but between two squares
+abbrev AreSameBut : UnequalValue → UnequalValue → ℕ → ℕ → Type 0
+AreSameBut u v x y = (a b : ℕ) → (a ≡ x → b ≡ y → ⊥) → sign_between u a b ≡ sign_between v a b
+
+-- a grid that holds the signs holds those that are the same but for one that it holds
+held_towards : (v : UnequalValue) (r d p q : List Sign) (g : GridValue) (x y cell : ℕ) (way : Direction)
+    → AreSameBut (with_signs v p q) (with_signs v r d) x y
+    → holds_sign (sign_between (with_signs v p q) x y) (number_at g x) (number_at g y) ≡ true
+    → holds_towards (with_signs v r d) g cell way ≡ true → holds_towards (with_signs v p q) g cell way ≡ true
+held_towards v r d p q g x y cell way same here = by (neighbour v.size cell way)
+  where
+    by : (o : Option ℕ)
+        → option_map_or (λ b. holds_sign (sign_between (with_signs v r d) cell b) (number_at g cell) (number_at g b)) o true ≡ true
+        → option_map_or (λ b. holds_sign (sign_between (with_signs v p q) cell b) (number_at g cell) (number_at g b)) o true ≡ true
+    by None h = refl
+    by (Some b) h = elim (cases_eq cell x) [
+      | inl first ↦ elim (cases_eq b y) [
+        | inl second ↦
+            let P : ℕ → Type 0 = λ n. holds_sign (sign_between (with_signs v p q) n b) (number_at g n) (number_at g b) ≡ true in
+            let Q : ℕ → Type 0 = λ n. holds_sign (sign_between (with_signs v p q) x n) (number_at g x) (number_at g n) ≡ true in
+            subst P (sym first) (subst Q (sym second) here)
+        | inr other ↦
+            let P : Sign → Type 0 = λ s. holds_sign s (number_at g cell) (number_at g b) ≡ true in
+            subst P (sym (same cell b (λ e f. other f))) h
+      ]
+      | inr other ↦
+          let P : Sign → Type 0 = λ s. holds_sign s (number_at g cell) (number_at g b) ≡ true in
+          subst P (sym (same cell b (λ e f. other e))) h
+    ]
+
+solved_but : (v : UnequalValue) (r d p q : List Sign) (g : GridValue) (x y : ℕ) → AreSameBut (with_signs v p q) (with_signs v r d) x y
+    → holds_sign (sign_between (with_signs v p q) x y) (number_at g x) (number_at g y) ≡ true
+    → Solves (unequal_puzzle (with_signs v r d)) g → Solves (unequal_puzzle (with_signs v p q)) g
+solved_but v r d p q g x y same here s = record {
+  is_grid = s.is_grid;
+  same_size = s.same_size;
+  latin = s.latin;
+  givens = s.givens;
+  clues = range_all _ 0 (v.size * v.size) (λ cell low high.
+      let both = and_parts (holds_towards (with_signs v r d) g cell Right) (holds_towards (with_signs v r d) g cell Down)
+      (all_in_range _ 0 (v.size * v.size) cell s.clues low high) in
+      and_from (holds_towards (with_signs v p q) g cell Right) (holds_towards (with_signs v p q) g cell Down)
+      (held_towards v r d p q g x y cell Right same here both.0) (held_towards v r d p q g x y cell Down same here both.1));
+}
+
+-- of two different numbers, a sign holds or its opposite
+held_or_turned : (s : Sign) (m n : ℕ) → (IsSaid s → m ≢ n) → (holds_sign s m n ≡ true) ⊎ (holds_sign (turned_sign s) m n ≡ true)
+held_or_turned Absent m n differ = inl refl
+held_or_turned FirstGreater m n differ = elim (cases_lt n m) [
+  | inl greater ↦ inl (lt-ltb n m greater)
+  | inr other ↦ let apart = differ first_said in let less : m < n = omega arith in inr (lt-ltb m n less)
+]
+held_or_turned SecondGreater m n differ = elim (cases_lt m n) [
+  | inl less ↦ inl (lt-ltb m n less)
+  | inr other ↦ let apart = differ second_said in let greater : n < m = omega arith in inr (lt-ltb n m greater)
+]
+
+said_differ : (v : UnequalValue) (x y : ℕ) (g : GridValue) → IsUnequal v → IsGrid g → IsLatin g → g.size ≡ v.size
+    → IsSaid (sign_between v x y) → number_at g x ≢ number_at g y
+said_differ v x y g valid is_grid latin size said =
+    let Next : ℕ → Type 0 = λ w. IsNext w x y in
+    let on = next_line g.size x y is_grid.smallest (subst Next (sym size) (said_next v x y valid said)) in
+    let differ = line_differs g is_grid latin on.line on.place (on.place + 1) on.line_is (omega (arith, on.place_is)) on.place_is (λ e. omega arith) in
+    rw (on.first, on.second) at differ
+
+-- of the grids that solve a puzzle without a sign, those that don't solve it with the sign have it the other way round
+sign_denied : (v : UnequalValue) (r d p q : List Sign) (x y : ℕ) (c : CandidatesValue) → IsUnequal v
+    → AreSameBut (with_signs v r d) v x y → AreSameBut (with_signs v p q) v x y
+    → sign_between (with_signs v r d) x y ≡ Absent → sign_between (with_signs v p q) x y ≡ turned_sign (sign_between v x y)
+    → Denies (unequal_puzzle v) (unequal_puzzle (with_signs v r d)) (unequal_puzzle (with_signs v p q)) c c
+sign_denied v r d p q x y c valid without denied none turn = record {
+  some = λ g s within.
+      let P : Sign → Type 0 = λ s. holds_sign s (number_at g x) (number_at g y) ≡ true in
+      solved_but v p q r d g x y (λ a b apart. without a b apart ∙ sym (denied a b apart)) (subst P (sym none) refl) s;
+  others = λ g s within.
+      let P : Sign → Type 0 = λ s. holds_sign s (number_at g x) (number_at g y) ≡ true in
+      elim (held_or_turned (sign_between v x y) (number_at g x) (number_at g y) (said_differ v x y g valid s.is_grid s.latin s.same_size)) [
+        | inl held ↦ inl (solved_but v r d v.right v.below g x y (λ a b apart. sym (without a b apart)) held s)
+        | inr other ↦ inr (solved_but v r d p q g x y (λ a b apart. denied a b apart ∙ sym (without a b apart)) (subst P (sym turn) other) s, within)
+      ];
+}
+
+right_but : (v : UnequalValue) (cell : ℕ) (s : Sign) → AreSameBut (with_signs v (set v.right cell s) v.below) v cell (cell + 1)
+right_but v cell s a b apart = elim (cases_eq b (a + 1)) [
+  | inl next ↦ rw (eq-eqb b (a + 1) next) (get_or-set_other v.right cell a s Absent (λ e. apart e (next ∙ ap (λ n. n + 1) e)))
+  | inr other ↦ rw (ne_eqb b (a + 1) other) refl
+]
+
+lower_but : (v : UnequalValue) (cell : ℕ) (s : Sign) → AreSameBut (with_signs v v.right (set v.below cell s)) v cell (cell + v.size)
+lower_but v cell s a b apart = elim (cases_eq b (a + v.size)) [
+  | inl next ↦
+      rw (eq-eqb b (a + v.size) next, get_or-set_other v.below cell a s Absent (λ e. apart e (next ∙ ap (λ n. n + v.size) e))) refl
+  | inr other ↦ rw (ne_eqb b (a + v.size) other) refl
+]
+
+-- a sign towards the right neighbour is turned round
+pub right_denied : (v u : UnequalValue) (item : Item) (cell : ℕ) (c : CandidatesValue) → IsUnequal v → item ≡ RightSign cell
+    → item_cell item < v.size * v.size → u ≡ denied_item v (RightSign cell)
+    → Denies (unequal_puzzle v) (unequal_puzzle (without_item v item)) (unequal_puzzle u) c c
+right_denied v u item cell c valid at within is =
+    let Inside : Item → Type 0 = λ x. item_cell x < v.size * v.size in
+    let inside : cell < v.size * v.size = subst Inside at within in
+    let count : cell < length v.right = omega (arith, valid.right_count) in
+    let turn : Sign = turned_sign (right_sign v cell) in
+    let P : UnequalValue → Type 0 = λ x. Denies (unequal_puzzle v) (unequal_puzzle (without_item v (RightSign cell))) (unequal_puzzle x) c c in
+    let Q : Item → Type 0 = λ x. Denies (unequal_puzzle v) (unequal_puzzle (without_item v x)) (unequal_puzzle u) c c in
+    subst Q (sym at) (subst P (sym is) (sign_denied v (set v.right cell Absent) v.below (set v.right cell turn) v.below cell (cell + 1) c valid
+    (right_but v cell Absent) (right_but v cell turn)
+    (right_between (with_signs v (set v.right cell Absent) v.below) cell ∙ get_or-set_same v.right cell Absent Absent count)
+    (right_between (with_signs v (set v.right cell turn) v.below) cell ∙ get_or-set_same v.right cell turn Absent count
+    ∙ ap turned_sign (sym (right_between v cell)))))
+
+-- the same of the lower neighbour
+pub lower_denied : (v u : UnequalValue) (item : Item) (cell : ℕ) (c : CandidatesValue) → IsUnequal v → item ≡ LowerSign cell
+    → item_cell item < v.size * v.size → u ≡ denied_item v (LowerSign cell)
+    → Denies (unequal_puzzle v) (unequal_puzzle (without_item v item)) (unequal_puzzle u) c c
+lower_denied v u item cell c valid at within is =
+    let Inside : Item → Type 0 = λ x. item_cell x < v.size * v.size in
+    let inside : cell < v.size * v.size = subst Inside at within in
+    let small : 3 ≤ v.size = valid.givens.smallest in
+    let count : cell < length v.below = omega (arith, valid.below_count) in
+    let turn : Sign = turned_sign (lower_sign v cell) in
+    let P : UnequalValue → Type 0 = λ x. Denies (unequal_puzzle v) (unequal_puzzle (without_item v (LowerSign cell))) (unequal_puzzle x) c c in
+    let Q : Item → Type 0 = λ x. Denies (unequal_puzzle v) (unequal_puzzle (without_item v x)) (unequal_puzzle u) c c in
+    subst Q (sym at) (subst P (sym is) (sign_denied v v.right (set v.below cell Absent) v.right (set v.below cell turn) cell (cell + v.size) c valid
+    (lower_but v cell Absent) (lower_but v cell turn)
+    (below_between (with_signs v v.right (set v.below cell Absent)) cell small ∙ get_or-set_same v.below cell Absent Absent count)
+    (below_between (with_signs v v.right (set v.below cell turn)) cell small ∙ get_or-set_same v.below cell turn Absent count
+    ∙ ap turned_sign (sym (below_between v cell small)))))
