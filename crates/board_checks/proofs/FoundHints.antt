@@ -10,10 +10,10 @@ use Rattle.trail_solver.specs.Completions.{AreOfGrid, Completes}
 use Rattle.trail_solver.proofs.Earlier.{within_earlier}
 use Rattle.trail_solver.proofs.FilledGrids.{solution_pair}
 use Rattle.trail_solver.proofs.GridCandidates.{within_of_kept}
-use Rattle.board_checks.specs.Hints.{AreNarrowed, FollowsAt, HaveNoneLast, IsDeduced, IsForced, IsSound, IsSoonest}
+use Rattle.board_checks.specs.Hints.{AreNarrowed, FollowsAt, HaveNoneLast, HaveValues, IsDeduced, IsForced, IsSound, IsSoonest}
 use Rattle.board_checks.specs.declared.hints.Hint.{Hint}
 use Rattle.board_checks.specs.declared.hints.Hint.TheVariants.{Follows, Nothing, Contradiction}
-use Rattle.board_checks.specs.Inner.LeftValues.{HaveValues, IsSoonestHint}
+use Rattle.board_checks.specs.Inner.LeftValues.{IsLeftHint}
 
 -- each solution that keeps the grid's numbers is within the candidates that are left
 completes_within : (p : Puzzle) (g h : GridValue) (start c : CandidatesValue) → AreOfGrid g start → g.size ≡ p.size
@@ -26,13 +26,13 @@ pub none_completes : (p : Puzzle) (g : GridValue) (start c : CandidatesValue) �
 none_completes p g start c of size keeps none h m = none h m.0 (completes_within p g h start c of size keeps m)
 
 -- none is where some square has no candidate
-pub none_without_values : (p : Puzzle) (c : CandidatesValue) → c.size ≡ p.size → (HaveValues c → ⊥) → HasNoSolutionWithin p c
+none_without_values : (p : Puzzle) (c : CandidatesValue) → c.size ≡ p.size → (HaveValues c → ⊥) → HasNoSolutionWithin p c
 none_without_values p c size lacks h s within = lacks (record {
   each = λ cell inside. (number_at h cell, solution_pair p h c.size cell s size inside, within.each cell inside);
 })
 
 -- the value of the square that is settled soonest
-pub soonest_follows : (p : Puzzle) (g : GridValue) (start c : CandidatesValue) (cell value : ℕ) → AreOfGrid g start → g.size ≡ p.size
+soonest_follows : (p : Puzzle) (g : GridValue) (start c : CandidatesValue) (cell value : ℕ) → AreOfGrid g start → g.size ≡ p.size
     → IsEarlier start c → KeepsSolutions p start c → IsSoonest g c cell value → FollowsAt p g cell value
 soonest_follows p g start c cell value of size less keeps s =
     let width : s.front.size ≡ g.size = sym s.less.size ∙ less.size ∙ of.size in
@@ -53,7 +53,7 @@ pub none_forced : (p : Puzzle) (Strikes : CandidatesValue → ℕ → ℕ → Ty
 none_forced p Strikes g c cell narrowed none forced =
     let start = narrowed.start in
     let width : c.size ≡ g.size = narrowed.less.size ∙ narrowed.of_grid.size in
-    let some = none.some cell (subst (λ (n : ℕ). cell < n * n) (sym width) forced.inside) in
+    let some = none.some.each cell (subst (λ (n : ℕ). cell < n * n) (sym width) forced.inside) in
     let is : (u : ℕ) → 1 ≤ u → u ≤ c.size → may_be c cell u ≡ true → u ≡ forced.value = λ u low high left.
     let pair : IsPair g.size cell u = record { inside = forced.inside; low = low; high = omega (arith, high, width) } in
     let pair' : IsPair start.size cell u = subst (λ (n : ℕ). IsPair n cell u) (sym narrowed.of_grid.size) pair in
@@ -76,17 +76,19 @@ none_forced p Strikes g c cell narrowed none forced =
 -- ---- the hint that is found
 
 pub deduced_hint : (p : Puzzle) (Strikes : CandidatesValue → ℕ → ℕ → Type 0) (g : GridValue) (c : CandidatesValue) (found : Hint)
-    → AreNarrowed p Strikes g c → HaveValues c → IsSoonestHint g c found → IsDeduced p Strikes g found
-deduced_hint p Strikes g c (Follows cell value) narrowed have soonest = (c, narrowed, soonest)
-deduced_hint p Strikes g c Nothing narrowed have none = (c, narrowed, record { some = have.each; several = none })
-deduced_hint p Strikes g c Contradiction narrowed have never = absurd never
+    → AreNarrowed p Strikes g c → IsLeftHint g c found → IsDeduced p Strikes g found
+deduced_hint p Strikes g c (Follows cell value) narrowed left = (c, narrowed, left.0, left.1)
+deduced_hint p Strikes g c Nothing narrowed left = (c, narrowed, record { some = left.0; several = left.1 })
+deduced_hint p Strikes g c Contradiction narrowed left = tt
 
 pub deduced_sound : (p : Puzzle) (Strikes : CandidatesValue → ℕ → ℕ → Type 0) (g : GridValue) (c : CandidatesValue) (found : Hint) → g.size ≡ p.size
-    → IsSoonestHint g c found → IsDeduced p Strikes g found → IsSound p g found
-deduced_sound p Strikes g c (Follows cell value) size h (left, narrowed, soonest) =
-    soonest_follows p g narrowed.start left cell value narrowed.of_grid size narrowed.less narrowed.keeps soonest
-deduced_sound p Strikes g c Nothing size h d = tt
-deduced_sound p Strikes g c Contradiction size never d = absurd never
+    → AreNarrowed p Strikes g c → IsLeftHint g c found → IsSound p g found
+deduced_sound p Strikes g c (Follows cell value) size narrowed left =
+    soonest_follows p g narrowed.start c cell value narrowed.of_grid size narrowed.less narrowed.keeps left.1
+deduced_sound p Strikes g c Nothing size narrowed left = tt
+deduced_sound p Strikes g c Contradiction size narrowed lacks =
+    none_completes p g narrowed.start c narrowed.of_grid size narrowed.keeps
+    (none_without_values p c (narrowed.less.size ∙ narrowed.of_grid.size ∙ size) lacks)
 
 pub none_forced_at : (p : Puzzle) (Strikes : CandidatesValue → ℕ → ℕ → Type 0) (g : GridValue) (cell : ℕ) (found : Hint) → found ≡ Nothing
     → IsDeduced p Strikes g found → IsForced Strikes g cell → ⊥

@@ -4,7 +4,7 @@ use Rattle.std.proofs.lemmas.Bool.{cases_eq, both_ways}
 use Rattle.number_sets.specs.Sets.{has_number, IsEmpty}
 use Rattle.trail_solver.specs.Pairs.{IsPair}
 use Rattle.trail_solver.specs.Candidates.{CandidatesValue, IsSetOf, may_be}
-use Rattle.board_checks.specs.Inner.LeftValues.{HaveValues}
+use Rattle.board_checks.specs.Hints.{HaveValues}
 
 -- the squares below this one have candidates
 pub record HaveValuesBelow (c : CandidatesValue) (cell : ℕ) : Type 0 where

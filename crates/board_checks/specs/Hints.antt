@@ -47,14 +47,18 @@ pub record IsSoonest (g : GridValue) (c : CandidatesValue) (cell value : ℕ) : 
   pub first : (shorter : CandidatesValue) → IsEarlier shorter c → length shorter.trail < length front.trail
       → (k v : ℕ) → IsLastLeft g shorter k v → ⊥
 
+-- each square has a candidate
+pub record HaveValues (c : CandidatesValue) : Type 0 where
+  pub each : (cell : ℕ) → cell < c.size * c.size → (v : ℕ) × IsPair c.size cell v × (may_be c cell v ≡ true)
+
 -- each square has a candidate, and no empty one has only one
 pub record HaveNoneLast (g : GridValue) (c : CandidatesValue) : Type 0 where
-  pub some : (cell : ℕ) → cell < c.size * c.size → (v : ℕ) × IsPair c.size cell v × (may_be c cell v ≡ true)
+  pub some : HaveValues c
   pub several : (cell value : ℕ) → IsLastLeft g c cell value → ⊥
 
--- how a hint is read from the candidates that the deductions leave
+-- how a hint is read from the candidates that the deductions leave: a number is told only where each square has one left
 abbrev pub IsDeduced : Puzzle → (CandidatesValue → ℕ → ℕ → Type 0) → GridValue → Hint → Type 0
-IsDeduced p Strikes g (Follows cell value) = (c : CandidatesValue) × AreNarrowed p Strikes g c × IsSoonest g c cell value
+IsDeduced p Strikes g (Follows cell value) = (c : CandidatesValue) × AreNarrowed p Strikes g c × HaveValues c × IsSoonest g c cell value
 IsDeduced p Strikes g Nothing = (c : CandidatesValue) × AreNarrowed p Strikes g c × HaveNoneLast g c
 IsDeduced p Strikes g Contradiction = Unit {0}
 

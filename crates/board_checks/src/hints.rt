@@ -1,7 +1,7 @@
 //! Hints: a square of a board whose value follows from what stands.
 ghost use Rattle.std.specs.Prelude.{◌≡◌, ◌≢◌, ◌↔◌, ℕ, ◌*◌, ◌<◌, MatchOption, IsTrue};
-ghost use Rattle.board_checks.specs.Hints.{IsForced, IsLastLeft, IsDeduced, IsSound};
-ghost use Rattle.board_checks.specs.Inner.LeftValues.{HaveValues, IsSoonestHint};
+ghost use Rattle.board_checks.specs.Hints.{HaveValues, IsForced, IsLastLeft, IsDeduced, IsSound};
+ghost use Rattle.board_checks.specs.Inner.LeftValues.{IsLeftHint, IsSoonestHint};
 
 use crate::deductions::Deduces;
 use latin_board::Grid;
@@ -27,8 +27,20 @@ pub fn find_hint<P: Deduces>(p: &P, grid: &Grid) -> Hint
     ensures strong { (cell : ℕ) → IsForced (P.strikes p.now) grid.now cell → result ≢ Hint.Nothing }
 {
     let mut candidates = grid_candidates(grid);
-    if p.narrow_struck(&mut candidates) && have_values(&candidates) {
-        soonest(grid, &candidates)
+    if p.narrow_struck(&mut candidates) {
+        left_hint(grid, &candidates)
+    } else {
+        Hint::Contradiction
+    }
+}
+
+// The hint that candidates give, where a square without any tells that the numbers contradict the rules.
+fn left_hint(grid: &Grid, candidates: &Candidates) -> Hint
+    requires { grid.now.size ≡ candidates.now.size }
+    ensures { IsLeftHint grid.now candidates.now result }
+{
+    if have_values(candidates) {
+        soonest(grid, candidates)
     } else {
         Hint::Contradiction
     }

@@ -5,3 +5,4 @@ pub mod Folder
 pub mod Memory
 pub mod Places
 pub mod Save
+pub mod Targets

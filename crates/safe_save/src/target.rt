@@ -2,7 +2,12 @@
 //!
 //! A call by a name has room for that name on the stack. What makes such calls isn't inlined, so that few have theirs at once.
 
+ghost use Rattle.std.specs.Prelude.{IfErr, OnOk};
+ghost use Rattle.safe_save.specs.Save.{IsStored};
+ghost use Rattle.safe_save.specs.Targets.{IsToldOf};
+
 use crate::files::{FilesFolder, Standing, folder_of};
+use crate::folder::Folder;
 use crate::saving::{SaveFault, save};
 use std::fs::{File, Files, Metadata, OpenOptions};
 use std::io::{ErrorKind, Write};
@@ -33,6 +38,11 @@ pub enum Unsaved {
 }
 
 impl From<io::Error> for Unsaved {
+    ghost use Rattle.std.specs.Prelude.{◌≡◌};
+    ghost use Rattle.safe_save.specs.declared.target.Unsaved.TheVariants.{Failed};
+
+    ghost from_gives = { λ error unsaved. unsaved ≡ Failed error };
+
     fn from(error: io::Error) -> Unsaved {
         Unsaved::Failed(error)
     }
@@ -128,9 +138,23 @@ where
     R: Files<File = File> + RandomSource + AllocGlobal,
 {
     let mut folder = FilesFolder::new(rt, standing);
+    save_beside(rt, &mut folder, path, bytes)
+}
+
+// Saves in any folder so.
+fn save_beside<R: RandomSource + AllocGlobal, F: Folder>(
+    rt: &R,
+    folder: &mut F,
+    path: &str,
+    bytes: &[u8],
+) -> Result<(), Unsaved>
+    ensures saved { F.tells → OnOk result (IsStored path.now bytes.now (F.state folder.new)) }
+    ensures unsaved { F.tells → IfErr result (λ fault.
+        IsToldOf path.now bytes.now (F.state folder.old) (F.state folder.new) fault) }
+{
     for _ in 0..MOST_NAMES {
         let beside = fresh_name(rt, path)?;
-        match save(&mut folder, path, beside.as_str(), bytes) {
+        match save(folder, path, beside.as_str(), bytes) {
             Ok(()) => return Ok(()),
             Err(SaveFault::Taken) => {}
             Err(SaveFault::LeftBeside) => return Err(Unsaved::LeftBeside(beside)),
