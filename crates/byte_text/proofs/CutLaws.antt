@@ -1,78 +1,90 @@
 -- Where a text is cut: its parts, a cut at a known separator, and the pieces between separators.
-use Rattle.std.proofs.Common.{◌≡◌, ◌≢◌, ◌∙◌, ℕ, ◌<◌, true, false, List, [], ◌∷◌, ◌++◌, length, Some, None, ◌==◌, cond, refl, ap, arith}
-use Rattle.std.specs.List.{AllByRecursion, join_with_byte, slice_split, onto_first}
+use Rattle.std.proofs.Common.{◌≡◌, ◌≢◌, ◌∙◌, ℕ, ◌+◌, ◌-◌, ◌<◌, ◌≤◌, true, false, List, [], ◌∷◌, ◌++◌, length, take, drop, Some, None, ◌==◌, nat_lt, cond, refl, sym, ap, subst, arith, length-append, take_all}
+use Rattle.std.proofs.Math.Seq.{drop-append-add}
+use Rattle.std.specs.List.{AllByRecursion, join_with_byte, slice_split, position, position_or_len, after_first}
+use Rattle.std.proofs.lemmas.Bool.{eqb-true, eqb-false, eq-eqb, ne_eqb, ltb-true, ltb-false, lt-ltb, le-ltb}
 use Rattle.std.proofs.lemmas.Bool.Decides.{nat_tests}
-use borrow.Author.Tests.{eqb-true, eqb-false, apart_eqb}
+use Rattle.std.proofs.lemmas.Grind.{common_steps}
+use Rattle.std.proofs.lemmas.List.{take_at}
+use Rattle.std.proofs.lemmas.List.Elements.{recursion_from_All}
+use Rattle.std.proofs.lemmas.List.Sums.{split_at_first, fails_before_first, passes_at_first}
+use Rattle.std.proofs.lemmas.List.Splits.{slice_split_none, slice_split_first}
+use Rattle.std.proofs.lemmas.Option.{cond_some}
 use Rattle.byte_text.specs.Cuts.{Lacks, before, behind}
+
+-- the place of the first separator, or the length
+abbrev place : ℕ → List ℕ → ℕ
+place c bs = position_or_len (λ b. b == c) bs
+
+-- where something stands behind the separator, it stands in the text
+found : (c : ℕ) (bs rest : List ℕ) → behind c bs ≡ Some rest → (place c bs < length bs) × (after_first (λ b. b == c) bs ≡ rest)
+found c bs rest cut =
+    let parts = cond_some (nat_lt (place c bs) (length bs)) (after_first (λ b. b == c) bs) rest cut in
+    (ltb-true (place c bs) (length bs) parts.0, parts.1)
+
+missing : (c : ℕ) (bs : List ℕ) → behind c bs ≡ None → length bs ≤ place c bs
+missing c bs =
+    elim (nat_lt (place c bs) (length bs)) as (λ t. nat_lt (place c bs) (length bs) ≡ t → cond t (Some (after_first (λ b. b == c) bs)) None ≡ None → length bs ≤ place c bs) [
+      | true ↦ λ is none. cc
+      | false ↦ λ is none. ltb-false (place c bs) (length bs) is
+    ] refl
 
 -- no separator is left before the cut
 pub lacks_before : (c : ℕ) (bs : List ℕ) → Lacks c (before c bs)
-lacks_before c [] = tt
-lacks_before c (b ∷ bs) =
-    elim (b == c) as (λ t. (b == c) ≡ t → Lacks c (cond t [] (b ∷ before c bs))) [
-      | true ↦ λ same. tt
-      | false ↦ λ other. (eqb-false b c other, lacks_before c bs)
-    ] refl
+lacks_before c bs =
+    recursion_from_All (λ b. b ≢ c) (before c bs) (λ k d inside.
+    let fails = fails_before_first (λ b. b == c) bs k d (grind (arith, common_steps)) in
+    eqb-false _ c (grind (arith, common_steps)))
 
 -- the parts that a cut leaves
 pub cut_parts : (c : ℕ) (bs rest : List ℕ) → behind c bs ≡ Some rest → bs ≡ before c bs ++ c ∷ rest
-cut_parts c [] rest = λ found. cc
-cut_parts c (b ∷ bs) rest =
-    elim (b == c) as (λ t. (b == c) ≡ t → cond t (Some bs) (behind c bs) ≡ Some rest → b ∷ bs ≡ cond t [] (b ∷ before c bs) ++ c ∷ rest) [
-      | true ↦ λ same found. let e = eqb-true b c same in cc
-      | false ↦ λ other found. ap (λ xs. b ∷ xs) (cut_parts c bs rest found)
-    ] refl
+cut_parts c bs rest cut =
+    let f = found c bs rest cut in
+    split_at_first (λ b. b == c) bs 0 f.0 ∙ rw (eqb-true _ c (passes_at_first (λ b. b == c) bs 0 f.0), f.1) refl
 
 -- without a separator all stands before the cut
 pub cut_whole : (c : ℕ) (bs : List ℕ) → behind c bs ≡ None → before c bs ≡ bs
-cut_whole c [] = λ none. refl
-cut_whole c (b ∷ bs) =
-    elim (b == c) as (λ t. cond t (Some bs) (behind c bs) ≡ None → cond t [] (b ∷ before c bs) ≡ b ∷ bs) [
-      | true ↦ λ none. cc
-      | false ↦ λ none. ap (λ xs. b ∷ xs) (cut_whole c bs none)
-    ]
+cut_whole c bs none = take_all (place c bs) bs (missing c bs none)
 
-same_self : (c : ℕ) → (c == c) ≡ true
-same_self c = grind (arith, nat_tests)
+-- the place of a separator behind bytes that are none, and where there is none
+place_at : (c : ℕ) (xs ys : List ℕ) → Lacks c xs → place c (xs ++ c ∷ ys) ≡ length xs
+place_at c [] ys lacks = rw (eq-eqb c c refl) refl
+place_at c (x ∷ xs) ys lacks = rw (ne_eqb x c lacks.0) (omega (arith, place_at c xs ys lacks.1))
+
+place_none : (c : ℕ) (xs : List ℕ) → Lacks c xs → place c xs ≡ length xs
+place_none c [] lacks = refl
+place_none c (x ∷ xs) lacks = rw (ne_eqb x c lacks.0) (omega (arith, place_none c xs lacks.1))
 
 -- what comes before the first separator, where the text is cut there
 pub before_at : (c : ℕ) (xs ys : List ℕ) → Lacks c xs → before c (xs ++ c ∷ ys) ≡ xs
-before_at c [] ys lacks = rw (same_self c) refl
-before_at c (x ∷ xs) ys lacks = rw (apart_eqb x c lacks.0) (ap (λ zs. x ∷ zs) (before_at c xs ys lacks.1))
+before_at c xs ys lacks = take_at xs (c ∷ ys) (place c (xs ++ c ∷ ys)) (sym (place_at c xs ys lacks))
 
 -- what comes behind the first separator, where the text is cut there
 pub behind_at : (c : ℕ) (xs ys : List ℕ) → Lacks c xs → behind c (xs ++ c ∷ ys) ≡ Some ys
-behind_at c [] ys lacks = rw (same_self c) refl
-behind_at c (x ∷ xs) ys lacks = rw (apart_eqb x c lacks.0) (behind_at c xs ys lacks.1)
+behind_at c xs ys lacks =
+    let all = xs ++ c ∷ ys in
+    let at = place_at c xs ys lacks in
+    rw (lt-ltb (place c all) (length all) (omega (arith, at, length-append xs (c ∷ ys))), at) (ap Some (drop-append-add xs (c ∷ ys) 1))
 
 -- a text without the separator comes before it whole
 pub before_all : (c : ℕ) (xs : List ℕ) → Lacks c xs → before c xs ≡ xs
-before_all c [] lacks = refl
-before_all c (x ∷ xs) lacks = rw (apart_eqb x c lacks.0) (ap (λ zs. x ∷ zs) (before_all c xs lacks.1))
+before_all c xs lacks = take_all (place c xs) xs (omega (arith, place_none c xs lacks))
 
 -- behind a separator that isn't there nothing comes
 pub behind_none_in : (c : ℕ) (xs : List ℕ) → Lacks c xs → behind c xs ≡ None
-behind_none_in c [] lacks = refl
-behind_none_in c (x ∷ xs) lacks = rw (apart_eqb x c lacks.0) (behind_none_in c xs lacks.1)
+behind_none_in c xs lacks = rw (le-ltb (place c xs) (length xs) (omega (arith, place_none c xs lacks))) refl
 
 -- the pieces between separators: the first ends at the first separator
 pub pieces_more : (c : ℕ) (bs rest : List ℕ) → behind c bs ≡ Some rest
     → slice_split (λ b. b == c) bs ≡ before c bs ∷ slice_split (λ b. b == c) rest
-pieces_more c [] rest = λ found. cc
-pieces_more c (b ∷ bs) rest =
-    elim (b == c) as (λ t. cond t (Some bs) (behind c bs) ≡ Some rest → cond t ([] ∷ slice_split (λ x. x == c) bs) (onto_first b (slice_split (λ x. x == c) bs)) ≡ cond t [] (b ∷ before c bs) ∷ slice_split (λ x. x == c) rest) [
-      | true ↦ λ found. cc
-      | false ↦ λ found. ap (onto_first b) (pieces_more c bs rest found)
-    ]
+pieces_more c bs rest cut =
+    let f = found c bs rest cut in
+    slice_split_first (λ b. b == c) bs 0 f.0 ∙ ap (λ ys. before c bs ∷ slice_split (λ b. b == c) ys) f.1
 
 -- a text without the separator is one piece
 pub pieces_last : (c : ℕ) (bs : List ℕ) → behind c bs ≡ None → slice_split (λ b. b == c) bs ≡ bs ∷ []
-pieces_last c [] = λ none. refl
-pieces_last c (b ∷ bs) =
-    elim (b == c) as (λ t. cond t (Some bs) (behind c bs) ≡ None → cond t ([] ∷ slice_split (λ x. x == c) bs) (onto_first b (slice_split (λ x. x == c) bs)) ≡ (b ∷ bs) ∷ []) [
-      | true ↦ λ none. cc
-      | false ↦ λ none. ap (onto_first b) (pieces_last c bs none)
-    ]
+pieces_last c bs none =
+    slice_split_none (λ b. b == c) bs (λ k d inside. fails_before_first (λ b. b == c) bs k d (omega (arith, missing c bs none)))
 
 pub lacks_append : (c : ℕ) (xs ys : List ℕ) → Lacks c xs → Lacks c ys → Lacks c (xs ++ ys)
 lacks_append c [] ys left right = right
@@ -95,3 +107,26 @@ pieces_join c (x ∷ y ∷ xs) some lacks =
     let front = before_at c x joined lacks.0 in
     let rest = pieces_join c (y ∷ xs) (omega arith) lacks.1 in
     cut ∙ (ap (λ p. p ∷ slice_split (λ b. b == c) joined) front ∙ ap (λ ps. x ∷ ps) rest)
+
+-- the parts at a place that `position` answers, in the words of the place
+pub found_first : (c : ℕ) (bs : List ℕ) (i : ℕ) → Some i ≡ position (λ b. b == c) bs → Lacks c (take i bs)
+found_first c bs i at =
+    let same : place c bs ≡ i = grind (arith, nat_tests) in
+    subst (λ n. Lacks c (take n bs)) same (lacks_before c bs)
+
+pub found_parts : (c : ℕ) (bs : List ℕ) (i : ℕ) → Some i ≡ position (λ b. b == c) bs
+    → bs ≡ take i bs ++ c ∷ take (length bs - (i + 1)) (drop (i + 1) bs)
+found_parts c bs i at =
+    let same : place c bs ≡ i = grind (arith, nat_tests) in
+    let inside : place c bs < length bs = grind (arith, nat_tests) in
+    let whole : take (length bs - (i + 1)) (drop (i + 1) bs) ≡ drop (i + 1) bs = grind (arith, common_steps) in
+    let cut : behind c bs ≡ Some (after_first (λ b. b == c) bs) = rw (lt-ltb (place c bs) (length bs) inside) refl in
+    rw whole (subst (λ n. bs ≡ take n bs ++ c ∷ drop (n + 1) bs) same (cut_parts c bs _ cut))
+
+pub missing_first : (c : ℕ) (bs : List ℕ) → None ≡ position (λ b. b == c) bs → Lacks c bs
+missing_first c bs none =
+    let past : length bs ≤ place c bs = grind (arith, nat_tests) in
+    subst (Lacks c) (take_all (place c bs) bs past) (lacks_before c bs)
+
+-- what `cut` promises
+pub ruleset cuts = (found_first, found_parts, missing_first)

@@ -123,8 +123,8 @@ pub id_parts_taken : (letters : List ℕ) (has_adjacent : Bool) (text : List ℕ
 unfolding id_parts_at
 id_parts_taken letters has_adjacent text parts read =
     let steps = bind_taken (params_at letters has_adjacent (params_part text)) (λ p. behind_params p (from_separator text)) parts read in
-    parts_text letters text steps.0 parts (params_taken letters has_adjacent (params_part text) steps.0 steps.1)
-    (behind_params_taken steps.0 (from_separator text) parts steps.2)
+    parts_text letters text steps.value parts (params_taken letters has_adjacent (params_part text) steps.value steps.gives)
+    (behind_params_taken steps.value (from_separator text) parts steps.rest)
 
 -- what stands behind the parameters is read behind them
 split_params : (letters : List ℕ) (has_adjacent : Bool) (p : Params) (separator : ℕ) (rest : List ℕ) → LacksSeparators letters
@@ -158,9 +158,9 @@ with_taken : (D : Type 0) (letters : List ℕ) (desc_at : ℕ → List ℕ → R
     → IsIdText letters IsDesc id text
 with_taken D letters desc_at IsDesc text (Described p desc) id reads h read =
     let steps = bind_taken (desc_at p.size desc) (λ d. Ok (Described p d)) id read in
-    let is : Described p steps.0 ≡ id = cc in
+    let is : Described p steps.value ≡ id = cc in
     let text_is : text ≡ params_text p ++ colon ∷ desc = h.1.1 ∙ ap (λ xs. params_text p ++ colon ∷ xs) (sym h.1.2) in
-    subst (λ v. IsIdText letters IsDesc v text) is (h.0, (desc, text_is, reads.taken p.size desc steps.0 h.0.smallest h.0.largest steps.1))
+    subst (λ v. IsIdText letters IsDesc v text) is (h.0, (desc, text_is, reads.taken p.size desc steps.value h.0.smallest h.0.largest steps.gives))
 with_taken D letters desc_at IsDesc text (Seeded p seed) id reads h read =
     let is : Seeded p seed ≡ id = cc in
     subst (λ v. IsIdText letters IsDesc v text) is h
@@ -172,7 +172,7 @@ pub id_taken : (D : Type 0) (letters : List ℕ) (has_adjacent : Bool) (desc_at 
 unfolding id_at
 id_taken D letters has_adjacent desc_at IsDesc text id reads read =
     let steps = bind_taken (id_parts_at letters has_adjacent text) (with_description desc_at) id read in
-    with_taken D letters desc_at IsDesc text steps.0 id reads (id_parts_taken letters has_adjacent text steps.0 steps.1) steps.2
+    with_taken D letters desc_at IsDesc text steps.value id reads (id_parts_taken letters has_adjacent text steps.value steps.gives) steps.rest
 
 -- a text that is an ID by the grammar is read as what it spells
 pub id_again : (D : Type 0) (letters : List ℕ) (has_adjacent : Bool) (desc_at : ℕ → List ℕ → Result D IdFault)

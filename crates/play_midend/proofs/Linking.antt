@@ -25,15 +25,16 @@ pub record LastBack (p : Puzzle) (first : BoardValue) (rs : List Link) (r : Link
 
 past_last : (p : Puzzle) (first : BoardValue) (rs : List Link) (r : Link) (now : BoardValue) → ArePast p first (rs ++ r ∷ []) now
     → LastBack p first rs r now
-past_last p first [] r now h = record { before = first; past = refl; is_back = subst (λ (b : BoardValue). IsBack p first r b) (sym h.2) h.1 }
-past_last p first (q ∷ rs) r now h =
-    let more = past_last p h.0 rs r now h.2 in
-    record { before = more.before; past = (h.0, h.1, more.past); is_back = more.is_back }
+past_last p first [] r now (mid, back, same) =
+    record { before = first; past = refl; is_back = subst (λ (b : BoardValue). IsBack p first r b) (sym same) back }
+past_last p first (q ∷ rs) r now (mid, back, past) =
+    let more = past_last p mid rs r now past in
+    record { before = more.before; past = (mid, back, more.past); is_back = more.is_back }
 
 past_more : (p : Puzzle) (first : BoardValue) (rs : List Link) (r : Link) (before now : BoardValue) → ArePast p first rs before
     → IsBack p before r now → ArePast p first (rs ++ r ∷ []) now
 past_more p first [] r before now h back = (now, subst (λ (b : BoardValue). IsBack p b r now) h back, refl)
-past_more p first (q ∷ rs) r before now h back = (h.0, h.1, past_more p h.0 rs r before now h.2 back)
+past_more p first (q ∷ rs) r before now (mid, one, past) back = (mid, one, past_more p mid rs r before now past back)
 
 -- the links round a place
 take_there : (links : List Link) (n : ℕ) (r : Link) → n < length links → r ≡ get_or links n r
@@ -87,8 +88,9 @@ pub record FirstAhead (p : Puzzle) (now : BoardValue) (r : Link) (rs : List Link
 pub first_ahead : (p : Puzzle) (links : List Link) (n : ℕ) (board : BoardValue) (r : Link) → AreLinked p links n board
     → n < length links → r ≡ get_or links n r → FirstAhead p board r (drop (n + 1) links)
 first_ahead p links n board r h inside is =
-    let later : AreLater p board (r ∷ drop (n + 1) links) = subst (λ (rs : List Link). AreLater p board rs) (drop_there links n r inside is) h.later in
-    record { next = later.0; is_ahead = later.1; later = later.2 }
+    let all : AreLater p board (r ∷ drop (n + 1) links) = subst (λ (rs : List Link). AreLater p board rs) (drop_there links n r inside is) h.later in
+    let (next, ahead, later) = all in
+    record { next = next; is_ahead = ahead; later = later }
 
 pub linked_ahead : (p : Puzzle) (links : List Link) (n : ℕ) (board : BoardValue) (r q : Link) (new : BoardValue)
     → AreLinked p links n board → n < length links → r ≡ get_or links n r → new ≡ board_after board r.change → q.made ≡ r.made
@@ -139,8 +141,8 @@ linked_new p links n board r next h ahead room restart =
 pub replay_past : (p : Puzzle) (first : BoardValue) (rs : List Link) (now : BoardValue) → ArePast p first rs now
     → replay_from p first (moves_of rs) ≡ now
 replay_past p first [] now h = sym h
-replay_past p first (r ∷ rs) now h =
-    ap (λ (b : BoardValue). replay_from p b (moves_of rs)) (after_step p first r.made h.0 h.1.stepped) ∙ replay_past p h.0 rs now h.2
+replay_past p first (r ∷ rs) now (mid, back, past) =
+    ap (λ (b : BoardValue). replay_from p b (moves_of rs)) (after_step p first r.made mid back.stepped) ∙ replay_past p mid rs now past
 
 pub shown_linked : (p : Puzzle) (links : List Link) (n : ℕ) (board : BoardValue) → AreLinked p links n board
     → replay_from p (start_of p) (take n (moves_of links)) ≡ board
@@ -149,13 +151,13 @@ shown_linked p links n board h = rw (take-map (λ (r : Link). r.made) n links) (
 past_playable : (p : Puzzle) (first : BoardValue) (rs : List Link) (now : BoardValue) → ArePast p first rs now
     → ArePlayable p first (moves_of rs)
 past_playable p first [] now h = tt
-past_playable p first (r ∷ rs) now h =
-    (rw h.1.stepped refl, subst (λ (b : BoardValue). ArePlayable p b (moves_of rs)) (sym (after_step p first r.made h.0 h.1.stepped)) (past_playable p h.0 rs now h.2))
+past_playable p first (r ∷ rs) now (mid, back, past) =
+    (rw back.stepped refl, subst (λ (b : BoardValue). ArePlayable p b (moves_of rs)) (sym (after_step p first r.made mid back.stepped)) (past_playable p mid rs now past))
 
 later_playable : (p : Puzzle) (now : BoardValue) (rs : List Link) → AreLater p now rs → ArePlayable p now (moves_of rs)
 later_playable p now [] h = tt
-later_playable p now (r ∷ rs) h =
-    (rw h.1.stepped refl, subst (λ (b : BoardValue). ArePlayable p b (moves_of rs)) (sym (after_step p now r.made h.0 h.1.stepped)) (later_playable p h.0 rs h.2))
+later_playable p now (r ∷ rs) (next, ahead, later) =
+    (rw ahead.stepped refl, subst (λ (b : BoardValue). ArePlayable p b (moves_of rs)) (sym (after_step p now r.made next ahead.stepped)) (later_playable p next rs later))
 
 pub legal_linked : (p : Puzzle) (links : List Link) (n : ℕ) (board : BoardValue) → AreLinked p links n board
     → IsLegal p (moves_of links)

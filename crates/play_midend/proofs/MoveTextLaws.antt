@@ -17,28 +17,28 @@ use Rattle.byte_text.specs.Bytes.{capital_r, capital_p, capital_m, capital_s, ca
 
 -- three numbers
 abbrev IsThree : List ℕ → ℕ × ℕ × ℕ → Type 0
-IsThree text t = AreBytes t.0 t.1 t.2 × (text ≡ three_text t.0 t.1 t.2)
+IsThree text (x, y, n) = AreBytes x y n × (text ≡ three_text x y n)
 
-all_three_taken : (x y n : Option ℕ) (t : ℕ × ℕ × ℕ) → all_three x y n ≡ Some t → (x ≡ Some t.0) × (y ≡ Some t.1) × (n ≡ Some t.2)
-all_three_taken (Some x) (Some y) (Some n) t e =
-    let f : (x, y, n) ≡ t = cc in (ap (λ u. Some u.0) f, ap (λ u. Some u.1) f, ap (λ u. Some u.2) f)
-all_three_taken None y n t e = cc
-all_three_taken (Some x) None n t e = cc
-all_three_taken (Some x) (Some y) None t e = cc
+all_three_taken : (x y n : Option ℕ) (i j k : ℕ) → all_three x y n ≡ Some (i, j, k) → (x ≡ Some i) × (y ≡ Some j) × (n ≡ Some k)
+all_three_taken (Some x) (Some y) (Some n) i j k e =
+    let same : (x, y, n) ≡ (i, j, k) = cc in (ap (λ (a, b, c). Some a) same, ap (λ (a, b, c). Some b) same, ap (λ (a, b, c). Some c) same)
+all_three_taken None y n i j k e = cc
+all_three_taken (Some x) None n i j k e = cc
+all_three_taken (Some x) (Some y) None i j k e = cc
 
 three_parts : (text rest last : List ℕ) (t : ℕ × ℕ × ℕ) → behind comma text ≡ Some rest → behind comma rest ≡ Some last
     → all_three (decimal_value 255 (before comma text)) (decimal_value 255 (before comma rest)) (decimal_value 255 last) ≡ Some t
     → IsThree text t
-three_parts text rest last t cut more read =
-    let each = all_three_taken _ _ _ t read in
-    let x = number_taken 255 t.0 (before comma text) (omega arith) each.0 in
-    let y = number_taken 255 t.1 (before comma rest) (omega arith) each.1 in
-    let n = number_taken 255 t.2 last (omega arith) each.2 in
+three_parts text rest last (i, j, k) cut more read =
+    let (read_x, read_y, read_n) = all_three_taken _ _ _ i j k read in
+    let x = number_taken 255 i (before comma text) (omega arith) read_x in
+    let y = number_taken 255 j (before comma rest) (omega arith) read_y in
+    let n = number_taken 255 k last (omega arith) read_n in
     let e : text ≡ before comma text ++ (comma ∷ rest) = cut_parts comma text rest cut in
     let f : rest ≡ before comma rest ++ (comma ∷ last) = cut_parts comma rest last more in
-    let g : rest ≡ decimal t.1 ++ (comma ∷ decimal t.2) = f ∙ ap (λ front. front ++ (comma ∷ last)) y.0 ∙ ap (λ end. decimal t.1 ++ (comma ∷ end)) n.0 in (
+    let g : rest ≡ decimal j ++ (comma ∷ decimal k) = f ∙ ap (λ front. front ++ (comma ∷ last)) y.0 ∙ ap (λ end. decimal j ++ (comma ∷ end)) n.0 in (
       record { x_is = x.1; y_is = y.1; n_is = n.1 },
-      e ∙ ap (λ front. front ++ (comma ∷ rest)) x.0 ∙ ap (λ end. decimal t.0 ++ (comma ∷ end)) g,
+      e ∙ ap (λ front. front ++ (comma ∷ rest)) x.0 ∙ ap (λ end. decimal i ++ (comma ∷ end)) g,
     )
 
 three_taken : (text : List ℕ) (t : ℕ × ℕ × ℕ) → three_at text ≡ Some t → IsThree text t
@@ -135,14 +135,14 @@ numbers_taken make b bs m text =
       | Some t ↦ λ is read. let e : make t ≡ m = cc in subst (λ (k : Move). IsMoveText k (b ∷ bs)) e (text t is)
     ] refl
 
-real_taken : (bs : List ℕ) (m : Move) → ReadsMove (option_map (λ t. Real t.0 t.1 t.2) (three_at bs)) capital_r bs m
+real_taken : (bs : List ℕ) (m : Move) → ReadsMove (option_map (λ (x, y, n). Real x y n) (three_at bs)) capital_r bs m
 real_taken bs m =
-    numbers_taken (λ t. Real t.0 t.1 t.2) capital_r bs m
+    numbers_taken (λ (x, y, n). Real x y n) capital_r bs m
     (λ t is. let h = three_taken bs t is in record { writable = h.0; spelled = ap (λ xs. capital_r ∷ xs) h.1 })
 
-pencil_taken : (bs : List ℕ) (m : Move) → ReadsMove (option_map (λ t. Pencil t.0 t.1 t.2) (three_at bs)) capital_p bs m
+pencil_taken : (bs : List ℕ) (m : Move) → ReadsMove (option_map (λ (x, y, n). Pencil x y n) (three_at bs)) capital_p bs m
 pencil_taken bs m =
-    numbers_taken (λ t. Pencil t.0 t.1 t.2) capital_p bs m
+    numbers_taken (λ (x, y, n). Pencil x y n) capital_p bs m
     (λ t is. let h = three_taken bs t is in record { writable = h.0; spelled = ap (λ xs. capital_p ∷ xs) h.1 })
 
 mark_all_taken : (bs : List ℕ) (m : Move) → ReadsMove (mark_all_at bs) capital_m bs m
@@ -161,14 +161,14 @@ solve_taken bs m =
           subst (λ (k : Move). IsMoveText k (capital_s ∷ bs)) e (record { writable = h.0; spelled = ap (λ xs. capital_s ∷ xs) h.1 })
     ] refl
 
-done_taken : (bs : List ℕ) (m : Move) → ReadsMove (option_map (λ t. Done t.0 t.1) (two_at bs)) capital_d bs m
+done_taken : (bs : List ℕ) (m : Move) → ReadsMove (option_map (λ (x, y). Done x y) (two_at bs)) capital_d bs m
 done_taken bs m =
-    elim (two_at bs) as (λ o. two_at bs ≡ o → ReadsMove (option_map (λ t. Done t.0 t.1) o) capital_d bs m) [
+    elim (two_at bs) as (λ o. two_at bs ≡ o → ReadsMove (option_map (λ (x, y). Done x y) o) capital_d bs m) [
       | None ↦ λ is read. cc
       | Some t ↦ λ is read.
-          let h = two_taken bs t is in
+          let (x_is, y_is, spelled) = two_taken bs t is in
           let e : Done t.0 t.1 ≡ m = cc in
-          subst (λ (k : Move). IsMoveText k (capital_d ∷ bs)) e (record { writable = (h.0, h.1); spelled = ap (λ xs. capital_d ∷ xs) h.2 })
+          subst (λ (k : Move). IsMoveText k (capital_d ∷ bs)) e (record { writable = (x_is, y_is); spelled = ap (λ xs. capital_d ∷ xs) spelled })
     ] refl
 
 -- one letter's row of the table: its move, or what the rows behind it give

@@ -46,7 +46,8 @@ redone_not_for_memory h e = grind arith
 solved_not_for_memory : {P : Type 0} (p : Puzzle) (h : History P) → SolveGives p h (Err OutOfMemory) → ⊥
 solved_not_for_memory p h (inl a) = let e = a.1 in cc
 solved_not_for_memory p h (inr (inl a)) = let e = a.1 in cc
-solved_not_for_memory p h (inr (inr a)) = refusal_not_for_memory (full_refusal h.position) (with_move h (Solve a.0)) (λ e. grind arith) (sym a.2)
+solved_not_for_memory p h (inr (inr (grid, only, made))) =
+    refusal_not_for_memory (full_refusal h.position) (with_move h (Solve grid)) (λ e. grind arith) (sym made)
 
 -- what a call gives, leaving memory aside, is no want of memory
 pub call_not_for_memory : {P : Type 0} (p : Puzzle) (h : History P) (call : Call) → CallGives p h call (Err OutOfMemory) → ⊥

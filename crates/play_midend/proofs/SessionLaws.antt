@@ -85,8 +85,8 @@ valid_redone {P} p h new v is =
 valid_solved : {P : Type 0} (p : Puzzle) (h new : History P) → IsValid p h → SolveGives p h (Ok new) → IsValid p new
 valid_solved p h new v (inl none) = cc (none.1)
 valid_solved p h new v (inr (inl several)) = cc (several.1)
-valid_solved p h new v (inr (inr one)) =
-    valid_played p h new (Solve one.0) v (solved_as_played p h one.0 one.1 ∙ sym one.2)
+valid_solved p h new v (inr (inr (grid, only, made))) =
+    valid_played p h new (Solve grid) v (solved_as_played p h grid only ∙ sym made)
 
 -- what a call makes of a valid session is valid
 pub valid_called : {P : Type 0} (p : Puzzle) (h new : History P) (call : Call) → IsValid p h → CallGives p h call (Ok new) → IsValid p new
@@ -104,7 +104,7 @@ valid_answered {P} p h new call (Err fault) v is = subst (λ (k : History P). Is
 valid_run : {P : Type 0} (p : Puzzle) (h new : History P) (calls : List (Call × Result (Unit {0}) PlayFault)) → IsValid p h
     → AnsweredInTurn p h calls new → IsValid p new
 valid_run {P} p h new [] v run = subst (λ (k : History P). IsValid p k) (sym run) v
-valid_run p h new (c ∷ calls) v run = valid_run p run.0 new calls (valid_answered p h run.0 c.0 c.1 v run.1) run.2
+valid_run p h new ((call, answer) ∷ calls) v (next, first, run) = valid_run p next new calls (valid_answered p h next call answer v first) run
 
 pub runs_stay_valid : {P : Type 0} (puzzle : P → Puzzle) → RunsStayValid puzzle
 runs_stay_valid puzzle old new calls v run = valid_run (puzzle old.puzzle) old new calls v run
@@ -144,8 +144,8 @@ undo_takes_restart_back puzzle old new v is = undo_takes_back puzzle old new Res
 pub undo_takes_solve_back : {P : Type 0} (puzzle : P → Puzzle) → UndoTakesSolveBack puzzle
 undo_takes_solve_back puzzle old new v (inl none) = cc (none.1)
 undo_takes_solve_back puzzle old new v (inr (inl several)) = cc (several.1)
-undo_takes_solve_back puzzle old new v (inr (inr one)) =
-    undo_takes_back puzzle old new (Solve one.0) v (solved_as_played (puzzle old.puzzle) old one.0 one.1 ∙ sym one.2)
+undo_takes_solve_back puzzle old new v (inr (inr (grid, only, made))) =
+    undo_takes_back puzzle old new (Solve grid) v (solved_as_played (puzzle old.puzzle) old grid only ∙ sym made)
 
 -- a call that may take memory adds a state, and an undo shows the one before
 pub call_taken_back : {P : Type 0} (puzzle : P → Puzzle) (h new : History P) (call : Call) → IsValid (puzzle h.puzzle) h

@@ -30,8 +30,8 @@ same_game_at {P} h new position e =
 pub same_game_solved : {P : Type 0} (p : Puzzle) (h new : History P) → SolveGives p h (Ok new) → IsSameGame h new
 same_game_solved p h new (inl none) = cc (none.1)
 same_game_solved p h new (inr (inl several)) = cc (several.1)
-same_game_solved p h new (inr (inr one)) =
-    same_game_played p h new (Solve one.0) (solved_as_played p h one.0 one.1 ∙ sym one.2)
+same_game_solved p h new (inr (inr (grid, only, made))) =
+    same_game_played p h new (Solve grid) (solved_as_played p h grid only ∙ sym made)
 
 -- a call changes neither the puzzle of a session nor its parameters
 pub same_game_called : {P : Type 0} (p : Puzzle) (h new : History P) (call : Call) → CallGives p h call (Ok new) → IsSameGame h new
@@ -69,10 +69,10 @@ storable_run : {P : Type 0} (puzzle : P → Puzzle) (of_game : P → Type 0) (le
     (calls : List (Call × Result (Unit {0}) PlayFault))
     → IsStorable puzzle of_game letters h → AnsweredInTurn (puzzle h.puzzle) h calls new → IsStorable puzzle of_game letters new
 storable_run {P} puzzle of_game letters h new [] s run = subst (λ (k : History P). IsStorable puzzle of_game letters k) (sym run) s
-storable_run {P} puzzle of_game letters h new (c ∷ calls) s run =
-    let first = storable_answered puzzle of_game letters h run.0 c.0 c.1 s run.1 in
-    let same = same_puzzle_answered (puzzle h.puzzle) h run.0 c.0 c.1 run.1 in
-    storable_run puzzle of_game letters run.0 new calls first (subst (λ (q : P). AnsweredInTurn (puzzle q) run.0 calls new) (sym same) run.2)
+storable_run {P} puzzle of_game letters h new ((call, answer) ∷ calls) s (next, answered, run) =
+    let first = storable_answered puzzle of_game letters h next call answer s answered in
+    let same = same_puzzle_answered (puzzle h.puzzle) h next call answer answered in
+    storable_run puzzle of_game letters next new calls first (subst (λ (q : P). AnsweredInTurn (puzzle q) next calls new) (sym same) run)
 
 pub runs_stay_storable : {P : Type 0} (puzzle : P → Puzzle) (of_game : P → Type 0) (letters : List ℕ)
     → RunsStayStorable puzzle of_game letters

@@ -1,2 +1,3 @@
 -- Words that the invariants and the contracts of private functions alone use.
 pub mod Links
+pub mod Effects

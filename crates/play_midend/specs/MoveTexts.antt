@@ -122,11 +122,11 @@ mark_all_at (b ∷ bs) = None
 abbrev pub move_by : List ℕ → Option Move
 move_by [] = None
 move_by (b ∷ bs) =
-    if b == capital_r then option_map (λ t. Real t.0 t.1 t.2) (three_at bs)
-    else (if b == capital_p then option_map (λ t. Pencil t.0 t.1 t.2) (three_at bs)
+    if b == capital_r then option_map (λ (x, y, n). Real x y n) (three_at bs)
+    else (if b == capital_p then option_map (λ (x, y, n). Pencil x y n) (three_at bs)
     else (if b == capital_m then mark_all_at bs
     else (if b == capital_s then option_map Solve (solution_at bs)
-    else (if b == capital_d then option_map (λ t. Done t.0 t.1) (two_at bs) else None))))
+    else (if b == capital_d then option_map (λ (x, y). Done x y) (two_at bs) else None))))
 
 -- reading a text: its move, or its fault
 unfoldable pub move_at : List ℕ → Result Move PlayFault

@@ -9,7 +9,7 @@ ghost use Rattle.play_midend.specs.Histories.{first_state_refusal, full_refusal}
 use crate::extras::Extras;
 use crate::fault::PlayFault;
 use crate::moves::Move;
-use crate::step::{change_for, check, start};
+use crate::step::{Effect, change_for, effect_of, start};
 use clue_rules::{Game, Params};
 use latin_board::{Board, Change};
 use std::alloc::{AllocError, Global};
@@ -111,6 +111,7 @@ fn exchange(board: &mut Board, link: &mut Link)
 impl<P: Game> Session<P> {
     ghost use Rattle.play_midend.specs.Histories.{History, IsValid, shown, started, at_position, refusal_in, played, restarted, SolveGives, undone, redone, IsRefusal, IsSolveRefusal};
     ghost use Rattle.play_midend.specs.declared.moves.Move.{Move};
+    ghost use Rattle.play_midend.specs.Inner.Effects.{IsEffect};
 
     /// A session of the puzzle at its start. The size of `params` is the puzzle's.
     ///
@@ -153,9 +154,9 @@ impl<P: Game> Session<P> {
         ensures in_place { takes_memory m ≡ false → self.old.position ≤ length self.old.moves
             → IfErr result (λ fault. played (P.puzzle self.old.puzzle) self.old m ≡ Err fault) }
     {
-        self.allow(&m)?;
+        let effect = self.allow(&m)?;
         let alloc = *self.links.allocator();
-        let change = change_for(alloc, &self.puzzle, &self.board, &m)?;
+        let change = change_for(alloc, &self.puzzle, &self.board, effect)?;
         put(&mut self.links, self.past, Link { made: m, change })?;
         self.forward();
         Ok(())
@@ -217,15 +218,18 @@ impl<P: Game> Session<P> {
         Ok(())
     }
 
-    // The first refusal of a move, `OutOfMemory` left aside.
-    fn allow(&self, m: &Move) -> Result<(), PlayFault>
+    // What a move does, or its first refusal, `OutOfMemory` left aside.
+    fn allow(&self, m: &Move) -> Result<Effect, PlayFault>
         ensures ok { OnOk result (refusal_in (P.puzzle self.now.puzzle) self.now m.now ≡ None) }
+        ensures effect { IfOk result (IsEffect (P.puzzle self.now.puzzle)
+            (shown (P.puzzle self.now.puzzle) self.now) m.now) }
         ensures err { IfErr result (λ fault.
             refusal_in (P.puzzle self.now.puzzle) self.now m.now ≡ Some fault) }
     {
         check_restart(self.position(), m)?;
-        check(self.puzzle(), self.board(), m)?;
-        check_room(self.position())
+        let effect = effect_of(self.puzzle(), self.board(), m)?;
+        check_room(self.position())?;
+        Ok(effect)
     }
 
     // Makes the next of the later moves again.

@@ -1,9 +1,10 @@
 //! One move on a board: its refusals, and the change that makes it.
 
-ghost use Rattle.std.specs.Prelude.{◌≡◌, ◌<◌, ◌≤◌, ◌+◌, ◌*◌, None, Some, false, IfOk, IfErr, IsOk, OnOk, MatchResult};
+ghost use Rattle.std.specs.Prelude.{◌≡◌, ◌<◌, ◌≤◌, ◌+◌, ◌*◌, None, Some, IfOk, IfErr, IsOk, MatchResult};
 ghost use Rattle.latin_board.specs.Marks.{IsMarkSet};
 ghost use Rattle.latin_board.specs.Changes.{FitsBoard, OneSquare, board_after};
-ghost use Rattle.play_midend.specs.Steps.{cell_of, entry_refusal, refusal_of, with_number, with_mark_flipped, marks_of_all, all_marked, filled, givens_of, start_of, moved, takes_memory, step, IsRefusalOf, Makes};
+ghost use Rattle.play_midend.specs.Steps.{cell_of, entry_refusal, refusal_of, with_number, with_mark_flipped, marks_of_all, all_marked, filled, givens_of, start_of, moved, step, IsRefusalOf, Makes};
+ghost use Rattle.play_midend.specs.Inner.Effects.{effect_on, IsWithin, IsOfSquare, IsEffect};
 
 use crate::fault::PlayFault;
 use crate::moves::Move;
@@ -12,12 +13,15 @@ use latin_board::{Board, Change, Grid, Marks, OutOfMemory, edge_place};
 use std::alloc::Global;
 use trail_solver::{Rules, solves};
 
-// The square at column x and row y of a grid of this width.
-fn cell_of(width: u8, x: u8, y: u8) -> usize
-    requires { width ≤ 9 }
-    ensures { result ≡ cell_of width x y }
-{
-    y as usize * width as usize + x as usize
+/// What a move that isn't refused does to a board.
+#[derive(Clone, Copy, Debug)]
+pub(crate) enum Effect {
+    /// A number at a square, 0 for none, and no marks there.
+    Number { cell: usize, n: u8 },
+    /// One mark of a square is flipped.
+    Mark { cell: usize, n: u8 },
+    /// Any other: the board that it leads to.
+    Whole(Board),
 }
 
 // The square of a number or a mark, or the first refusal of it.
@@ -35,49 +39,11 @@ fn entry_cell<P: Game>(puzzle: &P, x: u8, y: u8, n: u8) -> Result<usize, PlayFau
     if n > width {
         return Err(PlayFault::OffRange);
     }
-    let cell = cell_of(width, x, y);
+    let cell = y as usize * width as usize + x as usize;
     if puzzle.given(cell) != 0 {
         return Err(PlayFault::GivenSquare);
     }
     Ok(cell)
-}
-
-// The first refusal of a move, `HistoryFull` and `OutOfMemory` left aside.
-#[tactic(auto, using(crate::proofs::TestedSolutions::grid_tested))]
-pub(crate) fn check<P: Game>(puzzle: &P, board: &Board, m: &Move) -> Result<(), PlayFault>
-    requires { board.now.size ≡ (P.puzzle puzzle.now).size }
-    ensures ok { OnOk result (refusal_of (P.puzzle puzzle.now) board.now m.now ≡ None) }
-    ensures err { IfErr result (λ fault.
-        refusal_of (P.puzzle puzzle.now) board.now m.now ≡ Some fault) }
-{
-    match *m {
-        Move::Real { x, y, n } => {
-            entry_cell(puzzle, x, y, n)?;
-            Ok(())
-        }
-        Move::Pencil { x, y, n } => {
-            let cell = entry_cell(puzzle, x, y, n)?;
-            if n != 0 && board.digit(cell) != 0 {
-                return Err(PlayFault::FilledSquare);
-            }
-            Ok(())
-        }
-        Move::Solve(grid) => {
-            if grid.size() == puzzle.size() && solves(puzzle, &grid) {
-                Ok(())
-            } else {
-                Err(PlayFault::BadSolution)
-            }
-        }
-        Move::Done { x, y } => {
-            if puzzle.clue_at(x, y) {
-                Ok(())
-            } else {
-                Err(PlayFault::OffGrid)
-            }
-        }
-        Move::MarkAll | Move::Restart => Ok(()),
-    }
 }
 
 // The puzzle's givens.
@@ -214,35 +180,67 @@ fn mark_change(board: &Board, cell: usize, n: u8) -> Change
     )
 }
 
-// The change that makes a move which isn't refused.
+/// What a move does, or its first refusal, `HistoryFull` and `OutOfMemory` left aside.
+#[tactic(auto, using(crate::proofs::TestedSolutions::grid_tested))]
+pub(crate) fn effect_of<P: Game>(puzzle: &P, board: &Board, m: &Move) -> Result<Effect, PlayFault>
+    requires { board.now.size ≡ (P.puzzle puzzle.now).size }
+    ensures ok { IfOk result (IsEffect (P.puzzle puzzle.now) board.now m.now) }
+    ensures err { IfErr result (λ fault.
+        refusal_of (P.puzzle puzzle.now) board.now m.now ≡ Some fault) }
+{
+    match *m {
+        Move::Real { x, y, n } => {
+            let cell = entry_cell(puzzle, x, y, n)?;
+            Ok(Effect::Number { cell, n })
+        }
+        Move::Pencil { x, y, n } => {
+            let cell = entry_cell(puzzle, x, y, n)?;
+            if n == 0 {
+                return Ok(Effect::Number { cell, n });
+            }
+            if board.digit(cell) != 0 {
+                return Err(PlayFault::FilledSquare);
+            }
+            Ok(Effect::Mark { cell, n })
+        }
+        Move::Solve(grid) => {
+            if grid.size() == puzzle.size() && solves(puzzle, &grid) {
+                Ok(Effect::Whole(with_solution(board, &grid)))
+            } else {
+                Err(PlayFault::BadSolution)
+            }
+        }
+        Move::Done { x, y } => {
+            if puzzle.clue_at(x, y) {
+                Ok(Effect::Whole(with_done_flipped(puzzle, board, x, y)))
+            } else {
+                Err(PlayFault::OffGrid)
+            }
+        }
+        Move::MarkAll => Ok(Effect::Whole(with_all_marks(board))),
+        Move::Restart => Ok(Effect::Whole(start(puzzle))),
+    }
+}
+
+/// The change that makes a move, by its effect.
 pub(crate) fn change_for<P: Game>(
     alloc: Global,
     puzzle: &P,
     board: &Board,
-    m: &Move,
+    effect: Effect,
 ) -> Result<Change, OutOfMemory>
     requires size { board.now.size ≡ (P.puzzle puzzle.now).size }
-    requires allowed { refusal_of (P.puzzle puzzle.now) board.now m.now ≡ None }
-    ensures fits { IfOk result (λ change. FitsBoard board.now change) }
+    requires within { IsWithin board.now effect }
+    ensures fits { IfOk result (FitsBoard board.now) }
     ensures board { IfOk result (λ change.
-        board_after board.now change ≡ moved (P.puzzle puzzle.now) board.now m.now) }
-    ensures in_place { takes_memory m.now ≡ false → IsOk result }
+        board_after board.now change ≡ effect_on (P.puzzle puzzle.now) board.now effect) }
+    ensures in_place { IsOfSquare effect → IsOk result }
 {
-    let width = puzzle.size().get();
-    let next = match *m {
-        Move::Real { x, y, n } => {
-            return Ok(number_change(puzzle, board, cell_of(width, x, y), n));
-        }
-        Move::Pencil { x, y, n: 0 } => {
-            return Ok(number_change(puzzle, board, cell_of(width, x, y), 0));
-        }
-        Move::Pencil { x, y, n } => return Ok(mark_change(board, cell_of(width, x, y), n)),
-        Move::MarkAll => with_all_marks(board),
-        Move::Solve(grid) => with_solution(board, &grid),
-        Move::Restart => start(puzzle),
-        Move::Done { x, y } => with_done_flipped(puzzle, board, x, y),
-    };
-    Change::whole(alloc, next)
+    match effect {
+        Effect::Number { cell, n } => Ok(number_change(puzzle, board, cell, n)),
+        Effect::Mark { cell, n } => Ok(mark_change(board, cell, n)),
+        Effect::Whole(next) => Change::whole(alloc, next),
+    }
 }
 
 /// The change that, exchanged with a board of the puzzle's size, makes the move there, and exchanged again takes it back.
@@ -260,8 +258,8 @@ pub fn change_of<P: Game>(
     ensures ok { IfOk result (λ change. Makes (P.puzzle puzzle.now) board.now m.now change) }
     ensures why { IfErr result (IsRefusalOf m.now (step (P.puzzle puzzle.now) board.now m.now)) }
 {
-    check(puzzle, board, m)?;
+    let effect = effect_of(puzzle, board, m)?;
     let _size = board.size();
-    let change = change_for(alloc, puzzle, board, m)?;
+    let change = change_for(alloc, puzzle, board, effect)?;
     Ok(change)
 }

@@ -38,8 +38,8 @@ positive_again (suc n) some = refl
 pub count_taken : (value : List ℕ) (n : ℕ) → count_at value ≡ Some n → (value ≡ decimal n) × (1 ≤ n) × (n ≤ MOST_STATES)
 count_taken value n is =
     let read = and_then_taken positive (decimal_value MOST_STATES value) n is in
-    let some = positive_taken read.0 n read.2 in
-    let number = number_taken MOST_STATES read.0 value (lit< tt) read.1 in
+    let some = positive_taken read.value n read.rest in
+    let number = number_taken MOST_STATES read.value value (lit< tt) read.gives in
     (number.0 ∙ ap decimal some.0, some.1, omega (arith, number.1, some.0))
 
 -- the decimal of such a number is read as that count
@@ -88,13 +88,13 @@ sound_count : {P : Type 0} (game : SavedGame P) (m : MetValue) (which : WhichCou
     → IsSound m → fault_by game m (Header (Count which)) value ≡ None → IsSound (added m (Header (Count which)) value)
 sound_count game m States value s none =
     let fresh = once_taken (is_some (m.first (Count States))) _ none in
-    let good = count_faultless States (count_at value) (count_met m Position) fresh.1 in
-    let some = count_taken value good.0 good.1 in
+    let (count, read, together) = count_faultless States (count_at value) (count_met m Position) fresh.1 in
+    let some = count_taken value count read in
     let empty = s.early (unmet (m.first (Count States)) fresh.0) in
     record {
       early = λ is. cc;
-      few = λ n is. let same : good.0 ≡ n = cc good.1 in omega (arith, same, empty, some.1);
-      inside = λ n p is at. let same : good.0 ≡ n = cc good.1 in omega (arith, same, leb-true p good.0 (good.2 p at));
+      few = λ n is. let same : count ≡ n = cc read in omega (arith, same, empty, some.1);
+      inside = λ n p is at. let same : count ≡ n = cc read in omega (arith, same, leb-true p count (together p at));
     }
   where
     unmet : (o : Option (List ℕ)) → is_some o ≡ false → option_and_then count_at o ≡ None
@@ -102,11 +102,11 @@ sound_count game m States value s none =
     unmet (Some v) none = cc
 sound_count game m Position value s none =
     let fresh = once_taken (is_some (m.first (Count Position))) _ none in
-    let good = count_faultless Position (count_at value) (count_met m States) fresh.1 in
+    let (position, read, together) = count_faultless Position (count_at value) (count_met m States) fresh.1 in
     record {
       early = s.early;
       few = s.few;
-      inside = λ n p is at. let same : good.0 ≡ p = cc good.1 in omega (arith, same, leb-true good.0 n (good.2 n is));
+      inside = λ n p is at. let same : position ≡ p = cc read in omega (arith, same, leb-true position n (together n is));
     }
 
 sound_state : {P : Type 0} (game : SavedGame P) (m : MetValue) (k : StateKey) (value : List ℕ)
@@ -139,10 +139,10 @@ sound_added game m k value s undone none = record { early = s.early; few = s.few
 sound_along : {P : Type 0} (game : SavedGame P) (before rs : List KeyedRecord)
     → IsSound (met before) → AreRight game before rs → IsSound (met (before ++ rs))
 sound_along game before [] s right = rw (append-nil before) s
-sound_along game before (r ∷ rs) s right =
-    let next = sound_added game (met before) r.key r.value s right.0 right.1 in
+sound_along game before (r ∷ rs) s (undone, faultless, right) =
+    let next = sound_added game (met before) r.key r.value s undone faultless in
     subst (λ b. IsSound (met b)) (append_assoc before (r ∷ []) rs)
-    (sound_along game (before ++ r ∷ []) rs (rw (met_added game before r.key r.value right.1) next) right.2)
+    (sound_along game (before ++ r ∷ []) rs (rw (met_added game before r.key r.value faultless) next) right)
 
 -- the counts of complete records
 pub record Counted (m : MetValue) : Type 0 where
@@ -165,7 +165,7 @@ counted game rs right = by_counts (count_met (met rs) States) (count_met (met rs
 
     in_range : (which : WhichCount) (n : ℕ) → count_met (met rs) which ≡ Some n → (1 ≤ n) × (n ≤ MOST_STATES)
     in_range which n is =
-        let read = and_then_taken count_at ((met rs).first (Count which)) n is in (let range = count_taken read.0 n read.2 in (range.1, range.2))
+        let read = and_then_taken count_at ((met rs).first (Count which)) n is in (let (text, first, last) = count_taken read.value n read.rest in (first, last))
 
     by_counts : (count position : Option ℕ) → count_met (met rs) States ≡ count → count_met (met rs) Position ≡ position
         → has_all count position (length (states_in rs)) ≡ true → Counted (met rs)
@@ -186,8 +186,8 @@ pub playable : {P : Type 0} (game : SavedGame P) (listing : Listing) (m : MetVal
     → met_in game listing ≡ Ok m → IsPlayable m
 playable game listing m is =
     let step = bind_taken (needed game [] listing) (λ rs. let r : Result MetValue LoadFault = Ok (met rs) in r) m is in
-    let need = needed_taken game [] listing step.0 step.1 in
-    let same : met need.more ≡ m = ap met (sym need.all_is) ∙ (let e = step.2 in cc) in
+    let need = needed_taken game [] listing step.value step.gives in
+    let same : met need.more ≡ m = ap met (sym need.all_is) ∙ (let e = step.rest in cc) in
     subst IsPlayable same (fits (counted game need.more need.right))
   where
     fits : {m : MetValue} → Counted m → IsPlayable m

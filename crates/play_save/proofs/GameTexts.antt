@@ -31,8 +31,8 @@ pub game_owes : {P : Type 0} (rules : RulesGhosts P) (game : GameGhosts P)
 game_owes {P} rules game taken again canonical = record {
   texts = record {
     reads = game_reads P rules.puzzle rules.valid game.describes game.desc_at taken again;
-    sized = λ w p text is. is.2;
-    canonical = λ w p text is. (canonical p is.1, is.1, is.2);
+    sized = λ w p text (described, of, size). size;
+    canonical = λ w p text (described, of, size). (canonical p of, of, size);
   };
   own_text = λ p of. (canonical p of, of, refl);
 }

@@ -1,5 +1,6 @@
 -- Lemmas on the texts of save files.
 pub mod OptionSteps
+pub mod KeyLaws
 pub mod RecordLaws
 pub mod NextRecord
 pub mod RecordLists

@@ -2,16 +2,21 @@
 use Rattle.std.proofs.Common.{◌≡◌, Bool, true, false, Option, Some, None, option_map, option_and_then, Result, Ok, Err, ok_or, cond, refl}
 use Rattle.std.specs.Result.{result_ok}
 
-pub map_taken : {A B : Type 0} (f : A → B) (o : Option A) (y : B)
-    → option_map f o ≡ Some y → (x : A) × (o ≡ Some x) × (f x ≡ y)
+-- what was there, and what comes of it
+pub record BothThere {A B : Type 0} (o : Option A) (of : A → B) (y : B) : Type 0 where
+  pub value : A
+  pub gives : o ≡ Some value
+  pub rest : of value ≡ y
+
+pub map_taken : {A B : Type 0} (f : A → B) (o : Option A) (y : B) → option_map f o ≡ Some y → BothThere o f y
 map_taken f None y is = cc
-map_taken f (Some x) y is = (x, refl, cc)
+map_taken f (Some x) y is = record { value = x; gives = refl; rest = cc }
 
 -- where something comes of two steps, something came of the first
 pub and_then_taken : {A B : Type 0} (f : A → Option B) (o : Option A) (y : B)
-    → option_and_then f o ≡ Some y → (x : A) × (o ≡ Some x) × (f x ≡ Some y)
+    → option_and_then f o ≡ Some y → BothThere o f (Some y)
 and_then_taken f None y is = cc
-and_then_taken f (Some x) y is = (x, refl, is)
+and_then_taken f (Some x) y is = record { value = x; gives = refl; rest = is }
 
 -- where a value comes of it, it was there
 pub ok_or_taken : {A E : Type 0} (o : Option A) (e : E) (y : A) → ok_or o e ≡ Ok y → o ≡ Some y

@@ -64,14 +64,14 @@ record Onward {P : Type 0} (game : SavedGame P) (text : List ℕ) (m : MetValue)
 onward : {P : Type 0} {game : SavedGame P} {text rest : List ℕ} {m : MetValue} (read : Result (Option (Entry × List ℕ)) LoadFault)
     → Reads game text rest m → is_complete m ≡ false → record_at rest ≡ read → Onward game text m read
 onward {P} {game} {text} {rest} {m} read r undone is =
-    let here = listing_at r.most rest r.within in
+    let (most, same, within) = listing_at r.most rest r.within in
     let made : Onward game text m (record_at rest) = record {
       before = r.before;
-      most = here.0;
+      most = most;
       now = r.now;
       undone = rw r.now at undone;
-      same = rw here.1 at r.same;
-      within = here.2;
+      same = rw same at r.same;
+      within = within;
     } in
     rw is at made
 

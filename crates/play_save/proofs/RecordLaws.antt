@@ -33,7 +33,7 @@ skip_split : (bs : List ℕ) → (breaks : List ℕ) × (bs ≡ breaks ++ skip_b
 skip_split [] = ([], refl, tt)
 skip_split (b ∷ bs) =
     cond_both (is_break b) _ _ (λ (rest : List ℕ). (breaks : List ℕ) × (b ∷ bs ≡ breaks ++ rest) × AreBreaks breaks)
-    (λ is. let more = skip_split bs in (b ∷ more.0, ap (λ xs. b ∷ xs) more.1, (is, more.2))) (λ is. ([], refl, tt))
+    (λ is. let (front, split, breaks) = skip_split bs in (b ∷ front, ap (λ xs. b ∷ xs) split, (is, breaks))) (λ is. ([], refl, tt))
 
 skip_no_break : (bs : List ℕ) → begins_with_break (skip_breaks bs) ≡ false
 skip_no_break [] = refl
@@ -62,8 +62,8 @@ digits_lack_colon n [] m is = tt
 digits_lack_colon n (b ∷ bs) m is =
     let step = and_then_taken (λ k. number_from 99999999 k bs) (digit_onto 99999999 n b) m is in (
       λ colon. let none : digit_onto 99999999 n b ≡ None =
-          rw colon refl in let some = step.1 in cc,
-      digits_lack_colon step.0 bs m step.2,
+          rw colon refl in let some = step.gives in cc,
+      digits_lack_colon step.value bs m step.rest,
     )
 
 length_lacks_colon : (digits : List ℕ) (n : ℕ) → length_at digits ≡ Some n → Lacks colon digits
@@ -75,9 +75,9 @@ field_taken : (bs : List ℕ) (parts : List ℕ × List ℕ)
     → field_at bs ≡ Some parts → (bs ≡ parts.0 ++ (colon ∷ parts.1)) × Lacks colon parts.0
 field_taken bs parts is =
     let found = map_taken (λ (rest : List ℕ). (before colon bs, rest)) (behind colon bs) parts is in
-    let split : (bs ≡ before colon bs ++ (colon ∷ found.0)) × Lacks colon (before colon bs) =
-    (cut_parts colon bs found.0 found.1, lacks_before colon bs) in
-    subst (λ (p : List ℕ × List ℕ). (bs ≡ p.0 ++ (colon ∷ p.1)) × Lacks colon p.0) found.2 split
+    let split : (bs ≡ before colon bs ++ (colon ∷ found.value)) × Lacks colon (before colon bs) =
+    (cut_parts colon bs found.value found.gives, lacks_before colon bs) in
+    subst (λ (p : List ℕ × List ℕ). (bs ≡ p.0 ++ (colon ∷ p.1)) × Lacks colon p.0) found.rest split
 
 field_again : (front rest : List ℕ) → Lacks colon front → field_at (front ++ (colon ∷ rest)) ≡ Some (front, rest)
 field_again front rest lacks = rw (behind_at colon front rest lacks, before_at colon front rest lacks) refl
@@ -106,14 +106,14 @@ record IsSized (value rest : List ℕ) (text : List ℕ) : Type 0 where
 sized_taken : (bs : List ℕ) (parts : List ℕ × List ℕ) → value_behind bs ≡ Some parts → IsSized parts.0 parts.1 bs
 sized_taken bs parts is =
     let field = and_then_taken _ (field_at bs) parts is in
-    let size = and_then_taken _ (length_at field.0.0) parts field.2 in
-    let cut = field_taken bs field.0 field.1 in
-    let value = value_taken size.0 field.0.1 parts size.2 in
+    let size = and_then_taken _ (length_at field.value.0) parts field.rest in
+    let cut = field_taken bs field.value field.gives in
+    let value = value_taken size.value field.value.1 parts size.rest in
     record {
-      digits = field.0.0;
-      spelled = cut.0 ∙ ap (λ xs. field.0.0 ++ (colon ∷ xs)) value.1;
+      digits = field.value.0;
+      spelled = cut.0 ∙ ap (λ xs. field.value.0 ++ (colon ∷ xs)) value.1;
       lacks = cut.1;
-      sized = size.1 ∙ ap Some (sym value.0);
+      sized = size.gives ∙ ap Some (sym value.0);
     }
 
 sized_again : (digits value rest : List ℕ)
@@ -135,20 +135,20 @@ keyed_taken : (bs : List ℕ) (e : Entry) (rest : List ℕ) → record_behind bs
 unfolding record_behind
 keyed_taken bs e rest is =
     let field = and_then_taken _ (field_at bs) (e, rest) is in
-    let cut = field_taken bs field.0 field.1 in
-    let made = where_taken (length field.0.0 == 8) _ (e, rest) field.2 in
-    let value = map_taken (record_of field.0.0) (value_behind field.0.1) (e, rest) made.1 in
-    let sized = sized_taken field.0.1 value.0 value.1 in
-    let keyed : IsKeyed (record_of field.0.0 value.0).0 (record_of field.0.0 value.0).1 bs = record {
-      key = field.0.0;
+    let cut = field_taken bs field.value field.gives in
+    let made = where_taken (length field.value.0 == 8) _ (e, rest) field.rest in
+    let value = map_taken (record_of field.value.0) (value_behind field.value.1) (e, rest) made.1 in
+    let sized = sized_taken field.value.1 value.value value.gives in
+    let keyed : IsKeyed (record_of field.value.0 value.value).0 (record_of field.value.0 value.value).1 bs = record {
+      key = field.value.0;
       digits = sized.digits;
-      spelled = cut.0 ∙ ap (λ xs. field.0.0 ++ (colon ∷ xs)) sized.spelled;
-      eight = eqb-true (length field.0.0) 8 made.0;
+      spelled = cut.0 ∙ ap (λ xs. field.value.0 ++ (colon ∷ xs)) sized.spelled;
+      eight = eqb-true (length field.value.0) 8 made.0;
       no_colon = cut.1;
       name_is = refl;
       length_is = sized.sized;
     } in
-    subst (λ (p : Entry × List ℕ). IsKeyed p.0 p.1 bs) value.2 keyed
+    subst (λ (p : Entry × List ℕ). IsKeyed p.0 p.1 bs) value.rest keyed
 
 keyed_again : (e : Entry) (rest key digits : List ℕ)
     → length key ≡ 8 → Lacks colon key → e.key ≡ unpadded key → length_at digits ≡ Some (length e.value)
@@ -166,8 +166,8 @@ or_end_taken : (bs : List ℕ) (e : Entry) (rest : List ℕ)
 or_end_taken [] e rest is = cc
 or_end_taken (b ∷ bs) e rest is =
     let made = map_taken Some (record_behind (b ∷ bs)) (Some (e, rest)) (ok_or_taken _ Malformed _ is) in
-    let same : made.0 ≡ (e, rest) = cc made.2 in
-    made.1 ∙ ap Some same
+    let same : made.value ≡ (e, rest) = cc made.rest in
+    made.gives ∙ ap Some same
 
 or_end_again : (bs : List ℕ) (e : Entry) (rest : List ℕ)
     → 0 < length bs → record_behind bs ≡ Some (e, rest) → record_or_end bs ≡ Ok (Some (e, rest))
@@ -178,14 +178,14 @@ or_end_again (b ∷ bs) e rest some is = rw is refl
 pub record_taken : (bs : List ℕ) (e : Entry) (rest : List ℕ) → record_at bs ≡ Ok (Some (e, rest)) → BeginsWith e rest bs
 unfolding record_at
 record_taken bs e rest is =
-    let front = skip_split bs in
+    let (front, split, breaks) = skip_split bs in
     let keyed = keyed_taken (skip_breaks bs) e rest (or_end_taken (skip_breaks bs) e rest is) in
     record {
-      breaks = front.0;
+      breaks = front;
       key = keyed.key;
       digits = keyed.digits;
-      spelled = front.1 ∙ ap (λ xs. front.0 ++ xs) keyed.spelled;
-      are_breaks = front.2;
+      spelled = split ∙ ap (λ xs. front ++ xs) keyed.spelled;
+      are_breaks = breaks;
       eight = keyed.eight;
       no_colon = keyed.no_colon;
       no_break = no_break_in keyed.key _ keyed.eight (ap begins_with_break (sym keyed.spelled) ∙ skip_no_break bs);
@@ -218,7 +218,7 @@ or_end_none : (bs : List ℕ) → record_or_end bs ≡ Ok None → bs ≡ []
 or_end_none [] is = refl
 or_end_none (b ∷ bs) is =
     let made = map_taken Some (record_behind (b ∷ bs)) None (ok_or_taken _ Malformed _ is) in
-    cc made.2
+    cc made.rest
 
 pub end_taken : (bs : List ℕ) → record_at bs ≡ Ok None → AreBreaks bs
 unfolding record_at

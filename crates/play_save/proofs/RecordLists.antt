@@ -1,41 +1,15 @@
 -- Lists of records: the values of a key, and the state records, along a list that is put together.
-use Rattle.std.proofs.Common.{◌≡◌, ℕ, Bool, true, false, ◌==◌, List, [], ◌∷◌, ◌++◌, get_or, Option, is_some, cond, refl, sym, ap, ◌∙◌}
-use borrow.Author.Tests.{eqb-true, eq-eqb}
+use Rattle.std.proofs.Common.{◌≡◌, ℕ, Bool, true, false, List, [], ◌∷◌, ◌++◌, Option, is_some, cond, refl, ap, ◌∙◌}
 use Rattle.play_midend.specs.declared.extras.Extras.{Extras}
 use Rattle.play_save.specs.declared.key.KeptKey.{KeptKey}
 use Rattle.play_save.specs.declared.key.KeptKey.TheVariants.{Seed, AuxInfo, Ui, Time}
-use Rattle.play_save.specs.declared.key.WhoseParams.TheVariants.{Next, Current}
-use Rattle.play_save.specs.declared.key.WhichCount.TheVariants.{States, Position}
 use Rattle.play_save.specs.declared.key.HeaderKey.{HeaderKey}
-use Rattle.play_save.specs.declared.key.HeaderKey.TheVariants.{SaveFile, FormatVersion, Title, ParamsOf, Desc, PrivateDesc, Kept, Count}
 use Rattle.play_save.specs.declared.key.Key.{Key}
 use Rattle.play_save.specs.declared.key.Key.TheVariants.{Header, State}
-use Rattle.play_save.specs.Keys.{rank, kept_at, each_kept}
+use Rattle.play_save.specs.Keys.{same_header, kept_at, each_kept}
 use Rattle.play_save.specs.KeyedRecords.{KeyedRecord, KeyedState, onto_values, values_of, onto_states, states_in}
 use Rattle.play_save.specs.FirstFaults.{first_of}
-
--- A key that may stand once is known by its place. (Here and below a clause at one key of a pair makes the last clause be looked
--- at for the other one, and so computed.)
-headers : List HeaderKey
-headers =
-    SaveFile ∷ FormatVersion ∷ Title ∷ ParamsOf Next ∷ ParamsOf Current ∷ Kept Seed ∷ Desc ∷ Kept AuxInfo ∷ Kept Ui ∷ Kept Time
-    ∷ Count States ∷ Count Position ∷ PrivateDesc ∷ []
-
-at_place : (k : HeaderKey) → get_or headers (rank k) SaveFile ≡ k
-unfolding headers
-at_place (ParamsOf Next) = refl
-at_place (Kept Seed) = refl
-at_place (Count States) = refl
-at_place k = refl
-
--- headers of the same place are the same
-pub same_key : (j k : HeaderKey) → (rank j == rank k) ≡ true → j ≡ k
-same_key j k same =
-    sym (at_place j) ∙ ap (λ n. get_or headers n SaveFile) (eqb-true (rank j) (rank k) same) ∙ at_place k
-
--- a header has its own place
-pub own_rank : (k : HeaderKey) → (rank k == rank k) ≡ true
-own_rank k = eq-eqb (rank k) (rank k) refl
+use Rattle.play_save.proofs.KeyLaws.{same_key, own_key}
 
 -- what is kept, by its keys
 pub kept_each : (value : KeptKey → Option (List ℕ)) (k : KeptKey) → kept_at (each_kept value) k ≡ value k
@@ -57,11 +31,11 @@ same_extras a b same =
 -- lists that are put together
 onto_values-append : (k : HeaderKey) (key : Key) (value : List ℕ) (xs ys : List (List ℕ))
     → onto_values k key value (xs ++ ys) ≡ onto_values k key value xs ++ ys
-onto_values-append k (Header j) value xs ys = by_rank (rank j == rank k)
+onto_values-append k (Header j) value xs ys = by_name (same_header j k)
   where
-    by_rank : (own : Bool) → cond own (value ∷ (xs ++ ys)) (xs ++ ys) ≡ cond own (value ∷ xs) xs ++ ys
-    by_rank true = refl
-    by_rank false = refl
+    by_name : (own : Bool) → cond own (value ∷ (xs ++ ys)) (xs ++ ys) ≡ cond own (value ∷ xs) xs ++ ys
+    by_name true = refl
+    by_name false = refl
 onto_values-append k key value xs ys = refl
 
 -- the values in two lists of records, one after the other
@@ -90,7 +64,7 @@ one k value = record { key = k; value = value } ∷ []
 
 pub values_at : (k : HeaderKey) (value : List ℕ) (before later : List KeyedRecord)
     → values_of k (before ++ (one (Header k) value ++ later)) ≡ values_of k before ++ (value ∷ values_of k later)
-values_at k value before later = values_of-append k before (one (Header k) value ++ later) ∙ rw (own_rank k) refl
+values_at k value before later = values_of-append k before (one (Header k) value ++ later) ∙ rw (own_key k) refl
 
 pub append_none : {A : Type 0} (xs ys : List A) → xs ++ ys ≡ [] → (xs ≡ []) × (ys ≡ [])
 append_none [] ys none = (refl, none)
@@ -116,19 +90,19 @@ first_at k value more (r ∷ rs) is = by_key r.key refl is (λ e. first_at k val
       more_is = rest.more_is;
     }
 
-    by_rank : (j : HeaderKey) (own : Bool) → r.key ≡ Header j → (rank j == rank k) ≡ own
+    by_name : (j : HeaderKey) (own : Bool) → r.key ≡ Header j → (same_header j k) ≡ own
         → cond own (r.value ∷ values_of k rs) (values_of k rs) ≡ value ∷ more
         → (values_of k rs ≡ value ∷ more → FirstAt k value more rs) → FirstAt k value more (r ∷ rs)
-    by_rank j true key same e along =
+    by_name j true key same e along =
         let own : KeyedRecord = record r { key = r.key } in
         let key_is : r.key ≡ Header k = key ∙ ap Header (same_key j k same) in
         let whole : own ≡ record { key = Header k; value = value } = cc in
         record { front = []; later = rs; split = ap (λ x. x ∷ rs) whole; more_is = cc }
-    by_rank j false key same e along = behind_one (along e)
+    by_name j false key same e along = behind_one (along e)
 
     by_key : (key : Key) → r.key ≡ key → onto_values k key r.value (values_of k rs) ≡ value ∷ more
         → (values_of k rs ≡ value ∷ more → FirstAt k value more rs) → FirstAt k value more (r ∷ rs)
-    by_key (Header j) key e along = by_rank j (rank j == rank k) key refl e along
+    by_key (Header j) key e along = by_name j (same_header j k) key refl e along
     by_key _ key e along = behind_one (along e)
 
 -- the first of some values

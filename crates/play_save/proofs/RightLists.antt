@@ -12,7 +12,8 @@ use Rattle.play_save.specs.SaveTexts.{SavedGame}
 use Rattle.play_save.specs.FirstFaults.{met, value_fault, fault_by, is_complete, Listing, nothing, broken, first, listed, listing_within, records_of, unless, needed}
 use Rattle.play_save.proofs.OptionSteps.{ok_where}
 use Rattle.play_save.proofs.RecordLaws.{record_taken, record_again, record_shorter}
-use Rattle.play_save.proofs.RecordLists.{one, own_rank, values_of-append, first_at}
+use Rattle.play_save.proofs.KeyLaws.{own_key}
+use Rattle.play_save.proofs.RecordLists.{one, values_of-append, first_at}
 use Rattle.play_save.proofs.Meeting.{first_faultless}
 
 -- behind what stands before, no record has a fault, and the last is the first that completes them
@@ -81,11 +82,10 @@ needed_again game before [] broken right follow = rw right (ap Ok (sym (append-n
 needed_again game before [] (first m more) right follow = rw right (ap Ok (sym (append-nil before)))
 needed_again game before (r ∷ rs) nothing right follow = absurd follow
 needed_again game before (r ∷ rs) broken right follow = absurd follow
-needed_again game before (r ∷ rs) (first m more) right follow =
-    let rest = needed_again game (before ++ r ∷ []) rs more right.2 follow.1 in
-    let same : r ≡ m = follow.0 in
+needed_again game before (r ∷ rs) (first m more) (undone, faultless, right) (same, follow) =
+    let rest = needed_again game (before ++ r ∷ []) rs more right follow in
     subst (λ (x : KeyedRecord). needed game before (first x more) ≡ Ok (before ++ r ∷ rs)) same
-    (rw (right.0, right.1) (rest ∙ ap Ok (append_assoc before (r ∷ []) rs)))
+    (rw (undone, faultless) (rest ∙ ap Ok (append_assoc before (r ∷ []) rs)))
 
 -- the listing of a text, and the records with which the text begins
 follows_taken : (n : ℕ) (rs : List KeyedRecord) (text : List ℕ)
@@ -111,13 +111,13 @@ follows_again : (n : ℕ) (rs : List KeyedRecord) (text : List ℕ)
     → length text ≤ n → BeginsWithAll rs text → Follow rs (listing_within n text)
 unfolding listing_within
 follows_again n [] text within begins = tt
-follows_again zero (r ∷ rs) text within begins =
-    let shorter = record_shorter text begins.0 begins.1 (record_again text begins.0 begins.1 begins.3) in absurd (omega arith)
-follows_again (suc n) (r ∷ rs) text within begins =
-    let read = record_again text begins.0 begins.1 begins.3 in
-    let shorter = record_shorter text begins.0 begins.1 read in
+follows_again zero (r ∷ rs) text within (entry, rest, keyed_is, begins, more) =
+    let shorter = record_shorter text entry rest (record_again text entry rest begins) in absurd (omega arith)
+follows_again (suc n) (r ∷ rs) text within (entry, rest, keyed_is, begins, more) =
+    let read = record_again text entry rest begins in
+    let shorter = record_shorter text entry rest read in
     subst (λ (x : Result (Option (Entry × List ℕ)) LoadFault). Follow (r ∷ rs) (listed (listing_within n) x)) (sym read)
-    (sym begins.2, follows_again n rs begins.1 (omega arith) begins.4)
+    (sym keyed_is, follows_again n rs rest (omega arith) more)
 
 pub records_again : (rs : List KeyedRecord) (text : List ℕ) → BeginsWithAll rs text → Follow rs (records_of text)
 unfolding records_of
@@ -132,18 +132,18 @@ pub record IsRightAt {P : Type 0} (game : SavedGame P) (before : List KeyedRecor
 
 pub right_at : {P : Type 0} (game : SavedGame P) (before front later : List KeyedRecord) (r : KeyedRecord)
     → AreRight game before (front ++ r ∷ later) → IsRightAt game (before ++ front) r later
-right_at game before [] later r right =
-    rw (append-nil before) (record { undone = right.0; faultless = right.1; right = right.2 })
-right_at {P} game before (x ∷ front) later r right =
+right_at game before [] later r (undone, faultless, right) =
+    rw (append-nil before) (record { undone = undone; faultless = faultless; right = right })
+right_at {P} game before (x ∷ front) later r (undone, faultless, right) =
     subst (λ xs. IsRightAt game xs r later) (append_assoc before (x ∷ []) front)
-    (right_at game (before ++ x ∷ []) front later r right.2)
+    (right_at game (before ++ x ∷ []) front later r right)
 
 pub right_end : {P : Type 0} (game : SavedGame P) (before rs : List KeyedRecord)
     → AreRight game before rs → is_complete (met (before ++ rs)) ≡ true
 right_end game before [] right = rw (append-nil before) right
-right_end game before (r ∷ rs) right =
+right_end game before (r ∷ rs) (undone, faultless, right) =
     subst (λ xs. is_complete (met xs) ≡ true) (append_assoc before (r ∷ []) rs)
-    (right_end game (before ++ r ∷ []) rs right.2)
+    (right_end game (before ++ r ∷ []) rs right)
 
 -- a key that may stand once, once it was met, doesn't stand again
 pub none_again : {P : Type 0} (game : SavedGame P) (before rs : List KeyedRecord) (k : HeaderKey)
@@ -172,7 +172,7 @@ stands_alone game rs k value more right is =
     let here = right_at game [] at.front at.later _ (rw at.split at right) in
     let good = first_faultless game at.front k value here.faultless in
     let some : 0 < length (values_of k (at.front ++ one (Header k) value)) =
-    rw (values_of-append k at.front (one (Header k) value), own_rank k)
+    rw (values_of-append k at.front (one (Header k) value), own_key k)
     (omega (arith, length-append (values_of k at.front) (value ∷ []))) in
     let none = none_again game (at.front ++ one (Header k) value) at.later k some here.right in
     record {

@@ -46,8 +46,8 @@ kept_at_most (Some value) = omega arith
 
 one_at_most : {P : Type 0} (game : SavedGame P) (h : History P) (k : HeaderKey) (values : List (List ℕ))
     → HasValues game h k values → length values ≤ 1
-one_at_most game h (ParamsOf whose) values has = omega (arith, ap length has.1)
-one_at_most game h Desc values has = omega (arith, ap length has.1)
+one_at_most game h (ParamsOf whose) values has = omega (arith, ap length has.alone)
+one_at_most game h Desc values has = omega (arith, ap length has.alone)
 one_at_most game h (Kept k) values has = omega (arith, ap length has, kept_at_most (kept_at h.extras k))
 one_at_most game h k values has = omega (arith, ap length has)
 
@@ -138,8 +138,8 @@ value_good game h before later FormatVersion value valid side has =
 value_good game h before later Title value valid side has =
     ap (λ t. fault_unless t WrongGame) (same_bytes value game.title (head_same value game.title has))
 value_good game h before later (ParamsOf whose) value valid side has =
-    ap params_fault (ap (saved_params_at game) (head_same value has.0 has.1)
-    ∙ params_good game (params_of h whose) has.0 has.2)
+    ap params_fault (ap (saved_params_at game) (head_same value has.value has.alone)
+    ∙ params_good game (params_of h whose) has.value has.holds)
 value_good game h before later (Count which) value valid side has =
     let read = ap count_at (head_same value _ has) ∙ count_good (game.puzzle h.puzzle) h valid which in
     rw read (by_other (side (other_count which)))
@@ -287,8 +287,8 @@ params_saved : {P : Type 0} (game : SavedGame P) (rs : List KeyedRecord) (h : Hi
     → AreSaved game h rs → (whose : WhoseParams) → params_met game (met rs) whose ≡ Some (params_of h whose)
 params_saved game rs h s whose =
     let own = s.values (ParamsOf whose) in
-    ap (λ vs. option_and_then (λ v. result_ok (saved_params_at game v)) (first_of vs)) own.1
-    ∙ ap result_ok (params_good game (params_of h whose) own.0 own.2)
+    ap (λ vs. option_and_then (λ v. result_ok (saved_params_at game v)) (first_of vs)) own.alone
+    ∙ ap result_ok (params_good game (params_of h whose) own.value own.holds)
 
 pub session_again : {P : Type 0} (game : SavedGame P) (rs : List KeyedRecord) (h : History P)
     → IsGame game → AreSaved game h rs → session_of game (met rs) ≡ Ok h
@@ -300,10 +300,10 @@ session_again {P} game rs h owes s =
     let name : is_some (m.first Title) ≡ true = ap (λ vs. is_some (first_of vs)) (s.values Title) in
     let next = params_saved game rs h s Next in
     let now = params_saved game rs h s Current in
-    let desc : m.first Desc ≡ Some text.0 = ap first_of text.1 in
+    let desc : m.first Desc ≡ Some text.value = ap first_of text.alone in
     let place = count_saved game rs h s Position in
-    let puzzle : game.desc_at h.params.size text.0 ≡ Ok h.puzzle =
-    owes.reads.again h.params.size text.0 h.puzzle text.2 in
+    let puzzle : game.desc_at h.params.size text.value ≡ Ok h.puzzle =
+    owes.reads.again h.params.size text.value h.puzzle text.holds in
     let start = started h.puzzle h.params h.next_params h.extras in
     let legal =
     legal_list_played (game.puzzle h.puzzle) h.puzzle h.params h.next_params h.extras h.moves s.valid.legal s.valid.few in

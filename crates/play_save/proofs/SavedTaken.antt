@@ -81,24 +81,25 @@ params_taken_of : {P : Type 0} (game : SavedGame P) (rs : List KeyedRecord) (who
     → AreRight game [] rs → params_met game (met rs) whose ≡ Some p
     → IsOne (IsParamText game.letters p) (values_of (ParamsOf whose) rs)
 params_taken_of game rs whose p right is =
-    let read = and_then_taken _ ((met rs).first (ParamsOf whose)) p is in (
-      read.0,
-      only_value game rs (ParamsOf whose) read.0 right read.1,
-      params_taken game.letters game.has_adjacent read.0 p (ok_taken (saved_params_at game read.0) p read.2),
-    )
+    let read = and_then_taken _ ((met rs).first (ParamsOf whose)) p is in
+    record {
+      value = read.value;
+      alone = only_value game rs (ParamsOf whose) read.value right read.gives;
+      holds = params_taken game.letters game.has_adjacent read.value p (ok_taken (saved_params_at game read.value) p read.rest);
+    }
 
 count_taken_of : {P : Type 0} (game : SavedGame P) (rs : List KeyedRecord) (which : WhichCount) (n : ℕ)
     → AreRight game [] rs → count_met (met rs) which ≡ Some n → values_of (Count which) rs ≡ decimal n ∷ []
 count_taken_of game rs which n right is =
     let read = and_then_taken count_at ((met rs).first (Count which)) n is in
-    only_value game rs (Count which) read.0 right read.1 ∙ ap (λ v. v ∷ []) (count_taken read.0 n read.2).0
+    only_value game rs (Count which) read.value right read.gives ∙ ap (λ v. v ∷ []) (count_taken read.value n read.rest).0
 
 -- no count follows a state record
 right_counts_first : {P : Type 0} (game : SavedGame P) (before rs : List KeyedRecord)
     → AreRight game before rs → CountsStandFirst rs
 right_counts_first game before [] right = tt
-right_counts_first {P} game before (r ∷ rs) right =
-    ((λ state. by_key r.key r.value state right.1), right_counts_first game (before ++ r ∷ []) rs right.2)
+right_counts_first {P} game before (r ∷ rs) (undone, faultless, right) =
+    ((λ state. by_key r.key r.value state faultless), right_counts_first game (before ++ r ∷ []) rs right)
   where
     some : (which : WhichCount) (n : ℕ) → count_met (met before) which ≡ Some n → 0 < length (values_of (Count which) before)
     some which n is = by_values (values_of (Count which) before) is
@@ -115,7 +116,7 @@ right_counts_first {P} game before (r ∷ rs) right =
         let all = values_of-append (Count which) before (r ∷ []) in
         let stands : 0 < length (values_of (Count which) (before ++ r ∷ [])) =
         omega (arith, here, ap length all, length-append (values_of (Count which) before) (values_of (Count which) (r ∷ []))) in
-        none_again game (before ++ r ∷ []) rs (Count which) stands right.2
+        none_again game (before ++ r ∷ []) rs (Count which) stands right
     by_key k value state none = cc
 
 -- the last record is one that completes
@@ -129,11 +130,11 @@ completes m k value undone done = cc
 
 right_ends : {P : Type 0} (game : SavedGame P) (before : List KeyedRecord) (r : KeyedRecord) (rs : List KeyedRecord)
     → AreRight game before (r ∷ rs) → EndsWithState (r ∷ rs)
-right_ends game before r [] right =
+right_ends game before r [] (undone, faultless, right) =
     let done : is_complete (added (met before) r.key r.value) ≡ true =
-    ap is_complete (sym (met_added game before r.key r.value right.1)) ∙ right.2 in
-    completes (met before) r.key r.value right.0 done
-right_ends game before r (k ∷ rs) right = right_ends game (before ++ r ∷ []) k rs right.2
+    ap is_complete (sym (met_added game before r.key r.value faultless)) ∙ right in
+    completes (met before) r.key r.value undone done
+right_ends game before r (k ∷ rs) (undone, faultless, right) = right_ends game (before ++ r ∷ []) k rs right
 
 ends_with_state : {P : Type 0} (game : SavedGame P) (rs : List KeyedRecord) → AreRight game [] rs → EndsWithState rs
 ends_with_state game [] right = cc
@@ -152,27 +153,27 @@ parts_taken {P} game m h is =
     let both = unless_taken (fault_unless stand Missing) _ h is in
     let names = and_parts _ _ (fault_unless_taken stand Missing both.0) in
     let next = bind_taken (ok_or (params_met game m Next) Missing) _ h both.1 in
-    let now = bind_taken (ok_or (params_met game m Current) Missing) _ h next.2 in
-    let desc = bind_taken (ok_or (m.first Desc) Missing) _ h now.2 in
-    let place = bind_taken (ok_or (count_met m Position) Missing) _ h desc.2 in
-    let puzzle = bind_taken (ok_or (result_ok (game.desc_at now.0.size desc.0)) BadDesc) _ h place.2 in
-    let last = bind_taken (states_played game (started puzzle.0 now.0 next.0 (extras_met m)) 1 m.states) _ h puzzle.2 in
+    let now = bind_taken (ok_or (params_met game m Current) Missing) _ h next.rest in
+    let desc = bind_taken (ok_or (m.first Desc) Missing) _ h now.rest in
+    let place = bind_taken (ok_or (count_met m Position) Missing) _ h desc.rest in
+    let puzzle = bind_taken (ok_or (result_ok (game.desc_at now.value.size desc.value)) BadDesc) _ h place.rest in
+    let last = bind_taken (states_played game (started puzzle.value now.value next.value (extras_met m)) 1 m.states) _ h puzzle.rest in
     record {
       version = names.0;
       name = names.1;
-      next_params = next.0;
-      next_read = ok_or_taken _ Missing next.0 next.1;
-      params = now.0;
-      read = ok_or_taken _ Missing now.0 now.1;
-      desc = desc.0;
-      desc_is = ok_or_taken (m.first Desc) Missing desc.0 desc.1;
-      position = place.0;
-      position_is = ok_or_taken _ Missing place.0 place.1;
-      puzzle = puzzle.0;
-      described = result_taken (game.desc_at now.0.size desc.0) BadDesc puzzle.0 puzzle.1;
-      last = last.0;
-      played_is = last.1;
-      whole = cc last.2;
+      next_params = next.value;
+      next_read = ok_or_taken _ Missing next.value next.gives;
+      params = now.value;
+      read = ok_or_taken _ Missing now.value now.gives;
+      desc = desc.value;
+      desc_is = ok_or_taken (m.first Desc) Missing desc.value desc.gives;
+      position = place.value;
+      position_is = ok_or_taken _ Missing place.value place.gives;
+      puzzle = puzzle.value;
+      described = result_taken (game.desc_at now.value.size desc.value) BadDesc puzzle.value puzzle.gives;
+      last = last.value;
+      played_is = last.gives;
+      whole = cc last.rest;
     }
 
 pub saved_taken : {P : Type 0} (game : SavedGame P) (rs : List KeyedRecord) (h : History P)
@@ -183,7 +184,7 @@ saved_taken {P} game rs h owes right is =
     let counts = counted game rs right in
     let next = params_taken_of game rs Next parts.next_params right parts.next_read in
     let now = params_taken_of game rs Current parts.params right parts.read in
-    let own_params = now.2.params in
+    let own_params = now.holds.params in
     let described =
     owes.reads.taken parts.params.size parts.desc parts.puzzle own_params.smallest own_params.largest parts.described in
     let size = owes.sized parts.params.size parts.puzzle parts.desc described in
@@ -195,7 +196,7 @@ saved_taken {P} game rs h owes right is =
     } in
     let start = started parts.puzzle parts.params parts.next_params (extras_met m) in
     let played = states_taken game start parts.last 1 m.states owes own parts.played_is in
-    let legal =
+    let (legal, few, played_on) =
     accepted_list_legal (game.puzzle parts.puzzle) parts.puzzle parts.params parts.next_params (extras_met m)
     played.moves parts.last played.played_is in
     let long = have_length game parts.puzzle played.moves (states_in rs) played.have in
@@ -211,7 +212,7 @@ saved_taken {P} game rs h owes right is =
           | Next ↦ next
           | Current ↦ now
         ]
-        | Desc ↦ (parts.desc, only_value game rs Desc parts.desc right parts.desc_is, described)
+        | Desc ↦ record { value = parts.desc; alone = only_value game rs Desc parts.desc right parts.desc_is; holds = described }
         | PrivateDesc ↦ never game rs PrivateDesc right (λ n v none. cc)
         | Kept j ↦
             by_standing game rs (Kept j) (λ vs. vs ≡ once_if_kept (first_of vs)) right refl (λ v at. refl)
@@ -226,13 +227,13 @@ saved_taken {P} game rs h owes right is =
       last = ends_with_state game rs right;
       valid = record {
         size = sym size;
-        legal = legal.0;
-        few = legal.1;
+        legal = legal;
+        few = few;
         first = omega (arith, here, counts.first);
         last = omega (arith, here, counts.inside, counts.states, long);
       };
     } in
-    let whole = ap (λ (x : History P). at_position x parts.position) (sym legal.2) ∙ parts.whole in
+    let whole = ap (λ (x : History P). at_position x parts.position) (sym played_on) ∙ parts.whole in
     subst (λ (x : History P). AreSaved game x rs) whole made
 
 -- the first record
@@ -260,16 +261,16 @@ unfolding load_at
 load_taken {P} game text h owes is =
     let fits = ok_else (nat_lt MOST_BYTES (length text)) TooLarge _ h is in
     let head = bind_taken (behind_head (record_at text)) _ h fits.1 in
-    let some = bind_taken (met_in game (records_of head.0)) _ h head.2 in
-    let all = bind_taken (needed game [] (records_of head.0)) _ some.0 some.1 in
-    let need = needed_taken game [] (records_of head.0) all.0 all.1 in
-    let met_is : some.0 ≡ met all.0 = cc all.2 in
-    let same : some.0 ≡ met need.more = rw need.all_is at met_is in
+    let some = bind_taken (met_in game (records_of head.value)) _ h head.rest in
+    let all = bind_taken (needed game [] (records_of head.value)) _ some.value some.gives in
+    let need = needed_taken game [] (records_of head.value) all.value all.gives in
+    let met_is : some.value ≡ met all.value = cc all.rest in
+    let same : some.value ≡ met need.more = rw need.all_is at met_is in
     record {
       small = ltb-false MOST_BYTES (length text) fits.0;
-      behind_head = head.0;
-      head = behind_head_taken text head.0 (record_at text) refl head.1;
+      behind_head = head.value;
+      head = behind_head_taken text head.value (record_at text) refl head.gives;
       records = need.more;
-      begins = records_taken need.more head.0 need.follow;
-      saved = saved_taken game need.more h owes need.right (rw same at some.2);
+      begins = records_taken need.more head.value need.follow;
+      saved = saved_taken game need.more h owes need.right (rw same at some.rest);
     }

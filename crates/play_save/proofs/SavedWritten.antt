@@ -24,13 +24,14 @@ use Rattle.play_save.specs.declared.key.WhichCount.{WhichCount}
 use Rattle.play_save.specs.declared.key.WhichCount.TheVariants.{States, Position}
 use Rattle.play_save.specs.declared.key.HeaderKey.{HeaderKey}
 use Rattle.play_save.specs.declared.key.HeaderKey.TheVariants.{SaveFile, FormatVersion, Title, ParamsOf, Desc, PrivateDesc, Kept, Count}
+use Rattle.play_save.specs.declared.key.Key.TheVariants.{Header}
 use Rattle.play_save.specs.declared.save_format.TheConstants.{MOST_BYTES}
 use Rattle.play_save.specs.Records.{BeginsWith}
 use Rattle.play_save.specs.Keys.{kept_at}
 use Rattle.play_save.specs.KeyedRecords.{KeyedRecord, values_of, states_in, once_if_kept, EndsWithState}
 use Rattle.play_save.specs.SaveTexts.{SavedGame, params_of, HasValues, collection, format_record, IsStateOf, HaveStates, AreSaved, SaveText}
 use Rattle.play_save.specs.FirstFaults.{count_at}
-use Rattle.play_save.specs.Written.{header_record, state_value, record_text, records_text, save_of}
+use Rattle.play_save.specs.Written.{with_value, state_value, record_text, records_text, save_of}
 use Rattle.play_save.specs.Laws.{WrittenIsSaved, WrittenSavesNoOther}
 use Rattle.play_save.proofs.RecordLaws.{record_again}
 use Rattle.play_save.proofs.RecordLists.{same_extras, values_of-append, states_in-append}
@@ -96,7 +97,7 @@ behind_first game h = line_feed ∷ records_text (tail_of game h)
 
 -- the written text, record by record
 written_text : {P : Type 0} (game : SavedGame P) (h : History P)
-    → save_of game.title game.desc_of h ≡ record_text (header_record SaveFile collection) ++ records_text (tail_of game h)
+    → save_of game.title game.desc_of h ≡ record_text (with_value (Header SaveFile) collection) ++ records_text (tail_of game h)
 unfolding save_of
 written_text game h = refl
 
@@ -109,7 +110,7 @@ read_written : {P : Type 0} (game : SavedGame P) (h : History P)
     → length (save_of game.title game.desc_of h) ≤ MOST_BYTES → Read game h (save_of game.title game.desc_of h)
 read_written {P} game h small =
     let rs = tail_of game h in
-    let first = header_record SaveFile collection in
+    let first = with_value (Header SaveFile) collection in
     let text = written_text game h in
     let short : length (records_text rs) ≤ MOST_BYTES =
     omega (arith, ap length text, length-append (record_text first) (records_text rs)) in
@@ -148,12 +149,16 @@ written_is_saved {P} game of_game owes h storable small =
           | SaveFile ↦ stands SaveFile
           | FormatVersion ↦ stands FormatVersion
           | Title ↦ stands Title
-          | ParamsOf whose ↦ (
-            params_text (params_of h whose),
-            stands (ParamsOf whose),
-            record { params = params_are whose; text_is = refl },
-          )
-          | Desc ↦ (desc, stands Desc, subst (λ w. game.Describes w h.puzzle desc) (sym valid.size) described)
+          | ParamsOf whose ↦ record {
+            value = params_text (params_of h whose);
+            alone = stands (ParamsOf whose);
+            holds = record { params = params_are whose; text_is = refl };
+          }
+          | Desc ↦ record {
+            value = desc;
+            alone = stands Desc;
+            holds = subst (λ w. game.Describes w h.puzzle desc) (sym valid.size) described;
+          }
           | PrivateDesc ↦ stands PrivateDesc
           | Kept j ↦ stands (Kept j)
           | Count which ↦ stands (Count which)
@@ -249,12 +254,12 @@ no_other_saved {P} game of_game owes h other valid of s position =
     let stands = values_tail game.title desc h in
     let same_of : (whose : WhoseParams) → params_of other whose ≡ params_of h whose = λ whose.
     let own = s.values (ParamsOf whose) in
-    same_params (params_of other whose) (params_of h whose) (sym own.2.text_is ∙ one_of own.1 (stands (ParamsOf whose))) in
+    same_params (params_of other whose) (params_of h whose) (sym own.holds.text_is ∙ one_of own.alone (stands (ParamsOf whose))) in
     let next = same_of Next in
     let params = same_of Current in
-    let own = (s.values (ParamsOf Current)).2.params in
+    let own = (s.values (ParamsOf Current)).holds.params in
     let width : other.params.size ≡ p.size = ap (λ (q : Params). q.size) params ∙ valid.size in
-    let own_desc = subst (λ d. game.Describes other.params.size other.puzzle d) (one_of (s.values Desc).1 (stands Desc)) (s.values Desc).2 in
+    let own_desc = subst (λ d. game.Describes other.params.size other.puzzle d) (one_of (s.values Desc).alone (stands Desc)) (s.values Desc).holds in
     let described = subst (λ n. game.Describes n other.puzzle desc) width own_desc in
     let puzzle = same_described p.size h.puzzle other.puzzle desc (owes.own_text h.puzzle of) described in
     let extras = same_extras other.extras h.extras (λ k.
@@ -268,7 +273,7 @@ no_other_saved {P} game of_game owes h other valid of s position =
         session = valid;
         puzzle_is = of;
         params_are = subst (λ q. IsParams game.letters q) params own;
-        next_params_are = subst (λ q. IsParams game.letters q) next (s.values (ParamsOf Next)).2.params;
+        next_params_are = subst (λ q. IsParams game.letters q) next (s.values (ParamsOf Next)).holds.params;
       },
     )
   where

@@ -11,13 +11,13 @@ use Rattle.play_save.specs.SaveTexts.{saves_of}
 use Rattle.play_save.specs.Laws.{SavesAreStorable}
 
 params_said : (letters : List ℕ) (p : Params) (values : List (List ℕ)) → IsOne (IsParamText letters p) values → IsParams letters p
-params_said letters p values (text, stands, said) = said.params
+params_said letters p values one = one.holds.params
 
 -- what saves ask of a game, each game gives
 pub saves_are_storable : {P : Type 0} (rules : RulesGhosts P) (game : GameGhosts P) → SavesAreStorable (saves_of rules game) rules.valid
 saves_are_storable rules game h text save =
     let values = save.saved.values in
-    let (desc, stands, (describes, valid, size)) = values Desc in
+    let (describes, valid, size) = (values Desc).holds in
     record {
       session = save.saved.valid;
       puzzle_is = valid;

@@ -41,15 +41,15 @@ pub move_of_state : {P : Type 0} (game : SavedGame P) (p : P) (k : StateKey) (va
 move_of_state game p AnyMove value m owes d is = text_taken value m (ok_taken (move_at value) m is)
 move_of_state game p SolveMove value m owes d is =
     let step = and_then_taken solution_alone (result_ok (move_at value)) m is in
-    let alone = solution_taken step.0 m step.2 in
-    (text_taken value m (ok_taken (move_at value) step.0 step.1 ∙ ap Ok alone.0), alone.1)
+    let alone = solution_taken step.value m step.rest in
+    (text_taken value m (ok_taken (move_at value) step.value step.gives ∙ ap Ok alone.0), alone.1)
 move_of_state game p RestartMove value m owes d is =
     let w = (game.puzzle p).size in
     let step = and_then_taken (restart_of game p) (result_ok (game.desc_at w value)) m is in
-    let read = ok_taken (game.desc_at w value) step.0 step.1 in
-    let q_is = owes.reads.taken w value step.0 d.smallest d.largest read in
-    let restart = restart_taken game p step.0 m step.2 in
-    let same = same_puzzle game w p step.0 d.text value owes d.described q_is restart.1 in
+    let read = ok_taken (game.desc_at w value) step.value step.gives in
+    let q_is = owes.reads.taken w value step.value d.smallest d.largest read in
+    let restart = restart_taken game p step.value m step.rest in
+    let same = same_puzzle game w p step.value d.text value owes d.described q_is restart.1 in
     (restart.0, subst (λ q. game.Describes w q value) same q_is)
 
 pub state_of_move : {P : Type 0} (game : SavedGame P) (p : P) (k : StateKey) (value : List ℕ) (m : Move)
@@ -85,14 +85,14 @@ states_taken game h last i [] owes d is =
     let same : h ≡ last = cc in record { moves = []; have = tt; played_is = ap Ok same }
 states_taken {P} game h last i (s ∷ ss) owes d is =
     let step = bind_taken (state_played game h i s) _ last is in
-    let one = move_taken game h step.0 i (state_move game h.puzzle s.key s.value) step.1 in
-    let keeps = played_puzzle (game.puzzle h.puzzle) h step.0 one.0 one.2 in
-    let rest = states_taken game step.0 last (i + 1) ss owes (subst (λ p. IsDescribed game p) (sym keeps) d) step.2 in
+    let (made, said, one) = move_taken game h step.value i (state_move game h.puzzle s.key s.value) step.gives in
+    let keeps = played_puzzle (game.puzzle h.puzzle) h step.value made one in
+    let rest = states_taken game step.value last (i + 1) ss owes (subst (λ p. IsDescribed game p) (sym keeps) d) step.rest in
     let later = subst (λ p. HaveStates game p rest.moves ss) keeps rest.have in
     record {
-      moves = one.0 ∷ rest.moves;
-      have = (move_of_state game h.puzzle s.key s.value one.0 owes d one.1, later);
-      played_is = rw one.2 (subst (λ p. played_all (game.puzzle p) step.0 rest.moves ≡ Ok last) keeps rest.played_is);
+      moves = made ∷ rest.moves;
+      have = (move_of_state game h.puzzle s.key s.value made owes d said, later);
+      played_is = rw one (subst (λ p. played_all (game.puzzle p) step.value rest.moves ≡ Ok last) keeps rest.played_is);
     }
 
 played_ok : {P : Type 0} (game : SavedGame P) (h next : History P) (i : ℕ) (m : Move)
@@ -106,8 +106,8 @@ states_again game h last i [] [] owes have is = let same : h ≡ last = cc in ap
 states_again game h last i [] (s ∷ ss) owes have is = absurd have
 states_again game h last i (m ∷ ms) [] owes have is = absurd have
 states_again {P} game h last i (m ∷ ms) (s ∷ ss) owes have is =
-    let step = first_played (game.puzzle h.puzzle) h last m ms is in
-    more step.0 step.1 step.2 (λ kept all. states_again game step.0 last (i + 1) ms ss owes kept all)
+    let (next, first, rest) = first_played (game.puzzle h.puzzle) h last m ms is in
+    more next first rest (λ kept all. states_again game next last (i + 1) ms ss owes kept all)
   where
     more : (next : History P)
         → played (game.puzzle h.puzzle) h m ≡ Ok next → played_all (game.puzzle h.puzzle) next ms ≡ Ok last
@@ -149,7 +149,7 @@ position_played game h last i [] is =
     let same : h ≡ last = cc in ap (λ k. k.position) (sym same) ∙ sym (add-zero h.position)
 position_played {P} game h last i (s ∷ ss) is =
     let step = bind_taken (state_played game h i s) _ last is in
-    let one = move_taken game h step.0 i (state_move game h.puzzle s.key s.value) step.1 in
-    let on = played_position (game.puzzle h.puzzle) h step.0 one.0 one.2 in
-    let rest = position_played game step.0 last (i + 1) ss step.2 in
+    let (made, said, one) = move_taken game h step.value i (state_move game h.puzzle s.key s.value) step.gives in
+    let on = played_position (game.puzzle h.puzzle) h step.value made one in
+    let rest = position_played game step.value last (i + 1) ss step.rest in
     omega arith

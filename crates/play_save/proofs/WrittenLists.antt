@@ -1,21 +1,27 @@
 -- What is written of lists of records that are put together.
-use Rattle.std.proofs.Common.{◌≡◌, ℕ, ◌+◌, ◌<◌, List, [], ◌∷◌, ◌++◌, length, take, map, get_or, slice_get, Some, refl, sym, ap, ◌∙◌}
-use Rattle.std.proofs.lemmas.List.{append-nil, append_assoc, map_more}
+use Rattle.std.proofs.Common.{◌≡◌, ℕ, ◌+◌, ◌<◌, List, [], ◌∷◌, ◌++◌, length, take, map, get_or, slice_get, Some}
+use Rattle.std.specs.List.{flat_map}
+use Rattle.std.proofs.lemmas.Grind.{flat_map-append}
+use Rattle.std.proofs.lemmas.List.{append-nil, append_assoc, take_more, map_more}
 use Rattle.std.proofs.lemmas.Option.{get_or_from_slice_get}
 use Rattle.play_midend.specs.declared.moves.Move.{Move}
+use Rattle.play_save.specs.declared.key.Key.{Key}
 use Rattle.play_save.specs.KeyedRecords.{KeyedRecord}
 use Rattle.play_save.specs.Written.{record_text, records_text, state_record}
 
+-- records behind others are written behind them
 pub records_text-append : (xs ys : List KeyedRecord) → records_text (xs ++ ys) ≡ records_text xs ++ records_text ys
-records_text-append [] ys = refl
-records_text-append (x ∷ xs) ys =
-    ap (λ t. record_text x ++ t) (records_text-append xs ys)
-    ∙ sym (append_assoc (record_text x) (records_text xs) (records_text ys))
+records_text-append xs ys = flat_map-append record_text xs ys
 
--- three parts
-pub three_parts : (xs ys zs : List KeyedRecord)
-    → (records_text xs ++ records_text ys) ++ records_text zs ≡ records_text (xs ++ (ys ++ zs))
-three_parts xs ys zs = simp (records_text-append, append_assoc)
+-- the records of one key more
+pub key_more : (records : Key → List KeyedRecord) (ks : List Key) (i : ℕ) (d : Key) (front old new : List ℕ) → i < length ks
+    → old ≡ front ++ records_text (flat_map records (take i ks)) → new ≡ old ++ records_text (records (get_or ks i d))
+    → new ≡ front ++ records_text (flat_map records (take (i + 1) ks))
+key_more records ks i d front old new inside before here =
+    let one = flat_map-append records (take i ks) (get_or ks i d ∷ []) in
+    let all = records_text-append (flat_map records (take i ks)) (records (get_or ks i d)) in
+    rw (here, before, take_more ks i d inside, one, append-nil (records (get_or ks i d)), all)
+    (append_assoc front (records_text (flat_map records (take i ks))) (records_text (records (get_or ks i d))))
 
 -- one state more
 pub state_more : (desc : List ℕ) (ms : List Move) (i : ℕ) (m : Move) → i < length ms → slice_get ms i ≡ Some m
@@ -23,4 +29,4 @@ pub state_more : (desc : List ℕ) (ms : List Move) (i : ℕ) (m : Move) → i <
     ≡ records_text (map (state_record desc) (take (i + 1) ms))
 state_more desc ms i m inside is =
     let last : get_or ms i m ≡ m = get_or_from_slice_get ms i m m is in
-    rw (map_more (state_record desc) ms i m inside, last) (simp (records_text-append, append-nil))
+    rw (map_more (state_record desc) ms i m inside, last) (simp (flat_map-append, append-nil))

@@ -1,65 +1,19 @@
 -- A record that is written is read, and so is a list of them up to its end.
-use Rattle.std.proofs.Common.{◌≡◌, ℕ, ◌<◌, ◌≤◌, ◌^◌, lit<, Bool, true, false, ◌==◌, ◌&&◌, not, List, [], ◌∷◌, ◌++◌, length, Some, refl, sym, ap, ◌∙◌, subst, arith, length-append, append_assoc}
+use Rattle.std.proofs.Common.{◌≡◌, ℕ, ◌<◌, ◌≤◌, ◌^◌, lit<, true, List, [], ◌∷◌, ◌++◌, length, Some, refl, sym, ap, ◌∙◌, subst, arith, length-append, append_assoc}
 use Rattle.std.specs.Fmt.{decimal}
 use Rattle.std.proofs.lemmas.Fmt.{decimal_nonempty, length-decimal-le}
-use Rattle.std.proofs.lemmas.Bool.{and_parts, not-true, eqb-false, le-leb}
+use Rattle.std.proofs.lemmas.Bool.{le-leb}
 use Rattle.std.proofs.lemmas.Option.{some_pair_parts}
 use Rattle.std.proofs.lemmas.List.{append-nil}
 use Rattle.byte_text.specs.Bytes.{colon, line_feed}
-use Rattle.byte_text.specs.Cuts.{Lacks}
 use Rattle.byte_text.proofs.DecimalLaws.{digits_again}
-use Rattle.play_save.specs.declared.key.StateKey.TheVariants.{AnyMove}
-use Rattle.play_save.specs.declared.key.KeptKey.TheVariants.{Seed}
-use Rattle.play_save.specs.declared.key.WhoseParams.TheVariants.{Next}
-use Rattle.play_save.specs.declared.key.Key.{Key}
-use Rattle.play_save.specs.declared.key.WhichCount.TheVariants.{States}
-use Rattle.play_save.specs.declared.key.HeaderKey.TheVariants.{ParamsOf, Kept, Count}
-use Rattle.play_save.specs.declared.key.Key.TheVariants.{Header, State, Other}
 use Rattle.play_save.specs.declared.save_format.TheConstants.{MOST_BYTES}
-use Rattle.play_save.specs.Records.{Entry, AreBreaks, begins_with_break, unpadded, length_at, BeginsWith}
-use Rattle.play_save.specs.Keys.{key_name, padded, key_of}
+use Rattle.play_save.specs.Records.{Entry, AreBreaks, length_at, BeginsWith}
+use Rattle.play_save.specs.Keys.{key_name, padded}
 use Rattle.play_save.specs.KeyedRecords.{KeyedRecord, keyed, BeginsWithAll}
 use Rattle.play_save.specs.Written.{record_text, records_text}
+use Rattle.play_save.proofs.KeyLaws.{is_known, free_lacks, is_key}
 use Rattle.play_save.proofs.RecordLaws.{record_again, end_again}
-
--- whether the key is a header's or a state's
-abbrev pub is_known : Key → Bool
-is_known Other = false
-is_known _ = true
-
--- what holds of the eight bytes of a key that is written
-free_of_colon : List ℕ → Bool
-free_of_colon [] = true
-free_of_colon (b ∷ bs) = not (b == colon) && free_of_colon bs
-
-free_lacks : (bs : List ℕ) → free_of_colon bs ≡ true → Lacks colon bs
-unfolding free_of_colon
-free_lacks [] free = tt
-free_lacks (b ∷ bs) free =
-    let both = and_parts (not (b == colon)) (free_of_colon bs) free in
-    (eqb-false b colon (not-true (b == colon) both.0), free_lacks bs both.1)
-
--- A key that is written has eight bytes, without a colon and a line break in front, and is read as itself.
-record IsKey (k : Key) : Type 0 where
-  eight : length (padded (key_name k)) ≡ 8
-  colon_free : free_of_colon (padded (key_name k)) ≡ true
-  no_break : begins_with_break (padded (key_name k)) ≡ false
-  name_again : key_name k ≡ unpadded (padded (key_name k))
-  key_again : key_of (key_name k) ≡ k
-
--- (the last clause is looked at for each of the other keys, and each time all is computed)
-is_key : (k : Key) → is_known k ≡ true → IsKey k
-unfolding free_of_colon key_of
-is_key Other known = cc
-is_key (State AnyMove) known =
-    record { eight = refl; colon_free = refl; no_break = refl; name_again = refl; key_again = refl }
-is_key (Header (ParamsOf Next)) known =
-    record { eight = refl; colon_free = refl; no_break = refl; name_again = refl; key_again = refl }
-is_key (Header (Kept Seed)) known =
-    record { eight = refl; colon_free = refl; no_break = refl; name_again = refl; key_again = refl }
-is_key (Header (Count States)) known =
-    record { eight = refl; colon_free = refl; no_break = refl; name_again = refl; key_again = refl }
-is_key k known = record { eight = refl; colon_free = refl; no_break = refl; name_again = refl; key_again = refl }
 
 -- the length of a value is read
 length_written : (n : ℕ) → n ≤ 99999999 → length_at (decimal n) ≡ Some n
@@ -147,18 +101,18 @@ pub record IsPrefix (rs ms : List KeyedRecord) : Type 0 where
 pub begins_prefix : (rs ms : List KeyedRecord) (text : List ℕ)
     → BeginsWithAll rs text → AreToTheEnd ms text → IsPrefix rs ms
 begins_prefix [] ms text begins all = record { later = ms; split = refl }
-begins_prefix (r ∷ rs) [] text begins all =
-    let read = record_again text begins.0 begins.1 begins.3 in
+begins_prefix (r ∷ rs) [] text (entry, rest, keyed_is, begins, more) all =
+    let read = record_again text entry rest begins in
     let none = end_again text all in
     cc
-begins_prefix (r ∷ rs) (m ∷ ms) text begins all =
-    let read = record_again text begins.0 begins.1 begins.3 in
-    let other = record_again text all.0 all.1 all.3 in
-    let both = some_pair_parts begins.0 all.0 begins.1 all.1 (cc) in
-    let same : r ≡ m = sym begins.2 ∙ (ap keyed both.0 ∙ all.2) in
-    let more = begins_prefix rs ms all.1 (subst (λ t. BeginsWithAll rs t) both.1 begins.4) all.4 in
-    record { later = more.later; split = ap (λ x. x ∷ ms) (sym same) ∙ ap (λ xs. r ∷ xs) more.split }
+begins_prefix (r ∷ rs) (m ∷ ms) text (entry, rest, keyed_is, begins, more) (own, own_rest, own_is, own_begins, own_more) =
+    let read = record_again text entry rest begins in
+    let other = record_again text own own_rest own_begins in
+    let both = some_pair_parts entry own rest own_rest (cc) in
+    let same : r ≡ m = sym keyed_is ∙ (ap keyed both.0 ∙ own_is) in
+    let front = begins_prefix rs ms own_rest (subst (λ t. BeginsWithAll rs t) both.1 more) own_more in
+    record { later = front.later; split = ap (λ x. x ∷ ms) (sym same) ∙ ap (λ xs. r ∷ xs) front.split }
 
 pub all_begin : (rs : List KeyedRecord) (text : List ℕ) → AreToTheEnd rs text → BeginsWithAll rs text
 all_begin [] text all = tt
-all_begin (r ∷ rs) text all = (all.0, all.1, all.2, all.3, all_begin rs all.1 all.4)
+all_begin (r ∷ rs) text (entry, rest, keyed_is, begins, more) = (entry, rest, keyed_is, begins, all_begin rs rest more)

@@ -1,5 +1,5 @@
 -- Lists of records, each seen by what its key is about: which value stands how often with which key.
-use Rattle.std.specs.Prelude.{◌≡◌, ℕ, Bool, true, false, ◌==◌, if◌then◌else◌, List, [], ◌∷◌, Option, Some, None}
+use Rattle.std.specs.Prelude.{◌≡◌, ℕ, Bool, true, false, if◌then◌else◌, List, [], ◌∷◌, Option, Some, None}
 use Rattle.play_save.specs.declared.key.StateKey.{StateKey}
 use Rattle.play_save.specs.declared.key.WhichCount.{WhichCount}
 use Rattle.play_save.specs.declared.key.HeaderKey.{HeaderKey}
@@ -7,7 +7,7 @@ use Rattle.play_save.specs.declared.key.HeaderKey.TheVariants.{Count}
 use Rattle.play_save.specs.declared.key.Key.{Key}
 use Rattle.play_save.specs.declared.key.Key.TheVariants.{Header, State}
 use Rattle.play_save.specs.Records.{Entry, BeginsWith}
-use Rattle.play_save.specs.Keys.{rank, key_of}
+use Rattle.play_save.specs.Keys.{key_of, same_header}
 
 -- a record by what its key is about
 pub record KeyedRecord : Type 0 where
@@ -31,7 +31,7 @@ BeginsWithAll (r ∷ rs) text =
 
 -- the values that stand with a key, in turn
 abbrev pub onto_values : HeaderKey → Key → List ℕ → List (List ℕ) → List (List ℕ)
-onto_values k (Header j) value values = if rank j == rank k then (value ∷ values) else values
+onto_values k (Header j) value values = if same_header j k then (value ∷ values) else values
 onto_values k _ value values = values
 
 -- the values that a header has in some records
@@ -50,8 +50,10 @@ states_in [] = []
 states_in (r ∷ rs) = onto_states r.key r.value (states_in rs)
 
 -- one value stands, of which this holds
-abbrev pub IsOne : (List ℕ → Type 0) → List (List ℕ) → Type 0
-IsOne P values = (value : List ℕ) × (values ≡ value ∷ []) × P value
+pub record IsOne (P : List ℕ → Type 0) (values : List (List ℕ)) : Type 0 where
+  pub value : List ℕ
+  pub alone : values ≡ value ∷ []
+  pub holds : P value
 
 -- bytes that are kept stand once, and nothing stands where none are
 abbrev pub once_if_kept : Option (List ℕ) → List (List ℕ)

@@ -1,11 +1,12 @@
 //! What the records of a save file say, met one by one.
 
-ghost use Rattle.std.specs.Prelude.{◌≡◌, Some, None, [], OnOk, IfErr};
+ghost use Rattle.std.specs.Prelude.{◌≡◌, ℕ, Option, if◌then◌else◌, Some, None, [], OnOk, IfErr};
 ghost use Rattle.std.specs.Result.{result_err};
-ghost use Rattle.play_save.specs.declared.key.Key.TheVariants.{Header, State};
-ghost use Rattle.play_save.specs.SaveTexts.{saves_of};
-ghost use Rattle.play_save.specs.FirstFaults.{met, params_met, count_met, is_complete, count_at, fault_unless, go_together, count_fault, other_count, state_fault, value_fault};
-ghost use Rattle.play_save.specs.Inner.Taking.{bytes_of, met_of, added, Taken};
+ghost use Rattle.play_save.specs.declared.key.HeaderKey.TheVariants.{Count};
+ghost use Rattle.play_save.specs.declared.key.WhichCount.TheVariants.{States, Position};
+ghost use Rattle.play_save.specs.Keys.{same_header};
+ghost use Rattle.play_save.specs.FirstFaults.{count_at, fault_unless, go_together, other_count, state_fault};
+ghost use Rattle.play_save.specs.Inner.Headers.{count_in};
 
 use crate::fault::LoadFault;
 use crate::key::{HeaderKey, Key, StateKey, WhichCount, WhoseParams};
@@ -35,6 +36,34 @@ pub(crate) struct Met<'a> {
     headers: Vec<HeaderRecord<'a>>,
     // The state records are played once the puzzle is known, which may stand behind them.
     pub(crate) states: Vec<StateRecord<'a>>,
+    // Both counts, as their records read.
+    count: Option<usize>,
+    position: Option<usize>,
+    ghost count_read: { count ≡ count_in headers.items States },
+    ghost position_read: { position ≡ count_in headers.items Position },
+}
+
+// Whether two keys are the same.
+fn same_header(one: HeaderKey, other: HeaderKey) -> bool
+    ensures { result ≡ same_header one other }
+{
+    one == other
+}
+
+// A count once a header with this number was met, which may be the header of the count.
+fn count_after(
+    which: WhichCount,
+    key: HeaderKey,
+    number: Option<usize>,
+    before: Option<usize>,
+) -> Option<usize>
+    ensures { result ≡ if same_header key (Count which) then number else before }
+{
+    if same_header(key, HeaderKey::Count(which)) {
+        number
+    } else {
+        before
+    }
 }
 
 // A refusal, unless the test holds.
@@ -45,7 +74,7 @@ fn refuse_unless(holds: bool, fault: LoadFault) -> Result<(), LoadFault>
 }
 
 // A count of states: a decimal number from 1 to `MOST_STATES`.
-fn count(value: &[u8]) -> Option<usize>
+fn read_count(value: &[u8]) -> Option<usize>
     ensures { result ≡ count_at value.now }
 {
     match number(value, MOST_STATES as u64) {
@@ -87,6 +116,11 @@ fn check_state(key: StateKey, value: &[u8]) -> Result<(), LoadFault>
 }
 
 impl<'a> Met<'a> {
+    ghost use Rattle.play_save.specs.declared.key.Key.TheVariants.{Header, State};
+    ghost use Rattle.play_save.specs.SaveTexts.{saves_of};
+    ghost use Rattle.play_save.specs.FirstFaults.{met, params_met, count_met, is_complete, count_fault, value_fault};
+    ghost use Rattle.play_save.specs.Inner.Taking.{bytes_of, met_of, added, Taken};
+
     /// Nothing yet.
     pub(crate) fn new(alloc: Global) -> Met<'a>
         ensures { met_of result ≡ met [] }
@@ -94,6 +128,8 @@ impl<'a> Met<'a> {
         Met {
             headers: Vec::new(alloc),
             states: Vec::new(alloc),
+            count: None,
+            position: None,
         }
     }
 
@@ -102,7 +138,7 @@ impl<'a> Met<'a> {
         ensures { bytes_of result ≡ (met_of self.now).first key }
     {
         for record in &self.headers {
-            if record.key.rank() == key.rank() {
+            if same_header(record.key, key) {
                 return Some(record.value);
             }
         }
@@ -120,17 +156,17 @@ impl<'a> Met<'a> {
     pub(crate) fn count(&self, which: WhichCount) -> Option<usize>
         ensures { result ≡ count_met (met_of self.now) which }
     {
-        count(self.first(HeaderKey::Count(which))?)
+        match which {
+            WhichCount::States => self.count,
+            WhichCount::Position => self.position,
+        }
     }
 
     /// Whether both counts were met, and all states behind the first.
     pub(crate) fn is_complete(&self) -> bool
         ensures { result ≡ is_complete (met_of self.now) }
     {
-        match (
-            self.count(WhichCount::States),
-            self.count(WhichCount::Position),
-        ) {
+        match (self.count, self.position) {
             (Some(count), Some(_)) => count <= self.states.len() + 1,
             _ => false,
         }
@@ -155,23 +191,38 @@ impl<'a> Met<'a> {
         if self.first(key).is_some() {
             return Err(LoadFault::Repeated);
         }
-        self.check_header::<P>(key, value)?;
-        self.keep(key, value)
+        let number = read_count(value);
+        self.check_header::<P>(key, value, number)?;
+        self.keep(key, value, number)
     }
 
-    // Keeps the first value of a key.
-    fn keep(&mut self, key: HeaderKey, value: &'a [u8]) -> Result<(), LoadFault>
-        requires { (met_of self.old).first key ≡ None }
+    // Keeps the first value of a key, and the number that it reads as, where it is a count's.
+    fn keep(
+        &mut self,
+        key: HeaderKey,
+        value: &'a [u8],
+        number: Option<usize>,
+    ) -> Result<(), LoadFault>
+        requires first { (met_of self.old).first key ≡ None }
+        requires number { number ≡ count_at value.now }
         ensures ok { OnOk result (met_of self.new
             ≡ added (met_of self.old) (Header key) value.now) }
         ensures err { IfErr result (λ fault. fault ≡ LoadFault.OutOfMemory) }
     {
         self.headers.push(HeaderRecord { key, value })?;
+        self.count = count_after(WhichCount::States, key, number, self.count);
+        self.position = count_after(WhichCount::Position, key, number, self.position);
         Ok(())
     }
 
-    // A value that is the first of its key.
-    fn check_header<P: Game>(&self, key: HeaderKey, value: &[u8]) -> Result<(), LoadFault>
+    // A value that is the first of its key, and the number that it reads as, where it is a count's.
+    fn check_header<P: Game>(
+        &self,
+        key: HeaderKey,
+        value: &[u8],
+        number: Option<usize>,
+    ) -> Result<(), LoadFault>
+        requires { number ≡ count_at value.now }
         ensures { result_err result
             ≡ value_fault (saves_of P.Rules P.Game.own) (met_of self.now) key value.now }
     {
@@ -186,17 +237,17 @@ impl<'a> Met<'a> {
                 Err(_) => Err(LoadFault::BadParams),
             },
             HeaderKey::PrivateDesc => Err(LoadFault::Unsupported),
-            HeaderKey::Count(which) => self.check_count(which, value),
+            HeaderKey::Count(which) => self.check_count(which, number),
             HeaderKey::Desc | HeaderKey::Kept(_) => Ok(()),
         }
     }
 
     // A count has to go together with the other one, where that was met.
-    fn check_count(&self, which: WhichCount, value: &[u8]) -> Result<(), LoadFault>
-        ensures { result_err result ≡ count_fault which (count_at value.now)
-            (count_met (met_of self.now) (other_count which)) }
+    fn check_count(&self, which: WhichCount, number: Option<usize>) -> Result<(), LoadFault>
+        ensures { result_err result
+            ≡ count_fault which number (count_met (met_of self.now) (other_count which)) }
     {
-        let Some(count) = count(value) else {
+        let Some(count) = number else {
             return Err(LoadFault::BadCount);
         };
         match self.count(other_count(which)) {
@@ -209,7 +260,7 @@ impl<'a> Met<'a> {
         ensures { Taken (saves_of P.Rules P.Game.own)
             (met_of self.old) (State key) value.now result (met_of self.new) }
     {
-        if self.count(WhichCount::States).is_none() || self.count(WhichCount::Position).is_none() {
+        if self.count.is_none() || self.position.is_none() {
             return Err(LoadFault::EarlyState);
         }
         check_state(key, value)?;

@@ -84,12 +84,12 @@ pub clues_taken : (w : ℕ) (part clues : List ℕ) → clues_at w part ≡ Ok c
 unfolding clues_at
 clues_taken w part clues read =
     let steps = bind_taken (exactly (4 * w) (fields part)) (clues_in w) clues read in
-    let count = exactly_taken (4 * w) (fields part) steps.0 steps.1 in
-    let ones = clues_in_taken w steps.0 clues steps.2 in
-    let each = fields_taken w steps.0 ones.0 in
+    let count = exactly_taken (4 * w) (fields part) steps.value steps.gives in
+    let ones = clues_in_taken w steps.value clues steps.rest in
+    let each = fields_taken w steps.value ones.0 in
     let written : map clue_field clues ≡ fields part = ap (map clue_field) (sym ones.1) ∙ (each.0 ∙ sym count.0) in
     let joined : clue_part clues ≡ part = ap (join_with_byte slash) written ∙ join_with_byte-slice_split slash part in
-    let lengths : length clues ≡ length steps.0 = ap length (sym ones.1) ∙ length-map steps.0 clue_in in
+    let lengths : length clues ≡ length steps.value = ap length (sym ones.1) ∙ length-map steps.value clue_in in
     (sym joined, lengths ∙ (ap length (sym count.0) ∙ count.1), subst (AllByRecursion (λ clue. clue ≤ w)) ones.1 each.1)
 
 pub clues_again : (w : ℕ) (clues : List ℕ) → 0 < w → length clues ≡ 4 * w → AllByRecursion (λ clue. clue ≤ w) clues

@@ -43,22 +43,22 @@ pub towers_taken : (w : ℕ) (text : List ℕ) (p : TowersValue) → 3 ≤ w →
 unfolding towers_at
 towers_taken w text p small large read =
     let first = bind_taken (clues_at w (before comma text)) (λ clues. givens_behind w (behind comma text) >>= made w clues) p read in
-    let second = bind_taken (givens_behind w (behind comma text)) (made w first.0) p first.2 in
-    let clues = clues_taken w (before comma text) first.0 first.1 in
-    let squares = givens_behind_taken w text second.0 (behind comma text) large refl second.1 in
-    let value : TowersValue = record { size = w; clues = first.0; givens = second.0 } in
+    let second = bind_taken (givens_behind w (behind comma text)) (made w first.value) p first.rest in
+    let clues = clues_taken w (before comma text) first.value first.gives in
+    let squares = givens_behind_taken w text second.value (behind comma text) large refl second.gives in
+    let value : TowersValue = record { size = w; clues = first.value; givens = second.value } in
     let is : value ≡ p = cc in
     let puzzle : IsTowers value = record {
       givens = record {
         smallest = small;
         largest = large;
         count = squares.0;
-        within = All-from_recursion (λ n. n ≤ w) second.0 squares.1;
+        within = All-from_recursion (λ n. n ≤ w) second.value squares.1;
       };
       clue_count = clues.1;
-      clues_within = All-from_recursion (λ n. n ≤ w) first.0 clues.2;
+      clues_within = All-from_recursion (λ n. n ≤ w) first.value clues.2;
     } in
-    let parts = subst (λ front. SaysSquares w text front second.0) clues.0 squares.2 in
+    let parts = subst (λ front. SaysSquares w text front second.value) clues.0 squares.2 in
     subst (λ v. IsTowersText v text × IsTowers v × (v.size ≡ w)) is (record { puzzle = puzzle; parts = parts }, puzzle, refl)
 
 -- where the description is cut, its clues and its givens are read

@@ -104,9 +104,9 @@ pub unequal_taken : (w : ℕ) (text : List ℕ) (v : UnequalValue) → 3 ≤ w �
 unfolding unequal_at
 unequal_taken w text v small large h =
     let read = bind_taken (exactly (w * w) (pieces_of text)) (puzzle_at w) v h in
-    let count = exactly_taken (w * w) (pieces_of text) read.0 read.1 in
-    let good = good_taken w read.0 v read.2 in
-    let described = taken_pieces w text read.0 small large (sym (ap length count.0) ∙ count.1) count.0 good.0 in
+    let count = exactly_taken (w * w) (pieces_of text) read.value read.gives in
+    let good = good_taken w read.value v read.rest in
+    let described = taken_pieces w text read.value small large (sym (ap length count.0) ∙ count.1) count.0 good.0 in
     subst (λ u. IsUnequalText u text × IsUnequal u × (u.size ≡ w)) good.1 (described, described.puzzle, refl)
 
 -- what pieces that describe a puzzle say of two neighbours is the sign between them

@@ -1,19 +1,19 @@
 -- Records taken in turn: what was met after one more, and what the code keeps of it.
-use Rattle.std.specs.Prelude.{◌≡◌, ◌⊎◌, ℕ, ◌+◌, ◌≤◌, ◌==◌, if◌then◌else◌, List, [], ◌∷◌, ◌++◌, length, map, Option, Some, None, option_map, Result, Ok, Err}
+use Rattle.std.specs.Prelude.{◌≡◌, ◌⊎◌, ℕ, ◌+◌, ◌≤◌, if◌then◌else◌, List, [], ◌∷◌, ◌++◌, length, map, Option, Some, None, option_map, Result, Ok, Err}
 use Rattle.std.specs.Borrow.{Bor}
 use Rattle.play_midend.specs.declared.session.TheConstants.{MOST_STATES}
 use Rattle.play_save.specs.declared.fault.LoadFault.{LoadFault}
 use Rattle.play_save.specs.declared.fault.LoadFault.TheVariants.{OutOfMemory}
-use Rattle.play_save.specs.declared.met.HeaderRecord.{HeaderRecord}
 use Rattle.play_save.specs.declared.met.StateRecord.{StateRecord}
 use Rattle.play_save.specs.declared.met.Met.{Met}
 use Rattle.play_save.specs.declared.key.WhichCount.TheVariants.{Position}
 use Rattle.play_save.specs.declared.key.HeaderKey.{HeaderKey}
 use Rattle.play_save.specs.declared.key.Key.{Key}
 use Rattle.play_save.specs.declared.key.Key.TheVariants.{Header, State, Other}
-use Rattle.play_save.specs.Keys.{rank}
-use Rattle.play_save.specs.KeyedRecords.{KeyedRecord, KeyedState, values_of}
+use Rattle.play_save.specs.Keys.{same_header}
+use Rattle.play_save.specs.KeyedRecords.{KeyedState, values_of}
 use Rattle.play_save.specs.SaveTexts.{SavedGame}
+use Rattle.play_save.specs.Inner.Headers.{header_of}
 use Rattle.play_save.specs.FirstFaults.{MetValue, first_of, count_met, fault_by}
 
 -- what the code keeps, as what was met
@@ -23,10 +23,6 @@ state_of s = record { key = s.key; value = s.value.now }
 -- the bytes that a loan shows
 abbrev pub bytes_of : Option (Bor (List ℕ)) → Option (List ℕ)
 bytes_of kept = option_map (λ bytes. bytes.now) kept
-
--- a header record as contracts see it
-abbrev pub header_of : HeaderRecord → KeyedRecord
-header_of r = record { key = Header r.key; value = r.value.now }
 
 -- what was met, as contracts see it
 abbrev pub met_of : Met → MetValue
@@ -39,7 +35,7 @@ pub record IsPlayable (m : MetValue) : Type 0 where
 
 -- what was met after one more record
 abbrev pub with_first : (HeaderKey → Option (List ℕ)) → HeaderKey → List ℕ → HeaderKey → Option (List ℕ)
-with_first first k value j = if rank k == rank j then Some value else first j
+with_first first k value j = if same_header k j then Some value else first j
 
 -- the value of a header that stands once, or one state record more
 abbrev pub added : MetValue → Key → List ℕ → MetValue

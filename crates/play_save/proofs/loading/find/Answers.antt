@@ -19,8 +19,8 @@ loop-rest-init g c = rw c.new-met.ensures (reads_all (saves_of g.P.Rules g.P.Gam
 pub returns-in_err-next_record-clause-given : goal.returns-in_err-next_record-clause-given
 returns-in_err-next_record-clause-given g c =
     let undone : is_complete (met_of c.loop-rest.met) ≡ false = search rules in
-    let e = err_from_is_err_and c.from_residual.result c.from_residual.ensures.1 in
-    rw (e.1, e.2) (inr (reads_broken c.loop-rest.invariant undone c.in_err-next_record.ensures.value))
+    let (fault, is, same) = err_from_is_err_and c.from_residual.result c.from_residual.ensures.1 in
+    rw (is, same) (inr (reads_broken c.loop-rest.invariant undone c.in_err-next_record.ensures.value))
 
 pub returns-in_err-record-clause-given : goal.returns-in_err-record-clause-given
 returns-in_err-record-clause-given g c =
@@ -30,8 +30,8 @@ returns-in_err-record-clause-given g c =
     rw none at c.in_ok-next_record.ensures.value in
     let missing =
     error_of_none c.in_ok-next_record.field-0 c.in_err-record.field-0.0 Missing c.in_err-record.ensures.value none in
-    let e = err_from_is_err_and c.from_residual-in_err-record.result c.from_residual-in_err-record.ensures.1 in
-    rw (e.1, e.2, missing) (inr (reads_end c.loop-rest.invariant undone read))
+    let (fault, is, same) = err_from_is_err_and c.from_residual-in_err-record.result c.from_residual-in_err-record.ensures.1 in
+    rw (is, same, missing) (inr (reads_end c.loop-rest.invariant undone read))
 
 pub returns-in_err-take-clause-given : goal.returns-in_err-take-clause-given
 returns-in_err-take-clause-given g c =
@@ -39,9 +39,9 @@ returns-in_err-take-clause-given g c =
     let some = c.in_ok-record.ensures.ok_part in
     let read : record_at c.loop-rest.rest.now ≡ Ok (Some (entry_of c.in_ok-record.record, c.in_ok-record.after.now)) =
     rw some at c.in_ok-next_record.ensures.value in
-    let e = err_from_is_err_and c.from_residual-in_err-take.result c.from_residual-in_err-take.ensures.1 in
+    let (fault, is, same) = err_from_is_err_and c.from_residual-in_err-take.result c.from_residual-in_err-take.ensures.1 in
     let has = rw c.of.ensures at c.in_err-take.ensures in
-    rw (e.1, e.2) (reads_fault c.in_err-take.field-0.0 c.loop-rest.invariant undone read has)
+    rw (is, same) (reads_fault c.in_err-take.field-0.0 c.loop-rest.invariant undone read has)
 
 pub loop-rest-smaller : goal.loop-rest-smaller
 loop-rest-smaller g c =

@@ -1,7 +1,7 @@
 use Rattle.std.proofs.Common.{◌≡◌, drop, map}
 use Rattle.play_save.specs.KeyedRecords.{values_of}
 use Rattle.play_save.specs.FirstFaults.{first_of}
-use Rattle.play_save.specs.Inner.Taking.{header_of}
+use Rattle.play_save.specs.Inner.Headers.{header_of}
 use Rattle.play_save.proofs.met.Met.first.Given as goal
 
 abbrev pub invariant-loop-record : goal.invariant-loop-record
