@@ -1,5 +1,5 @@
 -- The values of a set are kept in a square, and those of a row of sets along a line.
-use Rattle.std.proofs.Common.{◌≡◌, ◌≢◌, ℕ, ◌*◌, ◌<◌, ◌+◌, ◌==◌, true, false, not, ◌&&◌, List, ◌++◌, length, length-append, inl, inr, refl, sym, ap, ◌∙◌, subst, ⊎_elim, slice_index, arith}
+use Rattle.std.proofs.Common.{◌≡◌, ◌≢◌, ℕ, ◌*◌, ◌<◌, ◌≤◌, ◌⊎◌, ◌↔◌, ◌+◌, ◌==◌, true, false, not, ◌&&◌, List, ◌++◌, length, length-append, inl, inr, refl, sym, ap, ◌∙◌, subst, ⊎_elim, slice_index, arith}
 use Rattle.std.proofs.lemmas.Bool.{and_from, and_parts, cases_eq, cases_lt, both_ways, false_from_ne_true, ne_eqb}
 use Rattle.number_sets.specs.Sets.{has_number, IsEmpty}
 use Rattle.number_sets.proofs.Members.{has_number-none}
@@ -12,7 +12,6 @@ use Rattle.trail_solver.proofs.StruckSets.{AreMissing, gone_missing, missing_are
 use Rattle.clue_rules.specs.Inner.Narrowing.{KeepsInSquare, KeepsInView, Agrees, AreSetsOf, KeepsEach}
 use Rattle.clue_rules.specs.Struck.{IsGivenStruck}
 use Rattle.clue_rules.specs.Views.{view_cell}
-use Rattle.clue_rules.proofs.LineSquares.{view_cell_once}
 
 -- ---- one square
 
@@ -52,27 +51,56 @@ kept_longer old new cell values kept missing valid is left some trail =
 
 -- ---- a line, square by square
 
--- now is first with only the values of the sets kept in the first n squares from a place
-pub record KeepsUpTo (place : ℕ) (kept : List ℕ) (n : ℕ) (first now : CandidatesValue) : Type 0 where
+-- now is first with only the values that may stay kept in the first n of a row of squares
+pub record KeepsUpTo (at : ℕ → ℕ) (Stays : ℕ → ℕ → Type 0) (n : ℕ) (first now : CandidatesValue) : Type 0 where
   pub less : IsEarlier first now
-  pub keeps : (g : GridValue) → g.size ≡ first.size
-      → ((k : ℕ) → k < first.size → has_number (slice_index kept k) (number_at g (view_cell first.size place k)) ≡ true)
-      → IsWithin first g → IsWithin now g
-  pub gone : (k v : ℕ) → k < n → IsPair first.size (view_cell first.size place k) v → has_number (slice_index kept k) v ≡ false
-      → may_be now (view_cell first.size place k) v ≡ false
-  pub rest : (k v : ℕ) → k < first.size → has_number (slice_index kept k) v ≡ true
-      → may_be now (view_cell first.size place k) v ≡ may_be first (view_cell first.size place k) v
+  pub keeps : (g : GridValue) → g.size ≡ first.size → ((k : ℕ) → k < first.size → Stays k (number_at g (at k))) → IsWithin first g
+      → IsWithin now g
+  pub gone : (k v : ℕ) → k < n → IsPair first.size (at k) v → (Stays k v → ⊥) → may_be now (at k) v ≡ false
+  pub rest : (k v : ℕ) → k < first.size → (n ≤ k) ⊎ Stays k v → may_be now (at k) v ≡ may_be first (at k) v
+
+-- no square of the row stands in it twice
+abbrev pub AreOnce : (ℕ → ℕ) → ℕ → Type 0
+AreOnce at w = (i j : ℕ) → i < w → j < w → at i ≡ at j → i ≡ j
+
+-- the set has the values that may stay in the k-th square
+abbrev pub IsStaying : (ℕ → ℕ → Type 0) → ℕ → ℕ → Type 0
+IsStaying Stays k set = (v : ℕ) → (has_number set v ≡ true) ↔ Stays k v
+
+-- at first nothing is taken
+pub up_to_none : (at : ℕ → ℕ) (Stays : ℕ → ℕ → Type 0) (c : CandidatesValue) → KeepsUpTo at Stays 0 c c
+up_to_none at Stays c = record {
+  less = earlier_refl c;
+  keeps = λ g size stay w. w;
+  gone = λ k v below pair goes. absurd (omega arith);
+  rest = λ k v inside or. refl;
+}
+
+-- where all may stay, nothing has to be taken
+pub up_to_all : (at : ℕ → ℕ) (Stays : ℕ → ℕ → Type 0) (n : ℕ) (c : CandidatesValue)
+    → ((k v : ℕ) → k < n → IsPair c.size (at k) v → may_be c (at k) v ≡ true → Stays k v) → KeepsUpTo at Stays n c c
+up_to_all at Stays n c all = record {
+  less = earlier_refl c;
+  keeps = λ g size stay w. w;
+  gone = λ k v below pair goes. false_from_ne_true (may_be c (at k) v) (λ left. goes (all k v below pair left));
+  rest = λ k v inside or. refl;
+}
 
 -- what is kept in the next square takes nothing from the others
-pub rest_more : (place n : ℕ) (kept : List ℕ) (first now new : CandidatesValue) → place < 4 * first.size → n < first.size
-    → KeepsUpTo place kept n first now → KeepsInSquare now new (view_cell first.size place n) (slice_index kept n) → (k v : ℕ) → k < first.size
-    → has_number (slice_index kept k) v ≡ true → may_be new (view_cell first.size place k) v ≡ may_be first (view_cell first.size place k) v
-rest_more place n kept first now new inside low h step k v below has =
-    step.rest (view_cell first.size place k) v (elim (cases_eq k n) [
-      | inl same ↦ inr (subst (λ (i : ℕ). has_number (slice_index kept i) v ≡ true) same has)
-      | inr apart ↦ inl (λ same. apart (view_cell_once first.size place k n inside below low same))
-    ])
-    ∙ h.rest k v below has
+rest_more : (at : ℕ → ℕ) (Stays : ℕ → ℕ → Type 0) (n kept : ℕ) (first now new : CandidatesValue) → AreOnce at first.size → n < first.size
+    → KeepsUpTo at Stays n first now → IsStaying Stays n kept → KeepsInSquare now new (at n) kept → (k v : ℕ) → k < first.size
+    → (n + 1 ≤ k) ⊎ Stays k v → may_be new (at k) v ≡ may_be first (at k) v
+rest_more at Stays n kept first now new once low h is step k v below or = elim (cases_eq k n) [
+  | inl same ↦ elim or [
+    | inl later ↦ absurd (omega arith)
+    | inr stays ↦
+        let P : ℕ → Type 0 = λ i. Stays i v in
+        step.rest (at k) v (inr ((is v).1 (subst P same stays))) ∙ h.rest k v below (inr stays)
+  ]
+  | inr apart ↦
+      step.rest (at k) v (inl (λ same. apart (once k n below low same)))
+      ∙ h.rest k v below (⊎_elim (λ later. inl (omega arith)) (λ stays. inr stays) or)
+]
 
 -- a grid that has a value of the set in the square is still within
 pub within_kept : (old new : CandidatesValue) (cell kept : ℕ) (g : GridValue) → KeepsInSquare old new cell kept → IsWithin old g
@@ -85,25 +113,34 @@ within_kept old new cell kept g k w has = record {
 }
 
 -- one square more
-pub up_to_more : (place n : ℕ) (kept : List ℕ) (first now new : CandidatesValue) → place < 4 * first.size → n < first.size
-    → KeepsUpTo place kept n first now → KeepsInSquare now new (view_cell first.size place n) (slice_index kept n)
-    → KeepsUpTo place kept (n + 1) first new
-up_to_more place n kept first now new inside low h step = record {
+pub up_to_more : (at : ℕ → ℕ) (Stays : ℕ → ℕ → Type 0) (n kept : ℕ) (first now new : CandidatesValue) → AreOnce at first.size → n < first.size
+    → KeepsUpTo at Stays n first now → IsStaying Stays n kept → KeepsInSquare now new (at n) kept → KeepsUpTo at Stays (n + 1) first new
+up_to_more at Stays n kept first now new once low h is step = record {
   less = earlier_trans first now new h.less step.less;
-  keeps = λ g size has w. within_kept now new (view_cell first.size place n) (slice_index kept n) g step (h.keeps g size has w) (has n low);
-  gone = λ k v below pair lacks. elim (cases_lt k n) [
-    | inl before ↦ stays_gone now new (view_cell first.size place k) v step.less (h.gone k v before pair lacks)
+  keeps = λ g size stay w. within_kept now new (at n) kept g step (h.keeps g size stay w) ((is (number_at g (at n))).1 (stay n low));
+  gone = λ k v below pair goes. elim (cases_lt k n) [
+    | inl before ↦ stays_gone now new (at k) v step.less (h.gone k v before pair goes)
     | inr last ↦
         let same : n ≡ k = omega arith in
-        let P : ℕ → Type 0 = λ i. may_be new (view_cell first.size place i) v ≡ false in
-        let Lacks : ℕ → Type 0 = λ i. has_number (slice_index kept i) v ≡ false in
-        let Pair : ℕ → Type 0 = λ i. IsPair first.size (view_cell first.size place i) v in
-        let here : IsPair now.size (view_cell first.size place n) v =
-        subst (λ (w : ℕ). IsPair w (view_cell first.size place n) v) (sym h.less.size) (subst Pair (sym same) pair) in
-        subst P same (step.gone v here (subst Lacks (sym same) lacks))
+        let P : ℕ → Type 0 = λ i. may_be new (at i) v ≡ false in
+        let Goes : ℕ → Type 0 = λ i. Stays i v → ⊥ in
+        let Pair : ℕ → Type 0 = λ i. IsPair first.size (at i) v in
+        let here : IsPair now.size (at n) v = subst (λ (w : ℕ). IsPair w (at n) v) (sym h.less.size) (subst Pair (sym same) pair) in
+        let lacks : has_number kept v ≡ false = false_from_ne_true (has_number kept v) (λ has. (subst Goes (sym same) goes) ((is v).0 has)) in
+        subst P same (step.gone v here lacks)
   ];
-  rest = rest_more place n kept first now new inside low h step;
+  rest = rest_more at Stays n kept first now new once low h is step;
 }
+
+-- the candidates of a square that comes later are those that it had at first
+pub set_before : (at : ℕ → ℕ) (Stays : ℕ → ℕ → Type 0) (n set : ℕ) (first now : CandidatesValue) → n < first.size → KeepsUpTo at Stays n first now
+    → IsSetOf now (at n) set → IsSetOf first (at n) set
+set_before at Stays n set first now low h is v =
+    let same = h.rest n v low (inl (omega arith)) in
+    let Pair : ℕ → Type 0 = λ w. IsPair w (at n) v in (
+      λ has. let p = (is v).0 has in (subst Pair h.less.size p.0, sym same ∙ p.1),
+      λ p. (is v).1 (subst Pair (sym h.less.size) p.0, same ∙ p.1),
+    )
 
 -- the answer that a set is empty
 pub none_in : (set : ℕ) → not (set == 0) ≡ false → set ≡ 0
@@ -112,15 +149,30 @@ none_in set is = elim (cases_eq set 0) [
   | inr some ↦ absurd (both_ways (not (set == 0)) is (ap not (ne_eqb set 0 some)))
 ]
 
+-- the values that the sets of a row have
+abbrev pub in_sets : List ℕ → ℕ → ℕ → Type 0
+in_sets kept k v = has_number (slice_index kept k) v ≡ true
+
 -- of an empty set nothing is kept
-pub up_to_empty : (place n : ℕ) (kept : List ℕ) (first now : CandidatesValue) → n < first.size → KeepsUpTo place kept (n + 1) first now
-    → slice_index kept n ≡ 0 → KeepsInView place kept first now false
-up_to_empty place n kept first now low h none = record {
+pub view_empty : (place n : ℕ) (kept : List ℕ) (first now : CandidatesValue) → n < first.size
+    → KeepsUpTo (view_cell first.size place) (in_sets kept) (n + 1) first now → slice_index kept n ≡ 0 → KeepsInView place kept first now false
+view_empty place n kept first now low h none = record {
   less = h.less;
   keeps = h.keeps;
   empty = (n, low, λ v. ap (λ (m : ℕ). has_number m v) none ∙ has_number-none v);
   gone = tt;
-  rest = h.rest;
+  rest = λ k v inside has. h.rest k v inside (inr has);
+}
+
+-- all squares from a place are done
+pub view_kept : (place n : ℕ) (kept : List ℕ) (first now : CandidatesValue) → n ≡ first.size
+    → KeepsUpTo (view_cell first.size place) (in_sets kept) n first now → KeepsInView place kept first now true
+view_kept place n kept first now all h = record {
+  less = h.less;
+  keeps = h.keeps;
+  empty = tt;
+  gone = λ k v inside pair lacks. h.gone k v (omega arith) pair (λ has. both_ways (has_number (slice_index kept k) v) lacks has);
+  rest = λ k v inside has. h.rest k v inside (inr has);
 }
 
 -- where the sets are those of the candidates, nothing goes

@@ -6,6 +6,7 @@ pub mod GivensFilled
 pub mod GivensNarrowed
 pub mod KeptCandidates
 pub mod KeptItemLemmas
+pub mod LineCandidates
 pub mod LineSets
 pub mod LineSquares
 pub mod LineSteps

@@ -1,9 +1,10 @@
 -- The squares of a row or column, as a line of the grid and as they are met from an edge place.
-use Rattle.std.proofs.Common.{◌≡◌, ◌≢◌, ℕ, ◌+◌, ◌-◌, ◌*◌, ◌/◌, ◌%◌, ◌<◌, ◌⊎◌, inl, inr, sym, ap, ◌∙◌, arith}
+use Rattle.std.proofs.Common.{◌≡◌, ◌≢◌, ℕ, ◌+◌, ◌-◌, ◌*◌, ◌/◌, ◌%◌, ◌<◌, ◌⊎◌, inl, inr, refl, sym, ap, ◌∙◌, subst, arith}
 use Rattle.std.proofs.lemmas.Bool.{cases_eq, cases_lt, lt-ltb, le-ltb}
-use Rattle.std.proofs.lemmas.Nat.{div-mul-add, mod-mul-add}
+use Rattle.std.proofs.lemmas.Nat.{div_below, div-mul-add, mod_below, mod-mul-add}
 use Rattle.latin_board.specs.Lines.{line_cell}
-use Rattle.latin_board.proofs.LatinLines.{line_cell-row, line_cell-column, line_cell_inside}
+use Rattle.latin_board.proofs.LatinLines.{line_cell-row, line_cell-column, line_cell_inside, line_cell_of_row, some_width}
+use Rattle.clue_rules.specs.Inner.ViewSquares.{IsCrossed, crossing_line}
 use Rattle.clue_rules.specs.Laws.Edges.{view_index_low, view_line_low}
 use Rattle.clue_rules.specs.Views.{view_cell, view_line, view_index}
 
@@ -19,6 +20,7 @@ line_through w line k below inside = elim (cases_lt line w) [
       inr (rw there (split ∙ ap (λ (n : ℕ). w + n) (sym (mod-mul-add k w (line - w) (omega arith)))))
 ]
 
+-- two squares of a line are two
 pub line_cell_once : (w line i j : ℕ) → line < 2 * w → i < w → j < w → line_cell w line i ≡ line_cell w line j → i ≡ j
 line_cell_once w line i j below first second same = elim (cases_lt line w) [
   | inl row ↦
@@ -34,6 +36,55 @@ line_cell_once w line i j below first second same = elim (cases_lt line w) [
       ∙ ap (λ (n : ℕ). n / w) (sym (at i) ∙ same ∙ at j)
       ∙ div-mul-add j w (line - w) (omega arith)
 ]
+
+-- a square of a line has no lines but that one and the one that crosses it there
+pub on_line : (w line k cell crossing : ℕ) → line < 2 * w → k < w → cell ≡ line_cell w line k → crossing ≡ crossing_line w line k
+    → IsCrossed w cell line crossing
+on_line w line k cell crossing inside low here across =
+    let within = line_cell_inside w line k inside low in
+    let through : (other i : ℕ) → other < 2 * w → i < w → line_cell w other i ≡ cell → (other ≡ cell / w) ⊎ (other ≡ w + cell % w) =
+    λ other i below first same.
+    let P : ℕ → Type 0 = λ c. (other ≡ c / w) ⊎ (other ≡ w + c % w) in
+    subst P same (line_through w other i below first) in
+    elim (cases_lt line w) [
+      | inl row ↦
+          let at : cell ≡ line * w + k = here ∙ line_cell-row w line k row in
+          let cross : crossing ≡ w + k = across ∙ rw (lt-ltb line w row) refl in
+          let above : cell / w ≡ line = ap (λ (n : ℕ). n / w) at ∙ div-mul-add line w k low in
+          let beside : cell % w ≡ k = ap (λ (n : ℕ). n % w) at ∙ mod-mul-add line w k low in
+          record {
+            inside = omega (arith, within, here);
+            line_is = inside;
+            crossing_is = omega arith;
+            none_else = λ other i below first same. elim (through other i below first same) [
+              | inl one ↦ inl (one ∙ above)
+              | inr two ↦ inr (omega (arith, two, beside, cross))
+            ];
+          }
+      | inr column ↦
+          let split : line ≡ w + (line - w) = omega arith in
+          let at : cell ≡ k * w + (line - w) = here ∙ ap (λ (l : ℕ). line_cell w l k) split ∙ line_cell-column w (line - w) k in
+          let cross : crossing ≡ k = across ∙ rw (le-ltb line w column) refl in
+          let above : cell / w ≡ k = ap (λ (n : ℕ). n / w) at ∙ div-mul-add k w (line - w) (omega arith) in
+          let beside : cell % w ≡ line - w = ap (λ (n : ℕ). n % w) at ∙ mod-mul-add k w (line - w) (omega arith) in
+          record {
+            inside = omega (arith, within, here);
+            line_is = inside;
+            crossing_is = omega arith;
+            none_else = λ other i below first same. elim (through other i below first same) [
+              | inl one ↦ inr (omega (arith, one, above, cross))
+              | inr two ↦ inl (omega (arith, two, beside))
+            ];
+          }
+    ]
+
+-- a square by its row, and the column that crosses it
+pub by_row : (w cell row column : ℕ) → cell < w * w → row ≡ cell / w → column ≡ cell % w → IsCrossed w cell row (w + column)
+by_row w cell row column inside first second =
+    let some = some_width w cell inside in
+    let low : row < w = omega (arith, first, div_below cell w w some inside) in
+    on_line w row column cell (w + column) (omega arith) (omega (arith, second, mod_below cell w some))
+    (sym (rw (first, second) (line_cell_of_row w cell inside))) (rw (lt-ltb row w low) refl)
 
 -- ---- the squares from a place
 

@@ -1,6 +1,6 @@
 -- What one row or column rules out: its squares' candidates as sets, and a Latin square among them.
 use Rattle.std.proofs.Common.{◌≡◌, ℕ, ◌*◌, ◌<◌, Bool, true, false, List, inl, inr, refl, sym, ap, ◌∙◌, subst, arith, slice_index}
-use Rattle.std.proofs.lemmas.Bool.{both_ways, false_from_ne_true}
+use Rattle.std.proofs.lemmas.Bool.{both_ways}
 use Rattle.number_sets.specs.Sets.{IsSingle, has_number}
 use Rattle.latin_board.specs.Squares.{GridValue, number_at}
 use Rattle.latin_board.specs.Lines.{line_cell}
@@ -9,13 +9,13 @@ use Rattle.latin_board.proofs.Numbers.{number_within}
 use Rattle.trail_solver.specs.Pairs.{IsPair}
 use Rattle.trail_solver.specs.Candidates.{CandidatesValue, IsSetOf, IsEarlier, IsOnly, IsWithin, may_be}
 use Rattle.trail_solver.proofs.Earlier.{earlier_refl, only_later, was_left}
-use Rattle.clue_rules.specs.Inner.Narrowing.{AreSetsOf, IsSquare, KeepsInView, Narrows, StruckBelow}
-use Rattle.clue_rules.specs.Inner.LineTallies.{IsPossible, IsWholeTally, IsQuietTally, IsKeptOf, IsLineStruck, HoldValuesTo}
+use Rattle.clue_rules.specs.Inner.Narrowing.{IsSquare, KeepsInView, Narrows, StruckBelow}
+use Rattle.clue_rules.specs.Inner.LineTallies.{IsPossible, IsWholeTally, IsQuietTally, IsLineStruck, HoldValuesTo, MayStay}
 use Rattle.clue_rules.specs.Struck.{IsOnePlace, IsPeerStruck, IsPlaceStruck, IsLatinStruck}
 use Rattle.clue_rules.specs.Views.{view_cell}
 use Rattle.clue_rules.specs.declared.lines.latin.LineTally.{LineTally}
 use Rattle.clue_rules.proofs.Narrowings.{on_true, on_false}
-use Rattle.clue_rules.proofs.KeptCandidates.{along_whole}
+use Rattle.clue_rules.proofs.KeptCandidates.{KeepsUpTo, up_to_all}
 use Rattle.clue_rules.proofs.LineTallying.{possible_stays, taken_goes, displaced_goes, quiet_kept}
 
 -- ---- from the sets that are kept along a line to a step of narrowing
@@ -46,11 +46,6 @@ along_narrows {kept = kept} {old = old} {new = new} {r = r} solved struck h = re
 
 -- ---- a line's squares in a Latin square
 
--- the squares from the place are those of the line
-pub record IsAlong (w line place : ℕ) : Type 0 where
-  pub line_is : line < 2 * w
-  pub cells : (k : ℕ) → view_cell w place k ≡ line_cell w line k
-
 -- a square of a Latin square and its number are a pair of the size
 pub grid_pair : (g : GridValue) (w cell : ℕ) → IsSquare g → g.size ≡ w → cell < w * w → IsPair w cell (number_at g cell)
 grid_pair g w cell s size inside =
@@ -66,91 +61,84 @@ pub in_set : (c : CandidatesValue) (cell set : ℕ) (g : GridValue) → IsSetOf 
     → cell < c.size * c.size → has_number set (number_at g cell) ≡ true
 in_set c cell set g is s size w inside = (is (number_at g cell)).1 (grid_pair g c.size cell s size inside, w.each cell inside)
 
-along_inside : (w line place k : ℕ) → IsAlong w line place → k < w → view_cell w place k < w * w
-along_inside w line place k a inside = rw (a.cells k) (line_cell_inside w line k a.line_is inside)
+-- the sets are those of the candidates of a line's squares
+abbrev pub AreSetsAlong : CandidatesValue → ℕ → List ℕ → Type 0
+AreSetsAlong c line sets = (k : ℕ) → k < c.size → IsSetOf c (line_cell c.size line k) (slice_index sets k)
 
 -- the numbers of a Latin square within the candidates are possible
-pub square_possible : (c : CandidatesValue) (line place : ℕ) (sets : List ℕ) (g : GridValue) → IsAlong c.size line place
-    → AreSetsOf c place sets → IsSquare g → g.size ≡ c.size → IsWithin c g
-    → IsPossible sets c.size (λ k. number_at g (view_cell c.size place k))
-square_possible c line place sets g a is s size within =
-    let cell_is : (k : ℕ) → number_at g (view_cell c.size place k) ≡ number_at g (line_cell g.size line k) =
-    λ k. ap (number_at g) (a.cells k ∙ ap (λ (w : ℕ). line_cell w line k) (sym size)) in
+pub square_possible : (c : CandidatesValue) (line : ℕ) (sets : List ℕ) (g : GridValue) → line < 2 * c.size → AreSetsAlong c line sets
+    → IsSquare g → g.size ≡ c.size → IsWithin c g → IsPossible sets c.size (λ k. number_at g (line_cell c.size line k))
+square_possible c line sets g on is s size within =
+    let cell_is : (k : ℕ) → number_at g (line_cell c.size line k) ≡ number_at g (line_cell g.size line k) =
+    λ k. ap (λ (w : ℕ). number_at g (line_cell w line k)) (sym size) in
     record {
       within = λ k inside.
-          in_set c (view_cell c.size place k) (slice_index sets k) g (is.each k inside) s size within
-          (along_inside c.size line place k a inside);
+          in_set c (line_cell c.size line k) (slice_index sets k) g (is k inside) s size within (line_cell_inside c.size line k on inside);
       apart = λ i j first second apart same.
-          line_differs g s.is_grid s.latin line i j (omega (arith, a.line_is)) (omega arith) (omega arith) apart
-          (sym (cell_is i) ∙ same ∙ cell_is j);
+          line_differs g s.is_grid s.latin line i j (omega (arith, on)) (omega arith) (omega arith) apart (sym (cell_is i) ∙ same ∙ cell_is j);
       all = λ v low high.
-          let at = value_at g s.latin line v (omega (arith, a.line_is)) low (omega arith) in
+          let at = value_at g s.latin line v (omega (arith, on)) low (omega arith) in
           (at.0, omega (arith, at.1), cell_is at.0 ∙ at.2);
     }
 
 -- ---- what the tally of a line's sets says
 
-sets_values : (c : CandidatesValue) (place : ℕ) (sets : List ℕ) → AreSetsOf c place sets → HoldValuesTo c.size sets
-sets_values c place sets is k v inside has = let p = ((is.each k inside v).0 has).0 in (p.low, p.high)
+sets_values : (c : CandidatesValue) (line : ℕ) (sets : List ℕ) → AreSetsAlong c line sets → HoldValuesTo c.size sets
+sets_values c line sets is k v inside has = let p = ((is k inside v).0 has).0 in (p.low, p.high)
 
-pub line_solved : (c : CandidatesValue) (line place : ℕ) (sets kept : List ℕ) (t : LineTally) → IsAlong c.size line place
-    → AreSetsOf c place sets → IsWholeTally sets c.size t
-    → ((k : ℕ) → k < c.size → IsKeptOf t (slice_index sets k) (slice_index kept k)) → (g : GridValue) → IsSquare g → g.size ≡ c.size
-    → IsWithin c g → (k : ℕ) → k < c.size → has_number (slice_index kept k) (number_at g (view_cell c.size place k)) ≡ true
-line_solved c line place sets kept t a is whole keeps g s size within k inside =
-    let p = square_possible c line place sets g a is s size within in
-    (keeps k inside).all _ (p.within k inside) (possible_stays sets c.size t (λ k. number_at g (view_cell c.size place k)) k whole p (sets_values c place sets is) inside)
+-- the values of the k-th set that may stay
+abbrev pub StaysThere : LineTally → List ℕ → ℕ → ℕ → Type 0
+StaysThere t sets k v = (has_number (slice_index sets k) v ≡ true) × MayStay t (slice_index sets k) v
+
+line_solved : (c : CandidatesValue) (line : ℕ) (sets : List ℕ) (t : LineTally) → line < 2 * c.size → AreSetsAlong c line sets
+    → IsWholeTally sets c.size t → (g : GridValue) → IsSquare g → g.size ≡ c.size → IsWithin c g → (k : ℕ) → k < c.size
+    → StaysThere t sets k (number_at g (line_cell c.size line k))
+line_solved c line sets t on is whole g s size within k inside =
+    let p = square_possible c line sets g on is s size within in
+    (p.within k inside, possible_stays sets c.size t (λ k. number_at g (line_cell c.size line k)) k whole p (sets_values c line sets is) inside)
 
 -- a square that had one candidate has that one still
-taken_single : (first c : CandidatesValue) (line place by v : ℕ) (sets : List ℕ) (t : LineTally) → IsEarlier first c
-    → IsAlong c.size line place → AreSetsOf c place sets → IsWholeTally sets c.size t → by < c.size
-    → IsOnly first (line_cell first.size line by) v → IsSingle (slice_index sets by) v
-taken_single first c line place by v sets t e a is whole inside only =
-    let cell = view_cell c.size place by in
-    let same : line_cell first.size line by ≡ cell = ap (λ (w : ℕ). line_cell w line by) (sym e.size) ∙ sym (a.cells by) in
-    let Only : ℕ → Type 0 = λ i. IsOnly first i v in
-    let was : IsOnly first cell v = subst Only same only in
+taken_single : (first c : CandidatesValue) (line by v : ℕ) (sets : List ℕ) (t : LineTally) → IsEarlier first c → AreSetsAlong c line sets
+    → IsWholeTally sets c.size t → by < c.size → IsOnly first (line_cell first.size line by) v → IsSingle (slice_index sets by) v
+taken_single first c line by v sets t e is whole inside only =
+    let cell = line_cell c.size line by in
+    let Only : ℕ → Type 0 = λ w. IsOnly first (line_cell w line by) v in
+    let was : IsOnly first cell v = subst Only (sym e.size) only in
     let some = whole.tally.some by inside in
-    let left = (is.each by inside some.0).0 some.1 in
+    let left = (is by inside some.0).0 some.1 in
     let now = only_later first c cell v some.0 e was left.0.low left.0.high left.1 in
     record {
-      has = (is.each by inside v).1 (record { inside = left.0.inside; low = now.low; high = now.high }, now.left);
-      alone = λ u has. let p = (is.each by inside u).0 has in now.alone u p.0.low p.0.high p.1;
+      has = (is by inside v).1 (record { inside = left.0.inside; low = now.low; high = now.high }, now.left);
+      alone = λ u has. let p = (is by inside u).0 has in now.alone u p.0.low p.0.high p.1;
     }
 
 -- a value that had one place has no other still
-one_place : (first c : CandidatesValue) (line place k v : ℕ) (sets : List ℕ) → IsEarlier first c → IsAlong c.size line place
-    → AreSetsOf c place sets → IsOnePlace first line v k → (j : ℕ) → j < c.size → has_number (slice_index sets j) v ≡ true → j ≡ k
-one_place first c line place k v sets e a is one j inside has =
-    let left = ((is.each j inside v).0 has).1 in
-    let same : view_cell c.size place j ≡ line_cell first.size line j = a.cells j ∙ ap (λ (w : ℕ). line_cell w line j) e.size in
-    let P : ℕ → Type 0 = λ i. may_be c i v ≡ true in
-    one.alone j (omega (arith, e.size)) (was_left first c (line_cell first.size line j) v e (subst P same left))
+one_place : (first c : CandidatesValue) (line k v : ℕ) (sets : List ℕ) → IsEarlier first c → AreSetsAlong c line sets
+    → IsOnePlace first line v k → (j : ℕ) → j < c.size → has_number (slice_index sets j) v ≡ true → j ≡ k
+one_place first c line k v sets e is one j inside has =
+    let left = ((is j inside v).0 has).1 in
+    let P : ℕ → Type 0 = λ w. may_be c (line_cell w line j) v ≡ true in
+    one.alone j (omega (arith, e.size)) (was_left first c (line_cell first.size line j) v e (subst P e.size left))
 
-pub line_struck : (c : CandidatesValue) (line place : ℕ) (sets kept : List ℕ) (t : LineTally) → IsAlong c.size line place
-    → AreSetsOf c place sets → IsWholeTally sets c.size t
-    → ((k : ℕ) → k < c.size → IsKeptOf t (slice_index sets k) (slice_index kept k)) → (first : CandidatesValue) → IsEarlier first c
-    → (cell v : ℕ) → IsLineStruck line first cell v
-    → (k : ℕ) × (k < c.size) × (view_cell c.size place k ≡ cell) × (has_number (slice_index kept k) v ≡ false)
-line_struck c line place sets kept t a is whole keeps first e cell v struck =
+-- what the line strikes may not stay
+line_struck : (c : CandidatesValue) (line : ℕ) (sets : List ℕ) (t : LineTally) → AreSetsAlong c line sets → IsWholeTally sets c.size t
+    → (first : CandidatesValue) → IsEarlier first c → (cell v : ℕ) → IsLineStruck line first cell v
+    → (k : ℕ) × (k < c.size) × (line_cell c.size line k ≡ cell) × (StaysThere t sets k v → ⊥)
+line_struck c line sets t is whole first e cell v struck =
     let k = struck.index in
-    let inside : k < c.size = omega (arith, struck.inside, e.size) in
-    let here : view_cell c.size place k ≡ cell = a.cells k ∙ ap (λ (w : ℕ). line_cell w line k) e.size ∙ struck.here in (
+    let inside : k < c.size = omega (arith, struck.inside, e.size) in (
       k,
       inside,
-      here,
-      false_from_ne_true (has_number (slice_index kept k) v) (λ has.
-          let stays = ((keeps k inside).only v has).1 in
-          elim struck.why [
-            | inl taken ↦
-                let there : taken.by < c.size = omega (arith, taken.inside, e.size) in
-                taken_goes sets c.size t k taken.by v whole inside there taken.apart
-                (taken_single first c line place taken.by v sets t e a is whole there taken.only) stays
-            | inr displaced ↦
-                displaced_goes sets c.size t k v displaced.other whole inside displaced.apart displaced.low
-                (omega (arith, displaced.high, e.size))
-                (one_place first c line place k displaced.other sets e a is displaced.one) stays
-          ]),
+      ap (λ (w : ℕ). line_cell w line k) e.size ∙ struck.here,
+      λ stays. elim struck.why [
+        | inl taken ↦
+            let there : taken.by < c.size = omega (arith, taken.inside, e.size) in
+            taken_goes sets c.size t k taken.by v whole inside there taken.apart
+            (taken_single first c line taken.by v sets t e is whole there taken.only) stays.1
+        | inr displaced ↦
+            displaced_goes sets c.size t k v displaced.other whole inside displaced.apart displaced.low
+            (omega (arith, displaced.high, e.size)) (one_place first c line k displaced.other sets e is displaced.one) stays.1
+      ],
     )
 
 -- ---- all lines
@@ -187,28 +175,52 @@ latin_by_lines c cell v struck = elim struck [ inl peer ↦ peer_line c cell v p
 
 -- ---- one line as a step
 
-pub line_refuted : {T : CandidatesValue → ℕ → ℕ → Type 0} (c : CandidatesValue) (line place : ℕ) (sets : List ℕ)
-    → IsAlong c.size line place → AreSetsOf c place sets → ((number : ℕ → ℕ) → IsPossible sets c.size number → ⊥)
-    → Narrows IsSquare T c c false
-line_refuted c line place sets a is none = record {
+-- where no numbers are possible, no Latin square is among the candidates
+pub line_refuted : {T : CandidatesValue → ℕ → ℕ → Type 0} (c : CandidatesValue) (line : ℕ) (sets : List ℕ) → line < 2 * c.size
+    → AreSetsAlong c line sets → ((number : ℕ → ℕ) → IsPossible sets c.size number → ⊥) → Narrows IsSquare T c c false
+line_refuted c line sets on is none = record {
   less = earlier_refl c;
   keeps = λ g s size w. w;
-  refutes = λ g s size w. none _ (square_possible c line place sets g a is s size w);
+  refutes = λ g s size w. none _ (square_possible c line sets g on is s size w);
   struck = tt;
 }
 
--- a step along a line by its tally narrows for Latin squares, and leaves nothing there that the line strikes
-pub line_narrows : (old new : CandidatesValue) (line place : ℕ) (sets kept : List ℕ) (t : LineTally) (left : Bool)
-    → IsAlong old.size line place → AreSetsOf old place sets → IsWholeTally sets old.size t
-    → ((k : ℕ) → k < old.size → IsKeptOf t (slice_index sets k) (slice_index kept k)) → KeepsInView place kept old new left
-    → Narrows IsSquare (IsLineStruck line) old new left
-line_narrows old new line place sets kept t left a is whole keeps h =
-    along_narrows (λ g s size w k inside. line_solved old line place sets kept t a is whole keeps g s size w k inside)
-    (λ first e cell v s. line_struck old line place sets kept t a is whole keeps first e cell v s) h
+-- the values that may stay are kept in the first n squares of the line
+abbrev pub KeepsOnLine : ℕ → List ℕ → LineTally → ℕ → CandidatesValue → CandidatesValue → Type 0
+KeepsOnLine line sets t n first now = KeepsUpTo (line_cell first.size line) (StaysThere t sets) n first now
+
+-- in all of them: that narrows for Latin squares, and leaves nothing that the line strikes
+pub line_narrows : (old new : CandidatesValue) (line n : ℕ) (sets : List ℕ) (t : LineTally) → line < 2 * old.size
+    → AreSetsAlong old line sets → IsWholeTally sets old.size t → n ≡ old.size → KeepsOnLine line sets t n old new
+    → Narrows IsSquare (IsLineStruck line) old new true
+line_narrows old new line n sets t on is whole all h = record {
+  less = h.less;
+  keeps = λ g s size w. h.keeps g size (λ k inside. line_solved old line sets t on is whole g s size w k inside) w;
+  refutes = tt;
+  struck = record {
+    each = λ first e cell v pair s.
+        let at = line_struck old line sets t is whole first e cell v s in
+        let P : ℕ → Type 0 = λ c. IsPair old.size c v → may_be new c v ≡ false in
+        let here : IsPair old.size cell v = subst (λ (w : ℕ). IsPair w cell v) (sym e.size) pair in
+        subst P at.2 (λ p. h.gone at.0 v (omega (arith, at.1)) p at.3) here;
+  };
+}
+
+-- of one of them no value may stay
+pub line_empty : {T : CandidatesValue → ℕ → ℕ → Type 0} (old new : CandidatesValue) (line k n : ℕ) (sets : List ℕ) (t : LineTally)
+    → line < 2 * old.size → AreSetsAlong old line sets → IsWholeTally sets old.size t → k < old.size
+    → ((v : ℕ) → StaysThere t sets k v → ⊥) → KeepsOnLine line sets t n old new → Narrows IsSquare T old new false
+line_empty old new line k n sets t on is whole inside none h = record {
+  less = h.less;
+  keeps = λ g s size w. h.keeps g size (λ k inside. line_solved old line sets t on is whole g s size w k inside) w;
+  refutes = λ g s size w. none _ (line_solved old line sets t on is whole g s size w k inside);
+  struck = tt;
+}
 
 -- where every value may stay, nothing goes
-pub line_quiet : (c : CandidatesValue) (line place : ℕ) (sets : List ℕ) (t : LineTally) → IsAlong c.size line place
-    → AreSetsOf c place sets → IsWholeTally sets c.size t → IsQuietTally t → Narrows IsSquare (IsLineStruck line) c c true
-line_quiet c line place sets t a is whole settled =
-    line_narrows c c line place sets sets t true a is whole (quiet_kept sets c.size t whole settled)
-    (along_whole place sets sets c is (λ k low. refl))
+pub line_quiet : (c : CandidatesValue) (line : ℕ) (sets : List ℕ) (t : LineTally) → line < 2 * c.size → AreSetsAlong c line sets
+    → IsWholeTally sets c.size t → IsQuietTally t → Narrows IsSquare (IsLineStruck line) c c true
+line_quiet c line sets t on is whole quiet =
+    line_narrows c c line c.size sets t on is whole refl
+    (up_to_all (line_cell c.size line) (StaysThere t sets) c.size c
+    (λ k v inside pair left. quiet_kept sets c.size t whole quiet k inside v ((is k inside v).1 (pair, left))))

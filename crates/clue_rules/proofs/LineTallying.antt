@@ -1,12 +1,10 @@
 -- The tally of a line's sets, set by set, and what it says of the numbers that they can hold.
-use Rattle.std.proofs.Common.{◌≡◌, ◌≢◌, ℕ, ◌+◌, ◌<◌, ◌≤◌, ◌↔◌, ◌⊎◌, Bool, true, false, not, ◌&&◌, ◌||◌, nat_le, List, length, set, inl, inr, sym, ap, ◌∙◌, subst, arith, slice_index}
+use Rattle.std.proofs.Common.{◌≡◌, ◌≢◌, ℕ, ◌+◌, ◌<◌, ◌≤◌, ◌↔◌, ◌⊎◌, Bool, true, false, not, ◌&&◌, ◌||◌, nat_le, List, inl, inr, sym, ap, ◌∙◌, subst, arith, slice_index}
 use Rattle.std.proofs.lemmas.Bool.{cases_Bool, cases_lt, cases_eq, cases_order, both_ways, false_from_ne_true, and_parts, and_from, le-leb, leb-true, or_left, or_right, not-true, or_cases}
-use Rattle.std.proofs.Math.ListN.{length-set}
 use Rattle.number_sets.specs.Sets.{has_number, no_numbers, IsEmpty, IsShared, IsSingle, IsSubset}
 use Rattle.number_sets.proofs.Members.{has_number-none}
 use Rattle.clue_rules.specs.Inner.LineTallies.{IsPossible, IsTally, IsWholeTally, IsSinglesOf, IsCounted, IsClash, IsForced, IsFree, IsHidden, IsQuietTally, MayStay, IsKeptOf, HoldValuesTo}
 use Rattle.clue_rules.specs.declared.lines.latin.LineTally.{LineTally}
-use Rattle.clue_rules.proofs.FilledLemmas.{entries_more}
 use Rattle.clue_rules.proofs.RangeLemmas.{below_one_more}
 
 -- ---- one set more
@@ -226,9 +224,9 @@ kept_nothing t set forced kept many f there two none = rw none (record {
 })
 
 -- where the values that just one set has are those that are alone in one, every value may stay
-pub quiet_kept : (sets : List ℕ) (w : ℕ) (t : LineTally) → IsWholeTally sets w t → IsQuietTally t → (k : ℕ) → k < w
-    → IsKeptOf t (slice_index sets k) (slice_index sets k)
-quiet_kept sets w t h settled k inside =
+pub quiet_kept : (sets : List ℕ) (w : ℕ) (t : LineTally) → IsWholeTally sets w t → IsQuietTally t → (k : ℕ) → k < w → (v : ℕ)
+    → has_number (slice_index sets k) v ≡ true → (has_number (slice_index sets k) v ≡ true) × MayStay t (slice_index sets k) v
+quiet_kept sets w t h settled k inside v has =
     let own : (u : ℕ) → has_number (slice_index sets k) u ≡ true → has_number t.singles u ≡ true → IsSingle (slice_index sets k) u =
     λ u has alone.
     let by = (h.tally.singles u).0 alone in
@@ -239,22 +237,18 @@ quiet_kept sets w t h settled k inside =
         | inl before ↦ absurd (both_ways (has_number t.twice u) lone ((h.tally.twice u).1 (by.0, k, before, inside, by.2.has, has)))
         | inr after ↦ absurd (both_ways (has_number t.twice u) lone ((h.tally.twice u).1 (k, by.0, after, by.1, has, by.2.has)))
       ]
-    ] in
-    record {
-      only = λ v has. (
-        has,
-        elim (cases_Bool (has_number t.singles v)) [
-          | inl alone ↦ inl (own v has alone)
-          | inr free ↦ inr (
-            λ u there hidden.
-                let alone : has_number t.singles u ≡ true = sym (settled u) ∙ and_from _ _ hidden.once (ap not hidden.lone) in
-                sym ((own u there alone).alone v has),
-            free,
-          )
-        ],
-      );
-      all = λ v has stays. has;
-    }
+    ] in (
+      has,
+      elim (cases_Bool (has_number t.singles v)) [
+        | inl alone ↦ inl (own v has alone)
+        | inr free ↦ inr (
+          λ u there hidden.
+              let alone : has_number t.singles u ≡ true = sym (settled u) ∙ and_from _ _ hidden.once (ap not hidden.lone) in
+              sym ((own u there alone).alone v has),
+          free,
+        )
+      ],
+    )
 
 -- ---- one set counted
 
@@ -308,13 +302,3 @@ counted_more t u set single both s some apart in_once in_both in_twice in_single
       some = some;
       fresh = λ v one. false_from_ne_true (has_number t.singles v) (λ e. apart (v, e, (s.is v).1 one));
     }
-
--- one set more is kept
-pub kept_more : (t : LineTally) (sets kept : List ℕ) (n found : ℕ) → n < 9
-    → (length kept ≡ 9) × ((j : ℕ) → j < n → IsKeptOf t (slice_index sets j) (slice_index kept j))
-    → IsKeptOf t (slice_index sets n) found
-    → (length (set kept n found) ≡ 9) × ((j : ℕ) → j < n + 1 → IsKeptOf t (slice_index sets j) (slice_index (set kept n found) j))
-kept_more t sets kept n found inside h is = (
-  length-set kept n found ∙ h.0,
-  entries_more (λ j m. IsKeptOf t (slice_index sets j) m) kept n found 0 (omega (arith, h.0)) h.1 is,
-)

@@ -15,12 +15,12 @@ use Rattle.clue_rules.specs.Laws.Neighbours.{IsNext, next_line, next_inside}
 use Rattle.clue_rules.specs.Laws.Signs.{greater_next}
 use Rattle.clue_rules.proofs.SignLemmas.{signs_held}
 use Rattle.clue_rules.specs.Struck.{IsGivenStruck, IsUnequalStruck}
-use Rattle.clue_rules.specs.Inner.UnequalLines.{AreEnds, IsStruckAt, IsStruckOn, IsStruckAlong, HoldsGreater, AreInside, IsLesserStruck, IsGreaterStruck, IsEndStruck}
+use Rattle.clue_rules.specs.Inner.UnequalLines.{AreEnds, IsStruckAt, IsStruckOn, IsStruckAlong, HoldsGreater, AreInside, IsLesserStruck, IsGreaterStruck, IsEndStruck, SignEnds, AreCrossed, ends_of}
 use Rattle.clue_rules.specs.declared.unequal.sign.Sign.TheVariants.{FirstGreater, SecondGreater}
 use Rattle.clue_rules.proofs.KeptCandidates.{within_kept}
 use Rattle.clue_rules.proofs.LineSteps.{grid_pair, in_set}
 use Rattle.clue_rules.proofs.Narrowings.{narrows_by, narrows_for, on_either}
-use Rattle.clue_rules.specs.declared.unequal.lines.SignEnds.{SignEnds}
+use Rattle.clue_rules.specs.declared.unequal.lines.SignSquares.{SignSquares}
 
 -- ---- a step at one square
 
@@ -53,6 +53,10 @@ square_narrows old new cell kept left solved struck k is = record {
 }
 
 -- ---- both squares of a sign
+
+-- squares of the grid with their lines are squares of it
+pub crossed_inside : (w : ℕ) (s : SignSquares) → AreCrossed w s → AreInside w (ends_of s)
+crossed_inside w s crossed = (crossed.greater.inside, crossed.lesser.inside)
 
 pub lesser_narrows : (old new : CandidatesValue) (ends : SignEnds) (set kept : ℕ) (left : Bool) → AreInside old.size ends
     → IsSetOf old ends.greater set → ((v : ℕ) → (has_number kept v ≡ true) ↔ ((u : ℕ) × (v < u) × (has_number set u ≡ true)))

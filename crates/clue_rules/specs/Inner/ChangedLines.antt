@@ -1,14 +1,14 @@
 -- Sets of lines that gain and lose lines.
-use Rattle.std.specs.Prelude.{◌≡◌, ℕ, ◌+◌, ◌/◌, ◌%◌, ◌<◌, ◌==◌, ◌||◌, ◌&&◌, not, true, false}
+use Rattle.std.specs.Prelude.{◌≡◌, ℕ, ◌<◌, ◌==◌, ◌||◌, ◌&&◌, not, true, false}
 use Rattle.number_sets.specs.Sets.{has_number}
 
 -- new is old with one line more
 abbrev pub GainsLine : ℕ → ℕ → ℕ → Type 0
 GainsLine line old new = (k : ℕ) → has_number new k ≡ (has_number old k || (k == line))
 
--- new is old with the row and the column of a square
-abbrev pub GainsLinesOf : ℕ → ℕ → ℕ → ℕ → Type 0
-GainsLinesOf w cell old new = (k : ℕ) → has_number new k ≡ (has_number old k || (k == cell / w) || (k == w + cell % w))
+-- new is old with two lines more
+abbrev pub GainsBoth : ℕ → ℕ → ℕ → ℕ → Type 0
+GainsBoth line crossing old new = (k : ℕ) → has_number new k ≡ (has_number old k || (k == line) || (k == crossing))
 
 -- new is old without one line
 abbrev pub LosesLine : ℕ → ℕ → ℕ → Type 0

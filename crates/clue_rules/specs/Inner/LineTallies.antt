@@ -1,14 +1,24 @@
 -- What the squares of a row or column say together, as sets of candidates.
-use Rattle.std.specs.Prelude.{◌≡◌, ◌≢◌, ℕ, ◌<◌, ◌≤◌, ◌⊎◌, ◌↔◌, true, false, not, ◌&&◌, List, slice_index}
+use Rattle.std.specs.Prelude.{◌≡◌, ◌≢◌, ℕ, zero, suc, ◌<◌, ◌≤◌, ◌^◌, ◌⊎◌, ◌↔◌, Bool, true, false, not, ◌&&◌, if◌then◌else◌, bit_or, List, map, slice_index}
+use Rattle.std.specs.List.{range_with_len}
 use Rattle.latin_board.specs.Lines.{line_cell}
-use Rattle.number_sets.specs.Sets.{has_number, IsSingle}
-use Rattle.trail_solver.specs.Candidates.{CandidatesValue, IsOnly}
+use Rattle.number_sets.specs.Sets.{has_number, no_numbers, IsSingle}
+use Rattle.trail_solver.specs.Candidates.{CandidatesValue, IsOnly, may_be}
 use Rattle.clue_rules.specs.Struck.{IsOnePlace}
 use Rattle.clue_rules.specs.declared.lines.latin.LineTally.{LineTally}
 
 -- the values of the first w sets are from 1 to w
 abbrev pub HoldValuesTo : ℕ → List ℕ → Type 0
 HoldValuesTo w sets = (k v : ℕ) → k < w → has_number (slice_index sets k) v ≡ true → (1 ≤ v) × (v ≤ w)
+
+-- the set of the numbers from 1 to n that pass a test
+unfoldable pub numbers_where : (ℕ → Bool) → ℕ → ℕ
+numbers_where test zero = no_numbers
+numbers_where test (suc n) = if test (suc n) then bit_or (2 ^ suc n) (numbers_where test n) else numbers_where test n
+
+-- the candidates of each square of a line, as sets
+unfoldable pub sets_along : CandidatesValue → ℕ → List ℕ
+sets_along c line = map (λ k. numbers_where (may_be c (line_cell c.size line k)) c.size) (range_with_len 0 c.size)
 
 -- numbers from the first n sets, of which no two are the same and none from 1 to n is missing
 pub record IsPossible (sets : List ℕ) (n : ℕ) (number : ℕ → ℕ) : Type 0 where

@@ -12,7 +12,7 @@ use Rattle.clue_rules.specs.Towers.{TowersValue, clue_of}
 use Rattle.clue_rules.specs.Unequal.{UnequalValue}
 use Rattle.clue_rules.specs.Views.{view_cell, view_index, view_line}
 use Rattle.clue_rules.specs.Laws.Edges.{view_index_low}
-use Rattle.clue_rules.specs.declared.unequal.lines.SignEnds.{SignEnds}
+use Rattle.clue_rules.specs.Inner.UnequalLines.{SignEnds}
 
 -- ---- rows and columns
 

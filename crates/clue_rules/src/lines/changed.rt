@@ -1,9 +1,10 @@
 //! Which rows and columns have to be looked at again.
 
-ghost use Rattle.clue_rules.specs.Inner.ChangedLines.{GainsLine, GainsLinesOf, HasNoneBelow, IsOneBelow, IsTaken, LosesLine};
-ghost use Rattle.std.specs.Prelude.{◌≡◌, ℕ, ◌+◌, ◌*◌, ◌/◌, ◌%◌, ◌<◌, ◌==◌, nat_lt, true, IfNone, MatchOption};
+ghost use Rattle.clue_rules.specs.Inner.ChangedLines.{GainsLine, GainsBoth, HasNoneBelow, IsOneBelow, IsTaken, LosesLine};
+ghost use Rattle.std.specs.Prelude.{◌≡◌, ℕ, ◌+◌, ◌*◌, ◌<◌, ◌==◌, nat_lt, true, IfNone, MatchOption};
 ghost use Rattle.number_sets.specs.Sets.{has_number, no_numbers};
 
+use crate::lines::views::Square;
 use latin_board::Size;
 use std::marker::Model;
 
@@ -91,40 +92,6 @@ impl Lines {
     }
 }
 
-// The row of a square: a division by a number that is known beforehand takes far less time.
-fn row_of(size: Size, cell: usize) -> u8
-    requires { cell < size * size }
-    ensures { result ≡ cell / size }
-{
-    let cell = cell as u8;
-    match size.get() {
-        3 => cell / 3,
-        4 => cell / 4,
-        5 => cell / 5,
-        6 => cell / 6,
-        7 => cell / 7,
-        8 => cell / 8,
-        _ => cell / 9,
-    }
-}
-
-// The column of a square, in the same way.
-fn column_of(size: Size, cell: usize) -> u8
-    requires { cell < size * size }
-    ensures { result ≡ cell % size }
-{
-    let cell = cell as u8;
-    match size.get() {
-        3 => cell % 3,
-        4 => cell % 4,
-        5 => cell % 5,
-        6 => cell % 6,
-        7 => cell % 7,
-        8 => cell % 8,
-        _ => cell % 9,
-    }
-}
-
 /// The lines that lost candidates since they were looked at: by what rows and columns say, and by what the game's own
 /// rule says.
 #[derive(Clone, Copy)]
@@ -156,18 +123,17 @@ impl ChangedLines {
         }
     }
 
-    /// Notes that a square of the grid lost candidates.
-    pub fn note(&mut self, size: Size, cell: usize)
-        requires { cell < size * size }
-        ensures latin { GainsLinesOf size cell self.old.latin self.new.latin }
-        ensures rule { GainsLinesOf size cell self.old.rule self.new.rule }
+    /// Notes that a square lost candidates.
+    pub fn note(&mut self, square: Square)
+        requires line { square.line < 32 }
+        requires crossing { square.crossing < 32 }
+        ensures latin { GainsBoth square.line square.crossing self.old.latin self.new.latin }
+        ensures rule { GainsBoth square.line square.crossing self.old.rule self.new.rule }
     {
-        let row = row_of(size, cell);
-        let column = size.get() + column_of(size, cell);
-        self.latin.insert(row);
-        self.latin.insert(column);
-        self.rule.insert(row);
-        self.rule.insert(column);
+        self.latin.insert(square.line);
+        self.latin.insert(square.crossing);
+        self.rule.insert(square.line);
+        self.rule.insert(square.crossing);
     }
 
     /// A line among the first that is to be looked at again for what it says as a row or column, if any is: the next from

@@ -1,15 +1,13 @@
 //! What the squares of a row or a column rule out among themselves.
 
-ghost use Rattle.std.specs.Prelude.{ℕ, ◌-◌, ◌*◌, ◌<◌, ◌≤◌, ◌&&◌, true, false, MatchOption, slice_index};
-ghost use Rattle.std.specs.Bool.{OnTrue};
+ghost use Rattle.std.specs.Prelude.{◌≡◌, ◌*◌, ◌<◌, MatchOption};
 ghost use Rattle.clue_rules.specs.Inner.Narrowing.{IsSquare, Narrows};
 ghost use Rattle.clue_rules.specs.Inner.QuietLines.{Notes};
-ghost use Rattle.clue_rules.specs.Inner.LineTallies.{AreImpossible, IsWholeTally, IsQuietTally, IsSinglesOf, IsCounted, IsClash, IsForced, IsFree, IsKeptOf, IsLineStruck};
-ghost use Rattle.clue_rules.specs.Views.{front_place};
+ghost use Rattle.clue_rules.specs.Inner.LineTallies.{AreImpossible, IsWholeTally, IsSinglesOf, IsLineStruck, sets_along};
 
 use crate::lines::changed::ChangedLines;
-use crate::lines::view_candidates::{keep_in_view, view_sets};
-use crate::lines::views::{LINE, front_place};
+use crate::lines::view_candidates::keep_in_square;
+use crate::lines::views::Along;
 use number_sets::NumberSet;
 use trail_solver::Candidates;
 
@@ -23,18 +21,14 @@ pub(crate) fn strike_line(candidates: &mut Candidates, line: u8, changed: &mut C
     ensures narrows { Narrows IsSquare (IsLineStruck line) candidates.old candidates.new result }
     ensures notes { Notes candidates.old candidates.new changed.old changed.new }
 {
-    let size = candidates.size();
-    let width = size.get() as usize;
-    let place = front_place(size, line);
-    let sets = view_sets(candidates, place);
-    let Some(tally) = tally_of(&sets, width) else {
+    let squares = Along::line(candidates.size(), line);
+    let Some(tally) = tally_of(candidates, &squares) else {
         return false;
     };
     if tally.is_quiet() {
         return true;
     }
-    let kept = tally.kept_in_line(&sets, width);
-    keep_in_view(candidates, place, &kept, changed)
+    tally.keep_along(candidates, &squares, changed)
 }
 
 // What the sets of candidates of a line say together: the values of which one of them has one, of which two have one,
@@ -47,19 +41,23 @@ struct LineTally {
 }
 
 // The tally of a line's sets, or none where they can't be the candidates of a row or column.
-fn tally_of(sets: &[NumberSet; LINE], width: usize) -> Option<LineTally>
-    requires { width ≤ 9 }
-    ensures { MatchOption result (AreImpossible sets.now width) (IsWholeTally sets.now width) }
+fn tally_of(candidates: &Candidates, squares: &Along) -> Option<LineTally>
+    requires size { squares.now.size ≡ candidates.now.size }
+    requires line { squares.now.line < 2 * candidates.now.size }
+    ensures { MatchOption result
+        (AreImpossible (sets_along candidates.now squares.now.line) candidates.now.size)
+        (IsWholeTally (sets_along candidates.now squares.now.line) candidates.now.size) }
 {
+    let width = candidates.size().get();
     let mut tally = LineTally {
         once: NumberSet::empty(),
         twice: NumberSet::empty(),
         singles: NumberSet::empty(),
     };
-    for k in 0..width {
-        tally = tally.with(sets[k])?;
+    for k in 0..width as usize {
+        tally = tally.with(candidates.values(squares.cell(k)))?;
     }
-    let every = NumberSet::up_to(width as u8);
+    let every = NumberSet::up_to(width);
     if !every.is_subset(tally.once) {
         return None;
     }
@@ -79,9 +77,11 @@ fn single_of(set: NumberSet) -> NumberSet
 }
 
 impl LineTally {
-    ghost use Rattle.std.specs.Prelude.{ℕ, ◌<◌, MatchOption, slice_index};
+    ghost use Rattle.std.specs.Prelude.{◌≡◌, ◌*◌, ◌<◌, MatchOption};
     ghost use Rattle.std.specs.Bool.{OnTrue};
-    ghost use Rattle.clue_rules.specs.Inner.LineTallies.{IsCounted, IsClash, IsForced, IsFree, IsKeptOf, IsQuietTally};
+    ghost use Rattle.clue_rules.specs.Inner.Narrowing.{IsSquare, Narrows};
+    ghost use Rattle.clue_rules.specs.Inner.QuietLines.{Notes};
+    ghost use Rattle.clue_rules.specs.Inner.LineTallies.{IsCounted, IsClash, IsForced, IsFree, IsKeptOf, IsLineStruck, IsQuietTally, IsWholeTally, sets_along};
 
     // The tally with one set more, or none where the set is empty or its only value is alone in another set.
     #[tactic(auto, using(crate::proofs::LineTallying::clash_twice))]
@@ -109,17 +109,30 @@ impl LineTally {
         self.once.difference(self.twice) == self.singles
     }
 
-    // The values that may stay in each square.
-    fn kept_in_line(&self, sets: &[NumberSet; LINE], width: usize) -> [NumberSet; LINE]
-        requires { width ≤ 9 }
-        ensures { (k : ℕ) → k < width
-            → IsKeptOf self.now (slice_index sets.now k) (slice_index result k) }
+    // Keeps in the squares of the line, of which this is the tally, the values that may stay.
+    fn keep_along(
+        &self,
+        candidates: &mut Candidates,
+        squares: &Along,
+        changed: &mut ChangedLines,
+    ) -> bool
+        requires size { squares.now.size ≡ candidates.old.size }
+        requires line { squares.now.line < 2 * candidates.old.size }
+        requires tally { IsWholeTally (sets_along candidates.old squares.now.line)
+            candidates.old.size self.now }
+        ensures narrows { Narrows IsSquare (IsLineStruck squares.now.line)
+            candidates.old candidates.new result }
+        ensures notes { Notes candidates.old candidates.new changed.old changed.new }
     {
-        let mut kept = [NumberSet::empty(); LINE];
+        let width = candidates.size().get() as usize;
         for k in 0..width {
-            kept[k] = self.kept(sets[k]);
+            let square = squares.square(k);
+            let kept = self.kept(candidates.values(square.cell));
+            if !keep_in_square(candidates, square, kept, changed) {
+                return false;
+            }
         }
-        kept
+        true
     }
 
     // The values of a set that may stay.

@@ -11,6 +11,7 @@ ghost use Rattle.clue_rules.specs.Inner.QuietLines.{AreQuietBut, NotesIn, Strike
 
 use crate::lines::changed::ChangedLines;
 use crate::lines::latin::strike_line;
+use crate::lines::views::Square;
 use trail_solver::Candidates;
 
 /// The rule of a game, as far as it speaks of the squares of one row or column.
@@ -69,7 +70,7 @@ pub(crate) fn narrow_by_lines_of<P: LineRules>(
     ensures { Narrows (P.sought p.now) NoneStruck candidates.old candidates.new result }
 {
     let mut changed = ChangedLines::none();
-    changed.note(candidates.size(), cell);
+    changed.note(Square::at(candidates.size(), cell));
     settle(p, candidates, &mut changed)
 }
 

@@ -4,10 +4,11 @@ ghost use Rattle.std.specs.Prelude.{◌≡◌, ℕ, ◌*◌, ◌<◌, ◌≤◌,
 ghost use Rattle.std.specs.Bool.{OnFalse, OnTrue};
 ghost use Rattle.clue_rules.specs.Inner.Narrowing.{AreSetsOf, KeepsInView, KeepsInSquare};
 ghost use Rattle.clue_rules.specs.Inner.QuietLines.{Notes};
+ghost use Rattle.clue_rules.specs.Inner.ViewSquares.{IsCrossed};
 ghost use Rattle.clue_rules.specs.Views.{view_cell};
 
 use crate::lines::changed::ChangedLines;
-use crate::lines::views::{LINE, View};
+use crate::lines::views::{LINE, Square, View};
 use number_sets::NumberSet;
 use trail_solver::Candidates;
 
@@ -73,7 +74,7 @@ pub(crate) fn keep_in_view(
     let size = candidates.size();
     let view = View::from(size, place);
     for k in 0..size.get() as usize {
-        if !keep_in_square(candidates, view.cell(k), kept[k], changed) {
+        if !keep_in_square(candidates, Square::at(size, view.cell(k)), kept[k], changed) {
             return false;
         }
     }
@@ -85,19 +86,19 @@ pub(crate) fn keep_in_view(
 #[tactic(auto, using(crate::proofs::QuietSteps::both_kept))]
 pub(crate) fn keep_in_square(
     candidates: &mut Candidates,
-    cell: usize,
+    square: Square,
     kept: NumberSet,
     changed: &mut ChangedLines,
 ) -> bool
-    requires { cell < candidates.old.size * candidates.old.size }
-    ensures kept { KeepsInSquare candidates.old candidates.new cell kept }
+    requires { IsCrossed candidates.old.size square.cell square.line square.crossing }
+    ensures kept { KeepsInSquare candidates.old candidates.new square.cell kept }
     ensures some { result ≡ not (kept == 0) }
     ensures notes { Notes candidates.old candidates.new changed.old changed.new }
 {
-    let size = candidates.size();
+    let _size = candidates.size();
     let some = !kept.is_empty();
-    if strike_missing(candidates, cell, kept) {
-        changed.note(size, cell);
+    if strike_missing(candidates, square.cell, kept) {
+        changed.note(square);
     }
     some
 }

@@ -1,9 +1,9 @@
 //! The squares along a row or column, as they are met from the edge places at its ends.
 
-ghost use Rattle.std.specs.Prelude.{◌≡◌, ℕ, ◌+◌, ◌*◌, ◌<◌};
+ghost use Rattle.std.specs.Prelude.{◌≡◌, ℕ, ◌+◌, ◌*◌, ◌/◌, ◌%◌, ◌<◌};
 ghost use Rattle.latin_board.specs.Lines.{line_cell};
 ghost use Rattle.clue_rules.specs.Views.{view_cell, front_place};
-ghost use Rattle.clue_rules.specs.Inner.ViewSquares.{LeadAlong};
+ghost use Rattle.clue_rules.specs.Inner.ViewSquares.{IsCrossed, LeadAlong, LeadOn};
 
 use latin_board::Size;
 
@@ -70,15 +70,6 @@ impl View {
         }
     }
 
-    /// The squares of a line, from its first on.
-    pub fn along(size: Size, line: u8) -> View
-        requires { line < 2 * size }
-        ensures size { result.size ≡ size }
-        ensures cells { (k : ℕ) → view_cell result.size result.place k ≡ line_cell size line k }
-    {
-        View::from(size, front_place(size, line))
-    }
-
     /// The k-th of the squares, counted from 0.
     pub fn cell(&self, k: usize) -> usize
         requires { k < self.now.size }
@@ -94,12 +85,131 @@ pub(crate) fn front_place(size: Size, line: u8) -> u8
     requires { line < 2 * size }
     ensures value { result ≡ front_place size line }
     ensures place { result + size < 4 * size }
-    ensures cells { (k : ℕ) → view_cell size result k ≡ line_cell size line k }
 {
     let width = size.get();
     if line < width {
         2 * width + line
     } else {
         line - width
+    }
+}
+
+/// A square of the grid, with one of its lines and the one that crosses it there.
+#[derive(Clone, Copy)]
+pub(crate) struct Square {
+    pub cell: usize,
+    pub line: u8,
+    pub crossing: u8,
+}
+
+impl Square {
+    /// A square by its number, with its row and the column that crosses it.
+    #[tactic(auto, using(crate::proofs::LineSquares::by_row))]
+    pub fn at(size: Size, cell: usize) -> Square
+        requires { cell < size * size }
+        ensures cell { result.cell ≡ cell }
+        ensures lines { IsCrossed size result.cell result.line result.crossing }
+    {
+        Square {
+            cell,
+            line: row_of(size, cell),
+            crossing: size.get() + column_of(size, cell),
+        }
+    }
+}
+
+// The row of a square: a division by a number that is known beforehand takes far less time.
+fn row_of(size: Size, cell: usize) -> u8
+    requires { cell < size * size }
+    ensures { result ≡ cell / size }
+{
+    let cell = cell as u8;
+    match size.get() {
+        3 => cell / 3,
+        4 => cell / 4,
+        5 => cell / 5,
+        6 => cell / 6,
+        7 => cell / 7,
+        8 => cell / 8,
+        _ => cell / 9,
+    }
+}
+
+// The column of a square, in the same way.
+fn column_of(size: Size, cell: usize) -> u8
+    requires { cell < size * size }
+    ensures { result ≡ cell % size }
+{
+    let cell = cell as u8;
+    match size.get() {
+        3 => cell % 3,
+        4 => cell % 4,
+        5 => cell % 5,
+        6 => cell % 6,
+        7 => cell % 7,
+        8 => cell % 8,
+        _ => cell % 9,
+    }
+}
+
+/// The squares of a row or column, from its first on, as the first of them and the way from each to the next.
+#[derive(Clone, Copy)]
+pub(crate) struct Along {
+    size: Size,
+    line: u8,
+    first: usize,
+    step: usize,
+    // The line that crosses it at its first square: the lines that cross it follow one another.
+    crossing: u8,
+    ghost leads: { LeadOn size line first step crossing },
+}
+
+impl Along {
+    /// The squares of a line.
+    pub fn line(size: Size, line: u8) -> Along
+        requires { line < 2 * size }
+        ensures size { result.size ≡ size }
+        ensures line { result.line ≡ line }
+    {
+        let width = size.get();
+        if line < width {
+            Along {
+                size,
+                line,
+                first: (line * width) as usize,
+                step: 1,
+                crossing: width,
+            }
+        } else {
+            Along {
+                size,
+                line,
+                first: (line - width) as usize,
+                step: width as usize,
+                crossing: 0,
+            }
+        }
+    }
+
+    /// The k-th of the squares, counted from 0.
+    pub fn cell(&self, k: usize) -> usize
+        requires { k < self.now.size }
+        ensures value { result ≡ line_cell self.now.size self.now.line k }
+        ensures inside { result < self.now.size * self.now.size }
+    {
+        self.first + k * self.step
+    }
+
+    /// The k-th of the squares with its lines.
+    pub fn square(&self, k: usize) -> Square
+        requires { k < self.now.size }
+        ensures cell { result.cell ≡ line_cell self.now.size self.now.line k }
+        ensures lines { IsCrossed self.now.size result.cell result.line result.crossing }
+    {
+        Square {
+            cell: self.cell(k),
+            line: self.line,
+            crossing: self.crossing + k as u8,
+        }
     }
 }

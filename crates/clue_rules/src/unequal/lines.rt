@@ -6,12 +6,13 @@ ghost use Rattle.clue_rules.specs.declared.unequal.sign.Sign.TheVariants.{Absent
 ghost use Rattle.clue_rules.specs.Inner.Narrowing.{Narrows};
 ghost use Rattle.clue_rules.specs.Inner.QuietLines.{Notes};
 ghost use Rattle.clue_rules.specs.Unequal.{IsUnequal, sign_between, unequal_puzzle};
-ghost use Rattle.clue_rules.specs.Inner.UnequalLines.{AreEnds, IsStruckAt};
+ghost use Rattle.clue_rules.specs.Inner.UnequalLines.{AreEndsOf, IsStruckAt};
+ghost use Rattle.clue_rules.specs.Inner.ViewSquares.{IsCrossed};
 
 use crate::lines::changed::ChangedLines;
 use crate::lines::narrowing::LineRules;
 use crate::lines::view_candidates::keep_in_square;
-use crate::lines::views::View;
+use crate::lines::views::{Along, Square};
 use crate::unequal::Unequal;
 use crate::unequal::sign::Sign;
 use trail_solver::Candidates;
@@ -35,10 +36,10 @@ impl LineRules for Unequal {
         changed: &mut ChangedLines,
     ) -> bool {
         let size = candidates.size();
-        let squares = View::along(size, line);
+        let squares = Along::line(size, line);
         for k in 0..size.get() as usize - 1 {
-            let first = squares.cell(k);
-            let second = squares.cell(k + 1);
+            let first = squares.square(k);
+            let second = squares.square(k + 1);
             if !self.strike_sign(candidates, first, second, changed) {
                 return false;
             }
@@ -56,15 +57,15 @@ impl Unequal {
     fn strike_sign(
         &self,
         candidates: &mut Candidates,
-        first: usize,
-        second: usize,
+        first: Square,
+        second: Square,
         changed: &mut ChangedLines,
     ) -> bool
         requires size { candidates.old.size ≡ self.now.size }
-        requires first { first < self.now.size * self.now.size }
-        requires second { second < self.now.size * self.now.size }
-        ensures narrows { Narrows (Solves (unequal_puzzle self.now)) (IsStruckAt self.now first second)
-            candidates.old candidates.new result }
+        requires first { IsCrossed self.now.size first.cell first.line first.crossing }
+        requires second { IsCrossed self.now.size second.cell second.line second.crossing }
+        ensures narrows { Narrows (Solves (unequal_puzzle self.now))
+            (IsStruckAt self.now first.cell second.cell) candidates.old candidates.new result }
         ensures notes { Notes candidates.old candidates.new changed.old changed.new }
     {
         match self.ends(first, second) {
@@ -74,20 +75,20 @@ impl Unequal {
     }
 
     // Two squares as the ends of the sign between them, or none where there is no sign.
-    fn ends(&self, first: usize, second: usize) -> Option<SignEnds>
-        requires first { first < self.now.size * self.now.size }
-        requires second { second < self.now.size * self.now.size }
-        ensures ends { MatchOption result (sign_between self.now first second ≡ Absent)
-            (AreEnds self.now first second) }
+    fn ends(&self, first: Square, second: Square) -> Option<SignSquares>
+        requires first { IsCrossed self.now.size first.cell first.line first.crossing }
+        requires second { IsCrossed self.now.size second.cell second.line second.crossing }
+        ensures ends { MatchOption result (sign_between self.now first.cell second.cell ≡ Absent)
+            (AreEndsOf self.now first.cell second.cell) }
         ensures valid { IsUnequal self.now }
     {
-        match self.sign_between(first, second) {
+        match self.sign_between(first.cell, second.cell) {
             Sign::Absent => None,
-            Sign::FirstGreater => Some(SignEnds {
+            Sign::FirstGreater => Some(SignSquares {
                 greater: first,
                 lesser: second,
             }),
-            Sign::SecondGreater => Some(SignEnds {
+            Sign::SecondGreater => Some(SignSquares {
                 greater: second,
                 lesser: first,
             }),
@@ -97,18 +98,18 @@ impl Unequal {
 
 // The squares on both sides of a sign: the one that holds the greater number, and the other.
 #[derive(Clone, Copy)]
-struct SignEnds {
-    greater: usize,
-    lesser: usize,
+struct SignSquares {
+    greater: Square,
+    lesser: Square,
 }
 
-impl SignEnds {
-    ghost use Rattle.clue_rules.specs.Inner.UnequalLines.{AreInside, IsLesserStruck, IsGreaterStruck, IsEndStruck, HoldsGreater};
+impl SignSquares {
+    ghost use Rattle.clue_rules.specs.Inner.UnequalLines.{AreCrossed, IsLesserStruck, IsGreaterStruck, IsEndStruck, HoldsGreater, ends_of};
 
     // Takes away what doesn't let the greater end hold the greater number.
     fn strike(self, candidates: &mut Candidates, changed: &mut ChangedLines) -> bool
-        requires { AreInside candidates.old.size self }
-        ensures narrows { Narrows (HoldsGreater self) (IsEndStruck self)
+        requires { AreCrossed candidates.old.size self }
+        ensures narrows { Narrows (HoldsGreater (ends_of self)) (IsEndStruck (ends_of self))
             candidates.old candidates.new result }
         ensures notes { Notes candidates.old candidates.new changed.old changed.new }
     {
@@ -117,24 +118,24 @@ impl SignEnds {
 
     // Keeps in the lesser end what is below some candidate of the greater one.
     fn strike_lesser(self, candidates: &mut Candidates, changed: &mut ChangedLines) -> bool
-        requires { AreInside candidates.old.size self }
-        ensures narrows { Narrows (HoldsGreater self) (IsLesserStruck self)
+        requires { AreCrossed candidates.old.size self }
+        ensures narrows { Narrows (HoldsGreater (ends_of self)) (IsLesserStruck (ends_of self))
             candidates.old candidates.new result }
         ensures notes { Notes candidates.old candidates.new changed.old changed.new }
     {
-        let kept = candidates.values(self.greater).below_greatest();
+        let kept = candidates.values(self.greater.cell).below_greatest();
         keep_in_square(candidates, self.lesser, kept, changed)
     }
 
     // Keeps in the greater end what is above some candidate of the lesser one.
     fn strike_greater(self, candidates: &mut Candidates, changed: &mut ChangedLines) -> bool
-        requires { AreInside candidates.old.size self }
-        ensures narrows { Narrows (HoldsGreater self) (IsGreaterStruck self)
+        requires { AreCrossed candidates.old.size self }
+        ensures narrows { Narrows (HoldsGreater (ends_of self)) (IsGreaterStruck (ends_of self))
             candidates.old candidates.new result }
         ensures notes { Notes candidates.old candidates.new changed.old changed.new }
     {
         let _size = candidates.size();
-        let kept = candidates.values(self.lesser).above_least();
+        let kept = candidates.values(self.lesser.cell).above_least();
         keep_in_square(candidates, self.greater, kept, changed)
     }
 }

@@ -8,5 +8,5 @@ returns-then-strike_missing-clause-notes c =
     let old = c.args.candidates.now in
     let new = c.strike_missing.new.candidates in
     let longer = OnTrue_at {P = length old.trail < length new.trail} c.if-strike_missing.true c.strike_missing.ensures.longer in
-    both_noted old new c.args.cell c.args.changed.now c.note.new.self c.strike_missing.ensures.kept longer
-    (rw c.size-size.ensures.value at c.note.ensures.latin) (rw c.size-size.ensures.value at c.note.ensures.rule)
+    both_noted old new c.args.square.cell c.args.square.line c.args.square.crossing c.args.changed.now c.note.new.self c.requires
+    c.strike_missing.ensures.kept longer c.note.ensures.latin c.note.ensures.rule
