@@ -9,7 +9,7 @@ use Rattle.trail_solver.specs.Candidates.{CandidatesValue, IsEarlier}
 use Rattle.trail_solver.specs.Pairs.{with_pair}
 use Rattle.trail_solver.specs.Puzzles.{Solves}
 use Rattle.trail_solver.specs.Solutions.{Denies}
-use Rattle.trail_solver.proofs.OneKept.{Removes, removed_earlier}
+use Rattle.trail_solver.proofs.OneKept.{removed_earlier}
 use Rattle.trail_solver.proofs.SearchSteps.{within_removed}
 use Rattle.clue_rules.specs.declared.unequal.direction.Direction.{Direction}
 use Rattle.clue_rules.specs.declared.unequal.direction.Direction.TheVariants.{Right, Down}

@@ -62,6 +62,7 @@ one_goes empty present gone number i c xs here only =
       | inr other ↦ rw (ne_eqb (number cell) i (λ e. other (only cell is e)), ne_eqb cell c other) refl
     ]
 
+-- to take an item away is to keep all others
 pub without_cut : (v : UnequalValue) (i : ℕ) → IsUnequal v → without_item v (item_at v.size i) ≡ cut_unequal v (λ j. not (j == i))
 without_cut v i valid = by (item_at v.size i) refl
   where

@@ -1,5 +1,5 @@
 -- Items that are denied.
-use Rattle.std.proofs.Common.{◌≡◌, refl, sym, subst, inr}
+use Rattle.std.proofs.Common.{◌≡◌, sym, subst, inr}
 use Rattle.trail_solver.specs.Candidates.{CandidatesValue}
 use Rattle.trail_solver.specs.Puzzles.{Puzzle}
 use Rattle.trail_solver.specs.Solutions.{Denies}
