@@ -48,9 +48,9 @@ soonest_follows p g start c cell value of size less keeps s =
     }
 
 -- a forced square would have had only one candidate
-pub none_forced : (p : Puzzle) (Strikes : CandidatesValue → ℕ → ℕ → Type 0) (g : GridValue) (c : CandidatesValue) (cell : ℕ)
-    → AreNarrowed p Strikes g c → HaveNoneLast g c → IsForced Strikes g cell → ⊥
-none_forced p Strikes g c cell narrowed none forced =
+pub none_forced : (p : Puzzle) (Struck : CandidatesValue → ℕ → ℕ → Type 0) (g : GridValue) (c : CandidatesValue) (cell : ℕ)
+    → AreNarrowed p Struck g c → HaveNoneLast g c → IsForced Struck g cell → ⊥
+none_forced p Struck g c cell narrowed none forced =
     let start = narrowed.start in
     let width : c.size ≡ g.size = narrowed.less.size ∙ narrowed.of_grid.size in
     let some = none.some cell (subst (λ (n : ℕ). cell < n * n) (sym width) forced.inside) in
@@ -74,21 +74,21 @@ none_forced p Strikes g c cell narrowed none forced =
 
 -- ---- the hint that is found
 
-pub deduced_hint : (p : Puzzle) (Strikes : CandidatesValue → ℕ → ℕ → Type 0) (g : GridValue) (c : CandidatesValue) (found : Hint)
-    → AreNarrowed p Strikes g c → HaveValues c → IsSoonestHint g c found → IsDeduced p Strikes g found
-deduced_hint p Strikes g c (Follows cell value) narrowed have soonest = (c, narrowed, soonest)
-deduced_hint p Strikes g c Nothing narrowed have none = (c, narrowed, record { some = have.each; several = none })
-deduced_hint p Strikes g c Contradiction narrowed have never = absurd never
+pub deduced_hint : (p : Puzzle) (Struck : CandidatesValue → ℕ → ℕ → Type 0) (g : GridValue) (c : CandidatesValue) (found : Hint)
+    → AreNarrowed p Struck g c → HaveValues c → IsSoonestHint g c found → IsDeduced p Struck g found
+deduced_hint p Struck g c (Follows cell value) narrowed have soonest = (c, narrowed, soonest)
+deduced_hint p Struck g c Nothing narrowed have none = (c, narrowed, record { some = have.each; several = none })
+deduced_hint p Struck g c Contradiction narrowed have never = absurd never
 
-pub deduced_sound : (p : Puzzle) (Strikes : CandidatesValue → ℕ → ℕ → Type 0) (g : GridValue) (c : CandidatesValue) (found : Hint) → g.size ≡ p.size
-    → IsSoonestHint g c found → IsDeduced p Strikes g found → IsSound p g found
-deduced_sound p Strikes g c (Follows cell value) size h d =
+pub deduced_sound : (p : Puzzle) (Struck : CandidatesValue → ℕ → ℕ → Type 0) (g : GridValue) (c : CandidatesValue) (found : Hint) → g.size ≡ p.size
+    → IsSoonestHint g c found → IsDeduced p Struck g found → IsSound p g found
+deduced_sound p Struck g c (Follows cell value) size h d =
     soonest_follows p g d.1.start d.0 cell value d.1.of_grid size d.1.less d.1.keeps d.2
-deduced_sound p Strikes g c Nothing size h d = tt
-deduced_sound p Strikes g c Contradiction size never d = absurd never
+deduced_sound p Struck g c Nothing size h d = tt
+deduced_sound p Struck g c Contradiction size never d = absurd never
 
-pub none_forced_at : (p : Puzzle) (Strikes : CandidatesValue → ℕ → ℕ → Type 0) (g : GridValue) (cell : ℕ) (found : Hint) → found ≡ Nothing
-    → IsDeduced p Strikes g found → IsForced Strikes g cell → ⊥
-none_forced_at p Strikes g cell found is d forced =
-    let at = subst (λ (h : Hint). IsDeduced p Strikes g h) is d in
-    none_forced p Strikes g at.0 cell at.1 at.2 forced
+pub none_forced_at : (p : Puzzle) (Struck : CandidatesValue → ℕ → ℕ → Type 0) (g : GridValue) (cell : ℕ) (found : Hint) → found ≡ Nothing
+    → IsDeduced p Struck g found → IsForced Struck g cell → ⊥
+none_forced_at p Struck g cell found is d forced =
+    let at = subst (λ (h : Hint). IsDeduced p Struck g h) is d in
+    none_forced p Struck g at.0 cell at.1 at.2 forced
