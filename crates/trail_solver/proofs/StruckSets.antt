@@ -11,7 +11,7 @@ use Rattle.trail_solver.proofs.Earlier.{prefix-append, stays_gone}
 use Rattle.trail_solver.proofs.SetPairs.{has_pair-pairs_of}
 use Rattle.trail_solver.proofs.Removals.{set_below}
 
--- what `strike` does
+-- what `remove_all` does
 pub record RemovesAll (old new : CandidatesValue) (cell set : ℕ) : Type 0 where
   pub size : new.size ≡ old.size
   pub trail : new.trail ≡ old.trail ++ pairs_of cell set
