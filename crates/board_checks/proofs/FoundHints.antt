@@ -48,9 +48,9 @@ soonest_follows p g start c cell value of size less keeps s =
     }
 
 -- a forced square would have had only one candidate
-pub none_forced : (p : Puzzle) (Strikes : CandidatesValue → ℕ → ℕ → Type 0) (g : GridValue) (c : CandidatesValue) (cell : ℕ)
-    → AreNarrowed p Strikes g c → HaveNoneLast g c → IsForced Strikes g cell → ⊥
-none_forced p Strikes g c cell narrowed none forced =
+pub none_forced : (p : Puzzle) (Struck : CandidatesValue → ℕ → ℕ → Type 0) (g : GridValue) (c : CandidatesValue) (cell : ℕ)
+    → AreNarrowed p Struck g c → HaveNoneLast g c → IsForced Struck g cell → ⊥
+none_forced p Struck g c cell narrowed none forced =
     let start = narrowed.start in
     let width : c.size ≡ g.size = narrowed.less.size ∙ narrowed.of_grid.size in
     let some = none.some.each cell (subst (λ (n : ℕ). cell < n * n) (sym width) forced.inside) in
@@ -75,23 +75,23 @@ none_forced p Strikes g c cell narrowed none forced =
 
 -- ---- the hint that is found
 
-pub deduced_hint : (p : Puzzle) (Strikes : CandidatesValue → ℕ → ℕ → Type 0) (g : GridValue) (c : CandidatesValue) (found : Hint)
-    → AreNarrowed p Strikes g c → IsLeftHint g c found → IsDeduced p Strikes g found
-deduced_hint p Strikes g c (Follows cell value) narrowed left = (c, narrowed, left.0, left.1)
-deduced_hint p Strikes g c Nothing narrowed left = (c, narrowed, record { some = left.0; several = left.1 })
-deduced_hint p Strikes g c Contradiction narrowed left = tt
+pub deduced_hint : (p : Puzzle) (Struck : CandidatesValue → ℕ → ℕ → Type 0) (g : GridValue) (c : CandidatesValue) (found : Hint)
+    → AreNarrowed p Struck g c → IsLeftHint g c found → IsDeduced p Struck g found
+deduced_hint p Struck g c (Follows cell value) narrowed left = (c, narrowed, left.0, left.1)
+deduced_hint p Struck g c Nothing narrowed left = (c, narrowed, record { some = left.0; several = left.1 })
+deduced_hint p Struck g c Contradiction narrowed left = tt
 
-pub deduced_sound : (p : Puzzle) (Strikes : CandidatesValue → ℕ → ℕ → Type 0) (g : GridValue) (c : CandidatesValue) (found : Hint) → g.size ≡ p.size
-    → AreNarrowed p Strikes g c → IsLeftHint g c found → IsSound p g found
-deduced_sound p Strikes g c (Follows cell value) size narrowed left =
+pub deduced_sound : (p : Puzzle) (Struck : CandidatesValue → ℕ → ℕ → Type 0) (g : GridValue) (c : CandidatesValue) (found : Hint) → g.size ≡ p.size
+    → AreNarrowed p Struck g c → IsLeftHint g c found → IsSound p g found
+deduced_sound p Struck g c (Follows cell value) size narrowed left =
     soonest_follows p g narrowed.start c cell value narrowed.of_grid size narrowed.less narrowed.keeps left.1
-deduced_sound p Strikes g c Nothing size narrowed left = tt
-deduced_sound p Strikes g c Contradiction size narrowed lacks =
+deduced_sound p Struck g c Nothing size narrowed left = tt
+deduced_sound p Struck g c Contradiction size narrowed lacks =
     none_completes p g narrowed.start c narrowed.of_grid size narrowed.keeps
     (none_without_values p c (narrowed.less.size ∙ narrowed.of_grid.size ∙ size) lacks)
 
-pub none_forced_at : (p : Puzzle) (Strikes : CandidatesValue → ℕ → ℕ → Type 0) (g : GridValue) (cell : ℕ) (found : Hint) → found ≡ Nothing
-    → IsDeduced p Strikes g found → IsForced Strikes g cell → ⊥
-none_forced_at p Strikes g cell found is d forced =
-    let (c, narrowed, none) = subst (λ (h : Hint). IsDeduced p Strikes g h) is d in
-    none_forced p Strikes g c cell narrowed none forced
+pub none_forced_at : (p : Puzzle) (Struck : CandidatesValue → ℕ → ℕ → Type 0) (g : GridValue) (cell : ℕ) (found : Hint) → found ≡ Nothing
+    → IsDeduced p Struck g found → IsForced Struck g cell → ⊥
+none_forced_at p Struck g cell found is d forced =
+    let (c, narrowed, none) = subst (λ (h : Hint). IsDeduced p Struck g h) is d in
+    none_forced p Struck g c cell narrowed none forced

@@ -24,13 +24,13 @@ IsSound p g Contradiction = (h : GridValue) → Completes p g h → ⊥
 
 -- what the deductions make of the candidates that a grid leaves: no solution is lost, and no pair remains that they strike from
 -- those at first or from those that remain
-pub record AreNarrowed (p : Puzzle) (Strikes : CandidatesValue → ℕ → ℕ → Type 0) (g : GridValue) (c : CandidatesValue) : Type 0 where
+pub record AreNarrowed (p : Puzzle) (Struck : CandidatesValue → ℕ → ℕ → Type 0) (g : GridValue) (c : CandidatesValue) : Type 0 where
   pub start : CandidatesValue
   pub of_grid : AreOfGrid g start
   pub less : IsEarlier start c
   pub keeps : KeepsSolutions p start c
-  pub struck : NoneLeft Strikes start c
-  pub settled : NoneLeft Strikes c c
+  pub struck : NoneLeft Struck start c
+  pub settled : NoneLeft Struck c c
 
 -- the square is empty in the grid, and the value is its only candidate
 pub record IsLastLeft (g : GridValue) (c : CandidatesValue) (cell value : ℕ) : Type 0 where
@@ -58,13 +58,13 @@ pub record HaveNoneLast (g : GridValue) (c : CandidatesValue) : Type 0 where
 
 -- how a hint is read from the candidates that the deductions leave: a number is told only where each square has one left
 abbrev pub IsDeduced : Puzzle → (CandidatesValue → ℕ → ℕ → Type 0) → GridValue → Hint → Type 0
-IsDeduced p Strikes g (Follows cell value) = (c : CandidatesValue) × AreNarrowed p Strikes g c × HaveValues c × IsSoonest g c cell value
-IsDeduced p Strikes g Nothing = (c : CandidatesValue) × AreNarrowed p Strikes g c × HaveNoneLast g c
-IsDeduced p Strikes g Contradiction = Unit {0}
+IsDeduced p Struck g (Follows cell value) = (c : CandidatesValue) × AreNarrowed p Struck g c × HaveValues c × IsSoonest g c cell value
+IsDeduced p Struck g Nothing = (c : CandidatesValue) × AreNarrowed p Struck g c × HaveNoneLast g c
+IsDeduced p Struck g Contradiction = Unit {0}
 
 -- all values but one of an empty square are struck from the candidates that the grid leaves
-pub record IsForced (Strikes : CandidatesValue → ℕ → ℕ → Type 0) (g : GridValue) (cell : ℕ) : Type 0 where
+pub record IsForced (Struck : CandidatesValue → ℕ → ℕ → Type 0) (g : GridValue) (cell : ℕ) : Type 0 where
   pub inside : cell < g.size * g.size
   pub empty : number_at g cell ≡ 0
   pub value : ℕ
-  pub others : (c : CandidatesValue) → AreOfGrid g c → (v : ℕ) → IsPair g.size cell v → v ≢ value → Strikes c cell v
+  pub others : (c : CandidatesValue) → AreOfGrid g c → (v : ℕ) → IsPair g.size cell v → v ≢ value → Struck c cell v

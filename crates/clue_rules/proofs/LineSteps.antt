@@ -78,7 +78,7 @@ square_possible c line sets g on is s size within =
           line_differs g s.is_grid s.latin line i j (omega (arith, on)) (omega arith) (omega arith) apart (sym (cell_is i) ∙ same ∙ cell_is j);
       all = λ v low high.
           let at = value_at g s.latin line v (omega (arith, on)) low (omega arith) in
-          (at.0, omega (arith, at.1), cell_is at.0 ∙ at.2);
+          record { index = at.0; inside = omega (arith, at.1); holds = cell_is at.0 ∙ at.2 };
     }
 
 -- ---- what the tally of a line's sets says
@@ -120,17 +120,24 @@ one_place first c line k v sets e is one j inside has =
     let P : ℕ → Type 0 = λ w. may_be c (line_cell w line j) v ≡ true in
     one.alone j (omega (arith, e.size)) (was_left first c (line_cell first.size line j) v e (subst P e.size left))
 
+-- the cell is a square of the line, and the value may not stay there
+record Goes (c : CandidatesValue) (line : ℕ) (sets : List ℕ) (t : LineTally) (cell v : ℕ) : Type 0 where
+  pub index : ℕ
+  pub inside : index < c.size
+  pub here : line_cell c.size line index ≡ cell
+  pub gone : StaysThere t sets index v → ⊥
+
 -- what the line strikes may not stay
 line_struck : (c : CandidatesValue) (line : ℕ) (sets : List ℕ) (t : LineTally) → AreSetsAlong c line sets → IsWholeTally sets c.size t
-    → (first : CandidatesValue) → IsEarlier first c → (cell v : ℕ) → IsLineStruck line first cell v
-    → (k : ℕ) × (k < c.size) × (line_cell c.size line k ≡ cell) × (StaysThere t sets k v → ⊥)
+    → (first : CandidatesValue) → IsEarlier first c → (cell v : ℕ) → IsLineStruck line first cell v → Goes c line sets t cell v
 line_struck c line sets t is whole first e cell v struck =
     let k = struck.index in
-    let inside : k < c.size = omega (arith, struck.inside, e.size) in (
-      k,
-      inside,
-      ap (λ (w : ℕ). line_cell w line k) e.size ∙ struck.here,
-      λ stays. elim struck.why [
+    let inside : k < c.size = omega (arith, struck.inside, e.size) in
+    record {
+      index = k;
+      inside = inside;
+      here = ap (λ (w : ℕ). line_cell w line k) e.size ∙ struck.here;
+      gone = λ stays. elim struck.why [
         | inl taken ↦
             let there : taken.by < c.size = omega (arith, taken.inside, e.size) in
             taken_goes sets c.size t k taken.by v whole inside there taken.apart
@@ -138,8 +145,8 @@ line_struck c line sets t is whole first e cell v struck =
         | inr displaced ↦
             displaced_goes sets c.size t k v displaced.other whole inside displaced.apart displaced.low
             (omega (arith, displaced.high, e.size)) (one_place first c line k displaced.other sets e is displaced.one) stays.1
-      ],
-    )
+      ];
+    }
 
 -- ---- all lines
 
@@ -202,7 +209,7 @@ line_narrows old new line n sets t on is whole all h = record {
         let at = line_struck old line sets t is whole first e cell v s in
         let P : ℕ → Type 0 = λ c. IsPair old.size c v → may_be new c v ≡ false in
         let here : IsPair old.size cell v = subst (λ (w : ℕ). IsPair w cell v) (sym e.size) pair in
-        subst P at.2 (λ p. h.gone at.0 v (omega (arith, at.1)) p at.3) here;
+        subst P at.here (λ p. h.gone at.index v (omega (arith, at.inside)) p at.gone) here;
   };
 }
 

@@ -3,11 +3,22 @@ use Rattle.std.proofs.Common.{◌≡◌, ◌≢◌, ℕ, ◌+◌, ◌<◌, ◌�
 use Rattle.std.proofs.lemmas.Bool.{cases_Bool, cases_lt, cases_eq, cases_order, both_ways, false_from_ne_true, and_parts, and_from, le-leb, leb-true, or_left, or_right, not-true, or_cases}
 use Rattle.number_sets.specs.Sets.{has_number, no_numbers, IsEmpty, IsShared, IsSingle, IsSubset}
 use Rattle.number_sets.proofs.Members.{has_number-none}
-use Rattle.clue_rules.specs.Inner.LineTallies.{IsPossible, IsTally, IsWholeTally, IsSinglesOf, IsCounted, IsClash, IsForced, IsFree, IsHidden, IsQuietTally, MayStay, IsKeptOf, HoldValuesTo}
+use Rattle.clue_rules.specs.Inner.LineTallies.{IsInTwo, IsPossible, IsTally, IsWholeTally, IsSinglesOf, IsCounted, IsClash, IsForced, IsFree, IsHidden, IsQuietTally, MayStay, IsKeptOf, HoldValuesTo}
 use Rattle.clue_rules.specs.declared.lines.latin.LineTally.{LineTally}
 use Rattle.clue_rules.proofs.RangeLemmas.{below_one_more}
 
 -- ---- one set more
+
+-- two of some sets are two of so many as they are among
+two_of : {m : ℕ} (sets : List ℕ) (n v : ℕ) (two : IsInTwo sets m v) → two.second < n → IsInTwo sets n v
+two_of sets n v two inside = record {
+  first = two.first;
+  second = two.second;
+  order = two.order;
+  inside = inside;
+  in_first = two.in_first;
+  in_second = two.in_second;
+}
 
 pub tally_more : (sets : List ℕ) (n : ℕ) (t u : LineTally) → IsTally sets n t → IsCounted t (slice_index sets n) u → IsTally sets (n + 1) u
 tally_more sets n t u h more =
@@ -17,15 +28,18 @@ tally_more sets n t u h more =
       once = λ v. below_one_more (λ k. At k v) n (h.once v) (more.once v);
       twice = λ v. (
         λ e. elim ((more.twice v).0 e) [
-          | inl old ↦ let p = (h.twice v).0 old in (p.0, p.1, p.2, omega (arith, p.3), p.4, p.5)
-          | inr new ↦ let p = (h.once v).0 new.0 in (p.0, n, p.1, omega arith, p.2, new.1)
+          | inl old ↦ let two = (h.twice v).0 old in two_of sets (n + 1) v two (omega (arith, two.inside))
+          | inr new ↦
+              let one = (h.once v).0 new.0 in
+              record { first = one.index; second = n; order = one.inside; inside = omega arith; in_first = one.holds; in_second = new.1 }
         ],
-        λ p. elim (cases_lt p.1 n) [
-          | inl low ↦ (more.twice v).1 (inl ((h.twice v).1 (p.0, p.1, p.2, low, p.4, p.5)))
+        λ two. elim (cases_lt two.second n) [
+          | inl low ↦ (more.twice v).1 (inl ((h.twice v).1 (two_of sets n v two low)))
           | inr high ↦
-              let last : p.1 ≡ n = omega (arith, p.3) in
-              let before : p.0 < n = omega (arith, p.2) in
-              (more.twice v).1 (inr ((h.once v).1 (p.0, before, p.4), subst (λ k. At k v) last p.5))
+              let last : two.second ≡ n = omega (arith, two.inside) in
+              let before : two.first < n = omega (arith, two.order) in
+              (more.twice v).1
+              (inr ((h.once v).1 (record { index = two.first; inside = before; holds = two.in_first }), subst (λ k. At k v) last two.in_second))
         ],
       );
       singles = λ v. below_one_more (λ k. Alone k v) n (h.singles v) (more.singles v);
@@ -41,7 +55,7 @@ tally_more sets n t u h more =
         | inr high ↦
             let last : j ≡ n = omega arith in
             both_ways (has_number t.singles v) (more.fresh v (subst (λ k. Alone k v) last two))
-            ((h.singles v).1 (i, omega arith, one))
+            ((h.singles v).1 (record { index = i; inside = omega arith; holds = one }))
       ];
     }
 
@@ -53,12 +67,12 @@ clash_refutes sets n w t h inside clash number p =
     elim clash [
       | inl empty ↦ both_ways (has_number (slice_index sets n) (number n)) (empty (number n)) (p.within n inside)
       | inr twice ↦
-          let v = twice.0 in
-          let first = (h.singles v).0 twice.2 in
-          let here : number n ≡ v = twice.1.alone (number n) (p.within n inside) in
-          let low : first.0 < w = omega (arith, first.1) in
-          let there : number first.0 ≡ v = first.2.alone (number first.0) (p.within first.0 low) in
-          p.apart first.0 n low inside (λ same. omega (arith, first.1)) (there ∙ sym here)
+          let v = twice.value in
+          let first = (h.singles v).0 twice.before in
+          let here : number n ≡ v = twice.here.alone (number n) (p.within n inside) in
+          let low : first.index < w = omega (arith, first.inside) in
+          let there : number first.index ≡ v = first.holds.alone (number first.index) (p.within first.index low) in
+          p.apart first.index n low inside (λ same. omega (arith, first.inside)) (there ∙ sym here)
     ]
 
 -- every is the set of the values from 1 to w
@@ -78,8 +92,8 @@ lacking_refutes sets w every t h all lacks number p =
     lacks (λ v has.
     let both = and_parts (nat_le 1 v) (nat_le v w) (sym (all.is v) ∙ has) in
     let at = p.all v (leb-true 1 v both.0) (leb-true v w both.1) in
-    let P : ℕ → Type 0 = λ u. has_number (slice_index sets at.0) u ≡ true in
-    (h.once v).1 (at.0, at.1, subst P at.2 (p.within at.0 at.1)))
+    let P : ℕ → Type 0 = λ u. has_number (slice_index sets at.index) u ≡ true in
+    (h.once v).1 (record { index = at.index; inside = at.inside; holds = subst P at.holds (p.within at.index at.inside) }))
 
 -- ---- what may stay
 
@@ -90,24 +104,29 @@ possible_stays sets w t number k h p values inside =
     elim (cases_Bool (has_number t.singles (number k))) [
       | inl alone ↦
           let by = (h.tally.singles (number k)).0 alone in
-          elim (cases_eq by.0 k) [
-            | inl same ↦ let P : ℕ → Type 0 = λ i. IsSingle (slice_index sets i) (number k) in inl (subst P same by.2)
+          elim (cases_eq by.index k) [
+            | inl same ↦ let P : ℕ → Type 0 = λ i. IsSingle (slice_index sets i) (number k) in inl (subst P same by.holds)
             | inr other ↦
-                let there : number by.0 ≡ number k = by.2.alone (number by.0) (p.within by.0 by.1) in
-                absurd (p.apart by.0 k by.1 inside other there)
+                let there : number by.index ≡ number k = by.holds.alone (number by.index) (p.within by.index by.inside) in
+                absurd (p.apart by.index k by.inside inside other there)
           ]
       | inr free ↦ inr (
         λ u has hidden.
             let range = values k u inside has in
             let at = p.all u range.0 range.1 in
-            let P : ℕ → Type 0 = λ v. has_number (slice_index sets at.0) v ≡ true in
-            let there : has_number (slice_index sets at.0) u ≡ true = subst P at.2 (p.within at.0 at.1) in
-            elim (cases_order at.0 k) [
-              | inl same ↦ sym at.2 ∙ ap number same
+            let P : ℕ → Type 0 = λ v. has_number (slice_index sets at.index) v ≡ true in
+            let there : has_number (slice_index sets at.index) u ≡ true = subst P at.holds (p.within at.index at.inside) in
+            elim (cases_order at.index k) [
+              | inl same ↦ sym at.holds ∙ ap number same
               | inr order ↦ elim order [
                 | inl before ↦
-                    absurd (both_ways (has_number t.twice u) hidden.lone ((h.tally.twice u).1 (at.0, k, before, inside, there, has)))
-                | inr after ↦ absurd (both_ways (has_number t.twice u) hidden.lone ((h.tally.twice u).1 (k, at.0, after, at.1, has, there)))
+                    let two : IsInTwo sets w u =
+                    record { first = at.index; second = k; order = before; inside = inside; in_first = there; in_second = has } in
+                    absurd (both_ways (has_number t.twice u) hidden.lone ((h.tally.twice u).1 two))
+                | inr after ↦
+                    let two : IsInTwo sets w u =
+                    record { first = k; second = at.index; order = after; inside = at.inside; in_first = has; in_second = there } in
+                    absurd (both_ways (has_number t.twice u) hidden.lone ((h.tally.twice u).1 two))
               ]
             ],
         free,
@@ -126,7 +145,7 @@ taken_goes sets w t k by v h inside there apart single stays =
           | inr after ↦ h.tally.apart k by v after there own single
         ]
       ]
-      | inr free ↦ both_ways (has_number t.singles v) free.1 ((h.tally.singles v).1 (by, there, single))
+      | inr free ↦ both_ways (has_number t.singles v) free.1 ((h.tally.singles v).1 (record { index = by; inside = there; holds = single }))
     ]
 
 -- nor may a value where another has its one place
@@ -136,13 +155,13 @@ displaced_goes sets w t k v other h inside apart low high one stays =
     let once = h.placed other low high in
     let at = (h.tally.once other).0 once in
     let P : ℕ → Type 0 = λ j. has_number (slice_index sets j) other ≡ true in
-    let here : has_number (slice_index sets k) other ≡ true = subst P (one at.0 at.1 at.2) at.2 in
+    let here : has_number (slice_index sets k) other ≡ true = subst P (one at.index at.inside at.holds) at.holds in
     let lone : has_number t.twice other ≡ false = false_from_ne_true (has_number t.twice other) (λ e.
     let two = (h.tally.twice other).0 e in
-    let first : two.0 < w = omega (arith, two.2, two.3) in
-    let i_is = one two.0 first two.4 in
-    let j_is = one two.1 two.3 two.5 in
-    omega (arith, two.2)) in
+    let first : two.first < w = omega (arith, two.order, two.inside) in
+    let i_is = one two.first first two.in_first in
+    let j_is = one two.second two.inside two.in_second in
+    omega (arith, two.order)) in
     elim stays [
       | inl own ↦ apart (sym (own.alone other here))
       | inr free ↦ apart (sym (free.0 other here (record { once = once; lone = lone })))
@@ -231,11 +250,17 @@ quiet_kept sets w t h settled k inside v has =
     λ u has alone.
     let by = (h.tally.singles u).0 alone in
     let lone = not-true (has_number t.twice u) (and_parts _ _ (settled u ∙ alone)).1 in
-    elim (cases_order by.0 k) [
-      | inl same ↦ let P : ℕ → Type 0 = λ i. IsSingle (slice_index sets i) u in subst P same by.2
+    elim (cases_order by.index k) [
+      | inl same ↦ let P : ℕ → Type 0 = λ i. IsSingle (slice_index sets i) u in subst P same by.holds
       | inr order ↦ elim order [
-        | inl before ↦ absurd (both_ways (has_number t.twice u) lone ((h.tally.twice u).1 (by.0, k, before, inside, by.2.has, has)))
-        | inr after ↦ absurd (both_ways (has_number t.twice u) lone ((h.tally.twice u).1 (k, by.0, after, by.1, has, by.2.has)))
+        | inl before ↦
+            let two : IsInTwo sets w u =
+            record { first = by.index; second = k; order = before; inside = inside; in_first = by.holds.has; in_second = has } in
+            absurd (both_ways (has_number t.twice u) lone ((h.tally.twice u).1 two))
+        | inr after ↦
+            let two : IsInTwo sets w u =
+            record { first = k; second = by.index; order = after; inside = by.inside; in_first = has; in_second = by.holds.has } in
+            absurd (both_ways (has_number t.twice u) lone ((h.tally.twice u).1 two))
       ]
     ] in (
       has,
@@ -269,7 +294,7 @@ singles_none set many = record {
 }
 
 pub clash_twice : (t : LineTally) (set single : ℕ) → IsSinglesOf set single → IsShared t.singles single → IsClash t set
-clash_twice t set single s shared = inr (shared.0, (s.is shared.0).0 shared.2, shared.1)
+clash_twice t set single s shared = inr (record { value = shared.0; here = (s.is shared.0).0 shared.2; before = shared.1 })
 
 -- what is so of one of two
 either : (a b c : Bool) → c ≡ (a || b) → (c ≡ true) ↔ ((a ≡ true) ⊎ (b ≡ true))

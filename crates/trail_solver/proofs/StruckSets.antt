@@ -11,20 +11,20 @@ use Rattle.trail_solver.proofs.Earlier.{prefix-append, stays_gone}
 use Rattle.trail_solver.proofs.SetPairs.{has_pair-pairs_of}
 use Rattle.trail_solver.proofs.Removals.{set_below}
 
--- what `strike` does
-pub record Strikes (old new : CandidatesValue) (cell set : ℕ) : Type 0 where
+-- what `remove_all` does
+pub record RemovesAll (old new : CandidatesValue) (cell set : ℕ) : Type 0 where
   pub size : new.size ≡ old.size
   pub trail : new.trail ≡ old.trail ++ pairs_of cell set
   pub small : set < 2 ^ 16
 
 -- candidates were earlier before a set was struck
-pub struck_earlier : (old new : CandidatesValue) (cell set : ℕ) → Strikes old new cell set → IsEarlier old new
+pub struck_earlier : (old new : CandidatesValue) (cell set : ℕ) → RemovesAll old new cell set → IsEarlier old new
 struck_earlier old new cell set s = record {
   size = s.size;
   adds = let P : List (ℕ × ℕ) → Type 0 = λ ps. IsPrefix old.trail ps in subst P (sym s.trail) (prefix-append old.trail (pairs_of cell set));
 }
 
-has_pair-struck : (old new : CandidatesValue) (cell set c v : ℕ) → Strikes old new cell set
+has_pair-struck : (old new : CandidatesValue) (cell set c v : ℕ) → RemovesAll old new cell set
     → has_pair new.trail c v ≡ (has_pair old.trail c v || (eqb c cell && has_number set v))
 has_pair-struck old new cell set c v s =
     ap (λ (ps : List (ℕ × ℕ)). has_pair ps c v) s.trail
@@ -32,12 +32,12 @@ has_pair-struck old new cell set c v s =
     ∙ ap (λ b. has_pair old.trail c v || b) (has_pair-pairs_of cell set c v s.small)
 
 -- the set's values are gone
-pub gone_struck : (old new : CandidatesValue) (cell set v : ℕ) → Strikes old new cell set → has_number set v ≡ true → may_be new cell v ≡ false
+pub gone_struck : (old new : CandidatesValue) (cell set v : ℕ) → RemovesAll old new cell set → has_number set v ≡ true → may_be new cell v ≡ false
 gone_struck old new cell set v s has =
     ap not (has_pair-struck old new cell set cell v s ∙ or_right (has_pair old.trail cell v) (eqb cell cell && has_number set v) (and_from (eqb cell cell) (has_number set v) (eq-eqb cell cell refl) has))
 
 -- and no others went
-pub rest_struck : (old new : CandidatesValue) (cell set c v : ℕ) → Strikes old new cell set → (c ≢ cell) ⊎ (has_number set v ≡ false)
+pub rest_struck : (old new : CandidatesValue) (cell set c v : ℕ) → RemovesAll old new cell set → (c ≢ cell) ⊎ (has_number set v ≡ false)
     → may_be new c v ≡ may_be old c v
 rest_struck old new cell set c v s other =
     let out : (eqb c cell && has_number set v) ≡ false = false_from_ne_true (eqb c cell && has_number set v) (λ e.
@@ -58,7 +58,7 @@ missing_are c cell values kept missing is left v has =
 
 -- they are below 16
 pub missing_strikes : (old new : CandidatesValue) (cell set : ℕ) → IsCandidates old → AreCandidates old cell set → new.size ≡ old.size
-    → new.trail ≡ old.trail ++ pairs_of cell set → Strikes old new cell set
+    → new.trail ≡ old.trail ++ pairs_of cell set → RemovesAll old new cell set
 missing_strikes old new cell set valid there size trail = record {
   size = size;
   trail = trail;
@@ -67,7 +67,7 @@ missing_strikes old new cell set valid there size trail = record {
 
 -- the values that the set lacks are gone
 pub gone_missing : (old new : CandidatesValue) (cell values kept missing v : ℕ) → IsSetOf old cell values → AreMissing values kept missing
-    → Strikes old new cell missing → IsPair old.size cell v → has_number kept v ≡ false → may_be new cell v ≡ false
+    → RemovesAll old new cell missing → IsPair old.size cell v → has_number kept v ≡ false → may_be new cell v ≡ false
 gone_missing old new cell values kept missing v is left s pair lacks =
     elim (cases_Bool (may_be old cell v)) [
       | inl there ↦ gone_struck old new cell missing v s (left.is v ∙ rw ((is v).1 (pair, there), lacks) refl)
@@ -76,7 +76,7 @@ gone_missing old new cell values kept missing v is left s pair lacks =
 
 -- and no others
 pub rest_missing : (old new : CandidatesValue) (cell values kept missing c v : ℕ) → AreMissing values kept missing
-    → Strikes old new cell missing → (c ≢ cell) ⊎ (has_number kept v ≡ true) → may_be new c v ≡ may_be old c v
+    → RemovesAll old new cell missing → (c ≢ cell) ⊎ (has_number kept v ≡ true) → may_be new c v ≡ may_be old c v
 rest_missing old new cell values kept missing c v left s other =
     rest_struck old new cell missing c v s (⊎_elim (λ n. inl n) (λ has. inr (left.is v ∙ ap (λ b. has_number values v && not b) has ∙ and_false (has_number values v))) other)
   where

@@ -154,12 +154,12 @@ impl Candidates {
         if !self.may(cell, value) {
             return;
         }
-        self.strike(cell, NumberSet::one(value));
+        self.remove_all(cell, NumberSet::one(value));
     }
 
-    /// Takes the values of a set from the cell's candidates, the least first. They are candidates of the cell, a square of
-    /// the grid.
-    pub fn strike(&mut self, cell: usize, values: NumberSet)
+    /// Takes the values of a set from the cell's candidates, the least first, as `remove` takes one. They are candidates of
+    /// the cell, a square of the grid.
+    pub fn remove_all(&mut self, cell: usize, values: NumberSet)
         requires { AreCandidates self.old cell values }
         ensures size { self.new.size ≡ self.old.size }
         ensures trail { self.new.trail ≡ self.old.trail ++ pairs_of cell values }

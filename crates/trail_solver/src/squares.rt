@@ -16,7 +16,7 @@ pub(crate) fn keep_only(candidates: &mut Candidates, cell: usize, value: u8)
 {
     let _size = candidates.size();
     let others = candidates.values(cell).difference(NumberSet::one(value));
-    candidates.strike(cell, others);
+    candidates.remove_all(cell, others);
     let _bound = candidates.trail_len();
 }
 

@@ -193,7 +193,7 @@ fn values_struck_together(rt: HostRuntime) {
     let mut first = Candidates::all(size);
     first.remove(0, 1);
     let mut candidates = Candidates::all(size);
-    candidates.strike(0, candidates.values(0).difference(NumberSet::one(3)));
+    candidates.remove_all(0, candidates.values(0).difference(NumberSet::one(3)));
     let struck = told_of_3(&candidates);
     let is_of_size = candidates.trail().size() == size;
     // Back to a mark between the two: the lesser one stays struck.

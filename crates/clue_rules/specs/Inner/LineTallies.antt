@@ -20,24 +20,37 @@ numbers_where test (suc n) = if test (suc n) then bit_or (2 ^ suc n) (numbers_wh
 unfoldable pub sets_along : CandidatesValue → ℕ → List ℕ
 sets_along c line = map (λ k. numbers_where (may_be c (line_cell c.size line k)) c.size) (range_with_len 0 c.size)
 
+-- something holds of a number below n
+pub record SomeBelow (n : ℕ) (Holds : ℕ → Type 0) : Type 0 where
+  pub index : ℕ
+  pub inside : index < n
+  pub holds : Holds index
+
 -- numbers from the first n sets, of which no two are the same and none from 1 to n is missing
 pub record IsPossible (sets : List ℕ) (n : ℕ) (number : ℕ → ℕ) : Type 0 where
   pub within : (k : ℕ) → k < n → has_number (slice_index sets k) (number k) ≡ true
   pub apart : (i j : ℕ) → i < n → j < n → i ≢ j → number i ≢ number j
-  pub all : (v : ℕ) → 1 ≤ v → v ≤ n → (k : ℕ) × (k < n) × (number k ≡ v)
+  pub all : (v : ℕ) → 1 ≤ v → v ≤ n → SomeBelow n (λ k. number k ≡ v)
 
 -- there are no such numbers
 abbrev pub AreImpossible : List ℕ → ℕ → Type 0
 AreImpossible sets n = (number : ℕ → ℕ) → IsPossible sets n number → ⊥
 
+-- the value is in two of the first n sets
+pub record IsInTwo (sets : List ℕ) (n value : ℕ) : Type 0 where
+  pub first : ℕ
+  pub second : ℕ
+  pub order : first < second
+  pub inside : second < n
+  pub in_first : has_number (slice_index sets first) value ≡ true
+  pub in_second : has_number (slice_index sets second) value ≡ true
+
 -- the tally of the first n sets: which values are in one of them, in two, and alone in one; none of the sets is empty,
 -- and no value is alone in two
 pub record IsTally (sets : List ℕ) (n : ℕ) (t : LineTally) : Type 0 where
-  pub once : (v : ℕ) → (has_number t.once v ≡ true) ↔ ((k : ℕ) × (k < n) × (has_number (slice_index sets k) v ≡ true))
-  pub twice : (v : ℕ)
-      → (has_number t.twice v ≡ true)
-      ↔ ((i : ℕ) × (j : ℕ) × (i < j) × (j < n) × (has_number (slice_index sets i) v ≡ true) × (has_number (slice_index sets j) v ≡ true))
-  pub singles : (v : ℕ) → (has_number t.singles v ≡ true) ↔ ((k : ℕ) × (k < n) × IsSingle (slice_index sets k) v)
+  pub once : (v : ℕ) → (has_number t.once v ≡ true) ↔ SomeBelow n (λ k. has_number (slice_index sets k) v ≡ true)
+  pub twice : (v : ℕ) → (has_number t.twice v ≡ true) ↔ IsInTwo sets n v
+  pub singles : (v : ℕ) → (has_number t.singles v ≡ true) ↔ SomeBelow n (λ k. IsSingle (slice_index sets k) v)
   pub some : (k : ℕ) → k < n → (v : ℕ) × (has_number (slice_index sets k) v ≡ true)
   pub apart : (i j v : ℕ) → i < j → j < n → IsSingle (slice_index sets i) v → IsSingle (slice_index sets j) v → ⊥
 
@@ -59,9 +72,15 @@ pub record IsCounted (old : LineTally) (set : ℕ) (new : LineTally) : Type 0 wh
   pub some : (v : ℕ) × (has_number set v ≡ true)
   pub fresh : (v : ℕ) → IsSingle set v → has_number old.singles v ≡ false
 
+-- a set's only value is alone in an earlier one
+pub record IsAloneBefore (t : LineTally) (set : ℕ) : Type 0 where
+  pub value : ℕ
+  pub here : IsSingle set value
+  pub before : has_number t.singles value ≡ true
+
 -- the set is empty, or its only value is alone in an earlier one
 abbrev pub IsClash : LineTally → ℕ → Type 0
-IsClash t set = ((v : ℕ) → has_number set v ≡ false) ⊎ ((v : ℕ) × IsSingle set v × (has_number t.singles v ≡ true))
+IsClash t set = ((v : ℕ) → has_number set v ≡ false) ⊎ IsAloneBefore t set
 
 -- the values that just one of the sets has are those that are alone in one
 abbrev pub IsQuietTally : LineTally → Type 0

@@ -115,6 +115,6 @@ pub(crate) fn strike_missing(candidates: &mut Candidates, cell: usize, kept: Num
     if missing.is_empty() {
         return false;
     }
-    candidates.strike(cell, missing);
+    candidates.remove_all(cell, missing);
     true
 }

@@ -4,7 +4,7 @@ use Rattle.trail_solver.specs.Candidates.{CandidatesValue}
 use Rattle.trail_solver.specs.Inner.Fields.{AreFields}
 use Rattle.trail_solver.proofs.SetPairs.{pairs_of_none}
 use Rattle.trail_solver.proofs.Removals.{AreLeft, are_left, fields_struck, fields_fit, room_for_last}
-use Rattle.trail_solver.proofs.candidates.Candidates.strike.Goals as goal
+use Rattle.trail_solver.proofs.candidates.Candidates.remove_all.Goals as goal
 
 pub returns-then-is_empty-clause-trail : goal.returns-then-is_empty-clause-trail
 returns-then-is_empty-clause-trail c =
