@@ -81,7 +81,8 @@ fn narrow_by_pairing(candidates: &mut Candidates, pairing: Pairing) -> bool
     true
 }
 
-// By one crowd of lefts; what is no left doesn't count.
+// By one crowd of lefts, if it is one; what is no left doesn't count.
+#[tactic(auto, using(crate::proofs::CrowdSteps::narrows_nothing))]
 fn narrow_by_crowd(
     candidates: &mut Candidates,
     pairing: Pairing,
@@ -92,6 +93,9 @@ fn narrow_by_crowd(
     requires covers { Covers candidates.old pairing sides.now }
     ensures { NarrowsLatin candidates.old candidates.new result }
 {
+    if proposed.is_empty() {
+        return true;
+    }
     let width = candidates.size().get();
     let crowd = proposed.intersection(NumberSet::up_to(width).lowered());
     let rights = rights_of(sides, crowd, width);

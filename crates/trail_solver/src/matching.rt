@@ -20,8 +20,8 @@ struct Matching {
     taken: NumberSet,
 }
 
-/// The sets of lefts that are worth to be looked at: for each of the first lefts the set of those that its rights lead to; one
-/// set has too few rights if the matching can't be completed, and then each is that set.
+/// The sets of lefts that are worth to be looked at, each once, and empty sets for the rest: for the first lefts the sets of those
+/// that their rights lead to; one set has too few rights if the matching can't be completed, and then it is that set alone.
 pub(crate) fn crowds(sides: &Sides, count: u8) -> Sides {
     let mut matching = Matching {
         owners: [0; SIDES],
@@ -29,10 +29,10 @@ pub(crate) fn crowds(sides: &Sides, count: u8) -> Sides {
     };
     for left in 0..count {
         if let Some(reached) = matching.place(sides, left) {
-            return [reached; SIDES];
+            return alone(reached);
         }
     }
-    closed(matching.next_of(sides), count)
+    worthy(closed(matching.next_of(sides), count), count)
 }
 
 impl Matching {
@@ -153,4 +153,24 @@ fn closed_through(reach: Sides, through: u8) -> Sides {
         }
     }
     all
+}
+
+// One set, and no other.
+fn alone(set: NumberSet) -> Sides {
+    let mut sets = [NumberSet::empty(); SIDES];
+    sets[0] = set;
+    sets
+}
+
+// The sets that say more than rows and columns do, each once: neither one left, nor all of them.
+fn worthy(reach: Sides, count: u8) -> Sides {
+    let all = NumberSet::up_to(count.min(14)).lowered();
+    let mut sets = reach;
+    for left in 0..SIDES {
+        let set = reach[left];
+        if set.is_single() || set == all || reach[..left].contains(&set) {
+            sets[left] = NumberSet::empty();
+        }
+    }
+    sets
 }
