@@ -21,3 +21,4 @@ pub mod SaveReplies
 pub mod SeededReplies
 pub mod LinesAnswered
 pub mod PlainReplies
+pub mod UnplayedGames
