@@ -1,32 +1,15 @@
-"""All that a reader of some contracts has to read: what they cite, and what that cites, to the kit's own words."""
+"""All that a reader of some contracts has to read: what they cite, and what that cites, to the kit's own words. Of a trait that they name these are also the
+contracts of its functions."""
 
 from __future__ import annotations
 
+import re
 from pathlib import Path
 from typing import Dict, List, Set, Tuple
 
 from trusting.contracts import Rust
 from trusting.definitions import Meaning, Part, Source, Specs, words
-
-#: The contracts of what README promises and of what `main` calls: the file and the function.
-PROMISES = [
-    ('crates/trail_solver/src/solver.rt', 'solve'),
-    ('crates/puzzle_gen/src/generator.rt', 'generate'),
-    ('crates/play_midend/src/session_laws.rt', 'laws'),
-    ('crates/play_save/src/save_round.rt', 'saved_and_loaded'),
-    ('crates/puzzle_cli/src/start.rt', 'begin'),
-    ('crates/puzzle_cli/src/session_run.rt', 'run'),
-    ('crates/puzzle_cli/src/run_laws.rt', 'laws'),
-    ('crates/safe_save/src/saving.rt', 'save'),
-    ('crates/board_checks/src/checks.rt', 'errors'),
-    ('crates/board_checks/src/hints.rt', 'find_hint'),
-    ('crates/json_replies/src/reply_laws.rt', 'laws'),
-    ('crates/puzzle_cli/src/program.rt', 'play'),
-    ('crates/puzzles/src/program_name.rt', 'program_name'),
-    ('crates/puzzles/src/whole_game.rt', 'play_words'),
-    ('crates/puzzles/src/ending.rt', 'status_of'),
-]
-
+from trusting.named import named, rows, whole
 
 class Closure:
     """What was reached, and where it leads."""
@@ -40,14 +23,21 @@ class Closure:
         self._members: Set[str] = set()
         self._traits: Set[str] = set()
 
-    def read(self, path: str, name: str) -> Part:
-        """Reaches what the contract of a function cites, and gives the contract."""
-        meaning, head = self._rust.contract(path, name)
+    def read_all(self) -> List[Part]:
+        """Reaches what both names of the program call and what the documents name, and gives these contracts."""
+        found: Dict[Part, None] = {}
+        for one in [whole(self._rust), *(one for row in rows() for one in named(row, self._rust))]:
+            found[one.meaning.part] = None
+            self._call(one.meaning)
+        self._follow_traits()
+        return list(found)
+
+    def _call(self, meaning: Meaning) -> None:
+        """Reaches a contract, with the types and traits in the head of its function."""
         self._visit(meaning)
+        head = re.split(r'^ *(?:requires|ensures)\b', meaning.part.text, maxsplit=1, flags=re.MULTILINE)[0]
         for word in sorted(words(head)):
             self._named(meaning.part, word)
-        self._follow_traits()
-        return meaning.part
 
     def _named(self, by: Part, word: str) -> None:
         """A type or a trait that code names."""
@@ -95,6 +85,8 @@ class Closure:
         self._traits.add(name)
         for above in self._rust.traits[name].above:
             self._reach_trait(above)
+        for meaning in self._rust.traits[name].functions:
+            self._call(meaning)
 
     def _follow_traits(self) -> None:
         """Reaches the ghosts of traits that something names, and what the games make of them, until there are no more."""

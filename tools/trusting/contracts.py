@@ -14,6 +14,7 @@ FOR_TESTS = re.compile(r'tests$|^trial_runs$|^client$')
 #: An item of a file, from its attributes and comments to its end.
 TYPE = re.compile(r'^((?: *(?://|#\[).*\n)*)pub(?:\(crate\))? (?:struct|enum) (\w+)[^;{]*(?:;|\{(?:.*\n)*?\}\n)', re.MULTILINE)
 CONSTANT = re.compile(r'^((?:///.*\n)*)pub(?:\(crate\))? const (\w+): [^;]*;', re.MULTILINE)
+FUNCTION = re.compile(r'^( *)(?:pub(?:\(crate\))? )?(?:final )?fn (\w+)\b.*?(?:;\n|(?=^\1\{[\n}]))', re.MULTILINE | re.DOTALL)
 GHOST = re.compile(r'((?:^    //[^\n]*\n)*)^    ghost (\w+)(?:: | = )(\{.*?\});\n', re.MULTILINE | re.DOTALL)
 BLOCK = re.compile(r'^(?:pub(?:\(crate\))? )?(?:impl|trait)\b[^{]*\{\n(?:.*\n)*?\}\n', re.MULTILINE)
 
@@ -41,10 +42,29 @@ def files() -> Iterator[Code]:
 
 
 class Trait(NamedTuple):
-    """A trait: those that it needs, and its ghosts, each with its impls."""
+    """A trait: those that it needs, its ghosts, each with its impls, and the contracts of its functions."""
 
     above: List[str]
     ghosts: Dict[str, List[Meaning]]
+    functions: List[Meaning]
+
+
+class Function(NamedTuple):
+    """A function with a contract: the file, the type or the trait in whose block it is, or nothing, and what it says."""
+
+    path: Path
+    owners: Tuple[str, ...]
+    meaning: Meaning
+
+    @property
+    def is_public(self) -> bool:
+        """Whether other crates or a trait's callers can call it."""
+        return len(self.owners) != 1 or self.meaning.part.text.lstrip().startswith('pub ')
+
+    @property
+    def has_clauses(self) -> bool:
+        """Whether its contract says anything."""
+        return bool(re.search(r'^ *(?:requires|ensures)\b', self.meaning.part.text, re.MULTILINE))
 
 
 class Rust:
@@ -54,11 +74,14 @@ class Rust:
         self.types: Dict[str, Meaning] = {}
         self.constants: Dict[str, Meaning] = {}
         self.traits: Dict[str, Trait] = {}
+        self.functions: Dict[str, List[Function]] = {}
+        self.owned: Dict[str, List[Function]] = {}
         self._code = list(files())
         for code in self._code:
             self._types(code)
         for code in self._code:
             self._blocks(code)
+            self._functions(code)
 
     def _types(self, code: Code) -> None:
         for match in TYPE.finditer(code.text):
@@ -89,16 +112,23 @@ class Rust:
                 self._ghost(trait[1], re.findall(r'\w+', trait[2]))
 
     def _ghost(self, trait: str, above: List[str]) -> Dict[str, List[Meaning]]:
-        known = self.traits.setdefault(trait, Trait([], {}))
+        known = self.traits.setdefault(trait, Trait([], {}, []))
         known.above.extend(name for name in above if name not in known.above)
         return known.ghosts
 
-    def contract(self, path: str, name: str) -> Tuple[Meaning, str]:
-        """The contract of a function that other files call, and its head."""
-        file = ROOT / path
-        text = file.read_text(encoding='utf-8')
-        match = re.search(rf'^ *(?:pub(?:\(crate\))? )fn {name}\b.*?(?=^ *\{{[\n}}])', text, re.MULTILINE | re.DOTALL)
-        if not match:
-            raise ValueError(f'{path} has no function {name} that other files call')
-        head = re.split(r'^ *(?:requires|ensures)\b', match[0], maxsplit=1, flags=re.MULTILINE)[0]
-        return Code(file, text).part(f'{name}', match.start(), match[0]), head
+    def _functions(self, code: Code) -> None:
+        """The functions of a file, with the types and traits in whose blocks they are."""
+        spans = [(match.start(), match.end(), match[0].partition('{')[0]) for match in BLOCK.finditer(code.text)]
+        for match in FUNCTION.finditer(code.text):
+            head = next((head for start, end, head in spans if start <= match.start() < end), '')
+            trait = re.match(r'(?:pub(?:\(crate\))? )?trait (\w+)', head)
+            names = re.sub(r'^impl(<.*?>)? ', '', head) if head.startswith('impl') else ''
+            owners = tuple(re.findall(r'(?:^|for )(\w+)', names)) if names else (trait[1],) if trait else ()
+            name = f'{owners[-1]}::{match[2]}' if owners else match[2]
+            meaning = code.part(name, match.start(), match[0])
+            function = Function(code.path, owners, meaning)
+            self.functions.setdefault(match[2], []).append(function)
+            for owner in owners:
+                self.owned.setdefault(owner, []).append(function)
+            if trait:
+                self.traits[trait[1]].functions.append(meaning)

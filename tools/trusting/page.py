@@ -7,7 +7,7 @@ import textwrap
 from pathlib import Path
 from typing import Dict, Iterator, List, Tuple
 
-from trusting.closure import PROMISES, Closure, in_reading_order
+from trusting.closure import Closure, in_reading_order
 from trusting.definitions import ROOT, Part
 
 PAGE = ROOT / 'docs' / 'TRUST.md'
@@ -35,7 +35,7 @@ class Listed:
 
     def __init__(self) -> None:
         closure = Closure()
-        self.contracts = [closure.read(path, name) for path, name in PROMISES]
+        self.contracts = closure.read_all()
         self.files = in_reading_order(closure)
         self.kit = sorted(closure.kit)
         self.lines = total(self.files)
@@ -43,10 +43,15 @@ class Listed:
     def text(self) -> Iterator[str]:
         """What stands on the page."""
         definitions = sum(len(parts) for _, parts in self.files)
-        yield f'**{self.lines:,} lines** in {len(self.files)} files, {definitions} definitions, types and contracts. They begin at these contracts:'
+        yield f'**{self.lines:,} lines** in {len(self.files)} files, {definitions} definitions, types and contracts. They begin at the contract of'
+        yield f'{linked(self.contracts[0])}, which is what both names of the program call, and at those of the {len(self.contracts) - 1} functions'
+        yield 'that [PROMISES.md](PROMISES.md) or README names beside a promise:'
         yield ''
-        for part in self.contracts:
-            yield f'- `{part.name}`, [{place(part.path)}](../{place(part.path)}), line {part.line}'
+        by_file: Dict[Path, List[Part]] = {}
+        for part in self.contracts[1:]:
+            by_file.setdefault(part.path, []).append(part)
+        for path, parts in by_file.items():
+            yield f'- {place(path)}: {", ".join(f"`{part.name}`" for part in parts)}'
         yield ''
         yield '| lines | file | what to read there, with its line |'
         yield '|---|---|---|'
@@ -57,6 +62,11 @@ class Listed:
         yield f'They use {len(self.kit)} words of the kit, beside its numbers and lists:'
         yield ''
         yield from textwrap.wrap(', '.join(self.kit), 120, initial_indent='    ', subsequent_indent='    ')
+
+
+def linked(part: Part) -> str:
+    """A contract with the place where it stands."""
+    return f'`{part.name}`, [{place(part.path)}](../{place(part.path)}), line {part.line}'
 
 
 def shown(name: str) -> str:

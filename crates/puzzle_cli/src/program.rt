@@ -1,8 +1,9 @@
 //! The program: a game from the words of its command line to the file that it is saved to.
 
 ghost use Rattle.std.specs.Prelude.{◌≡◌, ◌≢◌, false, IfErr, OnOk};
+ghost use Rattle.std.specs.Result.{result_err};
 ghost use Rattle.puzzle_cli.specs.Faults.{fault_status};
-ghost use Rattle.puzzle_cli.specs.Programs.{IsDone};
+ghost use Rattle.puzzle_cli.specs.Programs.{IsGame, OfGame};
 ghost use Rattle.puzzle_cli.specs.Runs.{point_at};
 
 pub(crate) mod game_files;
@@ -25,28 +26,28 @@ use std::alloc::Global;
 /// as by [`run_with`](crate::run_with). The session that is left is saved, where there is one and the words name a file to save to.
 ///
 /// `LoadFile` and `SaveFile` where a file can't be read or written, `Start` where the first session is refused, `Input` and `Output`
-/// where a device failed, and `OutOfMemory`, each with a status other than 0. Nothing is saved after a fault.
+/// where a device failed, and `OutOfMemory`, each with a status other than 0. Of files no more is asked than to read the one, and, once
+/// the run has finished, to write the other.
 ///
 /// Where the words name both an ID and a file to load, the file is read and not used. Neither device has failed before.
 pub fn play<T: Format<Towers> + Format<Unequal>, F: GameFiles, R: Source, W: Sink>(
     alloc: Global,
     args: &Args,
-    files: &F,
+    files: &mut F,
     source: &mut R,
     sink: &mut W,
 ) -> Result<(), Fault>
     requires source { R.has_failed source.old ≡ false }
     requires sink { W.has_failed sink.old ≡ false }
-    ensures towers { args.now.game ≡ GameName.Towers → OnOk result
-        (IsDone ⟦<Towers as Facts>⟧.facts ⟦<T as Format<Towers>>⟧.reply (F.reads files.now)
-        (F.writes files.now) args.now
+    ensures game { OfGame args.now.game
+        (IsGame ⟦<Towers as Facts>⟧.facts ⟦<T as Format<Towers>>⟧.reply F.reads F.writes args.now
+        files.old files.new
         (λ session. point_at R.Source W.Sink session source.old sink.old)
-        (λ session. point_at R.Source W.Sink session source.new sink.new)) }
-    ensures unequal { args.now.game ≡ GameName.Unequal → OnOk result
-        (IsDone ⟦<Unequal as Facts>⟧.facts ⟦<T as Format<Unequal>>⟧.reply (F.reads files.now)
-        (F.writes files.now) args.now
+        (λ session. point_at R.Source W.Sink session source.new sink.new) (result_err result))
+        (IsGame ⟦<Unequal as Facts>⟧.facts ⟦<T as Format<Unequal>>⟧.reply F.reads F.writes args.now
+        files.old files.new
         (λ session. point_at R.Source W.Sink session source.old sink.old)
-        (λ session. point_at R.Source W.Sink session source.new sink.new)) }
+        (λ session. point_at R.Source W.Sink session source.new sink.new) (result_err result)) }
     ensures status { IfErr result (λ fault. fault_status fault ≢ 0) }
     ensures flushed { OnOk result (W.flushed sink.old ≡ W.taken sink.old
         → W.flushed sink.new ≡ W.taken sink.new) }
@@ -58,19 +59,19 @@ pub fn play<T: Format<Towers> + Format<Unequal>, F: GameFiles, R: Source, W: Sin
 }
 
 // Plays this game so, whichever the words name.
+#[tactic(auto, using(crate::proofs::UnplayedGames::unread_game))]
 fn play_as<T: Format<P>, P: Draw, F: GameFiles, R: Source, W: Sink>(
     alloc: Global,
     args: &Args,
-    files: &F,
+    files: &mut F,
     source: &mut R,
     sink: &mut W,
 ) -> Result<(), Fault>
     requires source { R.has_failed source.old ≡ false }
     requires sink { W.has_failed sink.old ≡ false }
-    ensures done { OnOk result
-        (IsDone ⟦<P as Facts>⟧.facts T.reply (F.reads files.now) (F.writes files.now) args.now
+    ensures game { IsGame ⟦<P as Facts>⟧.facts T.reply F.reads F.writes args.now files.old files.new
         (λ session. point_at R.Source W.Sink session source.old sink.old)
-        (λ session. point_at R.Source W.Sink session source.new sink.new)) }
+        (λ session. point_at R.Source W.Sink session source.new sink.new) (result_err result) }
     ensures status { IfErr result (λ fault. fault_status fault ≢ 0) }
     ensures flushed { OnOk result (W.flushed sink.old ≡ W.taken sink.old
         → W.flushed sink.new ≡ W.taken sink.new) }

@@ -1,7 +1,8 @@
 //! How a program ends: what it says of a fault, and its status.
 
-ghost use Rattle.std.specs.Prelude.{◌≡◌, ◌⊎◌, IfErr, OnOk};
-ghost use Rattle.puzzle_cli.specs.Faults.{fault_status};
+ghost use Rattle.std.specs.Prelude.{Some};
+ghost use Rattle.std.specs.Result.{result_err};
+ghost use Rattle.puzzles.specs.Endings.{IsStatus};
 
 use puzzle_cli::{CommandFault, Fault};
 
@@ -10,8 +11,7 @@ use puzzle_cli::{CommandFault, Fault};
 /// 0 where its work is done. Else the line of the fault, or the text of refused words, goes to standard error, and the status is the
 /// fault's. The text of help goes to standard output, with status 0, or 1 where that can't be written.
 pub(crate) fn status_of(rt: &(impl Print + Eprint), ended: Result<(), Fault>) -> u8
-    ensures ok { OnOk ended (result ≡ 0) }
-    ensures fault { IfErr ended (λ fault. (result ≡ fault_status fault) ⊎ (result ≡ 1)) }
+    ensures { IsStatus (result_err ended) result }
 {
     match ended {
         Ok(()) => 0,
@@ -21,7 +21,7 @@ pub(crate) fn status_of(rt: &(impl Print + Eprint), ended: Result<(), Fault>) ->
 
 // Says what there is to say of a fault, and gives its status. Where standard error fails too, nothing is left to say.
 fn report(rt: &(impl Print + Eprint), fault: Fault) -> u8
-    ensures { (result ≡ fault_status fault) ⊎ (result ≡ 1) }
+    ensures { IsStatus (Some fault) result }
 {
     let fault = match fault {
         Fault::Words(CommandFault::HelpAsked(text)) => match print!(rt; "{text}") {

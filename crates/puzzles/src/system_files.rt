@@ -15,15 +15,15 @@ pub(crate) struct SystemFiles<'a, R> {
 }
 
 impl<R: Files<File = File> + RandomSource + AllocGlobal> GameFiles for SystemFiles<'_, R> {
-    ghost reads = { λ _ _ _. Unit {0} };
+    ghost reads = { λ _ _ _ _ _. Unit {0} };
 
-    ghost writes = { λ _ _ _ _. Unit {0} };
+    ghost writes = { λ _ _ _ _ _. Unit {0} };
 
-    fn read(&self, path: &str) -> io::Result<Vec<u8>> {
-        read_file(self.rt, path)
+    fn read(&mut self, path: &str, most: usize) -> io::Result<Vec<u8>> {
+        read_file(self.rt, path, most)
     }
 
-    fn write(&self, path: &str, bytes: &[u8]) -> Result<(), Unwritten> {
+    fn write(&mut self, path: &str, bytes: &[u8]) -> Result<(), Unwritten> {
         match save_file(self.rt, path, bytes) {
             Ok(()) => Ok(()),
             Err(Unsaved::LeftBeside(path)) => Err(Unwritten::LeftAt(path)),

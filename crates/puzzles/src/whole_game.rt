@@ -41,8 +41,8 @@ fn play_in<
     ensures { IfErr result IsHelpOrFails }
 {
     let args = args(rt.alloc(), texts, words).map_err(Fault::Words)?;
-    let files = SystemFiles { rt };
+    let mut files = SystemFiles { rt };
     let mut source = FromRead::new(rt.reader());
     let mut sink = ToWrite::new(io::writer(rt));
-    play::<T, _, _, _>(rt.alloc(), &args, &files, &mut source, &mut sink)
+    play::<T, _, _, _>(rt.alloc(), &args, &mut files, &mut source, &mut sink)
 }

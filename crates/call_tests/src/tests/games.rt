@@ -43,12 +43,12 @@ struct TwoFiles {
 }
 
 impl GameFiles for TwoFiles {
-    ghost reads = { λ _ _ _. Unit {0} };
+    ghost reads = { λ _ _ _ _ _. Unit {0} };
 
-    ghost writes = { λ _ _ _ _. Unit {0} };
+    ghost writes = { λ _ _ _ _ _. Unit {0} };
 
-    fn read(&self, path: &str) -> io::Result<Vec<u8>> {
-        if path != "old.sav" {
+    fn read(&mut self, path: &str, most: usize) -> io::Result<Vec<u8>> {
+        if path != "old.sav" || most < LOADED.len() {
             return Err(io::Error::from(ErrorKind::NotFound));
         }
         match Vec::from_slice(self.alloc, LOADED.as_bytes()) {
@@ -57,7 +57,7 @@ impl GameFiles for TwoFiles {
         }
     }
 
-    fn write(&self, path: &str, bytes: &[u8]) -> Result<(), Unwritten> {
+    fn write(&mut self, path: &str, bytes: &[u8]) -> Result<(), Unwritten> {
         if path == "new.sav" && bytes == SAVED.as_bytes() {
             Ok(())
         } else {
@@ -108,14 +108,14 @@ impl Played {
         requires source { ⟦<MemorySource as Source>⟧.has_failed source ≡ false }
         requires sink { ⟦<MemorySink as Sink>⟧.has_failed sink ≡ false }
     {
-        let files = TwoFiles { alloc };
+        let mut files = TwoFiles { alloc };
         let Ok(args) = read_words(alloc, self.0) else {
             return false;
         };
         let ended = if self.1 {
-            play::<Dots, _, _, _>(alloc, &args, &files, &mut source, &mut sink)
+            play::<Dots, _, _, _>(alloc, &args, &mut files, &mut source, &mut sink)
         } else {
-            play::<Plain, _, _, _>(alloc, &args, &files, &mut source, &mut sink)
+            play::<Plain, _, _, _>(alloc, &args, &mut files, &mut source, &mut sink)
         };
         sink.taken() == self.3 && self.has_ended(ended)
     }

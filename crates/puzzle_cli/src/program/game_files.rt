@@ -1,11 +1,18 @@
 //! The files that the words of a command line name.
 
-ghost use Rattle.std.specs.Prelude.{◌≡◌, ℕ, Bool, List, Option, Some, None, is_ok, option_map, vec_items, IfOk, IfErr, OnOk, OnErr};
+ghost use Rattle.std.specs.Prelude.{◌≡◌, ◌≤◌, ℕ, List, Option, Result, Ok, Err, option_map, vec_items, vec_len, IfOk, IfErr, OnOk};
+ghost use Rattle.std.specs.Result.{result_err};
+ghost use Rattle.std.specs.declared.io.Error.{Error};
 ghost use Rattle.puzzle_cli.specs.Faults.{fault_status};
-ghost use Rattle.puzzle_cli.specs.Programs.{IsLoaded, IsUnread, IsSaved, IsUnsaved};
+ghost use Rattle.puzzle_cli.specs.GameFiles.{IsLoaded, IsSaved, IsToldAs, IsToldOf, IsUnread, IsUnsaved};
+ghost use Rattle.puzzle_cli.specs.declared.program.game_files.Unwritten.{Unwritten};
 
 use crate::fault::Fault;
+use play_save::MOST_BYTES;
 use std::io;
+
+/// The most bytes that are asked for of a file to load: one more than a save may have, so that a longer file shows as too large.
+const MOST_READ: usize = MOST_BYTES + 1;
 
 /// Why a file wasn't written.
 #[derive(Debug, Drop)]
@@ -18,52 +25,52 @@ pub enum Unwritten {
 
 /// Where a game is loaded from and saved to.
 pub trait GameFiles {
-    // What may come of reading the file at a path: its bytes, or none for an error.
-    ghost reads: { Self → List ℕ → Option (List ℕ) → Type 0 };
+    // What may come of a read of the file at a path, of no more bytes than that: its bytes or an error, and the files after it.
+    ghost reads: { Self → List ℕ → ℕ → Result (List ℕ) Error → Self → Type 0 };
 
-    // What may come of writing bytes to the file at a path: done, or an error.
-    ghost writes: { Self → List ℕ → List ℕ → Bool → Type 0 };
+    // What may come of a write of bytes to the file at a path: nothing to tell or why they weren't written, and the files after it.
+    ghost writes: { Self → List ℕ → List ℕ → Option Unwritten → Self → Type 0 };
 
-    /// What stands in the file at the path. More than a save may have can be left out.
-    fn read(&self, path: &str) -> io::Result<Vec<u8>>
-        ensures ok { IfOk result (λ bytes. reads self.now path.now (Some bytes.items)) }
-        ensures err { OnErr result (reads self.now path.now None) };
+    /// What stands in the file at the path, no more than its first `most` bytes.
+    fn read(&mut self, path: &str, most: usize) -> io::Result<Vec<u8>>
+        ensures bound { IfOk result (λ bytes. vec_len bytes ≤ most) }
+        ensures ok { IfOk result (λ bytes. reads self.old path.now most (Ok bytes.items) self.new) }
+        ensures err { IfErr result (λ error. reads self.old path.now most (Err error) self.new) };
 
     /// Makes the bytes the content of the file at the path.
-    fn write(&self, path: &str, bytes: &[u8]) -> Result<(), Unwritten>
-        ensures { writes self.now path.now bytes.now (is_ok result) };
+    fn write(&mut self, path: &str, bytes: &[u8]) -> Result<(), Unwritten>
+        ensures { writes self.old path.now bytes.now (result_err result) self.new };
 }
 
 /// What stands in the file to load, where there is one. `LoadFile` or `OutOfMemory` where it can't be read.
 pub(crate) fn load_file<F: GameFiles>(
-    files: &F,
+    files: &mut F,
     path: &Option<String>,
 ) -> Result<Option<Vec<u8>>, Fault>
     ensures loaded { IfOk result (λ bytes.
-        IsLoaded (F.reads files.now) path.now (option_map vec_items bytes)) }
-    ensures why { IfErr result (IsUnread (F.reads files.now) path.now) }
+        IsLoaded F.reads files.old path.now (option_map vec_items bytes) files.new) }
+    ensures why { IfErr result (λ fault. IsUnread F.reads files.old path.now fault files.new) }
     ensures status { IfErr result (λ fault. fault_status fault ≡ 1) }
 {
     let Some(path) = path else {
         return Ok(None);
     };
-    match files.read(path.as_str()) {
+    match files.read(path.as_str(), MOST_READ) {
         Ok(bytes) => Ok(Some(bytes)),
-        Err(error) if is_memory(&error) => Err(Fault::OutOfMemory),
-        Err(_) => Err(Fault::LoadFile),
+        Err(error) => Err(told_as(Fault::LoadFile, &error)),
     }
 }
 
 /// Writes the text, if there is one, to the file to save to. `SaveFile` or `OutOfMemory` where it can't be written.
 pub(crate) fn save_file<F: GameFiles>(
-    files: &F,
+    files: &mut F,
     path: &Option<String>,
     text: &Option<Vec<u8>>,
 ) -> Result<(), Fault>
-    ensures saved { OnOk result
-        (IsSaved (F.writes files.now) path.now (option_map vec_items text.now)) }
-    ensures why { IfErr result
-        (IsUnsaved (F.writes files.now) path.now (option_map vec_items text.now)) }
+    ensures saved { OnOk result (IsSaved F.writes files.old path.now (option_map vec_items text.now)
+        files.new) }
+    ensures why { IfErr result (λ fault. IsUnsaved F.writes files.old path.now
+        (option_map vec_items text.now) fault files.new) }
     ensures status { IfErr result (λ fault. fault_status fault ≡ 1) }
 {
     let (Some(path), Some(text)) = (path, text) else {
@@ -71,13 +78,30 @@ pub(crate) fn save_file<F: GameFiles>(
     };
     match files.write(path.as_str(), text) {
         Ok(()) => Ok(()),
-        Err(Unwritten::LeftAt(path)) => Err(Fault::SaveFile(Some(path))),
-        Err(Unwritten::Failed(error)) if is_memory(&error) => Err(Fault::OutOfMemory),
-        Err(Unwritten::Failed(_)) => Err(Fault::SaveFile(None)),
+        Err(why) => Err(told_of(why)),
     }
 }
 
-// Whether it is memory that was refused.
-fn is_memory(error: &io::Error) -> bool {
-    error.kind() == io::ErrorKind::OutOfMemory
+// The fault for bytes that weren't written.
+fn told_of(why: Unwritten) -> Fault
+    ensures told { IsToldOf why result }
+    ensures status { fault_status result ≡ 1 }
+{
+    match why {
+        Unwritten::LeftAt(path) => Fault::SaveFile(Some(path)),
+        Unwritten::Failed(error) => told_as(Fault::SaveFile(None), &error),
+    }
+}
+
+// The fault for an error: this one, where the error isn't a want of memory.
+fn told_as(other: Fault, error: &io::Error) -> Fault
+    requires { fault_status other ≡ 1 }
+    ensures told { IsToldAs other error.now result }
+    ensures status { fault_status result ≡ 1 }
+{
+    if error.kind() == io::ErrorKind::OutOfMemory {
+        Fault::OutOfMemory
+    } else {
+        other
+    }
 }

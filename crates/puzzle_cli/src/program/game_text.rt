@@ -1,9 +1,9 @@
 //! A game from its first session to the text to be saved.
 
-ghost use Rattle.std.specs.Prelude.{◌≡◌, ◌≢◌, false, option_map, vec_items, IfOk, IfErr, OnOk};
+ghost use Rattle.std.specs.Prelude.{◌≡◌, ◌≢◌, false, true, is_some, option_map, vec_items, IfOk, IfErr, OnErr, OnOk};
 ghost use Rattle.std.specs.Option.{option_copied};
 ghost use Rattle.puzzle_cli.specs.Faults.{fault_status};
-ghost use Rattle.puzzle_cli.specs.Programs.{IsFirst, IsFinished, IsPlayed, text_to_save};
+ghost use Rattle.puzzle_cli.specs.Programs.{IsBroken, IsFirst, IsFirstRefused, IsFinished, IsPlayed, IsUnplayed, text_to_save};
 ghost use Rattle.puzzle_cli.specs.RunLaws.{IsNoneOrStorable};
 ghost use Rattle.puzzle_cli.specs.Runs.{point_at};
 
@@ -22,6 +22,7 @@ use puzzle_io::{Sink, Source};
 use std::alloc::Global;
 
 /// Plays a game with replies in this format, from the session of the ID or of the file's bytes on, or from none, and gives the text to be saved.
+#[tactic(auto, using(crate::proofs::UnplayedGames::refused_game))]
 pub(crate) fn game_text<T: Format<P>, P: Draw, R: Source, W: Sink>(
     alloc: Global,
     args: &Args,
@@ -36,6 +37,10 @@ pub(crate) fn game_text<T: Format<P>, P: Draw, R: Source, W: Sink>(
         (λ session. point_at R.Source W.Sink session source.old sink.old)
         (λ session. point_at R.Source W.Sink session source.new sink.new)
         (option_map vec_items text)) }
+    ensures unplayed { IfErr result (IsUnplayed ⟦<P as Facts>⟧.facts T.reply args.now.id
+        (option_map vec_items bytes.now) args.now.save
+        (λ session. point_at R.Source W.Sink session source.old sink.old)
+        (λ session. point_at R.Source W.Sink session source.new sink.new)) }
     ensures status { IfErr result (λ fault. fault_status fault ≢ 0) }
     ensures flushed { OnOk result (W.flushed sink.old ≡ W.taken sink.old
         → W.flushed sink.new ≡ W.taken sink.new) }
@@ -55,6 +60,8 @@ fn first_session<P: Draw>(
     ensures first { IfOk result
         (IsFirst ⟦<P as Facts>⟧.facts id.now (option_map vec_items bytes.now)) }
     ensures storable { IfOk result (IsNoneOrStorable ⟦<P as Facts>⟧.facts) }
+    ensures refused { IfErr result
+        (IsFirstRefused ⟦<P as Facts>⟧.facts id.now (option_map vec_items bytes.now)) }
 {
     match id {
         Some(id) => begin::<P>(alloc, Some(id.as_bytes()), None),
@@ -84,6 +91,9 @@ fn run_game<T: Format<P>, P: Draw, R: Source, W: Sink>(
     ensures finished { IfOk result (λ last. IsFinished ⟦<P as Facts>⟧.facts T.reply
         (point_at R.Source W.Sink first source.old sink.old)
         (point_at R.Source W.Sink last source.new sink.new)) }
+    ensures broken { IfErr result (λ fault. (last : _) × IsBroken T.reply
+        (point_at R.Source W.Sink first source.old sink.old)
+        (point_at R.Source W.Sink last source.new sink.new) fault) }
     ensures status { IfErr result (λ fault. fault_status fault ≢ 0) }
     ensures flushed { OnOk result (W.flushed sink.old ≡ W.taken sink.old
         → W.flushed sink.new ≡ W.taken sink.new) }
@@ -104,7 +114,9 @@ fn text_of<P: Draw>(
 ) -> Result<Option<Vec<u8>>, Fault>
     ensures text { IfOk result (λ text. option_map vec_items text
         ≡ text_to_save ⟦<P as Facts>⟧.facts path.now last.now) }
-    ensures status { IfErr result (λ fault. fault_status fault ≢ 0) }
+    ensures wanted { OnErr result
+        (is_some (text_to_save ⟦<P as Facts>⟧.facts path.now last.now) ≡ true) }
+    ensures memory { IfErr result (λ fault. fault ≡ Fault.OutOfMemory) }
 {
     match (last, path) {
         (Some(session), Some(_)) => match save(alloc, session) {

@@ -9,4 +9,4 @@ cut_again (Some xs) n items kept e f = f ∙ ap (λ l. take n l) e ∙ take-take
 
 pub returns-clause-front : goal.returns-clause-front
 returns-clause-front g c =
-    cut_again (g.R.Read.remaining c.args.reader) 16777217 c.in_ok-bytes.bytes.items c.cut.result.items c.in_ok-bytes.ensures c.cut.ensures.front
+    cut_again (g.R.Read.remaining c.args.reader) c.args.most c.in_ok-bytes.bytes.items c.cut.result.items c.in_ok-bytes.ensures c.cut.ensures.front
