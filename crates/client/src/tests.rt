@@ -1,29 +1,43 @@
 //! A session of the third game through the public calls: a table of calls with what each has to answer, in one session that every
 //! row goes on with.
 
+mod calls;
+mod parts;
+mod runs;
+
 use crate::latin::Latin;
-use crate::sheet::Sheet;
-use crate::tape::Tape;
-use clue_rules::{Game, GameId, Params, read_id};
-use latin_board::{Grid, Size};
-use play_midend::{Extras, PlayFault, Session, read_move, write_move};
-use play_save::{load, save};
-use puzzle_cli::{begin, done_text, marks_text, picture, run, status_text};
-use puzzle_gen::{generate, square};
+use crate::tests::calls::{
+    answered, begun, begun_by_words, changed, compared, copied, described, facts, first_record,
+    generated, id_read, kept, listed, made, moved, nothing_said, params_written, reloaded, saved,
+    solved,
+};
+use crate::tests::runs::{ran, ran_in_memory, ran_over_std};
+use clue_rules::Game;
+use play_midend::Session;
+use puzzle_cli::{done_text, marks_text, picture, status_text};
 use std::alloc::Global;
-use trail_solver::{Answer, Rules, solutions, solve};
 
 /// What is called.
 #[derive(Clone, Copy)]
 enum Call {
     /// `begin` with an ID, which takes the place of the session.
     Begin(&'static str),
+    /// `read_words`, and `begin` with the ID that they name, which takes the place of the session.
+    Words(&'static [&'static str]),
+    /// `Params::read` and `Params::write`.
+    Params(&'static str),
     /// `read_id`.
     ReadId(&'static str),
     /// `Session::new` with a seed that is kept.
     Keep(&'static str),
     /// `read_move`, `write_move` and `Session::play`.
     Move(&'static str),
+    /// `change_of` and `Board::swap`, with the board's picture between two exchanges.
+    Change(&'static str),
+    /// `Session::move_at`.
+    Made(usize),
+    /// `Session::position`, where this is it.
+    Position(usize),
     Undo,
     Redo,
     Restart,
@@ -37,152 +51,41 @@ enum Call {
     Done,
     /// `Game::write_desc`.
     Describe,
+    /// `Game::name` and `letters`, and the readers of what a session keeps.
+    Facts,
+    /// `Game::clue_at`.
+    Clue(i8, i8),
+    /// `Game::same`, with the puzzle of an ID.
+    Same(&'static str),
     Save,
     /// `save`, and `load` of that, which takes the place of the session.
     Reload,
+    /// `next_record`.
+    Record(&'static str),
     /// `solutions`, of which all are listed.
     List,
+    /// `solves`, with the grid of a move's text.
+    Solves(&'static str),
     /// `generate` of a width and a seed, whose `square` has to be the only solution.
     Generate(u8, u64),
     /// `run` without a session, from a tape to a sheet: what is written. The session that it leaves takes the place of this one.
     Run(&'static str),
+    /// The same between devices in memory, where the sink's call of a number fails.
+    Memory(&'static str, u64),
+    /// The same between readers and writers of `std`.
+    Stream(&'static str),
 }
 
 /// What a call says, or the name of its refusal.
-type Said<T> = Result<T, &'static str>;
+pub(crate) type Said<T> = Result<T, &'static str>;
 
 /// A call, and what it has to say.
 struct Step(Call, Said<&'static str>);
 
-const MEMORY: &str = "OutOfMemory";
-
-fn copied(alloc: Global, bytes: &[u8]) -> Said<Vec<u8>> {
-    match Vec::from_slice(alloc, bytes) {
-        Ok(copy) => Ok(copy),
-        Err(_) => Err(MEMORY),
-    }
-}
-
-fn nothing_said(alloc: Global, done: Result<(), PlayFault>) -> Said<Vec<u8>> {
-    match done {
-        Ok(()) => Ok(Vec::new(alloc)),
-        Err(fault) => Err(fault.name()),
-    }
-}
-
-fn begun(alloc: Global, id: &str) -> Said<Session<Latin>> {
-    match begin::<Latin>(alloc, Some(id.as_bytes()), None) {
-        Ok(Some(session)) => Ok(session),
-        Ok(None) => Err("none"),
-        Err(fault) => Err(fault.name()),
-    }
-}
-
-fn described(alloc: Global, puzzle: &Latin) -> Said<Vec<u8>> {
-    match puzzle.write_desc(alloc) {
-        Ok(text) => Ok(text),
-        Err(fault) => Err(fault.name()),
-    }
-}
-
-fn id_read(alloc: Global, id: &str) -> Said<Vec<u8>> {
-    match read_id::<Latin>(id.as_bytes()) {
-        Ok(GameId::Described(_, puzzle)) => described(alloc, &puzzle),
-        Ok(GameId::Seeded(_, _)) => copied(alloc, b"seeded"),
-        Err(fault) => Err(fault.name()),
-    }
-}
-
-// A session of the same puzzle that keeps a seed.
-fn kept(alloc: Global, session: &Session<Latin>, seed: &str) -> Said<Session<Latin>> {
-    let puzzle = *session.puzzle();
-    let params = Params {
-        size: puzzle.size(),
-        letter: Some(b'n'),
-    };
-    let extras = Extras {
-        seed: Some(copied(alloc, seed.as_bytes())?),
-        auxinfo: None,
-        ui: None,
-        time: None,
-    };
-    match Session::new(alloc, params, params, puzzle, extras) {
-        Ok(session) => Ok(session),
-        Err(fault) => Err(fault.name()),
-    }
-}
-
-// The text of the move as it is written again.
-fn moved(alloc: Global, session: &mut Session<Latin>, text: &str) -> Said<Vec<u8>> {
-    let made = match read_move(text.as_bytes()) {
-        Ok(made) => made,
-        Err(fault) => return Err(fault.name()),
-    };
-    match session.play(made) {
-        Ok(()) => {}
-        Err(fault) => return Err(fault.name()),
-    }
-    match write_move(alloc, &made) {
-        Ok(text) => Ok(text),
-        Err(fault) => Err(fault.name()),
-    }
-}
-
-fn saved(alloc: Global, session: &Session<Latin>) -> Said<Vec<u8>> {
-    match save(alloc, session) {
-        Ok(text) => Ok(text),
-        Err(fault) => Err(fault.name()),
-    }
-}
-
-fn reloaded(alloc: Global, session: &Session<Latin>) -> Said<Session<Latin>> {
-    let text = saved(alloc, session)?;
-    match load::<Latin>(alloc, &text) {
-        Ok(session) => Ok(session),
-        Err(fault) => Err(fault.name()),
-    }
-}
-
-fn listed(alloc: Global, puzzle: &Latin) -> Said<Vec<u8>> {
-    let Ok(grids) = solutions(alloc, puzzle, 100) else {
-        return Err(MEMORY);
-    };
-    let mut text = Vec::new(alloc);
-    for grid in &grids {
-        if !grid.is_latin() {
-            return Err("no square");
-        }
-        let part = described(alloc, &Latin::full(grid))?;
-        if text.extend_from_slice(&part).is_err() || text.push(b';').is_err() {
-            return Err(MEMORY);
-        }
-    }
-    Ok(text)
-}
-
-// Whether the puzzle of a seed has that seed's square as its only solution.
-fn is_lawful(puzzle: &Latin, wanted: &Grid) -> bool {
-    match solve(puzzle) {
-        Answer::One(grid) => grid == *wanted,
-        _ => false,
-    }
-}
-
-fn generated(alloc: Global, width: u8, seed: u64) -> Said<Vec<u8>> {
-    let Some(size) = Size::new(width) else {
-        return Err("no size");
-    };
-    let wanted = square(size, seed);
-    match generate::<Latin>(&Params { size, letter: None }, seed) {
-        Ok(puzzle) if is_lawful(&puzzle, &wanted) => copied(alloc, b"one"),
-        Ok(_) => Err("not one"),
-        Err(fault) => Err(fault.name()),
-    }
-}
-
 fn answer(alloc: Global, session: &mut Session<Latin>, call: Call) -> Said<Vec<u8>> {
     match call {
         Call::Begin(id) => *session = begun(alloc, id)?,
+        Call::Words(words) => *session = begun_by_words(alloc, words)?,
         Call::Keep(seed) => *session = kept(alloc, session, seed)?,
         Call::Reload => *session = reloaded(alloc, session)?,
         Call::Undo => return nothing_said(alloc, session.undo()),
@@ -191,23 +94,14 @@ fn answer(alloc: Global, session: &mut Session<Latin>, call: Call) -> Said<Vec<u
         Call::Solve => return nothing_said(alloc, session.solve()),
         Call::Move(text) => return moved(alloc, session, text),
         Call::Run(input) => return ran(alloc, session, input),
+        Call::Memory(input, fails_at) => return ran_in_memory(alloc, session, input, fails_at),
+        Call::Stream(input) => return ran_over_std(alloc, session, input),
         asked => return told(alloc, session, asked),
     }
     Ok(Vec::new(alloc))
 }
 
-// What is written by a run; the session that it leaves takes the place of this one.
-fn ran(alloc: Global, session: &mut Session<Latin>, input: &str) -> Said<Vec<u8>> {
-    let mut tape = Tape::of(input.as_bytes());
-    let mut sheet = Sheet::new(alloc);
-    let (left, _end) = run::<Latin, _, _>(alloc, None, &mut tape, &mut sheet);
-    if let Some(left) = left {
-        *session = left;
-    }
-    copied(alloc, sheet.taken())
-}
-
-// What is asked of a session, or of none.
+// What is asked of a session.
 fn told(alloc: Global, session: &Session<Latin>, call: Call) -> Said<Vec<u8>> {
     let text = match call {
         Call::Picture => picture(alloc, session),
@@ -217,13 +111,29 @@ fn told(alloc: Global, session: &Session<Latin>, call: Call) -> Said<Vec<u8>> {
         Call::Describe => return described(alloc, session.puzzle()),
         Call::Save => return saved(alloc, session),
         Call::List => return listed(alloc, session.puzzle()),
-        Call::ReadId(id) => return id_read(alloc, id),
-        Call::Generate(width, seed) => return generated(alloc, width, seed),
-        _ => return Err("no question"),
+        Call::Change(text) => return changed(alloc, session, text),
+        Call::Made(i) => return made(alloc, session, i),
+        Call::Position(i) => return answered(alloc, session.position() == i),
+        Call::Facts => return facts(alloc, session),
+        Call::Clue(x, y) => return answered(alloc, session.puzzle().clue_at(x, y)),
+        Call::Same(id) => return compared(alloc, session.puzzle(), id),
+        Call::Solves(text) => return solved(alloc, session.puzzle(), text),
+        asked => return told_of_none(alloc, asked),
     };
     match text {
         Ok(text) => Ok(text),
         Err(fault) => Err(fault.name()),
+    }
+}
+
+// What is asked of no session.
+fn told_of_none(alloc: Global, call: Call) -> Said<Vec<u8>> {
+    match call {
+        Call::Params(text) => params_written(alloc, text),
+        Call::ReadId(id) => id_read(alloc, id),
+        Call::Record(text) => first_record(alloc, text),
+        Call::Generate(width, seed) => generated(alloc, width, seed),
+        _ => Err("no question"),
     }
 }
 
@@ -246,6 +156,17 @@ const STEPS: &[Step] = &[
     Step(Call::ReadId("3:12320000"), Err("TooFew")),
     Step(Call::ReadId("3:1232000000"), Err("TooMany")),
     Step(Call::ReadId("3:123200004"), Err("BadSquares")),
+    // Words of a command line, and parameters.
+    Step(Call::Words(&["puzzles", "chess"]), Err("BadWords")),
+    Step(Call::Words(&["puzzles", "--help"]), Err("HelpAsked")),
+    Step(Call::Words(&["puzzles", "towers"]), Err("no ID")),
+    Step(
+        Call::Words(&["puzzles", "towers", "--id", "3:123000000", "--save", "f"]),
+        Ok(""),
+    ),
+    Step(Call::Describe, Ok("123000000")),
+    Step(Call::Params("4dn"), Ok("4dn")),
+    Step(Call::Params("3a"), Err("BadParams")),
     // Moves.
     Step(Call::Begin("7!1"), Err("SizeTooLarge")),
     Step(Call::Begin("3:123200000"), Ok("")),
@@ -253,6 +174,13 @@ const STEPS: &[Step] = &[
     Step(Call::Move("R0,0,2"), Err("GivenSquare")),
     Step(Call::Move("R01,0,2"), Err("BadMove")),
     Step(Call::Move("D0,-1"), Err("OffGrid")),
+    Step(Call::Clue(0, -1), Ok("no")),
+    Step(Call::Same("3:123200000"), Ok("yes")),
+    Step(Call::Same("3:123000000"), Ok("no")),
+    Step(Call::Change("R1,1,3"), Ok("123230000\n")),
+    Step(Call::Change("S123231312"), Ok("123231312\n")),
+    Step(Call::Change("R0,0,2"), Err("GivenSquare")),
+    Step(Call::Picture, Ok("123200000\n")),
     Step(Call::Move("R1,1,3"), Ok("R1,1,3")),
     Step(Call::Move("P0,2,3"), Ok("P0,2,3")),
     Step(Call::Picture, Ok("123230000\n")),
@@ -271,7 +199,11 @@ const STEPS: &[Step] = &[
     Step(Call::Picture, Ok("123231312\n")),
     Step(Call::Status, Ok("helped 3/3")),
     Step(Call::Restart, Ok("")),
+    Step(Call::Made(1), Ok("R1,1,3")),
+    Step(Call::Made(2), Ok("S123231312")),
+    Step(Call::Made(3), Ok("restart")),
     Step(Call::Undo, Ok("")),
+    Step(Call::Position(3), Ok("yes")),
     Step(Call::Status, Ok("helped 3/4")),
     // Saves, and the bytes that are kept.
     Step(Call::Reload, Ok("")),
@@ -280,7 +212,17 @@ const STEPS: &[Step] = &[
     Step(Call::Move("R1,1,3"), Ok("R1,1,3")),
     Step(Call::Reload, Ok("")),
     Step(Call::Save, Ok(SAVED)),
+    Step(Call::Facts, Ok("Latin|en|3dn|3dn|12|")),
+    Step(
+        Call::Record("\r\nSEED    :2:12\nrest"),
+        Ok("SEED|12|\nrest|"),
+    ),
+    Step(Call::Record("\n"), Ok("none")),
+    Step(Call::Record("SEED    :9:12"), Err("Malformed")),
     // The solver and the generator.
+    Step(Call::Solves("S123231312"), Ok("yes")),
+    Step(Call::Solves("S123312231"), Ok("no")),
+    Step(Call::Solves("M"), Err("no grid")),
     Step(Call::List, Ok("123231312;")),
     Step(Call::Begin("3:123000000"), Ok("")),
     Step(Call::Solve, Err("SeveralSolutions")),
@@ -291,12 +233,21 @@ const STEPS: &[Step] = &[
     Step(Call::Generate(4, 7), Ok("one")),
     Step(Call::Generate(6, 7), Ok("one")),
     // A run over devices of the client's own.
-    Step(
-        Call::Run("show\nnew 3:123200000\nmove R1,1,3\nshow"),
-        Ok(RUN),
-    ),
+    Step(Call::Run(INPUT), Ok(RUN)),
     Step(Call::Status, Ok("playing 2/2")),
+    Step(Call::Memory(INPUT, 0), Ok(RUN)),
+    Step(Call::Memory("quit\nshow", 1), Ok("")),
+    // The second flush fails, behind the move: its session comes back.
+    Step(
+        Call::Memory("new 3:123200000\nmove P1,1,3\nmarks", 4),
+        Err("WriteFault"),
+    ),
+    Step(Call::Marks, Ok("1,1:3\n")),
+    Step(Call::Stream(INPUT), Ok(RUN)),
+    Step(Call::Picture, Ok("123230000\n")),
 ];
+
+const INPUT: &str = "show\nnew 3:123200000\nmove R1,1,3\nshow";
 
 const RUN: &str = "refused: NoGame\nok\nok\n123230000\n";
 
