@@ -2,7 +2,6 @@
 //! row goes on with.
 
 mod calls;
-mod parts;
 mod runs;
 
 use crate::latin::Latin;
