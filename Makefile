@@ -75,11 +75,11 @@ play: export ID := $(ID)
 play:
 	@case "$$GAME" in ''|towers|unequal) ;; *) echo 'make: GAME is towers or unequal' >&2; exit 2 ;; esac
 	@programs=$$($(WHERE)) || exit; \
-	if [ -t 0 ] && [ -t 1 ]; then PUZZLES_JSON="$${PUZZLES_JSON:-$$programs/puzzles-json}" exec tools/play "$${GAME:-$${ID:+towers}}" "$$ID"; \
+	if [ -t 0 ] && [ -t 1 ]; then PUZZLES_JSON="$${PUZZLES_JSON:-$$programs/puzzles-json}" exec board/puzzles-play "$${GAME:-$${ID:+towers}}" "$$ID"; \
 	else exec tools/play_in_pipe "$$programs/puzzles" "$$GAME" "$$ID"; fi
 
 test:
-	@programs=$$($(WHERE)) && tools/test "$$programs/puzzles" "$$programs/puzzles-json"
+	@programs=$$($(WHERE)) && tests/run "$$programs/puzzles" "$$programs/puzzles-json"
 
 gate:
 	@RT='$(RT)' tools/gate
@@ -92,38 +92,38 @@ test-bodies:
 
 test-faults:
 	@cd crates/trial_runs && '$(RT)' run -- calls < /dev/null > /dev/null
-	@programs=$$($(WHERE)) && tools/test_faults "$$programs/puzzles" crates/trial_runs/out/trial_runs
+	@programs=$$($(WHERE)) && tests/faults/run "$$programs/puzzles" crates/trial_runs/out/trial_runs
 
 test-saving:
-	@programs=$$($(WHERE)) && tools/test_saving "$$programs/puzzles"
+	@programs=$$($(WHERE)) && tests/saving/run "$$programs/puzzles"
 
 test-json:
-	@programs=$$($(WHERE)) && tools/test_json "$$programs/puzzles-json" "$$programs/puzzles"
+	@programs=$$($(WHERE)) && tests/objects/run "$$programs/puzzles-json" "$$programs/puzzles"
 
 test-tools:
-	@programs=$$($(WHERE)) && for part in play install texts scripts; do tools/test_$$part "$$programs/puzzles" "$$programs/puzzles-json" || exit; done
+	@programs=$$($(WHERE)) && for part in board installing texts scripts; do tests/$$part/run "$$programs/puzzles" "$$programs/puzzles-json" || exit; done
 
 test-reference:
-	tools/test_reference
+	tests/second_implementation/run
 
 trust:
 	@tools/trust
 
 exchange:
-	@programs=$$($(WHERE)) && tools/exchange "$$programs/puzzles"
+	@programs=$$($(WHERE)) && tests/exchange/run "$$programs/puzzles"
 
 bench: export IDS := $(IDS)
 bench:
-	@RT='$(RT)' tools/bench $${IDS:+"$$IDS"}
+	@RT='$(RT)' bench/run $${IDS:+"$$IDS"}
 
 hard: export SEED := $(SEED)
 hard: export COUNT := $(COUNT)
 hard:
-	@RT='$(RT)' tools/bench --hard "$$SEED" "$$COUNT"
+	@RT='$(RT)' bench/run --hard "$$SEED" "$$COUNT"
 
 climb: export MINUTES := $(MINUTES)
 climb:
-	@RT='$(RT)' tools/bench --climb "$$MINUTES"
+	@RT='$(RT)' bench/run --climb "$$MINUTES"
 
 check: crate
 	@cd 'crates/$(CRATE)' && '$(RT)' check

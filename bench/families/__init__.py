@@ -7,10 +7,10 @@ clues     the makers for Towers
 listed    all families by name, and the lines of their puzzles
 changes   a puzzle with a few items changed
 
-Puzzles are those of `tools/reference`, which writes their descriptions.
+Puzzles are those of `tests/second_implementation`, which writes their descriptions.
 """
 
 import sys
 from pathlib import Path
 
-sys.path.append(str(Path(__file__).resolve().parent.parent.parent / 'tools'))
+sys.path.append(str(Path(__file__).resolve().parent.parent.parent))

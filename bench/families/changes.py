@@ -6,9 +6,9 @@ from dataclasses import replace
 from random import Random
 from typing import List
 
-from reference.puzzles import Numbers, Puzzle
-from reference.towers import TowersPuzzle
-from reference.unequal import Sign, UnequalPuzzle, all_neighbours
+from tests.second_implementation.puzzles import Numbers, Puzzle
+from tests.second_implementation.towers import TowersPuzzle
+from tests.second_implementation.unequal import Sign, UnequalPuzzle, all_neighbours
 
 #: How many items are changed at once: mostly one.
 CHANGES = [1, 1, 1, 2, 2, 3, 5]

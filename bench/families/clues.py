@@ -6,7 +6,7 @@ from random import Random
 from typing import List, Sequence
 
 from families.squares import a_few, cyclic_square, random_square, some_of
-from reference.towers import TowersPuzzle, edge_line, seen
+from tests.second_implementation.towers import TowersPuzzle, edge_line, seen
 
 
 def clues_of(size: int, square: Sequence[int]) -> List[int]:

@@ -6,7 +6,7 @@ from random import Random
 from typing import Callable, Dict, Iterator, Sequence, Tuple
 
 from families import clues, signs
-from reference.puzzles import Puzzle
+from tests.second_implementation.puzzles import Puzzle
 
 Maker = Callable[[Random, int], Puzzle]
 

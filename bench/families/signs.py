@@ -6,8 +6,8 @@ from random import Random
 from typing import Iterable, List, Sequence, Set
 
 from families.squares import a_few, cyclic_square, random_square, some_of
-from reference.puzzles import Numbers
-from reference.unequal import STEPS, Sign, UnequalPuzzle, all_neighbours, neighbour
+from tests.second_implementation.puzzles import Numbers
+from tests.second_implementation.unequal import STEPS, Sign, UnequalPuzzle, all_neighbours, neighbour
 
 
 def signs_of(size: int, heights: Sequence[float]) -> List[Sign]:

@@ -6,7 +6,7 @@ from math import gcd
 from random import Random
 from typing import Dict, List, Sequence, Set
 
-from reference.puzzles import Numbers
+from tests.second_implementation.puzzles import Numbers
 
 
 def random_square(random: Random, size: int) -> Numbers:

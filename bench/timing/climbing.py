@@ -8,7 +8,7 @@ from typing import Callable, List, NamedTuple, Optional, Tuple
 
 from families.changes import changed
 from families.listed import MAKERS, line
-from reference.puzzles import Puzzle
+from tests.second_implementation.puzzles import Puzzle
 from timing.answering import Answering
 
 #: How many random puzzles a climb chooses its first from.

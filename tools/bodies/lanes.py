@@ -10,7 +10,7 @@ from bodies.kept import Kept
 from bodies.kit import Kit
 from bodies.tree import Tree
 from bodies.trial import Trial
-from harness import Room
+from tests.harness import Room
 
 
 class NotBuilt(Exception):

@@ -10,7 +10,7 @@ from bodies.edits import Texts
 from bodies.kit import Kit, Said
 from building.copies import copy_folder, write_list
 from building.crates import PARTS, all_of, listed, own
-from harness import Room
+from tests.harness import Room
 
 
 class Tree:

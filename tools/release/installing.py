@@ -11,7 +11,7 @@ from release import places
 from release.places import NOTE, OURS, TOP, Folders, Item
 
 #: The line of the command puzzles-play that says where the board's package lies from there.
-PACKAGE_LINE = "PACKAGE = '.'\n"
+PACKAGE_LINE = "PACKAGE = '..'\n"
 
 #: The list of what was installed, by which it goes again: first the files, then the folders that were made. Below a DESTDIR there is none.
 LIST = f'{OURS}/INSTALLED'
@@ -24,7 +24,7 @@ def put(items: Sequence[Item], folders: Folders, note: str) -> None:
         place = folders.of(item)
         made += make_folders(folders, os.path.dirname(place))
         content = note.encode() if item.source == NOTE else (TOP / item.source).read_bytes()
-        if item.source == 'tools/play':
+        if item.source == 'board/puzzles-play':
             content = with_package(content, folders)
         put_file(folders.now(place), content, item.mode)
     if not folders.root:
@@ -50,7 +50,7 @@ def with_package(content: bytes, folders: Folders) -> bytes:
     """The command puzzles-play, which finds its package from where it lies: both may be moved together."""
     way = os.path.relpath(folders.place('datadir', OURS), folders.place('gamesdir'))
     if content.count(PACKAGE_LINE.encode()) != 1:
-        raise ValueError(f'tools/play lacks the line {PACKAGE_LINE!r}')
+        raise ValueError(f'board/puzzles-play lacks the line {PACKAGE_LINE!r}')
     return content.replace(PACKAGE_LINE.encode(), f'PACKAGE = {way!r}\n'.encode())
 
 

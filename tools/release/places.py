@@ -59,15 +59,15 @@ def items(folder: str) -> List[Item]:
 
 def programs(folder: str) -> Iterator[Item]:
     yield from (Item(f'{folder}/{name}', 'gamesdir', name, 0o755) for name in NAMES)
-    yield Item('tools/play', 'gamesdir', 'puzzles-play', 0o755)
+    yield Item('board/puzzles-play', 'gamesdir', 'puzzles-play', 0o755)
 
 
 def board() -> Iterator[Item]:
     """The board's package, its puzzles, and what is told of the version."""
     yield Item(NOTE, 'datadir', f'{OURS}/VERSION')
     for pattern in ('*.py', 'bank/*.txt'):
-        for source in below('tools/board', pattern):
-            yield Item(f'tools/board/{source}', 'datadir', f'{OURS}/board/{source}')
+        for source in below('board', pattern):
+            yield Item(f'board/{source}', 'datadir', f'{OURS}/board/{source}')
 
 
 def documents() -> Iterator[Item]:
@@ -88,11 +88,11 @@ def manual() -> Iterator[Item]:
 def completions() -> Iterator[Item]:
     """Each shell looks for a file by the name of the command; one file of zsh is for several."""
     for name in COMMANDS:
-        yield Item('tools/completion.bash', 'bashcompdir', name)
-    if (TOP / 'tools' / 'completion.zsh').is_file():
-        yield Item('tools/completion.zsh', 'zshcompdir', '_puzzles')
-    if (TOP / 'tools' / 'completion.fish').is_file():
-        yield from (Item('tools/completion.fish', 'fishcompdir', f'{name}.fish') for name in COMMANDS)
+        yield Item('board/completion.bash', 'bashcompdir', name)
+    if (TOP / 'board' / 'completion.zsh').is_file():
+        yield Item('board/completion.zsh', 'zshcompdir', '_puzzles')
+    if (TOP / 'board' / 'completion.fish').is_file():
+        yield from (Item('board/completion.fish', 'fishcompdir', f'{name}.fish') for name in COMMANDS)
 
 
 def below(folder: str, pattern: str) -> List[str]:

@@ -1,7 +1,7 @@
-"""What tools/test, tools/gate and .ci/run have in common: parts of a test that say how many cases passed, failed and were skipped.
+"""What tests/run, tools/gate and .ci/run have in common: parts of a test that say how many cases passed, failed and were skipped.
 
 counts        the line in which a part counts its cases, and what a part is worth that says none or ends badly
-parts         the parts of tools/test, and their slices
+parts         the parts of tests/run, and their slices
 side_by_side  runs commands side by side, as many as there are processors
 in_turn       runs commands one after the other, and keeps what they say in a log
 kept          what was found earlier is kept, outside of the tree

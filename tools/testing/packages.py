@@ -1,4 +1,4 @@
-"""What the tests need of Debian: tools/packages.txt."""
+"""What the tests need of Debian: tests/packages.txt."""
 
 from __future__ import annotations
 
@@ -9,9 +9,9 @@ import sys
 from pathlib import Path
 from typing import List, NamedTuple, Sequence
 
-from harness.builds import TOP
+from tests.harness.builds import TOP
 
-LIST = TOP / 'tools' / 'packages.txt'
+LIST = TOP / 'tests' / 'packages.txt'
 
 #: Asks nothing, and gives up soon where no server answers.
 APT = ['apt-get', '--quiet', '--assume-yes', '--no-install-recommends', '-o', 'Acquire::Retries=0', '-o', 'Acquire::http::Timeout=15']

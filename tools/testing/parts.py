@@ -1,10 +1,10 @@
-"""The parts of tools/test: all that tries the programs from outside."""
+"""The parts of tests/run: all that tries the programs from outside."""
 
 from __future__ import annotations
 
 from typing import List, NamedTuple, Sequence
 
-from harness.slices import OPTION
+from tests.harness.slices import OPTION
 from testing.side_by_side import Command
 
 
@@ -32,13 +32,13 @@ class Part(NamedTuple):
 
 #: A new part is one more row. Those with the longest slices come first, so that none of them is alone at the end.
 PARTS = [
-    Part('installing, and what is installed', 'tools/test_install', ['PUZZLES', 'OBJECTS'], 3),
-    Part('the scripts, from elsewhere and by another user', 'tools/test_scripts', ['PUZZLES', 'OBJECTS'], 5),
-    Part('the board, in a terminal', 'tools/test_play', ['PUZZLES', 'OBJECTS'], 5),
-    Part('the objects that puzzles-json writes', 'tools/test_json', ['OBJECTS', 'PUZZLES'], 4, is_of_build=True),
-    Part('what saves and seeds are answered, by a second implementation', 'tools/test_reference', [], 2),
-    Part('how the program saves, wherever the file lies and whoever shares it', 'tools/test_saving', ['PUZZLES'], 2, is_of_build=True),
-    Part('the texts for users, and what the documents name', 'tools/test_texts', ['PUZZLES', 'OBJECTS']),
-    Part('the program, from outside', 'tools/program_tests', ['PUZZLES'], is_of_build=True),
-    Part('a small stack', 'tools/test_stack', ['PUZZLES', 'OBJECTS']),
+    Part('installing, and what is installed', 'tests/installing/run', ['PUZZLES', 'OBJECTS'], 3),
+    Part('the scripts, from elsewhere and by another user', 'tests/scripts/run', ['PUZZLES', 'OBJECTS'], 5),
+    Part('the board, in a terminal', 'tests/board/run', ['PUZZLES', 'OBJECTS'], 5),
+    Part('the objects that puzzles-json writes', 'tests/objects/run', ['OBJECTS', 'PUZZLES'], 4, is_of_build=True),
+    Part('what saves and seeds are answered, by a second implementation', 'tests/second_implementation/run', [], 2),
+    Part('how the program saves, wherever the file lies and whoever shares it', 'tests/saving/run', ['PUZZLES'], 2, is_of_build=True),
+    Part('the texts for users, and what the documents name', 'tests/texts/run', ['PUZZLES', 'OBJECTS']),
+    Part('the program, from outside', 'tests/lines/run', ['PUZZLES'], is_of_build=True),
+    Part('a small stack', 'tests/lines/run_small_stack', ['PUZZLES', 'OBJECTS']),
 ]

@@ -1,0 +1,134 @@
+"""The words of the command line, and which front end it is."""
+
+from __future__ import annotations
+
+import io
+import os
+import sys
+from typing import List, NamedTuple, Optional
+
+from board.board import GAMES
+from board.program import Gone
+from board.state import State
+from board.table import is_there
+from board.version import ABOVE, about, told
+
+USAGE = """\
+usage: {me} [--lines] [GAME] [ID or FILE]
+       {me} --help | --version
+
+GAME is towers or unequal. Without an ID or a save file the last game goes on,
+and a new one begins where there is none. ? shows the keys. With --lines, or on a
+terminal without a screen, games are played by lines of text: 'help' lists them.
+For scripts and pipes use the program itself: puzzles GAME.
+"""
+
+#: Words that ask for help.
+HELP = {'--help', '-h'}
+
+
+class Words(NamedTuple):
+    """What the command line asks for."""
+
+    game: Optional[str]
+    what: str
+    is_lines: bool
+
+
+def main(words: List[str], here: str) -> int:
+    """Plays; `here` is the folder of the command. The status is 0 to 3, as the program's own, or 128 and the number of a signal."""
+    me = os.path.basename(sys.argv[0])
+    if isinstance(sys.stdout, io.TextIOWrapper):
+        # The name of a file may have what the terminal can't show.
+        sys.stdout.reconfigure(errors='backslashreplace')
+    if HELP.intersection(words):
+        print(USAGE.format(me=me), end='')
+        return 0
+    asked = read(words)
+    if words in (['--version'], ['-V']):
+        return version(here)
+    if asked is None:
+        print(USAGE.format(me=me) + tip(me, words), end='', file=sys.stderr)
+        return 2
+    if not (sys.stdin.isatty() and sys.stdout.isatty()):
+        print(f'{me}: the board is for a terminal; in a pipe use the program itself, puzzles {asked.game or "GAME"}', file=sys.stderr)
+        return 2
+    path = program(here)
+    if path is None:
+        print(f'{me}: the program is not built yet: run make', file=sys.stderr)
+        return 1
+    try:
+        return play(path, asked)
+    except Gone as gone:
+        print(f'{me}: the program has ended: {gone}', file=sys.stderr)
+        return 1
+
+
+def read(words: List[str]) -> Optional[Words]:
+    """What the words ask for; nothing where they can't be read. An empty word is none."""
+    plain = [word for word in words if word not in ('--lines', '')]
+    if any(word.startswith('-') for word in plain) or len(plain) > 2:
+        return None
+    if plain and plain[0] not in GAMES:
+        # A file says itself which game it is of.
+        return Words(None, plain[0], '--lines' in words) if len(plain) == 1 and is_there(plain[0]) else None
+    return Words(plain[0] if plain else None, plain[1] if len(plain) > 1 else '', '--lines' in words)
+
+
+def tip(me: str, words: List[str]) -> str:
+    """A line on words that can't be read, where it is plain what was meant: a game ID alone, which fits both games."""
+    what = words[-1] if len(words) == 1 else ''
+    return f"\nDid you mean {me} towers '{what}'?\n" if what[:1].isdigit() and set(what) & set(':#!') else ''
+
+
+def program(here: str) -> Optional[str]:
+    """The program: the one that PUZZLES_JSON names, that beside the command, or that of the repository where one is ready."""
+    place = os.environ.get('PUZZLES_JSON') or os.path.join(here, 'puzzles-json')
+    if 'PUZZLES_JSON' not in os.environ and not os.path.isfile(place):
+        place = os.path.join(ABOVE, told('ready').strip() or 'build', 'puzzles-json')
+    return os.path.abspath(place) if os.path.isfile(place) else None
+
+
+def version(here: str) -> int:
+    """Of the programs, too: they have one version."""
+    print(about(program(here)), end='')
+    return 0
+
+
+def play(path: str, asked: Words) -> int:
+    state = State(os.environ)
+    game = asked.game or state.last(GAMES) or 'towers'
+    if not asked.is_lines:
+        status = on_screen(path, state, game, asked)
+        if status is not None:
+            return status
+    from board.lines import LineMode
+
+    return LineMode(path, state).run(game, asked.what)
+
+
+def on_screen(path: str, state: State, game: str, asked: Words) -> Optional[int]:
+    """The board; nothing where it can't be shown, or the player goes on in lines of text."""
+    try:
+        from board.fullscreen import FullScreen
+        from board.screen import Screen, Unfit
+    except ImportError:
+        return None
+    try:
+        screen = Screen()
+    except Unfit:
+        return None
+    with screen:
+        front = FullScreen(screen, path, state)
+        refusal = front.begin(game, asked.what)
+        if not refusal:
+            front.run()
+    if refusal:
+        print(refusal, file=sys.stderr)
+        return 3
+    if not front.wants_lines:
+        return 0
+    asked_what = ''
+    from board.lines import LineMode
+
+    return LineMode(path, state).run(front.table.game, asked_what)

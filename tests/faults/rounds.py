@@ -1,0 +1,139 @@
+"""One run of the program under a fault, and what it left."""
+
+from __future__ import annotations
+
+import os
+import signal
+import stat
+from typing import Any, List, Mapping, NamedTuple, Optional, Sequence
+
+from tests.harness import FaultLibrary, Met, Report, Room, is_root, run
+from tests.harness.game import told_left
+from tests.harness.users import ANNA, GAMES
+
+#: The file that is saved to, and where it lies when that name is a link.
+SAVE, FAR = 'new.sav', 'far/real.sav'
+
+OLD_MODE = 0o640
+
+
+class Target(NamedTuple):
+    """What the save file is before each run: some bytes or nothing, and whether its name is a link to them."""
+
+    old: Optional[bytes] = None
+    is_link: bool = False
+
+
+class State(NamedTuple):
+    """A file: which one, whose, with what mode and bytes. Nothing of it where there is none."""
+
+    which: int = 0
+    owner: int = 0
+    group: int = 0
+    mode: int = 0
+    content: Optional[bytes] = None
+
+
+class Round(NamedTuple):
+    """How a run ended."""
+
+    status: int
+    output: bytes
+    error: str
+    met: Met
+    before: State
+    after: State
+    #: The new files that it left, by name and with what they are.
+    left_names: List[str]
+    left: List[State]
+    link_stands: bool
+
+    @property
+    def stands(self) -> bool:
+        """The save file is as it was before the run."""
+        return self.before == self.after
+
+    def wrong_end(self, status: int, line: str) -> List[str]:
+        """What is wrong where it had to end with this status and this line on standard error, and tell where it left the save."""
+        wrong = []
+        wanted = line and line + '\n' + told_left(self.left_names)
+        if self.status != status:
+            wrong.append(f'the status is {self.status}, not {status}')
+        if self.error != wanted:
+            wrong.append(f'standard error says {self.error!r}, not {wanted!r}')
+        if not self.link_stands:
+            wrong.append('the link has changed')
+        return wrong
+
+    def wrong_left(self) -> List[str]:
+        return [f'{len(self.left)} new files are left'] if self.left else []
+
+
+class Limit(NamedTuple):
+    """The most of some resources, and signals that are ignored, as `run` takes them."""
+
+    limits: Mapping[int, int]
+    ignored: Sequence[signal.Signals]
+
+
+class Rounds:
+    """Runs a program with the words, the input and the save file that are set by whoever wants the run."""
+
+    def __init__(self, report: Report, room: Room, program: str, library: FaultLibrary) -> None:
+        self.report = report
+        self.words: List[str] = []
+        self.input = b''
+        self.target = Target()
+        self._room = room
+        self._program = program
+        self._library = library
+        room.make_folder('far').close()
+
+    def run(self, call: str = 'none', at: int = 0, error: str = 'EIO', limit: Optional[Limit] = None, **how: Any) -> Round:
+        """One run. The words behind `limit` are those of `FaultLibrary.env`."""
+        self._furnish()
+        before = self._state(self._file())
+        env = self._library.env(call, at, error, **how)
+        limited = limit._asdict() if limit else {}
+        ended = run([self._program, *self.words], self._room, input=self.input, env=env, **limited)
+        left = self._left_names()
+        return Round(
+            ended.status,
+            ended.output,
+            ended.error.decode(errors='replace'),
+            self._library.met(),
+            before,
+            self._state(self._file()),
+            left,
+            [self._state(name) for name in left],
+            not self.target.is_link or self._room.link_text(SAVE) == FAR,
+        )
+
+    def put(self, name: str, content: bytes) -> None:
+        """Makes a file beside the save file, which no run takes away."""
+        self._room.put(name, content)
+
+    def _file(self) -> str:
+        return FAR if self.target.is_link else SAVE
+
+    def _furnish(self) -> None:
+        for name in (SAVE, FAR, *self._left_names()):
+            try:
+                self._room.remove(name)
+            except FileNotFoundError:
+                pass
+        if self.target.is_link:
+            self._room.link(SAVE, FAR)
+        if self.target.old is not None:
+            # Where it can be it is another user's, so that there is an owner to be kept.
+            self._room.put(self._file(), self.target.old, OLD_MODE, (ANNA.uid, GAMES) if is_root() else None)
+
+    def _left_names(self) -> List[str]:
+        far = [f'far/{name}' for name in os.listdir(f'{self._room.path}/far') if name.startswith('.puzzles.')]
+        return far + [name for name in self._room.names() if name.startswith('.puzzles.')]
+
+    def _state(self, name: str) -> State:
+        found = self._room.status(name)
+        if not found:
+            return State()
+        return State(found.st_ino, found.st_uid, found.st_gid, stat.S_IMODE(found.st_mode), self._room.read(name))

@@ -1,0 +1,76 @@
+"""The library tests/faults/faults.c: a chosen call of a program fails, or the program is killed there."""
+
+from __future__ import annotations
+
+import os
+import shutil
+import subprocess
+from pathlib import Path
+from typing import Dict, NamedTuple
+
+from tests.harness.report import Skip
+from tests.harness.room import Room, can_preload
+
+SOURCE = Path(__file__).resolve().parent.parent / 'faults' / 'faults.c'
+
+
+class Met(NamedTuple):
+    """What a run met: how many of the calls that were asked for, and how many calls that matter behind the first failure."""
+
+    calls: int
+    later: int
+
+
+class FaultLibrary:
+    """The library, built in a room. What the names and errors are, the source says."""
+
+    def __init__(self, room: Room) -> None:
+        """Raises `Skip` where it can't be built."""
+        if not shutil.which('cc'):
+            raise Skip('there is no C compiler (cc)')
+        if not can_preload(room.path):
+            raise Skip(f'nothing in {room.path} can be preloaded')
+        self._library = os.path.join(room.path, 'faults.so')
+        self._count = os.path.join(room.path, 'count')
+        built = subprocess.run(
+            ['cc', '-O1', '-shared', '-fPIC', '-o', self._library, str(SOURCE)],
+            stdin=subprocess.DEVNULL,
+            stderr=subprocess.PIPE,
+            check=False,
+        )
+        if built.returncode != 0:
+            first = built.stderr.decode(errors='replace').partition('\n')[0]
+            raise Skip(f"cc doesn't take tests/faults/faults.c: {first}")
+
+    def env(
+        self,
+        call: str,
+        at: int = 0,
+        error: str = 'EIO',
+        *,
+        on: bool = False,
+        piece: int = 0,
+        also: str = '',
+        swap: str = '',
+    ) -> Dict[str, str]:
+        """The environment of a run in which the call with this number fails, counted from 1, or none."""
+        # The file is there, so that any user may write what was counted, and empty, where the program is killed.
+        with open(self._count, 'wb') as file:
+            os.fchmod(file.fileno(), 0o666)
+        return {
+            'LD_PRELOAD': self._library,
+            'FAULT_COUNT': self._count,
+            'FAULT_CALL': call,
+            'FAULT_AT': str(at),
+            'FAULT_ERROR': error,
+            'FAULT_ON': '1' if on else '0',
+            'FAULT_PIECE': str(piece),
+            'FAULT_ALSO': also,
+            'FAULT_SWAP': swap,
+        }
+
+    def met(self) -> Met:
+        """What the last run met; nothing where it was killed."""
+        with open(self._count, encoding='ascii') as file:
+            numbers = file.read().split()
+        return Met(int(numbers[0]), int(numbers[1])) if numbers else Met(0, 0)

@@ -1,0 +1,84 @@
+"""One run of a program."""
+
+from __future__ import annotations
+
+import os
+import resource
+import signal
+import subprocess
+import tempfile
+from typing import Dict, Mapping, NamedTuple, Optional, Sequence, Union
+
+from tests.harness.room import Folder
+from tests.harness.users import User
+
+Word = Union[str, bytes]
+
+
+class Ended(NamedTuple):
+    """How a run ended, and what it wrote. A status below 0 is the signal that ended it."""
+
+    status: int
+    output: bytes
+    error: bytes
+
+
+def run(
+    words: Sequence[Word],
+    folder: Folder,
+    *,
+    input: bytes = b'',
+    umask: int = 0o022,
+    user: Optional[User] = None,
+    env: Optional[Mapping[str, str]] = None,
+    limits: Optional[Mapping[int, int]] = None,
+    ignored: Sequence[signal.Signals] = (),
+    stdin: Optional[int] = None,
+    stdout: int = subprocess.PIPE,
+    stderr: int = subprocess.PIPE,
+    kept: Sequence[int] = (),
+    closed: Sequence[int] = (),
+    seconds: float = 30,
+) -> Ended:
+    """Runs a program in a folder until it ends. The first word is where it lies.
+
+    The input comes from a file, or from the descriptor `stdin`. What goes to a descriptor `stdout` or `stderr` is not among what
+    it wrote. It has the open descriptors `kept` under their own numbers, and no descriptors `closed`. Each of `limits` is the
+    most of a resource of the module of that name.
+    """
+
+    def begin() -> None:
+        for number in ignored:
+            signal.signal(number, signal.SIG_IGN)
+        for what, most in (limits or {}).items():
+            resource.setrlimit(what, (most, most))
+        for fd in closed:
+            os.close(fd)
+        if user:
+            user.become()
+
+    # A process is started much sooner where nothing is to be done in it first.
+    is_plain = not (ignored or limits or closed or user)
+    environment: Dict[str, str] = {'LC_ALL': 'C', 'PATH': os.environ.get('PATH', ''), **(env or {})}
+    with tempfile.TemporaryFile() as file:
+        file.write(input)
+        file.seek(0)
+        old_umask = os.umask(umask)
+        process = subprocess.Popen(
+            words,
+            cwd=f'/proc/self/fd/{folder.fd}',
+            stdin=file if stdin is None else stdin,
+            stdout=stdout,
+            stderr=stderr,
+            env=environment,
+            pass_fds=tuple(kept),
+            preexec_fn=None if is_plain else begin,
+        )
+        os.umask(old_umask)
+    try:
+        output, error = process.communicate(timeout=seconds)
+    except BaseException:
+        process.kill()
+        process.communicate()
+        raise
+    return Ended(process.returncode, output or b'', error or b'')

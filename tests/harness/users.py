@@ -1,0 +1,45 @@
+"""Users whom a program can be run as, where the test is root's."""
+
+from __future__ import annotations
+
+import os
+from typing import NamedTuple, Tuple
+
+from tests.harness.report import Skip
+from tests.harness.room import Owner
+
+
+class User(NamedTuple):
+    """A user, a group that is his first, and the others."""
+
+    uid: int
+    gid: int
+    groups: Tuple[int, ...] = ()
+
+    @property
+    def owner(self) -> Owner:
+        """Whose a file is that he makes."""
+        return self.uid, self.gid
+
+    def become(self) -> None:
+        """Makes this process one of the user's, for good."""
+        os.setgroups(self.groups)
+        os.setgid(self.gid)
+        os.setuid(self.uid)
+
+
+#: Two users who share a group, one who doesn't, and a second group of Anna's. The numbers are most likely nobody's.
+GAMES, CHESS = 60100, 60101
+ANNA = User(60001, 60001, (GAMES, CHESS))
+BERT = User(60002, 60002, (GAMES,))
+CARL = User(60003, 60003)
+
+
+def is_root() -> bool:
+    return os.geteuid() == 0
+
+
+def need_root() -> None:
+    """Skips the case where this isn't root."""
+    if not is_root():
+        raise Skip('neither root, nor root of a namespace with other users')

@@ -1,0 +1,67 @@
+"""A copy of the repository in which the programs are built, and what is done there."""
+
+from __future__ import annotations
+
+import os
+from typing import Dict, List, Mapping, Optional, Sequence, Tuple
+
+from tests.scripts.place import Place
+from tests.harness import Report, Room
+from tests.harness.builds import copy
+from tests.harness.program import Ended
+
+
+class Site(Place):
+    """`make` has left the programs that are tested. Where the test is root's, another user does all that is done here."""
+
+    def __init__(self, report: Report, room: Room, program: str, objects: str) -> None:
+        super().__init__(report, room, copy(room, program, 'puzzles'), copy(room, objects, 'puzzles-json'))
+        self.above = os.path.dirname(self.path)
+        self.expect('make', ['make'], says='')
+
+    def expect(self, name: str, words: Sequence[str], status: int = 0, says: str = '', env: Optional[Mapping[str, str]] = None) -> Ended:
+        """Runs a command. Its status is this one, it says this somewhere, and, where it ends well, `make` complains of nothing."""
+        ended = self.run(words, env=env)
+        said = (ended.output + ended.error).decode(errors='replace')
+        wrong = [] if ended.status == status else [f'the status is {ended.status}']
+        wrong += [] if says in said else [f'it lacks {says!r}']
+        self.report.check(name, [*wrong, repr(said[-600:])] if wrong else [])
+        return ended
+
+    def same(self, name: str, found: object, wanted: object) -> None:
+        self.report.check(name, [] if found == wanted else [f'it is {found!r}, not {wanted!r}'])
+
+
+def snapshot(folder: str) -> List[str]:
+    """The path of each file and folder below a folder, from there, with its mode."""
+    found: List[str] = []
+    for way, names, files in os.walk(folder):
+        found += [os.path.join(way, name) for name in names + files]
+    return sorted(f'{os.path.relpath(path, folder)} {os.stat(path).st_mode & 0o777:o}' for path in found)
+
+
+def files(folder: str) -> List[str]:
+    """The path of each file below a folder, from there."""
+    found = (os.path.join(way, name) for way, _, names in os.walk(folder) for name in names)
+    return sorted(os.path.relpath(path, folder) for path in found)
+
+
+def words_of(variables: Mapping[str, str]) -> List[str]:
+    """Variables for the command line of `make`."""
+    return [f'{name}={value}' for name, value in variables.items()]
+
+
+#: What the programs have to answer, wherever they lie: the words, what is typed, and what is written.
+ANSWERS: Dict[str, Tuple[Sequence[str], bytes, bytes]] = {
+    'puzzles': (['towers'], b'new 3:3//////3/////\nmove R0,0,1\nstatus\n', b'ok\nok\nplaying 2/2\n'),
+    'puzzles-json': (['towers'], b'undo\n', b'{"refused":"NoGame","reply":["refused: NoGame"],"session":null}\n'),
+}
+
+
+def expect_plays(site: Site, name: str, folder: str) -> None:
+    """Both programs in a folder play, and puzzles-play says how it is used, in an environment with next to nothing."""
+    for program, (words, typed, written) in ANSWERS.items():
+        ended = site.run([os.path.join(folder, program), *words], cwd='..', input=typed)
+        site.same(f'{name}: {program}', ended, Ended(0, written, b''))
+    ended = site.run([os.path.join(folder, 'puzzles-play'), '--help'], cwd='..')
+    site.same(f'{name}: puzzles-play', (ended.status, ended.error), (0, b''))

@@ -1,0 +1,113 @@
+"""Objects from what a run wrote."""
+
+from __future__ import annotations
+
+import json
+import re
+from typing import Dict, List, NamedTuple, Sequence, Tuple
+
+from tests.objects.schema import LOST, members, wrong_object
+
+Object = Dict[str, object]
+
+#: A text within an object.
+TEXT = re.compile(r'"(?:[^"\\]|\\.)*"')
+
+#: A line that may be as long as this is read; one with more bytes is refused.
+MOST_BYTES = 1024
+
+#: The lines that the plain program doesn't know.
+OWN_LINES = (b'board', b'completable', b'hint')
+
+
+class Unread(Exception):
+    """What was written is no object. Its text says why."""
+
+
+def read_object(line: bytes) -> Object:
+    """The object of a line: compact, in UTF-8, with its keys in order and each once."""
+    try:
+        text = line.decode('utf-8')
+        found = json.loads(text, object_pairs_hook=in_order)
+    except ValueError as error:
+        raise Unread(f'{line[:80]!r} is no object: {error}') from None
+    if not isinstance(found, dict):
+        raise Unread(f'{line[:80]!r} is no object')
+    if re.search(r'\s', TEXT.sub('', text)):
+        raise Unread(f'{line[:80]!r} has blanks')
+    return found
+
+
+def in_order(pairs: List[Tuple[str, object]]) -> Object:
+    keys = [key for key, _ in pairs]
+    if keys != sorted(set(keys)):
+        raise ValueError(f'the keys are {keys}')
+    return dict(pairs)
+
+
+def read_objects(output: bytes) -> List[Object]:
+    """The objects of whole lines."""
+    if output and not output.endswith(b'\n'):
+        raise Unread(f'the last line, {output[-80:]!r}, has no end')
+    return [read_object(line) for line in output.split(b'\n')[:-1]]
+
+
+class Answered(NamedTuple):
+    """A line and the object that answers it."""
+
+    line: bytes
+    found: Object
+
+    @property
+    def is_lost(self) -> bool:
+        return 'lost' in self.found
+
+    @property
+    def reply(self) -> bytes:
+        """The bytes of the plain program's reply."""
+        texts = self.found['reply']
+        assert isinstance(texts, list)
+        return b''.join(text.encode('latin-1') + b'\n' for text in texts)
+
+    @property
+    def session(self) -> object:
+        return self.found['session']
+
+
+def lines_with_reply(script: bytes) -> List[bytes]:
+    """The lines of an input that are answered, each as it is read."""
+    lines: List[bytes] = []
+    for line in script.split(b'\n'):
+        if len(line) <= MOST_BYTES and line.endswith(b'\r'):
+            line = line[:-1]
+        if line == b'quit':
+            break
+        if line:
+            lines.append(line)
+    return lines
+
+
+def without_own(lines: Sequence[bytes]) -> List[bytes]:
+    """The lines without those that the plain program doesn't know."""
+    return [line for line in lines if line.rstrip(b'\r') not in OWN_LINES]
+
+
+def read_answers(script: bytes, output: bytes, may_lose: bool = False) -> Tuple[List[Answered], List[str]]:
+    """The objects of a run with their lines, and what is wrong with them."""
+    lines = lines_with_reply(script)
+    try:
+        objects = read_objects(output)
+    except Unread as unread:
+        return [], [str(unread)]
+    answers = [Answered(line, found) for line, found in zip(lines, objects)]
+    wrong = [f'{len(objects)} objects answer {len(lines)} lines'] if len(objects) != len(lines) else []
+    for answer in answers:
+        if answer.is_lost and may_lose:
+            wrong += list(members(LOST)('it', answer.found))
+        else:
+            wrong += [f'{shortened(answer.line)}: {what}' for what in wrong_object(answer.found, answer.line)]
+    return answers, wrong
+
+
+def shortened(line: bytes) -> str:
+    return repr(line if len(line) <= 60 else line[:57] + b'..')

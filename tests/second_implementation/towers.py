@@ -1,0 +1,110 @@
+"""Towers: the towers that are seen, and descriptions (docs/RULES.md, section 2; docs/FORMATS.md, section 3)."""
+
+from __future__ import annotations
+
+import re
+from dataclasses import dataclass
+from typing import List, Sequence, Tuple
+
+from tests.second_implementation.numbers import one_digit
+from tests.second_implementation.puzzles import Numbers, Puzzle, column, row
+from tests.second_implementation.refusal import Refused
+
+
+def seen(line: Sequence[int]) -> int:
+    """How many towers are seen along a line, from its front."""
+    return sum(1 for at, height in enumerate(line) if all(nearer < height for nearer in line[:at]))
+
+
+def edge_line(size: int, numbers: Sequence[int], place: int) -> List[int]:
+    """The line that the clue of an edge place sees. Places are numbered in description order."""
+    side, at = divmod(place, size)
+    line = column(size, numbers, at) if side < 2 else row(size, numbers, at)
+    return line[::-1] if side in (1, 3) else line
+
+
+def edge_place(size: int, x: int, y: int) -> int:
+    """The number of the edge place with these coordinates, or -1."""
+    sides = [(y == -1, x), (y == size, x), (x == -1, y), (x == size, y)]
+    for side, (is_there, at) in enumerate(sides):
+        if is_there and 0 <= at < size:
+            return side * size + at
+    return -1
+
+
+@dataclass(frozen=True)
+class TowersPuzzle(Puzzle):
+    #: The clue at each edge place, 0 for none.
+    clues: Tuple[int, ...]
+
+    def is_clued(self, x: int, y: int) -> bool:
+        place = edge_place(self.size, x, y)
+        return place >= 0 and self.clues[place] != 0
+
+    def keeps_clues(self, numbers: Numbers) -> bool:
+        return all(clue in (0, seen(edge_line(self.size, numbers, place))) for place, clue in enumerate(self.clues))
+
+    def description(self) -> str:
+        fields = '/'.join(str(clue) if clue else '' for clue in self.clues)
+        return f'{fields},{written_squares(self.givens)}' if any(self.givens) else fields
+
+
+def written_squares(givens: Numbers) -> str:
+    """The square part: runs of empty squares as letters, and `_` between two givens side by side."""
+    text, empty, is_behind_given = '', 0, False
+    for given in givens:
+        if given == 0:
+            empty += 1
+            continue
+        if empty == 0 and is_behind_given:
+            text += '_'
+        text += run_of_empty(empty) + str(given)
+        empty, is_behind_given = 0, True
+    return text + run_of_empty(empty)
+
+
+def run_of_empty(count: int) -> str:
+    """`z` while more than 26 are left, and then one letter for the rest."""
+    text = ''
+    while count > 26:
+        text += 'z'
+        count -= 26
+    return text + (chr(ord('a') + count - 1) if count else '')
+
+
+def read_towers(size: int, text: bytes) -> TowersPuzzle:
+    """The puzzle of a description at this size."""
+    clue_part, comma, square_part = text.partition(b',')
+    fields = clue_part.split(b'/')
+    if len(fields) != 4 * size:
+        raise Refused('TooFew' if len(fields) < 4 * size else 'TooMany')
+    clues = [read_clue(size, field) for field in fields]
+    givens = read_squares(size, square_part) if comma else [0] * (size * size)
+    return TowersPuzzle(size, tuple(givens), tuple(clues))
+
+
+def read_clue(size: int, field: bytes) -> int:
+    if field == b'':
+        return 0
+    clue = one_digit(field, 1, size) if field.isdigit() else None
+    if clue is None:
+        raise Refused('BadClue')
+    return clue
+
+
+def read_squares(size: int, text: bytes) -> List[int]:
+    """The givens of the square part: it is well formed as a whole before its squares are counted."""
+    givens: List[int] = []
+    for piece in re.findall(rb'[0-9]+|(?s:.)', text):
+        if re.fullmatch(rb'[a-z]', piece):
+            givens += [0] * (piece[0] - ord('a') + 1)
+        elif re.fullmatch(rb'[0-9]+', piece):
+            given = one_digit(piece, 1, size)
+            if given is None:
+                raise Refused('BadSquares')
+            givens.append(given)
+        elif piece != b'_':
+            raise Refused('BadSquares')
+    if len(givens) != size * size:
+        raise Refused('TooFew' if len(givens) < size * size else 'TooMany')
+    return givens

@@ -1,0 +1,47 @@
+"""Parts of a text."""
+
+from __future__ import annotations
+
+import re
+from typing import Collection, Iterator, List
+
+from tests.harness.builds import TOP
+
+#: The top of the repository.
+ROOT = TOP
+
+
+def read(path: str) -> str:
+    """A file of the repository."""
+    return (ROOT / path).read_text(encoding='utf-8')
+
+
+def part(text: str, begin: str, end: str) -> str:
+    """The lines after the first that begins with a text, up to the next that matches a pattern."""
+    lines = text.split('\n')
+    first = next((at for at, line in enumerate(lines, 1) if line.startswith(begin)), len(lines))
+    last = next((at for at in range(first, len(lines)) if re.search(end, lines[at])), len(lines))
+    return '\n'.join(lines[first:last])
+
+
+def found(pattern: str, text: str) -> List[str]:
+    """What a pattern has in its brackets, wherever it matches, each once and in order."""
+    return sorted(set(re.findall(pattern, text, re.MULTILINE)))
+
+
+def without_samples(text: str) -> str:
+    """A text without what it shows in lines of their own: between three backquotes, or further in. The lines stay."""
+    samples = re.compile(r'^ *```.*?^ *```|^    .*?$', re.MULTILINE | re.DOTALL)
+    return samples.sub(lambda sample: '\n' * sample[0].count('\n'), text)
+
+
+def differences(told: Collection[object], wanted: Collection[object]) -> Iterator[str]:
+    """How what a text names isn't what it should."""
+    yield from lacking(wanted, told)
+    yield from (f'{item} is there and not wanted' for item in told if item not in wanted)
+    if not wanted:
+        yield 'nothing is wanted'
+
+
+def lacking(wanted: Collection[object], told: Collection[object]) -> Iterator[str]:
+    return (f'{item} is lacking' for item in wanted if item not in told)

@@ -1,3 +1,0 @@
-"""The cases of tools/test_scripts: what `make` does in a copy elsewhere (`make_runs`) and what it asks the prover for (`build_runs`), when
-the programs in the tree are taken (`tree_runs`), what measures the solver (`bench_runs`), and what is said of wrong bodies (`bodies_runs`),
-by the gate (`gate_runs`) and by tools/test (`test_runs`)."""

@@ -1,1 +1,0 @@
-"""The cases of tools/program_tests, a file or folder for each part of a run: words, games, the file to load, the file to save to."""
