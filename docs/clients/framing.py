@@ -1,14 +1,14 @@
 """Says how many lines answer each line of standard input: python3 framing.py PROGRAM GAME ID < LINES"""
 import re
-import subprocess
 import sys
+from subprocess import PIPE, Popen
 
 STATUS = re.compile(r'(playing|solved|helped) [0-9]+/[0-9]+\n')
 program, game, id = sys.argv[1:]
-puzzles = subprocess.Popen([program, game, '--id', id], stdin=subprocess.PIPE, stdout=subprocess.PIPE, bufsize=0, encoding='latin-1')
+puzzles = Popen([program, game, '--id', id], stdin=PIPE, stdout=PIPE, bufsize=0, encoding='latin-1')
 
 def ask(line):
-    """The lines of the reply. The line is none of `status`, `save`, `quit` and has neither CR nor LF in it."""
+    """The lines of the reply. The line is none of `status`, `save`, `quit`, and has no CR or LF in it."""
     puzzles.stdin.write(line + '\nstatus\n')
     reply = []
     while not STATUS.fullmatch(text := puzzles.stdout.readline()):

@@ -1,10 +1,10 @@
 """Plays a game to its end by hints: python3 hints.py PROGRAM GAME ID"""
 import json
-import subprocess
 import sys
+from subprocess import PIPE, Popen
 
 program, game, id = sys.argv[1:]
-puzzles = subprocess.Popen([program, game, '--id', id], stdin=subprocess.PIPE, stdout=subprocess.PIPE, bufsize=0)
+puzzles = Popen([program, game, '--id', id], stdin=PIPE, stdout=PIPE, bufsize=0)
 
 def ask(line, key):
     puzzles.stdin.write(line.encode() + b'\n')

@@ -52,7 +52,7 @@ def cases(pair: Pair) -> None:
         else:
             pair.report.skip(f'{client.file} plays', f'there is no {client.needs}')
     for block in blocks['JSON.md']:
-        for worked in list(read_table(block)) if block.startswith('$ puzzles-json ') else []:
+        for worked in list(read_table(unfolded(block))) if block.startswith('$ puzzles-json ') else []:
             with pair.report.case(f"docs/JSON.md: {' '.join(worked.words)} > {worked.lines[0]}") as case:
                 expect_worked(case, pair.objects, worked._replace(words=worked.words[1:]))
     for block in blocks['SCRIPTING.md']:
@@ -63,6 +63,11 @@ def cases(pair: Pair) -> None:
 def blocks_of(name: str) -> List[str]:
     document = (TOP / 'docs' / name).read_text(encoding='utf-8')
     return re.findall(r'^```\w*\n(.*?)^```$', document, re.MULTILINE | re.DOTALL)
+
+
+def unfolded(block: str) -> str:
+    """A block with each object on one line: an indented line goes on with the one before."""
+    return re.sub(r'\n +', '', block)
 
 
 def plays(pair: Pair, client: Client) -> None:
@@ -80,8 +85,8 @@ def plays(pair: Pair, client: Client) -> None:
 
 
 def example(pair: Pair, block: str) -> None:
-    """A command of one line, and what it writes."""
-    command, _, wanted = block[2:].partition('\n')
+    """A command, and what it writes. A backslash at the end of a line puts the next one to it."""
+    command, _, wanted = re.sub(r'\\\n *', '', block[2:]).partition('\n')
     with pair.report.case(f'docs/SCRIPTING.md: {command}') as case:
         case.room.put('odd.sav', ODD_SAVE)
         here = command.replace('docs/clients', str(CLIENTS)).replace('python3', sys.executable)

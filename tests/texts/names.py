@@ -8,7 +8,7 @@ from typing import Dict, Iterator, Set
 from tests.harness import Report
 from tests.objects import schema
 from tests.texts import sources
-from tests.texts.parts import ROOT, differences, found, lacking, part, read, without_samples
+from tests.texts.parts import ROOT, differences, documents, found, items, lacking, part, read, without_samples
 from trusting.page import Listed, outdated
 
 #: Words in backquotes of the language and its library, and of what `rt plant` and `puzzles-play` print.
@@ -50,11 +50,11 @@ class Known:
 
 def check(report: Report) -> None:
     known = Known()
-    for document in ['README.md', 'CONTRIBUTING.md', *sorted(f'docs/{path.name}' for path in (ROOT / 'docs').glob('*.md'))]:
+    for document in documents():
         report.check(f'{document}: names', wrong_names(document, known))
-    for document in ('README.md', 'docs/ARCHITECTURE.md'):
-        first_cells = ' '.join(found(r'^\|(.*?)\|', part(read(document), '| crate |', '^$')))
-        report.check(f'{document}: crates', differences(found(r'`(\w+)`', first_cells), sorted(known.crates)))
+    for document, heading in (('docs/PROMISES.md', '## Crate by crate'), ('docs/ARCHITECTURE.md', '## The crates')):
+        named = found(r'^\*\*`(\w+)`', '\n'.join(items(part(read(document), heading, '^#'))))
+        report.check(f'{document}: crates', differences(named, sorted(known.crates)))
     report.check('PROMISES: wrong bodies', wrong_bodies())
     report.check('TRUST: the list, and README: its number; tools/trust --write makes them', outdated(known.to_read))
 
@@ -70,8 +70,10 @@ def wrong_names(document: str, known: Known) -> Iterator[str]:
 
 
 def wrong_bodies() -> Iterator[str]:
-    """Names in the table of wrong bodies that the crate, in whose rows they are, hasn't among its own."""
-    crate = ''
-    for row in re.findall(r'^\| (.*?) ?\| (.*?) \|', part(read('docs/PROMISES.md'), '| crate | name |', '^$'), re.MULTILINE):
-        crate = row[0].strip('`') or crate
-        yield from (f'{crate}: {name}' for name in lacking(row[1].split(', '), sources.wrong_bodies(crate)))
+    """Names in the lists of wrong bodies that the crate, whose list it is, hasn't among its own."""
+    lists = re.findall(r'^In `(\w+)`:\n\n((?:[- ] .*\n)+)', part(read('docs/PROMISES.md'), '## Wrong bodies', '^#'), re.MULTILINE)
+    for crate, text in lists:
+        names = [name for item in items(text) for name in item.partition(':')[0].split(', ')]
+        yield from (f'{crate}: {name}' for name in lacking(names, sources.wrong_bodies(crate)))
+    if not lists:
+        yield 'none is named'

@@ -24,6 +24,16 @@ def part(text: str, begin: str, end: str) -> str:
     return '\n'.join(lines[first:last])
 
 
+def items(text: str) -> List[str]:
+    """The items of a text's lists, each as one line."""
+    return [re.sub(r'\s+', ' ', item) for item in re.findall(r'^- (.*(?:\n +\S.*)*)', text, re.MULTILINE)]
+
+
+def documents() -> List[str]:
+    """The documents of the repository, but for the list of changes."""
+    return ['README.md', 'CONTRIBUTING.md', *sorted(f'docs/{path.name}' for path in (ROOT / 'docs').glob('*.md'))]
+
+
 def found(pattern: str, text: str) -> List[str]:
     """What a pattern has in its brackets, wherever it matches, each once and in order."""
     return sorted(set(re.findall(pattern, text, re.MULTILINE)))

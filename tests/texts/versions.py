@@ -8,7 +8,7 @@ from typing import Iterator, List
 
 from building.record import TREE
 from tests.harness import Report, run
-from tests.texts.parts import ROOT, read
+from tests.texts.parts import ROOT, documents, read
 
 #: The heading of a version in CHANGELOG.md, with its date, or of what is new since the last one.
 HEADING = re.compile(r'## (?:([0-9]+(?:\.[0-9]+)+), ([0-9]{4}-[0-9]{2}-[0-9]{2})|After (.+))')
@@ -63,7 +63,7 @@ def wrong_kits() -> Iterator[str]:
     """README names the kit by which the programs in the tree were proved, and no document another one."""
     record = TREE.read()
     kit = record.kit if record else ''
-    for document in ['README.md', 'CONTRIBUTING.md', *sorted(f'docs/{path.name}' for path in (ROOT / 'docs').glob('*.md'))]:
+    for document in documents():
         named = re.findall(r'rattle-kit-\S+ logic \w+', read(document))
         yield from (f'{document}: it is {name!r}, not {kit!r}' for name in named if name != kit)
         if document == 'README.md' and not named:

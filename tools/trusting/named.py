@@ -1,4 +1,4 @@
-"""The calls that the documents name: those beside each promise (`carried by`), in docs/PROMISES.md and in the table of README."""
+"""The calls that docs/PROMISES.md names: those by which each promise is said to be carried."""
 
 from __future__ import annotations
 
@@ -11,7 +11,11 @@ from trusting.definitions import ROOT
 #: What both names of the program call: the file and the function.
 WHOLE = ('crates/puzzles/src/whole_game.rt', 'play_words')
 
-#: A cell's names, with a type or a crate before `::`.
+#: The document, and its heading below which each item is a crate.
+PROMISES = ROOT / 'docs' / 'PROMISES.md'
+BY_CRATE = 'Crate by crate'
+
+#: Names, with a type or a crate before `::`.
 NAME = re.compile(r'`([\w:]+)`')
 
 
@@ -22,27 +26,21 @@ def whole(rust: Rust) -> Function:
 
 
 class Row(NamedTuple):
-    """A promise: the crates that its section names, and what carries it."""
+    """A promise: the crates that its section or itself names, and what carries it."""
 
     crates: Tuple[str, ...]
     carried: str
 
 
 def rows() -> Iterator[Row]:
-    """The rows of both documents."""
-    for path, at in (('README.md', -2), ('docs/PROMISES.md', 1)):
-        crates: Tuple[str, ...] = ()
-        column = None
-        for line in (ROOT / path).read_text(encoding='utf-8').splitlines():
-            cells = [cell.strip() for cell in line.strip('|').split('|')] if line.startswith('|') else []
-            if line.startswith('## '):
-                crates = tuple(name for name in NAME.findall(line) if (ROOT / 'crates' / name).is_dir())
-            if 'carried by' in cells:
-                column = cells.index('carried by')
-            elif not cells:
-                column = None
-            elif column is not None and not cells[0].startswith('---'):
-                yield Row(tuple(NAME.findall(cells[0])) if path == 'README.md' else crates, cells[column])
+    """The items of the document that are carried by something: those of `Crate by crate` name their crate, others stand below a heading that does."""
+    for section in re.split(r'^## ', PROMISES.read_text(encoding='utf-8'), flags=re.MULTILINE):
+        heading, _, text = section.partition('\n')
+        for item in re.findall(r'^- (.*(?:\n +\S.*)*)', text, re.MULTILINE):
+            said, carries, carried = re.sub(r'\s+', ' ', item).partition('arried by ')
+            crates = re.findall(r'^\*\*`(\w+)`\*\*', said) if heading == BY_CRATE else NAME.findall(heading)
+            if carries:
+                yield Row(tuple(name for name in crates if (ROOT / 'crates' / name).is_dir()), carried)
 
 
 def named(row: Row, rust: Rust) -> Iterator[Function]:

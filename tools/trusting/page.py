@@ -16,6 +16,9 @@ README = ROOT / 'README.md'
 #: What the script makes stands between these lines of the page.
 BEGIN, END = '<!-- from here on made by tools/trust -->', '<!-- made by tools/trust up to here -->'
 
+#: The width of the page.
+COLUMNS = 110
+
 #: Where README tells the number.
 COUNT = re.compile(r'\*\*[\d,]+ lines\*\*')
 
@@ -43,25 +46,34 @@ class Listed:
     def text(self) -> Iterator[str]:
         """What stands on the page."""
         definitions = sum(len(parts) for _, parts in self.files)
-        yield f'**{self.lines:,} lines** in {len(self.files)} files, {definitions} definitions, types and contracts. They begin at the contract of'
-        yield f'{linked(self.contracts[0])}, which is what both names of the program call, and at those of the {len(self.contracts) - 1} functions'
-        yield 'that [PROMISES.md](PROMISES.md) or README names beside a promise:'
+        yield from wrapped(
+            f'**{self.lines:,} lines** in {len(self.files)} files, {definitions} definitions, types and contracts. They begin at the contract of '
+            f'{linked(self.contracts[0])}, which is what both names of the program call, and at those of the {len(self.contracts) - 1} functions '
+            'that [PROMISES.md](PROMISES.md) names below a promise:'
+        )
         yield ''
         by_file: Dict[Path, List[Part]] = {}
         for part in self.contracts[1:]:
             by_file.setdefault(part.path, []).append(part)
         for path, parts in by_file.items():
-            yield f'- {place(path)}: {", ".join(f"`{part.name}`" for part in parts)}'
+            yield from wrapped(f'{place(path)}: {", ".join(f"`{part.name}`" for part in parts)}', '- ')
         yield ''
-        yield '| lines | file | what to read there, with its line |'
-        yield '|---|---|---|'
+        yield 'The list itself: each file, how many lines there are to read in it, and what, with the line where it stands.'
+        yield ''
         for path, parts in self.files:
             named = ', '.join(f'{shown(part.name)} {part.line}' for part in parts)
-            yield f'| {total([(path, parts)])} | [{place(path)}](../{place(path)}) | {named} |'
+            yield from wrapped(f'[{place(path)[len("crates/") :]}](../{place(path)}), {total([(path, parts)])}: {named}', '- ')
         yield ''
         yield f'They use {len(self.kit)} words of the kit, beside its numbers and lists:'
         yield ''
-        yield from textwrap.wrap(', '.join(self.kit), 120, initial_indent='    ', subsequent_indent='    ')
+        yield from textwrap.wrap(', '.join(self.kit), COLUMNS, initial_indent='    ', subsequent_indent='    ')
+
+
+def wrapped(text: str, first: str = '') -> List[str]:
+    """A text in lines of the page, in which no name is cut; as an item of a list below what begins it."""
+    shown = re.sub(r'`[^`]*`', lambda name: name[0].replace(' ', '\0'), text)
+    lines = textwrap.wrap(shown, COLUMNS, initial_indent=first, subsequent_indent=' ' * len(first), break_long_words=False, break_on_hyphens=False)
+    return [line.replace('\0', ' ') for line in lines]
 
 
 def linked(part: Part) -> str:
