@@ -2,8 +2,12 @@
 
 from __future__ import annotations
 
+from tests.harness.builds import TOP
 from tests.harness.game import ID
 from tests.lines.runs import Run, Tests
+
+#: The version and LF, as they are written once.
+VERSION = (TOP / 'VERSION').read_bytes()
 
 #: What stands below a refusal of words.
 MORE = b"\n\nFor more information, try '--help'.\n"
@@ -88,8 +92,8 @@ HELP = [
 ASKED = [
     Run('help', ['--help'], output_has=HELP),
     Run('short help', ['-h'], output_has=[b'Usage: puzzles [OPTIONS] <GAME>']),
-    Run('the version', ['--version'], output=b'puzzles 1.1\n'),
-    Run('the version, in short', ['-V'], output=b'puzzles 1.1\n'),
+    Run('the version', ['--version'], output=b'puzzles ' + VERSION),
+    Run('the version, in short', ['-V'], output=b'puzzles ' + VERSION),
 ]
 
 CLOSED = Run('help where the output is closed', ['--help'], status=1, error=b'cannot write the output\n')

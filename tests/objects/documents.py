@@ -1,4 +1,4 @@
-"""docs/JSON.md and docs/SCRIPTING.md: their clients stand there as they are in docs/clients, and play; their examples are what the
+"""docs/JSON.md, docs/SCRIPTING.md and README: the clients stand there as they are in docs/clients, and play; the examples are what the
 programs write."""
 
 from __future__ import annotations
@@ -27,6 +27,9 @@ class Client(NamedTuple):
 
 HINTS = [Client('hints.py', sys.executable, sys.executable), Client('hints.bash', 'bash', 'jq')]
 
+#: The one document that lies above the others.
+README = '../README.md'
+
 #: Where each file stands.
 QUOTED = {'hints.py': 'JSON.md', 'hints.bash': 'JSON.md', 'framing.py': 'SCRIPTING.md'}
 
@@ -42,7 +45,7 @@ ODD_SAVE = HEAD.replace(b'DESC', b'SEED    :15:x\nplaying 1/1\ny\nDESC') + b'NST
 
 
 def cases(pair: Pair) -> None:
-    blocks = {name: blocks_of(name) for name in set(QUOTED.values())}
+    blocks = {name: blocks_of(name) for name in (*set(QUOTED.values()), README)}
     for file, name in QUOTED.items():
         text = (CLIENTS / file).read_text(encoding='utf-8')
         pair.report.check(f'{file}: stands in docs/{name}', [] if text in blocks[name] else ['it does not'])
@@ -55,9 +58,10 @@ def cases(pair: Pair) -> None:
         for worked in list(read_table(unfolded(block))) if block.startswith('$ puzzles-json ') else []:
             with pair.report.case(f"docs/JSON.md: {' '.join(worked.words)} > {worked.lines[0]}") as case:
                 expect_worked(case, pair.objects, worked._replace(words=worked.words[1:]))
-    for block in blocks['SCRIPTING.md']:
-        if block.startswith('$ '):
-            example(pair, block)
+    for name in ('SCRIPTING.md', README):
+        for block in blocks[name]:
+            if block.startswith('$ '):
+                example(pair, name, block)
 
 
 def blocks_of(name: str) -> List[str]:
@@ -84,12 +88,12 @@ def plays(pair: Pair, client: Client) -> None:
         case.expect(b'refused: ForeignSeed' in ended.error, f'it says {ended.error!r}')
 
 
-def example(pair: Pair, block: str) -> None:
-    """A command, and what it writes. A backslash at the end of a line puts the next one to it."""
-    command, _, wanted = re.sub(r'\\\n *', '', block[2:]).partition('\n')
-    with pair.report.case(f'docs/SCRIPTING.md: {command}') as case:
+def example(pair: Pair, name: str, block: str) -> None:
+    """A command, and what it writes. A line that ends in a backslash or a bar goes on in the next one, and so does an object in an indented one."""
+    command, _, wanted = unfolded(re.sub(r'\\\n *|(?<=\|)\n *', ' ', block[2:])).partition('\n')
+    with pair.report.case(f'{name}: {command}') as case:
         case.room.put('odd.sav', ODD_SAVE)
-        here = command.replace('docs/clients', str(CLIENTS)).replace('python3', sys.executable)
+        here = command.replace('docs/clients', str(CLIENTS)).replace('python3', sys.executable).replace('programs/linux-amd64/', '')
         env: Dict[str, str] = {'PATH': f"{os.path.dirname(pair.plain)}:{os.environ.get('PATH', os.defpath)}"}
         ended = run(['bash', '-c', here], case.room, env=env)
         case.same('the output', ended.output.decode(errors='replace'), wanted)
