@@ -7,7 +7,7 @@ from typing import Callable, NamedTuple, Sequence
 
 from building.run import lanes
 from tests.scripts.place import Place
-from tests.scripts.small import ALL, CRATES, FIRST, LAST, OF_HIGH, OF_LOW, OF_MIDDLE, Small, put, remove, touch
+from tests.scripts.small import ALL, CRATES, FIRST, LAST, OF_HIGH, OF_LOW, OF_MIDDLE, Small, edit, put, remove, touch
 
 
 class Change(NamedTuple):
@@ -34,9 +34,10 @@ def behind_its_back(place: Place) -> None:
 
 CHANGES = [
     Change('all is new', lambda place: None, ALL),
-    Change('the lowest crate', touch('crates/low/src/lib.rt'), OF_LOW),
-    Change('a crate for one program', touch('crates/beside/src/lib.rt'), ['beside', LAST]),
-    Change('a crate that no program stands on', touch('crates/test/src/lib.rt'), []),
+    Change('the lowest crate', edit('crates/low/src/lib.rt'), OF_LOW),
+    Change('other dates alone', touch('crates/low/src/lib.rt', 'crates/high/src/lib.rt', 'build/puzzles', 'build/puzzles-json'), []),
+    Change('a crate for one program', edit('crates/beside/src/lib.rt'), ['beside', LAST]),
+    Change('a crate that no program stands on', edit('crates/test/src/lib.rt'), []),
     Change('a wrong body', put('crates/low/must-fail/one.edit', b'file:\n'), []),
     Change('a new file, in a folder', put('crates/middle/proofs/lemmas/More.antt', b'--\n'), OF_MIDDLE),
     Change('a file is gone', remove('crates/middle/proofs/lemmas/More.antt'), OF_MIDDLE),
@@ -73,7 +74,7 @@ def cases(place: Place) -> None:
 
 def fails(small: Small) -> None:
     """The crate that isn't proved is named, and what was proved before it isn't asked for again."""
-    touch('crates/low/src/lib.rt')(small.place)
+    edit('crates/low/src/lib.rt')(small.place)
     ended = small.run(RT_BAD='middle')
     small.expect('one is not proved', ended, ['low', 'middle'], 1, [b'not built: middle', b'build/prover.txt', b'an open goal'])
     small.expect('and then is', small.run(), OF_MIDDLE)
@@ -87,13 +88,13 @@ def side_by_side(small: Small) -> None:
         small.place.report.skip(name, 'there is one processor, or memory for one')
         return
     for crate in ('low', 'beside'):
-        touch(f'crates/{crate}/src/lib.rt')(small.place)
+        edit(f'crates/{crate}/src/lib.rt')(small.place)
     small.expect(name, small.run(RT_MEET='low beside'), ALL)
 
 
 def in_a_terminal(small: Small) -> None:
     """There is one line, and at the end another one."""
-    touch('crates/high/src/lib.rt')(small.place)
+    edit('crates/high/src/lib.rt')(small.place)
     with small.place.terminal('tools/build', **small.env({})) as terminal:
         status = terminal.status()
     count = len(OF_HIGH)
@@ -112,7 +113,7 @@ def ended_early(small: Small) -> None:
     kept = 'crates/high/out/incremental/kept'
     small.place.put(kept, b'', 0o644)
     for signal, status in (('TERM', 143), ('KILL', 137)):
-        touch('crates/high/src/lib.rt')(small.place)
+        edit('crates/high/src/lib.rt')(small.place)
         ended = small.run('sh', '-c', END, signal, RT_HANGS='high')
         small.place.report.check(f'a build that is ended by {signal}', [] if ended.status == status else [f'{ended}'])
         if signal == 'TERM':
@@ -136,5 +137,5 @@ sys.exit(build.returncode or is_early)
 
 
 def waits(small: Small) -> None:
-    touch('crates/low/src/lib.rt')(small.place)
+    edit('crates/low/src/lib.rt')(small.place)
     small.expect('another rt is at work', small.run('python3', '-c', WORK), OF_LOW)

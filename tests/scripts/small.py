@@ -55,8 +55,14 @@ OF_LOW = ['low', *OF_MIDDLE]
 ALL = ['beside', *OF_LOW]
 
 
-def touch(path: str) -> Callable[[Place], object]:
-    return lambda place: place.put(path, place.file(path), 0o644)
+def edit(path: str) -> Callable[[Place], object]:
+    """Adds a comment to a file."""
+    return lambda place: place.put(path, place.file(path) + b'//\n', 0o644)
+
+
+def touch(*paths: str) -> Callable[[Place], object]:
+    """Gives files other dates, as a copy of the tree does."""
+    return lambda place: [place.put(path, place.file(path), os.stat(os.path.join(place.path, path)).st_mode & 0o777) for path in paths]
 
 
 def remove(*paths: str) -> Callable[[Place], object]:

@@ -4,8 +4,8 @@ from __future__ import annotations
 
 import sys
 
-from building.changes import command, kit_of
-from building.record import BUILT, NAMES, TREE, put, sum_of, sum_of_sources
+from building.changes import command, kit_of, sum_of
+from building.record import BUILT, NAMES, TREE, put, sum_of_sources
 from building.start import make
 
 TYPE_CHECKING = False

@@ -16,7 +16,7 @@ from __future__ import annotations
 import os
 from hashlib import sha256
 
-from building.changes import PROGRAMS
+from building.changes import PROGRAMS, sum_of
 from building.listing import TOP, all_of, files_of, listed
 
 TYPE_CHECKING = False
@@ -115,11 +115,6 @@ def lines_of_sources() -> Iterator[str]:
     for name in names:
         paths = (path for path in files_of(name) if path.endswith(READ))
         yield from (f'{sum_of(f"{TOP}/{path}")}  {path}\n' for path in sorted(paths, key=os.fsencode))
-
-
-def sum_of(path: str) -> str:
-    with open(path, 'rb') as file:
-        return sha256(file.read()).hexdigest()
 
 
 def put(path: str, content: bytes, mode: int) -> bool:

@@ -17,7 +17,10 @@ def make() -> int:
         print(f'not built: there is no command {os.environ.get("RT") or "rt"}, which comes with the Rattle kit', file=sys.stderr)
         return 1
     kit = kit_of(rt)
-    if os.path.isfile(f'{TOP}/{BUILT.record}') and not Stamp.read(kit).changed(listed()):
+    stamp = Stamp.read(kit)
+    if os.path.isfile(f'{TOP}/{BUILT.record}') and not stamp.changed(listed()):
+        if stamp.is_new:
+            stamp.write()
         return 0
     # Mostly nothing has changed, and then this need not be read.
     import signal
