@@ -28,22 +28,20 @@ pub first_reached : {sets : List ℕ} {clue : ℕ} (levels : List (List ℕ)) �
     → ((level mask : ℕ) → (has_at levels level mask ≡ true) ↔ ((level ≡ 0) × (mask ≡ 0) × (0 < clue))) → AreReached sets clue 0 levels
 first_reached {sets} {clue} levels some first level mask = (
   λ e.
-      let is = (first level mask).0 e in
-      let zero = is.0 in
-      let shows = is.2 in (
+      let (zero, empty, shows) = (first level mask).0 e in (
         [],
         refl,
         record {
           start = record { room = omega arith; values = λ j l. absurd (omega arith); candidates = λ j l. absurd (omega arith); apart = λ i j o l. absurd (omega arith) };
-          used = record { bits = λ k. rw is.1 (has_number-none k ∙ sym (and-false _)) };
+          used = record { bits = λ k. rw empty (has_number-none k ∙ sym (and-false _)) };
           low = omega arith;
           shown = sym zero;
           last = sym (ne_eqb level clue (λ same. omega arith));
         },
       ),
-  λ l.
-      let P : List ℕ → Type 0 = λ line. IsAtLevel sets clue level mask line in
-      let at = subst P (nil_from_length l.0 l.1) l.2 in
+  λ (line, none, is).
+      let P : List ℕ → Type 0 = λ l. IsAtLevel sets clue level mask l in
+      let at = subst P (nil_from_length line none) is in
       let zero : level ≡ 0 = sym at.shown in
       let known = first_level at in
       (first level mask).1 (zero, known.0, omega (arith, known.1)),
@@ -84,18 +82,17 @@ next_reached {sets} {clue} {place} {levels} next inside reached is level mask = 
   λ e.
       let from = (is level mask).0 e in
       let by = from.reached in
-      let f = (reached by.level by.mask).0 by.here in
-      let long = f.1 in (
-        f.0 ++ (from.k + 1) ∷ [],
-        length_push f.0 (from.k + 1) ∙ ap (λ n. n + 1) long,
-        step_from f.0 f.2 (omega arith) (rw long from.candidate) (step_at (sym long) by.link),
+      let (line, long, at) = (reached by.level by.mask).0 by.here in (
+        line ++ (from.k + 1) ∷ [],
+        length_push line (from.k + 1) ∙ ap (λ n. n + 1) long,
+        step_from line at (omega arith) (rw long from.candidate) (step_at (sym long) by.link),
       ),
-  λ l.
-      let parts = pushed place l.0 l.2.start l.1 in
+  λ (line, whole, start).
+      let parts = pushed place line start.start whole in
       let p = parts.front in
       let long = parts.long in
-      let P : List ℕ → Type 0 = λ line. IsAtLevel sets clue level mask line in
-      let at = subst P parts.is l.2 in
+      let P : List ℕ → Type 0 = λ l. IsAtLevel sets clue level mask l in
+      let at = subst P parts.is start in
       let back = stepped p parts.k at in
       let value = start_next p (parts.k + 1) [] at.start in
       let high = value.high in
@@ -104,9 +101,9 @@ next_reached {sets} {clue} {place} {levels} next inside reached is level mask = 
         inside = omega arith;
         candidate = rw long at value.candidate;
         reached = record {
-          level = back.level_before;
+          level = seen p;
           mask = back.mask_before;
-          here = (reached back.level_before back.mask_before).1 (p, long, back.front);
+          here = (reached (seen p) back.mask_before).1 (p, long, back.front);
           link = step_at long back.step;
         };
       },
@@ -115,17 +112,18 @@ next_reached {sets} {clue} {place} {levels} next inside reached is level mask = 
 -- a start shows no more towers than it has values, and one at least where it has any
 pub reached_few : {sets : List ℕ} {clue place : ℕ} (levels : List (List ℕ)) → AreReached sets clue place levels → AreFew clue place levels
 reached_few {sets} {clue} {place} levels reached level mask e =
-    let f = (reached level mask).0 e in
-    let most : seen f.0 ≤ length f.0 = seen_most [] f.0 in
-    let least : 0 < place → 0 < level = λ some. let shown = seen_some f.0 (omega (arith, f.1)) in omega (arith, f.2.shown) in
+    let (line, long, at) = (reached level mask).0 e in
+    let shown = at.shown in
+    let most : seen line ≤ length line = seen_most [] line in
+    let least : 0 < place → 0 < level = λ some. let one = seen_some line (omega arith) in omega arith in
     record {
-      most = omega (arith, f.1, f.2.shown);
+      most = omega arith;
       least = least;
       some = λ has. elim (cases_lt 0 place) [
         | inl more ↦ least more
         | inr none ↦
-            let zero : length f.0 ≡ 0 = omega (arith, f.1) in
-            let first = first_level (subst (λ line. IsAtLevel sets clue level mask line) (nil_from_length f.0 zero) f.2) in
+            let zero : length line ≡ 0 = omega arith in
+            let first = first_level (subst (λ l. IsAtLevel sets clue level mask l) (nil_from_length line zero) at) in
             absurd (elim has [ inl value ↦ omega (arith, value, first.0) | inr last ↦ omega (arith, last, first.1) ])
       ];
     }
@@ -134,14 +132,11 @@ reached_few {sets} {clue} {place} levels reached level mask e =
 pub reached_filling : {sets : List ℕ} {clue : ℕ} (levels : List (List ℕ)) → 0 < length sets → AreReached sets clue (length sets) levels
     → ((mask : ℕ) × (has_at levels clue mask ≡ true)) ↔ ((line : List ℕ) × IsFilling sets clue line)
 reached_filling {sets} {clue} levels some reached = (
-  λ m.
-      let f = (reached clue m.0).0 m.1 in
-      (f.0, record { start = f.2.start; whole = f.1; shown = f.2.shown }),
-  λ f.
-      let P : List ℕ → Type 0 = λ line. IsFilling sets clue line in
-      let at = front_level f.0 [] some (subst P (sym (append-nil f.0)) f.1) in
-      let L : ℕ → Type 0 = λ level. IsAtLevel sets clue level at.0 f.0 in
-      (at.0, (reached clue at.0).1 (f.0, f.1.whole, subst L f.1.shown at.1)),
+  λ (mask, here). let (line, whole, at) = (reached clue mask).0 here in (line, record { start = at.start; whole = whole; shown = at.shown }),
+  λ (line, filling).
+      let (mask, at) = front_level line [] some (rw append-nil filling) in
+      let L : ℕ → Type 0 = λ level. IsAtLevel sets clue level mask line in
+      (mask, (reached clue mask).1 (line, filling.whole, subst L filling.shown at)),
 )
 
 -- ---- the levels of the starts that a filling begins with
@@ -176,20 +171,19 @@ passing_step {sets} {levels} {after} {clue} {place} {level} {mask} p k s inside 
     let P : List ℕ → Type 0 = λ line. IsFilling sets clue line in
     let whole : (p ++ (k + 1) ∷ []) ++ s ≡ p ++ (k + 1) ∷ s = append_assoc p ((k + 1) ∷ []) s in
     let filling' = subst P (sym whole) filling in
-    let then = front_level (p ++ (k + 1) ∷ []) s (omega arith) filling' in
-    let back = stepped p k then.1 in
-    let same_level : back.level_before ≡ level = sym back.front.shown ∙ at.shown in
+    let (mask_then, then) = front_level (p ++ (k + 1) ∷ []) s (omega arith) filling' in
+    let back = stepped p k then in
     let same_mask : back.mask_before ≡ mask = low_unique p back.front.used at.used in
-    let L : ℕ → Type 0 = λ l. IsStep place (length sets) clue k l back.mask_before (seen (p ++ (k + 1) ∷ [])) then.0 in
-    let M : ℕ → Type 0 = λ m. IsStep place (length sets) clue k level m (seen (p ++ (k + 1) ∷ [])) then.0 in
+    let L : ℕ → Type 0 = λ l. IsStep place (length sets) clue k l back.mask_before (seen (p ++ (k + 1) ∷ [])) mask_then in
+    let M : ℕ → Type 0 = λ m. IsStep place (length sets) clue k level m (seen (p ++ (k + 1) ∷ [])) mask_then in
     record {
       low = at.low;
       here = (reached level mask).1 (p, long, at);
       leads = record {
         level = seen (p ++ (k + 1) ∷ []);
-        mask = then.0;
-        here = continued.all (seen (p ++ (k + 1) ∷ [])) then.0 (p ++ (k + 1) ∷ []) s (length_push p (k + 1) ∙ ap (λ n. n + 1) long) then.1 filling';
-        link = subst M same_mask (subst L same_level (step_at long back.step));
+        mask = mask_then;
+        here = continued.all (seen (p ++ (k + 1) ∷ [])) mask_then (p ++ (k + 1) ∷ []) s (length_push p (k + 1) ∙ ap (λ n. n + 1) long) then filling';
+        link = subst M same_mask (subst L at.shown (step_at long back.step));
       };
     }
 
@@ -281,14 +275,14 @@ pub kept_supported : {sets : List ℕ} {clue place : ℕ} {levels after : List (
     → IsKeptBy place (length sets) clue (get_or sets place 0) levels after value ↔ IsSupported sets clue place value
 kept_supported {sets} {clue} {place} {levels} {after} inside reached continued value = (
   λ h.
-      let f = (reached h.level h.mask).0 h.passing.here in
+      let (line, long, at) = (reached h.level h.mask).0 h.passing.here in
       let V : ℕ → Type 0 = λ v. has_number (get_or sets place 0) v ≡ true in
-      let more = continued_step f.0 inside continued f.1 (subst V h.is h.candidate) f.2 h.passing.leads in
+      let (rest, filling) = continued_step line inside continued long (subst V h.is h.candidate) at h.passing.leads in
       record {
-        line = f.0 ++ (h.k + 1) ∷ more.0;
-        filling = more.1;
+        line = line ++ (h.k + 1) ∷ rest;
+        filling = filling;
         inside = inside;
-        here = get_or_at f.0 (h.k + 1) more.0 0 place f.1 ∙ sym h.is;
+        here = get_or_at line (h.k + 1) rest 0 place long ∙ sym h.is;
       },
   λ h. kept_part inside reached continued (parted_at h),
 )

@@ -71,9 +71,9 @@ low_same {width} {mask} p x h apart = record {
 none_high : {sets : List ℕ} (p : List ℕ) (x : ℕ) → IsStart sets p → is_in (length sets) p ≡ false → length sets ≤ x → is_in x p ≡ false
 none_high {sets} p x start lacks high =
     false_from_ne_true (is_in x p) (λ e.
-    let there = is_in-place x p e in
-    let most = (start.values there.0 there.1).1 in
-    both_ways (is_in (length sets) p) lacks (is_in-at (length sets) p there.0 there.1 (omega (arith, there.2, most))))
+    let (place, inside, here) = is_in-place x p e in
+    let most = (start.values place inside).1 in
+    both_ways (is_in (length sets) p) lacks (is_in-at (length sets) p place inside (omega arith)))
 
 -- the mask of all values of a start that lacks the greatest
 pub record IsWhole (sets p : List ℕ) : Type 0 where
