@@ -9,12 +9,12 @@ use Rattle.tower_lines.specs.TowersSeen.{seen, seen_after}
 use Rattle.number_sets.specs.Sets.{has_number}
 use Rattle.tower_lines.specs.LineFillings.{IsStart, IsFilling}
 use Rattle.tower_lines.specs.Inner.LineMasks.{is_in}
-use Rattle.tower_lines.specs.Inner.Levels.{LacksLeast, Within, Hidden, Shown, First, Later, IsLowMask, IsAtLevel, IsLastStep, IsLeastStep, IsLowStep, IsStep, Greatest, Least, Between}
+use Rattle.tower_lines.specs.Inner.Levels.{LacksLeast, Within, Hidden, Shown, First, Later, IsLowMask, IsAtLevel, IsStep, Greatest, Least, Between}
 use Rattle.number_sets.proofs.Members.{has_number-below}
 use Rattle.tower_lines.proofs.LowMaskLemmas.{low_mask_of, low_unique, low_bit, low_more, low_same, whole_of, whole_half, tower_half, least_tells, least_told, rest_low, rest_last}
 use Rattle.tower_lines.proofs.MaskLemmas.{is_in-push, is_in-push_same, tower_is, tower, seen-more}
 use Rattle.tower_lines.proofs.SeenLemmas.{seen-append, seen-push}
-use Rattle.tower_lines.proofs.StartLemmas.{IsNextValue, is_in-place, start_front, start_next, start_more}
+use Rattle.tower_lines.proofs.StartLemmas.{is_in-place, start_front, start_next, start_more}
 use Rattle.tower_lines.proofs.WholeLines.{whole_mask}
 
 -- ---- what is seen before and after the greatest value
@@ -141,24 +141,6 @@ pushed_at {sets} {clue} {level} {mask} {level_then} p k value at start used show
   ];
 }
 
--- the greatest value after a start at a level
-last_step_from : {sets : List ℕ} {clue k level mask level_then mask_then : ℕ} (p : List ℕ) → IsAtLevel sets clue level mask p → length p < length sets
-    → has_number (get_or sets (length p) 0) (k + 1) ≡ true → IsLastStep (length sets) clue k level mask level_then mask_then
-    → IsAtLevel sets clue level_then mask_then (p ++ (k + 1) ∷ [])
-last_step_from {sets} {clue} {k} {level} {mask} {level_then} {mask_then} p at room candidate s =
-    let is = s.value in
-    let before = s.before in
-    let after = s.after in
-    let lacks = at_low_lacks p at (omega arith) in
-    let next : IsNextValue sets p (k + 1) = record { room = room; low = omega arith; high = omega arith; candidate = candidate; fresh = rw is lacks } in
-    record {
-      start = start_more p (k + 1) at.start next;
-      used = rw s.same (low_same p (k + 1) at.used (λ j l e. omega arith));
-      low = omega arith;
-      shown = omega (arith, shown_last p k is at.start lacks, at.shown);
-      last = is_in-push_same p (k + 1) (length sets) is ∙ sym (eq-eqb level_then clue after);
-    }
-
 -- whether a start lacks the least value, by its mask
 lacks_least : {sets : List ℕ} {clue level mask : ℕ} (p : List ℕ) → 1 < length sets → IsAtLevel sets clue level mask p
     → LacksLeast (length p) clue level mask → is_in 1 p ≡ false
@@ -168,62 +150,64 @@ lacks_least {sets} {clue} {level} p more at told =
       | inr last ↦ least_told p (rest_last p more at.start (at.last ∙ eq-eqb level clue last.0) at.used) last.1
     ]
 
--- the least value
-least_step_from : {sets : List ℕ} {clue k level mask level_then mask_then : ℕ} (p : List ℕ) → IsAtLevel sets clue level mask p → length p < length sets
-    → has_number (get_or sets (length p) 0) (k + 1) ≡ true → IsLeastStep (length p) (length sets) clue k level mask level_then mask_then
-    → IsAtLevel sets clue level_then mask_then (p ++ (k + 1) ∷ [])
-least_step_from {sets} {clue} {k} {level} {mask} {level_then} {mask_then} p at room candidate s =
-    let value = s.value in
-    let more = s.more in
-    let one : 1 ≡ k + 1 = omega arith in
-    let next : is_in 1 p ≡ false → IsNextValue sets p (k + 1) = λ fresh. record {
-      room = room;
-      low = omega arith;
-      high = omega arith;
-      candidate = candidate;
-      fresh = ap (λ v. is_in v p) (sym one) ∙ fresh;
-    } in
-    let used : IsLowMask (length sets) mask_then (p ++ (k + 1) ∷ []) = rw s.same (low_same p (k + 1) at.used (λ j l e. omega arith)) in
-    elim s.moves [
-      | First none one_more low ↦ (let fresh : is_in 1 p ≡ false = ap (is_in 1) (nil_from_length p none) in
-          pushed_at p k (omega arith) at (start_more p (k + 1) at.start (next fresh)) used (omega (arith, shown_first p (k + 1) none, at.shown))
-          (omega arith) (λ e. omega arith, λ e. omega arith))
-      | Later some same lacks ↦ pushed_at p k (omega arith) at (start_more p (k + 1) at.start (next (lacks_least p more at lacks))) used
-          (omega (arith, shown_later p k value at.start some, at.shown)) (omega (arith, at.low)) (λ e. omega arith, λ e. omega arith)
-    ]
+-- a value that a start lacks, and the mask of the start with it
+record IsNew (sets : List ℕ) (k mask_then : ℕ) (p : List ℕ) : Type 0 where
+  high : k + 1 ≤ length sets
+  fresh : is_in (k + 1) p ≡ false
+  used : IsLowMask (length sets) mask_then (p ++ (k + 1) ∷ [])
 
--- a value between them
-low_step_from : {sets : List ℕ} {clue k level mask level_then mask_then : ℕ} (p : List ℕ) → IsAtLevel sets clue level mask p → length p < length sets
-    → has_number (get_or sets (length p) 0) (k + 1) ≡ true → (bit : ℕ) → k ≡ bit + 1 → IsLowStep (length sets) clue bit level mask level_then mask_then
-    → IsAtLevel sets clue level_then mask_then (p ++ (k + 1) ∷ [])
-low_step_from {sets} {clue} {k} {level} {mask} {level_then} {mask_then} p at room candidate bit is s =
-    let value = s.value in
-    let next : IsNextValue sets p (k + 1) = record {
-      room = room;
-      low = omega arith;
-      high = omega arith;
-      candidate = candidate;
-      fresh = sym (low_bit p k bit is at.used value) ∙ s.fresh;
-    } in
-    let start = start_more p (k + 1) at.start next in
-    let used : IsLowMask (length sets) mask_then (p ++ (k + 1) ∷ []) = rw s.more (low_more p k bit is at.used value s.fresh) in
-    elim s.moves [
-      | Within last then ↦ pushed_at p k (omega arith) at start used
-          (omega (arith, shown_same p k start (at.last ∙ eq-eqb level clue last), at.shown)) (omega arith) (λ e. then, λ e. last)
-      | Hidden early large same ↦ pushed_at p k (omega arith) at start used
-          (omega (arith, shown_more p k bit is at.start (at_low_lacks p at early) at.used, tower_none mask bit large, at.shown))
-          (omega arith) (λ e. omega arith, λ e. omega arith)
-      | Shown small one_more low ↦ pushed_at p k (omega arith) at start used
-          (omega (arith, shown_more p k bit is at.start (at_low_lacks p at (omega arith)) at.used, tower_one mask bit small, at.shown))
-          (omega arith) (λ e. omega arith, λ e. omega arith)
-    ]
+-- such is the value of a step, with the mask that it leads to
+step_new : {sets : List ℕ} {clue k level mask level_then mask_then : ℕ} (p : List ℕ) → IsAtLevel sets clue level mask p
+    → IsStep (length p) (length sets) clue k level mask level_then mask_then → IsNew sets k mask_then p
+step_new {sets} {clue} {k} {level} {mask} {level_then} {mask_then} p at (Greatest s) =
+    let is = s.value in
+    let lacks = at_low_lacks p at (omega (arith, s.before)) in
+    record { high = omega arith; fresh = rw is lacks; used = rw s.same (low_same p (k + 1) at.used (λ j l e. omega arith)) }
+step_new {sets} {clue} {k} {level} {mask} {level_then} {mask_then} p at (Least s) =
+    let one : k + 1 ≡ 1 = omega (arith, s.value) in
+    let fresh : is_in 1 p ≡ false = elim s.moves [
+      | First none next low ↦ ap (is_in 1) (nil_from_length p none)
+      | Later some same lacks ↦ lacks_least p s.more at lacks
+    ] in
+    record { high = omega (arith, s.more); fresh = ap (λ v. is_in v p) one ∙ fresh; used = rw s.same (low_same p (k + 1) at.used (λ j l e. omega arith)) }
+step_new {sets} {clue} {k} {level} {mask} {level_then} {mask_then} p at (Between bit is s) =
+    let fresh = sym (low_bit p k bit is at.used s.value) ∙ s.fresh in
+    record { high = omega (arith, s.value); fresh = fresh; used = rw s.more (low_more p k bit is at.used s.value s.fresh) }
 
 pub step_from : {sets : List ℕ} {clue k level mask level_then mask_then : ℕ} (p : List ℕ) → IsAtLevel sets clue level mask p → length p < length sets
     → has_number (get_or sets (length p) 0) (k + 1) ≡ true → IsStep (length p) (length sets) clue k level mask level_then mask_then
     → IsAtLevel sets clue level_then mask_then (p ++ (k + 1) ∷ [])
-step_from p at room candidate (Greatest s) = last_step_from p at room candidate s
-step_from p at room candidate (Least s) = least_step_from p at room candidate s
-step_from p at room candidate (Between bit is s) = low_step_from p at room candidate bit is s
+step_from {sets} {clue} {k} {level} {mask} {level_then} {mask_then} p at room candidate s =
+    let new = step_new p at s in
+    let start = start_more p (k + 1) at.start record { room = room; low = omega arith; high = new.high; candidate = candidate; fresh = new.fresh } in
+    let whole = at.shown in
+    elim s [
+      | Greatest g ↦
+          let before = g.before in
+          let shown : seen (p ++ (k + 1) ∷ []) ≡ level_then = omega (arith, shown_last p k g.value at.start (at_low_lacks p at (omega arith)), g.after) in
+          let last = is_in-push_same p (k + 1) (length sets) g.value ∙ sym (eq-eqb level_then clue g.after) in
+          record { start = start; used = new.used; low = omega (arith, g.after); shown = shown; last = last }
+      | Least b ↦
+          let value : k + 1 < length sets = omega (arith, b.value, b.more) in
+          elim b.moves [
+            | First none next low ↦
+                pushed_at p k value at start new.used (omega (arith, shown_first p (k + 1) none)) (omega arith) (λ e. omega arith, λ e. omega arith)
+            | Later some same lacks ↦
+                pushed_at p k value at start new.used (omega (arith, shown_later p k b.value at.start some)) (omega (arith, at.low)) (λ e. omega arith, λ e. omega arith)
+          ]
+      | Between bit is b ↦
+          let value : k + 1 < length sets = omega (arith, b.value) in
+          elim b.moves [
+            | Within last then ↦
+                pushed_at p k value at start new.used (omega (arith, shown_same p k start (at.last ∙ eq-eqb level clue last))) (omega arith) (λ e. then, λ e. last)
+            | Hidden early large same ↦
+                let more = shown_more p k bit is at.start (at_low_lacks p at early) at.used in
+                pushed_at p k value at start new.used (omega (arith, tower_none mask bit large)) (omega arith) (λ e. omega arith, λ e. omega arith)
+            | Shown small next low ↦
+                let more = shown_more p k bit is at.start (at_low_lacks p at (omega arith)) at.used in
+                pushed_at p k value at start new.used (omega (arith, tower_one mask bit small)) (omega arith) (λ e. omega arith, λ e. omega arith)
+          ]
+    ]
 
 -- a start that has the greatest value just where it shows all the towers is at the level of those that it shows
 front_of : {sets : List ℕ} {clue mask : ℕ} (p : List ℕ) → IsStart sets p → IsLowMask (length sets) mask p → (is_in (length sets) p ≡ true → seen p ≡ clue)

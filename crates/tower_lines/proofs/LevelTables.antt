@@ -1,8 +1,8 @@
 -- What a value more does to levels that have the masks of all starts, and to those of starts that a filling begins with.
-use Rattle.std.proofs.Common.{◌≡◌, ◌≢◌, ℕ, ◌+◌, ◌-◌, ◌<◌, ◌≤◌, ◌↔◌, inl, inr, true, List, [], ◌∷◌, ◌++◌, length, get_or, take, drop, refl, sym, ap, ◌∙◌, subst, arith, append_assoc}
-use Rattle.std.proofs.lemmas.Bool.{cases_lt, eqb-false, ne_eqb}
+use Rattle.std.proofs.Common.{◌≡◌, ◌≢◌, ℕ, ◌+◌, ◌-◌, ◌<◌, ◌≤◌, ◌↔◌, inl, inr, true, List, [], ◌∷◌, ◌++◌, length, get_or, set, take, drop, refl, sym, ap, ◌∙◌, subst, arith, append_assoc}
+use Rattle.std.proofs.lemmas.Bool.{cases_eq, cases_lt, eqb-false, ne_eqb}
 use Rattle.std.proofs.Math.Bool.{and-false}
-use Rattle.std.proofs.lemmas.List.{append-nil, nil_from_length, length_push, get_or_at, take_all, take_more, take-append-drop, length-take-le, drop_more}
+use Rattle.std.proofs.lemmas.List.{append-nil, nil_from_length, length_push, get_or_at, get_or-set_same, get_or-set_other, take_all, take_more, take-append-drop, length-take-le, drop_more}
 use Rattle.number_sets.specs.Sets.{has_number}
 use Rattle.tower_lines.specs.TowersSeen.{seen}
 use Rattle.tower_lines.specs.LineFillings.{IsStart, IsFilling, IsSupported}
@@ -145,11 +145,12 @@ reached_filling {sets} {clue} levels some reached = (
 pub last_continued : {sets : List ℕ} {clue : ℕ} {levels : List (List ℕ)} → 0 < length sets → AreReached sets clue (length sets) levels
     → AreContinued sets clue (length sets) levels
 last_continued {sets} {clue} {levels} some reached = record {
-  only = λ level mask line e long at.
-      let last = at_last line at (has_greatest line some at.start long) in
-      let P : List ℕ → Type 0 = λ l. IsFilling sets clue l in
-      ([], subst P (sym (append-nil line)) record { start = at.start; whole = long; shown = at.shown ∙ last });
-  all = λ level mask line rest long at filling. (reached level mask).1 (line, long, at);
+  is = λ level mask line long at. (
+    λ e.
+        let last = at_last line at (has_greatest line some at.start long) in
+        ([], rw append-nil record { start = at.start; whole = long; shown = at.shown ∙ last }),
+    λ filling. (reached level mask).1 (line, long, at),
+  );
 }
 
 -- a value that leads from a start to levels of which each start is continued: so is this start, with the value
@@ -158,10 +159,9 @@ continued_step : {sets : List ℕ} {after : List (List ℕ)} {clue place k level
     → (rest : List ℕ) × IsFilling sets clue (p ++ (k + 1) ∷ rest)
 continued_step {sets} {after} {clue} {place} {k} {level} {mask} p inside continued long candidate at leads =
     let then = step_from p at (omega arith) (rw long candidate) (step_at (sym long) leads.link) in
-    let more = continued.only leads.level leads.mask (p ++ (k + 1) ∷ []) leads.here (length_push p (k + 1) ∙ ap (λ n. n + 1) long) then in
-    let whole : (p ++ (k + 1) ∷ []) ++ more.0 ≡ p ++ (k + 1) ∷ more.0 = append_assoc p ((k + 1) ∷ []) more.0 in
+    let (rest, filling) = (continued.is leads.level leads.mask (p ++ (k + 1) ∷ []) (length_push p (k + 1) ∙ ap (λ n. n + 1) long) then).0 leads.here in
     let P : List ℕ → Type 0 = λ line. IsFilling sets clue line in
-    (more.0, subst P whole more.1)
+    (rest, subst P (append_assoc p ((k + 1) ∷ []) rest) filling)
 
 -- the next value of a filling leads from its front's level to the next levels
 passing_step : {sets : List ℕ} {levels after : List (List ℕ)} {clue place level mask : ℕ} (p : List ℕ) (k : ℕ) (s : List ℕ) → place < length sets
@@ -182,7 +182,7 @@ passing_step {sets} {levels} {after} {clue} {place} {level} {mask} p k s inside 
       leads = record {
         level = seen (p ++ (k + 1) ∷ []);
         mask = mask_then;
-        here = continued.all (seen (p ++ (k + 1) ∷ [])) mask_then (p ++ (k + 1) ∷ []) s (length_push p (k + 1) ∙ ap (λ n. n + 1) long) then filling';
+        here = (continued.is (seen (p ++ (k + 1) ∷ [])) mask_then (p ++ (k + 1) ∷ []) (length_push p (k + 1) ∙ ap (λ n. n + 1) long) then).1 (s, filling');
         link = subst M same_mask (subst L at.shown (step_at long back.step));
       };
     }
@@ -227,33 +227,19 @@ parted_at {sets} {clue} {place} {value} h =
     let P : List ℕ → Type 0 = λ l. IsFilling sets clue l in
     parted place (take place h.line) value (drop (place + 1) h.line) (length-take-le place h.line (omega arith)) (subst P (sym whole) h.filling)
 
--- its value is kept
-kept_part : {sets : List ℕ} {levels after : List (List ℕ)} {clue place value : ℕ} → place < length sets → AreReached sets clue place levels
-    → AreContinued sets clue (place + 1) after → IsParted sets clue place value → IsKeptBy place (length sets) clue (get_or sets place 0) levels after value
-kept_part {sets} {levels} {after} {clue} {place} {value} inside reached continued p =
-    let at = front_level p.front ((p.k + 1) ∷ p.rest) (omega arith) p.filling in
-    let V : ℕ → Type 0 = λ v. has_number (get_or sets place 0) v ≡ true in
-    record {
-      k = p.k;
-      is = p.is;
-      inside = p.inside;
-      candidate = subst V (sym p.is) p.candidate;
-      level = seen p.front;
-      mask = at.0;
-      passing = passing_step p.front p.k p.rest inside reached continued p.long at.1 p.filling;
-    }
-
 -- one value less
 pub before_continued : {sets : List ℕ} {clue place : ℕ} {levels after before : List (List ℕ)} → place < length sets → AreReached sets clue place levels
     → AreContinued sets clue (place + 1) after
     → ((level mask : ℕ) → (has_at before level mask ≡ true) ↔ IsPassed place (length sets) clue (get_or sets place 0) levels after level mask)
     → AreContinued sets clue place before
 before_continued {sets} {clue} {place} {levels} {after} {before} inside reached continued is = record {
-  only = λ level mask line e long at.
-      let passed = (is level mask).0 e in
-      let more = continued_step line inside continued long passed.candidate at passed.passing.leads in
-      ((passed.k + 1) ∷ more.0, more.1);
-  all = each;
+  is = λ level mask line long at. (
+    λ e.
+        let passed = (is level mask).0 e in
+        let (rest, filling) = continued_step line inside continued long passed.candidate at passed.passing.leads in
+        ((passed.k + 1) ∷ rest, filling),
+    λ f. each level mask line f.0 long at f.1,
+  );
 }
   where
     each : (level mask : ℕ) (line rest : List ℕ) → length line ≡ place → IsAtLevel sets clue level mask line → IsFilling sets clue (line ++ rest)
@@ -276,13 +262,27 @@ pub kept_supported : {sets : List ℕ} {clue place : ℕ} {levels after : List (
 kept_supported {sets} {clue} {place} {levels} {after} inside reached continued value = (
   λ h.
       let (line, long, at) = (reached h.level h.mask).0 h.passing.here in
-      let V : ℕ → Type 0 = λ v. has_number (get_or sets place 0) v ≡ true in
-      let (rest, filling) = continued_step line inside continued long (subst V h.is h.candidate) at h.passing.leads in
+      let (rest, filling) = continued_step line inside continued long h.candidate at h.passing.leads in
       record {
         line = line ++ (h.k + 1) ∷ rest;
         filling = filling;
         inside = inside;
         here = get_or_at line (h.k + 1) rest 0 place long ∙ sym h.is;
       },
-  λ h. kept_part inside reached continued (parted_at h),
+  λ h.
+      let p = parted_at h in
+      let (mask, at) = front_level p.front ((p.k + 1) ∷ p.rest) (omega arith) p.filling in
+      let passing = passing_step p.front p.k p.rest inside reached continued p.long at p.filling in
+      record { k = p.k; is = p.is; inside = p.inside; candidate = p.candidate; level = seen p.front; mask = mask; passing = passing },
 )
+
+-- ---- an entry of a table that is put in
+
+-- what holds of it, and of the others as they were
+pub set_each : {A : Type 0} (P : ℕ → A → Type 0) (xs : List A) (i p : ℕ) (x d : A) → i < length xs → P i x → (p ≢ i → P p (get_or xs p d))
+    → P p (get_or (set xs i x) p d)
+set_each P xs i p x d inside here other =
+    elim (cases_eq p i) [
+      | inl same ↦ rw (same, get_or-set_same xs i x d inside) here
+      | inr apart ↦ rw (get_or-set_other xs i p x d apart) (other apart)
+    ]

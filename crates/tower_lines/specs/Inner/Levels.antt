@@ -69,10 +69,8 @@ AreReached sets clue place levels = (level mask : ℕ)
 
 -- the levels have the masks of the starts with so many values that some filling begins with, and of no other start
 pub record AreContinued (sets : List ℕ) (clue place : ℕ) (levels : List (List ℕ)) : Type 0 where
-  pub only : (level mask : ℕ) (line : List ℕ) → has_at levels level mask ≡ true → length line ≡ place → IsAtLevel sets clue level mask line
-      → (rest : List ℕ) × IsFilling sets clue (line ++ rest)
-  pub all : (level mask : ℕ) (line rest : List ℕ) → length line ≡ place → IsAtLevel sets clue level mask line
-      → IsFilling sets clue (line ++ rest) → has_at levels level mask ≡ true
+  pub is : (level mask : ℕ) (line : List ℕ) → length line ≡ place → IsAtLevel sets clue level mask line
+      → (has_at levels level mask ≡ true) ↔ ((rest : List ℕ) × IsFilling sets clue (line ++ rest))
 
 -- a mask of the levels that has the link
 pub record IsLinked (Link : ℕ → ℕ → Type 0) (levels : List (List ℕ)) : Type 0 where
@@ -139,7 +137,7 @@ pub record IsKeptBy (place width clue values : ℕ) (fronts after : List (List �
   pub k : ℕ
   pub is : value ≡ k + 1
   pub inside : k < width
-  pub candidate : has_number values value ≡ true
+  pub candidate : has_number values (k + 1) ≡ true
   pub level : ℕ
   pub mask : ℕ
   pub passing : IsPassing place width clue k fronts after level mask

@@ -1,12 +1,11 @@
 -- One place after another has the levels of the starts with so many values.
-use Rattle.std.proofs.Common.{◌≡◌, ◌≢◌, ℕ, ◌+◌, ◌-◌, ◌<◌, ◌↔◌, ◌++◌, true, false, inl, inr, List, [], length, get_or, set, sym, ap, ◌∙◌, subst, arith, rules, length-set}
-use Rattle.std.proofs.lemmas.Bool.{cases_eq}
-use Rattle.std.proofs.lemmas.List.{get_or-set_same, get_or-set_other, set-append_right}
+use Rattle.std.proofs.Common.{◌≡◌, ℕ, ◌+◌, ◌-◌, ◌<◌, ◌↔◌, ◌++◌, true, false, List, [], length, get_or, set, sym, ap, ◌∙◌, subst, arith, rules, length-set}
+use Rattle.std.proofs.lemmas.List.{get_or-set_other, set-append_right}
 use Rattle.std.proofs.lemmas.Grind.{get_or_default_zero}
 use Rattle.tower_lines.specs.Inner.MaskSets.{has_at}
 use Rattle.tower_lines.specs.Inner.Levels.{AreReached, IsReachedFrom}
 use Rattle.tower_lines.proofs.LevelAdditions.{added_alone}
-use Rattle.tower_lines.proofs.LevelTables.{first_reached, next_reached, reached_few}
+use Rattle.tower_lines.proofs.LevelTables.{first_reached, next_reached, reached_few, set_each}
 use Rattle.tower_lines.proofs.line_fillings.add_starts.Goals as goal
 
 -- a write at the start of the second part is one after the first part
@@ -22,12 +21,8 @@ loop-place-init g c =
     let sets = c.args.sets.now in
     record {
       long = length-set starts 0 first ∙ search rules;
-      reached = λ p low.
-          let zero : p ≡ 0 = omega arith in
-          let here : get_or (set starts 0 first) 0 [] ≡ first = get_or-set_same starts 0 first [] (search rules) in
-          let P : ℕ → Type 0 = λ q. AreReached sets c.args.clue q (get_or (set starts 0 first) q []) in
-          let Q : List (List ℕ) → Type 0 = λ levels. AreReached sets c.args.clue 0 levels in
-          subst P (sym zero) (subst Q (sym here) (first_reached first c.requires.some c.first_levels.ensures));
+      reached = λ p low. set_each (AreReached sets c.args.clue) starts 0 p first [] (search rules)
+          (first_reached first c.requires.some c.first_levels.ensures) (λ other. absurd (omega arith));
       none = λ p level mask after inside.
           ap (λ (levels : List (List ℕ)). has_at levels level mask) (get_or-set_other starts 0 p first [] (omega arith)) ∙ c.requires.blank p level mask inside;
     }
@@ -62,23 +57,13 @@ loop-place-preserved g c =
     let reached = added_alone (IsReachedFrom place (length sets) clue c.index-sets-place.result levels) (get_or back 0 []) next blank c.add_levels.ensures in
     let S : ℕ → Type 0 = λ v. (level mask : ℕ) → (has_at next level mask ≡ true) ↔ IsReachedFrom place (length sets) clue v levels level mask in
     let after : AreReached sets clue (place + 1) next = next_reached next inside before (subst S values reached) in
-    let others : (p : ℕ) → p ≢ place + 1 → get_or (set starts (place + 1) next) p [] ≡ get_or starts p [] =
-    λ p other. get_or-set_other starts (place + 1) p next [] other in
     record {
       long = ap (λ (s : List (List (List ℕ))). length s) joined ∙ length-set starts (place + 1) next ∙ c.loop-place.invariant.long;
       reached = λ p low.
           let R : List (List (List ℕ)) → Type 0 = λ s. AreReached sets clue p (get_or s p []) in
-          subst R (sym joined) (elim (cases_eq p (place + 1)) [
-            | inl same ↦
-                let here : get_or (set starts (place + 1) next) (place + 1) [] ≡ next = get_or-set_same starts (place + 1) next [] (omega (arith, c.loop-place.invariant.long)) in
-                let P : ℕ → Type 0 = λ q. AreReached sets clue q (get_or (set starts (place + 1) next) q []) in
-                let Q : List (List ℕ) → Type 0 = λ levels. AreReached sets clue (place + 1) levels in
-                subst P (sym same) (subst Q (sym here) after)
-            | inr other ↦
-                let Q : List (List ℕ) → Type 0 = λ levels. AreReached sets clue p levels in
-                subst Q (sym (others p other)) (c.loop-place.invariant.reached p (omega arith))
-          ]);
+          subst R (sym joined) (set_each (AreReached sets clue) starts (place + 1) p next [] (omega (arith, c.loop-place.invariant.long)) after
+          (λ other. c.loop-place.invariant.reached p (omega arith)));
       none = λ p level mask later inside.
-          ap (λ (s : List (List (List ℕ))). has_at (get_or s p []) level mask) joined ∙ ap (λ (levels : List (List ℕ)). has_at levels level mask) (others p (omega arith))
+          ap (λ (s : List (List (List ℕ))). has_at (get_or s p []) level mask) joined ∙ ap (λ (levels : List (List ℕ)). has_at levels level mask) (get_or-set_other starts (place + 1) p next [] (omega arith))
           ∙ c.loop-place.invariant.none p level mask (omega arith) inside;
     }
