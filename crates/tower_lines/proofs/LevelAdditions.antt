@@ -1,5 +1,5 @@
 -- Masks that are added to the levels, one set after another, and whether there are any.
-use Rattle.std.proofs.Common.{◌≡◌, ℕ, ◌+◌, ◌<◌, ◌≤◌, ◌⊎◌, ◌↔◌, inl, inr, Bool, true, false, ◌||◌, List, refl, sym, subst, arith}
+use Rattle.std.proofs.Common.{◌≡◌, ℕ, ◌+◌, ◌<◌, ◌≤◌, ◌⊎◌, ◌↔◌, inl, inr, Bool, true, false, ◌||◌, List, refl, arith}
 use Rattle.std.proofs.lemmas.Bool.{false≢true, both_ways, cases_eq, or_cases, or_left, or_right}
 use Rattle.tower_lines.specs.Inner.MaskSets.{has_mask, has_at}
 use Rattle.tower_lines.specs.Inner.Levels.{AreAdded, AreNoted, IsCommon}
@@ -88,10 +88,7 @@ pub at_level : (Added : ℕ → ℕ → Type 0) (at : ℕ) (old now : List (List
     → AreAdded (λ level mask. (level ≡ at) × (has_mask set mask ≡ true)) old now → AreAdded (IsOnlyAt at Added) old now
 at_level Added at old now set is added =
     added_as (λ level mask. (level ≡ at) × (has_mask set mask ≡ true)) (IsOnlyAt at Added) old now added (λ level mask.
-    let P : ℕ → Type 0 = λ i. Added i mask in (
-      λ a. (a.0, (is mask).1 (subst P a.0 a.1)),
-      λ s. (s.0, subst P (sym s.0) ((is mask).0 s.1)),
-    ))
+    (λ a. (a.0, (is mask).1 (rw a.0 at a.1)), λ s. (s.0, rw s.0 ((is mask).0 s.1))))
 
 -- those of a level that are in a set, put to it and told
 pub common_at_level : (Added : ℕ → ℕ → Type 0) (at : ℕ) (fronts old now : List (List ℕ)) (set : List ℕ) (some : Bool)
@@ -105,10 +102,7 @@ common_at_level Added at fronts old now set some is added told =
       some = (λ e. let (mask, common) = told.0 e in (at, mask, (refl, common)), λ (level, mask, found). told.1 (mask, found.1));
     }
     (λ level mask.
-    let P : ℕ → Type 0 = λ i. Added i mask in (
-      λ a. (a.0, (is mask).0 (subst P a.0 a.1)),
-      λ s. (s.0, subst P (sym s.0) ((is mask).1 s.1)),
-    ))
+    (λ a. (a.0, (is mask).0 (rw a.0 at a.1)), λ s. (s.0, rw s.0 ((is mask).1 s.1))))
 
 -- all masks are at that level
 pub only_level : (Added : ℕ → ℕ → Type 0) (at : ℕ) → ((level mask : ℕ) → Added level mask → level ≡ at)

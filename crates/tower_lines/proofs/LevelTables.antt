@@ -1,8 +1,8 @@
 -- What a value more does to levels that have the masks of all starts, and to those of starts that a filling begins with.
-use Rattle.std.proofs.Common.{◌≡◌, ◌≢◌, ℕ, ◌+◌, ◌-◌, ◌<◌, ◌≤◌, ◌↔◌, inl, inr, true, List, [], ◌∷◌, ◌++◌, length, get_or, set, take, drop, refl, sym, ap, ◌∙◌, subst, arith, append_assoc}
+use Rattle.std.proofs.Common.{◌≡◌, ◌≢◌, ℕ, ◌+◌, ◌-◌, ◌<◌, ◌≤◌, ◌↔◌, inl, inr, true, List, [], ◌∷◌, ◌++◌, length, get_or, set, take, drop, refl, sym, ap, ◌∙◌, subst, arith, append_assoc, length-append}
 use Rattle.std.proofs.lemmas.Bool.{cases_eq, cases_lt, eqb-false, ne_eqb}
 use Rattle.std.proofs.Math.Bool.{and-false}
-use Rattle.std.proofs.lemmas.List.{append-nil, nil_from_length, length_push, get_or_at, get_or-set_same, get_or-set_other, take_all, take_more, take-append-drop, length-take-le, drop_more}
+use Rattle.std.proofs.lemmas.List.{append-nil, nil_from_length, length_push, get_or_at, get_or-set_same, get_or-set_other, take-append-drop, length-take-le, drop_more}
 use Rattle.number_sets.specs.Sets.{has_number}
 use Rattle.tower_lines.specs.TowersSeen.{seen}
 use Rattle.tower_lines.specs.LineFillings.{IsStart, IsFilling, IsSupported}
@@ -12,7 +12,7 @@ use Rattle.number_sets.proofs.Members.{has_number-none, none_from_numbers}
 use Rattle.tower_lines.proofs.LevelLemmas.{has_greatest, at_last, step_from, stepped, front_level}
 use Rattle.tower_lines.proofs.LowMaskLemmas.{low_unique}
 use Rattle.tower_lines.proofs.SeenLemmas.{seen_most, seen_some}
-use Rattle.tower_lines.proofs.StartLemmas.{start_next}
+use Rattle.tower_lines.proofs.StartLemmas.{IsNextValue, start_next}
 
 -- ---- the levels of the starts with so many values
 
@@ -40,39 +40,41 @@ first_reached {sets} {clue} levels some first level mask = (
         },
       ),
   λ (line, none, is).
-      let P : List ℕ → Type 0 = λ l. IsAtLevel sets clue level mask l in
-      let at = subst P (nil_from_length line none) is in
+      let at : IsAtLevel sets clue level mask [] = rw (nil_from_length line none) at is in
       let zero : level ≡ 0 = sym at.shown in
       let known = first_level at in
       (first level mask).1 (zero, known.0, omega (arith, known.1)),
 )
 
--- a start of one value more, in two parts
-pub record IsPushed (sets : List ℕ) (place : ℕ) (line : List ℕ) : Type 0 where
+-- a start in three parts: what comes before the place, the value there, and what comes after it
+pub record IsParted (sets : List ℕ) (place : ℕ) (line : List ℕ) : Type 0 where
   pub front : List ℕ
   pub k : ℕ
+  pub rest : List ℕ
   pub long : length front ≡ place
-  pub is : line ≡ front ++ (k + 1) ∷ []
+  pub is : line ≡ front ++ (k + 1) ∷ rest
+  pub next : IsNextValue sets front (k + 1)
 
-pushed : {sets : List ℕ} (place : ℕ) (line : List ℕ) → IsStart sets line → length line ≡ place + 1 → IsPushed sets place line
-pushed {sets} place line start long =
-    let last = get_or line place 0 in
-    let whole : line ≡ take place line ++ last ∷ [] = sym (take_all (place + 1) line (omega arith)) ∙ take_more line place 0 (omega arith) in
-    let low = (start.values place (omega arith)).0 in
-    let e : last ≡ (last - 1) + 1 = omega arith in
+parted : {sets : List ℕ} (place : ℕ) (line : List ℕ) → place < length line → IsStart sets line → IsParted sets place line
+parted {sets} place line inside start =
+    let value = get_or line place 0 in
+    let low = (start.values place inside).0 in
+    let e : value ≡ (value - 1) + 1 = omega arith in
+    let is : line ≡ take place line ++ (value - 1 + 1) ∷ drop (place + 1) line =
+    sym (take-append-drop place line) ∙ ap (λ s. take place line ++ s) (drop_more line place 0 inside ∙ ap (λ x. x ∷ drop (place + 1) line) e) in
     record {
       front = take place line;
-      k = last - 1;
+      k = value - 1;
+      rest = drop (place + 1) line;
       long = length-take-le place line (omega arith);
-      is = whole ∙ ap (λ x. take place line ++ x ∷ []) e;
+      is = is;
+      next = start_next (take place line) (value - 1 + 1) (drop (place + 1) line) (subst (IsStart sets) is start);
     }
 
 -- the step from a start of so many values
 step_at : {place place' width clue k level mask level_then mask_then : ℕ} → place ≡ place' → IsStep place width clue k level mask level_then mask_then
     → IsStep place' width clue k level mask level_then mask_then
-step_at {place} {place'} {width} {clue} {k} {level} {mask} {level_then} {mask_then} same s =
-    let P : ℕ → Type 0 = λ n. IsStep n width clue k level mask level_then mask_then in
-    subst P same s
+step_at same s = rw same at s
 
 -- one value more
 pub next_reached : {sets : List ℕ} {clue place : ℕ} {levels : List (List ℕ)} (next : List (List ℕ)) → place < length sets → AreReached sets clue place levels
@@ -87,24 +89,22 @@ next_reached {sets} {clue} {place} {levels} next inside reached is level mask = 
         length_push line (from.k + 1) ∙ ap (λ n. n + 1) long,
         step_from line at (omega arith) (rw long from.candidate) (step_at (sym long) by.link),
       ),
-  λ (line, whole, start).
-      let parts = pushed place line start.start whole in
+  λ (line, whole, at).
+      let parts = parted place line (omega arith) at.start in
       let p = parts.front in
       let long = parts.long in
-      let P : List ℕ → Type 0 = λ l. IsAtLevel sets clue level mask l in
-      let at = subst P parts.is start in
-      let back = stepped p parts.k at in
-      let value = start_next p (parts.k + 1) [] at.start in
-      let high = value.high in
+      let none : parts.rest ≡ [] = nil_from_length parts.rest (omega (arith, length-append p ((parts.k + 1) ∷ parts.rest), ap length parts.is)) in
+      let back = stepped p parts.k (rw (parts.is ∙ ap (λ s. p ++ (parts.k + 1) ∷ s) none) at at) in
+      let high = parts.next.high in
       (is level mask).1 record {
         k = parts.k;
         inside = omega arith;
-        candidate = rw long at value.candidate;
+        candidate = rw long at parts.next.candidate;
         reached = record {
           level = seen p;
           mask = back.mask_before;
           here = (reached (seen p) back.mask_before).1 (p, long, back.front);
-          link = step_at long back.step;
+          link = step_at {mask = back.mask_before} long back.step;
         };
       },
 )
@@ -134,9 +134,8 @@ pub reached_filling : {sets : List ℕ} {clue : ℕ} (levels : List (List ℕ)) 
 reached_filling {sets} {clue} levels some reached = (
   λ (mask, here). let (line, whole, at) = (reached clue mask).0 here in (line, record { start = at.start; whole = whole; shown = at.shown }),
   λ (line, filling).
-      let (mask, at) = front_level line [] some (rw append-nil filling) in
-      let L : ℕ → Type 0 = λ level. IsAtLevel sets clue level mask line in
-      (mask, (reached clue mask).1 (line, filling.whole, subst L filling.shown at)),
+      let (mask, at) = front_level {clue = clue} line [] some (rw append-nil filling) in
+      (mask, (reached clue mask).1 (line, filling.whole, rw filling.shown at at)),
 )
 
 -- ---- the levels of the starts that a filling begins with
@@ -160,22 +159,17 @@ continued_step : {sets : List ℕ} {after : List (List ℕ)} {clue place k level
 continued_step {sets} {after} {clue} {place} {k} {level} {mask} p inside continued long candidate at leads =
     let then = step_from p at (omega arith) (rw long candidate) (step_at (sym long) leads.link) in
     let (rest, filling) = (continued.is leads.level leads.mask (p ++ (k + 1) ∷ []) (length_push p (k + 1) ∙ ap (λ n. n + 1) long) then).0 leads.here in
-    let P : List ℕ → Type 0 = λ line. IsFilling sets clue line in
-    (rest, subst P (append_assoc p ((k + 1) ∷ []) rest) filling)
+    (rest, rw (append_assoc p ((k + 1) ∷ []) rest) at filling)
 
 -- the next value of a filling leads from its front's level to the next levels
 passing_step : {sets : List ℕ} {levels after : List (List ℕ)} {clue place level mask : ℕ} (p : List ℕ) (k : ℕ) (s : List ℕ) → place < length sets
     → AreReached sets clue place levels → AreContinued sets clue (place + 1) after → length p ≡ place → IsAtLevel sets clue level mask p
     → IsFilling sets clue (p ++ (k + 1) ∷ s) → IsPassing place (length sets) clue k levels after level mask
 passing_step {sets} {levels} {after} {clue} {place} {level} {mask} p k s inside reached continued long at filling =
-    let P : List ℕ → Type 0 = λ line. IsFilling sets clue line in
-    let whole : (p ++ (k + 1) ∷ []) ++ s ≡ p ++ (k + 1) ∷ s = append_assoc p ((k + 1) ∷ []) s in
-    let filling' = subst P (sym whole) filling in
+    let filling' : IsFilling sets clue ((p ++ (k + 1) ∷ []) ++ s) = rw (append_assoc p ((k + 1) ∷ []) s) filling in
     let (mask_then, then) = front_level (p ++ (k + 1) ∷ []) s (omega arith) filling' in
     let back = stepped p k then in
     let same_mask : back.mask_before ≡ mask = low_unique p back.front.used at.used in
-    let L : ℕ → Type 0 = λ l. IsStep place (length sets) clue k l back.mask_before (seen (p ++ (k + 1) ∷ [])) mask_then in
-    let M : ℕ → Type 0 = λ m. IsStep place (length sets) clue k level m (seen (p ++ (k + 1) ∷ [])) mask_then in
     record {
       low = at.low;
       here = (reached level mask).1 (p, long, at);
@@ -183,49 +177,9 @@ passing_step {sets} {levels} {after} {clue} {place} {level} {mask} p k s inside 
         level = seen (p ++ (k + 1) ∷ []);
         mask = mask_then;
         here = (continued.is (seen (p ++ (k + 1) ∷ [])) mask_then (p ++ (k + 1) ∷ []) (length_push p (k + 1) ∙ ap (λ n. n + 1) long) then).1 (s, filling');
-        link = subst M same_mask (subst L at.shown (step_at long back.step));
+        link = rw (← at.shown, ← same_mask) (step_at long back.step);
       };
     }
-
--- the value at a place of a filling, with what is before and after it
-pub record IsParted (sets : List ℕ) (clue place value : ℕ) : Type 0 where
-  pub front : List ℕ
-  pub rest : List ℕ
-  pub k : ℕ
-  pub long : length front ≡ place
-  pub is : value ≡ k + 1
-  pub candidate : has_number (get_or sets place 0) (k + 1) ≡ true
-  pub inside : k < length sets
-  pub filling : IsFilling sets clue (front ++ (k + 1) ∷ rest)
-
--- of a filling that is parted at the place
-parted : {sets : List ℕ} {clue : ℕ} (place : ℕ) (p : List ℕ) (value : ℕ) (s : List ℕ) → length p ≡ place → IsFilling sets clue (p ++ value ∷ s)
-    → IsParted sets clue place value
-parted {sets} {clue} place p value s long filling =
-    let next = start_next p value s filling.start in
-    let low = next.low in
-    let high = next.high in
-    let e : value ≡ (value - 1) + 1 = omega arith in
-    let P : ℕ → Type 0 = λ v. IsFilling sets clue (p ++ v ∷ s) in
-    record {
-      front = p;
-      rest = s;
-      k = value - 1;
-      long = long;
-      is = e;
-      candidate = rw (long, e) at next.candidate;
-      inside = omega arith;
-      filling = subst P e filling;
-    }
-
--- of a filling that has the value at the place
-parted_at : {sets : List ℕ} {clue place value : ℕ} → IsSupported sets clue place value → IsParted sets clue place value
-parted_at {sets} {clue} {place} {value} h =
-    let within : place < length h.line = omega (arith, h.inside, h.filling.whole) in
-    let rest : drop place h.line ≡ value ∷ drop (place + 1) h.line = drop_more h.line place 0 within ∙ ap (λ x. x ∷ drop (place + 1) h.line) h.here in
-    let whole : take place h.line ++ value ∷ drop (place + 1) h.line ≡ h.line = ap (λ s. take place h.line ++ s) (sym rest) ∙ take-append-drop place h.line in
-    let P : List ℕ → Type 0 = λ l. IsFilling sets clue l in
-    parted place (take place h.line) value (drop (place + 1) h.line) (length-take-le place h.line (omega arith)) (subst P (sym whole) h.filling)
 
 -- one value less
 pub before_continued : {sets : List ℕ} {clue place : ℕ} {levels after before : List (List ℕ)} → place < length sets → AreReached sets clue place levels
@@ -246,14 +200,12 @@ before_continued {sets} {clue} {place} {levels} {after} {before} inside reached 
         → has_at before level mask ≡ true
     each level mask line [] long at filling = let whole = rw append-nil at filling.whole in absurd (omega arith)
     each level mask line (value ∷ s) long at filling =
-        let p = parted place line value s long filling in
-        let P : ℕ → Type 0 = λ v. IsFilling sets clue (line ++ v ∷ s) in
-        (is level mask).1 record {
-          k = p.k;
-          inside = p.inside;
-          candidate = p.candidate;
-          passing = passing_step line p.k s inside reached continued long at (subst P p.is filling);
-        }
+        let next = start_next line value s filling.start in
+        let low = next.low in
+        let high = next.high in
+        let e : value ≡ (value - 1) + 1 = omega arith in
+        let passing = passing_step line (value - 1) s inside reached continued long at (rw e at filling) in
+        (is level mask).1 record { k = value - 1; inside = omega arith; candidate = rw (long, e) at next.candidate; passing = passing }
 
 -- the values that lead from some start with so many values to one that a filling begins with
 pub kept_supported : {sets : List ℕ} {clue place : ℕ} {levels after : List (List ℕ)} → place < length sets → AreReached sets clue place levels
@@ -263,17 +215,15 @@ kept_supported {sets} {clue} {place} {levels} {after} inside reached continued v
   λ h.
       let (line, long, at) = (reached h.level h.mask).0 h.passing.here in
       let (rest, filling) = continued_step line inside continued long h.candidate at h.passing.leads in
-      record {
-        line = line ++ (h.k + 1) ∷ rest;
-        filling = filling;
-        inside = inside;
-        here = get_or_at line (h.k + 1) rest 0 place long ∙ sym h.is;
-      },
+      record { line = line ++ (h.k + 1) ∷ rest; filling = filling; inside = inside; here = get_or_at line (h.k + 1) rest 0 place long ∙ sym h.is },
   λ h.
-      let p = parted_at h in
-      let (mask, at) = front_level p.front ((p.k + 1) ∷ p.rest) (omega arith) p.filling in
-      let passing = passing_step p.front p.k p.rest inside reached continued p.long at p.filling in
-      record { k = p.k; is = p.is; inside = p.inside; candidate = p.candidate; level = seen p.front; mask = mask; passing = passing },
+      let p = parted place h.line (omega (arith, h.filling.whole)) h.filling.start in
+      let high = p.next.high in
+      let value_is : value ≡ p.k + 1 = sym h.here ∙ ap (λ l. get_or l place 0) p.is ∙ get_or_at p.front (p.k + 1) p.rest 0 place p.long in
+      let filling : IsFilling sets clue (p.front ++ (p.k + 1) ∷ p.rest) = rw (← p.is) h.filling in
+      let (mask, at) = front_level p.front ((p.k + 1) ∷ p.rest) (omega arith) filling in
+      let passing = passing_step p.front p.k p.rest inside reached continued p.long at filling in
+      record { k = p.k; is = value_is; inside = omega arith; candidate = rw p.long at p.next.candidate; level = seen p.front; mask = mask; passing = passing },
 )
 
 -- ---- an entry of a table that is put in

@@ -35,9 +35,7 @@ others_less left value others here are =
     let rest : left - 2 ^ value + 2 ^ value ≡ left = omega arith in
     let added : IsAdded (left - 2 ^ value) value left = added_without (left - 2 ^ value) value left here rest in
     let same : others ≡ left - 2 ^ value = same_set others (left - 2 ^ value) (λ n. elim (cases_eq n value) [
-      | inl is ↦
-          let P : ℕ → Type 0 = λ m. has_number others m ≡ has_number (left - 2 ^ value) m in
-          subst P (sym is) (others_lack left value others are ∙ sym (added_lacks added))
+      | inl is ↦ rw is (others_lack left value others are ∙ sym (added_lacks added))
       | inr other ↦
           let lacks : eqb n value ≡ false = false_from_ne_true (eqb n value) (λ s. other (eqb-true n value s)) in
           are n ∙ ap (λ b. has_number left n && not b) lacks ∙ and-true (has_number left n) ∙ added_other added n other

@@ -1,5 +1,5 @@
 -- One place after another has the levels of the starts with so many values.
-use Rattle.std.proofs.Common.{◌≡◌, ℕ, ◌+◌, ◌-◌, ◌<◌, ◌↔◌, ◌++◌, true, false, List, [], length, get_or, set, sym, ap, ◌∙◌, subst, arith, rules, length-set}
+use Rattle.std.proofs.Common.{◌≡◌, ℕ, ◌+◌, ◌-◌, ◌<◌, ◌++◌, false, List, [], length, get_or, set, sym, ap, ◌∙◌, arith, rules, length-set}
 use Rattle.std.proofs.lemmas.List.{get_or-set_other, set-append_right}
 use Rattle.std.proofs.lemmas.Grind.{get_or_default_zero}
 use Rattle.tower_lines.specs.Inner.MaskSets.{has_at}
@@ -32,8 +32,7 @@ add_levels-requires g c =
     let place = c.loop-place.place in
     let levels = get_or c.split_at_mut-done.result.0.now place [] in
     let same = c.split_at_mut-done.ensures.by_index.0 place [] (omega arith) in
-    let L : List (List ℕ) → Type 0 = λ l. AreReached c.args.sets.now c.args.clue place l in
-    let reached = subst L (sym same) (c.loop-place.invariant.reached place (omega arith)) in
+    let reached : AreReached c.args.sets.now c.args.clue place levels = rw same (c.loop-place.invariant.reached place (omega arith)) in
     (search rules, (search rules, (omega arith, (c.requires.room, (c.requires.clue, (c.requires.small, reached_few levels reached))))))
 
 pub loop-place-preserved : goal.loop-place-preserved
@@ -50,18 +49,14 @@ loop-place-preserved g c =
     let joined : front ++ set back 0 next ≡ set starts (place + 1) next =
     set_after front back (place + 1) next parts.front_len ∙ ap (λ (s : List (List (List ℕ))). set s (place + 1) next) (sym parts.value) in
     let inside : place < length sets = omega arith in
-    let L : List (List ℕ) → Type 0 = λ l. AreReached sets clue place l in
-    let before = subst L (sym (parts.by_index.0 place [] (omega arith))) (c.loop-place.invariant.reached place (omega arith)) in
+    let before : AreReached sets clue place levels = rw (parts.by_index.0 place [] (omega arith)) (c.loop-place.invariant.reached place (omega arith)) in
     let values : c.index-sets-place.result ≡ get_or sets place 0 = c.index-sets-place.is ∙ get_or_default_zero sets place c.index-sets-place.result inside in
     let blank : (level mask : ℕ) → has_at (get_or back 0 []) level mask ≡ false = λ level mask. ap (λ (l : List (List ℕ)). has_at l level mask) (parts.by_index.1 0 []) ∙ c.loop-place.invariant.none (place + 1 + 0) level mask (omega arith) (omega arith) in
     let reached = added_alone (IsReachedFrom place (length sets) clue c.index-sets-place.result levels) (get_or back 0 []) next blank c.add_levels.ensures in
-    let S : ℕ → Type 0 = λ v. (level mask : ℕ) → (has_at next level mask ≡ true) ↔ IsReachedFrom place (length sets) clue v levels level mask in
-    let after : AreReached sets clue (place + 1) next = next_reached next inside before (subst S values reached) in
+    let after : AreReached sets clue (place + 1) next = next_reached next inside before (rw values at reached) in
     record {
       long = ap (λ (s : List (List (List ℕ))). length s) joined ∙ length-set starts (place + 1) next ∙ c.loop-place.invariant.long;
-      reached = λ p low.
-          let R : List (List (List ℕ)) → Type 0 = λ s. AreReached sets clue p (get_or s p []) in
-          subst R (sym joined) (set_each (AreReached sets clue) starts (place + 1) p next [] (omega (arith, c.loop-place.invariant.long)) after
+      reached = λ p low. rw joined (set_each (AreReached sets clue) starts (place + 1) p next [] (omega (arith, c.loop-place.invariant.long)) after
           (λ other. c.loop-place.invariant.reached p (omega arith)));
       none = λ p level mask later inside.
           ap (λ (s : List (List (List ℕ))). has_at (get_or s p []) level mask) joined ∙ ap (λ (levels : List (List ℕ)). has_at levels level mask) (get_or-set_other starts (place + 1) p next [] (omega arith))

@@ -1,13 +1,12 @@
 -- One place after another, from the last, has the starts that a filling begins with, and its values.
-use Rattle.std.proofs.Common.{◌≡◌, ℕ, ◌+◌, ◌-◌, ◌<◌, ◌↔◌, inl, inr, true, false, List, [], length, get_or, replicate, ap, ◌∙◌, subst, arith, rules, length-set}
+use Rattle.std.proofs.Common.{◌≡◌, ℕ, ◌+◌, ◌-◌, ◌<◌, ◌↔◌, inl, inr, true, false, List, [], length, get_or, replicate, ap, ◌∙◌, arith, rules, length-set}
 use Rattle.std.proofs.lemmas.Bool.{cases_lt, both_ways}
 use Rattle.std.proofs.lemmas.List.{get_or-replicate, get_or_past, length-replicate}
 use Rattle.std.proofs.lemmas.Grind.{get_or_default_zero}
 use Rattle.number_sets.specs.Sets.{has_number}
 use Rattle.number_sets.proofs.Members.{has_number-none}
 use Rattle.tower_lines.specs.LineFillings.{IsSupported}
-use Rattle.tower_lines.specs.Inner.MaskSets.{has_at}
-use Rattle.tower_lines.specs.Inner.Levels.{AreContinued, IsPassed, IsKeptBy}
+use Rattle.tower_lines.specs.Inner.Levels.{AreContinued}
 use Rattle.tower_lines.proofs.LevelTables.{reached_few, last_continued, before_continued, kept_supported, set_each}
 use Rattle.tower_lines.proofs.line_fillings.supported_by.Goals as goal
 
@@ -52,12 +51,9 @@ loop-place-preserved g c =
     let next : c.loop-place.place ≡ at + 1 = omega arith in
     let reached = c.add_starts.ensures at (omega arith) in
     let values : c.index-sets-place.result ≡ get_or sets at 0 = c.index-sets-place.is ∙ get_or_default_zero sets at c.index-sets-place.result inside in
-    let C : ℕ → Type 0 = λ p. AreContinued sets clue p after in
-    let continued = subst C next c.loop-place.invariant.continued in
-    let B : ℕ → Type 0 = λ v. (level mask : ℕ) → (has_at c.pass_back.new.after level mask ≡ true) ↔ IsPassed at (length sets) clue v levels after level mask in
-    let K : ℕ → Type 0 = λ v. (value : ℕ) → (has_number c.pass_back.result value ≡ true) ↔ IsKeptBy at (length sets) clue v levels after value in
-    let passed = subst B values c.pass_back.ensures.before in
-    let kept_here = subst K values c.pass_back.ensures.kept in
+    let continued : AreContinued sets clue (at + 1) after = rw (← next) c.loop-place.invariant.continued in
+    let passed = rw values at c.pass_back.ensures.before in
+    let kept_here = rw values at c.pass_back.ensures.kept in
     let long : at < length kept = omega (arith, c.loop-place.invariant.long) in
     record {
       long = length-set kept at c.pass_back.result ∙ c.loop-place.invariant.long;
