@@ -1,10 +1,10 @@
 -- Decimal numbers without leading zeros: what is read is std's `decimal` of the number, and `decimal` is read.
-use Rattle.std.proofs.Common.{◌≡◌, ◌≢◌, ℕ, ◌+◌, ◌-◌, ◌*◌, ◌^◌, ◌<◌, ◌≤◌, Bool, true, false, ◌&&◌, List, [], ◌∷◌, length, get_or, Option, Some, None, ◌==◌, cond, refl, sym, ap, ◌∙◌, arith, rules, IfSome}
+use Rattle.std.proofs.Common.{◌≡◌, ◌≢◌, ℕ, ◌+◌, ◌-◌, ◌*◌, ◌^◌, ◌<◌, ◌≤◌, Bool, true, false, ◌&&◌, List, [], ◌∷◌, length, get_or, Option, Some, None, inl, inr, refl, sym, ap, ◌∙◌, arith, rules, IfSome}
 use Rattle.std.specs.Fmt.{decimal}
 use Rattle.std.proofs.lemmas.Str.Parse.{IsNumeralModel, numerals_by_fold}
 use Rattle.std.proofs.lemmas.Fmt.{decimal-digits_value, digits_decimal, digits_value-decimal, decimal_nonempty, first_decimal, decimal_digit}
-use borrow.Author.Tests.{eqb-true, eqb-false, leb-true, le-leb, apart_eqb}
-use Rattle.std.proofs.lemmas.Bool.{and_parts}
+use borrow.Author.Tests.{eqb-false, leb-true, le-leb, apart_eqb}
+use Rattle.std.proofs.lemmas.Bool.{and_parts, cases_eq, cond_both}
 use Rattle.std.proofs.lemmas.Option.{cond_some, option_and_then_some}
 use Rattle.byte_text.specs.Bytes.{digit}
 use Rattle.byte_text.specs.Cuts.{Lacks}
@@ -73,29 +73,26 @@ no_leading_zero (b ∷ []) other = refl
 no_leading_zero (b ∷ c ∷ bs) other = apart_eqb b 48 other
 
 decimal_no_leading_zero : (m : ℕ) → m < 2 ^ 64 → has_leading_zero (decimal m) ≡ false
-decimal_no_leading_zero m fits =
-    elim (m == 0) as (λ t. (m == 0) ≡ t → has_leading_zero (decimal m) ≡ false) [
-      | true ↦ λ zero. rw (eqb-true m 0 zero, decimal_digit 0 (omega arith)) refl
-      | false ↦ λ other.
-          let positive : 0 < m = let apart = eqb-false m 0 other in omega arith in
-          let first = first_decimal m positive fits in
-          no_leading_zero (decimal m) (λ e. absurd (omega arith))
-    ] refl
+decimal_no_leading_zero m fits = elim (cases_eq m 0) [
+  | inl zero ↦ rw (zero, decimal_digit 0 (omega arith)) refl
+  | inr other ↦
+      let positive : 0 < m = omega arith in
+      let first = first_decimal m positive fits in no_leading_zero (decimal m) (λ e. absurd (omega arith))
+]
 
 -- what is read is written so
 pub number_taken : (greatest m : ℕ) (bs : List ℕ) → greatest < 2 ^ 64 → decimal_value greatest bs ≡ Some m
     → (bs ≡ decimal m) × (m ≤ greatest)
 unfolding decimal_value
 number_taken greatest m [] = λ fits read. cc
-number_taken greatest m (b ∷ bs) =
-    elim (has_leading_zero (b ∷ bs)) as (λ t. has_leading_zero (b ∷ bs) ≡ t → greatest < 2 ^ 64 → cond t None (number_from greatest 0 (b ∷ bs)) ≡ Some m → (b ∷ bs ≡ decimal m) × (m ≤ greatest)) [
-      | true ↦ λ zero fits read. cc
-      | false ↦ λ none fits read.
-          let (digits, value, within) = from_taken greatest 0 m (b ∷ bs) (omega arith) read in
-          let below : value_onto 0 (b ∷ bs) < 2 ^ 64 = omega (arith, value, within) in
-          let written = decimal-digits_value own (b ∷ bs) digits (omega arith) (single_zero (b ∷ bs) none) below in
-          (sym written ∙ ap decimal value, within)
-    ] refl
+number_taken greatest m (b ∷ bs) = λ fits.
+    cond_both (has_leading_zero (b ∷ bs)) None (number_from greatest 0 (b ∷ bs)) (λ read. read ≡ Some m → (b ∷ bs ≡ decimal m) × (m ≤ greatest))
+    (λ zero read. cc)
+    (λ none read.
+    let (digits, value, within) = from_taken greatest 0 m (b ∷ bs) (omega arith) read in
+    let below : value_onto 0 (b ∷ bs) < 2 ^ 64 = omega (arith, value, within) in
+    let written = decimal-digits_value own (b ∷ bs) digits (omega arith) (single_zero (b ∷ bs) none) below in
+    (sym written ∙ ap decimal value, within))
 
 number_of_digits : (greatest : ℕ) (bs : List ℕ) → 0 < length bs → has_leading_zero bs ≡ false
     → decimal_value greatest bs ≡ number_from greatest 0 bs
