@@ -13,10 +13,10 @@ use Rattle.clue_rules.specs.declared.unequal.item.Item.{Item}
 use Rattle.clue_rules.specs.declared.unequal.item.Item.TheVariants.{RightSign, LowerSign, Given}
 use Rattle.clue_rules.specs.declared.unequal.sign.Sign.{Sign}
 use Rattle.clue_rules.specs.declared.unequal.sign.Sign.TheVariants.{Absent, FirstGreater, SecondGreater}
-use Rattle.clue_rules.specs.Unequal.{UnequalValue, IsUnequal, right_sign, lower_sign, sign_between, holds_sign, unequal_puzzle, pairs_across, unequal_items, item_at, item_number, is_present, has_item, has_unequal, keeps_kind, cut_unequal, sign_of, sign_in_grid, full_unequal, unequal_given_grid}
+use Rattle.clue_rules.specs.Unequal.{UnequalValue, IsUnequal, IsGreater, right_sign, lower_sign, sign_between, holds_sign, unequal_puzzle, pairs_across, unequal_items, item_at, item_number, is_present, has_item, has_unequal, keeps_kind, cut_unequal, sign_of, sign_in_grid, full_unequal, unequal_given_grid}
 use Rattle.clue_rules.specs.Items.{kept_items}
 use Rattle.clue_rules.specs.Laws.Neighbours.{IsNext, right_of, below_of, next_line, next_inside}
-use Rattle.clue_rules.specs.Laws.Signs.{IsSaid, said_next, right_between, below_between, sign_held, each_sign_held, signed_between, signed_valid}
+use Rattle.clue_rules.specs.Laws.Signs.{IsSaid, first_said, second_said, said_next, right_between, below_between, sign_held, each_sign_held, signed_between, signed_valid}
 use Rattle.clue_rules.specs.Laws.KeptItems.{length-kept, entry-kept, kept-all, kept-kept, kept-same, present_kept, not_positive, still_asked, none_asked, small_widths, IsGrid-kept}
 
 -- what holds of every puzzle
@@ -210,6 +210,29 @@ cut_between v keep a b = elim (cases_eq b (a + 1)) [
     either : (t : Bool) (s : Sign) → ((if t then s else Absent) ≡ s) ⊎ ((if t then s else Absent) ≡ Absent)
     either true s = inl refl
     either false s = inr refl
+
+-- a cut says of no two squares which is the greater, where the whole doesn't
+pub cut_greater : (v : UnequalValue) (keep : ℕ → Bool) (a b : ℕ) → IsGreater (cut_unequal v keep) a b → IsGreater v a b
+cut_greater v keep a b h = elim h [
+  | inl first ↦ elim (cut_between v keep a b) [
+    | inl same ↦ inl (sym same ∙ first)
+    | inr none ↦ absurd (first_said (sym none ∙ first))
+  ]
+  | inr second ↦ elim (cut_between v keep b a) [
+    | inl same ↦ inr (sym same ∙ second)
+    | inr none ↦ absurd (second_said (sym none ∙ second))
+  ]
+]
+
+-- a given of a cut is that of the whole
+pub cut_given : (v : UnequalValue) (keep : ℕ → Bool) (cell : ℕ) → 0 < slice_index (cut_unequal v keep).givens cell
+    → slice_index (cut_unequal v keep).givens cell ≡ slice_index v.givens cell
+cut_given v keep cell =
+    rw (entry-kept zero (keeps_kind v.size keep Given) 0 v.givens cell cell (omega arith)) (either (keeps_kind v.size keep Given cell))
+  where
+    either : {n : ℕ} (b : Bool) → 0 < (if b then n else zero) → (if b then n else zero) ≡ n
+    either true low = refl
+    either false low = absurd (omega arith)
 
 -- a cut loses no solution
 pub cut_solved : (v : UnequalValue) (keep : ℕ → Bool) (g : GridValue) → Solves (unequal_puzzle v) g → Solves (unequal_puzzle (cut_unequal v keep)) g
