@@ -20,16 +20,6 @@ use Rattle.trail_solver.proofs.FilledGrids.{solution_pair}
 use Rattle.trail_solver.proofs.SearchSteps.{further_trans}
 use Rattle.trail_solver.proofs.StruckSets.{RemovesAll, missing_strikes, rest_struck, struck_earlier}
 
--- a set that shares nothing with the candidates has none of them
-pub unshared_lacks : (c : CandidatesValue) (cell values set : ℕ) → IsSetOf c cell values
-    → ((n : ℕ) × (has_number values n ≡ true) × (has_number set n ≡ true) → ⊥)
-    → (v : ℕ) → IsPair c.size cell v → may_be c cell v ≡ true → has_number set v ≡ false
-unshared_lacks c cell values set is apart v pair left =
-    elim (cases_Bool (has_number set v)) [
-      | inl has ↦ absurd (apart (v, (is v).1 (pair, left), has))
-      | inr lacks ↦ lacks
-    ]
-
 -- a solution among the candidates has none of the values of a square that is shut
 pub shut_lacks : (p : Puzzle) (c : CandidatesValue) (n : Nogood) (k : ℕ) (g : GridValue) → c.size ≡ p.size → IsShut c n k → IsAmong p c g
     → Lacks g (slice_index n.cells k) (slice_index n.sets k)
