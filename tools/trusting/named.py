@@ -30,7 +30,7 @@ class Row(NamedTuple):
 
 def rows() -> Iterator[Row]:
     """The rows of both documents."""
-    for path, at in (('README.md', -2), ('docs/PROMISES.md', 1)):
+    for path in ('README.md', 'docs/PROMISES.md'):
         crates: Tuple[str, ...] = ()
         column = None
         for line in (ROOT / path).read_text(encoding='utf-8').splitlines():
