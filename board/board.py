@@ -83,8 +83,13 @@ class Hint(NamedTuple):
     """What follows: a number in a square (`follows`), nothing (`nothing`), or that the numbers are wrong (`contradiction`)."""
 
     kind: str
-    square: Optional[Place]
+    #: The square, counted in reading order from 0.
+    cell: Optional[int]
     number: Optional[int]
+
+    def square(self, size: int) -> Optional[Place]:
+        """Of a board of this size."""
+        return None if self.cell is None else (self.cell % size, self.cell // size)
 
 
 class Reply(NamedTuple):
@@ -107,7 +112,7 @@ def reply_of(data: Mapping[str, Any]) -> Reply:
         return Reply(str(data['lost']), [], None, is_lost=True)
     session = session_of(data['session']) if data['session'] else None
     board = board_of(data['board'], session) if session and data.get('board') else None
-    hint = hint_of(data['hint'], session) if session and data.get('hint') else None
+    hint = Hint(data['hint']['kind'], data['hint']['cell'], data['hint']['number']) if data.get('hint') else None
     return Reply(data['refused'], list(data['reply']), session, board, data.get('completable'), hint)
 
 
@@ -134,9 +139,3 @@ def board_of(data: Mapping[str, Any], session: Session) -> Board:
         signs=[Sign(place(sign['greater']), place(sign['less']), sign['error']) for sign in data['signs']],
         wrong=frozenset(map(place, data['errors'])),
     )
-
-
-def hint_of(data: Mapping[str, Any], session: Session) -> Hint:
-    size = int(session.id[0])
-    cell = data['cell']
-    return Hint(data['kind'], None if cell is None else (cell % size, cell // size), data['number'])

@@ -3,7 +3,7 @@
 from __future__ import annotations
 
 import time
-from typing import List, Optional
+from typing import Callable, Dict, List, Optional
 
 from board import games, keys, manual, menu
 from board.board import GAMES, Place
@@ -28,6 +28,38 @@ class FullScreen:
         self._cursor: Place = (0, 0)
         self._is_pencil = False
         self._key = Key('')
+        #: What each key does, but those of `keys`.
+        self._actions: Dict[str, Callable[[], None]] = {
+            'enter': self._enter,
+            'p': self._pencil,
+            ' ': self._clear,
+            '0': self._clear,
+            'backspace': self._clear,
+            'delete': self._clear,
+            'm': self._all_marks,
+            'u': self._undo,
+            '\x1a': self._undo,
+            'r': self._redo,
+            '\x12': self._redo,
+            'd': self._done_mark,
+            'R': self._restart,
+            'h': self._hint,
+            'c': self._check,
+            'S': self._solve,
+            'n': self._new,
+            'o': self._open,
+            'w': self._save_as,
+            'i': self._show_id,
+            '?': self._help,
+            ':': self._command,
+            'T': self._lines,
+            'Z': self._suspend,
+            '\x0c': self._redraw,
+            'mouse': self._mouse,
+            'q': self._quit,
+            '\x03': self._quit,
+            'resize': self._nothing,
+        }
         self._file = ''
         self._is_over = False
         #: Whether the player goes on in lines of text.
@@ -66,8 +98,8 @@ class FullScreen:
             self._move(*keys.STEPS[key])
         elif key.isdigit() and key != '0':
             self._number(int(key))
-        elif key in keys.ACTIONS:
-            getattr(self, f'_{keys.ACTIONS[key]}')()
+        elif key in self._actions:
+            self._actions[key]()
         else:
             self.table.message = 'That key does nothing: ? shows those that do.'
 

@@ -101,12 +101,15 @@ def seeded(path: str, game: str, size: int, waiting: Waiting) -> str:
 def follows(program: Program, id: str, waiting: Waiting) -> bool:
     """Whether hint after hint fills the board."""
     program.ask(f'new {id}', waiting)
-    while True:
+    board: Optional[Board] = program.ask('board', waiting).board
+    while board is not None:
         hint = program.ask('hint', waiting).hint
-        if hint is None or hint.square is None:
-            board: Optional[Board] = program.ask('board', waiting).board
+        square = hint.square(board.size) if hint else None
+        if hint is None or square is None:
+            board = program.ask('board', waiting).board
             return board is not None and board.is_solved
-        program.ask(f'move R{hint.square[0]},{hint.square[1]},{hint.number}', waiting)
+        program.ask(f'move R{square[0]},{square[1]},{hint.number}', waiting)
+    return False
 
 
 def summary(path: str, old: OldGame, waiting: Waiting) -> str:

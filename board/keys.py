@@ -19,38 +19,5 @@ STEPS: Dict[str, Tuple[int, int]] = {
     'j': (0, 1),
 }
 
-#: The other keys, by what they do: a method of `fullscreen`.
-ACTIONS: Dict[str, str] = {
-    'enter': 'enter',
-    'p': 'pencil',
-    ' ': 'clear',
-    '0': 'clear',
-    'backspace': 'clear',
-    'delete': 'clear',
-    'm': 'all_marks',
-    'u': 'undo',
-    '\x1a': 'undo',
-    'r': 'redo',
-    '\x12': 'redo',
-    'd': 'done_mark',
-    'R': 'restart',
-    'h': 'hint',
-    'c': 'check',
-    'S': 'solve',
-    'n': 'new',
-    'o': 'open',
-    'w': 'save_as',
-    'i': 'show_id',
-    '?': 'help',
-    ':': 'command',
-    'T': 'lines',
-    'Z': 'suspend',
-    '\x0c': 'redraw',
-    'mouse': 'mouse',
-    'q': 'quit',
-    '\x03': 'quit',
-    'resize': 'nothing',
-}
-
 #: Keys that do their work where the board has no room, too.
 WITHOUT_BOARD = {'n', 'o', 'w', 'i', '?', 'T', 'Z', '\x0c', 'q', '\x03', 'resize'}

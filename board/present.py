@@ -101,15 +101,15 @@ class PresentGame:
         again = self._hinted
         if again is not None and again.hint and again.session == self.board.session:
             self.message = f'It is a {again.hint.number}.'
-            return again.hint.square
+            return again.hint.square(self.board.size)
         reply = self.ask('hint')
         if reply is None or reply.hint is None:
             return None
-        if reply.hint.square is None:
+        if reply.hint.cell is None:
             self.message = 'The board is full.' if self.board.is_full and reply.hint.kind == 'nothing' else texts.HINTS[reply.hint.kind]
             return None
         self._hinted = reply
-        return reply.hint.square
+        return reply.hint.square(self.board.size)
 
     def check(self) -> None:
         """Whether the numbers can still be completed."""

@@ -1,1 +1,2 @@
-"""The cases of tests/exchange/run: our saves opened by the usual programs (`ours`), and theirs by ours (`theirs`)."""
+"""Our saves opened by the usual programs, sgt-towers and sgt-unequal of Debian's package sgt-puzzles, without a window; and theirs by ours, solved, and
+saved again byte for byte."""

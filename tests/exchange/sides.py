@@ -7,7 +7,7 @@ import re
 import subprocess
 from typing import Iterable, List, Optional, Sequence
 
-from tests.harness import Ended, Report, Room, run
+from tests.harness import Ended, Room, run
 
 #: Where Debian has the usual programs.
 USUAL_PATH = '/usr/games'
@@ -17,19 +17,15 @@ PICTURE_SECONDS, PUZZLE_SECONDS = 60, 300
 
 
 class Sides:
-    """Both programs, in a room with the saves and pictures that they make; what is found is counted in a report."""
+    """Both programs, in a room with the saves and pictures that they make."""
 
-    def __init__(self, report: Report, room: Room, program: str) -> None:
-        self.report = report
+    def __init__(self, room: Room, program: str) -> None:
         self.room = room
         self._program = program
         self._env = {'PATH': f'{os.environ.get("PATH", os.defpath)}:{USUAL_PATH}'}
 
     def check(self, name: str, holds: bool, otherwise: str = 'it is not so') -> None:
-        self.report.check(name, [] if holds else [otherwise])
-
-    def same(self, name: str, found: object, wanted: object) -> None:
-        self.check(name, found == wanted, f'found {found!r:.300}, wanted {wanted!r:.300}')
+        assert holds, f'{name}: {otherwise}'
 
     # Our side
 

@@ -7,7 +7,7 @@ from __future__ import annotations
 
 from typing import Iterator, List, NamedTuple, Tuple
 
-from tests.harness import FaultLibrary, Report, Room, run
+from tests.harness import FaultLibrary, Room, run
 
 
 class Answer(NamedTuple):
@@ -24,8 +24,7 @@ class Answer(NamedTuple):
 class Calls:
     """The program of the calls, run under faults."""
 
-    def __init__(self, report: Report, room: Room, program: str, library: FaultLibrary) -> None:
-        self.report = report
+    def __init__(self, room: Room, program: str, library: FaultLibrary) -> None:
         self.room = room
         self.program = program
         self.library = library
@@ -33,17 +32,15 @@ class Calls:
         # refused again.
         self.full_game, self.full_first = '', 1
 
-    def rounds(self) -> None:
-        listed = run([self.program, 'calls'], self.room).output.decode()
-        for line in listed.splitlines():
-            game, call = line.split()
-            self.refuse(game, call)
+    def listed(self) -> List[Tuple[str, str]]:
+        """A game and a call of it for each line."""
+        lines = run([self.program, 'calls'], self.room).output.decode().splitlines()
+        return [(game, call) for game, call in map(str.split, lines)]
 
     def refuse(self, game: str, call: str) -> None:
         """The Nth request is refused, and then all from the Nth on, until the call is behind it."""
-        check = self.report.check
         ample = self.answer(game, call, 0, False)
-        check(f'{game} {call}, with ample memory', [] if ample.status == 0 else [f'the status is {ample.status}'])
+        assert ample.status == 0, f'{game} {call}, with ample memory'
         is_full = call.startswith('full-')
         first = self.full_first if is_full and game == self.full_game else 1
         refusals = 0
@@ -53,13 +50,13 @@ class Calls:
                     first = at + 1
                     continue
                 refusals += found.lines[0] == b'OutOfMemory'
-                check(f'{game} {call}, request {at} refused {"on" if is_on else "once"}', wrong_answer(found, ample))
+                assert wrong_answer(found, ample) == [], f'{game} {call}, request {at} refused {"on" if is_on else "once"}'
         if is_full:
             self.full_game, self.full_first = game, max(first - 4, 1)
         if is_full or call.startswith('wrong-'):
-            check(f'{game} {call}', ['is answered with want of memory'] if refusals else [])
+            assert not refusals, f'{game} {call}'
         else:
-            check(f'{game} {call}', [] if refusals else ['never asks for memory'])
+            assert refusals, f'{game} {call}'
 
     def answers(self, game: str, call: str, first: int, is_on: bool) -> Iterator[Tuple[int, Answer]]:
         """The answers, as long as there is such a request and the call is not yet behind it."""

@@ -4,8 +4,8 @@ from __future__ import annotations
 
 from typing import Dict, List
 
-from tests.faults.memory import GAME_SAVE, OLD_SAVE
-from tests.faults.rounds import Round, Rounds, Target
+from tests.faults.memory import GAME_SAVE
+from tests.faults.rounds import Round, Rounds
 
 FIRST = b"""\
 new 3:3//////3/////
@@ -26,23 +26,10 @@ MOVES = b'move R0,0,1\nmove R1,0,2\nundo\nstatus'
 OUTPUT_ERRORS = ['EIO', 'EINTR', 'ENOSPC', 'ZERO']
 
 
-def rounds_of_devices(rounds: Rounds) -> None:
-    rounds.target = Target(OLD_SAVE)
-    rounds.words = ['towers', '--save', 'new.sav']
-    for name, script in (('the first game', FIRST), ('the saved game', SAVED)):
-        rounds.input = script
-        whole = whole_run(rounds, name)
-        for piece in (1, 7, 4096):
-            input_fails(rounds, name, whole, piece)
-        for piece in (1, 4096):
-            output_fails(rounds, name, whole, piece)
-    load_fails(rounds)
-
-
-def whole_run(rounds: Rounds, name: str) -> Round:
+def whole_run(rounds: Rounds) -> Round:
     """The run in which nothing fails."""
     whole = rounds.run()
-    rounds.report.check(f'{name}, where nothing fails', whole.wrong_end(0, '') + whole.wrong_left())
+    assert whole.wrong_end(0, '') + whole.wrong_left() == [], 'where nothing fails'
     return whole
 
 
@@ -66,14 +53,12 @@ def wrong_result(found: Round, whole: Round) -> List[str]:
     return wrong
 
 
-def input_fails(rounds: Rounds, name: str, whole: Round, piece: int) -> None:
+def input_fails(rounds: Rounds, whole: Round, piece: int) -> None:
     """Each read fails in turn. The lines that had come whole are answered, and nothing follows."""
-    check = rounds.report.check
     script = rounds.input
-    title = f'{name}, read in pieces of {piece}'
     found = rounds.run('input', piece=piece)
-    check(title, found.wrong_end(0, '') + found.wrong_left())
-    check(f'{title}, the replies', wrong_result(found, whole))
+    assert found.wrong_end(0, '') + found.wrong_left() == []
+    assert wrong_result(found, whole) == [], 'the replies'
     replies: Dict[int, bytes] = {}
     for error in ('EIO', 'EINTR'):
         for at in range(1, found.met.calls + 1):
@@ -86,16 +71,14 @@ def input_fails(rounds: Rounds, name: str, whole: Round, piece: int) -> None:
             wrong = failed.wrong_end(1, 'cannot read the input') + wrong_after(failed)
             if failed.output != replies[lines]:
                 wrong.append('the replies are not those to the lines that had come')
-            check(f'{name}, read {at} of pieces of {piece} fails with {error}', wrong)
+            assert wrong == [], f'read {at} fails with {error}'
 
 
-def output_fails(rounds: Rounds, name: str, whole: Round, piece: int) -> None:
+def output_fails(rounds: Rounds, whole: Round, piece: int) -> None:
     """Each write fails in turn. What was written before stands, and nothing follows."""
-    check = rounds.report.check
-    title = f'{name}, written in pieces of {piece}'
     found = rounds.run('output', piece=piece)
-    check(title, found.wrong_end(0, '') + found.wrong_left())
-    check(f'{title}, the replies', wrong_result(found, whole))
+    assert found.wrong_end(0, '') + found.wrong_left() == []
+    assert wrong_result(found, whole) == [], 'the replies'
     for error in OUTPUT_ERRORS:
         for at in range(1, found.met.calls + 1):
             failed = rounds.run('output', at, error, piece=piece)
@@ -104,26 +87,23 @@ def output_fails(rounds: Rounds, name: str, whole: Round, piece: int) -> None:
                 wrong.append('what was written is no front of the replies')
             if piece == 1 and len(failed.output) != at - 1:
                 wrong.append(f'{len(failed.output)} bytes were written')
-            check(f'{name}, write {at} of pieces of {piece} fails with {error}', wrong)
+            assert wrong == [], f'write {at} fails with {error}'
 
 
-def load_fails(rounds: Rounds) -> None:
-    """Each call on the file to load fails in turn. Where the failure is no end of it, the file is loaded whole."""
+def load_fails(rounds: Rounds, call: str, piece: int) -> None:
+    """Each such call on the file to load fails in turn. Where the failure is no end of it, the file is loaded whole."""
     rounds.put('game.sav', GAME_SAVE)
     rounds.input = MOVES
+    # Without a file to save to, these are the calls on the file to load.
+    rounds.words = ['towers', '--load', 'game.sav']
+    calls = rounds.run(call, piece=piece).met.calls
+    assert calls, 'no such call'
     rounds.words = ['towers', '--load', 'game.sav', '--save', 'new.sav']
-    whole = whole_run(rounds, 'a loaded game')
-    for call, piece in (('open', 4096), ('read', 16), ('read', 4096), ('close', 4096)):
-        # Without a file to save to, these are the calls on the file to load.
-        rounds.words = ['towers', '--load', 'game.sav']
-        calls = rounds.run(call, piece=piece).met.calls
-        rounds.report.check(f'{call} on the file to load, in pieces of {piece}, is met', [] if calls else ['no such call'])
-        rounds.words = ['towers', '--load', 'game.sav', '--save', 'new.sav']
-        for error in ('EIO', 'EINTR'):
-            for at in range(1, calls + 1):
-                failed = rounds.run(call, at, error, piece=piece)
-                title = f'{call} {at} of the file to load, in pieces of {piece}, fails with {error}'
-                rounds.report.check(title, wrong_load(failed, whole, call, error))
+    whole = whole_run(rounds)
+    for error in ('EIO', 'EINTR'):
+        for at in range(1, calls + 1):
+            failed = rounds.run(call, at, error, piece=piece)
+            assert wrong_load(failed, whole, call, error) == [], f'{call} {at} fails with {error}'
 
 
 def wrong_load(failed: Round, whole: Round, call: str, error: str) -> List[str]:

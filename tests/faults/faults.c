@@ -1,4 +1,4 @@
-/* A library to preload, by which one call of a program fails. tests/faults/run builds it and says what must come of it.
+/* A library to preload, by which one call of a program fails. The tests build it and say what must come of it.
  *
  *   FAULT_CALL=NAME    which calls are counted: memory; input and output, the reads of descriptor 0 and the writes to 1;
  *                      read and write, those of other files; open; create, an open that may make a file and doesn't ask that

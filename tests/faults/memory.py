@@ -111,14 +111,6 @@ GAMES = [
 Numbers = Tuple[int, ...]
 
 
-def rounds_of_memory(rounds: Rounds) -> None:
-    rounds.put('game.sav', GAME_SAVE)
-    for game in GAMES:
-        rounds.words = [*game.words, '--save', 'new.sav']
-        rounds.target = game.target
-        Refusing(rounds, game).refuse()
-
-
 class Refusing:
     """One game, again and again."""
 
@@ -132,10 +124,9 @@ class Refusing:
 
     def refuse(self) -> None:
         """The Nth request is refused, N from 1 until a round meets none; and then all from the Nth on."""
-        check = self.rounds.report.check
         self.rounds.input = marked(self.commands)
         ample = self.rounds.run('memory')
-        check(f'{self.name}, with ample memory', ample.wrong_end(0, '') + ample.wrong_left())
+        assert ample.wrong_end(0, '') + ample.wrong_left() == [], f'{self.name}, with ample memory'
         for mode in ('once', 'on'):
             is_last = False
             for at in range(1, ample.met.calls + 51):
@@ -143,10 +134,10 @@ class Refusing:
                 is_last = found.met.calls < at
                 if is_last:
                     break
-                check(f'{self.name}, request {at} refused {mode}', self.wrong(found, mode))
-            check(f'{self.name}, a last round that meets none, {mode}', [] if is_last else ['the rounds have no end'])
+                assert self.wrong(found, mode) == [], f'{self.name}, request {at} refused {mode}'
+            assert is_last, f'{self.name}, a last round that meets none, {mode}'
         for word in self.words:
-            check(f'{self.name}, {word}', [] if word.encode() in self.met else ['is never answered with want of memory'])
+            assert word.encode() in self.met, f'{self.name}, {word}'
 
     def wrong(self, found: Round, mode: str) -> List[str]:
         """What is wrong with a round."""

@@ -7,7 +7,7 @@ import signal
 import stat
 from typing import Any, List, Mapping, NamedTuple, Optional, Sequence
 
-from tests.harness import FaultLibrary, Met, Report, Room, is_root, run
+from tests.harness import FaultLibrary, Met, Room, is_root, run
 from tests.harness.game import told_left
 from tests.harness.users import ANNA, GAMES
 
@@ -79,8 +79,7 @@ class Limit(NamedTuple):
 class Rounds:
     """Runs a program with the words, the input and the save file that are set by whoever wants the run."""
 
-    def __init__(self, report: Report, room: Room, program: str, library: FaultLibrary) -> None:
-        self.report = report
+    def __init__(self, room: Room, program: str, library: FaultLibrary) -> None:
         self.words: List[str] = []
         self.input = b''
         self.target = Target()

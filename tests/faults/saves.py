@@ -6,10 +6,8 @@ import resource
 import signal
 from typing import List, NamedTuple, Tuple
 
-from tests.faults.devices import FIRST, whole_run
 from tests.faults.memory import OLD_SAVE
 from tests.faults.rounds import Limit, Round, Rounds, State, Target
-from tests.harness import is_root
 
 
 class Save(NamedTuple):
@@ -50,26 +48,6 @@ CALLS: List[Tuple[str, List[str], bool]] = [
 ]
 
 
-def rounds_of_saves(rounds: Rounds) -> None:
-    rounds.words = ['towers', '--save', 'new.sav']
-    rounds.input = FIRST
-    for save in SAVES:
-        rounds.target = save.target
-        whole = whole_run(rounds, save.name)
-        opened_as_new(rounds, save)
-        for call, errors, is_sure in CALLS:
-            # A save is cut into its bytes only once, and a killed one into a few pieces.
-            for piece in (4096, 64, 1) if call == 'write' else (4096,):
-                calls_fail(rounds, save, whole, call, piece, errors_of(errors, save, piece), is_sure)
-    for save in SAVES[:4]:
-        rounds.target = save.target
-        whole = whole_run(rounds, f'{save.name}, under a limit')
-        for is_ignored in (True, False):
-            size_limited(rounds, save, whole, is_ignored)
-    if not is_root():
-        rounds.report.skip('a save over another user\'s file', 'neither root, nor root of a namespace with other users')
-
-
 def errors_of(errors: List[str], save: Save, piece: int) -> List[str]:
     if piece == 1:
         return ['EIO'] if save.target.old else []
@@ -83,23 +61,22 @@ def refusing(save: Save) -> str:
 def opened_as_new(rounds: Rounds, save: Save) -> None:
     """No file is made that isn't asked to be new: it could be another one, or one that somebody put there."""
     made = rounds.run('create', also=refusing(save)).met.calls
-    rounds.report.check(f'{save.name}: what is made is new', [f'{made} opens make a file or take one'] if made else [])
+    assert not made, f'{made} opens make a file or take one'
 
 
 def calls_fail(rounds: Rounds, save: Save, whole: Round, call: str, piece: int, errors: List[str], is_sure: bool) -> None:
     """Each call fails in turn, with each of the errors."""
-    check = rounds.report.check
     title = f'{save.name}: {call}, in pieces of {piece}'
     also = '' if call == 'rename' else refusing(save)
     found = rounds.run(call, piece=piece, also=also)
     wrong = found.wrong_end(0, '') + found.wrong_left()
-    check(title, wrong if is_whole(found.after, whole) else [*wrong, 'the save file is another'])
+    assert (wrong if is_whole(found.after, whole) else [*wrong, 'the save file is another']) == [], title
     if is_sure:
-        check(f'{title}, is met', [] if found.met.calls else ['no such call'])
+        assert found.met.calls, f'{title}, is met'
     for error in errors:
         for at in range(1, found.met.calls + 1):
             failed = rounds.run(call, at, error, piece=piece, also=also)
-            check(f'{save.name}: {call} {at}, in pieces of {piece}, {error}', wrong_round(failed, whole, save, call, error))
+            assert wrong_round(failed, whole, save, call, error) == [], f'{save.name}: {call} {at}, in pieces of {piece}, {error}'
 
 
 def is_whole(found: State, whole: Round) -> bool:
@@ -189,11 +166,10 @@ def must_pass(save: Save, call: str, error: str) -> bool:
     return (call, error) in (('folder', 'EINVAL'), ('chown', 'EPERM')) or call == 'close'
 
 
-def size_limited(rounds: Rounds, save: Save, whole: Round, is_ignored: bool) -> None:
+def size_limited(rounds: Rounds, whole: Round, is_ignored: bool) -> None:
     """No file may have a byte. A signal says so, which ends the program in the midst of the file, or is ignored."""
-    name = f'{save.name}, under a limit of file size, {"told" if is_ignored else "killed"}'
     ignored = [signal.SIGXFSZ] if is_ignored else []
     limited = rounds.run(limit=Limit({resource.RLIMIT_FSIZE: 0}, ignored))
-    rounds.report.check(name, [] if limited.stands else ['the old file does not stand'])
+    assert limited.stands, 'the old file does not stand'
     found = rounds.run()
-    rounds.report.check(f'{name}, the next save', [] if is_whole(found.after, whole) else ['it is not whole'])
+    assert is_whole(found.after, whole), 'it is not whole'

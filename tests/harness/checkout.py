@@ -42,7 +42,7 @@ class Checkout:
     def give(self) -> None:
         """All of it, and the folder above, belongs to the user from here on."""
         if self._user:
-            for way, _, names, fd in os.fwalk(os.path.dirname(self.path)):
+            for _, _, names, fd in os.fwalk(os.path.dirname(self.path)):
                 os.fchown(fd, *self._user.owner)
                 for name in names:
                     os.chown(name, *self._user.owner, dir_fd=fd)

@@ -8,7 +8,7 @@ import subprocess
 from pathlib import Path
 from typing import Dict, NamedTuple
 
-from tests.harness.report import Skip
+from tests.harness.skip import Skip
 from tests.harness.room import Room, can_preload
 
 SOURCE = Path(__file__).resolve().parent.parent / 'faults' / 'faults.c'

@@ -7,11 +7,35 @@ import ctypes
 import os
 from typing import Iterator, Optional
 
-from tests.harness.process import answer, libc, need_mounts
+from tests.harness.skip import Skip
 from tests.harness.room import Folder
 
-MS_BIND = 0x1000
+CLONE_NEWNS = 0x00020000
+MS_BIND, MS_REC, MS_PRIVATE = 0x1000, 0x4000, 0x40000
 MNT_DETACH = 2
+
+libc = ctypes.CDLL(None, use_errno=True)
+
+# Why nothing can be mounted.
+_no_mounts = 'the test has not begun'
+
+
+def own_mounts() -> None:
+    """What this process mounts from here on nobody else sees, and it is gone when the process has ended."""
+    global _no_mounts
+    try:
+        answer(libc.unshare(CLONE_NEWNS))
+        answer(libc.mount(b'none', b'/', None, ctypes.c_ulong(MS_REC | MS_PRIVATE), None))
+        _no_mounts = ''
+    except OSError as error:
+        _no_mounts = f'nothing can be mounted: {error.strerror}'
+
+
+def answer(status: int, what: Optional[str] = None) -> None:
+    """Raises the error of a call of the C library, where it failed."""
+    if status != 0:
+        number = ctypes.get_errno()
+        raise OSError(number, os.strerror(number), what)
 
 
 @contextlib.contextmanager
@@ -36,7 +60,8 @@ def fill(disk: Folder) -> None:
 
 @contextlib.contextmanager
 def _mounted(source: str, target: str, kind: Optional[str], flags: int, data: Optional[str]) -> Iterator[None]:
-    need_mounts()
+    if _no_mounts:
+        raise Skip(_no_mounts)
     words = [None if word is None else os.fsencode(word) for word in (source, target, kind, data)]
     answer(libc.mount(words[0], words[1], words[2], ctypes.c_ulong(flags), words[3]), target)
     try:

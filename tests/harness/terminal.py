@@ -1,113 +1,205 @@
-"""A program in a terminal of its own: what is typed to it, and what it shows then."""
+"""A program in a terminal of its own: what is typed to it, and what then stands on its screen."""
 
 from __future__ import annotations
 
+import codecs
 import contextlib
-import fcntl
 import os
-import pty
-import select
-import struct
-import subprocess
-import termios
+import re
+import signal
 import time
-from typing import Mapping, Optional, Pattern, Sequence
+from typing import Callable, Dict, List, Mapping, NamedTuple, Optional, Pattern, Sequence, Set, Tuple
 
+import pexpect
+
+from tests.harness.screen import Screen, Stream
 from tests.harness.users import User
 
 #: Lines and columns. A line that is typed is never too long for it.
 SIZE = (50, 250)
 
-CTRL_C = b'\x03'
+#: Keys by their names in `<..>`, as terminals send them.
+NAMED: Dict[str, str] = {
+    'up': '\x1bOA',
+    'down': '\x1bOB',
+    'right': '\x1bOC',
+    'left': '\x1bOD',
+    'enter': '\r',
+    'escape': '\x1b',
+    'backspace': '\x7f',
+    'delete': '\x1b[3~',
+    'ctrl-z': '\x1a',
+    'ctrl-r': '\x12',
+    'ctrl-c': '\x03',
+    'space': ' ',
+}
+
+KEY = re.compile(r'<([a-z-]+)>|(.)', re.DOTALL)
+
+
+class Look(NamedTuple):
+    """Keys that are pressed, and what is seen then and what isn't: texts that stand on one line, or across the whole lines below the board."""
+
+    keys: str
+    shows: Sequence[str] = ()
+    hides: Sequence[str] = ()
+    #: A text on the screen, and the attributes that it has, by their numbers, and hasn't.
+    styles: Sequence[Tuple[str, Set[int], Set[int]]] = ()
 
 
 class Terminal:
-    """The program runs from the beginning of a `with` to its end, and what it shows stands in `shown`, without CR."""
+    """The program runs from the beginning of a `with` to its end. The environment has these variables and no others."""
 
     def __init__(
         self,
         words: Sequence[str],
         env: Mapping[str, str],
+        size: Tuple[int, int] = SIZE,
         *,
-        cwd: Optional[str] = None,
+        cwd: str,
         user: Optional[User] = None,
         seconds: float = 20,
     ) -> None:
-        """The environment has these variables and no others. No answer takes longer than so many seconds."""
-        self._seconds = seconds
-        self._front, back = pty.openpty()
-        self.shown = ''
-        self._bytes = b''
-        fcntl.ioctl(back, termios.TIOCSWINSZ, struct.pack('HHHH', *SIZE, 0, 0))
-
         def begin() -> None:
-            fcntl.ioctl(0, termios.TIOCSCTTY, 0)
             if user:
+                # As a login does: the terminal is the user's.
+                os.fchown(0, *user.owner)
                 user.become()
 
-        if user:
-            # As a login does: the terminal is the user's.
-            os.fchown(back, *user.owner)
-        self._process = subprocess.Popen(
-            words, stdin=back, stdout=back, stderr=back, cwd=cwd, env=dict(env), start_new_session=True, preexec_fn=begin
-        )
-        os.close(back)
+        self._seconds = seconds
+        self._folder = cwd
+        self.screen = Screen(*size)
+        self._stream = Stream(self.screen)
+        self._decoder = codecs.getincrementaldecoder('utf-8')(errors='replace')
+        self.pressed = 0
+        #: All that came, for what a screen doesn't show.
+        self.came = b''
+        # A command alone would be cut at its blanks.
+        self._child = pexpect.spawn('/usr/bin/env', list(words), cwd=cwd, env=dict(env), dimensions=size, preexec_fn=begin)
+        self._child.delaybeforesend = None
 
     def __enter__(self) -> Terminal:
         return self
 
     def __exit__(self, *_: object) -> None:
-        os.close(self._front)
-        if self._process.poll() is None:
-            self._process.kill()
-        self._process.wait()
+        if self._child.isalive():
+            self._child.kill(signal.SIGKILL)
+            self._child.wait()
+        self.close()
+
+    @property
+    def pid(self) -> int:
+        return int(self._child.pid)
+
+    @property
+    def shown(self) -> str:
+        """All that was shown, without CR."""
+        return self.came.decode(errors='replace').replace('\r', '')
+
+    # --- what is typed ---
+
+    def press(self, keys: str) -> None:
+        """Presses keys, one after the other, and doesn't wait for what comes of it."""
+        for name, character in KEY.findall(keys):
+            self.send(NAMED[name] if name else character)
+
+    def send(self, text: str) -> None:
+        """Sends what a terminal sends for one key."""
+        self.pressed += 1
+        with contextlib.suppress(OSError):
+            self._child.send(text.encode())
+
+    def click(self, line: int, column: int, button: int) -> None:
+        """Presses a button of the mouse, 0 the left one and 2 the right one, in the way that the front has asked for."""
+        if b'1006' in self.came:
+            self.send(f'\x1b[<{button};{column + 1};{line + 1}M\x1b[<{button};{column + 1};{line + 1}m')
+        else:
+            self.send(''.join(f'\x1b[M{chr(32 + code)}{chr(33 + column)}{chr(33 + line)}' for code in (button, 3)))
+
+    def resize(self, size: Tuple[int, int]) -> None:
+        self.screen.resize(*size)
+        self._child.setwinsize(*size)
+
+    def signal(self, number: signal.Signals) -> None:
+        self._child.kill(number)
+
+    def close(self) -> None:
+        """Closes the window, as one does with a mouse."""
+        self._child.ptyproc.fileobj.close()
+
+    # --- what comes of it ---
+
+    def look(self, keys: str, shows: Sequence[str] = (), hides: Sequence[str] = (), styles: Sequence[Tuple[str, Set[int], Set[int]]] = ()) -> None:
+        """Presses the keys, and waits until all is seen that is to be. FOLDER is the folder in which the program runs."""
+        owed = [text.replace('FOLDER', self._folder) for text in shows]
+        self.press(keys.replace('FOLDER', self._folder))
+        self.wait_until(lambda screen: all(stands(screen, text) for text in owed) and not any(stands(screen, text) for text in hides))
+        there = '\n'.join(self.screen.text())
+        for text in owed:
+            assert stands(self.screen, text), f'{text!r} is lacking:\n{there}'
+        for text in hides:
+            assert not stands(self.screen, text), f'{text!r} is shown:\n{there}'
+        for text, has, hasnt in styles:
+            found = self.screen.style_of(text)
+            assert has <= found and not hasnt & found, f'{text!r} has the attributes {sorted(found)}'
+
+    def wait_until(self, holds: Callable[[Screen], bool], seconds: Optional[float] = None) -> bool:
+        """Waits until something holds of the screen. False where it hasn't in time, or the program has ended before."""
+        end = time.monotonic() + (self._seconds if seconds is None else seconds)
+        while not holds(self.screen):
+            if not self._read(end - time.monotonic()):
+                return holds(self.screen)
+        return True
 
     def wait_for(self, prompt: Pattern[str], start: int = 0) -> str:
-        """What is shown from a place on, up to a prompt at its end, or to the end of the program."""
-        end = time.monotonic() + self._seconds
-        while time.monotonic() < end:
-            last_line = self.shown[start:].rpartition('\n')[2]
-            if len(self.shown) > start and prompt.fullmatch(last_line) and not self._has_more(0.02):
-                break
-            if not self._read(end - time.monotonic()):
-                break
+        """What is shown from a place on, up to a prompt ahead of the cursor, or to the end of the program."""
+
+        def is_there(screen: Screen) -> bool:
+            while len(self.shown) > start and prompt.fullmatch(screen.display[screen.cursor.y][: screen.cursor.x]):
+                if not self._read(0.02):
+                    return True
+            return False
+
+        self.wait_until(is_there)
         return self.shown[start:]
 
-    def answer(self, line: bytes, prompt: Pattern[str]) -> str:
+    def answer(self, line: str, prompt: Pattern[str]) -> str:
         """Types a line, and gives what is shown then. After a Ctrl-C in it there is a prompt first."""
-        *dropped, last = line.split(CTRL_C)
-        for piece in dropped:
-            self._type(piece + CTRL_C, prompt)
-        return self._type(last + b'\n', prompt)
-
-    def _type(self, keys: bytes, prompt: Pattern[str]) -> str:
-        start = len(self.shown)
-        with contextlib.suppress(OSError):
-            os.write(self._front, keys)
-        return self.wait_for(prompt, start)
+        *dropped, last = line.split('\x03')
+        for keys in [*(f'{text}\x03' for text in dropped), f'{last}\n']:
+            start = len(self.shown)
+            self.send(keys)
+            shown = self.wait_for(prompt, start)
+        return shown
 
     def status(self) -> Optional[int]:
-        """The status of the program; nothing where it has not ended by itself."""
+        """How the program ends; nothing where it doesn't in time."""
         end = time.monotonic() + self._seconds
         while self._read(end - time.monotonic()):
             pass
-        try:
-            return self._process.wait(self._seconds)
-        except subprocess.TimeoutExpired:
-            return None
+        while self._child.isalive():
+            if time.monotonic() > end:
+                return None
+            time.sleep(0.01)
+        return -int(self._child.signalstatus) if self._child.signalstatus else int(self._child.exitstatus)
 
-    def _has_more(self, seconds: float) -> bool:
-        return bool(select.select([self._front], [], [], seconds)[0])
+    def programs(self) -> List[int]:
+        """The processes that the program has started."""
+        with open(f'/proc/{self.pid}/task/{self.pid}/children', encoding='ascii') as file:
+            return [int(number) for number in file.read().split()]
 
     def _read(self, seconds: float) -> bool:
-        """Reads what has come. False where nothing came in time, or the program has ended."""
-        if not self._has_more(max(0, seconds)):
-            return False
+        """Reads what has come. False where nothing came in time, or nobody writes any more."""
         try:
-            came = os.read(self._front, 4096)
-        except OSError:
-            # Linux says so where nobody has the terminal open any more.
-            came = b''
-        self._bytes += came
-        self.shown = self._bytes.decode(errors='replace').replace('\r', '')
-        return bool(came)
+            came = self._child.read_nonblocking(1 << 16, max(0.0, seconds))
+        except (pexpect.TIMEOUT, pexpect.EOF, ValueError, OSError):
+            return False
+        self.came += came
+        self._stream.feed(self._decoder.decode(came))
+        return True
+
+
+def stands(screen: Screen, text: str) -> bool:
+    """Whether a text stands on the screen, perhaps broken into lines."""
+    lines = screen.text()
+    return any(text in line for line in lines) or text in ' '.join(' '.join(lines).split())

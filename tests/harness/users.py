@@ -5,7 +5,7 @@ from __future__ import annotations
 import os
 from typing import NamedTuple, Tuple
 
-from tests.harness.report import Skip
+from tests.harness.skip import Skip
 from tests.harness.room import Owner
 
 

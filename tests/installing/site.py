@@ -6,30 +6,25 @@ import os
 from typing import Dict, List, Mapping, Optional, Sequence, Tuple
 
 from tests.scripts.place import Place
-from tests.harness import Report, Room
-from tests.harness.builds import copy
+from tests.harness import Room
 from tests.harness.program import Ended
 
 
 class Site(Place):
     """`make` has left the programs that are tested. Where the test is root's, another user does all that is done here."""
 
-    def __init__(self, report: Report, room: Room, program: str, objects: str) -> None:
-        super().__init__(report, room, copy(room, program, 'puzzles'), copy(room, objects, 'puzzles-json'))
+    def __init__(self, room: Room, program: str, objects: str) -> None:
+        super().__init__(room, program, objects)
+        self.room = room
         self.above = os.path.dirname(self.path)
-        self.expect('make', ['make'], says='')
+        self.expect(['make'])
 
-    def expect(self, name: str, words: Sequence[str], status: int = 0, says: str = '', env: Optional[Mapping[str, str]] = None) -> Ended:
-        """Runs a command. Its status is this one, it says this somewhere, and, where it ends well, `make` complains of nothing."""
+    def expect(self, words: Sequence[str], status: int = 0, says: str = '', env: Optional[Mapping[str, str]] = None) -> Ended:
+        """Runs a command. Its status is this one, and it says this somewhere."""
         ended = self.run(words, env=env)
         said = (ended.output + ended.error).decode(errors='replace')
-        wrong = [] if ended.status == status else [f'the status is {ended.status}']
-        wrong += [] if says in said else [f'it lacks {says!r}']
-        self.report.check(name, [*wrong, repr(said[-600:])] if wrong else [])
+        assert ended.status == status and says in said, f'{words}: {ended.status}, {said[-600:]}'
         return ended
-
-    def same(self, name: str, found: object, wanted: object) -> None:
-        self.report.check(name, [] if found == wanted else [f'it is {found!r}, not {wanted!r}'])
 
 
 def snapshot(folder: str) -> List[str]:
@@ -58,10 +53,10 @@ ANSWERS: Dict[str, Tuple[Sequence[str], bytes, bytes]] = {
 }
 
 
-def expect_plays(site: Site, name: str, folder: str) -> None:
+def expect_plays(site: Site, folder: str) -> None:
     """Both programs in a folder play, and puzzles-play says how it is used, in an environment with next to nothing."""
     for program, (words, typed, written) in ANSWERS.items():
         ended = site.run([os.path.join(folder, program), *words], cwd='..', input=typed)
-        site.same(f'{name}: {program}', ended, Ended(0, written, b''))
+        assert ended == Ended(0, written, b''), program
     ended = site.run([os.path.join(folder, 'puzzles-play'), '--help'], cwd='..')
-    site.same(f'{name}: puzzles-play', (ended.status, ended.error), (0, b''))
+    assert (ended.status, ended.error) == (0, b'')

@@ -1,1 +1,1 @@
-"""The cases of tests/lines/run, a file or folder for each part of a run: words, games, the file to load, the file to save to."""
+"""Words, games, the file to load and the file to save to, as rows that `runs` runs; games as transcripts in `played/`."""

@@ -2,9 +2,9 @@
 
 from __future__ import annotations
 
-from typing import Any, ContextManager, Iterable, Mapping, NamedTuple, Optional, Sequence
+from typing import Any, Mapping, NamedTuple, Optional, Sequence
 
-from tests.harness import Case, Folder, Report, User, is_root, run
+from tests.harness import Folder, Room, User, is_root, run
 from tests.harness.game import NEW_NAME, told_left
 from tests.harness.program import Word
 from tests.harness.users import ANNA
@@ -32,68 +32,59 @@ class Run(NamedTuple):
     left: Optional[bytes] = None
 
 
-class Tests:
-    """A program to be tested: its cases are counted in a report."""
+class Player:
+    """The program, in a room of its own."""
 
-    def __init__(self, report: Report, program: str) -> None:
-        self.report = report
+    def __init__(self, program: str, room: Room) -> None:
         self._program = program
+        self.room = room
 
-    def case(self, name: str) -> ContextManager[Case]:
-        return self.report.case(name)
-
-    def each(self, rows: Iterable[Run]) -> None:
-        """Each row is a case."""
-        for row in rows:
-            with self.case(row.name) as case:
-                self.play(case, row)
-
-    def play(self, case: Case, row: Run, folder: Optional[Folder] = None, **how: Any) -> bytes:
+    def play(self, row: Run, folder: Optional[Folder] = None, **how: Any) -> bytes:
         """Makes what is given, runs the program, and looks at what has come of it; gives the output.
 
-        It runs in the folder of the case, if no other is named. What else there is goes to `run`; a stream that is given there
+        It runs in the room, if no other folder is named. What else there is goes to `run`; a stream that is given there
         has no text to be compared.
         """
-        where = folder or case.room
+        where = folder or self.room
         for name, content in row.given.items():
             where.put(name, content)
         before = where.paths()
         ended = run([self._program, *row.words], where, input=row.input, **how)
-        case.same('the status', ended.status, row.status)
+        assert ended.status == row.status, ended
         if 'stdout' not in how:
-            expect_text(case, 'the output', ended.output, row.output, row.output_has)
+            expect_text('the output', ended.output, row.output, row.output_has)
         for name, content in row.holds.items():
-            case.same(f'the file {name[:20]}', where.read(name), content)
+            assert where.read(name) == content, f'the file {name[:20]}'
         for name in row.absent:
-            case.expect(name not in where.names(), f'there is a file {name}')
+            assert name not in where.names()
         after = where.paths()
-        case.same('what is gone', [path for path in before if path not in after], [])
+        assert [path for path in before if path not in after] == [], 'what is gone'
         new = [path for path in after if path not in [*before, *row.holds, *row.made]]
-        expect_left(case, where, new, row.left)
+        expect_left(where, new, row.left)
         if 'stderr' not in how:
             told = told_left(new if row.left is not None else []).encode()
-            expect_text(case, 'standard error', ended.error, None if row.error is None else row.error + told, row.error_has)
+            expect_text('standard error', ended.error, None if row.error is None else row.error + told, row.error_has)
         return ended.output
 
 
-def expect_text(case: Case, what: str, found: bytes, wanted: Optional[bytes], parts: Sequence[bytes]) -> None:
+def expect_text(what: str, found: bytes, wanted: Optional[bytes], parts: Sequence[bytes]) -> None:
     """It is what is wanted, or, where only parts are named, has these."""
     if parts:
         for part in parts:
-            case.expect(part in found, f'{what} lacks {part!r}')
+            assert part in found, f'{what} lacks {part!r}'
     elif wanted is not None:
-        case.same(what, found, wanted)
+        assert found == wanted, what
 
 
-def expect_left(case: Case, folder: Folder, new: Sequence[str], wanted: Optional[bytes]) -> None:
+def expect_left(folder: Folder, new: Sequence[str], wanted: Optional[bytes]) -> None:
     """No file that nobody asked for is new, or, where that is wanted, one is, which has the whole save."""
     if wanted is None:
-        case.same('what is left beside', new, [])
+        assert new == [], 'what is left beside'
         return
-    case.same('how many files are left', len(new), 1)
+    assert len(new) == 1, 'how many files are left'
     for path in new:
-        case.expect(bool(NEW_NAME.fullmatch(path)), f'it is called {path}')
-        case.same('what is left', folder.read(path), wanted)
+        assert bool(NEW_NAME.fullmatch(path)), f'it is called {path}'
+        assert folder.read(path) == wanted, 'what is left'
 
 
 def plain_user() -> Optional[User]:

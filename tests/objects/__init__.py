@@ -1,13 +1,9 @@
-"""What tests/objects/run looks at: the objects that puzzles-json writes, against the plain program and a second implementation.
+"""The objects that puzzles-json writes, against the plain program and a second implementation.
 
 schema        the keys of each object, with the types of their values
 reading       objects from what a run wrote
 boards        a board as it has to be told, from the plain program's texts and the puzzle of its ID
 solutions     what completes a board, by trying all
-scripts       random lines, the same for the same number
 agreement     one run of each program over the same lines
 worked_lines  worked lines with their objects; the tables stand in the folder of that name
-streams       words, streams that fail, a long game, and a game line by line
-fire          reads, writes and requests for memory that are refused
-documents     the clients and examples of docs/JSON.md and docs/SCRIPTING.md
 """

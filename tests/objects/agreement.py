@@ -2,20 +2,39 @@
 
 from __future__ import annotations
 
-from functools import partial
-from typing import Callable, Dict, Iterator, List, NamedTuple, Optional, Sequence, Tuple
+from itertools import chain
+from typing import Dict, Iterator, List, NamedTuple, Optional, Sequence, Tuple
 
-from tests.harness import Ended, Report, Room, run
+from tests.harness import Ended, Room, run
 from tests.objects.boards import Texts, board_of, numbers_of, puzzle_of
 from tests.objects.reading import OWN_LINES, Answered, lines_with_reply, read_answers, shortened, without_own
-from tests.objects.scripts import BOARD, Script, script
 from tests.objects.solutions import wrong_completable, wrong_hint
+
+
+#: The views that are asked for after each line, and those of the board after some.
+SESSION = [b'status', b'id']
+BOARD = [b'show', b'marks', b'done', b'board']
+
+
+class Script(NamedTuple):
+    """A game, what it begins with, and the lines for puzzles-json."""
+
+    game: str
+    words: List[str]
+    #: The file that is loaded, or nothing.
+    save: bytes
+    #: A line, the views that say what its session is, and perhaps those of its board.
+    groups: List[List[bytes]]
+    ending: List[bytes]
+
+    @property
+    def input(self) -> bytes:
+        return b'\n'.join([*chain.from_iterable(self.groups), *self.ending])
 
 
 class Pair(NamedTuple):
     """Both programs."""
 
-    report: Report
     objects: str
     plain: str
 
@@ -38,20 +57,6 @@ def left(program: str, words: Sequence[str], input: bytes, save: bytes) -> Left:
             room.put('old.sav', save)
         ended = run([program, *words], room, input=input, seconds=100)
         return Left(ended, room.read('new.sav'))
-
-
-def random_scripts(pair: Pair, count: int) -> Iterator[Callable[[], None]]:
-    """Some scripts are one case, so that what the report counts stays small."""
-    step = max(1, count // 20)
-    for first in range(0, count, step):
-        yield partial(scripts_agree, pair, range(first, min(first + step, count)))
-
-
-def scripts_agree(pair: Pair, numbers: Sequence[int]) -> None:
-    wrong: List[str] = []
-    for number in numbers:
-        wrong += [f'script {number}: {what}' for what in wrong_script(pair, script(number))]
-    pair.report.check(f'random lines, scripts {numbers[0]} to {numbers[-1]}', wrong[:5])
 
 
 def wrong_script(pair: Pair, one: Script) -> List[str]:

@@ -5,8 +5,7 @@ from __future__ import annotations
 from pathlib import Path
 from typing import Iterator, List, NamedTuple
 
-from tests.harness import Case, run
-from tests.objects.agreement import Pair
+from tests.harness import Room, run
 
 TABLES = Path(__file__).resolve().parent / 'worked'
 
@@ -36,20 +35,20 @@ def read_table(text: str) -> Iterator[Worked]:
             worked.objects.append(line)
 
 
-def cases(pair: Pair) -> None:
-    for path in sorted(TABLES.glob('*.txt')):
-        for worked in list(read_table(path.read_text(encoding='ascii'))):
-            with pair.report.case(f'{path.stem}: {worked.name}') as case:
-                expect_worked(case, pair.objects, worked)
-
-
-def expect_worked(case: Case, program: str, worked: Worked) -> None:
+def expect_worked(room: Room, program: str, worked: Worked) -> None:
     script = ''.join(line + '\n' for line in worked.lines).encode()
-    ended = run([program, *worked.words], case.room, input=script)
-    case.same('the status', ended.status, 0)
-    case.same('standard error', ended.error, b'')
+    ended = run([program, *worked.words], room, input=script)
+    assert ended.status == 0, 'the status'
+    assert ended.error == b'', 'standard error'
     found = ended.output.decode(errors='replace').split('\n')
-    case.same('how many lines there are', len(found) - 1, len(worked.objects))
-    case.same('what stands behind the last', found[-1], '')
+    assert len(found) - 1 == len(worked.objects), 'how many lines there are'
+    assert found[-1] == '', 'what stands behind the last'
     for told, wanted in zip(found, worked.objects):
-        case.expect(told == wanted, f'{told} and not {wanted}')
+        assert told == wanted, f'{told} and not {wanted}'
+
+
+def worked_lines() -> Iterator[Worked]:
+    """All of them, each named for its table, too."""
+    for path in sorted(TABLES.glob('*.txt')):
+        for worked in read_table(path.read_text(encoding='ascii')):
+            yield worked._replace(name=f'{path.stem}: {worked.name}')

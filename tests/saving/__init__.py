@@ -1,1 +1,1 @@
-"""The cases of tests/saving/run, a file for each kind of place that a save can go to."""
+"""Saves to every kind of place, a file for each kind."""

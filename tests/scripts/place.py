@@ -5,7 +5,7 @@ from __future__ import annotations
 import os
 from typing import Dict, Mapping, Optional
 
-from tests.harness import Report, Room, User, is_root
+from tests.harness import Room, User, is_root
 from tests.harness.builds import TOP
 from tests.harness.checkout import Checkout
 from tests.harness.terminal import Terminal
@@ -40,10 +40,9 @@ exit "${RT_STATUS:-0}"
 class Place(Checkout):
     """The copy, with crates that are empty, and a folder for TMPDIR into which nobody else may go."""
 
-    def __init__(self, report: Report, room: Room, program: str, objects: str) -> None:
+    def __init__(self, room: Room, program: str, objects: str) -> None:
         self.user: Optional[User] = ANNA if is_root() else None
         super().__init__(room, self.user)
-        self.report = report
         self.rt = self.put('../kit/bin/rt', RT)
         self.put('../kit/KIT-ID', b'a kit that proves nothing\n', 0o644)
         self.program = program

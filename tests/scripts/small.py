@@ -104,16 +104,16 @@ class Small:
         lines = self.place.file(self.calls).decode().split('\n')
         return [line.partition(' ')[2] for line in lines if line.startswith(word)]
 
-    def expect(self, name: str, ended: Ended, asked: Sequence[str], status: int = 0, says: Sequence[bytes] = ()) -> None:
+    def expect(self, ended: Ended, asked: Sequence[str], status: int = 0, says: Sequence[bytes] = ()) -> None:
         begun = self.said('begun')
         wrong = [] if ended.status == status else [f'the status is {ended.status}']
         wrong += [] if sorted(begun) == sorted(asked) else [f'asked for were {begun}']
         wrong += [f'it lacks {text!r}' for text in says if text not in ended.error]
         wrong += [f'it says {ended.error!r}'] if ended.error and (wrong or not (asked or says)) else []
-        self.place.report.check(f'what make asks for: {name}', wrong)
+        assert not wrong
 
-    def is_left(self, name: str, *paths: str) -> None:
+    def is_left(self, *paths: str) -> None:
         """These files are there, and nothing is left of where crates were proved."""
         wrong = [f'{path} is lacking' for path in paths if not os.path.exists(os.path.join(self.place.path, path))]
         wrong += [f'{left} is left' for left in os.listdir(os.path.join(self.place.path, 'build/proving'))]
-        self.place.report.check(f'what make leaves: {name}', wrong)
+        assert not wrong

@@ -2,5 +2,5 @@
 
 It reads and writes saves and descriptions, plays their moves, damages saves, and makes seeded games. It is slow and plain on
 purpose, shares nothing with the crates, and no program uses it: `tests/second_implementation/answer` makes the wanted output of
-`crates/trial_runs` by it, and `tests/second_implementation/run` compares. `bench/families` makes puzzles for measurements by it.
+`crates/trial_runs` by it, and `test_answers` compares. `bench/families` makes puzzles for measurements by it.
 """

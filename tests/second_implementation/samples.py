@@ -5,9 +5,10 @@ A row is a text and its answer: the name of a refusal, or the text in its canoni
 
 from __future__ import annotations
 
+from functools import partial
 from typing import Callable, Iterator, List, Tuple
 
-from tests.second_implementation.games import GAMES
+from tests.second_implementation.games import GAMES, Game
 from tests.second_implementation.moves import read_move
 from tests.second_implementation.refusal import Refused
 from tests.second_implementation.saves import load, save
@@ -134,25 +135,33 @@ def loaded(text: str) -> str:
     return f'{session.status()} {len(save(session))}'
 
 
-def unless_same(found: str, wanted: str) -> List[str]:
-    return [] if found == wanted else [f'{found!r} and not {wanted!r}']
-
-
-def check() -> Iterator[Tuple[str, List[str]]]:
-    """What is wrong with each sample, by its name."""
+def rows() -> Iterator[Tuple[str, Callable[[], str], str]]:
+    """Each sample by its name, with how it is read, and what has to come of it."""
     for name, game in GAMES.items():
         for text, wanted in zip(PARAMETER_TEXTS, PARAMETERS[name].split()):
-            yield f'{name} {text!r}', unless_same(answered(lambda: game.read_parameters(text.encode()).text()), wanted)
+            yield f'{name} {text!r}', partial(parameters, game, text), wanted
         for text, wanted in TOWERS if name == 'towers' else UNEQUAL:
-            yield f'{name} {text!r}', unless_same(answered(lambda: game.read_description(3, text.encode()).description()), wanted)
+            yield f'{name} {text!r}', partial(description, game, text), wanted
     for text, wanted in MOVES:
-        yield f'move {text!r}', unless_same(answered(lambda: read_move(text.encode()).text), wanted)
+        yield f'move {text!r}', partial(move, text), wanted
     for old, new, wanted in EDITS:
-        yield f'save with {new!r}', unless_same(answered(lambda: loaded(EXAMPLE.replace(old, new, 1))), wanted)
+        yield f'save with {new!r}', partial(loaded, EXAMPLE.replace(old, new, 1)), wanted
     for length in range(len(EXAMPLE)):
-        yield f'first {length} bytes', unless_same(answered(lambda: loaded(EXAMPLE[:length])), cut_off(length))
-    yield 'lines of nothing', unless_same(answered(lambda: loaded('\n' * 16_777_216)), 'NotASave')
-    yield 'too many', unless_same(answered(lambda: loaded('\n' * 16_777_217)), 'TooLarge')
+        yield f'first {length} bytes', partial(loaded, EXAMPLE[:length]), cut_off(length)
+    yield 'lines of nothing', lambda: loaded('\n' * 16_777_216), 'NotASave'
+    yield 'too many', lambda: loaded('\n' * 16_777_217), 'TooLarge'
+
+
+def parameters(game: Game, text: str) -> str:
+    return game.read_parameters(text.encode()).text()
+
+
+def description(game: Game, text: str) -> str:
+    return game.read_description(3, text.encode()).description()
+
+
+def move(text: str) -> str:
+    return read_move(text.encode()).text
 
 
 def cut_off(length: int) -> str:

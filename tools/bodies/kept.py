@@ -13,7 +13,7 @@ from typing import Dict, Iterable, List, Optional
 
 from bodies.edits import FOLDERS, Edit
 from building.crates import PARTS, all_of, listed, own
-from testing.kept import place
+from gating.kept import place
 
 #: What a result was found by, beside the kit: these scripts.
 SCRIPTS = Path(__file__).resolve().parent

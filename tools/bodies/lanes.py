@@ -2,22 +2,23 @@
 
 from __future__ import annotations
 
+import tempfile
 from concurrent.futures import Future, ThreadPoolExecutor, as_completed
-from typing import Iterable, Iterator, List
+from pathlib import Path
+from typing import Generator, Iterable, Iterator, List
 
 from bodies.asked import Asked, Result, tried
 from bodies.kept import Kept
 from bodies.kit import Kit
 from bodies.tree import Tree
 from bodies.trial import Trial
-from tests.harness import Room
 
 
 class NotBuilt(Exception):
     """Libraries are lacking. Its text names them, and says what to run first."""
 
 
-def results(asked: Iterable[Asked], kit: Kit) -> Iterator[Result]:
+def results(asked: Iterable[Asked], kit: Kit) -> Generator[Result, None, None]:
     """What came of each crate: first what is kept, then the others as they end. Raises `NotBuilt` before anything is tried."""
     kept = Kept(kit.line)
     left: List[Asked] = []
@@ -33,8 +34,8 @@ def results(asked: Iterable[Asked], kit: Kit) -> Iterator[Result]:
 
 def tried_side_by_side(asked: List[Asked], kit: Kit, kept: Kept) -> Iterator[Result]:
     """Tries these, those with most to be tried first."""
-    with Room() as room:
-        tree = Tree(room, [one.crate for one in asked], kit)
+    with tempfile.TemporaryDirectory() as folder:
+        tree = Tree(Path(folder), [one.crate for one in asked], kit)
         lacking = {name for one in asked for name in tree.lacking(one.crate)}
         if lacking:
             raise NotBuilt(f'not built of the sources here: {", ".join(sorted(lacking))}; run make build first, or ANEW=1 make gate')

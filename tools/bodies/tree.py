@@ -10,15 +10,14 @@ from bodies.edits import Texts
 from bodies.kit import Kit, Said
 from building.copies import copy_folder, write_list
 from building.crates import PARTS, all_of, listed, own
-from tests.harness import Room
 
 
 class Tree:
-    """The copy, in a room. What earlier builds left of the libraries is used, and not written to."""
+    """The copy, in a folder. What earlier builds left of the libraries is used, and not written to."""
 
-    def __init__(self, room: Room, names: Collection[str], kit: Kit) -> None:
+    def __init__(self, folder: Path, names: Collection[str], kit: Kit) -> None:
         self.kit = kit
-        self.top = Path(room.path)
+        self.top = folder
         crates = listed()
         write_list(self.top, names, crates)
         for name in all_of(names, crates):

@@ -5,8 +5,10 @@ from __future__ import annotations
 import os
 from typing import Iterator, List, Mapping, NamedTuple
 
-from building.crates import ROOT as TOP
+from building.crates import ROOT
 from building.record import NAMES
+
+TOP = ROOT
 
 #: The folder below `datadir` that is ours alone.
 OURS = 'verified-puzzles'

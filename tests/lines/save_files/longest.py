@@ -6,9 +6,7 @@ from itertools import cycle, islice
 from typing import Iterable
 
 from tests.harness.game import HEAD, ID
-from tests.lines.runs import Run, Tests
-
-NAME = 'the longest history, saved and loaded'
+from tests.lines.runs import Run
 
 #: Commands of each kind of record, with the line that is written for each. After the last the board is as at the start.
 ROUND = [
@@ -64,9 +62,3 @@ AGAIN = Run(
     output=AT_THE_MIDDLE,
     holds={'again.sav': written(MIDDLE)},
 )
-
-
-def cases(tests: Tests) -> None:
-    with tests.case(NAME) as case:
-        for run in (FILLED, GONE_BACK, AGAIN):
-            tests.play(case, run)

@@ -1,0 +1,120 @@
+"""Games that are begun, put away, opened and saved on the board, and the stored puzzles."""
+
+from __future__ import annotations
+
+import os
+import re
+from typing import List, Set, Tuple
+
+from board import games
+from board.state import OLD_GAMES, State
+from tests.board.front import BoardFront
+from tests.harness import Room
+from tests.harness.game import ID, save_text
+
+SAVE = save_text(2)
+
+#: Edits of a save, and the sentence by which it is refused.
+SAVES: List[Tuple[bytes, bytes, str]] = [
+    (b'SAVEFILE', b'XAVEFILE', "That is no save file of the collection: one begins with 'SAVEFILE:41:'."),
+    (b'VERSION :1:1', b'VERSION :1:2', 'That save is of another version: version 1 is read.'),
+    (b'CPARAMS :1:3', b'CPARAMS :2:10', 'That save is of a size or a mode that is not played here'),
+    (b'DESC    :13:3//////3/////', b'DESC    :1:3', "That save's puzzle, its record DESC, can't be read."),
+    (b'NSTATES :1:3', b'NSTATES :1:0', 'That save has no right number of states'),
+    (b'MOVE    :6:R0,0,1', b'MOVE    :6:F0,0,2', 'Hints and spent signs, moves with H and F, are not played here: undo them there'),
+    (b'MOVE    :6:R0,0,1', b'MOVE    :99999999:', 'That save is damaged (Malformed).'),
+    (b'GAME    :6:Towers', b'GAME    :6:Towers\nGAME    :6:Towers', 'That save is damaged (Repeated).'),
+    (b'NSTATES :1:3\n', b'', 'That save is damaged (EarlyState).'),
+    (b'NSTATES :1:3', b'NSTATES :1:4', 'That save is damaged (Missing).'),
+    (b'R1,0,2', b'R3,0,2', "Move 2 of that save can't be made on its board."),
+]
+
+
+def test_put_away(front: BoardFront, room: Room) -> None:
+    """The present game goes to the last ten, and comes back from there."""
+    with front.window(['towers', ID]) as window:
+        window.look('1', ['1 of 9'])
+        window.look('n', ['A new game', '[easy]', '12 puzzles, 12 of them new to you'])
+        window.look('<enter>', ['0 of ', 'Towers 3x3   easy'])
+        window.look('n', ['12 puzzles, 11 of them new to you'])
+        window.look('<up><up><right><down>5<down><left><left><left>', ['[Unequal]', '[5]', '[seeded: no clue too many]'])
+        window.look('<left>4<enter>', ['Unequal 4x4   recursive'])
+        window.look('o', ['Towers 3x3, 1 of 9', 'a file ..'])
+        window.look('0', ['Towers 3x3', '1 of 9', 'move 1/1'])
+        window.look('o', ['0 a file ..'])
+        window.press('xq')
+        assert window.status() == 0, 'the status'
+    assert room.read('state/puzzles/towers.sav') == save_text(1), 'it is the present one'
+
+
+def test_seeded(front: BoardFront, room: Room) -> None:
+    """A seeded game tells its ID, by which it is played again."""
+    with front.window(['unequal', '3!7']) as window:
+        window.look('n<left><left>', ['[seeded: no clue too many]'])
+        window.look('<enter>', ['A seeded game; to play it again: n, by an ID, 3!'])
+        told = re.search(r'3!\d+', ' '.join(window.screen.text()))
+        window.look('i', ['The ID of this puzzle', 'any key goes back'])
+        first = window.screen.text()
+        window.press(f'xn<right>{"<right>" * 5}')
+        window.look('', ['[by an ID or a seed]'])
+        window.look(f'<enter>{told[0][2:] if told else ""}<enter>', ['Unequal 3x3   0 of'], ['A new game'])
+        window.look('i', ['The ID of this puzzle', 'any key goes back'])
+        assert window.screen.text() == first, 'the same puzzle'
+
+
+def test_saved(front: BoardFront, room: Room) -> None:
+    """A file that is no save is written over only after a question, and no other file is left."""
+    room.put('notes.txt', b'not a save\n')
+    with front.window(['towers', ID]) as window:
+        window.look('1<right>2', ['2 of 9'])
+        window.look('wFOLDER/notes.txt<enter>', ['notes.txt is there, and is no save. Write over it? y/N'])
+        window.look('<enter>', ['Nothing was saved.'])
+        assert room.read('notes.txt') == b'not a save\n', 'the notes'
+        window.look('w"FOLDER/a game.sav"<enter>', ['Saved in FOLDER/a game.sav'])
+        assert room.read('a game.sav') == save_text(2), 'the save'
+        window.look('<right>3w<enter>', ['3 of 9', 'Saved in FOLDER/a game.sav'])
+        assert room.read('a game.sav') == save_text(3), 'the save again'
+        window.look('wFOLDER/notes.txt<enter>y', ['Saved in FOLDER/notes.txt'])
+        window.look('wFOLDER/nothing/game.sav<enter>', ['The program says'])
+        window.press('q')
+        window.status()
+    with front.window([os.path.join(room.path, 'a game.sav')]) as window:
+        window.look('', ['3 of 9', 'move 3/3'])
+    assert [path for path in room.paths() if not path.startswith('state/')] == ['a game.sav', 'notes.txt'], 'what lies there'
+
+
+def test_refused_saves(front: BoardFront, room: Room) -> None:
+    with front.window(['towers', ID]) as window:
+        window.look('1', ['1 of 9'])
+        for old, new, sentence in SAVES:
+            room.put('edited.sav', SAVE.replace(old, new, 1))
+            window.look('o0FOLDER/edited.sav<enter>', [sentence, '1 of 9'])
+        room.put('edited.sav', b'\n' * 16_777_217)
+        window.look('o0FOLDER/edited.sav<enter>', ['A save has 16,777,216 bytes at most.'])
+        window.look('o0FOLDER/no.sav<enter>', ['The program says'])
+        room.put('edited.sav', SAVE.replace(b'GAME    :6:Towers', b'GAME    :5:Chess'))
+        window.look('o0FOLDER/edited.sav<enter>', ['That save is of another game'])
+
+
+def test_last_ten(front: BoardFront, room: Room) -> None:
+    state = State(front.env())
+    for at in range(OLD_GAMES + 3):
+        state.put_away('towers', b'%d' % at)
+    found = []
+    for old in state.old_games():
+        with open(old.path, 'rb') as file:
+            found.append(int(file.read()))
+    assert found == list(range(OLD_GAMES + 2, 2, -1)), 'the last ones, the last first'
+
+
+def test_stored(front: BoardFront, room: Room) -> None:
+    """None is offered again until all were."""
+    state = State(front.env())
+    os.makedirs(os.path.join(room.path, 'state', 'puzzles'))
+    for game in games.GRADES:
+        ids = games.stored(game, 9, 'e')
+        taken: Set[str] = {str(games.take(state, game, 9, 'e')) for _ in ids}
+        assert taken == set(ids), f'each once, {game}'
+        assert games.take(state, game, 9, 'e') in taken, 'another one'
+        counts = {size: len(games.letters(game, size)) for size in games.SIZES}
+        assert all(counts.values()), counts

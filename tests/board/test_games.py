@@ -1,0 +1,207 @@
+"""What is pressed on the board, and what has to be seen then."""
+
+from __future__ import annotations
+
+from typing import List
+
+import pytest
+
+from board.games import stored
+from tests.board.front import BoardFront, BoardGame, solution, whole_game
+from tests.harness import by_name
+from tests.harness.game import ID
+from tests.harness.terminal import Look
+
+GIVEN = '3:///////////,1c3c2'
+
+#: Stored puzzles of size 9.
+NINE = {game: stored(game, 9, 'e')[0] for game in ('towers', 'unequal')}
+
+#: Puzzles that are played to their end by keys alone, with the most keys that this may take.
+WHOLE = [
+    ('towers', '5!7', 46),
+    ('unequal', '5!7', 46),
+    ('towers', NINE['towers'], 161),
+    ('unequal', NINE['unequal'], 161),
+]
+
+GAMES: List[BoardGame] = [
+    BoardGame(
+        'numbers and marks',
+        ['towers', ID],
+        [
+            Look('', ['Towers 3x3', '0 of 9', 'move 0/0']),
+            Look('1', ['│   1   │', '1 of 9', 'move 1/1'], styles=[('1   │', {38}, {31})]),
+            Look('<right>p12', ['PENCIL', '│ 1 2   │', 'move 3/3']),
+            Look('1', ['│   2   │'], ['│ 1 2   │']),
+            Look('<enter>3', ['│   3   │', '2 of 9'], ['PENCIL']),
+            Look('u', ['│   2   │', 'move 4/5']),
+            Look('<ctrl-r>', ['│   3   │', 'move 5/5']),
+            Look('<ctrl-z><ctrl-z>', ['│ 1 2   │', 'move 3/5']),
+            Look('rr<delete>', ['1 of 9', 'move 6/6'], ['│   3   │']),
+            Look('0', ['There is nothing to clear.', 'move 6/6']),
+            Look('m', ['│ 1 2 3 │', 'move 7/7']),
+            Look('<space>', ['move 8/8']),
+            Look('R', ['Back at the start', '0 of 9']),
+            Look('u', ['1 of 9', 'move 8/9']),
+        ],
+    ),
+    BoardGame(
+        'contradictions are red and have a sign',
+        ['towers', GIVEN],
+        [
+            Look('<right>1', ['│   1!  │   1!  │'], styles=[('1!', {1, 91}, set()), ('3   │', {1}, {91, 38})]),
+            Look('u', hides=['1!']),
+            Look('<left>2', ['was given with the puzzle']),
+            Look('S', ['Fill in the solution? u takes it back. y/N']),
+            Look('x', ['move 0/1'], ['y/N']),
+            Look('Sy', ['Solved!', 'solved with help']),
+        ],
+    ),
+    BoardGame(
+        'clues',
+        ['towers', ID],
+        [
+            Look('3', ['3!'], styles=[('3!', {1, 91}, set())]),
+            Look('u<up>d', ['3·'], ['3!'], styles=[('3·', {2, 7}, set())]),
+            Look('<enter>', hides=['3·']),
+            Look('2', ['That is a clue: d marks it as done.']),
+            Look('<down><left><enter>', ['3·']),
+            Look('<right>d', ['go there first']),
+        ],
+        size=(43, 132),
+    ),
+    BoardGame(
+        'signs',
+        ['unequal', '3:0,0L,0L,0U,0,0,0U,0,0,'],
+        [
+            Look('', ['├───^───┼']),
+            Look('3', ['├───^!──┼']),
+            Look('u<right><right>2<left>2', ['2!  <!  2!'], styles=[('<!', {1, 91}, set())]),
+            Look('d', ['marks a clue at the edge']),
+        ],
+    ),
+    BoardGame(
+        'solved, and changed then',
+        ['towers', ID],
+        [
+            Look('1<right>2<right>3<down>1<left>3<left>2<down>3<right>1<right>1', ['Full, but not right yet: ! shows what contradicts.', '1!']),
+            Look('2', ['Solved!', 'solved']),
+            Look('3', ['was solved', 'Full, but not right yet'], ['Solved!']),
+            Look('u', ['Solved!']),
+        ],
+    ),
+    BoardGame(
+        'hints',
+        ['towers', ID],
+        [
+            Look('h', ['Here only one number is left']),
+            Look('h', ['It is a ']),
+            Look('c', ['These numbers can still be completed, in one way.']),
+            Look('<down><down><right><right>3', ['1 of 9']),
+            Look('c', ["These numbers can't be completed"]),
+            Look('h', ['No solution keeps these numbers']),
+            Look(':new 3:///////////<enter>c', ['in several ways']),
+            Look('h', ['No number follows by the deductions alone']),
+        ],
+    ),
+    BoardGame(
+        'pages',
+        ['unequal', '4!7'],
+        [
+            Look('?', ['arrows or HJKL', 'says which of them has the greater', 'any key goes back']),
+            Look('xi', ['The ID of this puzzle', "puzzles-play unequal '4:"]),
+            Look('x:list 3<enter>', ['move 0/0']),
+            Look(':show<enter>', ['any key goes back']),
+            Look('x:sing<enter>', ['No such command: ? shows the keys.']),
+            Look(':<escape>', ['move 0/0']),
+            Look('x', ['That key does nothing']),
+        ],
+    ),
+    BoardGame('Ctrl-C leaves', ['towers', ID], [Look('1', ['1 of 9'])], last='<ctrl-c>'),
+    BoardGame('a refused ID', ['towers', '3:3'], [], last='', status=3),
+    BoardGame('no file', ['unequal', 'nothing.sav'], [], last='', status=3),
+    BoardGame(
+        'no colours',
+        ['towers', GIVEN],
+        [Look('<right>1', ['|   1!  |   1!  |', '+-------+'], ['│'], styles=[('1!', {1}, {31, 91})])],
+        term='vt100',
+        locale='C',
+    ),
+    BoardGame(
+        'eight colours',
+        ['towers', GIVEN],
+        [Look('<right>1', ['│   1!  │   1!  │'], styles=[('1!', {1, 31}, {91})])],
+        term='xterm',
+    ),
+    BoardGame('a small window', ['towers', '5!7'], [Look('', ['Towers 5x5   0 of 22', '4  │     │'])], size=(20, 40)),
+    BoardGame(
+        'a window that is too small',
+        ['unequal', '5!7'],
+        [Look('', ['Unequal 5x5 needs a window of 36 columns and 14 lines, and this one has 30 and 10.']), Look('123', ['needs a window'])],
+        size=(10, 30),
+    ),
+]
+
+#: A line of the program, and the sentence where it is refused.
+REFUSALS = [
+    ('move R3,0,1', 'Columns and rows count from 0 to 2.'),
+    ('move R1,0,4', 'Numbers go from 1 to 3, and 0 clears a square.'),
+    ('move R0,0,2', 'That number was given with the puzzle, and stays.'),
+    ('move R1,0', 'That is no move'),
+    ('move H', 'Hints and spent signs, moves with H and F, are not played here.'),
+    ('move D0,-1', 'A done mark is for a clue'),
+    ('move S111111111', 'Those numbers are no solution of this puzzle.'),
+    ('undo', 'This is the first state: there is nothing to undo.'),
+    ('redo', 'This is the last state: there is nothing to redo.'),
+    ('restart', 'The game is at its start already.'),
+    ('list 0', "'list 5' shows the first five solutions: a number from 1 to 100."),
+    ('sing', 'No such command: ? shows the keys.'),
+    ('x' * 1025, 'A line has 1,024 bytes at most.'),
+    ('new 2', 'An ID begins with the size, one digit from 3 to 9'),
+    ('new 5dk:', "After the size and 'd' comes one of the letters e, h, x or u."),
+    ('new 5x', "Between the size and ':' or '!' there is nothing, or 'd' and a letter."),
+    ('new 5#7', "A seed after '#' is the usual program's: copy its game ID with ':' from there."),
+    ('new 5', "An ID has ':' and a description, or '!' and a seed, after the size"),
+    ('new 5!007', 'A seed is a number from 0 to 18446744073709551615, without leading zeros'),
+    ('new 7!1', 'Seeded games have the sizes 3 to 6.'),
+    ('new 5de!7', 'A seeded game has no difficulty letter'),
+    ('new 3:3', "A description has four clues for each of the size, with '/' between"),
+    ('new 3:4///////////', 'Each clue is nothing, or one digit from 1 to the size.'),
+    ('new 3:///////////,12g', "After ',' come letters for empty squares, and digits from 1 to the size."),
+]
+
+UNEQUAL_REFUSALS = [
+    ('move D0,-1', 'Done marks are for the clues of Towers: Unequal has none.'),
+    ('new 5a:', "The adjacent mode of Unequal, with 'a' after the size, is not played here."),
+    ('new 5du:', 'one of the letters t, e, k, x or r.'),
+    ('new 3:0,0', "A description has one part for each square, with ',' between."),
+    ('new 3:4,0,0,0,0,0,0,0,0,', 'Each square is one digit from 0 to the size, with its letters after it.'),
+    ('new 3:0X,0,0,0,0,0,0,0,0,', "After a square's digit come no other letters than U, R, D and L."),
+    ('new 3:0U,0,0,0,0,0,0,0,0,', 'A sign points out of the grid.'),
+    ('new 3:0R,0L,0,0,0,0,0,0,0,', 'Of two neighbours only one can be the greater'),
+]
+
+MORE = [
+    BoardGame('refusals', ['towers', GIVEN], [Look(f':{line}<enter>', [sentence]) for line, sentence in REFUSALS]),
+    BoardGame('refusals of Unequal', ['unequal', '3!7'], [Look(f':{line}<enter>', [sentence]) for line, sentence in UNEQUAL_REFUSALS]),
+    BoardGame('no solution', ['towers', '3:3///3////////'], [Look('Sy', ['No solution exists for this puzzle'])]),
+    BoardGame('several solutions', ['towers', '3:3///////////'], [Look('Sy', ['Multiple solutions exist for this puzzle'])]),
+    BoardGame('a filled square', ['towers', ID], [Look('1p2', ['There is a number: 0 clears it, then set pencil marks.'])]),
+]
+
+
+@pytest.mark.parametrize('game', [*GAMES, *MORE], ids=by_name)
+def test_game(front: BoardFront, game: BoardGame) -> None:
+    front.play(game)
+
+
+@pytest.mark.parametrize(('game', 'id', 'most'), WHOLE)
+def test_whole_game(front: BoardFront, game: str, id: str, most: int) -> None:
+    """A game from its first to its last number."""
+    with front.window([game, id]) as window:
+        window.look('', ['move 0/0'])
+        window.look(whole_game(*solution(front.program, game, id)), ['Solved!'])
+        assert window.pressed <= most
+        window.press('q')
+        assert window.status() == 0

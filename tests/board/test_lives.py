@@ -1,0 +1,252 @@
+"""Terminals that are closed, resized and stopped, programs that are killed, disks that are full: and how the game goes on then."""
+
+from __future__ import annotations
+
+import os
+import signal
+import time
+from typing import Callable, List, Tuple
+
+import pytest
+
+from tests.harness.terminal import Terminal
+from tests.board.front import BoardFront
+from tests.harness import Room, run
+from tests.harness.game import ID, left_files, save_text
+from tests.harness.mounts import fill, small_disk
+from tests.harness.room import Folder
+
+KEPT = 'state/puzzles/towers.sav'
+
+#: Whatever ends the front, and how the front ends then.
+ENDS: List[Tuple[str, Callable[[Terminal], None], int]] = [
+    ('the window is closed', lambda window: window.close(), 129),
+    ('HUP', lambda window: window.signal(signal.SIGHUP), 129),
+    ('TERM', lambda window: window.signal(signal.SIGTERM), 143),
+    ('the front is killed', lambda window: window.signal(signal.SIGKILL), -9),
+]
+
+#: Sizes of a window, and what stands there then.
+SIZES = [
+    ((43, 132), '│   1   │'),
+    ((17, 40), '│   1   │'),
+    ((10, 30), 'needs a window of'),
+    ((24, 80), '│   1   │'),
+    ((12, 36), '│   1   │'),
+]
+
+#: Line and column of a click, the button, keys that are pressed then, and what is seen.
+CLICKS = [
+    (9, 16, 0, '2', '│   2   │'),
+    (2, 8, 0, 'd', '3·'),
+    (2, 8, 0, '<down>', '        3\n'.strip()),
+    (13, 10, 2, '1', 'PENCIL'),
+]
+
+#: A shell with jobs: it says when the front has stopped, and how the terminal is then.
+STOPS = """\
+set -m
+"$0" towers "$1"
+echo STOPPED modes=$(stty -a | tr " ;" "\\n\\n" | grep -cx -e icanon -e isig -e echo)
+read -r _
+fg > /dev/null
+echo OVER
+"""
+
+
+@pytest.mark.parametrize(('end', 'status'), [end[1:] for end in ENDS], ids=[end[0] for end in ENDS])
+def test_ended(front: BoardFront, room: Room, end: Callable[[Terminal], None], status: int) -> None:
+    """What was played is kept, and nothing lies elsewhere; the next start goes on."""
+    with front.window(['towers', ID]) as window:
+        window.look('1<right>2u', ['1 of 9', 'move 1/2'])
+        programs = window.programs()
+        end(window)
+        assert window.status() == status, 'the status'
+    assert room.read(KEPT) == save_text(2, 2), 'what is kept'
+    others = [path for path in room.paths() if not path.startswith('state/puzzles/')]
+    assert others == [], 'nothing lies elsewhere'
+    assert all(is_gone(pid) for pid in programs), programs
+    with front.window([]) as window:
+        window.look('', ['Towers 3x3', '1 of 9', 'move 1/2'])
+        window.press('q')
+        window.status()
+
+
+def is_gone(pid: int) -> bool:
+    """Whether a process has ended, or does so in a moment."""
+    end = time.monotonic() + 5
+    while os.path.exists(f'/proc/{pid}'):
+        with open(f'/proc/{pid}/stat', encoding='ascii') as file:
+            if file.read().rpartition(')')[2].split()[0] == 'Z':
+                return True
+        if time.monotonic() > end:
+            return False
+        time.sleep(0.02)
+    return True
+
+
+def test_resized(front: BoardFront, room: Room) -> None:
+    with front.window(['towers', ID]) as window:
+        window.look('1<right>', ['1 of 9'])
+        for size, text in SIZES:
+            window.resize(size)
+            window.look('', [text])
+        window.look('2', ['2 of 9'])
+        window.resize((10, 30))
+        window.press('n')
+        window.resize((24, 80))
+        window.look('', ['A new game', 'any other key goes back'])
+        window.look('x', ['2 of 9'])
+
+
+def test_stopped(front: BoardFront, room: Room) -> None:
+    """Z stops the front, with the terminal as it was, and it comes back."""
+    with Terminal(['bash', '-c', STOPS, front.path, ID], front.env(), cwd=room.path, size=(24, 80)) as window:
+        window.look('1', ['1 of 9'])
+        window.look('Z', ['STOPPED modes=3'], ['1 of 9'])
+        window.look('<enter>', ['1 of 9'], ['STOPPED'])
+        window.look('<right>2', ['2 of 9'])
+        window.look('q', ['OVER'])
+
+
+def test_without_home(front: BoardFront, room: Room) -> None:
+    env = front.env()
+    del env['HOME'], env['XDG_STATE_HOME']
+    with front.window(['towers', ID], env=env) as window:
+        window.look('1', ['The game is not kept: neither XDG_STATE_HOME nor HOME names a folder.', '1 of 9'])
+        window.look('q', ['Quit and lose it? y/N'])
+        window.look('x', ['1 of 9'], ['y/N'])
+        window.look('n<enter>', ["The present game can't be put away", 'Lose it? y/N'])
+        window.look('x', ['The present game stays.', '1 of 9'])
+        window.press('qy')
+        assert window.status() == 0, 'the status'
+
+
+def test_no_folder(front: BoardFront, room: Room) -> None:
+    """Where games should be kept there is a file."""
+    room.put('state', b'')
+    with front.window(['towers', ID]) as window:
+        window.look('1', ['The game is not kept: nothing can be written to', '1 of 9'])
+        window.press('qy')
+        assert window.status() == 0, 'the status'
+
+
+def test_damaged(front: BoardFront, room: Room) -> None:
+    """What is kept and can't be read isn't lost either."""
+    os.makedirs(os.path.join(room.path, 'state', 'puzzles'))
+    room.put(KEPT, save_text(2)[:150])
+    with front.window(['towers'], (30, 100)) as window:
+        window.look('', ["can't be read: That save is damaged (Missing)", 'Towers 5x5'])
+        window.look('o', ["0 ", "towers, can't be read", 'a file ..'])
+        window.press('xq')
+        window.status()
+    old = [path for path in room.paths() if path.startswith('state/puzzles/old/')]
+    assert [room.read(path) for path in old] == [save_text(2)[:150]], 'it is put away'
+
+
+def test_two_windows(front: BoardFront, room: Room) -> None:
+    with front.window(['towers', ID]) as first:
+        first.look('1', ['1 of 9'])
+        with front.window(['towers', ID]) as second:
+            second.look('1<right>2', ['2 of 9'])
+            second.press('q')
+            second.status()
+        first.press('q')
+        first.status()
+    assert [room.read(KEPT), room.read('state/puzzles/towers-2.sav')] == [save_text(1), save_text(2)], 'both games'
+
+
+def test_full_disk(front: BoardFront, room: Room) -> None:
+    """The file has the game as it was before the disk was full, and the whole game as soon as there is room."""
+    os.mkdir(os.path.join(room.path, 'state'))
+    with small_disk(os.path.join(room.path, 'state'), 1 << 16), Folder('state', room) as disk:
+        with front.window(['towers', ID]) as window:
+            window.look('1', ['1 of 9'])
+            fill(disk)
+            window.look('<right>2', ['The game is not kept: No space left on device', '2 of 9'])
+            assert disk.read('puzzles/towers.sav') == save_text(1), 'what is kept'
+            window.look('q', ['Quit and lose it? y/N'])
+            disk.remove('filler')
+            window.look('x<right>3', ['3 of 9'], ['not kept'])
+            window.press('q')
+            assert window.status() == 0, 'the status'
+        assert disk.read('puzzles/towers.sav') == save_text(3), 'what is kept then'
+        fill(disk)
+        with front.window(['towers', '5!7']) as window:
+            window.look('', ["The present game can't be put away (No space left on device). Lose it? y/N"])
+            window.press('n')
+            assert window.status() == 3, 'the status of another game'
+        assert disk.read('puzzles/towers.sav') == save_text(3), 'what is kept at the end'
+        assert left_files(disk) == [], 'no new file is left'
+
+
+def test_mouse(front: BoardFront, room: Room) -> None:
+    """A click goes to a square or a clue; on the clue of the cursor it sets the done mark; the right button takes pencil marks."""
+    with front.window(['towers', ID]) as window:
+        window.look('', ['move 0/0', '│       │'])
+        for line, column, button, keys, text in CLICKS:
+            window.click(line, column, button)
+            window.look(keys, [text])
+
+
+def test_unknown_keys(front: BoardFront, room: Room) -> None:
+    """What a terminal sends for a key that isn't known puts no number in."""
+    with front.window(['towers', ID], env=front.env('vt100')) as window:
+        window.look('', ['move 0/0'])
+        window.send('\x1b[1;5C')
+        window.look('', ['That key does nothing', 'move 0/0'])
+        window.look('3', ['1 of 9', 'move 1/1', '|   3   |'])
+        window.send('\x1b[3~')
+        window.look('', ['0 of 9', 'move 2/2'])
+        window.send('\x1b[C')
+        window.look('2', ['|   2   |'])
+        window.send('\x1b[15~')
+        window.look('', ['That key does nothing', 'move 3/3'])
+
+
+def test_without_modules(front: BoardFront, room: Room) -> None:
+    """Without `curses` it is the line mode, and without `readline` it is one, too."""
+    os.mkdir(os.path.join(room.path, 'modules'))
+    for module in ('curses', 'readline'):
+        room.put(f'modules/{module}.py', b'raise ImportError\n')
+    env = {**front.env(), 'PYTHONPATH': os.path.join(room.path, 'modules')}
+    with front.window(['towers', ID], env=env) as window:
+        window.look('0 0 1<enter>', ['row 0, column 0 is 1; row 0 lacks 2 and 3', 'towers 2/2>'])
+        window.look('q<enter>', ['towers 2/2> q'])
+        assert window.status() == 0, 'the status'
+
+
+def test_to_lines(front: BoardFront, room: Room) -> None:
+    """T goes on in lines of text; Ctrl-Z there leaves the terminal as a shell wants it."""
+    with Terminal(['bash', '-c', STOPS, front.path, ID], front.env(), cwd=room.path, size=(24, 80)) as window:
+        window.look('1', ['1 of 9'])
+        window.look('T', ['0 3 1 . . -', 'towers 2/2>'])
+        window.look('1 0 2<enter>', ['row 0, column 1 is 2'])
+        window.look('<ctrl-z>', ['STOPPED modes=3'])
+        window.look('<enter>2 0 3<enter>', ['row 0, column 2 is 3'])
+        window.look('q<enter>', ['OVER'])
+
+
+def test_narrow_lines(front: BoardFront, room: Room) -> None:
+    """Sentences are broken between words."""
+    with front.window(['--lines', 'towers', ID], (20, 40)) as window:
+        window.look('0 0 3<enter>', ['Contradicted: the clue 3 above column', '0; the clue 3 left of row 0.'])
+        window.look('q<enter>', ['> q'])
+
+
+def test_words(front: BoardFront, room: Room) -> None:
+    """Help, the version, and words that can't be read."""
+    for line, status, text in [
+        (['--help'], 0, b'usage: '),
+        (['-h'], 0, b'usage: '),
+        (['towers', '-h'], 0, b'usage: '),
+        (['--version'], 0, b''),
+        (['--nothing'], 2, b'usage: '),
+        (['chess'], 2, b'usage: '),
+        (['5!7'], 2, b"towers '5!7'?"),
+        (['towers', ID, 'more'], 2, b'usage: '),
+        (['towers', ID], 2, b'the board is for a terminal; in a pipe use the program itself, puzzles towers'),
+    ]:
+        found = run([front.path, *line], room, env=front.env())
+        assert found.status == status, f'{line}: the status'
+        assert text in found.output + found.error, found

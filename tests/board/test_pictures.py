@@ -1,0 +1,76 @@
+"""Pictures of the board at each size, as text files for a person to look at, which a terminal has to show."""
+
+from __future__ import annotations
+
+import os
+from pathlib import Path
+from typing import List, NamedTuple, Tuple
+
+import pytest
+
+from board.games import SIZES, stored
+from tests.board.front import USUAL, BoardFront
+from tests.harness import by_name
+from tests.harness.screen import Screen
+
+PICTURES = Path(__file__).resolve().parent / 'pictures'
+
+#: All marks, two equal numbers, pencil marks taken away, and a clue that is done where there is one.
+KEYS = 'm1<right>1<right><down>p12p<down><left><left><left>d'
+
+#: Clears the sentence that the last key may have left.
+LAST = '<right>'
+
+
+class Picture(NamedTuple):
+    """A stored puzzle on a screen of so many lines and columns."""
+
+    game: str
+    size: int
+    screen: Tuple[int, int] = USUAL
+    term: str = 'xterm-256color'
+    locale: str = 'C.UTF-8'
+
+    @property
+    def name(self) -> str:
+        lines, columns = self.screen
+        plain = '-plain' if self.locale == 'C' else ''
+        return f'{self.game}-{self.size}-{columns}x{lines}{plain}.txt'
+
+
+ALL: List[Picture] = [
+    *(Picture(game, size) for game in ('towers', 'unequal') for size in SIZES),
+    *(Picture(game, size, (43, 132)) for game in ('towers', 'unequal') for size in (5, 9)),
+    *(Picture(game, 5, (20, 40)) for game in ('towers', 'unequal')),
+    *(Picture(game, 6, term='vt100', locale='C') for game in ('towers', 'unequal')),
+]
+
+
+def text_of(screen: Screen) -> str:
+    return ''.join(f'{line}\n' for line in screen.text()).rstrip('\n') + '\n'
+
+
+def seen(front: BoardFront, picture: Picture, wanted: str) -> str:
+    """What stands on the screen at the end, as soon as that is what is wanted, or when it stays otherwise."""
+    env = front.env(picture.term, picture.locale)
+    id = stored(picture.game, picture.size, 'e')[0]
+    with front.window([picture.game, id], picture.screen, env) as window:
+        window.wait_until(lambda screen: any('0/0' in line for line in screen.text()))
+        window.press(KEYS + LAST + '?')
+        window.wait_until(lambda screen: any('any' in line and 'back' in line for line in screen.text()))
+        window.press('x')
+        window.wait_until(lambda screen: text_of(screen) == wanted, 5)
+        return text_of(window.screen)
+
+
+@pytest.mark.parametrize('picture', ALL, ids=by_name)
+def test_picture(front: BoardFront, picture: Picture) -> None:
+    """With PICTURES=new in the environment they are stored anew."""
+    path = PICTURES / picture.name
+    is_new = os.environ.get('PICTURES') == 'new'
+    wanted = path.read_text(encoding='utf-8') if path.exists() and not is_new else ''
+    shown = seen(front, picture, wanted)
+    if is_new:
+        path.write_text(shown, encoding='utf-8')
+    else:
+        assert shown == wanted, shown

@@ -1,0 +1,153 @@
+"""Programs below the board that end, take long, or lack memory: and how the game goes on then."""
+
+from __future__ import annotations
+
+import os
+import signal
+import time
+from pathlib import Path
+from typing import Dict
+
+from tests.harness.terminal import Terminal
+from tests.board.test_lives import is_gone
+from tests.board.front import BoardFront
+from tests.harness import Room
+from tests.harness.game import ID, save_text
+
+KEPT = 'state/puzzles/towers.sav'
+
+#: A program that never answers.
+SILENT = b'#!/bin/sh\nexec sleep 100\n'
+
+#: A program that answers by plain lines.
+PLAIN = b'#!/bin/sh\nwhile read -r line; do echo ok; done\n'
+
+#: Stands between the front and the program. It takes long over `completable` and one move, and the memory for some replies is lacking: for one the move is
+#: made and its reply is lost, the other one is refused.
+BETWEEN = """\
+#!/usr/bin/env python3
+import json, subprocess, sys, time
+program = subprocess.Popen(['{program}', *sys.argv[1:]], stdin=subprocess.PIPE, stdout=subprocess.PIPE, close_fds=False)
+for line in sys.stdin.buffer:
+    if line in (b'completable\\n', b'move R0,1,3\\n'):
+        time.sleep(100)
+    asked = b'board\\n' if line == b'move R2,0,3\\n' else line
+    program.stdin.write(asked)
+    program.stdin.flush()
+    reply = program.stdout.readline()
+    if line == b'move R1,0,2\\n':
+        reply = json.dumps(dict(lost='OutOfMemory')).encode() + b'\\n'
+    if line == b'move R2,0,3\\n':
+        reply = json.dumps(dict(json.loads(reply), refused='OutOfMemory', reply=['refused: OutOfMemory'])).encode() + b'\\n'
+    sys.stdout.buffer.write(reply)
+    sys.stdout.buffer.flush()
+program.stdin.close()
+sys.exit(program.wait())
+"""
+
+
+def between(front: BoardFront, room: Room) -> Dict[str, str]:
+    """The environment of a front over the program with something between."""
+    room.put('between', BETWEEN.format(program=front.program).encode(), 0o755)
+    return {**front.env(), 'PUZZLES_JSON': os.path.join(room.path, 'between')}
+
+
+def test_program_killed(front: BoardFront, room: Room) -> None:
+    with front.window(['towers', ID]) as window:
+        window.look('1', ['1 of 9'])
+        for pid in window.programs():
+            os.kill(pid, signal.SIGKILL)
+        window.look('<right>2', ['The program had ended (signal 9); the game goes on as it was. Try that again.', '1 of 9'])
+        window.look('2', ['2 of 9', 'move 2/2'])
+        window.press('q')
+        assert window.status() == 0, 'the status'
+    assert room.read(KEPT) == save_text(2), 'what is kept'
+
+
+def test_long_work(front: BoardFront, room: Room) -> None:
+    """A key stops it, and the game goes on."""
+    with front.window(['towers', ID], env=between(front, room)) as window:
+        window.look('1', ['1 of 9'])
+        window.look('c', ['The program is at work. Any key stops it.'])
+        window.look('x', ['Stopped; nothing has changed.', '1 of 9'])
+        window.look('2', ['│   2   │', 'move 2/2'])
+
+
+def test_no_answer(front: BoardFront, room: Room) -> None:
+    """A move that takes long can be stopped after a while, and a closed window ends the front at once."""
+    with front.window(['towers', ID], env=between(front, room)) as window:
+        window.look('1', ['1 of 9'])
+        window.look('<down>3', ['The program is at work. Any key stops it.'])
+        window.look('x', ['Stopped; nothing has changed.', '1 of 9'])
+        window.look('2', ['2 of 9', 'move 2/2'])
+        programs = window.programs()
+        window.press('3')
+        time.sleep(0.2)
+        window.signal(signal.SIGHUP)
+        assert window.status() == 129, 'the status'
+        assert all(is_gone(pid) for pid in programs), programs
+    assert (room.read(KEPT) or b'').endswith(b'R0,0,1\nMOVE    :6:R0,1,2\n'), room.read(KEPT)
+
+
+def test_silent(front: BoardFront, room: Room) -> None:
+    """A program that never answers, not even at the start: keys and a closed window are heard."""
+    room.put('silent', SILENT, 0o755)
+    env = {**front.env(), 'PUZZLES_JSON': os.path.join(room.path, 'silent')}
+    with front.window(['towers'], env=env) as window:
+        window.look('', ['The program is at work. Any key stops it.'])
+        window.look('x', ['the program has ended: it gave no answer'])
+        assert window.status() == 1, 'the status'
+    for words in (['towers'], ['--lines', 'towers'], ['towers', ID]):
+        with front.window(words, env=env) as window:
+            assert wait_for_program(window), 'it has not begun'
+            window.signal(signal.SIGHUP)
+            assert window.status() == 129, f'{words}: the status of a closed window'
+    with front.window(['--lines', 'towers'], env=env) as window:
+        assert wait_for_program(window), 'it has not begun'
+        window.press('<ctrl-c>')
+        window.look('', ['the program has ended: it gave no answer'])
+        assert window.status() == 1, 'in lines: the status'
+
+
+def test_other_names(front: BoardFront, room: Room) -> None:
+    """The file of the program may have any name; a program that answers by plain lines is told for what it is."""
+    for file, content in (('another', Path(front.program).read_bytes()), ('plain', PLAIN)):
+        room.put(file, content, 0o755)
+    for words, shown in ((['towers'], 'move 0/0'), (['--lines', 'towers'], 'towers 1/1>')):
+        env = {**front.env(), 'PUZZLES_JSON': os.path.join(room.path, 'another')}
+        with front.window([*words, ID], env=env) as window:
+            window.look('', [shown])
+        with front.window(words, env={**env, 'PUZZLES_JSON': os.path.join(room.path, 'plain')}) as window:
+            window.look('', ['its answer is no object: it is not'])
+            assert window.status() == 1, f'the status, {words}'
+
+
+def wait_for_program(window: Terminal) -> bool:
+    """Whether the front has started a program, which has a session of its own, or does so in a moment."""
+    end = time.monotonic() + 10
+    while not any(os.getsid(pid) == pid for pid in window.programs()):
+        if time.monotonic() > end:
+            return False
+        time.sleep(0.02)
+    return True
+
+
+def test_no_memory(front: BoardFront, room: Room) -> None:
+    """What was done is shown, whether its reply was lost or not, and is kept."""
+    with front.window(['towers', ID], env=between(front, room)) as window:
+        window.look('1', ['1 of 9'])
+        window.look('<right>2', ['There is no memory left: the program did that or refused it, and could not say which.', '2 of 9'])
+        window.look('<right>3', ['There is no memory left for that; nothing has changed.', '2 of 9'])
+        window.press('q')
+        assert window.status() == 0, 'the status'
+    assert room.read(KEPT) == save_text(2), 'what is kept'
+
+
+def test_full_history(front: BoardFront, room: Room) -> None:
+    """A game with as many states as there may be."""
+    moves = b'MOVE    :6:P0,0,1\n' * 99_999
+    room.put('long.sav', save_text(0).replace(b'NSTATES :1:1\nSTATEPOS:1:1\n', b'NSTATES :6:100000\nSTATEPOS:6:100000\n') + moves)
+    with front.window(['towers', os.path.join(room.path, 'long.sav')]) as window:
+        window.look('', ['move 99999/99999'])
+        window.look('1', ['A game has 100,000 states at most: undo some, then go on.'])
+        window.look('u', ['move 99998/99999'])

@@ -1,0 +1,1 @@
+"""How our own scripts are written: the types and the style of all Python, and all shell."""

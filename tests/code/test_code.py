@@ -1,0 +1,71 @@
+"""All Python passes mypy and pylint, and all shell shellcheck."""
+
+from __future__ import annotations
+
+import os
+import shutil
+import subprocess
+import sys
+from pathlib import Path
+from typing import List, Sequence
+
+import pytest
+
+from tests.harness.builds import TOP
+
+SETTINGS = TOP / 'tests' / 'code'
+
+#: The folders with Python, but the clients in docs/, which the documents show word by word.
+FOLDERS = ['bench', 'board', 'tests', 'tools']
+
+
+def scripts(*commands: str) -> List[str]:
+    """The paths of the files whose first line names one of these commands, from the top."""
+    found: List[str] = []
+    for folder in [*FOLDERS, 'docs', '.ci']:
+        for path in sorted((TOP / folder).rglob('*')):
+            if path.is_file() and path.suffix != '.py' and first_line(path).rpartition('/')[2].split()[-1:] in [[word] for word in commands]:
+                found.append(str(path.relative_to(TOP)))
+    return found
+
+
+def first_line(path: Path) -> str:
+    """What stands behind `#!` in the first line, without options."""
+    with open(path, 'rb') as file:
+        line = file.readline().decode(errors='replace')
+    return ' '.join(word for word in line[2:].split() if not word.startswith('-')) if line.startswith('#!') else ''
+
+
+def modules() -> List[str]:
+    return sorted(str(path.relative_to(TOP)) for folder in FOLDERS for path in (TOP / folder).rglob('*.py'))
+
+
+def programs() -> List[str]:
+    return [path for path in scripts('python3') if not path.startswith('docs/')]
+
+
+def said(words: Sequence[str]) -> str:
+    """What a command complains of."""
+    if not shutil.which(words[0]):
+        pytest.skip(f'there is no {words[0]}')
+    path = os.pathsep.join(str(TOP / folder) for folder in ('', 'tools', 'bench'))
+    env = {**os.environ, 'MYPYPATH': path, 'PYTHONPATH': path, 'PYTHONDONTWRITEBYTECODE': '1'}
+    ended = subprocess.run(words, cwd=TOP, env=env, stdout=subprocess.PIPE, stderr=subprocess.STDOUT, encoding='utf-8', errors='replace', check=False)
+    return ended.stdout if ended.returncode else ''
+
+
+def test_mypy() -> None:
+    """Modules at once, and then the scripts, one by one, since each is a main program."""
+    words = ['mypy', '--strict', '--explicit-package-bases', '--no-error-summary', '--python-executable', sys.executable]
+    words += ['--config-file', str(SETTINGS / 'mypy.ini'), '--cache-dir', os.devnull, '--scripts-are-modules']
+    assert said([*words, *modules(), *programs()]) == ''
+
+
+@pytest.mark.parametrize('folder', FOLDERS)
+def test_pylint(folder: str) -> None:
+    files = [path for path in [*modules(), *programs()] if path.startswith(f'{folder}/')]
+    assert said(['pylint', f'--rcfile={SETTINGS / "pylintrc"}', '--score=n', *files]) == ''
+
+
+def test_shellcheck() -> None:
+    assert said(['shellcheck', '-x', *scripts('bash', 'sh'), 'board/completion.bash']) == ''

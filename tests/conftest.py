@@ -1,0 +1,97 @@
+"""What the tests have in common: the programs, a room for each case, the library by which calls fail, and the last line, which counts."""
+
+from __future__ import annotations
+
+import os
+import signal
+from typing import Iterator, List, NamedTuple
+
+import pytest
+
+#: What the cases of each folder share says of an assertion what pytest says.
+for name in ('harness', 'saving.game', 'lines.runs', 'board.front', 'board.playing', 'exchange.sides', 'faults', 'installing.site', 'objects.worked_lines', 'scripts.small'):
+    pytest.register_assert_rewrite(f'tests.{name}')
+
+from building.ready import NotReady, ready
+from building.record import BUILT
+from tests.harness.builds import TOP, copy
+from tests.harness.faults import FaultLibrary
+from tests.harness.mounts import own_mounts
+from tests.harness.room import Room
+
+
+class Programs(NamedTuple):
+    """Copies of both programs, in a folder whose name has a blank."""
+
+    puzzles: str
+    objects: str
+
+
+def pytest_addoption(parser: pytest.Parser) -> None:
+    for name, what in (('puzzles', 'the program'), ('puzzles-json', 'the one that writes objects'), ('calls', 'that of crates/trial_runs')):
+        parser.addoption(f'--{name}', metavar='PATH', help=f'{what}, if not the one that is ready')
+
+
+def pytest_configure(config: pytest.Config) -> None:
+    own_mounts()
+    # What has been made is taken away where the tests are ended, too.
+    signal.signal(signal.SIGTERM, signal.default_int_handler)
+
+
+def pytest_sessionfinish(session: pytest.Session) -> None:
+    """A skip is no pass."""
+    if session.exitstatus == 0 and counts(session.config)[2] and not skips_allowed():
+        session.exitstatus = 1
+
+
+def pytest_unconfigure(config: pytest.Config) -> None:
+    if config.pluginmanager.has_plugin('terminalreporter') and not hasattr(config, 'workerinput') and not config.option.collectonly:
+        passed, failed, skipped = counts(config)
+        if skipped and not skips_allowed():
+            print('What was skipped was not tried, so this has failed; SKIPS_ALLOWED=1 lets it pass.')
+        print(f'{passed} passed, {failed} failed' + (f', {skipped} skipped' if skipped else ''), flush=True)
+
+
+def counts(config: pytest.Config) -> List[int]:
+    reporter = config.pluginmanager.get_plugin('terminalreporter')
+    stats = reporter.stats if reporter else {}
+    return [sum(len(stats.get(kind, [])) for kind in kinds) for kinds in (['passed'], ['failed', 'error'], ['skipped'])]
+
+
+def skips_allowed() -> bool:
+    return os.environ.get('SKIPS_ALLOWED') == '1'
+
+
+@pytest.fixture(scope='session')
+def programs(request: pytest.FixtureRequest) -> Iterator[Programs]:
+    try:
+        folder = ready().folder
+    except NotReady:
+        folder = BUILT.folder
+    with Room() as room:
+        paths = [copy(room, request.config.getoption(f'--{name}') or str(TOP / folder / name), name) for name in ('puzzles', 'puzzles-json')]
+        yield Programs(*paths)
+
+
+@pytest.fixture
+def program(programs: Programs) -> str:
+    return programs.puzzles
+
+
+@pytest.fixture
+def objects(programs: Programs) -> str:
+    return programs.objects
+
+
+@pytest.fixture
+def room() -> Iterator[Room]:
+    """A folder for this case alone."""
+    with Room() as made:
+        yield made
+
+
+@pytest.fixture(scope='session')
+def library() -> Iterator[FaultLibrary]:
+    """Where it can't be had, the case is skipped."""
+    with Room() as made:
+        yield FaultLibrary(made)

@@ -1,0 +1,130 @@
+"""Our saves, opened by the usual program: every kind of move, with later states, solved, restarted, seeded, with kept bytes."""
+
+from __future__ import annotations
+
+import re
+from typing import List, Sequence, Tuple
+
+import pytest
+
+from tests.exchange.sides import Sides
+from tests.harness.builds import TOP
+
+GAMES = ['towers', 'unequal']
+SIZES = range(3, 10)
+SEEDED_SIZES = range(3, 7)
+
+#: How many of the stored puzzles of each game and size are taken.
+STORED = 2
+
+#: Records that are kept as bytes, each with the record after which it stands. The usual program reads them all.
+KEPT: List[Tuple[str, str]] = [
+    ('CPARAMS ', 'SEED    :9:12:34 5,6'),
+    ('DESC ', 'AUXINFO :8:0011aabb'),
+    ('DESC ', 'UI      :4:C1,1'),
+    ('DESC ', 'TIME    :4:12.5'),
+]
+
+
+def stored_puzzles(game: str, size: int) -> List[str]:
+    """The first of the stored puzzles of that size."""
+    lines = (TOP / 'bench' / 'puzzles.txt').read_text(encoding='ascii').splitlines()
+    puzzles = [words[2] for words in map(str.split, lines) if words[:1] == [game] and words[2].startswith(str(size))]
+    return puzzles[:STORED]
+
+
+@pytest.mark.parametrize(('game', 'size', 'number', 'puzzle'), [
+    (game, size, number, puzzle) for game in GAMES for size in SIZES for number, puzzle in enumerate(stored_puzzles(game, size))
+])
+def test_saves(sides: Sides, game: str, size: int, number: int, puzzle: str) -> None:
+    """A puzzle's saves: fresh, with every kind of move, solved by hand and by the program, restarted, and with later states."""
+    at = f'{game} {puzzle}'
+    start = [f'--id={puzzle}']
+
+    def save(kind: str, *commands: str) -> str:
+        path = f'{game}-{size}-{number}-{kind}.sav'
+        sides.make_save(f'{at}, {kind}', game, path, start, commands)
+        return path
+
+    solution = sides.said(game, start, 'solve')
+    sides.check(f'{at}: is solved', bool(re.fullmatch('S[1-9]*', solution)), solution)
+    moves = moves_to(sides, game, size, puzzle, solution[1:])
+    every = ['move M', *marks_and_clears(size), *done_marks(size), *moves]
+
+    fresh = save('fresh')
+    by_id = f'{game}-{size}-{number}-id.sav'
+    sides.draws(f'{at}: theirs opens the ID', game, '--game', puzzle, f'{by_id[:-4]}.png')
+    sides.look_alike(f'{at}, fresh and ID', fresh, by_id)
+
+    hand = save('by hand', *moves)
+    expect_status(sides, f'{at}, by hand: solved', game, hand, 'solved ')
+    solve = save('solve', 'solve')
+    expect_status(sides, f'{at}, solve: helped', game, solve, 'helped 2/2')
+    sides.look_alike(f'{at}, by hand and by solve', hand, solve)
+
+    full = save('every move', *every, 'solve', 'restart', 'move M', *moves[:2])
+    sides.has_lines(f'{at}, every move', full, [':M$', ':P.,.,[1-9]$', ':P.,.,0$', ':R', '^SOLVE ', '^RESTART '])
+    if game == 'towers':
+        sides.has_lines(f'{at}, every move', full, [':D'])
+    restarted = save('restarted', *every, 'restart')
+    sides.look_alike(f'{at}, restarted and fresh', restarted, fresh)
+
+    later = save('later states', *moves, 'undo', 'undo', 'undo')
+    earlier = save('without them', *moves[:-3])
+    sides.look_alike(f'{at}, later states and without', later, earlier)
+    undone = save('all undone', 'move M', 'solve', 'undo', 'undo')
+    sides.look_alike(f'{at}, all undone and fresh', undone, fresh)
+    kept_bytes(sides, f'{at}, kept bytes', game, fresh)
+
+
+def expect_status(sides: Sides, name: str, game: str, save: str, beginning: str) -> None:
+    """Our program's status on a save begins so."""
+    found = sides.said(game, [f'--load={save}'], 'status')
+    sides.check(name, found.startswith(beginning), f'found {found}, wanted {beginning}..')
+
+
+def kept_bytes(sides: Sides, name: str, game: str, fresh: str) -> None:
+    """A game with the records that are kept as bytes, played on."""
+    lines = (sides.room.read(fresh) or b'').decode().splitlines()
+    for before, record in reversed(KEPT):
+        at = next((at for at, line in enumerate(lines, 1) if line.startswith(before)), 0)
+        lines.insert(at, record)
+    sides.room.put('with bytes.sav', ''.join(f'{line}\n' for line in lines).encode())
+    kept = f'{fresh[: -len("fresh.sav")]}kept.sav'
+    sides.make_save(name, game, kept, ['--load=with bytes.sav'], ['move M', 'undo'])
+    sides.has_lines(name, kept, [f'^{re.escape(record)}$' for _, record in KEPT])
+
+
+@pytest.mark.parametrize('game', GAMES)
+@pytest.mark.parametrize('seeded', [f'{size}!7' for size in SEEDED_SIZES])
+def test_seeded(sides: Sides, game: str, seeded: str) -> None:
+    """A seeded game: theirs opens its save and the ID that we write for it."""
+    start = [f'--id={seeded}']
+    save = f'{game}-seeded-{seeded[0]}.sav'
+    sides.make_save(f'{game} {seeded}', game, save, start, ['move M', 'undo'])
+    puzzle = sides.said(game, start, 'id')
+    by_id = f'{game}-seeded-{seeded[0]}-id.sav'
+    sides.draws(f'{game} {seeded}: theirs opens {puzzle}', game, '--game', puzzle, f'{by_id[:-4]}.png')
+    sides.look_alike(f'{game} {seeded}, save and ID', save, by_id)
+
+
+# Moves
+
+
+def moves_to(sides: Sides, game: str, size: int, puzzle: str, solution: str) -> List[str]:
+    """The moves that put a solution in, square by square, without those that a given square refuses."""
+    moves = [f'move R{at % size},{at // size},{number}' for at, number in enumerate(solution)]
+    replies = sides.said(game, [f'--id={puzzle}'], *moves).splitlines()
+    return [move for reply, move in zip(replies, moves) if reply == 'ok']
+
+
+def marks_and_clears(size: int) -> Sequence[str]:
+    """A pencil mark in each square, and each one's clearing."""
+    squares = [(x, y) for y in range(size) for x in range(size)]
+    return [f'move P{x},{y},{number}' for x, y in squares for number in (x + 1, 0)]
+
+
+def done_marks(size: int) -> Sequence[str]:
+    """A done mark at each place of a clue."""
+    places = [place for at in range(size) for place in ((at, -1), (at, size), (-1, at), (size, at))]
+    return [f'move D{x},{y}' for x, y in places]

@@ -1,0 +1,127 @@
+"""What `make install` puts below a DESTDIR, for a package."""
+
+from __future__ import annotations
+
+import os
+from typing import List
+
+from tests.board.line_games import GAMES, REFUSED, SAVES
+from tests.board.playing import LineFront
+from tests.harness import Room
+from tests.harness.builds import TOP
+from tests.installing.site import Site, expect_plays, files, snapshot, words_of
+
+OURS = 'share/verified-puzzles'
+DOCUMENTS = 'share/doc/verified-puzzles'
+
+#: What is told of the version, after its number.
+OF_A_BUILD = 'commit unknown\nproved by a kit that proves nothing\ntaken from a build\n'
+
+
+def wanted() -> List[str]:
+    """What is installed, below PREFIX."""
+    names = ('puzzles', 'puzzles-json', 'puzzles-play')
+    listed = [
+        *(f'games/{name}' for name in names),
+        *(f'share/bash-completion/completions/{name}' for name in names),
+        *(f'share/man/man{page.name[-1]}/{page.name}' for page in (TOP / 'man').iterdir()),
+        f'{OURS}/VERSION',
+        *(f'{OURS}/board/bank/{game}.txt' for game in ('towers', 'unequal')),
+        *(f'{OURS}/board/{path.name}' for path in (TOP / 'board').glob('*.py')),
+        *(f'{DOCUMENTS}/{name}' for name in ('VERSION', 'README.md', 'CHANGELOG.md', 'LICENSE')),
+        *(f'{DOCUMENTS}/docs/{path.name}' for path in (TOP / 'docs').glob('*.md')),
+        *(f'{DOCUMENTS}/docs/clients/{path.name}' for path in (TOP / 'docs' / 'clients').iterdir() if path.is_file()),
+    ]
+    if (TOP / 'board' / 'completion.zsh').exists():
+        listed.append('share/zsh/site-functions/_puzzles')
+    if (TOP / 'board' / 'completion.fish').exists():
+        listed += [f'share/fish/vendor_completions.d/{name}.fish' for name in names]
+    return sorted(listed)
+
+
+def test_staged(site: Site) -> None:
+    root = os.path.join(site.above, 'for a package')
+    where = words_of({'DESTDIR': root, 'PREFIX': '/usr', 'gamesdir': '/usr/games'})
+    place = os.path.join(root, 'usr')
+    site.expect(['make', 'install', *where])
+    assert files(place) == wanted(), 'what is there'
+    expect_modes(site, place)
+    expect_plays(site, os.path.join(place, 'games'))
+    expect_version(site, os.path.join(place, 'games', 'puzzles-play'))
+    expect_bank(site, place)
+    site.expect(['make', 'installcheck', *where], says='is there and plays')
+    expect_completes(site, place)
+    expect_pages(site, place)
+    expect_damage_is_seen(site, where, place)
+    expect_games(os.path.join(place, 'games', 'puzzles-play'))
+    site.expect(['make', 'uninstall', *where])
+    assert snapshot(root) == [], 'nothing is left'
+    site.expect(['make', 'uninstall', *where])
+
+
+def expect_modes(site: Site, place: str) -> None:
+    """Others may read each file, and run what is to be run."""
+    odd = [line for line in snapshot(place) if line.rpartition(' ')[2] != ('755' if is_run(place, line) else '644')]
+    assert odd == [], 'modes'
+
+
+def is_run(place: str, line: str) -> bool:
+    path = line.rpartition(' ')[0]
+    return path.startswith('games/') or os.path.isdir(os.path.join(place, path))
+
+
+def expect_version(site: Site, play: str) -> None:
+    """Its number, no commit where there is no git, and that the program is the one that was proved."""
+    version = site.file('VERSION').decode().strip()
+    ended = site.run([play, '--version'], cwd='..')
+    assert ended.output.decode() == f'puzzles {version}\n{OF_A_BUILD}', 'puzzles-play --version'
+    other = site.run([play, '--version'], cwd='..', env={'PUZZLES_JSON': '/bin/true'})
+    assert b'not known to be proved' in other.output, 'puzzles-play --version, with another program'
+
+
+def expect_bank(site: Site, place: str) -> None:
+    with open(os.path.join(place, OURS, 'board', 'bank', 'towers.txt'), encoding='utf-8') as file:
+        assert any(line.startswith('9de') for line in file), 'its puzzles: some of Towers of size 9'
+
+
+def expect_completes(site: Site, place: str) -> None:
+    """The file that bash looks for by the name of a command says how that command is completed."""
+    for name in ('puzzles', 'puzzles-json', 'puzzles-play'):
+        file = os.path.join(place, 'share', 'bash-completion', 'completions', name)
+        ended = site.run(['bash', '-c', '. "$0" && complete -p -- "$1"', file, name])
+        assert (ended.status, ended.error) == (0, b''), f'completion of {name}'
+
+
+def expect_pages(site: Site, place: str) -> None:
+    """A manual page that is another one's name leads to one that is there."""
+    folder = os.path.join(place, 'share', 'man')
+    there = files(folder)
+    for page in there:
+        with open(os.path.join(folder, page), encoding='utf-8') as file:
+            first = file.readline().rstrip()
+        if first.startswith('.so '):
+            assert first[4:] in there, f'{page}: where it leads is there'
+
+
+def expect_damage_is_seen(site: Site, where: List[str], place: str) -> None:
+    """`make installcheck` tells a file that lacks, and a command that doesn't play."""
+    page = os.path.join(place, 'share', 'man', 'man6', 'puzzles.6')
+    os.rename(page, page + '.away')
+    site.expect(['make', 'installcheck', *where], 2, 'man6/puzzles.6 is not there')
+    os.rename(page + '.away', page)
+    program = os.path.join(place, 'games', 'puzzles')
+    os.rename(program, program + '.away')
+    os.symlink('/bin/true', program)
+    site.expect(['make', 'installcheck', *where], 2, 'puzzles towers: status 0')
+    os.rename(program + '.away', program)
+
+
+def expect_games(front: str) -> None:
+    """The line mode finds its program by itself; the last games go on in one folder."""
+    with Room() as room:
+        for refused in REFUSED:
+            LineFront(front, room).refuse(refused)
+    for games in [*([game] for game in GAMES), SAVES]:
+        with Room() as room:
+            for game in games:
+                LineFront(front, room).play(game)

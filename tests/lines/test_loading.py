@@ -1,0 +1,133 @@
+"""The file to load: saves, files that are none, and files that can't be read."""
+
+from __future__ import annotations
+
+import os
+import resource
+
+import pytest
+
+from tests.harness import Room, by_name
+from tests.harness.game import HEAD, save_text
+from tests.lines.runs import Player, Run, plain_user
+
+LOAD = ['towers', '--load', 'game.sav']
+UNDONE = save_text(2, 2)
+MOST_BYTES = 16_777_216
+
+#: A save with a second move that can't be made.
+BAD_STATE = UNDONE.replace(b'R1,0,2', b'R9,0,2')
+
+#: A save as other programs write it, line by line, with records that are kept and one that isn't.
+FOREIGN = [
+    *HEAD.replace(b':1:3', b':3:3de').splitlines()[:-2],
+    b'CPARAMS :3:3de',
+    b'SEED    :15:123456789012345',
+    b'COMMENT :5:hello',
+    b'DESC    :13:3//////3/////',
+    b'AUXINFO :8:0011aabb',
+    b'NSTATES :1:1',
+    b'STATEPOS:1:1',
+]
+FOREIGN_KEPT = b''.join(line + b'\n' for line in FOREIGN if not line.startswith(b'COMMENT'))
+
+LOADED = [
+    Run(
+        'a session is loaded',
+        LOAD,
+        b'status\nredo\nstatus\n',
+        given={'game.sav': UNDONE},
+        output=b'playing 2/3\nok\nplaying 3/3\n',
+        holds={'game.sav': UNDONE},
+    ),
+    Run(
+        'a save of another program, with CR LF',
+        [*LOAD, '--save', 'game.sav'],
+        b'id\n',
+        given={'game.sav': b''.join(line + b'\r\n' for line in FOREIGN)},
+        output=b'3de:3//////3/////\n',
+        holds={'game.sav': FOREIGN_KEPT},
+    ),
+]
+
+REFUSED = [
+    Run('a missing file', LOAD, status=1, error=b'cannot read the file\n'),
+    Run('an empty name', ['towers', '--load', ''], status=1, error=b'cannot read the file\n'),
+    Run('an empty file', LOAD, given={'game.sav': b''}, status=3, error=b'refused: NotASave\n'),
+    Run('a file without end', ['towers', '--load', '/dev/zero'], status=3, error=b'refused: TooLarge\n'),
+    Run(
+        'a save of the other game',
+        ['unequal', '--load', 'game.sav'],
+        given={'game.sav': UNDONE},
+        status=3,
+        error=b'refused: WrongGame\n',
+    ),
+    Run(
+        'a save with a second move that cannot be made',
+        LOAD,
+        given={'game.sav': BAD_STATE},
+        status=3,
+        error=b'refused: BadState 2\n',
+    ),
+]
+
+#: Files that are made longer by zeros, and how long they are then.
+LENGTHENED = [
+    (Run('a file of zeros, as large as a save may be', LOAD, status=3, error=b'refused: NotASave\n'), b'', MOST_BYTES),
+    (Run('a file that is one byte too large', LOAD, status=3, error=b'refused: TooLarge\n'), b'', MOST_BYTES + 1),
+    (Run('a save with much behind its last record', LOAD, b'status\n', output=b'playing 2/3\n'), UNDONE, MOST_BYTES),
+    (Run('the same and one byte more', LOAD, status=3, error=b'refused: TooLarge\n'), UNDONE, MOST_BYTES + 1),
+]
+
+PIPED = Run(
+    'a file from a pipe, which is then at its end',
+    ['towers', '--load', '/dev/stdin', '--save', 'new.sav'],
+    holds={'new.sav': UNDONE},
+)
+FOLDER = Run('a folder in place of the file', LOAD, status=1, error=b'cannot read the file\n')
+UNREAD = Run('a file that may not be read', LOAD, status=1, error=b'cannot read the file\n')
+NO_MEMORY = Run('no memory for a file', LOAD, status=1, error=b'out of memory\n')
+
+#: Too little for a file of the most bytes, and enough for the program itself.
+ADDRESSES = 12_000 * 1024
+
+
+def put_long(room: Room, front: bytes, length: int) -> None:
+    """Makes a file with this front, and zeros up to a length."""
+    room.put('game.sav', front)
+    os.truncate(f'{room.path}/game.sav', length)
+
+
+@pytest.mark.parametrize('row', [*LOADED, *REFUSED], ids=by_name)
+def test_loaded(player: Player, row: Run) -> None:
+    player.play(row)
+
+
+@pytest.mark.parametrize(('row', 'front', 'length'), LENGTHENED)
+def test_lengthened(player: Player, row: Run, front: bytes, length: int) -> None:
+    put_long(player.room, front, length)
+    player.play(row)
+
+
+def test_pipe(player: Player) -> None:
+    reading, writing = os.pipe()
+    with os.fdopen(writing, 'wb') as pipe:
+        pipe.write(UNDONE)
+    with os.fdopen(reading, 'rb') as pipe:
+        player.play(PIPED, stdin=pipe.fileno())
+
+
+def test_folder(player: Player) -> None:
+    player.room.make_folder('game.sav').close()
+    player.play(FOLDER)
+
+
+def test_may_not_read(player: Player) -> None:
+    user = plain_user()
+    player.room.put('game.sav', UNDONE, 0o000, user and user.owner)
+    player.play(UNREAD, user=user)
+
+
+def test_no_memory(player: Player) -> None:
+    put_long(player.room, b'', MOST_BYTES + 1)
+    player.play(NO_MEMORY, limits={resource.RLIMIT_AS: ADDRESSES})

@@ -1,0 +1,102 @@
+"""docs/JSON.md, docs/SCRIPTING.md and README: the clients stand there as they are in docs/clients, and play; the examples are what the
+programs write."""
+
+from __future__ import annotations
+
+import os
+import re
+import shutil
+import sys
+from typing import List, NamedTuple
+
+import pytest
+
+from tests.harness import Room, run
+from tests.harness.builds import TOP
+from tests.harness.game import HEAD, ID
+from tests.objects.agreement import Pair
+from tests.objects.worked_lines import Worked, expect_worked, read_table
+
+CLIENTS = TOP / 'docs' / 'clients'
+
+
+class Client(NamedTuple):
+    file: str
+    #: The command that runs it, and what else it needs.
+    command: str
+    needs: str
+
+
+HINTS = [Client('hints.py', sys.executable, sys.executable), Client('hints.bash', 'bash', 'jq')]
+
+#: The one document that lies above the others.
+README = '../README.md'
+
+#: Where each file stands.
+QUOTED = {'hints.py': 'JSON.md', 'hints.bash': 'JSON.md', 'framing.py': 'SCRIPTING.md'}
+
+#: The game, the ID, and what is written of it at its end.
+PLAYED = [
+    ('towers', ID, '+ 3 - - +\n3 1 2 3 -\n- 2 3 1 -\n- 3 1 2 -\n+ - - - +\nsolved\n'),
+    ('unequal', '3:0,0L,0L,0U,0,0,0U,0,0,', '1<2<3\n^ - -\n2 3 1\n^ - -\n3 1 2\nsolved\n'),
+    ('towers', '3:///////////', '+ - - - +\n- . . . -\n- . . . -\n- . . . -\n+ - - - +\nplaying\n'),
+]
+
+#: The file odd.sav of docs/SCRIPTING.md.
+ODD_SAVE = HEAD.replace(b'DESC', b'SEED    :15:x\nplaying 1/1\ny\nDESC') + b'NSTATES :1:1\nSTATEPOS:1:1\n'
+
+
+def blocks_of(name: str) -> List[str]:
+    document = (TOP / 'docs' / name).read_text(encoding='utf-8')
+    return re.findall(r'^```\w*\n(.*?)^```$', document, re.MULTILINE | re.DOTALL)
+
+
+def unfolded(block: str) -> str:
+    """A block with each object on one line: an indented line goes on with the one before."""
+    return re.sub(r'\n +', '', block)
+
+
+BLOCKS = {name: blocks_of(name) for name in (*set(QUOTED.values()), README)}
+WORKED = [worked for block in BLOCKS['JSON.md'] if block.startswith('$ puzzles-json ') for worked in read_table(unfolded(block))]
+
+
+@pytest.mark.parametrize(('file', 'name'), QUOTED.items())
+def test_quoted(file: str, name: str) -> None:
+    assert (CLIENTS / file).read_text(encoding='utf-8') in BLOCKS[name]
+
+
+@pytest.fixture(params=HINTS, ids=[client.file for client in HINTS])
+def client(request: pytest.FixtureRequest) -> List[str]:
+    """The words that run it."""
+    found: Client = request.param
+    if not shutil.which(found.needs):
+        pytest.skip(f'there is no {found.needs}')
+    return [found.command, str(CLIENTS / found.file)]
+
+
+@pytest.mark.parametrize(('game', 'id', 'wanted'), PLAYED)
+def test_client(pair: Pair, room: Room, client: List[str], game: str, id: str, wanted: str) -> None:
+    ended = run([*client, pair.objects, game, id], room)
+    assert (ended.status, ended.output.decode(errors='replace'), ended.error) == (0, wanted, b'')
+
+
+def test_refused_id(pair: Pair, room: Room, client: List[str]) -> None:
+    ended = run([*client, pair.objects, 'towers', '5#7'], room)
+    assert ended.status != 0
+    assert b'refused: ForeignSeed' in ended.error
+
+
+@pytest.mark.parametrize('worked', WORKED, ids=lambda worked: f'{" ".join(worked.words)} > {worked.lines[0]}')
+def test_objects(pair: Pair, room: Room, worked: Worked) -> None:
+    expect_worked(room, pair.objects, worked._replace(words=worked.words[1:]))
+
+
+@pytest.mark.parametrize('block', [block for name in ('SCRIPTING.md', README) for block in BLOCKS[name] if block.startswith('$ ')])
+def test_example(pair: Pair, room: Room, block: str) -> None:
+    """A command, and what it writes. A line that ends in a backslash or a bar goes on in the next one, and so does an object in an indented one."""
+    command, _, wanted = unfolded(re.sub(r'\\\n *|(?<=\|)\n *', ' ', block[2:])).partition('\n')
+    room.put('odd.sav', ODD_SAVE)
+    here = command.replace('docs/clients', str(CLIENTS)).replace('python3', sys.executable).replace('programs/linux-amd64/', '')
+    env = {'PATH': f"{os.path.dirname(pair.plain)}:{os.environ.get('PATH', os.defpath)}"}
+    ended = run(['bash', '-c', here], room, env=env)
+    assert (ended.output.decode(errors='replace'), ended.error) == (wanted, b'')

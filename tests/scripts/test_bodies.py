@@ -1,0 +1,270 @@
+"""What is said of wrong bodies and twins that a prover refuses here or there, or not at all."""
+
+from __future__ import annotations
+
+import os
+from typing import Dict, NamedTuple, Sequence, Tuple
+
+import pytest
+
+from bodies.sources import functions
+from tests.harness import by_name
+from tests.scripts.place import Place
+
+#: A kit whose libraries are there where a file says so, and whose prover takes functions by their paths.
+RTLIB = b"""\
+import os
+
+KIT = os.path.dirname(os.path.dirname(os.path.realpath(__file__)))
+RATTLE = f'{KIT}/bin/rattle'
+
+
+def guarded():
+    return ['env']
+
+
+def fits(*needs):
+    return len(needs) <= 2
+
+
+class Crate:
+    def __init__(self, folder, root, known):
+        self.folder, self.root, self.name = folder, root, os.path.basename(folder)
+        self.rlib = f'{folder}/out/rlib/{self.name}.rlib'
+
+    def below(self):
+        return [Crate(f'{self.root}/crates/letters', self.root, {})] if self.name == 'words' else []
+
+    def is_built(self):
+        with open(f'{self.folder}/out/rlib/stamp') as stamp, open(f'{self.folder}/src/lib.rt') as source:
+            return stamp.read() == source.read()
+
+    def words(self, flags, keeps=True):
+        return ['--crate-name', self.name, *flags, 'src/lib.rt']
+"""
+
+#: A prover that goes by words in strings: where one of these stands, a goal is open, with values or without, or one of the first line, or the text can't be read.
+#: It says what it proved of the functions that it was asked for, or of all, knows no function `lost`, and notes in a file how often it was asked for what.
+RATTLE = b"""\
+#!/bin/sh
+paths=''
+while [ $# -gt 0 ]; do
+    [ "$1" != --only ] || paths="$paths $2"
+    shift
+done
+echo "asked for${paths:- all}" >> "${0%/bin/*}/asked"
+exec awk -v paths="$paths" '
+    function goal(line, why) {
+        printf "note: src/lib.rt:%d:1: it is not proved that what the function ensures holds when it returns (`returns`); %s\\n", line, why
+        open_goals++
+    }
+    BEGIN { if (paths ~ /lost/) { print "rattle: error: `words` has no function `words::lost`: help: write the name that a check prints"; is_lost = 1; exit } }
+    /"false"/ { goal(NR, "the facts known there allow values at which this goal is false") }
+    /"doubtful"/ { goal(NR, "`search` gave up at one of its limits") }
+    /"far"/ { goal(1, "`search` gave up at one of its limits") }
+    /"unread"/ { printf "src/lib.rt:%d:5: error: expected something else\\n", NR; is_cut = 1 }
+    /"unsaid"/ { is_unsaid = 1 }
+    END {
+        if (is_lost) exit 2
+        count = split(paths, path, " ")
+        for (at = 1; at <= count && !is_unsaid; at++) printf "fn %s: %s\\n", path[at], open_goals ? "not proved" : "proved"
+        if (!is_cut && count) printf "only=%d proved=%d\\n", count, open_goals ? 0 : count
+        if (!is_cut && !count) print open_goals ? "logic=not-proved" : "logic=proved"
+        exit open_goals || is_cut
+    }
+' src/lib.rt
+"""
+
+#: Four functions, of five lines each, and one that the prover doesn't know by its name.
+SOURCE = ''.join(f'// The word {n}.\nfn f{n}() {{\n    "right {n}", "just {n}"\n}}\n\n' for n in range(4)) + 'fn lost() {\n    "right 8"\n}\n'
+
+
+class Bodies(NamedTuple):
+    """What is in place of the right words in the wrong bodies and in their twins, by the number of the word, or 10 more for a second one of a word, or 20 more for
+    the just word beside it; the numbers of those that are marked for the gate; and what has to be said."""
+
+    name: str
+    says: Sequence[str]
+    wrong: Dict[int, str] = {}
+    twins: Dict[int, str] = {}
+    status: int = 0
+    words: Sequence[str] = ()
+    gate: Sequence[int] = ()
+    more: str = ''
+
+
+ROUNDS = [
+    Bodies(
+        'wrong bodies with twins',
+        ['1 at an open goal with values that make it false, 1 at an open goal, 0 elsewhere, 0 NOT refused', '0 checks of a whole crate', '4 passed, 0 failed, 0 skipped'],
+        {0: 'false', 2: 'doubtful'},
+        {0: 'right too', 2: 'right as well'},
+    ),
+    Bodies('a twin is lacking', ['skipped: words/wrong_1: it has no twin', '1 passed, 0 failed, 1 skipped'], {1: 'false'}),
+    Bodies('a twin is not proved', ['FAILED: words/wrong_1, the twin', '3 passed, 1 failed'], {0: 'false', 1: 'false'}, {0: 'too', 1: 'false'}, 1),
+    Bodies('a twin of which nothing is said', ['FAILED: words/wrong_3, the twin', '1 passed, 1 failed'], {3: 'false'}, {3: 'unsaid'}, 1),
+    Bodies('a line that nothing reads', ["FAILED: words/wrong_3: nothing reads its line '# twn: too' there", '0 passed, 1 failed'], {3: 'false'}, {}, 1, more='# twn: too\n'),
+    Bodies('a twin that stands nowhere', ["nothing reads its line '# twin: too' there", '0 passed, 1 failed'], {3: 'false'}, {}, 1, more='old: right 3\n# twin: too\n'),
+    Bodies('not refused', ['FAILED: words/wrong_3: NOT refused: what it stands in is proved with it', '1 passed, 1 failed'], {0: 'false', 3: 'right'}, {}, 1),
+    Bodies('a goal of another function', ['FAILED: words/wrong_2: elsewhere', '1 passed, 1 failed'], {1: 'false', 2: 'far'}, {}, 1),
+    Bodies(
+        'what the prover cannot read',
+        ['FAILED: words/wrong_2: NOT refused: the check stopped', '2 passed, 1 failed'],
+        {0: 'false', 1: 'doubtful', 2: 'unread'},
+        {},
+        1,
+    ),
+    Bodies('two of one function', ['NOT refused', '3 passed, 1 failed'], {0: 'false', 10: 'right'}, {0: 'too', 10: 'as well'}, 1),
+    Bodies('two places of one function', ['FAILED: words/wrong_20: NOT refused', '1 passed, 1 failed'], {0: 'false', 20: 'just so'}, {}, 1),
+    Bodies('a function without a name for the prover', ['2 checks of a whole crate', '2 passed, 0 failed'], {8: 'false'}, {8: 'right'}),
+    Bodies(
+        'those of the gate',
+        ['3 at an open goal', 'no log of a run', '6 passed, 0 failed'],
+        {0: 'doubtful', 10: 'right', 1: 'doubtful', 2: 'doubtful'},
+        {0: 'too', 10: 'false', 1: 'too', 2: 'too'},
+        words=['--gate'],
+        gate=[0, 1, 2],
+    ),
+    Bodies('too few for the gate', ["of 2 only 1 are marked '# gate'", '1 passed, 1 failed'], {0: 'doubtful', 1: 'right'}, {}, 1, ['--gate'], [0]),
+    Bodies('a body that stands nowhere', ["FAILED: words/wrong_7: its text 'old' is in src/lib.rt 0 times", '0 passed, 1 failed'], {7: 'false'}, {}, 1),
+]
+
+
+#: By what the prover knows a function: its file, what stands above it, how far in it is, and its path, or nothing.
+PATHS = [
+    ('src/lib.rt', '', 0, 'words::f'),
+    ('src/a/b.rt', 'pub struct Other;\n', 0, 'words::a::b::f'),
+    ('src/a/mod.rt', 'pub struct Size {\n}\n\nimpl Size {\n', 4, 'words::a::Size::f'),
+    ('src/a.rt', 'pub(crate) enum Size<P> {\n}\n\nimpl<P: Draw> Size<P> {\n    fn g() {\n    }\n\n', 4, 'words::a::Size::f'),
+    ('src/a/b.rt', 'impl Size {\n', 4, 'Size::f'),
+    ('src/a.rt', 'impl PartialEq for Size {\n', 4, 'words::a::SizePartialEq::f'),
+    ('src/a.rt', "impl<'a, W: Write> fmt::Write for Log<'a, W> {\n", 4, 'words::a::LogWrite::f'),
+    ('src/a.rt', 'impl<T: Drop> From<AllocFailed<T>> for Fault {\n', 4, 'words::a::FaultFromAllocFailed::f'),
+    ('src/a.rt', 'impl<P: Draw> Format<P> for Plain {\n', 4, 'words::a::PlainFormat::f'),
+    ('src/a.rt', 'pub trait Rules {\n', 4, 'words::a::Rules::f'),
+    ('src/a.rt', 'mod inner {\n', 4, ''),
+    ('src/a.rt', 'impl Size {\n    fn g() {\n', 8, ''),
+]
+
+
+@pytest.mark.parametrize(('file', 'above', 'blanks', 'path'), PATHS)
+def test_path(file: str, above: str, blanks: int, path: str) -> None:
+    assert functions('words', file, f'{above}{" " * blanks}fn f() {{\n{" " * blanks}}}\n')[-1].path == path
+
+
+class Words:
+    """A crate of words over one of letters, with the kit that goes by them."""
+
+    def __init__(self, place: Place) -> None:
+        self.place = place
+        self._paths: Sequence[str] = ()
+        self._kit = place.put('../words kit/bin/rt', b'#!/bin/sh\nexit 1\n')
+        place.put('../words kit/bin/rtlib.py', RTLIB, 0o644)
+        place.put('../words kit/bin/rattle', RATTLE)
+        place.put('../words kit/KIT-ID', b'a kit of words\n', 0o644)
+        place.put('crates.txt', b'letters:\nwords: letters\n', 0o644)
+        place.put('crates/letters/src/lib.rt', b'letters\n', 0o644)
+        place.put('crates/letters/out/rlib/stamp', b'letters\n', 0o644)
+        place.put('crates/words/src/lib.rt', SOURCE.encode(), 0o644)
+        place.give()
+
+    def write(self, row: Bodies) -> None:
+        """The wrong bodies of a row, in place of those that were there."""
+        self.remove()
+        self._paths = [self.place.put(path, text, 0o644) for path, text in edits(row)]
+
+    def remove(self) -> None:
+        for path in self._paths:
+            os.remove(path)
+        self._paths = ()
+
+    def asked(self) -> str:
+        """What the prover was asked for so far, a line for each time."""
+        return self.place.file('../words kit/asked').decode()
+
+    def expect(self, says: Sequence[str], status: int = 0, words: Sequence[str] = ('words',), **env: str) -> None:
+        ended = self.place.run(['tools/test_bodies', *words], env={'RT': self._kit, **env})
+        said = ended.output.decode(errors='replace')
+        wrong = [f'it lacks {text!r}' for text in says if text not in said]
+        wrong += [] if ended.status == status else [f'the status is {ended.status}']
+        assert not wrong, [*wrong, said[-600:], repr(ended.error)]
+
+
+def edits(row: Bodies) -> Sequence[Tuple[str, bytes]]:
+    found = []
+    for n, word in row.wrong.items():
+        lines = ['# gate\n'] * (n in row.gate) + ['file: src/lib.rt\n', f'old: {"just" if n >= 20 else "right"} {n % 10}\n', f'new: {word}\n']
+        lines += [f'# twin: {row.twins[n]}\n'] if n in row.twins else []
+        lines += [row.more]
+        found.append((f'crates/words/wrong-bodies/wrong_{n}.edit', ''.join(lines).encode()))
+    return found
+
+
+def test_libraries(words: Words) -> None:
+    """A library is taken as `rt lib` has left it, or `rt ci`, where it is of the sources here."""
+    words.write(ROUNDS[0])
+    put = words.place.put
+    put('crates/letters/src/lib.rt', b'other letters\n', 0o644)
+    lacks = ['not built of the sources here: letters; run make build first, or ANEW=1 make gate', '0 passed, 1 failed']
+    words.expect(lacks, 1, ANEW='1')
+    os.remove(put('crates/letters/out/rlib/stamp', b'', 0o644))
+    words.expect(lacks, 1, ANEW='1')
+    made = put('crates/letters/out/rlib/letters.rlib/format', b'', 0o644)
+    words.expect(['4 passed, 0 failed'], ANEW='1')
+    os.utime(made, (1, 1))
+    words.expect(lacks, 1, ANEW='1')
+    os.utime(made)
+    words.expect(["FAILED: wrong bodies: beside", '0 passed, 1 failed'], 1, RT='/bin/true')
+
+
+def test_what_is_kept(words: Words) -> None:
+    """What passed is not tried again, where nothing has changed."""
+    words.write(ROUNDS[0])
+    place = words.place
+    cache = os.path.join(os.path.dirname(place.path), 'kept results')
+    kept = os.path.join(cache, 'verified-puzzles', 'bodies')
+    words.expect(['0 kept', '4 passed'], XDG_CACHE_HOME=cache)
+    asked = words.asked()
+    words.expect(['refused, kept: words/wrong_0: at an open goal with values', '4 kept', '4 passed, 0 failed'], XDG_CACHE_HOME=cache)
+    assert words.asked() == asked, words.asked()
+    words.expect(['0 kept', '4 passed'], XDG_CACHE_HOME=cache, ANEW='1')
+    names = sorted(os.listdir(kept))
+    assert len(names) == 4, repr(names)
+    for content in (b'', b'\xff', b'no sum\n["proved"]'):
+        for name in names:
+            place.put(os.path.join(kept, name), content, 0o644)
+        words.expect(['0 kept', '4 passed'], XDG_CACHE_HOME=cache)
+    place.put('crates/letters/src/lib.rt', b'more letters\n', 0o644)
+    os.remove(os.path.join(place.path, 'crates/letters/out/rlib/stamp'))
+    place.put('crates/letters/out/rlib/letters.rlib/format', b'', 0o644)
+    words.expect(['0 kept', '4 passed'], XDG_CACHE_HOME=cache)
+    words.write(Bodies('', [], {0: 'false', 2: 'false'}, {0: 'right too', 2: 'right as well'}))
+    words.expect(['3 kept', '4 passed'], XDG_CACHE_HOME=cache)
+    words.write(Bodies('', [], {0: 'right', 2: 'false'}, {0: 'right too', 2: 'right as well'}))
+    for _ in range(2):
+        words.expect(['3 kept', 'FAILED: words/wrong_0: NOT refused', '3 passed, 1 failed'], 1, XDG_CACHE_HOME=cache)
+
+
+def test_the_log(words: Words) -> None:
+    """A run over all crates leaves a log, and the gate says whether that is of these sources."""
+    words.write(ROUNDS[0])
+    words.expect(['4 passed'], 0, [], ANEW='1')
+    log = words.place.file('build/bodies.log').decode()
+    wrong = [f'it lacks {text!r}' for text in ('commit ', 'prover a kit of words\ncrates ', '4 passed, 0 failed, 0 skipped\n') if text not in log]
+    assert not wrong, [*wrong, log]
+    few = {0: 'false', 2: 'doubtful'}
+    words.write(Bodies('', [], few, {0: 'right too', 2: 'right as well'}))
+    words.expect(['all wrong bodies of these sources: 4 passed'], 1, ['--gate'], ANEW='1')
+    words.write(Bodies('', [], {0: 'false'}, {0: 'too'}, gate=[0]))
+    words.expect(['build/bodies.log is of other sources than these', '2 passed, 0 failed'], 0, ['--gate'], ANEW='1')
+
+
+@pytest.fixture(name='words')
+def words_of(place: Place) -> Words:
+    return Words(place)
+
+
+@pytest.mark.parametrize('row', ROUNDS, ids=by_name)
+def test_bodies(words: Words, row: Bodies) -> None:
+    words.write(row)
+    words.expect(row.says, row.status, [*row.words, 'words'], ANEW='1')

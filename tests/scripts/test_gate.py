@@ -1,0 +1,229 @@
+"""What the gate says of parts that pass, fail, skip, or say nothing, and what it takes from an earlier one."""
+
+from __future__ import annotations
+
+import os
+import re
+from typing import Callable, List, Mapping, NamedTuple, Optional, Sequence, Tuple
+
+import pytest
+
+from tests.harness import by_name
+from tests.scripts.place import Place
+from tests.harness.program import Ended
+
+PROVED = '5 passed, 0 failed'
+PASSED = '1 passed, 0 failed, 0 skipped'
+
+#: The part that does otherwise than the others in a case.
+PART = 'tools/test_bodies'
+
+
+class Gate(NamedTuple):
+    """What `rt ci` and one part of the others say and end with, and what the gate has to say of those two."""
+
+    name: str
+    proofs: Tuple[str, int] = (PROVED, 0)
+    part: Tuple[str, int] = (PASSED, 0)
+    env: Mapping[str, str] = {}
+    #: Passed, failed and skipped.
+    counts: Tuple[int, int, int] = (6, 0, 0)
+    status: int = 0
+
+
+ALLOWED = {'SKIPS_ALLOWED': '1'}
+SKIPPED = ('2 passed, 0 failed, 3 skipped', 0)
+
+ROUNDS = [
+    Gate('all passes'),
+    Gate('a part that skips nothing says no more', part=('1 passed, 0 failed', 0)),
+    Gate('proofs fail', proofs=('3 passed, 2 failed', 1), counts=(4, 2, 0), status=1),
+    Gate('proofs say that none failed, and end badly', proofs=(PROVED, 1), counts=(6, 1, 0), status=1),
+    Gate('proofs break off', proofs=('out of memory', 3), counts=(1, 1, 0), status=1),
+    Gate('a part fails', part=('2 passed, 3 failed, 0 skipped', 1), counts=(7, 3, 0), status=1),
+    Gate('a part breaks off', part=('Traceback', 1), counts=(5, 1, 0), status=1),
+    Gate('a part says nothing', part=('', 0), counts=(5, 1, 0), status=1),
+    Gate('a part says that none failed, and ends badly', part=(PASSED, 1), counts=(6, 1, 0), status=1),
+    Gate('only the last count counts', part=(f'9 passed, 9 failed, 9 skipped\nonce more\n{PASSED}', 0)),
+    Gate('a part skips', part=SKIPPED, counts=(7, 0, 3), status=1),
+    Gate('a part takes a skip for a failure', part=(SKIPPED[0], 1), counts=(7, 0, 3), status=1),
+    Gate('a part skips, which is allowed', part=SKIPPED, env=ALLOWED, counts=(7, 0, 3)),
+    Gate('a part skips, which is allowed, and ends badly', part=(SKIPPED[0], 1), env=ALLOWED, counts=(7, 1, 3), status=1),
+    Gate('a part skips, which is not allowed', part=SKIPPED, env={'SKIPS_ALLOWED': '0'}, counts=(7, 0, 3), status=1),
+    Gate('a part skips and fails', part=('2 passed, 1 failed, 3 skipped', 1), env=ALLOWED, counts=(7, 1, 3), status=1),
+    Gate('a part is skipped whole', part=('0 passed, 0 failed, 1 skipped', 0), env=ALLOWED, counts=(5, 0, 1)),
+]
+
+#: Ways to start the gate, each with the folder from which.
+WAYS = [(['make', 'gate'], ''), (['../../tools/gate'], 'crates/puzzles')]
+
+#: Ways to start what a stranger's machine runs: the tests, which are a part of the gate too, and then the gate.
+WHOLE = [(['.ci/run'], ''), (['bash', '../.ci/run'], 'man')]
+
+#: No gate of these cases has anything from another.
+ANEW = {'ANEW': '1'}
+
+FAILS = ('3 passed, 2 failed', 1)
+
+
+class Again(NamedTuple):
+    """What is done after a gate has passed, and whether the next one takes its proofs for its own, though they would fail now."""
+
+    name: str
+    does: Callable[[Place], object]
+    is_kept: bool
+    env: Mapping[str, str] = {}
+
+
+def put(path: str, content: bytes) -> Callable[[Place], object]:
+    return lambda place: place.put(path, content, 0o644)
+
+
+def remove(path: str) -> Callable[[Place], object]:
+    return lambda place: os.remove(os.path.join(place.path, path))
+
+
+def damage(place: Place) -> None:
+    """Another byte in the middle of all that is kept."""
+    for path in kept_files(place):
+        content = bytearray(place.file(path))
+        content[len(content) // 2] ^= 1
+        place.put(path, bytes(content), 0o644)
+
+
+def cut(place: Place) -> None:
+    for path in kept_files(place):
+        place.put(path, place.file(path)[:1000], 0o644)
+
+
+AGAINS = [
+    Again('nothing is changed', lambda place: None, True),
+    Again('the programs are gone', remove('crates/puzzles/out/puzzles'), True),
+    Again('what is made has changed', put('crates/puzzles/out/more', b'more'), True),
+    Again('a document has changed', put('README.md', b'Read this.\n'), True),
+    Again('all is to be done anew', lambda place: None, False, ANEW),
+    Again('a source has changed', put('crates/puzzles/src/lib.rt', b'// More.\n'), False),
+    Again('a wrong body is new', put('crates/puzzles/must-fail/one.edit', b'file:\n'), False),
+    Again('a file is gone', remove('crates/puzzles/must-fail/one.edit'), True),
+    Again('the list of crates has changed', put('crates.txt', b'puzzles:\n'), False),
+    Again('what may be used has changed', put('HANDLES', b'Handles allowed: all.\n'), False),
+    Again('another prover', lambda place: None, False, {'RT_VERSION': 'the next kit'}),
+    Again('what is kept is damaged', damage, False),
+    Again('what is kept is cut off', cut, False),
+    Again('no folder is named', lambda place: None, False, {'HOME': '', 'XDG_CACHE_HOME': ''}),
+    Again('another folder is named', lambda place: None, False, {'XDG_CACHE_HOME': '/nowhere'}),
+]
+
+#: Where results are kept, seen from the copy.
+KEPT = '../.cache/verified-puzzles/gate'
+
+#: How many results are kept.
+MOST = 4
+
+
+@pytest.fixture
+def scripts(place: Place) -> List[str]:
+    """The scripts that are parts of the gate, each of which has passed one."""
+    found = part_scripts(place)
+    for script in set(found):
+        put_part(place, script, (PASSED, 0))
+    return found
+
+
+@pytest.mark.parametrize('row', ROUNDS, ids=by_name)
+def test_part(place: Place, scripts: List[str], row: Gate) -> None:
+    put_part(place, PART, row.part)
+    expect(place, row, len(scripts) - 1, ['tools/gate'])
+
+
+@pytest.mark.parametrize(('words', 'cwd'), WAYS)
+def test_gate(place: Place, scripts: List[str], words: List[str], cwd: str) -> None:
+    expect(place, Gate('all passes'), len(scripts) - 1, words, cwd)
+
+
+@pytest.mark.parametrize(('words', 'cwd'), WHOLE)
+def test_whole(place: Place, scripts: List[str], words: List[str], cwd: str) -> None:
+    expect(place, Gate('all passes'), len(scripts), words, cwd)
+
+
+def test_no_part(place: Place, scripts: List[str]) -> None:
+    os.remove(os.path.join(place.path, PART))
+    expect(place, Gate('a part is not there', counts=(5, 1, 0), status=1), len(scripts) - 1, ['tools/gate'])
+
+
+def part_scripts(place: Place) -> List[str]:
+    """The scripts that the gate of this repository runs, as often as it does."""
+    return re.findall(r"^    ['\"].*['\"]: \['((?:tools|tests)/[\w/]+)'", place.file('tools/gate').decode(), re.MULTILINE)
+
+
+def put_part(place: Place, script: str, says: Tuple[str, int]) -> None:
+    text, status = says
+    place.put(script, f"#!/bin/sh\necho '{text}'\nexit {status}\n".encode())
+
+
+def expect(place: Place, row: Gate, others: int, words: Sequence[str], cwd: str = '') -> None:
+    """Each of the other parts has passed one."""
+    text, status = row.proofs
+    ended = place.run(words, cwd=cwd, env={'RT_SAYS': text, 'RT_STATUS': str(status), **ANEW, **row.env})
+    passed, failed, skipped = row.counts
+    last = f'{passed + others} passed, {failed} failed, {skipped} skipped'
+    assert not wrong_gate(ended, last, row.status, 'make' in words)
+
+
+def wrong_gate(ended: Ended, last: str, status: int, by_make: bool = False) -> List[str]:
+    found = ended.output.decode(errors='replace').splitlines()[-1:]
+    wrong = [] if found == [last] else [f'its last line is {found}, not {last!r}: {ended.error!r}']
+    # Where a command fails, `make` ends with a status of its own.
+    if ended.status != (2 if by_make and status else status):
+        wrong.append(f'the status is {ended.status}, not {status}')
+    return wrong
+
+
+def test_both_fail(place: Place, scripts: List[str]) -> None:
+    """What fails in the tests is counted, and so is the gate behind them."""
+    put_part(place, 'tests/run', ('1 passed, 2 failed', 1))
+    # The gate runs the tests three times more.
+    expect(place, Gate('the tests fail, and then the gate', counts=(6, 8, 0), status=1), len(scripts), ['.ci/run'])
+
+
+def test_logged(place: Place, scripts: List[str]) -> None:
+    """The log begins with the commit and the prover, and has the sums of the programs and all that was said."""
+    place.run(['tools/gate'], env={'RT_SAYS': PROVED, **ANEW})
+    log = place.file('build/gate.log').decode()
+    wanted = [r'\Acommit unknown\nprover a kit that proves nothing\n== ', r'^asked for ci in checkout$', r'^[0-9a-f]{64}  crates/puzzles/out/puzzles$']
+    wanted += [r'^[0-9]+ passed, 0 failed, 0 skipped\n\Z']
+    assert list([f'it lacks {text!r}: {log}' for text in wanted if not re.search(text, log, re.MULTILINE)]) == [], "the gate's log"
+
+
+def test_results_are_kept(place: Place, scripts: List[str]) -> None:
+    """What has passed is taken from the last gate, as long as nothing of it has changed; what has failed never is."""
+    others = len(scripts)
+    for row in AGAINS:
+        gate(place, (PROVED, 0))
+        row.does(place)
+        ended = gate(place, FAILS, row.env)
+        passed, failed = (5, 0) if row.is_kept else (3, 2)
+        wrong = wrong_gate(ended, f'{passed + others} passed, {failed} failed, 0 skipped', int(failed > 0))
+        wrong += [] if (b'(kept from 20' in ended.output) == row.is_kept else ['it says something else about what is kept']
+        wrong += [] if place.file('crates/puzzles/out/puzzles') == place.file(place.program) else ['the program is not left']
+        assert not wrong
+    place.put('crates/puzzles/src/lib.rt', b'// What fails.\n', 0o644)
+    gate(place, FAILS)
+    assert not wrong_gate(gate(place, FAILS), f'{3 + others} passed, 2 failed, 0 skipped', 1)
+    for number in range(MOST + 2):
+        place.put('crates/puzzles/src/lib.rt', b'// Number %d.\n' % number, 0o644)
+        gate(place, (PROVED, 0))
+    assert len(kept_files(place)) == MOST, f'there are {kept_files(place)}'
+    for number, passed in ((0, 3), (MOST + 1, 5)):
+        place.put('crates/puzzles/src/lib.rt', b'// Number %d.\n' % number, 0o644)
+        last = f'{passed + others} passed, {5 - passed} failed, 0 skipped'
+        assert not wrong_gate(gate(place, FAILS), last, int(passed < 5))
+
+
+def gate(place: Place, proofs: Tuple[str, int], env: Optional[Mapping[str, str]] = None) -> Ended:
+    return place.run(['tools/gate'], env={'RT_SAYS': proofs[0], 'RT_STATUS': str(proofs[1]), **(env or {})})
+
+
+def kept_files(place: Place) -> List[str]:
+    folder = os.path.join(place.path, KEPT)
+    return [f'{KEPT}/{name}' for name in os.listdir(folder)]

@@ -1,0 +1,82 @@
+"""Every command of both programs with a stack of 64 KB, on boards of size 9 that the search goes deep for: they say what they say with more.
+
+How much stack a program takes is its compiler's affair, too. So this is no test of each build: the second compiler's, which users don't get, takes twice
+as much.
+"""
+
+from __future__ import annotations
+
+import resource
+from typing import NamedTuple
+
+import pytest
+
+from tests.harness import Room, by_name, run
+from tests.lines.runs import Player, Run
+
+STACK = 64 * 1024
+
+#: Each command, on the puzzle itself and on a board with all its marks, and then on a seeded game.
+COMMANDS = b'''show
+marks
+done
+status
+id
+save
+move M
+marks
+undo
+redo
+restart
+list 1
+list 100
+solve
+show
+status
+save
+new 6!1
+list 2
+solve
+id
+'''
+
+#: The lines that the plain program doesn't know.
+FURTHER = b'board\ncompletable\nhint\n'
+
+
+class Board(NamedTuple):
+    """A puzzle of size 9 by its game and ID."""
+
+    name: str
+    game: str
+    id: str
+
+
+BOARDS = [
+    Board('an empty board of Towers', 'towers', '9:' + '/' * 35),
+    Board('an empty board of Unequal', 'unequal', '9:' + '0,' * 81),
+    Board('few clues', 'towers', '9:2/3///3//4/3//4/2///1/2/2//2//3///2//5/2/3////2/2////'),
+    Board(
+        'few signs',
+        'unequal',
+        '9:0,0,0D,0,0,0,0,0,0,0,0,0,0,0,0,0,0,0,0U,0RL,0,0,0,0,0,0,0,0,0,0,0,0,0,0,0,0,0D,0,0D,0,0,0,0,0,0,0,0,0,0,0,0,0,0,0,0D,0'
+        'RL,0D,0,0,0,0,0,0,0,0,0,0,0,0,0,0,0,0,0,0,0,0,0,0,0,0,',
+    ),
+]
+
+
+@pytest.mark.parametrize('board', BOARDS, ids=by_name)
+def test_puzzles(program: str, room: Room, board: Board) -> None:
+    player = Player(program, room)
+    row = Run(board.name, [board.game, '--id', board.id, '--save', 'deep.sav'], COMMANDS, output=None, made=['deep.sav'])
+    wanted = player.play(row)
+    saved = room.read('deep.sav') or b''
+    player.play(row._replace(output=wanted, holds={'deep.sav': saved}), limits={resource.RLIMIT_STACK: STACK})
+
+
+@pytest.mark.parametrize('board', BOARDS, ids=by_name)
+def test_objects(objects: str, room: Room, board: Board) -> None:
+    words, script = [objects, board.game, '--id', board.id], FURTHER + COMMANDS + FURTHER
+    wanted = run(words, room, input=script)
+    assert run(words, room, input=script, limits={resource.RLIMIT_STACK: STACK}) == wanted
+    assert wanted.status == 0

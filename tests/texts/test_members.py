@@ -1,0 +1,36 @@
+"""The texts on puzzles-json name its members, its own lines, and what the plain program has in common with it."""
+
+from __future__ import annotations
+
+from tests.harness import Room, run
+from tests.objects import schema
+from tests.objects.reading import OWN_LINES
+from tests.texts.parts import differences, found, lacking, part, read
+from tests.texts.test_users import KINDS, said
+
+
+def test_members() -> None:
+    assert list(lacking(schema.names(), found(r'`(\w+)`', read('docs/JSON.md')))) == []
+
+
+def test_lines() -> None:
+    assert list(lacking([line.decode() for line in OWN_LINES], found(r'^### (\w+)', read('docs/JSON.md')))) == []
+
+
+def test_manual() -> None:
+    manual = found(r'^\.It Li (\w+)', part(read('man/puzzles-json.6'), '.Ss Objects', r'^\.Ss'))
+    assert list(lacking([*schema.COMMON, *schema.ANSWERS], manual)) == []
+
+
+def test_help(program: str, objects: str, room: Room) -> None:
+    """It has the options and statuses of the plain program, and the lines and members that are its own."""
+    told = []
+    for path in (program, objects):
+        ended = run([path, '--help'], room)
+        assert ended.status == 0
+        told.append(ended.output.decode())
+    plain, own = (dict(zip(KINDS, said('help', text))) for text in told)
+    for kind in ('options', 'statuses'):
+        assert list(differences(own[kind], plain[kind])) == [], kind
+    wanted = [*(line.decode() for line in OWN_LINES), *schema.COMMON]
+    assert list(lacking(wanted, found(r'^  ([a-z]+) ', told[1]))) == []

@@ -1,0 +1,94 @@
+"""What the documents name is there: functions, types, definitions, files, crates, targets of `make`, wrong bodies."""
+
+from __future__ import annotations
+
+import re
+from typing import Dict, Iterator, Set
+
+import pytest
+
+from tests.objects import schema
+from tests.texts import sources
+from tests.texts.parts import ROOT, differences, documents, found, items, lacking, part, read, without_samples
+from trusting.page import Listed, outdated
+
+#: Words in backquotes of the language and its library, and of what `rt plant` and `puzzles-play` print.
+OTHER_WORDS = {'mod', 'Vec', 'Unit', 'flat_map', 'proves', 'unknown'}
+
+#: A path with a place for any name, or of what is made.
+NOT_THERE = r'NAME|^build/|^out/'
+
+
+class Known:
+    """All that a document may name."""
+
+    def __init__(self) -> None:
+        self.crates: Dict[str, Set[str]] = {crate: sources.declared(crate) for crate in sources.crates()}
+        self.files = sources.files()
+        self.make = sources.make_names()
+        self.names = set(found(r'\b(\w+)', read('crates.txt'))).union(OTHER_WORDS, self.make, *self.crates.values())
+        self.names.update(schema.names(), schema.STATUSES, schema.COUNTS, schema.KINDS)
+        self.names.update(path.rpartition('/')[2] for path in self.files)
+        self.to_read = Listed()
+        self.names.update(self.to_read.kit)
+
+    def has(self, words: str) -> bool:
+        """Whether a name, a path or a command of `make` is one that there is. What is none of these is a sample."""
+        if words.startswith('make '):
+            return words.split()[1] in self.make
+        if re.fullmatch(r'\w+::\w+', words):
+            return self.has_member(*words.split('::'))
+        if re.fullmatch(r'\.?[A-Za-z][\w./-]*(/|/\w+|\.(rt|antt|edit|md|txt|c|bash|fish|zsh|py|5|6))', words):
+            return bool(re.search(NOT_THERE, words)) or any(f'/{file}'.endswith('/' + words.rstrip('/')) for file in self.files)
+        return words in self.names or not re.fullmatch(r'[A-Za-z][A-Za-z_]{2,}', words)
+
+    def has_member(self, owner: str, name: str) -> bool:
+        """What a crate declares, or a crate that declares the owner too."""
+        if owner in self.crates:
+            return name in self.crates[owner]
+        return any(owner in names and name in names for names in self.crates.values())
+
+
+def wrong_names(document: str, known: Known) -> Iterator[str]:
+    """Names in backquotes, and words with an underscore, that aren't there."""
+    text = read(document)
+    for number, (line, prose) in enumerate(zip(text.split('\n'), without_samples(text).split('\n')), 1):
+        named = [words for words in re.findall(r'`([^`]+)`', prose) if not known.has(words)]
+        plain = re.findall(r'\b[a-z]+_\w+', re.sub(r'`[^`]*`|\]\(.*?\)', '', line))
+        for words in named + [word for word in plain if word not in known.names]:
+            yield f'line {number}: there is no `{words}`'
+
+
+def wrong_bodies() -> Iterator[str]:
+    """Names in the lists of wrong bodies that the crate, whose list it is, hasn't among its own."""
+    lists = re.findall(r'^In `(\w+)`:\n\n((?:[- ] .*\n)+)', part(read('docs/PROMISES.md'), '## Wrong bodies', '^#'), re.MULTILINE)
+    for crate, text in lists:
+        names = [name for item in items(text) for name in item.partition(':')[0].split(', ')]
+        yield from (f'{crate}: {name}' for name in lacking(names, sources.wrong_bodies(crate)))
+    if not lists:
+        yield 'none is named'
+
+
+@pytest.fixture(scope='module')
+def known() -> Known:
+    return Known()
+
+
+@pytest.mark.parametrize('document', documents())
+def test_document(document: str, known: Known) -> None:
+    assert list(wrong_names(document, known)) == []
+
+
+@pytest.mark.parametrize('document, heading', [('docs/PROMISES.md', '## Crate by crate'), ('docs/ARCHITECTURE.md', '## The crates')])
+def test_crates(document: str, heading: str, known: Known) -> None:
+    named = found(r'^\*\*`(\w+)`', '\n'.join(items(part(read(document), heading, '^#'))))
+    assert list(differences(named, sorted(known.crates))) == []
+
+
+def test_wrong_bodies() -> None:
+    assert list(wrong_bodies()) == []
+
+
+def test_to_read(known: Known) -> None:
+    """The list in docs/TRUST.md, and README's number; tools/trust --write makes them."""
+    assert list(outdated(known.to_read)) == []

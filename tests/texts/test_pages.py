@@ -1,0 +1,124 @@
+"""The manual pages name what the programs have, and can be read: without a warning, and in 80 columns."""
+
+from __future__ import annotations
+
+import re
+import shutil
+from typing import Dict, Iterator, List, NamedTuple, Sequence
+
+import pytest
+
+from tests.harness import Room, by_name, run
+from tests.objects import schema
+from tests.objects.reading import OWN_LINES
+from tests.texts import sources
+from tests.texts.parts import ROOT, differences, found, lacking, part, read
+from tests.texts.test_completions import play_options
+from tests.texts.test_users import wanted
+
+#: The types of faults of which no number is in the definitions.
+ONE_FAULT = {'OutOfMemory': {'1': 'OutOfMemory'}, 'DeviceFault': {'1': 'DeviceFault'}}
+
+#: What a page may have at most, in its source and on a terminal.
+COLUMNS = 80
+
+
+class Reader(NamedTuple):
+    """A reader of manual pages: how it tells what is wrong with one, and how it shows one."""
+
+    name: str
+    checks: Sequence[str]
+    shows: Sequence[str]
+
+
+READERS = [
+    Reader('mandoc', ['mandoc', '-T', 'lint', '-W', 'style'], ['mandoc', '-T', 'ascii']),
+    Reader('groff', ['groff', '-ww', '-mandoc', '-T', 'utf8', '-z'], ['groff', '-mandoc', '-T', 'ascii', '-P', '-c']),
+    Reader('man', ['man', '--warnings', '-E', 'UTF-8', '-Tutf8', '-Z', '-l'], ['man', '-E', 'ascii', '-l']),
+]
+
+#: What is said of pages that aren't installed, or are so without a list of all pages.
+OF_OTHERS = r'referenced manual not found|mandoc\.db'
+
+#: A bold or underlined letter, as a typewriter makes it, without the first stroke.
+STRUCK_TWICE = r'.\x08|\x1b\[[0-9;]*m'
+
+
+def pages() -> List[str]:
+    return sorted(f'man/{path.name}' for path in (ROOT / 'man').iterdir())
+
+
+def words(text: str, pattern: str) -> List[str]:
+    """The words of a list that its items begin with."""
+    return found(pattern, '\n'.join(found(r'^\.It Li (.*)$', text)))
+
+
+def named_options(page: str) -> List[str]:
+    return found(r'Fl -(\w+)', '\n'.join(found(r'^\.It (.*)$', part(page, '.Ss Options', r'^\.S[hs]'))))
+
+
+def too_wide(shown: str) -> Iterator[str]:
+    return (line for line in re.sub(STRUCK_TWICE, '', shown).splitlines() if len(line) > COLUMNS)
+
+
+def test_commands() -> None:
+    listed = words(part(read('man/puzzles.5'), '.Sh COMMANDS AND REPLIES', r'^\.Sh'), '[a-z]+')
+    assert list(lacking(wanted()[0], listed)) == []
+
+
+def test_moves() -> None:
+    """Those of docs/FORMATS.md."""
+    told = found(r'^\.It Li ([A-Z])\b', part(read('man/puzzles.5'), '.Sh MOVES', r'^\.Sh'))
+    assert list(differences(told, wanted()[3])) == []
+
+
+def test_records() -> None:
+    table = part(read('docs/FORMATS.md'), '### What is written', '^#')
+    records = found(r'[A-Z]{2,}', '\n'.join(found(r'^\| ([A-Z, ]+) \|', table)))
+    assert list(differences(words(part(read('man/puzzles.5'), '.Ss Records', r'^\.Ss'), '[A-Z]{2,}'), records)) == []
+
+
+def test_objects() -> None:
+    page = read('man/puzzles-json.6')
+    assert list(differences(named_options(page), wanted()[1])) == [], 'options'
+    assert list(lacking([line.decode() for line in OWN_LINES], found(r'^\.It Cm (\w+)', page))) == [], 'lines'
+    assert list(lacking(schema.names(), set(re.findall(r'\w+', page)))) == [], 'members'
+
+
+def test_board(room: Room) -> None:
+    page = read('man/puzzles-play.6')
+    assert list(differences(named_options(page), play_options(room))) == [], 'options'
+    own = set(found(r'^    \'  ([a-z]{4,})\b', part(read('board/manual.py'), 'LINES', 'and the program'))) - {'pencil'}
+    assert list(lacking(own, set(re.findall(r'\w+', part(page, '.Ss The line mode', r'^\.Sh'))))) == [], 'the line mode'
+
+
+@pytest.mark.parametrize(('kind', 'names'), {**sources.faults(), **ONE_FAULT}.items())
+def test_faults(kind: str, names: Dict[str, str]) -> None:
+    """Each type of fault has the numbers and names of the definitions, and each of them a cause."""
+    section = part(read('man/puzzles.5'), f'.Ss {kind}', r'^\.S[hs]')
+    assert list(differences(re.findall(r'^\.It (\d+) Sy (\w+)$', section, re.MULTILINE), names.items())) == []
+    assert list(lacking(names, re.findall(r'^\.It (\d+).*\n(?!\.It|\.El)', section, re.MULTILINE))) == [], 'causes'
+
+
+@pytest.mark.parametrize('page', pages())
+def test_source(page: str) -> None:
+    """Its lines are short, and it leads to the other pages."""
+    text = read(page)
+    others = [other[len('man/') :].replace('.', ' ') for other in pages() if other != page]
+    assert [line for line in text.split('\n') if len(line) > COLUMNS] == []
+    assert list(lacking(others, found(r'^\.Xr (\S+ \d)', part(text, '.Sh SEE ALSO', r'^\.Sh')))) == []
+
+
+@pytest.mark.parametrize('reader', READERS, ids=by_name)
+@pytest.mark.parametrize('page', pages())
+def test_reader(room: Room, reader: Reader, page: str) -> None:
+    """One reader of manual pages is enough."""
+    there = [one for one in READERS if shutil.which(one.name)] or pytest.skip('there is no reader of manual pages')
+    if reader not in there:
+        return
+    path = str(ROOT / page)
+    told = run([*reader.checks, path], room)
+    warnings = (told.output + told.error).decode(errors='replace') if reader.name == 'mandoc' else told.error.decode(errors='replace')
+    assert [line for line in warnings.splitlines() if not re.search(OF_OTHERS, line)] == []
+    shown = run([*reader.shows, path], room, env={'MANWIDTH': str(COLUMNS)})
+    assert list(too_wide(shown.output.decode(errors='replace'))) == []

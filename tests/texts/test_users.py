@@ -1,0 +1,87 @@
+"""The texts for users name the same commands, options, statuses, moves and refusals.
+
+Commands and refusals are those of the definitions in `specs/`, the rest is what docs/FORMATS.md says.
+"""
+
+from __future__ import annotations
+
+import re
+from typing import List
+
+import pytest
+
+from tests.harness import Room, run
+from tests.texts import sources
+from tests.texts.parts import differences, found, lacking, part, read
+
+#: Two refusals that are answered by a line of their own, and one that no front end meets.
+UNEXPLAINED = {'NoSolution', 'SeveralSolutions', 'NoGame'}
+
+#: The faults by which a command, an ID or a save is refused.
+REFUSALS = ['IdFault', 'GenFault', 'PlayFault', 'LoadFault', 'LineFault']
+
+
+#: What each text names, as a part of it (its first line, and what the line after it matches) and the pattern of a name there.
+KINDS = ['commands', 'options', 'statuses', 'moves']
+WHERE = {
+    'FORMATS': [
+        ('### Commands', '^#', r'^\| `([a-z]+)'),
+        ('## 9. The program', '^## ', r'--([a-z]+)'),
+        ('## 9. The program', '^## ', r'^\| (\d) \|'),
+        ('## 5. Move texts', '^Refused', r'^\| `([A-Z])`'),
+    ],
+    'manual': [
+        ('.Ss Commands', '^The moves:', r'^\.It Cm (\w+)'),
+        ('.Ss Options', r'^\.Ss', r'^\.It .*Fl -(\w+)'),
+        ('.Sh EXIT STATUS', r'^\.Sh', r'^\.It (\d)$'),
+        ('The moves:', r'^\.Ss', r'^\.It Cm ([A-Z])'),
+    ],
+    'help': [
+        ('Commands', '^$', r'^  ([a-z]+) '),
+        ('Options:', '^$', r'^ .*--([a-z]+)'),
+        ('Exit status:', '^$', r'^  (\d) '),
+        ('Moves', '^$', r'^  ([A-Z])'),
+    ],
+}
+
+
+def said(name: str, text: str) -> List[List[str]]:
+    return [found(pattern, part(text, begin, end)) for begin, end, pattern in WHERE[name]]
+
+
+def wanted() -> List[List[str]]:
+    """What each kind has to be: commands, options, statuses, moves."""
+    return [sources.commands(), *said('FORMATS', read('docs/FORMATS.md'))[1:]]
+
+
+@pytest.mark.parametrize('name', WHERE)
+def test_names(program: str, room: Room, name: str) -> None:
+    if name == 'help':
+        ended = run([program, '--help'], room)
+        assert ended.status == 0
+        text = ended.output.decode()
+    else:
+        text = read({'FORMATS': 'docs/FORMATS.md', 'manual': 'man/puzzles.6'}[name])
+    for kind, told, owed in zip(KINDS, said(name, text), wanted()):
+        assert list(differences(told, owed)) == [], kind
+
+
+@pytest.mark.parametrize('kind', sources.faults())
+def test_faults(kind: str) -> None:
+    """Each type of fault has the numbers and names of the definitions."""
+    section = part(read('docs/FORMATS.md'), '## 10. Faults', '^## ')
+    told = re.findall(r'(\d+) \| ([A-Z]\w+)', part(section, f'**{kind}**', r'^\*\*|^\| call'))
+    assert list(differences(told, sources.faults()[kind].items())) == []
+
+
+def test_line_mode() -> None:
+    """Its help has a line for each command."""
+    lines = ' '.join(found(r"^    '  (\S.*?)  ", read('board/manual.py'))).split()
+    assert list(lacking(sources.commands(), lines)) == []
+
+
+def test_sentences() -> None:
+    """Each refusal has one."""
+    faults = sources.faults()
+    names = {name for kind in REFUSALS for name in faults[kind].values()} - UNEXPLAINED
+    assert list(lacking(names, found(r"'(\w+)':? ?", read('board/texts.py')))) == []

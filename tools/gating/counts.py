@@ -1,0 +1,65 @@
+"""The line in which a part counts its cases."""
+
+from __future__ import annotations
+
+import os
+import re
+from typing import NamedTuple, Tuple
+
+LINE = re.compile(rb'^([0-9]+) passed, ([0-9]+) failed(?:, ([0-9]+) skipped)?$', re.MULTILINE)
+
+
+class Counts(NamedTuple):
+    passed: int = 0
+    failed: int = 0
+    skipped: int = 0
+
+    def plus(self, other: Counts) -> Counts:
+        return Counts(self.passed + other.passed, self.failed + other.failed, self.skipped + other.skipped)
+
+    def __str__(self) -> str:
+        return f'{self.passed} passed, {self.failed} failed, {self.skipped} skipped'
+
+    def status(self) -> int:
+        """The status to end with. A skip is no pass."""
+        return 1 if self.failed or (self.skipped and not skips_allowed()) else 0
+
+
+class Tally:
+    """Counts cases one by one, with a line for each that failed or was skipped."""
+
+    def __init__(self) -> None:
+        self.counts = Counts()
+
+    def check(self, name: str, fault: str = '') -> None:
+        self.counts = self.counts.plus(Counts(failed=1) if fault else Counts(passed=1))
+        print(f'FAILED: {name}: {fault}\n' if fault else '', end='', flush=True)
+
+    def skip(self, name: str, reason: str) -> None:
+        self.counts = self.counts.plus(Counts(skipped=1))
+        print(f'skipped: {name}: {reason}', flush=True)
+
+
+def skips_allowed() -> bool:
+    return os.environ.get('SKIPS_ALLOWED') == '1'
+
+
+def counted(said: bytes, status: int) -> Tuple[Counts, str]:
+    """What the last counting line of a part says, and what is odd about it. One that has none, or ends badly though nothing failed, counts as one failure."""
+    lines = LINE.findall(said)
+    if not lines:
+        return Counts(0, 1, 0), f'it has not counted; its status is {status}'
+    counts = Counts(*(int(number or 0) for number in lines[-1]))
+    # A part may itself take a skip for a failure.
+    is_for_skips = counts.skipped > 0 and not skips_allowed()
+    if status != 0 and counts.failed == 0 and not is_for_skips:
+        return counts._replace(failed=1), f'1 failed: its status is {status}'
+    return counts, ''
+
+
+def finish(counts: Counts) -> int:
+    """Prints the last line, which counts all, and gives the status to end with."""
+    if counts.skipped and not skips_allowed():
+        print('What was skipped was not tried, so this has failed; SKIPS_ALLOWED=1 lets it pass.', flush=True)
+    print(counts, flush=True)
+    return counts.status()

@@ -1,0 +1,87 @@
+"""The part of the gate that proves: `rt ci`, or, where that has passed here with the same prover and the same sources, what it said and built then."""
+
+from __future__ import annotations
+
+import contextlib
+import hashlib
+import os
+import shutil
+import time
+from pathlib import Path
+from typing import Iterator, Sequence
+
+from gating import kept
+from gating.counts import counted
+from gating.in_turn import Said, Turns
+
+#: The files and folders that `rt ci` reads, but what it makes itself.
+READ = ['crates.txt', 'HANDLES', 'crates']
+MADE = 'out'
+
+#: What `rt ci` leaves of each crate for those above it.
+LIBRARIES = 'crates/*/out/rlib'
+
+#: The files of a kept result, beside the programs: what was said, and when.
+SAID, WHEN = 'said', 'when'
+
+
+def prove(turns: Turns, name: str, rt: str, prover: str, programs: Sequence[str], is_anew: bool) -> None:
+    """Counts the proofs. The programs that other parts try are then those that were built of these sources."""
+    key = sum_of_sources(prover)
+    found = None if is_anew else kept.read(key)
+    for program in programs:
+        with contextlib.suppress(FileNotFoundError):
+            os.unlink(program)
+    if found:
+        from_kept(turns, name, found, programs)
+        return
+    # The libraries that other parts check with are those that are built here, too: `rt ci` would bring back those that it finds.
+    for library in Path().glob(LIBRARIES):
+        shutil.rmtree(library)
+    said = turns.part(name, [rt, 'ci'])
+    counts, odd = counted(*said)
+    has_passed = said.status == 0 and not odd and counts.passed > 0 and counts.failed == counts.skipped == 0
+    built = {program: Path(program).read_bytes() for program in programs if os.path.isfile(program)}
+    # What was changed meanwhile may not be what was proved.
+    if has_passed and len(built) == len(programs) and sum_of_sources(prover) == key:
+        now = time.strftime('%Y-%m-%d %H:%M UTC', time.gmtime())
+        kept.write(key, {SAID: said.text, WHEN: now.encode(), **built})
+
+
+def from_kept(turns: Turns, name: str, found: kept.Files, programs: Sequence[str]) -> None:
+    """Says what was said then, and leaves the programs that were built."""
+    name = f'{name} (kept from {found[WHEN].decode()}; ANEW=1 proves anew)'
+    turns.begin(name)
+    turns.pass_on(found[SAID])
+    for program in programs:
+        path = Path(program)
+        path.parent.mkdir(parents=True, exist_ok=True)
+        path.write_bytes(found[program])
+        path.chmod(0o755)
+    turns.count(name, Said(found[SAID], 0), 'kept')
+
+
+def sum_of_sources(prover: str) -> str:
+    """A checksum over the prover's line, and the names, modes and texts of all that `rt ci` reads."""
+    digest = hashlib.sha256()
+
+    def add(*parts: bytes) -> None:
+        for part in parts:
+            digest.update(b'%d:' % len(part))
+            digest.update(part)
+
+    add(prover.encode())
+    for path in sources():
+        add(os.fsencode(path), b'%o' % (os.stat(path).st_mode & 0o111), Path(path).read_bytes())
+    return digest.hexdigest()
+
+
+def sources() -> Iterator[str]:
+    """All files that `rt ci` reads, in order."""
+    for top in READ:
+        if os.path.isfile(top):
+            yield top
+        for way, folders, names in os.walk(top):
+            is_crate = os.path.dirname(way) == top
+            folders[:] = sorted(folder for folder in folders if not (is_crate and folder == MADE))
+            yield from (os.path.join(way, name) for name in sorted(names) if os.path.isfile(os.path.join(way, name)))
