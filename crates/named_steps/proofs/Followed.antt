@@ -111,6 +111,7 @@ from_view : (Struck : CandidatesValue → Reason → ℕ → ℕ → Type 0) →
     (f : Follows Struck grade s) → c.size ≡ s.size → IsChain Struck c f.steps × IsFewer (left_by (all_of s.size) f.steps) (left_by c f.steps)
 from_view Struck less grade s c f size = chain_less Struck less (all_of s.size) c f.steps (sym size) (all_fewer s.size c size) f.chain
 
+-- from each board of a puzzle that follows by the grade, a chain shows the number of each square
 pub boards_lead : (Struck : CandidatesValue → Reason → ℕ → ℕ → Type 0) → IsAntitone Struck → (grade : Grade) (s g : GridValue)
     (view : CandidatesValue) (cell : ℕ) → Follows Struck grade s → g.size ≡ s.size → IsView g view → cell < s.size * s.size
     → (steps : List StepValue) × Shows Struck grade view steps (OnlyValue cell (number_at s cell))
@@ -124,6 +125,7 @@ boards_lead Struck less grade s g view cell f size in_view inside =
       },
     )
 
+-- from a board with a wrong number, a chain leaves nothing of it
 pub boards_refuted : (Struck : CandidatesValue → Reason → ℕ → ℕ → Type 0) → IsAntitone Struck → (grade : Grade) (s g : GridValue)
     (view : CandidatesValue) (cell : ℕ) → Follows Struck grade s → g.size ≡ s.size → IsView g view → cell < s.size * s.size
     → number_at g cell ≢ 0 → number_at g cell ≢ number_at s cell
@@ -144,6 +146,7 @@ boards_refuted Struck less grade s g view cell f size in_view inside some wrong 
           wrong (sym stands ∙ right);
     }
 
+-- a board that is refuted is completed by no solution
 pub refuted_none : (p : Puzzle) (Struck : CandidatesValue → Reason → ℕ → ℕ → Type 0) → IsSoundFor p Struck → (grade : Grade) (g : GridValue)
     (view : CandidatesValue) → g.size ≡ p.size → IsView g view → IsRefuted Struck grade view → (h : GridValue) → Completes p g h → ⊥
 refuted_none p Struck sound grade g view size in_view r h done =

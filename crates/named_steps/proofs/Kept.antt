@@ -75,6 +75,7 @@ completion_in_view p g h c size view done = record {
       ];
 }
 
+-- the number that a chain explains is so in each solution that completes the grid
 pub explained_right : (p : Puzzle) (Struck : CandidatesValue → Reason → ℕ → ℕ → Type 0) → IsSoundFor p Struck → (grade : Grade) (g h : GridValue)
     (steps : List StepValue) (goal : Goal) → g.size ≡ p.size → IsExplained Struck grade g steps goal → Completes p g h
     → number_at h (goal_cell g.size goal) ≡ goal_value goal

@@ -22,6 +22,7 @@ pub shown_less : (c d : CandidatesValue) (goal : Goal) → c.size ≡ d.size →
 shown_less c d (OnlyValue cell value) size fewer h = λ other left. h other (fewer cell other left)
 shown_less c d (OnlyPlace line index value) size fewer h = no_place_less c d line value index size fewer h
 
+-- what a chain shows, the closure shows
 pub closure_shows : (Struck : CandidatesValue → Reason → ℕ → ℕ → Type 0) → IsAntitone Struck → (grade : Grade) (c d : CandidatesValue)
     (steps : List StepValue) (goal : Goal) → IsClosure Struck grade c d → Shows Struck grade c steps goal → IsShown d goal
 closure_shows Struck less grade c d steps goal h s =
