@@ -190,7 +190,7 @@ def test_logged(place: Place, scripts: List[str]) -> None:
     """The log begins with the commit and the prover, and has the sums of the programs and all that was said."""
     place.run(['tools/gate'], env={'RT_SAYS': PROVED, **ANEW})
     log = place.file('build/gate.log').decode()
-    wanted = [r'\Acommit unknown\nprover a kit that proves nothing\n== ', r'^asked for ci in checkout$', r'^[0-9a-f]{64}  crates/puzzles/out/puzzles$']
+    wanted = [r'\Acommit unknown\nprover a kit that proves nothing\n== ', r'^asked for ci --anew in checkout$', r'^[0-9a-f]{64}  crates/puzzles/out/puzzles$']
     wanted += [r'^[0-9]+ passed, 0 failed, 0 skipped\n\Z']
     assert list([f'it lacks {text!r}: {log}' for text in wanted if not re.search(text, log, re.MULTILINE)]) == [], "the gate's log"
 

@@ -9,7 +9,7 @@ import pytest
 
 from tests.objects import schema
 from tests.texts import sources
-from tests.texts.parts import ROOT, differences, documents, found, items, lacking, part, read, without_samples
+from tests.texts.parts import differences, documents, found, items, lacking, part, read, without_samples
 from trusting.page import Listed, outdated
 
 #: Words in backquotes of the language and its library, and of what `rt plant` and `puzzles-play` print.

@@ -38,7 +38,8 @@ def prove(turns: Turns, name: str, rt: str, prover: str, programs: Sequence[str]
     # The libraries that other parts check with are those that are built here, too: `rt ci` would bring back those that it finds.
     for library in Path().glob(LIBRARIES):
         shutil.rmtree(library)
-    said = turns.part(name, [rt, 'ci'])
+    # Without the word it takes what an earlier run has kept beside the kit, and leaves no library of a crate where it finds all of them.
+    said = turns.part(name, [rt, 'ci', *(['--anew'] if is_anew else [])])
     counts, odd = counted(*said)
     has_passed = said.status == 0 and not odd and counts.passed > 0 and counts.failed == counts.skipped == 0
     built = {program: Path(program).read_bytes() for program in programs if os.path.isfile(program)}

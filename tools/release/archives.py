@@ -10,7 +10,7 @@ import tarfile
 import tempfile
 from typing import Iterator, NamedTuple
 
-from building.record import sum_of
+from building.changes import sum_of
 from release import installing, places
 from release.note import Ready, Unfit, commit, fit, git, sums_in
 from release.places import TOP, Folders
