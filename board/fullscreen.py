@@ -190,6 +190,9 @@ class FullScreen:
     def _check(self) -> None:
         self.table.check()
 
+    def _back(self) -> None:
+        self.table.back()
+
     def _command(self) -> None:
         text = self._dialogues.read(':')
         if not text:

@@ -36,6 +36,7 @@ ACTIONS: Dict[str, str] = {
     'R': 'restart',
     'h': 'hint',
     'c': 'check',
+    'b': 'back',
     'S': 'solve',
     'n': 'new',
     'o': 'open',

@@ -115,8 +115,50 @@ class PresentGame:
         """Whether the numbers can still be completed."""
         self.message = ''
         reply = self.ask('completable')
-        if reply is not None and reply.completable:
-            self.message = texts.COMPLETABLE[reply.completable]
+        if reply is None or not reply.completable:
+            return
+        self.message = texts.COMPLETABLE[reply.completable]
+        if reply.completable == 'none':
+            moves = self._undone_until_completable()
+            if moves:
+                self._repeat('redo', moves)
+                self.message = texts.since(moves, self.ways)
+
+    def back(self) -> None:
+        """Undoes until the numbers can be completed."""
+        self.message = ''
+        reply = self.ask('completable')
+        if reply is None or not reply.completable:
+            return
+        if reply.completable != 'none':
+            self.message = texts.CAN_BE_COMPLETED
+            return
+        moves = self._undone_until_completable()
+        if moves:
+            self._look()
+            self._keep()
+            self.message = texts.gone_back(moves)
+        elif moves == 0:
+            self.message = texts.NEVER
+
+    def _undone_until_completable(self) -> Optional[int]:
+        """How many moves were undone; 0 where the numbers never could be completed, and nothing where that wasn't told: then the board is as it was."""
+        for moves in range(1, self.board.session.position):
+            reply = self.ask('undo') and self.ask('completable')
+            if reply is None or reply.completable is None:
+                # The program may have been started again, with the game as it was kept.
+                if reply is not None:
+                    self._repeat('redo', moves)
+                return None
+            if reply.completable != 'none':
+                return moves
+        self._repeat('redo', self.board.session.position - 1)
+        return 0
+
+    def _repeat(self, line: str, times: int) -> None:
+        for _ in range(times):
+            if self.ask(line) is None:
+                return
 
     # --- files ---
 

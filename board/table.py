@@ -64,7 +64,9 @@ class Table(PresentGame):
             if self._begin(word, start, texts.of_save):
                 return True
             if self.message != texts.of_save('WrongGame', word):
-                break
+                return False
+        # It is of neither game.
+        self.message = texts.of_foreign(found.content) or self.message
         return False
 
     def open_old(self, old: OldGame) -> bool:
