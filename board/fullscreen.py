@@ -76,7 +76,7 @@ class FullScreen:
         return fit(board.size, board.session.game == 'towers', *self._screen.size)
 
     def _look(self) -> Look:
-        return Look(self._cursor, self._is_pencil, self.table.message, self.table.trouble, self._screen.has_lines)
+        return Look(self._cursor, self._is_pencil, self.table.message, self.table.trouble, self._screen.has_lines, self.table.hints)
 
     def _pieces(self) -> List[Piece]:
         if not self.table.has_game:

@@ -9,7 +9,7 @@ import textwrap
 import time
 from typing import Callable, Dict, List, Tuple
 
-from board import games, manual, speech
+from board import games, hints, manual, speech
 from board.board import GAMES, Board
 from board.file_names import file_name, question
 from board.program import Gone, Stopped
@@ -146,7 +146,7 @@ class LineMode:
             say('Full, but not right yet.')
         if board.is_solved and board.session.status == 'solved' and not self._is_told:
             self._is_told = True
-            say('Solved!')
+            say(f'Solved, {hints.told(self._table.hints)}.' if self._table.hints else 'Solved!')
 
     def _say_message(self) -> None:
         say(*filter(None, [self._table.message]))

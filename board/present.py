@@ -5,7 +5,7 @@ from __future__ import annotations
 import time
 from typing import Optional, Protocol
 
-from board import files, texts
+from board import files, hints, texts
 from board.board import Board, Place, Reply
 from board.program import Gone, Program, Refused, Stopped, Waiting, save_to, started_with
 from board.state import NotKept, Shelf, State
@@ -41,6 +41,8 @@ class PresentGame:
         self._board: Optional[Board] = None
         self._saved = b''
         self._hinted: Optional[Reply] = None
+        #: How many hints the present game had.
+        self.hints = 0
 
     @property
     def has_game(self) -> bool:
@@ -109,6 +111,8 @@ class PresentGame:
             self.message = 'The board is full.' if self.board.is_full and reply.hint.kind == 'nothing' else texts.HINTS[reply.hint.kind]
             return None
         self._hinted = reply
+        self.hints += 1
+        self.state.keep_hints(self._of_hints())
         return reply.hint.square
 
     def check(self) -> None:
@@ -184,7 +188,10 @@ class PresentGame:
             self._program.stop()
         self.state.release()
 
-    def _take(self, program: Program, shelf: Shelf) -> None:
+    def _of_hints(self) -> bytes:
+        return hints.content_of(self.hints, self.board.session.id)
+
+    def _take(self, program: Program, shelf: Shelf, of_hints: bytes = b'') -> None:
         if self._program:
             self._program.stop()
         self._program = program
@@ -194,6 +201,8 @@ class PresentGame:
         self._board = program.first.board
         self.message = shelf.told
         self.state.take(shelf)
+        self.hints = hints.count_in(of_hints, self.board.session.id)
+        self.state.keep_hints(self._of_hints())
         self._keep()
 
     def _look(self) -> None:
