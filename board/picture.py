@@ -8,6 +8,7 @@ from typing import Iterator, List, NamedTuple, Optional, Tuple
 
 from board.board import GAMES, Board, Place
 from board.games import GRADES
+from board.hints import told as hints_told
 from board.layout import Layout, wanted
 
 
@@ -44,6 +45,8 @@ class Look(NamedTuple):
     trouble: str = ''
     #: Whether lines can be drawn by other characters than + - |.
     has_lines: bool = True
+    #: How many hints the game had.
+    hints: int = 0
 
 
 #: The corners and crossings of the grid by rows, then the line across and the one down.
@@ -54,6 +57,8 @@ KEYS_BELOW = [
     '1-9 number  p pencil  0 clear  u undo  r redo  h hint  n new  q quit  ? keys',
     'p pencil u undo h hint n new q quit ?',
 ]
+#: So many lines of a message have room at the side, where the window is tall enough.
+MESSAGE_LINES = 6
 KEYS_ASIDE = ['1-9 number  p pencil', '0 clear     m all marks', 'u undo      r redo', 'h hint      c check', 'n new       o open', '? all keys  q quit']
 
 
@@ -104,7 +109,7 @@ def told(board: Board, look: Look, layout: Layout) -> str:
 
 def _told_of(board: Board, look: Look, layout: Layout) -> str:
     if board.is_solved:
-        return 'Solved!'
+        return f'Solved, {hints_told(look.hints)}.' if look.hints else 'Solved!'
     if board.is_full:
         return 'Full, but not right yet: ! shows what contradicts.'
     marks = board.marks.get(look.cursor) if look.cursor else None
@@ -112,9 +117,9 @@ def _told_of(board: Board, look: Look, layout: Layout) -> str:
 
 
 def has_room(text: str, board: Board, layout: Layout, look: Look) -> bool:
-    """Whether a message fits beside the board, or on the two lines below it."""
+    """Whether a message fits beside the board, or between it and the keys below, whose line it may take where there is only one other."""
     if layout.side is None:
-        return len(textwrap.wrap(text, layout.columns - 2)) <= 2
+        return len(textwrap.wrap(text, layout.columns - 2)) <= max(2, layout.lines - 1 - layout.below)
     begin, end = _side_lines(board, layout, look)
     return len(textwrap.wrap(text, layout.columns - layout.side - 1)) <= end - begin
 
@@ -156,9 +161,10 @@ def _squares(board: Board, layout: Layout, look: Look) -> Iterator[Piece]:
             yield Piece(*layout.centre(place), f'{number}!' if is_wrong else str(number), style, is_cursor)
             continue
         marks = board.marks.get(place, [])
-        if layout.deep == 3:
+        if layout.deep > 1:
+            down, across = (layout.deep - 1) // 2, (layout.wide - 3) // 2
             for mark in marks:
-                yield Piece(line + (mark - 1) // 3, column + 1 + 2 * ((mark - 1) % 3), str(mark), Style.MARKS, is_cursor)
+                yield Piece(line + (mark - 1) // 3 * down, column + 1 + (mark - 1) % 3 * across, str(mark), Style.MARKS, is_cursor)
         elif marks:
             indent = 1 if layout.wide > 3 else 0
             yield Piece(line, column + indent, marks_text(marks, board.size, layout.wide - indent), Style.MARKS, is_cursor)
@@ -188,17 +194,18 @@ def _clues(board: Board, layout: Layout, look: Look) -> Iterator[Piece]:
 
 def _texts_below(board: Board, layout: Layout, look: Look) -> Iterator[Piece]:
     between = f' {LINES[-1] if look.has_lines else "-"} '
-    words = [name(board), grade(board), state(board), 'PENCIL' if look.is_pencil else '', between.join(counts(board))]
+    words = [name(board), grade(board), state(board), hints_told(look.hints), 'PENCIL' if look.is_pencil else '', between.join(counts(board))]
     for gap in ('   ', '  ', ' '):
         title = gap.join(word for word in words if word)
         if len(title) < layout.columns:
             break
     yield Piece(0, 1, title, Style.TITLE)
-    lines = textwrap.wrap(told(board, look, layout), layout.columns - 2)[:2]
-    if len(lines) < 2:
+    lines = textwrap.wrap(told(board, look, layout), layout.columns - 2)[: max(2, layout.lines - 1 - layout.below)]
+    first = min(layout.below, layout.lines - len(lines))
+    if first + len(lines) < layout.lines:
         yield Piece(layout.lines - 1, 1, next((keys for keys in KEYS_BELOW if len(keys) < layout.columns - 1), '? keys'), Style.GRID)
-    for at, text in enumerate(lines):
-        yield Piece(layout.lines - 2 + at, 1, text, Style.TITLE)
+    for at, text in enumerate(lines, first):
+        yield Piece(at, 1, text, Style.TITLE)
 
 
 def _texts_aside(board: Board, layout: Layout, look: Look, side: int) -> Iterator[Piece]:
@@ -207,19 +214,25 @@ def _texts_aside(board: Board, layout: Layout, look: Look, side: int) -> Iterato
     begin, end = _side_lines(board, layout, look)
     for at, text in enumerate(textwrap.wrap(told(board, look, layout), layout.columns - side - 1)[: end - begin]):
         yield Piece(begin + at, side, text, Style.TITLE)
-    for at, text in enumerate(KEYS_ASIDE):
-        yield Piece(layout.lines - len(KEYS_ASIDE) + at, side, text, Style.GRID)
+    for at, text in enumerate(KEYS_ASIDE, _keys_line(board, layout, look)):
+        yield Piece(at, side, text, Style.GRID)
 
 
 def _side_title(board: Board, look: Look) -> List[str]:
-    words = [name(board), grade(board), *counts(board), state(board), 'PENCIL' if look.is_pencil else '']
+    words = [name(board), grade(board), *counts(board), state(board), hints_told(look.hints), 'PENCIL' if look.is_pencil else '']
     return [word for word in words if word]
 
 
 def _side_lines(board: Board, layout: Layout, look: Look) -> Tuple[int, int]:
     """The first line of the message at the side, and the one after its last."""
     begin = len(_side_title(board, look)) + 2
-    return begin, max(begin + 1, layout.lines - len(KEYS_ASIDE) - 1)
+    return begin, max(begin + 1, _keys_line(board, layout, look) - 1)
+
+
+def _keys_line(board: Board, layout: Layout, look: Look) -> int:
+    """The first line of the keys at the side: they end with the board, but leave room for a message."""
+    last = len(_side_title(board, look)) + MESSAGE_LINES + len(KEYS_ASIDE) + 3
+    return min(layout.lines, max(layout.below, last)) - len(KEYS_ASIDE)
 
 
 def text_of(pieces: List[Piece], lines: int, columns: int) -> List[str]:
