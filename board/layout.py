@@ -40,11 +40,6 @@ class Layout(NamedTuple):
         """The column of the right edge of the grid."""
         return self.left + self.size * (self.wide + 1)
 
-    @property
-    def below(self) -> int:
-        """The first line below the board and its clues."""
-        return self.bottom + (2 if self.has_clues else 1)
-
     def corner(self, place: Place) -> Tuple[int, int]:
         """The line and the column of the first character inside a square."""
         x, y = place
@@ -70,7 +65,7 @@ class Layout(NamedTuple):
 
 
 def fit(size: int, has_clues: bool, lines: int, columns: int) -> Optional[Layout]:
-    """How a board is drawn on a screen: with seven, five or three lines a square where there is room, else with one; nothing where it is too small."""
+    """How a board is drawn on a screen: with three lines a square where there is room, else with one; nothing where it is too small."""
     if columns < FEWEST_COLUMNS:
         return None
     return next(filter(None, (_tried(size, has_clues, lines, columns, *shape) for shape in _shapes())), None)
@@ -78,8 +73,8 @@ def fit(size: int, has_clues: bool, lines: int, columns: int) -> Optional[Layout
 
 def _shapes() -> Iterator[Tuple[int, int, bool]]:
     """Deep, wide, and whether the texts are at the side; the best first."""
-    for deep, wide in ((7, 15), (5, 11), (3, 7), (1, 7), (1, 5), (1, 3)):
-        for is_aside in (True, False):
+    for deep, wide in ((3, 7), (1, 7), (1, 5), (1, 3)):
+        for is_aside in (False, True):
             yield deep, wide, is_aside
 
 
@@ -92,12 +87,10 @@ def _tried(size: int, has_clues: bool, lines: int, columns: int, deep: int, wide
         if tall > lines or broad + SIDE_COLUMNS > columns:
             return None
         return Layout(size, has_clues, deep, wide, around, left, broad + 1, lines, columns)
-    # The title above, and below one line of keys and two of a message, or one where squares can't be smaller.
-    needed = tall + (4 if deep > 1 else 3)
-    if needed > lines or broad > columns:
+    if tall + 3 > lines or broad > columns:
         return None
     # Where there is a line to spare it is below the title.
-    top = 1 + around + (1 if tall + 5 <= lines else 0)
+    top = 1 + around + (1 if tall + 4 <= lines else 0)
     spare = 1 if broad < columns else 0
     return Layout(size, has_clues, deep, wide, top, left + spare, None, lines, columns)
 

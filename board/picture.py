@@ -57,8 +57,6 @@ KEYS_BELOW = [
     '1-9 number  p pencil  0 clear  u undo  r redo  h hint  n new  q quit  ? keys',
     'p pencil u undo h hint n new q quit ?',
 ]
-#: So many lines of a message have room at the side, where the window is tall enough.
-MESSAGE_LINES = 6
 KEYS_ASIDE = ['1-9 number  p pencil', '0 clear     m all marks', 'u undo      r redo', 'h hint      c check', 'n new       o open', '? all keys  q quit']
 
 
@@ -117,9 +115,9 @@ def _told_of(board: Board, look: Look, layout: Layout) -> str:
 
 
 def has_room(text: str, board: Board, layout: Layout, look: Look) -> bool:
-    """Whether a message fits beside the board, or between it and the keys below, whose line it may take where there is only one other."""
+    """Whether a message fits beside the board, or on the two lines below it."""
     if layout.side is None:
-        return len(textwrap.wrap(text, layout.columns - 2)) <= max(2, layout.lines - 1 - layout.below)
+        return len(textwrap.wrap(text, layout.columns - 2)) <= 2
     begin, end = _side_lines(board, layout, look)
     return len(textwrap.wrap(text, layout.columns - layout.side - 1)) <= end - begin
 
@@ -161,10 +159,9 @@ def _squares(board: Board, layout: Layout, look: Look) -> Iterator[Piece]:
             yield Piece(*layout.centre(place), f'{number}!' if is_wrong else str(number), style, is_cursor)
             continue
         marks = board.marks.get(place, [])
-        if layout.deep > 1:
-            down, across = (layout.deep - 1) // 2, (layout.wide - 3) // 2
+        if layout.deep == 3:
             for mark in marks:
-                yield Piece(line + (mark - 1) // 3 * down, column + 1 + (mark - 1) % 3 * across, str(mark), Style.MARKS, is_cursor)
+                yield Piece(line + (mark - 1) // 3, column + 1 + 2 * ((mark - 1) % 3), str(mark), Style.MARKS, is_cursor)
         elif marks:
             indent = 1 if layout.wide > 3 else 0
             yield Piece(line, column + indent, marks_text(marks, board.size, layout.wide - indent), Style.MARKS, is_cursor)
@@ -200,12 +197,11 @@ def _texts_below(board: Board, layout: Layout, look: Look) -> Iterator[Piece]:
         if len(title) < layout.columns:
             break
     yield Piece(0, 1, title, Style.TITLE)
-    lines = textwrap.wrap(told(board, look, layout), layout.columns - 2)[: max(2, layout.lines - 1 - layout.below)]
-    first = min(layout.below, layout.lines - len(lines))
-    if first + len(lines) < layout.lines:
+    lines = textwrap.wrap(told(board, look, layout), layout.columns - 2)[:2]
+    if len(lines) < 2:
         yield Piece(layout.lines - 1, 1, next((keys for keys in KEYS_BELOW if len(keys) < layout.columns - 1), '? keys'), Style.GRID)
-    for at, text in enumerate(lines, first):
-        yield Piece(at, 1, text, Style.TITLE)
+    for at, text in enumerate(lines):
+        yield Piece(layout.lines - 2 + at, 1, text, Style.TITLE)
 
 
 def _texts_aside(board: Board, layout: Layout, look: Look, side: int) -> Iterator[Piece]:
@@ -214,8 +210,8 @@ def _texts_aside(board: Board, layout: Layout, look: Look, side: int) -> Iterato
     begin, end = _side_lines(board, layout, look)
     for at, text in enumerate(textwrap.wrap(told(board, look, layout), layout.columns - side - 1)[: end - begin]):
         yield Piece(begin + at, side, text, Style.TITLE)
-    for at, text in enumerate(KEYS_ASIDE, _keys_line(board, layout, look)):
-        yield Piece(at, side, text, Style.GRID)
+    for at, text in enumerate(KEYS_ASIDE):
+        yield Piece(layout.lines - len(KEYS_ASIDE) + at, side, text, Style.GRID)
 
 
 def _side_title(board: Board, look: Look) -> List[str]:
@@ -226,13 +222,7 @@ def _side_title(board: Board, look: Look) -> List[str]:
 def _side_lines(board: Board, layout: Layout, look: Look) -> Tuple[int, int]:
     """The first line of the message at the side, and the one after its last."""
     begin = len(_side_title(board, look)) + 2
-    return begin, max(begin + 1, _keys_line(board, layout, look) - 1)
-
-
-def _keys_line(board: Board, layout: Layout, look: Look) -> int:
-    """The first line of the keys at the side: they end with the board, but leave room for a message."""
-    last = len(_side_title(board, look)) + MESSAGE_LINES + len(KEYS_ASIDE) + 3
-    return min(layout.lines, max(layout.below, last)) - len(KEYS_ASIDE)
+    return begin, max(begin + 1, layout.lines - len(KEYS_ASIDE) - 1)
 
 
 def text_of(pieces: List[Piece], lines: int, columns: int) -> List[str]:
