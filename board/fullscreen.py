@@ -45,6 +45,7 @@ class FullScreen:
             'R': self._restart,
             'h': self._hint,
             'c': self._check,
+            'b': self._back,
             'S': self._solve,
             'n': self._new,
             'o': self._open,
@@ -108,7 +109,7 @@ class FullScreen:
         return fit(board.size, board.session.game == 'towers', *self._screen.size)
 
     def _look(self) -> Look:
-        return Look(self._cursor, self._is_pencil, self.table.message, self.table.trouble, self._screen.has_lines)
+        return Look(self._cursor, self._is_pencil, self.table.message, self.table.trouble, self._screen.has_lines, self.table.hints)
 
     def _pieces(self) -> List[Piece]:
         if not self.table.has_game:
@@ -221,6 +222,9 @@ class FullScreen:
 
     def _check(self) -> None:
         self.table.check()
+
+    def _back(self) -> None:
+        self.table.back()
 
     def _command(self) -> None:
         text = self._dialogues.read(':')

@@ -9,10 +9,11 @@ import textwrap
 import time
 from typing import Callable, Dict, List, Tuple
 
-from board import games, manual, speech
+from board import games, hints, manual, speech
 from board.board import GAMES, Board
 from board.file_names import file_name, question
 from board.program import Gone, Stopped
+from board.printable import printable
 from board.prompt import Prompt
 from board.state import State
 from board.table import Table
@@ -31,6 +32,7 @@ SHORT: Dict[str, str] = {
     'r': 'redo',
     'm': 'move M',
     'c': 'check',
+    'b': 'back',
     'n': 'new',
     'o': 'open',
     'i': 'id',
@@ -66,6 +68,7 @@ class LineMode:
             'clues': lambda _: say(*speech.clues(self._table.board)),
             'hint': self._hint,
             'check': self._check,
+            'back': self._back,
             'show': lambda _: self._show(),
             'status': lambda _: say(f'{self._table.board.session.status} {self._position()}'),
             'quit': self._quit,
@@ -143,7 +146,7 @@ class LineMode:
             say('Full, but not right yet.')
         if board.is_solved and board.session.status == 'solved' and not self._is_told:
             self._is_told = True
-            say('Solved!')
+            say(f'Solved, {hints.told(self._table.hints)}.' if self._table.hints else 'Solved!')
 
     def _say_message(self) -> None:
         say(*filter(None, [self._table.message]))
@@ -198,25 +201,36 @@ class LineMode:
     def _check(self, _: str) -> None:
         self._table.check()
 
+    def _back(self, _: str) -> None:
+        before = self._table.board
+        self._table.back()
+        if self._table.board is not before:
+            self._show()
+
     # --- games ---
 
     def _new(self, text: str) -> None:
         """A game, a size and a grade in any order, or an ID."""
         board = self._table.board
-        game, size, letter = self._table.game, board.size, board.session.letter
+        words = text.split()
+        game = next((word.lower() for word in words if word.lower() in GAMES), self._table.game)
+        grades = {grade: letter for letter, grade in games.GRADES[game].items()}
+        size, letter = board.size, board.session.letter
         is_seeded = False
-        for word in text.split():
-            grades = {grade: letter for letter, grade in games.GRADES[game].items()}
+        for word in words:
             if word.lower() in GAMES:
-                game = word.lower()
-            elif word.lower() in grades:
+                continue
+            if word.lower() in grades:
                 letter = grades[word.lower()]
             elif word.lower() == 'seeded':
                 is_seeded = True
             elif word.isdigit():
                 size = int(word)
+            elif word.isalpha():
+                say(f"{GAMES[game]} has no grade '{word}': {speech.listed(list(grades), 'or')}.")
+                return
             else:
-                if self._table.begin(game, text.split()[-1]):
+                if self._table.begin(game, words[-1]):
                     self._begun()
                 return
         if size not in games.SIZES:
@@ -242,7 +256,9 @@ class LineMode:
         trouble = self._table.state.played_trouble(game)
         if self._table.begin(game, id):
             self._begun()
-            say(*filter(None, [f'To play it again: new {id}', trouble]))
+            say('To play it again:')
+            say_whole(f'new {id}')
+            say(*filter(None, [trouble]))
 
     def _save(self, text: str) -> None:
         file = file_name(text)
@@ -278,9 +294,14 @@ class LineMode:
         self._is_over = not trouble or not sys.stdin.isatty() or self.confirm(f'The game is not kept ({trouble}). Quit and lose it?')
 
 
+def say_whole(line: str) -> None:
+    """Prints a line as it is, however long, so that it can be copied."""
+    print(printable(line), flush=True)
+
+
 def say(*lines: str) -> None:
     """Prints lines; one that is too long for the terminal is broken between two words."""
     columns = shutil.get_terminal_size().columns
-    for line in lines:
+    for line in map(printable, lines):
         parts = textwrap.wrap(line, max(columns - 1, 20), subsequent_indent='  ', break_long_words=False, break_on_hyphens=False)
         print('\n'.join(parts) if len(line) >= columns else line, flush=True)

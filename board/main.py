@@ -8,6 +8,7 @@ import sys
 from typing import List, NamedTuple, Optional
 
 from board.board import GAMES
+from board.printable import printable
 from board.program import Gone
 from board.state import State
 from board.table import is_there
@@ -18,9 +19,9 @@ usage: {me} [--lines] [GAME] [ID or FILE]
        {me} --help | --version
 
 GAME is towers or unequal. Without an ID or a save file the last game goes on,
-and a new one begins where there is none. ? shows the keys. With --lines, or on a
-terminal without a screen, games are played by lines of text: 'help' lists them.
-For scripts and pipes use the program itself: puzzles GAME.
+and a new one begins where there is none. ? shows the keys. With --lines, or
+where the terminal has no screen, games are played by lines of text, which
+'help' lists. For scripts and pipes use the program itself: puzzles GAME.
 """
 
 #: Words that ask for help.
@@ -51,17 +52,22 @@ def main(words: List[str], here: str) -> int:
         print(USAGE.format(me=me) + tip(me, words), end='', file=sys.stderr)
         return 2
     if not (sys.stdin.isatty() and sys.stdout.isatty()):
-        print(f'{me}: the board is for a terminal; in a pipe use the program itself, puzzles {asked.game or "GAME"}', file=sys.stderr)
+        complain(f'{me}: the board is for a terminal; in a pipe use the program itself, puzzles {asked.game or "GAME"}')
         return 2
     path = program(here)
     if path is None:
-        print(f'{me}: the program is not built yet: run make', file=sys.stderr)
+        complain(f'{me}: the program is not built yet: run make')
         return 1
     try:
         return play(path, asked)
     except Gone as gone:
-        print(f'{me}: the program has ended: {gone}', file=sys.stderr)
+        complain(f'{me}: the program has ended: {gone}')
         return 1
+
+
+def complain(text: str) -> None:
+    """A line on standard error."""
+    print(printable(text), file=sys.stderr)
 
 
 def read(words: List[str]) -> Optional[Words]:
@@ -78,7 +84,7 @@ def read(words: List[str]) -> Optional[Words]:
 def tip(me: str, words: List[str]) -> str:
     """A line on words that can't be read, where it is plain what was meant: a game ID alone, which fits both games."""
     what = words[-1] if len(words) == 1 else ''
-    return f"\nDid you mean {me} towers '{what}'?\n" if what[:1].isdigit() and set(what) & set(':#!') else ''
+    return f"\nDid you mean {me} towers '{printable(what)}'?\n" if what[:1].isdigit() and set(what) & set(':#!') else ''
 
 
 def program(here: str) -> Optional[str]:
@@ -124,7 +130,7 @@ def on_screen(path: str, state: State, game: str, asked: Words) -> Optional[int]
         if not refusal:
             front.run()
     if refusal:
-        print(refusal, file=sys.stderr)
+        complain(refusal)
         return 3
     if not front.wants_lines:
         return 0

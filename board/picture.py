@@ -8,6 +8,7 @@ from typing import Iterator, List, NamedTuple, Optional, Tuple
 
 from board.board import GAMES, Board, Place
 from board.games import GRADES
+from board.hints import told as hints_told
 from board.layout import Layout, wanted
 
 
@@ -44,6 +45,8 @@ class Look(NamedTuple):
     trouble: str = ''
     #: Whether lines can be drawn by other characters than + - |.
     has_lines: bool = True
+    #: How many hints the game had.
+    hints: int = 0
 
 
 #: The corners and crossings of the grid by rows, then the line across and the one down.
@@ -104,7 +107,7 @@ def told(board: Board, look: Look, layout: Layout) -> str:
 
 def _told_of(board: Board, look: Look, layout: Layout) -> str:
     if board.is_solved:
-        return 'Solved!'
+        return f'Solved, {hints_told(look.hints)}.' if look.hints else 'Solved!'
     if board.is_full:
         return 'Full, but not right yet: ! shows what contradicts.'
     marks = board.marks.get(look.cursor) if look.cursor else None
@@ -188,7 +191,7 @@ def _clues(board: Board, layout: Layout, look: Look) -> Iterator[Piece]:
 
 def _texts_below(board: Board, layout: Layout, look: Look) -> Iterator[Piece]:
     between = f' {LINES[-1] if look.has_lines else "-"} '
-    words = [name(board), grade(board), state(board), 'PENCIL' if look.is_pencil else '', between.join(counts(board))]
+    words = [name(board), grade(board), state(board), hints_told(look.hints), 'PENCIL' if look.is_pencil else '', between.join(counts(board))]
     for gap in ('   ', '  ', ' '):
         title = gap.join(word for word in words if word)
         if len(title) < layout.columns:
@@ -212,7 +215,7 @@ def _texts_aside(board: Board, layout: Layout, look: Look, side: int) -> Iterato
 
 
 def _side_title(board: Board, look: Look) -> List[str]:
-    words = [name(board), grade(board), *counts(board), state(board), 'PENCIL' if look.is_pencil else '']
+    words = [name(board), grade(board), *counts(board), state(board), hints_told(look.hints), 'PENCIL' if look.is_pencil else '']
     return [word for word in words if word]
 
 

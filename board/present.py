@@ -5,7 +5,7 @@ from __future__ import annotations
 import time
 from typing import Optional, Protocol
 
-from board import files, texts
+from board import files, hints, texts
 from board.board import Board, Place, Reply
 from board.program import Gone, Program, Refused, Stopped, Waiting, save_to, started_with
 from board.state import NotKept, Shelf, State
@@ -41,6 +41,8 @@ class PresentGame:
         self._board: Optional[Board] = None
         self._saved = b''
         self._hinted: Optional[Reply] = None
+        #: How many hints the present game had.
+        self.hints = 0
 
     @property
     def has_game(self) -> bool:
@@ -109,14 +111,58 @@ class PresentGame:
             self.message = 'The board is full.' if self.board.is_full and reply.hint.kind == 'nothing' else texts.HINTS[reply.hint.kind]
             return None
         self._hinted = reply
+        self.hints += 1
+        self.state.keep_hints(self._of_hints())
         return reply.hint.square(self.board.size)
 
     def check(self) -> None:
         """Whether the numbers can still be completed."""
         self.message = ''
         reply = self.ask('completable')
-        if reply is not None and reply.completable:
-            self.message = texts.COMPLETABLE[reply.completable]
+        if reply is None or not reply.completable:
+            return
+        self.message = texts.COMPLETABLE[reply.completable]
+        if reply.completable == 'none':
+            moves = self._undone_until_completable()
+            if moves:
+                self._repeat('redo', moves)
+                self.message = texts.since(moves, self.ways)
+
+    def back(self) -> None:
+        """Undoes until the numbers can be completed."""
+        self.message = ''
+        reply = self.ask('completable')
+        if reply is None or not reply.completable:
+            return
+        if reply.completable != 'none':
+            self.message = texts.CAN_BE_COMPLETED
+            return
+        moves = self._undone_until_completable()
+        if moves:
+            self._look()
+            self._keep()
+            self.message = texts.gone_back(moves)
+        elif moves == 0:
+            self.message = texts.NEVER
+
+    def _undone_until_completable(self) -> Optional[int]:
+        """How many moves were undone; 0 where the numbers never could be completed, and nothing where that wasn't told: then the board is as it was."""
+        for moves in range(1, self.board.session.position):
+            reply = self.ask('undo') and self.ask('completable')
+            if reply is None or reply.completable is None:
+                # The program may have been started again, with the game as it was kept.
+                if reply is not None:
+                    self._repeat('redo', moves)
+                return None
+            if reply.completable != 'none':
+                return moves
+        self._repeat('redo', self.board.session.position - 1)
+        return 0
+
+    def _repeat(self, line: str, times: int) -> None:
+        for _ in range(times):
+            if self.ask(line) is None:
+                return
 
     # --- files ---
 
@@ -142,7 +188,10 @@ class PresentGame:
             self._program.stop()
         self.state.release()
 
-    def _take(self, program: Program, shelf: Shelf) -> None:
+    def _of_hints(self) -> bytes:
+        return hints.content_of(self.hints, self.board.session.id)
+
+    def _take(self, program: Program, shelf: Shelf, of_hints: bytes = b'') -> None:
         if self._program:
             self._program.stop()
         self._program = program
@@ -152,6 +201,8 @@ class PresentGame:
         self._board = program.first.board
         self.message = shelf.told
         self.state.take(shelf)
+        self.hints = hints.count_in(of_hints, self.board.session.id)
+        self.state.keep_hints(self._of_hints())
         self._keep()
 
     def _look(self) -> None:

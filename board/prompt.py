@@ -8,6 +8,8 @@ import signal
 import termios
 from typing import Optional
 
+from board.printable import printable
+
 try:
     import readline
 except ImportError:
@@ -37,6 +39,7 @@ class Prompt:
 
     def read(self, text: str) -> Optional[str]:
         """A line; nothing at the end of the input."""
+        text = printable(text)
         self._text = text
         while True:
             self._is_reading = True

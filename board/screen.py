@@ -15,6 +15,7 @@ from typing import Deque, Dict, List, Mapping, NamedTuple, Optional, Tuple, Unio
 from collections import deque
 
 from board.picture import Piece, Style
+from board.printable import printable
 
 #: The keys that are no characters, by the names that `keys` knows.
 NAMES: Dict[int, str] = {
@@ -258,8 +259,7 @@ class Screen:
     def _shown(self, text: str) -> str:
         """The text as this terminal can show it."""
         encoding = 'utf-8' if self.has_lines else 'ascii'
-        printable = ''.join(character if character.isprintable() else '?' for character in text)
-        return printable.encode(encoding, 'replace').decode(encoding)
+        return printable(text).encode(encoding, 'replace').decode(encoding)
 
     def _note_end(self, number: int, _: object) -> None:
         self._ended = number

@@ -12,7 +12,7 @@ import re
 import time
 from typing import Container, Iterable, List, Mapping, NamedTuple, Optional, Set
 
-from board import files
+from board import files, hints
 
 #: How many games that were put away are kept.
 OLD_GAMES = 10
@@ -66,6 +66,8 @@ class Shelf(NamedTuple):
     slot: Optional[Slot]
     #: The game that is kept there, if one is.
     kept: Optional[bytes]
+    #: What is kept of its hints.
+    hints: bytes = b''
     #: A sentence for each file that was passed over, since it can't be read; and why no file can be had, where none can.
     told: str = ''
     why: str = ''
@@ -102,7 +104,7 @@ class State:
             if shelf.why and os.path.lexists(path):
                 passed.append(f'{path} {shelf.why}')
         why = f'nothing can be written to {self._folder} ({reason})' if reason else 'no file is left for one more game of this kind'
-        return Shelf(None, None, _told(passed), why)
+        return Shelf(None, None, told=_told(passed), why=why)
 
     def take(self, shelf: Shelf) -> None:
         """Keeps the present game there from here on."""
@@ -121,11 +123,21 @@ class State:
             raise NotKept(self.shelf.why)
         _keep(self.shelf.slot.path, content)
 
+    def keep_hints(self, content: bytes) -> None:
+        """Keeps how many hints the present game had, which is no harm where that can't be done."""
+        if self.shelf.slot is None:
+            return
+        path = hints.file_of(self.shelf.slot.path)
+        with contextlib.suppress(OSError):
+            if content:
+                files.replace(path, content)
+            elif os.path.lexists(path):
+                os.unlink(path)
+
     def drop(self) -> None:
         """The present game is no longer kept: it was put away."""
         if self.shelf.slot:
-            with contextlib.suppress(OSError):
-                os.unlink(self.shelf.slot.path)
+            _unlink(self.shelf.slot.path)
 
     def release(self) -> None:
         """Leaves the present game where it is, for any window to go on with."""
@@ -134,8 +146,8 @@ class State:
 
     # --- games that were put away ---
 
-    def put_away(self, game: str, content: bytes) -> None:
-        """Keeps a game among the last ten; the eleventh that can be read goes."""
+    def put_away(self, game: str, content: bytes, of_hints: bytes = b'') -> None:
+        """Keeps a game among the last ten, with what is kept of its hints; the eleventh that can be read goes."""
         if self._folder is None:
             raise NotKept(NO_FOLDER)
         # Their names are in the order in which they were put away, whatever the clock does.
@@ -148,6 +160,8 @@ class State:
             files.make_folder(self._old_folder())
             while not files.make(os.path.join(self._old_folder(), f'{stamp}-{number:03}-{game}.sav'), content):
                 number += 1
+            if of_hints:
+                files.make(os.path.join(self._old_folder(), f'{stamp}-{number:03}-{game}.hints'), of_hints)
         except files.NoFile as other:
             raise NotKept(f'{self._old_folder()} {other}') from other
         except OSError as error:
@@ -168,8 +182,7 @@ class State:
 
     def forget(self, old: OldGame) -> None:
         """It is a present game again, or one too many."""
-        with contextlib.suppress(OSError):
-            os.unlink(old.path)
+        _unlink(old.path)
 
     # --- stored puzzles ---
 
@@ -227,12 +240,19 @@ def _shelf(path: str) -> Shelf:
     if found.is_closed:
         os.close(lock)
         return Shelf(None, None, why=found.why)
-    return Shelf(Slot(path, lock), found.content if found.kind is files.Kind.READ else None)
+    return Shelf(Slot(path, lock), found.content if found.kind is files.Kind.READ else None, files.read(hints.file_of(path)).content)
 
 
 def _told(passed: List[str], then: str = '') -> str:
     """The sentence on files that were passed over."""
     return f"{'; '.join(passed)}: what can't be read stays as it is{then}." if passed else ''
+
+
+def _unlink(path: str) -> None:
+    """Takes a kept game away, and what is kept of its hints."""
+    for name in (path, hints.file_of(path)):
+        with contextlib.suppress(OSError):
+            os.unlink(name)
 
 
 def _keep(path: str, content: bytes) -> None:

@@ -6,7 +6,7 @@ import os
 from functools import partial
 from typing import Callable, Optional, Tuple
 
-from board import files, games, texts
+from board import files, games, hints, texts
 from board.board import GAMES
 from board.present import PresentGame
 from board.program import Gone, Program, Refused, Stopped, started_with
@@ -36,7 +36,7 @@ class Table(PresentGame):
         try:
             if shelf.kept is not None:
                 try:
-                    self._take(started_with(self.path, game, shelf.kept, self.waiting()), shelf)
+                    self._take(started_with(self.path, game, shelf.kept, self.waiting()), shelf, shelf.hints)
                     return
                 except Refused as refused:
                     shelf, told = self._past_damaged(game, shelf, texts.of_save(str(refused), game))
@@ -51,8 +51,8 @@ class Table(PresentGame):
         """Begins the puzzle of an ID."""
         return self._begin(game, partial(Program, self.path, game, ['--id', id]), texts.of_id)
 
-    def open(self, game: str, file: str) -> bool:
-        """Goes on with a saved game; where it is the other game's, with that."""
+    def open(self, game: str, file: str, of_hints: bytes = b'') -> bool:
+        """Goes on with a saved game; where it is the other game's, with that. What is kept of its hints is told."""
         found = files.read(file)
         if found.is_closed:
             self.message = texts.of_save('TooLarge', game) if found.kind is files.Kind.TOO_LARGE else f'{file} {found.why}.'
@@ -61,20 +61,22 @@ class Table(PresentGame):
             # Of a file that isn't there the program itself has a sentence.
             is_absent = found.kind is files.Kind.ABSENT
             start = partial(Program, self.path, word, ['--load', file]) if is_absent else partial(started_with, self.path, word, found.content)
-            if self._begin(word, start, texts.of_save):
+            if self._begin(word, start, texts.of_save, of_hints):
                 return True
             if self.message != texts.of_save('WrongGame', word):
-                break
+                return False
+        # It is of neither game.
+        self.message = texts.of_foreign(found.content) or self.message
         return False
 
     def open_old(self, old: OldGame) -> bool:
         """Goes on with one of the last ten games."""
-        done = self.open(old.game, old.path)
+        done = self.open(old.game, old.path, files.read(hints.file_of(old.path)).content)
         if done and not self.trouble:
             self.state.forget(old)
         return done
 
-    def _begin(self, game: str, start: Callable[..., Program], sentence: Callable[[str, str], str]) -> bool:
+    def _begin(self, game: str, start: Callable[..., Program], sentence: Callable[[str, str], str], of_hints: bytes = b'') -> bool:
         self.message = ''
         try:
             program = start(waiting=self.waiting())
@@ -91,7 +93,7 @@ class Table(PresentGame):
         if shelf is None:
             program.stop()
             return False
-        self._take(program, shelf)
+        self._take(program, shelf, of_hints)
         return True
 
     def _stored(self, game: str) -> Program:
@@ -105,7 +107,7 @@ class Table(PresentGame):
     def _past_damaged(self, game: str, shelf: Shelf, why: str) -> Tuple[Shelf, str]:
         """Where a new game is kept though a kept one is no save, and a sentence on that one: it is put away, or stays where it is."""
         try:
-            self.state.put_away(game, shelf.kept or b'')
+            self.state.put_away(game, shelf.kept or b'', shelf.hints)
             return shelf, f"The game that was kept is put away, as it can't be read: {why}"
         except NotKept as reason:
             shelf.release()
@@ -115,23 +117,23 @@ class Table(PresentGame):
     def _room_for(self, game: str) -> Optional[Shelf]:
         """Where a game is kept that begins now: the present one is put away, and what is kept there. Nothing where the present game is to stay."""
         before = self._board.session.game if self._board else ''
-        if before and not self._put_away(before, self._saved):
+        if before and not self._put_away(before, self._saved, self._of_hints()):
             return None
         if before == game:
             return self.state.shelf
         shelf = self.state.claim(game)
-        if shelf.kept is not None and not self._put_away(game, shelf.kept):
+        if shelf.kept is not None and not self._put_away(game, shelf.kept, shelf.hints):
             shelf.release()
             return None
         self.state.drop()
         return shelf
 
-    def _put_away(self, game: str, content: bytes) -> bool:
+    def _put_away(self, game: str, content: bytes, of_hints: bytes) -> bool:
         """False where that can't be done, and the game is to stay. A game in which nothing was done needn't be kept."""
         if content.startswith(texts.SAVE_BEGINS) and content.count(STATES) == 1 and content.endswith(UNTOUCHED):
             return True
         try:
-            self.state.put_away(game, content)
+            self.state.put_away(game, content, of_hints)
             return True
         except NotKept as reason:
             if self._front.confirm(f"The present game can't be put away ({reason}). Lose it?"):

@@ -8,8 +8,9 @@ from typing import Dict, Mapping, NamedTuple
 from board.board import GAMES
 from board.games import GRADES
 
-#: How each save begins.
+#: How each save begins; and the record that names its game, up to the length of the name.
 SAVE_BEGINS = b'SAVEFILE:41:'
+GAME_RECORD = re.compile(rb'^GAME    :([0-9]{1,3}):', re.MULTILINE)
 
 
 class Ways(NamedTuple):
@@ -19,10 +20,11 @@ class Ways(NamedTuple):
     number: str
     done: str
     commands: str
+    back: str
 
 
-BY_KEYS = Ways('0 clears it', "a digit on a square, or ':move R2,0,3'", "'D0,-1', and a clue must be there", '? shows the keys')
-BY_LINES = Ways("'x y 0' clears it", "type column, row, number: '2 0 3', or 'p 2 0 3'", "'d 0 -1', and a clue must be there", "'help' lists them all")
+BY_KEYS = Ways('0 clears it', "a digit on a square, or ':move R2,0,3'", "'D0,-1', and a clue must be there", '? shows the keys', 'b')
+BY_LINES = Ways("'x y 0' clears it", "type column, row, number: '2 0 3', or 'p 2 0 3'", "'d 0 -1', and a clue must be there", "'help' lists them all", "'back'")
 
 #: A move, in SIZE squares by SIZE. What the front end says of its ways is put in.
 MOVES: Dict[str, str] = {
@@ -109,6 +111,9 @@ COMPLETABLE = {
     'several': 'These numbers can still be completed, in several ways.',
 }
 
+CAN_BE_COMPLETED = 'These numbers can still be completed: there is nothing to take back.'
+NEVER = "Not even the board at the start can be completed: there is nothing to go back to."
+
 STOPPED = 'Stopped; nothing has changed.'
 LOST = 'There is no memory left: the program did that or refused it, and could not say which.'
 
@@ -127,11 +132,29 @@ def of_line(line: str, name: str, game: str, size: int, ways: Ways) -> str:
     return found.format(name=name, size=size, last=size - 1, clear=ways.clear, number=ways.number)
 
 
+def since(moves: int, ways: Ways) -> str:
+    """Where the numbers can't be completed, but could be before so many moves."""
+    which, them = ('the last move', 'it') if moves == 1 else (f'the last {moves} moves', 'them')
+    return f"These numbers can't be completed since {which}: {ways.back} takes {them} back."
+
+
+def gone_back(moves: int) -> str:
+    """What was done, where so many moves were taken back."""
+    return f'{"One move" if moves == 1 else f"{moves} moves"} back, where the numbers could be completed; redo brings what came after.'
+
+
 def of_id(name: str, game: str) -> str:
     """What there is to say where an ID is refused."""
     *first, last = GRADES[game]
     found = IDS.get(name) or LINES.get(name) or DESCRIPTIONS[game].get(name) or 'The program refuses that ID: {name}.'
     return found.format(name=name, letters=f'{", ".join(first)} or {last}')
+
+
+def of_foreign(content: bytes) -> str:
+    """What there is to say of a save of a third game; nothing where it doesn't say of which."""
+    found = GAME_RECORD.search(content)
+    name = content[found.end() : found.end() + int(found[1])].decode('ascii', 'replace') if found else ''
+    return f'That is a save of {name}, which is not played here.' if name else ''
 
 
 def of_save(name: str, game: str) -> str:

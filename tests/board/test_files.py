@@ -93,7 +93,7 @@ def test_refused_saves(front: BoardFront, room: Room) -> None:
         window.look('o0FOLDER/edited.sav<enter>', ['A save has 16,777,216 bytes at most.'])
         window.look('o0FOLDER/no.sav<enter>', ['The program says'])
         room.put('edited.sav', SAVE.replace(b'GAME    :6:Towers', b'GAME    :5:Chess'))
-        window.look('o0FOLDER/edited.sav<enter>', ['That save is of another game'])
+        window.look('o0FOLDER/edited.sav<enter>', ['That is a save of Chess, which is not played here.'])
 
 
 def test_last_ten(front: BoardFront, room: Room) -> None:

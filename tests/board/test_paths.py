@@ -161,7 +161,7 @@ def test_marks(front: BoardFront, room: Room) -> None:
         window.press('q')
         assert window.status() == 0, 'the status'
     with front.window(['--lines', 'towers', ID], LOW) as window:
-        window.look('new 4<enter>', ['To play it again: new 4d', told])
+        window.look('new 4<enter>', ['new 4d', told])
         window.press('q<enter>')
         assert window.status() == 0, 'in lines: the status'
     assert known(room, path) == before, 'what was there'
