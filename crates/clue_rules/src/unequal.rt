@@ -12,7 +12,6 @@ mod game;
 mod item;
 mod lines;
 mod pieces;
-mod reasons;
 mod rules;
 mod sign;
 

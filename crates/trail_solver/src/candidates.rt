@@ -190,14 +190,6 @@ impl Candidates {
         }
     }
 
-    // Gives back what a square lost last, and tells it, if anything was removed.
-    pub(crate) fn give_back_last(&mut self) -> Option<Removal> {
-        let last = *self.removals.last()?;
-        let kept = self.trail_len().saturating_sub(last.values.len() as usize);
-        self.give_back(Mark { len: kept });
-        Some(last)
-    }
-
     /// The pairs that were removed, one by one.
     pub fn trail(&self) -> Trail
         ensures { result ≡ self.now }
