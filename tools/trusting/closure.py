@@ -65,7 +65,7 @@ class Closure:
 
     def _cite(self, by: Part, source: Source) -> None:
         module, name = source
-        rest = module.split('.')[2:]
+        _, crate, *rest = module.split('.')
         if rest[:2] == ['specs', 'declared']:
             owner = rest[-2] if rest[-1] == 'TheVariants' else rest[-1]
             if owner == 'TheConstants':

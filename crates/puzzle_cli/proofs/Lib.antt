@@ -23,5 +23,4 @@ pub mod SaveReplies
 pub mod SeededReplies
 pub mod LinesAnswered
 pub mod PlainReplies
-pub mod CommandLines
 pub mod UnplayedGames

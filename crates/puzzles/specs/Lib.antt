@@ -1,4 +1,3 @@
--- What the contracts of this crate cite: how the program ends, the name that it is called by, and all of it, from its words on.
+-- What the contracts of this crate cite: how the program ends, and the name that it is called by.
 pub mod Endings
 pub mod Names
-pub mod WholePrograms

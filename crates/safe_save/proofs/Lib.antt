@@ -1,5 +1,4 @@
 mod Crashes
 mod Growth
 mod Moments
-mod Readers
 mod Touching

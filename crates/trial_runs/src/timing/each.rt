@@ -19,18 +19,12 @@ pub(crate) fn answer_each<R: Clock + Alloc<A = Global> + Input + Print>(
     task: Task,
 ) -> io::Result<()> {
     for line in rt.lines(rt.alloc()) {
-        answer_line(rt, task, line?.as_str())?;
+        let line = line?;
+        let line = line.as_str();
+        match timing_of_line(rt, task, line, SITTING)? {
+            Some(timing) => println!(rt; "{} {}", timing.nanoseconds, timing.solutions)?,
+            None => println!(rt; "cannot read {line}")?,
+        }
     }
     Ok(())
-}
-
-fn answer_line<R: Clock + Alloc<A = Global> + Print>(
-    rt: &R,
-    task: Task,
-    line: &str,
-) -> io::Result<()> {
-    match timing_of_line(rt, task, line, SITTING)? {
-        Some(timing) => println!(rt; "{} {}", timing.nanoseconds, timing.solutions),
-        None => println!(rt; "cannot read {line}"),
-    }
 }

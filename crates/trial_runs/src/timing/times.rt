@@ -47,11 +47,12 @@ impl Times {
                 return Ok(());
             }
         }
-        let nanoseconds = Vec::from_slice(alloc, &[nanoseconds])?;
-        self.rows.push(Row {
+        let mut row = Row {
             subject,
-            nanoseconds,
-        })?;
+            nanoseconds: Vec::new(alloc),
+        };
+        row.nanoseconds.push(nanoseconds)?;
+        self.rows.push(row)?;
         Ok(())
     }
 

@@ -1,2 +1,0 @@
--- Lemmas on the program as one expression.
-pub mod WholeGames
