@@ -65,7 +65,7 @@ class Closure:
 
     def _cite(self, by: Part, source: Source) -> None:
         module, name = source
-        _, crate, *rest = module.split('.')
+        rest = module.split('.')[2:]
         if rest[:2] == ['specs', 'declared']:
             owner = rest[-2] if rest[-1] == 'TheVariants' else rest[-1]
             if owner == 'TheConstants':

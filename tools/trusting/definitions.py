@@ -59,7 +59,8 @@ def imports(text: str) -> Dict[str, Source]:
 
 def blocks(text: str) -> Iterator[Tuple[int, str]]:
     """The parts of a text between empty lines, each with the number of its first line."""
-    first, lines = 0, []  # type: int, List[str]
+    first = 0
+    lines: List[str] = []
     for number, line in enumerate(text.splitlines() + [''], 1):
         if line.strip():
             first, lines = first if lines else number, lines + [line]
