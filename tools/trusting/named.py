@@ -9,7 +9,7 @@ from trusting.contracts import Function, Rust
 from trusting.definitions import ROOT
 
 #: What both names of the program call: the file and the function.
-WHOLE = ('crates/puzzles/src/whole_game.rt', 'play_words')
+WHOLE = ('crates/puzzles/src/whole_game.rt', 'program')
 
 #: The document, and its heading below which each item is a crate.
 PROMISES = ROOT / 'docs' / 'PROMISES.md'

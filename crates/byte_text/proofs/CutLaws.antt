@@ -1,8 +1,8 @@
 -- Where a text is cut: its parts, a cut at a known separator, and the pieces between separators.
-use Rattle.std.proofs.Common.{◌≡◌, ◌≢◌, ◌∙◌, ℕ, ◌+◌, ◌-◌, ◌<◌, ◌≤◌, true, false, List, [], ◌∷◌, ◌++◌, length, take, drop, Some, None, ◌==◌, nat_lt, cond, refl, sym, ap, subst, arith, length-append, take_all}
+use Rattle.std.proofs.Common.{◌≡◌, ◌≢◌, ◌∙◌, ℕ, ◌+◌, ◌-◌, ◌<◌, ◌≤◌, List, [], ◌∷◌, ◌++◌, length, take, drop, Some, None, ◌==◌, nat_lt, refl, sym, ap, subst, arith, length-append, take_all}
 use Rattle.std.proofs.Math.Seq.{drop-append-add}
 use Rattle.std.specs.List.{AllByRecursion, join_with_byte, slice_split, position, position_or_len, after_first}
-use Rattle.std.proofs.lemmas.Bool.{eqb-true, eqb-false, eq-eqb, ne_eqb, ltb-true, ltb-false, lt-ltb, le-ltb}
+use Rattle.std.proofs.lemmas.Bool.{cond_both, eqb-true, eqb-false, eq-eqb, ne_eqb, ltb-true, ltb-false, lt-ltb, le-ltb}
 use Rattle.std.proofs.lemmas.Bool.Decides.{nat_tests}
 use Rattle.std.proofs.lemmas.Grind.{common_steps}
 use Rattle.std.proofs.lemmas.List.{take_at}
@@ -24,10 +24,8 @@ found c bs rest cut =
 
 missing : (c : ℕ) (bs : List ℕ) → behind c bs ≡ None → length bs ≤ place c bs
 missing c bs =
-    elim (nat_lt (place c bs) (length bs)) as (λ t. nat_lt (place c bs) (length bs) ≡ t → cond t (Some (after_first (λ b. b == c) bs)) None ≡ None → length bs ≤ place c bs) [
-      | true ↦ λ is none. cc
-      | false ↦ λ is none. ltb-false (place c bs) (length bs) is
-    ] refl
+    cond_both (nat_lt (place c bs) (length bs)) (Some (after_first (λ b. b == c) bs)) None (λ rest. rest ≡ None → length bs ≤ place c bs)
+    (λ is none. cc) (λ is none. ltb-false (place c bs) (length bs) is)
 
 -- no separator is left before the cut
 pub lacks_before : (c : ℕ) (bs : List ℕ) → Lacks c (before c bs)

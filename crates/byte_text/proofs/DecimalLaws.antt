@@ -1,9 +1,11 @@
 -- Decimal numbers without leading zeros: what is read is std's `decimal` of the number, and `decimal` is read.
-use Rattle.std.proofs.Common.{◌≡◌, ◌≢◌, ℕ, ◌+◌, ◌-◌, ◌*◌, ◌^◌, ◌<◌, ◌≤◌, Bool, true, false, ◌&&◌, nat_le, List, [], ◌∷◌, length, get_or, Option, Some, None, option_and_then, ◌==◌, cond, refl, sym, ap, ◌∙◌, arith, rules, IfSome}
+use Rattle.std.proofs.Common.{◌≡◌, ◌≢◌, ℕ, ◌+◌, ◌-◌, ◌*◌, ◌^◌, ◌<◌, ◌≤◌, Bool, true, false, ◌&&◌, List, [], ◌∷◌, length, get_or, Option, Some, None, inl, inr, refl, sym, ap, ◌∙◌, arith, rules, IfSome}
 use Rattle.std.specs.Fmt.{decimal}
 use Rattle.std.proofs.lemmas.Str.Parse.{IsNumeralModel, numerals_by_fold}
 use Rattle.std.proofs.lemmas.Fmt.{decimal-digits_value, digits_decimal, digits_value-decimal, decimal_nonempty, first_decimal, decimal_digit}
-use borrow.Author.Tests.{eqb-true, eqb-false, leb-true, le-leb, apart_eqb}
+use borrow.Author.Tests.{eqb-false, leb-true, le-leb, apart_eqb}
+use Rattle.std.proofs.lemmas.Bool.{and_parts, cases_eq, cond_both}
+use Rattle.std.proofs.lemmas.Option.{cond_some, option_and_then_some}
 use Rattle.byte_text.specs.Bytes.{digit}
 use Rattle.byte_text.specs.Cuts.{Lacks}
 use Rattle.byte_text.specs.Decimals.{is_digit, digit_onto, number_from, has_leading_zero, decimal_value}
@@ -23,14 +25,9 @@ own = numerals_by_fold _ (search rules) value_onto (search rules)
 
 -- one more digit
 digit_onto_taken : (greatest n b m : ℕ) → digit_onto greatest n b ≡ Some m → (is_digit b ≡ true) × (m ≡ n * 10 + (b - 48)) × (m ≤ greatest)
-digit_onto_taken greatest n b m =
-    elim (is_digit b) as (λ t. cond (t && nat_le (n * 10 + (b - 48)) greatest) (Some (n * 10 + (b - 48))) None ≡ Some m → (t ≡ true) × (m ≡ n * 10 + (b - 48)) × (m ≤ greatest)) [
-      | true ↦ elim (nat_le (n * 10 + (b - 48)) greatest) as (λ t. nat_le (n * 10 + (b - 48)) greatest ≡ t → cond t (Some (n * 10 + (b - 48))) None ≡ Some m → (true ≡ true) × (m ≡ n * 10 + (b - 48)) × (m ≤ greatest)) [
-        | true ↦ λ within read. let e : m ≡ n * 10 + (b - 48) = cc in (refl, e, rw e (leb-true _ _ within))
-        | false ↦ λ above read. cc
-      ] refl
-      | false ↦ λ read. cc
-    ]
+digit_onto_taken greatest n b m read =
+    let (fits, is) = cond_some _ (n * 10 + (b - 48)) m read in
+    let (digit, within) = and_parts _ _ fits in (digit, sym is, omega (arith, is, leb-true _ _ within))
 
 digit_onto_again : (greatest n b : ℕ) → is_digit b ≡ true → n * 10 + (b - 48) ≤ greatest
     → digit_onto greatest n b ≡ Some (n * 10 + (b - 48))
@@ -40,32 +37,19 @@ digit_onto_again greatest n b digit within = rw (digit, le-leb _ _ within) refl
 from_taken : (greatest n m : ℕ) (bs : List ℕ) → n ≤ greatest → number_from greatest n bs ≡ Some m
     → (all_digits bs ≡ true) × (value_onto n bs ≡ m) × (m ≤ greatest)
 from_taken greatest n m [] = λ within read. let e : n ≡ m = cc in (refl, e, omega arith)
-from_taken greatest n m (b ∷ bs) =
-    elim (digit_onto greatest n b) as (λ o. digit_onto greatest n b ≡ o → n ≤ greatest → option_and_then (λ k. number_from greatest k bs) o ≡ Some m → (all_digits (b ∷ bs) ≡ true) × (value_onto n (b ∷ bs) ≡ m) × (m ≤ greatest)) [
-      | None ↦ λ is within read. cc
-      | Some k ↦ λ is within read.
-          let one = digit_onto_taken greatest n b k is in
-          let more = from_taken greatest k m bs one.2 read in
-          let digits : (is_digit b && all_digits bs) ≡ true = rw (one.0, more.0) refl in
-          let value : value_onto (n * 10 + (b - 48)) bs ≡ m = ap (λ x. value_onto x bs) (sym one.1) ∙ more.1 in
-          (digits, value, more.2)
-    ] refl
+from_taken greatest n m (b ∷ bs) = λ within read. option_and_then_some _ (digit_onto greatest n b) m read (λ k one rest.
+    let (digit, is, low) = digit_onto_taken greatest n b k one in
+    let (digits, value, below) = from_taken greatest k m bs low rest in
+    (rw (digit, digits) refl, ap (λ x. value_onto x bs) (sym is) ∙ value, below))
 
 value_onto_ge : (n : ℕ) (bs : List ℕ) → n ≤ value_onto n bs
 value_onto_ge n [] = omega arith
 value_onto_ge n (b ∷ bs) = omega (arith, value_onto_ge (n * 10 + (b - 48)) bs)
 
-all_digits_first : (b : ℕ) (bs : List ℕ) → all_digits (b ∷ bs) ≡ true → (is_digit b ≡ true) × (all_digits bs ≡ true)
-all_digits_first b bs =
-    elim (is_digit b) as (λ t. (t && all_digits bs) ≡ true → (t ≡ true) × (all_digits bs ≡ true)) [
-      | true ↦ λ digits. (refl, digits)
-      | false ↦ λ digits. cc
-    ]
-
 digits_lack : (c : ℕ) (bs : List ℕ) → is_digit c ≡ false → all_digits bs ≡ true → Lacks c bs
 digits_lack c [] other digits = tt
 digits_lack c (b ∷ bs) other digits =
-    let parts = all_digits_first b bs digits in
+    let parts = and_parts (is_digit b) (all_digits bs) digits in
     (λ same. let digit : is_digit c ≡ true = ap is_digit (sym same) ∙ parts.0 in cc, digits_lack c bs other parts.1)
 
 -- digits are read, up to the greatest number
@@ -73,7 +57,7 @@ from_again : (greatest n : ℕ) (bs : List ℕ) → all_digits bs ≡ true → v
     → number_from greatest n bs ≡ Some (value_onto n bs)
 from_again greatest n [] digits within = refl
 from_again greatest n (b ∷ bs) digits within =
-    let parts = all_digits_first b bs digits in
+    let parts = and_parts (is_digit b) (all_digits bs) digits in
     let fits : n * 10 + (b - 48) ≤ greatest = omega (arith, value_onto_ge (n * 10 + (b - 48)) bs, within) in
     rw (digit_onto_again greatest n b parts.0 fits) (from_again greatest (n * 10 + (b - 48)) bs parts.1 within)
 
@@ -89,30 +73,26 @@ no_leading_zero (b ∷ []) other = refl
 no_leading_zero (b ∷ c ∷ bs) other = apart_eqb b 48 other
 
 decimal_no_leading_zero : (m : ℕ) → m < 2 ^ 64 → has_leading_zero (decimal m) ≡ false
-decimal_no_leading_zero m fits =
-    elim (m == 0) as (λ t. (m == 0) ≡ t → has_leading_zero (decimal m) ≡ false) [
-      | true ↦ λ zero. rw (eqb-true m 0 zero, decimal_digit 0 (omega arith)) refl
-      | false ↦ λ other.
-          let positive : 0 < m = let apart = eqb-false m 0 other in omega arith in
-          let first = first_decimal m positive fits in
-          no_leading_zero (decimal m) (λ e. absurd (omega arith))
-    ] refl
+decimal_no_leading_zero m fits = elim (cases_eq m 0) [
+  | inl zero ↦ rw (zero, decimal_digit 0 (omega arith)) refl
+  | inr other ↦
+      let positive : 0 < m = omega arith in
+      let first = first_decimal m positive fits in no_leading_zero (decimal m) (λ e. absurd (omega arith))
+]
 
 -- what is read is written so
 pub number_taken : (greatest m : ℕ) (bs : List ℕ) → greatest < 2 ^ 64 → decimal_value greatest bs ≡ Some m
     → (bs ≡ decimal m) × (m ≤ greatest)
 unfolding decimal_value
 number_taken greatest m [] = λ fits read. cc
-number_taken greatest m (b ∷ bs) =
-    elim (has_leading_zero (b ∷ bs)) as (λ t. has_leading_zero (b ∷ bs) ≡ t → greatest < 2 ^ 64 → cond t None (number_from greatest 0 (b ∷ bs)) ≡ Some m → (b ∷ bs ≡ decimal m) × (m ≤ greatest)) [
-      | true ↦ λ zero fits read. cc
-      | false ↦ λ none fits read.
-          let taken = from_taken greatest 0 m (b ∷ bs) (omega arith) read in
-          let value : value_onto 0 (b ∷ bs) ≡ m = taken.1 in
-          let below : value_onto 0 (b ∷ bs) < 2 ^ 64 = rw value (omega (arith, taken.2)) in
-          let written = decimal-digits_value own (b ∷ bs) taken.0 (omega arith) (single_zero (b ∷ bs) none) below in
-          (sym written ∙ ap decimal value, taken.2)
-    ] refl
+number_taken greatest m (b ∷ bs) = λ fits.
+    cond_both (has_leading_zero (b ∷ bs)) None (number_from greatest 0 (b ∷ bs)) (λ read. read ≡ Some m → (b ∷ bs ≡ decimal m) × (m ≤ greatest))
+    (λ zero read. cc)
+    (λ none read.
+    let (digits, value, within) = from_taken greatest 0 m (b ∷ bs) (omega arith) read in
+    let below : value_onto 0 (b ∷ bs) < 2 ^ 64 = omega (arith, value, within) in
+    let written = decimal-digits_value own (b ∷ bs) digits (omega arith) (single_zero (b ∷ bs) none) below in
+    (sym written ∙ ap decimal value, within))
 
 number_of_digits : (greatest : ℕ) (bs : List ℕ) → 0 < length bs → has_leading_zero bs ≡ false
     → decimal_value greatest bs ≡ number_from greatest 0 bs

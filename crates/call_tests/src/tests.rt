@@ -17,6 +17,7 @@ mod seeded_games;
 mod sessions;
 mod sets_of_numbers;
 mod texts;
+mod third_game;
 mod towers_lines;
 mod towers_puzzles;
 mod towers_texts;

@@ -1,4 +1,4 @@
-//! A client of the library, written from its public calls alone: a third game, a source and a sink of its own, and, in the tests, a
+//! A client of the library, written from its public calls alone: a third game, and a source and a sink of its own. `call_tests` has a
 //! session that goes through the calls.
 //!
 //! The game is plain: a Latin square of which some numbers are given. docs/THIRD_GAME.md explains what each of its members owes.
@@ -14,8 +14,6 @@
 mod latin;
 mod sheet;
 mod tape;
-#[cfg(test)]
-mod tests;
 
 pub use latin::Latin;
 pub use sheet::Sheet;

@@ -1,7 +1,6 @@
 -- An item is denied: a given goes from the candidates of its square, and a sign is turned round.
-use Rattle.std.proofs.Common.{◌≡◌, ◌≢◌, ℕ, zero, ◌+◌, ◌-◌, ◌*◌, ◌<◌, ◌≤◌, ◌⊎◌, Bool, true, false, not, List, set, length, Option, Some, None, refl, sym, ap, subst, ◌∙◌, inl, inr, arith, ◌==◌, slice_index}
-use Rattle.std.specs.Option.{option_map_or}
-use Rattle.std.proofs.lemmas.Bool.{lt-ltb, cases_lt, cases_eq, and_parts, and_from, eq-eqb, ne_eqb}
+use Rattle.std.proofs.Common.{◌≡◌, ◌≢◌, ℕ, zero, ◌+◌, ◌-◌, ◌*◌, ◌<◌, ◌≤◌, ◌⊎◌, Bool, true, false, not, List, set, length, refl, sym, ap, subst, ◌∙◌, inl, inr, arith, ◌==◌, slice_index}
+use Rattle.std.proofs.lemmas.Bool.{lt-ltb, cases_lt, cases_eq, eq-eqb, ne_eqb}
 use Rattle.std.proofs.lemmas.List.{get_or-set_same, get_or-set_other}
 use Rattle.latin_board.specs.Squares.{GridValue, IsGrid, IsLatin, number_at}
 use Rattle.latin_board.proofs.LatinLines.{line_differs}
@@ -11,8 +10,6 @@ use Rattle.trail_solver.specs.Puzzles.{Solves}
 use Rattle.trail_solver.specs.Solutions.{Denies}
 use Rattle.trail_solver.proofs.OneKept.{removed_earlier}
 use Rattle.trail_solver.proofs.SearchSteps.{within_removed}
-use Rattle.clue_rules.specs.declared.unequal.direction.Direction.{Direction}
-use Rattle.clue_rules.specs.declared.unequal.direction.Direction.TheVariants.{Right, Down}
 use Rattle.clue_rules.specs.declared.unequal.item.Item.{Item}
 use Rattle.clue_rules.specs.declared.unequal.item.Item.TheVariants.{RightSign, LowerSign, Given}
 use Rattle.clue_rules.specs.declared.unequal.sign.Sign.{Sign}
@@ -21,11 +18,10 @@ use Rattle.clue_rules.specs.Items.{kept_items}
 use Rattle.clue_rules.specs.Inner.Narrowing.{KeepsEach}
 use Rattle.clue_rules.specs.Inner.UnequalItems.{denied_item, item_cell, turned_sign, without_item}
 use Rattle.clue_rules.specs.Towers.{TowersValue, IsTowers, cut_towers, towers_puzzle}
-use Rattle.clue_rules.specs.Unequal.{UnequalValue, IsUnequal, holds_sign, holds_signs, holds_towards, lower_sign, neighbour, right_sign, sign_between, unequal_puzzle}
+use Rattle.clue_rules.specs.Unequal.{UnequalValue, IsUnequal, holds_sign, holds_signs, lower_sign, right_sign, sign_between, unequal_puzzle}
 use Rattle.clue_rules.specs.Laws.KeptItems.{entry-kept}
 use Rattle.clue_rules.specs.Laws.Neighbours.{IsNext, next_line}
-use Rattle.clue_rules.specs.Laws.RangeTests.{all_in_range, range_all}
-use Rattle.clue_rules.specs.Laws.Signs.{IsSaid, below_between, first_said, right_between, said_next, second_said}
+use Rattle.clue_rules.specs.Laws.Signs.{IsSaid, below_between, each_sign_held, first_said, right_between, said_next, second_said, sign_held}
 use Rattle.clue_rules.proofs.KeptItemLemmas.{kept-before}
 
 -- ---- a given
@@ -107,31 +103,6 @@ abbrev AreSameBut : UnequalValue → UnequalValue → ℕ → ℕ → Type 0
 AreSameBut u v x y = (a b : ℕ) → (a ≡ x → b ≡ y → ⊥) → sign_between u a b ≡ sign_between v a b
 
 -- a grid that holds the signs holds those that are the same but for one that it holds
-held_towards : (v : UnequalValue) (r d p q : List Sign) (g : GridValue) (x y cell : ℕ) (way : Direction)
-    → AreSameBut (with_signs v p q) (with_signs v r d) x y
-    → holds_sign (sign_between (with_signs v p q) x y) (number_at g x) (number_at g y) ≡ true
-    → holds_towards (with_signs v r d) g cell way ≡ true → holds_towards (with_signs v p q) g cell way ≡ true
-held_towards v r d p q g x y cell way same here = by (neighbour v.size cell way)
-  where
-    by : (o : Option ℕ)
-        → option_map_or (λ b. holds_sign (sign_between (with_signs v r d) cell b) (number_at g cell) (number_at g b)) o true ≡ true
-        → option_map_or (λ b. holds_sign (sign_between (with_signs v p q) cell b) (number_at g cell) (number_at g b)) o true ≡ true
-    by None h = refl
-    by (Some b) h = elim (cases_eq cell x) [
-      | inl first ↦ elim (cases_eq b y) [
-        | inl second ↦
-            let P : ℕ → Type 0 = λ n. holds_sign (sign_between (with_signs v p q) n b) (number_at g n) (number_at g b) ≡ true in
-            let Q : ℕ → Type 0 = λ n. holds_sign (sign_between (with_signs v p q) x n) (number_at g x) (number_at g n) ≡ true in
-            subst P (sym first) (subst Q (sym second) here)
-        | inr other ↦
-            let P : Sign → Type 0 = λ s. holds_sign s (number_at g cell) (number_at g b) ≡ true in
-            subst P (sym (same cell b (λ e f. other f))) h
-      ]
-      | inr other ↦
-          let P : Sign → Type 0 = λ s. holds_sign s (number_at g cell) (number_at g b) ≡ true in
-          subst P (sym (same cell b (λ e f. other e))) h
-    ]
-
 solved_but : (v : UnequalValue) (r d p q : List Sign) (g : GridValue) (x y : ℕ) → AreSameBut (with_signs v p q) (with_signs v r d) x y
     → holds_sign (sign_between (with_signs v p q) x y) (number_at g x) (number_at g y) ≡ true
     → Solves (unequal_puzzle (with_signs v r d)) g → Solves (unequal_puzzle (with_signs v p q)) g
@@ -140,12 +111,22 @@ solved_but v r d p q g x y same here s = record {
   same_size = s.same_size;
   latin = s.latin;
   givens = s.givens;
-  clues = range_all _ 0 (v.size * v.size) (λ cell low high.
-      let both = and_parts (holds_towards (with_signs v r d) g cell Right) (holds_towards (with_signs v r d) g cell Down)
-      (all_in_range _ 0 (v.size * v.size) cell s.clues low high) in
-      and_from (holds_towards (with_signs v p q) g cell Right) (holds_towards (with_signs v p q) g cell Down)
-      (held_towards v r d p q g x y cell Right same here both.0) (held_towards v r d p q g x y cell Down same here both.1));
+  clues = each_sign_held (with_signs v p q) g (λ a b next. held a b (sign_held (with_signs v r d) g a b s.clues next));
 }
+  where
+    held : (a b : ℕ) → holds_sign (sign_between (with_signs v r d) a b) (number_at g a) (number_at g b) ≡ true
+        → holds_sign (sign_between (with_signs v p q) a b) (number_at g a) (number_at g b) ≡ true
+    held a b h =
+        let P : Sign → Type 0 = λ s. holds_sign s (number_at g a) (number_at g b) ≡ true in
+        let Q : ℕ → Type 0 = λ n. holds_sign (sign_between (with_signs v p q) n b) (number_at g n) (number_at g b) ≡ true in
+        let R : ℕ → Type 0 = λ n. holds_sign (sign_between (with_signs v p q) x n) (number_at g x) (number_at g n) ≡ true in
+        elim (cases_eq a x) [
+          | inl first ↦ elim (cases_eq b y) [
+            | inl second ↦ subst Q (sym first) (subst R (sym second) here)
+            | inr other ↦ subst P (sym (same a b (λ e f. other f))) h
+          ]
+          | inr other ↦ subst P (sym (same a b (λ e f. other e))) h
+        ]
 
 -- of two different numbers, a sign holds or its opposite
 held_or_turned : (s : Sign) (m n : ℕ) → (IsSaid s → m ≢ n) → (holds_sign s m n ≡ true) ⊎ (holds_sign (turned_sign s) m n ≡ true)

@@ -17,7 +17,6 @@ use Rattle.std.proofs.lemmas.Bool.{or_cases, eqb-true, eqb-false, ne_eqb}
 use Rattle.byte_text.proofs.DecimalLaws.{number_taken, number_again}
 use Rattle.byte_text.proofs.ReadingLaws.{bind_taken, bind_again}
 use Rattle.clue_rules.proofs.ParameterLemmas.{params_taken, params_again}
-use Rattle.byte_text.specs.Cuts.{behind}
 use Rattle.byte_text.specs.Bytes.{digit_zero, colon, hash, exclamation, letter_a, letter_d}
 use Rattle.clue_rules.specs.IdFaults.{NotForMemory}
 use Rattle.clue_rules.specs.Laws.NotForMemory.{not_for_memory-then, not_for_memory-if}
@@ -78,8 +77,8 @@ seed_taken : (p : Params) (bs : List ℕ) (seed : Option ℕ) (parts : GameId (L
 seed_taken p bs None parts number read = cc
 seed_taken p bs (Some seed) parts number read =
     let is : Seeded p seed ≡ parts = cc in
-    let taken = number_taken largest_seed seed bs (omega arith) number in
-    subst (Behind p (exclamation ∷ bs)) is (refl, omega (arith, taken.1), ap (λ xs. exclamation ∷ xs) taken.0)
+    let (written, within) = number_taken largest_seed seed bs (omega arith) number in
+    subst (Behind p (exclamation ∷ bs)) is (refl, omega (arith, within), ap (λ xs. exclamation ∷ xs) written)
 
 behind_params_taken : (p : Params) (bs : List ℕ) (parts : GameId (List ℕ)) → behind_params p bs ≡ Ok parts → Behind p bs parts
 behind_params_taken p [] parts = λ read. cc
@@ -106,17 +105,17 @@ colon_left b is not_hash not_exclamation =
 
 parts_text : (letters : List ℕ) (text : List ℕ) (p : Params) (parts : GameId (List ℕ)) → IsParamText letters p (params_part text)
     → Behind p (from_separator text) parts → IsIdText letters IsAnyText parts text
-parts_text letters text p (Described q desc) params behind =
-    let found = behind.1 in
-    let split = split_taken text found.0 desc found.1 in
-    let is_colon = colon_left found.0 split.1 found.2 found.3 in
-    let text_is : text ≡ params_text p ++ colon ∷ desc = let front = params.text_is in split.0 ∙ (ap (λ xs. xs ++ found.0 ∷ desc) front ∙ ap (λ b. params_text p ++ b ∷ desc) is_colon) in
-    subst (λ v. IsIdText letters IsAnyText (Described v desc) text) (sym behind.0) (params.params, (desc, text_is, refl))
-parts_text letters text p (Seeded q seed) params behind =
-    let split = split_taken text exclamation (decimal seed) behind.2 in
+parts_text letters text p (Described q desc) params (same, (separator, stands, not_hash, not_exclamation)) =
+    let (split, is) = split_taken text separator desc stands in
+    let is_colon = colon_left separator is not_hash not_exclamation in
+    let text_is : text ≡ params_text p ++ colon ∷ desc =
+    split ∙ (ap (λ xs. xs ++ separator ∷ desc) params.text_is ∙ ap (λ b. params_text p ++ b ∷ desc) is_colon) in
+    subst (λ v. IsIdText letters IsAnyText (Described v desc) text) (sym same) (params.params, (desc, text_is, refl))
+parts_text letters text p (Seeded q seed) params (same, small, stands) =
+    let (split, is) = split_taken text exclamation (decimal seed) stands in
     let text_is : text ≡ params_text p ++ exclamation ∷ decimal seed =
-    split.0 ∙ ap (λ xs. xs ++ exclamation ∷ decimal seed) params.text_is in
-    subst (λ v. IsIdText letters IsAnyText (Seeded v seed) text) (sym behind.0) (params.params, behind.1, text_is)
+    split ∙ ap (λ xs. xs ++ exclamation ∷ decimal seed) params.text_is in
+    subst (λ v. IsIdText letters IsAnyText (Seeded v seed) text) (sym same) (params.params, small, text_is)
 
 pub id_parts_taken : (letters : List ℕ) (has_adjacent : Bool) (text : List ℕ) (parts : GameId (List ℕ))
     → id_parts_at letters has_adjacent text ≡ Ok parts → IsIdText letters IsAnyText parts text
@@ -142,25 +141,26 @@ split_params letters has_adjacent p separator rest lacks params is =
 
 pub id_parts_again : (letters : List ℕ) (has_adjacent : Bool) (text : List ℕ) (parts : GameId (List ℕ)) → LacksSeparators letters
     → IsIdText letters IsAnyText parts text → id_parts_at letters has_adjacent text ≡ Ok parts
-id_parts_again letters has_adjacent text (Described p desc) lacks h =
-    let text_is : text ≡ params_text p ++ colon ∷ desc = h.1.1 ∙ ap (λ xs. params_text p ++ colon ∷ xs) (sym h.1.2) in
-    ap (id_parts_at letters has_adjacent) text_is ∙ split_params letters has_adjacent p colon desc lacks h.0 refl
-id_parts_again letters has_adjacent text (Seeded p seed) lacks h =
+id_parts_again letters has_adjacent text (Described p desc) lacks (params, (said, text_is, same)) =
+    ap (id_parts_at letters has_adjacent) (text_is ∙ ap (λ xs. params_text p ++ colon ∷ xs) (sym same))
+    ∙ split_params letters has_adjacent p colon desc lacks params refl
+id_parts_again letters has_adjacent text (Seeded p seed) lacks (params, small, text_is) =
     let read : decimal_value largest_seed (decimal seed) ≡ Some seed =
-    number_again largest_seed seed (omega (arith, h.1)) (omega arith) in
-    ap (id_parts_at letters has_adjacent) h.2
-    ∙ (split_params letters has_adjacent p exclamation (decimal seed) lacks h.0 refl ∙ ap (seeded p) read)
+    number_again largest_seed seed (omega (arith, small)) (omega arith) in
+    ap (id_parts_at letters has_adjacent) text_is
+    ∙ (split_params letters has_adjacent p exclamation (decimal seed) lacks params refl ∙ ap (seeded p) read)
 
 -- the ID with its description read
 with_taken : (D : Type 0) (letters : List ℕ) (desc_at : ℕ → List ℕ → Result D IdFault) (IsDesc : ℕ → D → List ℕ → Type 0)
     (text : List ℕ) (parts : GameId (List ℕ)) (id : GameId D)
     → ReadsGrammar D desc_at IsDesc → IsIdText letters IsAnyText parts text → with_description desc_at parts ≡ Ok id
     → IsIdText letters IsDesc id text
-with_taken D letters desc_at IsDesc text (Described p desc) id reads h read =
+with_taken D letters desc_at IsDesc text (Described p desc) id reads (params, (said, stands, same)) read =
     let steps = bind_taken (desc_at p.size desc) (λ d. Ok (Described p d)) id read in
     let is : Described p steps.value ≡ id = cc in
-    let text_is : text ≡ params_text p ++ colon ∷ desc = h.1.1 ∙ ap (λ xs. params_text p ++ colon ∷ xs) (sym h.1.2) in
-    subst (λ v. IsIdText letters IsDesc v text) is (h.0, (desc, text_is, reads.taken p.size desc steps.value h.0.smallest h.0.largest steps.gives))
+    let text_is : text ≡ params_text p ++ colon ∷ desc = stands ∙ ap (λ xs. params_text p ++ colon ∷ xs) (sym same) in
+    subst (λ v. IsIdText letters IsDesc v text) is
+    (params, (desc, text_is, reads.taken p.size desc steps.value params.smallest params.largest steps.gives))
 with_taken D letters desc_at IsDesc text (Seeded p seed) id reads h read =
     let is : Seeded p seed ≡ id = cc in
     subst (λ v. IsIdText letters IsDesc v text) is h
@@ -180,10 +180,9 @@ pub id_again : (D : Type 0) (letters : List ℕ) (has_adjacent : Bool) (desc_at 
     → LacksSeparators letters → ReadsGrammar D desc_at IsDesc → IsIdText letters IsDesc id text
     → id_at letters has_adjacent desc_at text ≡ Ok id
 unfolding id_at
-id_again D letters has_adjacent desc_at IsDesc text (Described p d) lacks reads h =
-    let desc = h.1.0 in
-    let parts = id_parts_again letters has_adjacent text (Described p desc) lacks (h.0, (desc, h.1.1, refl)) in
-    let read = reads.again p.size desc d h.1.2 in
+id_again D letters has_adjacent desc_at IsDesc text (Described p d) lacks reads (params, (desc, text_is, describes)) =
+    let parts = id_parts_again letters has_adjacent text (Described p desc) lacks (params, (desc, text_is, refl)) in
+    let read = reads.again p.size desc d describes in
     bind_again (id_parts_at letters has_adjacent text) (with_description desc_at) (Described p desc) parts
     ∙ bind_again (desc_at p.size desc) (λ v. Ok (Described p v)) d read
 id_again D letters has_adjacent desc_at IsDesc text (Seeded p seed) lacks reads h =
@@ -206,7 +205,7 @@ pub game_reads : (D : Type 0) (puzzle : D → Puzzle) (valid : D → Type 0) (de
     → ReadsGrammar D desc_at (describes_at puzzle valid describes)
 game_reads D puzzle valid describes desc_at taken again = record {
   taken = λ w text d small large read. taken w text d small large read;
-  again = λ w text d is. subst (λ n. desc_at n text ≡ Ok d) is.2 (again text d is.1 is.0);
+  again = λ w text d (describes, valid, size). subst (λ n. desc_at n text ≡ Ok d) size (again text d valid describes);
 }
 
 not_for_memory-more : (p : Params) (bs : List ℕ) → NotForMemory (if_no_more p bs)

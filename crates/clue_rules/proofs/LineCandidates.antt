@@ -24,20 +24,20 @@ where_has test (suc n) v = elim (cases_Bool (test (suc n))) [
   | inl holds ↦ rw holds (
     λ e. elim (or_cases _ _ (sym (has_number-or (2 ^ suc n) (numbers_where test n) v) ∙ e)) [
       | inl here ↦ let is : v ≡ suc n = number_of_one (suc n) v here in (omega arith, omega arith, ap test is ∙ holds)
-      | inr below ↦ let h = (where_has test n v).0 below in (h.0, omega (arith, h.1), h.2)
+      | inr below ↦ let (low, high, passes) = (where_has test n v).0 below in (low, omega (arith, high), passes)
     ],
-    λ h. has_number-or (2 ^ suc n) (numbers_where test n) v ∙ elim (cases_eq v (suc n)) [
+    λ (low, high, passes). has_number-or (2 ^ suc n) (numbers_where test n) v ∙ elim (cases_eq v (suc n)) [
       | inl same ↦
           let P : ℕ → Type 0 = λ u. has_number (2 ^ suc n) u ≡ true in
           or_left _ _ (subst P (sym same) (has_number-one_same (suc n)))
-      | inr other ↦ or_right _ _ ((where_has test n v).1 (h.0, omega (arith, h.1), h.2))
+      | inr other ↦ or_right _ _ ((where_has test n v).1 (low, omega (arith, high), passes))
     ],
   )
   | inr lacks ↦ rw lacks (
-    λ e. let h = (where_has test n v).0 e in (h.0, omega (arith, h.1), h.2),
-    λ h. elim (cases_eq v (suc n)) [
-      | inl same ↦ absurd (both_ways (test v) (ap test same ∙ lacks) h.2)
-      | inr other ↦ (where_has test n v).1 (h.0, omega (arith, h.1), h.2)
+    λ e. let (low, high, passes) = (where_has test n v).0 e in (low, omega (arith, high), passes),
+    λ (low, high, passes). elim (cases_eq v (suc n)) [
+      | inl same ↦ absurd (both_ways (test v) (ap test same ∙ lacks) passes)
+      | inr other ↦ (where_has test n v).1 (low, omega (arith, high), passes)
     ],
   )
 ]
@@ -51,7 +51,7 @@ along_sets c line on k inside v =
     get_or-map-range_with_len (λ k. numbers_where (may_be c (line_cell c.size line k)) c.size) 0 c.size k k 0 inside (omega arith) in
     let has = where_has (may_be c cell) c.size v in
     rw here (
-      λ e. let h = has.0 e in (record { inside = line_cell_inside c.size line k on inside; low = h.0; high = h.1 }, h.2),
+      λ e. let (low, high, left) = has.0 e in (record { inside = line_cell_inside c.size line k on inside; low = low; high = high }, left),
       λ p. has.1 (p.0.low, p.0.high, p.1),
     )
 

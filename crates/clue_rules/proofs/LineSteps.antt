@@ -33,14 +33,14 @@ along_narrows {kept = kept} {old = old} {new = new} {r = r} solved struck h = re
   keeps = λ g s size w. h.keeps g size (λ k inside. solved g s size w k inside) w;
   refutes =
       on_false r
-      (λ empty g s size w. both_ways (has_number (slice_index kept empty.0) _) (empty.2 _) (solved g s size w empty.0 empty.1))
+      (λ (k, inside, none) g s size w. both_ways (has_number (slice_index kept k) _) (none _) (solved g s size w k inside))
       h.empty;
   struck = on_true r (λ gone. record {
     each = λ first e cell v pair s.
-        let at = struck first e cell v s in
+        let (k, inside, is, out) = struck first e cell v s in
         let P : ℕ → Type 0 = λ c. IsPair old.size c v → may_be new c v ≡ false in
         let here : IsPair old.size cell v = subst (λ (w : ℕ). IsPair w cell v) (sym e.size) pair in
-        subst P at.2 (λ p. gone at.0 v at.1 p at.3) here;
+        subst P is (λ p. gone k v inside p out) here;
   }) h.gone;
 }
 
@@ -77,8 +77,8 @@ square_possible c line sets g on is s size within =
       apart = λ i j first second apart same.
           line_differs g s.is_grid s.latin line i j (omega (arith, on)) (omega arith) (omega arith) apart (sym (cell_is i) ∙ same ∙ cell_is j);
       all = λ v low high.
-          let at = value_at g s.latin line v (omega (arith, on)) low (omega arith) in
-          record { index = at.0; inside = omega (arith, at.1); holds = cell_is at.0 ∙ at.2 };
+          let (k, inside, there) = value_at g s.latin line v (omega (arith, on)) low (omega arith) in
+          record { index = k; inside = omega (arith, inside); holds = cell_is k ∙ there };
     }
 
 -- ---- what the tally of a line's sets says
@@ -152,16 +152,15 @@ line_struck c line sets t is whole first e cell v struck =
 
 peer_line : (c : CandidatesValue) (cell v : ℕ) → IsPeerStruck c cell v → StruckBelow IsLineStruck (2 * c.size) c cell v
 peer_line c cell v struck =
-    let found = peers_on_line c.size struck.by cell struck.peers in
-    let on = found.3 in
+    let (line, first, second, on) = peers_on_line c.size struck.by cell struck.peers in
     let P : ℕ → Type 0 = λ i. IsOnly c i v in (
-      found.0,
+      line,
       on.line_is,
       record {
-        index = found.2;
+        index = second;
         inside = on.second;
         here = on.second_cell;
-        why = inl (record { by = found.1; inside = on.first; apart = on.apart; only = subst P (sym on.first_cell) struck.only });
+        why = inl (record { by = first; inside = on.first; apart = on.apart; only = subst P (sym on.first_cell) struck.only });
       },
     )
 

@@ -294,7 +294,7 @@ singles_none set many = record {
 }
 
 pub clash_twice : (t : LineTally) (set single : ℕ) → IsSinglesOf set single → IsShared t.singles single → IsClash t set
-clash_twice t set single s shared = inr (record { value = shared.0; here = (s.is shared.0).0 shared.2; before = shared.1 })
+clash_twice t set single s (value, before, here) = inr (record { value = value; here = (s.is value).0 here; before = before })
 
 -- what is so of one of two
 either : (a b c : Bool) → c ≡ (a || b) → (c ≡ true) ↔ ((a ≡ true) ⊎ (b ≡ true))

@@ -28,12 +28,12 @@ square_noted : (old new : CandidatesValue) (cell line crossing kept before after
     → NotesIn old new before after
 square_noted old new cell line crossing kept before after lines k grew gains = record {
   each = λ other inside out.
-      let apart = not_noted line crossing other before after gains out in (
-        apart.0,
+      let (lacks, not_line, not_crossing) = not_noted line crossing other before after gains out in (
+        lacks,
         record {
           size = k.less.size;
           each = λ i v low. k.rest (line_cell old.size other i) v (inl (λ here.
-              elim (lines.none_else other i inside low here) [ inl first ↦ apart.1 first | inr second ↦ apart.2 second ]));
+              elim (lines.none_else other i inside low here) [ inl first ↦ not_line first | inr second ↦ not_crossing second ]));
         },
       );
   gains = λ same other out. absurd (omega (arith, same, grew));

@@ -13,13 +13,12 @@ use Rattle.clue_rules.specs.Laws.Refusals.{refused_then, refused_else}
 
 contains_from_any : (letters : List ℕ) (letter : ℕ) → list_any (λ l. l == letter) letters ≡ true → Contains letters letter
 contains_from_any letters letter found =
-    let any = Any-from_list_any (λ l. l == letter) letters found in
-    let same = eqb-true any.1 letter any.4 in
-    (any.0, any.2, subst (λ l. slice_index_or letters any.0 l ≡ l) same any.3)
+    let (place, byte, inside, here, passes) = Any-from_list_any (λ l. l == letter) letters found in
+    (place, inside, subst (λ l. slice_index_or letters place l ≡ l) (eqb-true byte letter passes) here)
 
 any_from_contains : (letters : List ℕ) (letter : ℕ) → Contains letters letter → list_any (λ l. l == letter) letters ≡ true
-any_from_contains letters letter member =
-    list_any_at (λ l. l == letter) letters member.0 letter member.1 (eq-eqb (slice_index_or letters member.0 letter) letter member.2)
+any_from_contains letters letter (place, inside, here) =
+    list_any_at (λ l. l == letter) letters place letter inside (eq-eqb (slice_index_or letters place letter) letter here)
 
 -- a value that was read behind the size
 abbrev Reads : List ℕ → ℕ → List ℕ → Params → Type 0
@@ -62,12 +61,11 @@ params_taken letters has_adjacent (b ∷ bs) p = λ read.
     let second = and_parts (nat_le b (digit_zero + 9)) (not (begins_digit bs)) first.1 in
     let low = leb-true (digit_zero + 3) b first.0 in
     let high = leb-true b (digit_zero + 9) second.0 in
-    let taken = size_taken letters has_adjacent (b - digit_zero) bs p is.1 in
-    let size = taken.0 in
+    let (size, letter, rest) = size_taken letters has_adjacent (b - digit_zero) bs p is.1 in
     let digit : b ≡ digit_zero + p.size = omega arith in
     record {
-      params = record { smallest = omega arith; largest = omega arith; letter = taken.1 };
-      text_is = (let rest = taken.2 in cc);
+      params = record { smallest = omega arith; largest = omega arith; letter = letter };
+      text_is = cc;
     }
 
 pub params_found : (letters : List ℕ) (has_adjacent : Bool) (text : List ℕ) (answer : Result Params IdFault)

@@ -1,5 +1,6 @@
 -- Steps after which no line has anything left to strike, but for those that are to be looked at again.
 use Rattle.std.proofs.Common.{◌≡◌, ◌≢◌, ℕ, ◌*◌, ◌<◌, ◌≤◌, ◌⊎◌, false, List, length, nat_lt, take, take_all, inl, inr, refl, sym, ap, ◌∙◌, subst, arith}
+use Rattle.std.proofs.Math.Bool.{and-true, and-false}
 use Rattle.std.proofs.lemmas.Bool.{both_ways, cases_Bool, cases_eq, cases_lt, eq-eqb, lt-ltb, ne_eqb}
 use Rattle.std.proofs.lemmas.List.{take-take}
 use Rattle.number_sets.specs.Sets.{has_number}
@@ -162,16 +163,10 @@ strikes_both First Second Struck w line s t u a b c own either size inside h k o
 
 -- a set without a line has the other lines as before
 lost_other : (line k s t : ℕ) → LosesLine line s t → k ≢ line → has_number t k ≡ has_number s k
-lost_other line k s t loses apart = loses k ∙ rw (ne_eqb k line apart) (elim (cases_Bool (has_number s k)) [
-  | inl has ↦ rw has refl
-  | inr lacks ↦ rw lacks refl
-])
+lost_other line k s t loses apart = loses k ∙ rw (ne_eqb k line apart) (and-true (has_number s k))
 
 lost_itself : (line s t : ℕ) → LosesLine line s t → has_number t line ≡ false
-lost_itself line s t loses = loses line ∙ rw (eq-eqb line line refl) (elim (cases_Bool (has_number s line)) [
-  | inl has ↦ rw has refl
-  | inr lacks ↦ rw lacks refl
-])
+lost_itself line s t loses = loses line ∙ rw (eq-eqb line line refl) (and-false (has_number s line))
 
 -- a set that lost a line has neither it nor what it lacked before
 pub lost_one : (line k s t : ℕ) → LosesLine line s t → (k ≡ line) ⊎ (has_number s k ≡ false) → has_number t k ≡ false

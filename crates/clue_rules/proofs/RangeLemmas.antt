@@ -14,9 +14,9 @@ none_more p n before here = range_none p 0 (n + 1) (λ i low high. elim (cases_l
 
 -- what holds of one below n + 1 holds of one below n, or of n
 pub below_cases : (P : ℕ → Type 0) (n : ℕ) → (k : ℕ) × (k < n + 1) × P k → ((k : ℕ) × (k < n) × P k) ⊎ P n
-below_cases P n h = elim (cases_lt h.0 n) [
-  | inl low ↦ inl (h.0, low, h.2)
-  | inr high ↦ let last : h.0 ≡ n = omega (arith, h.1) in inr (subst P last h.2)
+below_cases P n (k, inside, here) = elim (cases_lt k n) [
+  | inl low ↦ inl (k, low, here)
+  | inr high ↦ let last : k ≡ n = omega (arith, inside) in inr (subst P last here)
 ]
 
 pub below_one_more : {A B : Type 0} (P : ℕ → Type 0) (n : ℕ) → A ↔ SomeBelow n P → B ↔ (A ⊎ P n) → B ↔ SomeBelow (n + 1) P

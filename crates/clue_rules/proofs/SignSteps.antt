@@ -69,10 +69,9 @@ lesser_narrows old new ends set kept left inside is below k answer =
     (λ first e cell v pair s. (
       s.here,
       false_from_ne_true (has_number kept v) (λ has.
-          let u = (below v).0 has in
-          let left = (is u.0).0 u.2 in
-          both_ways (may_be first ends.greater u.0) (s.none u.0 u.1 (omega (arith, left.0.high, e.size)))
-          (was_left first old ends.greater u.0 e left.1)),
+          let (u, more, there) = (below v).0 has in
+          let (own, left) = (is u).0 there in
+          both_ways (may_be first ends.greater u) (s.none u more (omega (arith, own.high, e.size))) (was_left first old ends.greater u e left)),
     ))
     k answer
 
@@ -90,9 +89,9 @@ greater_narrows old new ends set kept left small inside is above k answer =
     (λ first e cell v pair s. (
       s.here,
       false_from_ne_true (has_number kept v) (λ has.
-          let u = (above v (omega (arith, pair.high, e.size))).0 has in
-          let left = (is u.0).0 u.2 in
-          both_ways (may_be first ends.lesser u.0) (s.none u.0 left.0.low u.1) (was_left first old ends.lesser u.0 e left.1)),
+          let (u, less, there) = (above v (omega (arith, pair.high, e.size))).0 has in
+          let (own, left) = (is u).0 there in
+          both_ways (may_be first ends.lesser u) (s.none u own.low less) (was_left first old ends.lesser u e left)),
     ))
     k answer
 
@@ -101,20 +100,20 @@ greater_narrows old new ends set kept left small inside is above k answer =
 -- the greater end is the greater square
 ends_greater : (v : UnequalValue) (a b : ℕ) (ends : SignEnds) → AreEnds v a b ends → IsGreater v ends.greater ends.lesser
 ends_greater v a b ends are = elim are.is [
-  | inl first ↦ inl (rw (first.1, first.2) first.0)
-  | inr second ↦ inr (rw (second.1, second.2) second.0)
+  | inl (sign, greater, lesser) ↦ inl (rw (greater, lesser) sign)
+  | inr (sign, greater, lesser) ↦ inr (rw (greater, lesser) sign)
 ]
 
 -- a sign has its ends but once
 same_ends : (v : UnequalValue) (a b : ℕ) (one two : SignEnds) → AreEnds v a b one → AreEnds v a b two → one ≡ two
 same_ends v a b one two h k = elim h.is [
-  | inl first ↦ elim k.is [
-    | inl other ↦ λ i. record { greater = (first.1 ∙ sym other.1) i; lesser = (first.2 ∙ sym other.2) i }
-    | inr other ↦ absurd (let f : FirstGreater ≡ SecondGreater = sym first.0 ∙ other.0 in cc)
+  | inl (sign, greater, lesser) ↦ elim k.is [
+    | inl (same, more, less) ↦ λ i. record { greater = (greater ∙ sym more) i; lesser = (lesser ∙ sym less) i }
+    | inr (other, more, less) ↦ absurd (let f : FirstGreater ≡ SecondGreater = sym sign ∙ other in cc)
   ]
-  | inr second ↦ elim k.is [
-    | inl other ↦ absurd (let f : SecondGreater ≡ FirstGreater = sym second.0 ∙ other.0 in cc)
-    | inr other ↦ λ i. record { greater = (second.1 ∙ sym other.1) i; lesser = (second.2 ∙ sym other.2) i }
+  | inr (sign, greater, lesser) ↦ elim k.is [
+    | inl (other, more, less) ↦ absurd (let f : SecondGreater ≡ FirstGreater = sym sign ∙ other in cc)
+    | inr (same, more, less) ↦ λ i. record { greater = (greater ∙ sym more) i; lesser = (lesser ∙ sym less) i }
   ]
 ]
 

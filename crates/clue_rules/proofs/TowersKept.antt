@@ -12,8 +12,8 @@ kept_at_size : (part clues : List ℕ) (givens : GridValue) → IsFilledTo 0 36 
 kept_at_size part clues givens filled read = record {
   padded = filled;
   within =
-      All-from_recursion (λ clue. clue ≤ givens.size) (take (4 * givens.size) clues)
-      (clues_taken givens.size part (take (4 * givens.size) clues) read).2;
+      let (says, count, within) = clues_taken givens.size part (take (4 * givens.size) clues) read in
+      All-from_recursion (λ clue. clue ≤ givens.size) (take (4 * givens.size) clues) within;
 }
 
 pub towers_kept : (w : ℕ) (part clues : List ℕ) (givens : GridValue) → givens.size ≡ w → IsFilledTo 0 36 (4 * w) clues

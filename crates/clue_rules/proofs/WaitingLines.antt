@@ -64,12 +64,12 @@ pub looks_done : (S : GridValue → Type 0) (T : ℕ → CandidatesValue → ℕ
 looks_done S T count a b s t looks all latin_none rule_none latin rule = record {
   each = λ first e cell v pair struck. elim struck [
     | inl by ↦
-        let on = latin_by_lines first cell v by in
-        let inside : on.0 < 2 * b.size = omega (arith, on.1, e.size) in
-        (looks.latin latin on.0 inside (latin_none on.0 (omega (arith, inside, all)))).each first e cell v pair on.2
-    | inr by ↦
-        let inside : by.0 < 2 * b.size = omega (arith, by.1, e.size) in
-        (looks.rule rule by.0 inside (rule_none by.0 (omega (arith, inside, all)))).each first e cell v pair by.2
+        let (line, low, here) = latin_by_lines first cell v by in
+        let inside : line < 2 * b.size = omega (arith, low, e.size) in
+        (looks.latin latin line inside (latin_none line (omega (arith, inside, all)))).each first e cell v pair here
+    | inr (line, low, here) ↦
+        let inside : line < 2 * b.size = omega (arith, low, e.size) in
+        (looks.rule rule line inside (rule_none line (omega (arith, inside, all)))).each first e cell v pair here
   ];
 }
 

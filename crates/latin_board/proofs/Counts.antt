@@ -52,8 +52,8 @@ place_of_counted v (x ∷ xs) counted =
     elim (cases_eq x v) [
       | inl here ↦ (0, omega arith, here)
       | inr other ↦
-          let rest = place_of_counted v xs (omega (arith, times_in_other v x xs other)) in
-          (suc rest.0, omega (arith, rest.1), rest.2)
+          let (k, inside, here) = place_of_counted v xs (omega (arith, times_in_other v x xs other)) in
+          (suc k, omega arith, here)
     ]
 
 -- what stands at a place is among the list

@@ -11,7 +11,7 @@ use Rattle.number_sets.proofs.Members.{has_number-none}
 use Rattle.latin_board.specs.Squares.{GridValue, HasEachOnce, number_at, times_in}
 use Rattle.latin_board.specs.Lines.{line_cell, line_of}
 use Rattle.latin_board.proofs.Counts.{times_in_head, times_in_other, once_at_least, place_of_counted, among_at}
-use Rattle.latin_board.proofs.LatinLines.{length-line_of, get_or-line_of}
+use Rattle.latin_board.proofs.LatinLines.{length-line_of, get_or-line_of, counted_at}
 
 -- ---- a line's numbers as a set
 
@@ -23,7 +23,7 @@ pub found_none : (g : GridValue) (line : ℕ) → AreFound g line 0 0
 found_none g line = record {
   is = λ v. (
     λ e. absurd (both_ways (has_number 0 v) (has_number-none v) e),
-    λ p. absurd (omega (arith, p.1)),
+    λ (k, none, here). absurd (omega arith),
   );
 }
 
@@ -34,14 +34,14 @@ pub found_more : (g : GridValue) (line n found one number new : ℕ) → AreFoun
 found_more g line n found one number new h at is_one is_new = record {
   is = λ v. (
     λ e. elim (or_cases (has_number found v) (has_number one v) (sym (is_new v) ∙ e)) [
-      | inl old ↦ let p = (h.is v).0 old in (p.0, omega (arith, p.1), p.2)
+      | inl old ↦ let (k, inside, there) = (h.is v).0 old in (k, omega arith, there)
       | inr here ↦ (n, omega arith, sym at ∙ sym (eqb-true v number (sym (is_one v) ∙ here)))
     ],
-    λ p. elim (cases_lt p.0 n) [
-      | inl low ↦ is_new v ∙ or_left (has_number found v) (has_number one v) ((h.is v).1 (p.0, low, p.2))
+    λ (k, inside, there). elim (cases_lt k n) [
+      | inl low ↦ is_new v ∙ or_left (has_number found v) (has_number one v) ((h.is v).1 (k, low, there))
       | inr high ↦
-          let last : p.0 ≡ n = omega (arith, p.1) in
-          let same : v ≡ number = sym p.2 ∙ ap (λ k. number_at g (line_cell g.size line k)) last ∙ sym at in
+          let last : k ≡ n = omega arith in
+          let same : v ≡ number = sym there ∙ ap (λ k. number_at g (line_cell g.size line k)) last ∙ sym at in
           is_new v ∙ or_right (has_number found v) (has_number one v) (is_one v ∙ eq-eqb v number same)
     ],
   );
@@ -56,11 +56,11 @@ places_of_two v [] counted = absurd (omega arith)
 places_of_two v (x ∷ xs) counted =
     elim (cases_eq x v) [
       | inl here ↦
-          let rest = place_of_counted v xs (omega (arith, times_in_head v x xs here)) in
-          (0, suc rest.0, omega arith, omega (arith, rest.1), here, rest.2)
+          let (k, inside, again) = place_of_counted v xs (omega (arith, times_in_head v x xs here)) in
+          (0, suc k, omega arith, omega arith, here, again)
       | inr other ↦
-          let rest = places_of_two v xs (omega (arith, times_in_other v x xs other)) in
-          (suc rest.0, suc rest.1, omega (arith, rest.2), omega (arith, rest.3), rest.4, rest.5)
+          let (i, j, before, inside, first, second) = places_of_two v xs (omega (arith, times_in_other v x xs other)) in
+          (suc i, suc j, omega arith, omega arith, first, second)
     ]
 
 -- each number from 1 to w stands in the line
@@ -78,23 +78,23 @@ none_twice w line v i j len all before inside first second =
     let more : w + 1 ≤ length blanked = le-length_from_below blanked (w + 1) (λ u below. elim (cases_lt u 1) [
       | inl low ↦ among_at u blanked j (omega arith) (get_or-set_same line j 0 0 (omega arith) ∙ omega arith)
       | inr high ↦
-          let at = all.place u high (omega arith) in
-          elim (cases_eq at.0 j) [
-            | inl same ↦ stands u i (omega arith) (λ e. omega arith) (first ∙ sym second ∙ ap (λ k. get_or line k 0) (sym same) ∙ at.2)
-            | inr apart ↦ stands u at.0 at.1 apart at.2
+          let (k, within, here) = all.place u high (omega arith) in
+          elim (cases_eq k j) [
+            | inl same ↦ stands u i (omega arith) (λ e. omega arith) (first ∙ sym second ∙ ap (λ k. get_or line k 0) (sym same) ∙ here)
+            | inr apart ↦ stands u k within apart here
           ]
     ]) in
     omega arith
 
 once_where_all : (w : ℕ) (line : List ℕ) → length line ≡ w → AllStand w line → HasEachOnce w line
 once_where_all w line len all = λ v low high.
-    let at = all.place v low high in
-    let one = once_at_least v line at.0 (omega (arith, at.1)) at.2 in
+    let (k, inside, here) = all.place v low high in
+    let one = once_at_least v line k (omega arith) here in
     elim (cases_lt (times_in v line) 2) [
       | inl single ↦ omega arith
       | inr twice ↦
-          let two = places_of_two v line twice in
-          absurd (none_twice w line v two.0 two.1 len all two.2 (omega (arith, two.3)) two.4 two.5)
+          let (i, j, before, last, first, second) = places_of_two v line twice in
+          absurd (none_twice w line v i j len all before (omega arith) first second)
     ]
 
 -- ---- the test of a line
@@ -108,17 +108,15 @@ each_once : (g : GridValue) (line found every : ℕ) → AreFound g line g.size 
 each_once g line found every h all sub =
     once_where_all g.size (line_of g line) (length-line_of g line) (record {
       place = λ u low high.
-          let at = (h.is u).0 (sub u (all.is u ∙ and_from (nat_le 1 u) (nat_le u g.size) (le-leb 1 u low) (le-leb u g.size high))) in
-          (at.0, at.1, get_or-line_of g line at.0 at.1 ∙ at.2);
+          let (k, inside, here) = (h.is u).0 (sub u (all.is u ∙ and_from (nat_le 1 u) (nat_le u g.size) (le-leb 1 u low) (le-leb u g.size high))) in
+          (k, inside, get_or-line_of g line k inside ∙ here);
     })
 
 all_found : (g : GridValue) (line found every : ℕ) → AreFound g line g.size found → AreEvery every g.size
     → HasEachOnce g.size (line_of g line) → IsSubset every found
 all_found g line found every h all once = λ v has.
     let both = and_parts (nat_le 1 v) (nat_le v g.size) (sym (all.is v) ∙ has) in
-    let at = place_of_counted v (line_of g line) (omega (arith, once v (leb-true 1 v both.0) (leb-true v g.size both.1))) in
-    let inside : at.0 < g.size = omega (arith, at.1, length-line_of g line) in
-    (h.is v).1 (at.0, inside, sym (get_or-line_of g line at.0 inside) ∙ at.2)
+    (h.is v).1 (counted_at g line v (omega (arith, once v (leb-true 1 v both.0) (leb-true v g.size both.1))))
 
 pub once_decided : (b : Bool) (g : GridValue) (line found every : ℕ) → AreFound g line g.size found → AreEvery every g.size
     → MatchBool b (IsSubset every found) (IsSubset every found → ⊥) → IsTrue b ↔ HasEachOnce g.size (line_of g line)

@@ -4,7 +4,7 @@ use Rattle.std.proofs.lemmas.Bool.{cases_lt, cases_order, lt-ltb, le-ltb}
 use Rattle.std.proofs.lemmas.List.FromFn.{length-map-range_with_len, get_or-map-range_with_len}
 use Rattle.std.proofs.lemmas.Map.Steps.{le-length_from_below}
 use Rattle.std.proofs.lemmas.Nat.{mul-add-lt, div-add-mod', div_below, mod_below}
-use Rattle.latin_board.specs.Squares.{GridValue, IsGrid, IsFull, IsLatin, HasEachOnce, number_at, row_of, column_of}
+use Rattle.latin_board.specs.Squares.{GridValue, IsGrid, IsFull, IsLatin, HasEachOnce, number_at, row_of, column_of, times_in}
 use Rattle.latin_board.specs.Lines.{line_cell, line_of, ArePeers, IsOnLine}
 use Rattle.latin_board.proofs.Counts.{twice_at_least, place_of_counted, among_at}
 
@@ -81,13 +81,17 @@ latin_from_lines g lines = record {
   columns = λ column below. rw (← line_of-column g column) (lines (g.size + column) (omega arith));
 }
 
+-- a number that stands once in a line stands in one of its squares
+pub counted_at : (g : GridValue) (line v : ℕ) → 1 ≤ times_in v (line_of g line) → (k : ℕ) × (k < g.size) × (number_at g (line_cell g.size line k) ≡ v)
+counted_at g line v counted =
+    let (k, inside, here) = place_of_counted v (line_of g line) counted in
+    let within : k < g.size = omega (arith, length-line_of g line) in
+    (k, within, sym (get_or-line_of g line k within) ∙ here)
+
 -- each number from 1 to the width stands somewhere in each line
 pub value_at : (g : GridValue) → IsLatin g → (line v : ℕ) → line < 2 * g.size → 1 ≤ v → v ≤ g.size
     → (k : ℕ) × (k < g.size) × (number_at g (line_cell g.size line k) ≡ v)
-value_at g latin line v below low high =
-    let found = place_of_counted v (line_of g line) (omega (arith, latin_line g latin line below v low high)) in
-    let within : found.0 < g.size = omega (arith, found.1, length-line_of g line) in
-    (found.0, within, sym (get_or-line_of g line found.0 within) ∙ found.2)
+value_at g latin line v below low high = counted_at g line v (omega (arith, latin_line g latin line below v low high))
 
 -- ---- a Latin square is full
 
@@ -96,8 +100,8 @@ no_blank w line len once k within blank =
     let all : w + 1 ≤ length line = le-length_from_below line (w + 1) (λ v below. elim (cases_lt v 1) [
       | inl low ↦ among_at v line k (omega arith) (omega arith)
       | inr high ↦
-          let found = place_of_counted v line (omega (arith, once v high (omega arith))) in
-          among_at v line found.0 found.1 found.2
+          let (place, inside, here) = place_of_counted v line (omega (arith, once v high (omega arith))) in
+          among_at v line place inside here
     ]) in
     omega arith
 
@@ -183,7 +187,6 @@ peers_on_line w a b peers =
 -- two squares of a Latin square that share a line differ
 pub peers_differ : (g : GridValue) → IsGrid g → IsLatin g → (a b : ℕ) → ArePeers g.size a b → number_at g a ≢ number_at g b
 peers_differ g valid latin a b peers = λ same.
-    let found = peers_on_line g.size a b peers in
-    let on = found.3 in
-    line_differs g valid latin found.0 found.1 found.2 on.line_is on.first on.second on.apart
+    let (line, i, j, on) = peers_on_line g.size a b peers in
+    line_differs g valid latin line i j on.line_is on.first on.second on.apart
     (ap (number_at g) on.first_cell ∙ same ∙ sym (ap (number_at g) on.second_cell))

@@ -16,11 +16,11 @@ use Rattle.number_sets.proofs.OneMore.{odd_multiple}
 pub least_is : (set : ℕ) → set ≢ 0 → set < 2 ^ 16 → IsLeast set (trailing_zeros w16 set)
 least_is set some small =
     let p : 0 < set = omega arith in
-    let lowest = bit_at-trailing_zeros w16 set p small in
+    let (inside, bit, none) = bit_at-trailing_zeros w16 set p small in
     record {
-      has = number-from_bit set (trailing_zeros w16 set) lowest.1;
+      has = number-from_bit set (trailing_zeros w16 set) bit;
       least = λ n e. elim (cases_lt n (trailing_zeros w16 set)) [
-        | inl below ↦ absurd (both_ways (has_number set n) (no_number-from_bit set n (lowest.2 n below)) e)
+        | inl below ↦ absurd (both_ways (has_number set n) (no_number-from_bit set n (none n below)) e)
         | inr above ↦ above
       ];
     }
@@ -34,9 +34,9 @@ above_is set from kept k n least from_is kept_is = (
       let above : k ≤ n = leb-true k n (sym from_is ∙ both.0) in
       let apart : n ≢ k = λ same. both_ways (eqb n k) (not-true _ both.1) (eq-eqb n k same) in
       (k, omega arith, least.has),
-  λ h.
-      let below = least.least h.0 h.2 in
-      kept_is ∙ and_from _ _ (from_is ∙ le-leb k n (omega (arith, h.1))) (not_from_false _ (ne_eqb n k (λ same. omega (arith, h.1)))),
+  λ (m, above, has).
+      let below = least.least m has in
+      kept_is ∙ and_from _ _ (from_is ∙ le-leb k n (omega arith)) (not_from_false _ (ne_eqb n k (λ same. omega arith))),
 )
 
 -- ---- the greatest number, and what is below it
@@ -66,7 +66,7 @@ pub below_is : (set k n : ℕ) → IsGreatest set k
     → (has_number (2 ^ k - 1) n ≡ true) ↔ ((m : ℕ) × (n < m) × (has_number set m ≡ true))
 below_is set k n greatest = (
   λ e. (k, ltb-true n k (sym (has_number-below k n) ∙ e), greatest.has),
-  λ h. has_number-below k n ∙ lt-ltb n k (omega (arith, h.1, greatest.greatest h.0 h.2)),
+  λ (m, below, has). has_number-below k n ∙ lt-ltb n k (omega (arith, greatest.greatest m has)),
 )
 
 -- ---- one number alone
@@ -98,34 +98,29 @@ and_before a p k is =
 -- a number that is not 0 without the number before it is the power of two of its least
 pub lowest_power : (n : ℕ) → 0 < n → n < 2 ^ 64 → (k : ℕ) × (n - bit_and n (n - 1) ≡ 2 ^ k) × (has_number n k ≡ true)
 lowest_power n p h =
-    let t = bit_at-trailing_zeros w64 n p h in
     let k = trailing_zeros w64 n in
+    let (inside, bit, lacks) = bit_at-trailing_zeros w64 n p h in
     let none : n % 2 ^ k ≡ 0 = none_from_numbers (n % 2 ^ k) (λ j. elim (cases_lt j k) [
-      | inl low ↦ has_number-mod n k j low ∙ no_number-from_bit n j (t.2 j low)
+      | inl low ↦ has_number-mod n k j low ∙ no_number-from_bit n j (lacks j low)
       | inr high ↦ has_number-above (n % 2 ^ k) k j (mod_below n (2 ^ k) (pow_pos k)) high
     ]) in
     let a = n / 2 ^ k / 2 in
-    let odd : a * 2 + 1 ≡ n / 2 ^ k = omega (arith, div-add-mod' (n / 2 ^ k) 2, t.1) in
+    let odd : a * 2 + 1 ≡ n / 2 ^ k = omega (arith, div-add-mod' (n / 2 ^ k) 2, bit) in
     let whole : (a * 2 + 1) * 2 ^ k ≡ n = rw odd (omega (arith, shr_split n k)) in
     let e = rw whole at (and_before a (2 ^ k) k refl) in
-    (k, omega (arith, odd_multiple a (2 ^ k) 0), number-from_bit n k t.1)
+    (k, omega (arith, odd_multiple a (2 ^ k) 0), number-from_bit n k bit)
 
 single_from_and : (set : ℕ) → set ≢ 0 → set < 2 ^ 16 → bit_and set (set - 1) ≡ 0 → (n : ℕ) × IsSingle set n
 single_from_and set some small none =
-    let lowest = lowest_power set (omega arith) (omega arith) in
-    let whole : set ≡ 2 ^ lowest.0 = omega (arith, lowest.1) in (
-      lowest.0,
-      record {
-        has = lowest.2;
-        alone = λ k h. let P : ℕ → Type 0 = λ m. has_number m k ≡ true in number_of_one lowest.0 k (subst P whole h);
-      },
-    )
+    let (n, power, has) = lowest_power set (omega arith) (omega arith) in
+    let whole : set ≡ 2 ^ n = omega (arith, power) in
+    (n, record { has = has; alone = λ k h. let P : ℕ → Type 0 = λ m. has_number m k ≡ true in number_of_one n k (subst P whole h) })
 
 and-single : (set n : ℕ) → set ≢ 0 → set < 2 ^ 16 → IsSingle set n → bit_and set (set - 1) ≡ 0
 and-single set n some small single =
-    let lowest = lowest_power set (omega arith) (omega arith) in
-    let same : lowest.0 ≡ n = single.alone lowest.0 lowest.2 in
-    let whole : set - bit_and set (set - 1) ≡ set = lowest.1 ∙ ap (λ (k : ℕ). 2 ^ k) same ∙ sym (single_is set n single) in
+    let (lowest, power, has) = lowest_power set (omega arith) (omega arith) in
+    let same : lowest ≡ n = single.alone lowest has in
+    let whole : set - bit_and set (set - 1) ≡ set = power ∙ ap (λ (k : ℕ). 2 ^ k) same ∙ sym (single_is set n single) in
     let le = and_le_l set (set - 1) in
     omega arith
 

@@ -269,8 +269,8 @@ shared_from_and a b small some =
     (there.0, both.0, both.1)
 
 and-shared : (a b : ℕ) → IsShared a b → bit_and a b ≢ 0
-and-shared a b s e =
-    both_ways (has_number 0 s.0) (has_number-none s.0) (rw e at (has_number-and a b s.0 ∙ and_from _ _ s.1 s.2))
+and-shared a b (n, in_first, in_second) e =
+    both_ways (has_number 0 n) (has_number-none n) (rw e at (has_number-and a b n ∙ and_from _ _ in_first in_second))
 
 pub disjoint_test : (a b : ℕ) → a < 2 ^ 16 → MatchBool (eqb (bit_and a b) 0) (IsShared a b → ⊥) (IsShared a b)
 disjoint_test a b small =

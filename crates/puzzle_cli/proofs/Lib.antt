@@ -23,4 +23,5 @@ pub mod SaveReplies
 pub mod SeededReplies
 pub mod LinesAnswered
 pub mod PlainReplies
+pub mod CommandLines
 pub mod UnplayedGames

@@ -3,3 +3,4 @@ pub mod Answers
 pub mod CommandReading
 pub mod LineBuffer
 pub mod Steps
+pub mod WordReading

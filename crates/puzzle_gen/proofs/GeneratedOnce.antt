@@ -25,7 +25,7 @@ pruned_once f params seed p q laws first second =
 -- two results of the same parameters and seed are the same
 pub generates_once : {P : Type 0} (f : Ghosts P) (params : Params) (seed : ℕ) (r s : Result P GenFault) → ItemLaws f
     → Generates f params seed r → Generates f params seed s → r ≡ s
-generates_once f params seed (Ok p) (Ok q) laws first second = ap Ok (pruned_once f params seed p q laws first.2 second.2)
+generates_once f params seed (Ok p) (Ok q) laws (small, none, first) (low, bare, second) = ap Ok (pruned_once f params seed p q laws first second)
 generates_once f params seed (Ok p) (Err SizeTooLarge) laws first second = absurd (omega (arith, first.0, second))
 generates_once f params seed (Ok p) (Err Graded) laws first second = absurd (no_letter params.letter first.1 second.1)
 generates_once f params seed (Err SizeTooLarge) (Ok q) laws first second = absurd (omega (arith, second.0, first))

@@ -77,8 +77,9 @@ order_of_permutation n xs same =
     let below = All-permutation (λ i. i < n) (range_with_len 0 n) xs same (range_below n) in
     let once : (v : ℕ) → v < n → times_in v xs ≡ 1 = λ v small.
     sum_by-IsPermutation (λ x. cond (eqb x v) 1 0) (range_with_len 0 n) xs same ∙ sym (range_once n v small) in
-    let found : (i : ℕ) → i < n → (k : ℕ) × (k < length xs) × (get_or xs k 0 ≡ i) = λ i small.
-    place_of_counted i xs (omega (arith, once i small)) in
+    let found : (i : ℕ) → i < n → (place_in i xs < length xs) × (get_or xs (place_in i xs) 0 ≡ i) = λ i small.
+    let (k, within, here) = place_of_counted i xs (omega (arith, once i small)) in
+    let (early, there) = place_found i xs k within here in (omega (arith, within, early), there) in
     record {
       count = count;
       items = λ k small. below k 0 (omega arith);
@@ -93,8 +94,8 @@ order_of_permutation n xs same =
             ))
             | inr here ↦ omega (arith, first.0)
           ];
-      inside = λ i small. let at = found i small in omega (arith, at.1, (place_found i xs at.0 at.1 at.2).0);
-      back = λ i small. let at = found i small in (place_found i xs at.0 at.1 at.2).1;
+      inside = λ i small. omega (arith, (found i small).0);
+      back = λ i small. (found i small).1;
     }
 
 -- ---- lists that are filled up in place
@@ -119,5 +120,5 @@ refilled n first lent order made same is =
 pub refilled_drawn : {S : Type 0} (drawn : ℕ → List ℕ × S) (n : ℕ) (first lent order : List ℕ) (left : S) → first ≡ range_with_len 0 n
     → lent ≡ first → IsOrder (length lent) order → (order, left) ≡ drawn (length lent) → (refill (length first) first order, left) ≡ drawn n
 refilled_drawn drawn n first lent order left made same is drew =
-    let done = refilled n first lent order made same is in
-    ap (λ (xs : List ℕ). (xs, left)) done.1 ∙ drew ∙ ap drawn done.0
+    let (count, whole, order) = refilled n first lent order made same is in
+    ap (λ (xs : List ℕ). (xs, left)) whole ∙ drew ∙ ap drawn count

@@ -14,10 +14,20 @@ mod program_name;
 mod system_files;
 mod whole_game;
 
-use crate::ending::status_of;
-use crate::whole_game::play_words;
+use crate::process_words::ProcessWords;
+use crate::system_files::SystemFiles;
+use crate::whole_game::program;
+use puzzle_io::{FromRead, ToWrite};
+use std::io;
 use std::process::ExitCode;
 
 fn main(rt: HostRuntime) -> ExitCode {
-    ExitCode::from(status_of(&rt, play_words(&rt)))
+    ExitCode::from(program(
+        &rt,
+        rt.alloc(),
+        &ProcessWords { rt: &rt },
+        &mut SystemFiles { rt: &rt },
+        &mut FromRead::new(rt.reader()),
+        &mut ToWrite::new(io::writer(&rt)),
+    ))
 }

@@ -1,10 +1,12 @@
-//! The words of the process, and what they say.
+//! The words of a program, and what they say.
 
-ghost use Rattle.std.specs.Prelude.{IfOk};
-ghost use Rattle.puzzle_cli.specs.CommandLine.{NotBoth};
+ghost use Rattle.std.specs.Prelude.{◌≡◌, List, Result, Ok, Err, IfOk, IfErr, map, string_bytes};
+ghost use Rattle.puzzle_cli.specs.CommandLine.{AreRead, word_texts};
+ghost use Rattle.puzzle_cli.specs.GameFiles.{Word};
+ghost use Rattle.puzzle_cli.specs.declared.start.command_fault.CommandFault.{CommandFault};
 
 use puzzle_cli::{Args, CommandFault, ProgramTexts, read_words_of};
-use std::alloc::Global;
+use std::alloc::{AllocError, Global};
 use std::rt::Env;
 use std::{env, io};
 
@@ -12,12 +14,34 @@ use std::{env, io};
 const NO_TEXT: &str =
     "error: a word of the command line is no UTF-8 text\n\nFor more information, try '--help'.\n";
 
-/// The words of the process, the name that it was called by before the others.
-pub(crate) fn process_words(rt: &(impl Env + AllocGlobal)) -> Result<Vec<String>, CommandFault> {
-    match env::args(rt) {
-        Ok(words) => Ok(words.collect(rt.alloc())?),
-        Err(error) if error.kind() == io::ErrorKind::OutOfMemory => Err(CommandFault::OutOfMemory),
-        Err(_) => Err(CommandFault::BadWords(String::from_str(rt.alloc(), NO_TEXT)?)),
+/// Where the words of a program come from.
+pub(crate) trait Words {
+    // What may come of asking for the words: these, the name that the program was called by before the others, or why there are none.
+    ghost gives: { Self → Result (List Word) CommandFault → Type 0 };
+
+    /// The words.
+    fn words(&self) -> Result<Vec<String>, CommandFault>
+        ensures ok { IfOk result (λ words. gives self.now (Ok words.items)) }
+        ensures err { IfErr result (λ fault. gives self.now (Err fault)) };
+}
+
+/// The words of the process. No contract can say which they are.
+#[derive(Drop)]
+pub(crate) struct ProcessWords<'a, R> {
+    pub(crate) rt: &'a R,
+}
+
+impl<R: Env + AllocGlobal> Words for ProcessWords<'_, R> {
+    ghost gives = { λ _ _. Unit {0} };
+
+    fn words(&self) -> Result<Vec<String>, CommandFault> {
+        match env::args(self.rt) {
+            Ok(words) => Ok(words.collect(self.rt.alloc())?),
+            Err(error) if error.kind() == io::ErrorKind::OutOfMemory => {
+                Err(CommandFault::OutOfMemory)
+            }
+            Err(_) => Err(CommandFault::BadWords(String::from_str(self.rt.alloc(), NO_TEXT)?)),
+        }
     }
 }
 
@@ -27,11 +51,19 @@ pub(crate) fn args(
     texts: &ProgramTexts,
     words: &[String],
 ) -> Result<Args, CommandFault>
-    ensures { IfOk result (λ args. NotBoth args.id args.load) }
+    ensures { AreRead (map string_bytes words.now) result }
 {
-    let mut texts_of_words = Vec::new(alloc);
+    let words = texts_of(alloc, words)?;
+    read_words_of(alloc, texts, &words)
+}
+
+// The same words as texts.
+fn texts_of<'a>(alloc: Global, words: &'a [String]) -> Result<Vec<&'a str>, AllocError>
+    ensures { IfOk result (λ list. word_texts list.items ≡ map string_bytes words.now) }
+{
+    let mut list = Vec::new(alloc);
     for word in words {
-        texts_of_words.push(word.as_str())?;
+        list.push(word.as_str())?;
     }
-    read_words_of(alloc, texts, &texts_of_words)
+    Ok(list)
 }

@@ -1,48 +1,110 @@
-//! A game of the system: from the words of the process to the file that it is saved to.
+//! The program as one expression: from the words of a process to a status, over files and streams.
 
-ghost use Rattle.std.specs.Prelude.{IfErr};
-ghost use Rattle.puzzles.specs.Endings.{IsHelpOrFails};
+ghost use Rattle.std.specs.Prelude.{◌≡◌, false, List, Result, map, string_bytes};
+ghost use Rattle.std.specs.Result.{result_err};
+ghost use Rattle.puzzle_cli.specs.GameFiles.{Word};
+ghost use Rattle.puzzle_cli.specs.Programs.{OfGame};
+ghost use Rattle.puzzle_cli.specs.declared.start.command_fault.CommandFault.{CommandFault};
+ghost use Rattle.puzzles.specs.WholePrograms.{EndsBy, IsGameIn, IsOfWords, IsProgram, world};
 
+use crate::ending::status_of;
 use crate::json_texts::PUZZLES_JSON;
-use crate::process_words::{args, process_words};
+use crate::process_words::{Words, args};
 use crate::program_name::{ProgramName, program_name};
-use crate::system_files::SystemFiles;
 use clue_rules::{Towers, Unequal};
 use json_replies::Json;
-use puzzle_cli::{Fault, Format, PUZZLES, Plain, ProgramTexts, play};
-use puzzle_io::{FromRead, ToWrite};
-use std::fs::File;
-use std::io;
-use std::random::RandomSource;
-use std::rt::{Env, Files};
+use puzzle_cli::{Facts, Fault, Format, GameFiles, PUZZLES, Plain, ProgramTexts, play};
+use puzzle_io::{Sink, Source};
+use std::alloc::Global;
 
-/// Reads the command line and plays the game that it names, in the format of the name that the program is called by, as
-/// [`play`](puzzle_cli::play) does: from standard input to standard output, over the files of the system.
+/// Reads the words, plays the game that they name, in the format of the name that the program is called by, as
+/// [`play`](puzzle_cli::play) does, from the source to the sink and over the files, and gives the status that says how it ended.
 ///
-/// `Words` where the words of the process are refused, or ask for help; else the faults of `play`. Each but help has a status other
-/// than 0.
-pub(crate) fn play_words<R: Env + Files<File = File> + RandomSource + Input + Print + AllocGlobal>(
-    rt: &R,
-) -> Result<(), Fault>
-    ensures { IfErr result IsHelpOrFails }
+/// Neither stream has failed before.
+pub(crate) fn program<T: Print + Eprint, A: Words, F: GameFiles, R: Source, W: Sink>(
+    rt: &T,
+    alloc: Global,
+    words: &A,
+    files: &mut F,
+    source: &mut R,
+    sink: &mut W,
+) -> u8
+    requires source { R.has_failed source.old ≡ false }
+    requires sink { W.has_failed sink.old ≡ false }
+    ensures { let old = world files.old source.old sink.old in let new = world files.new source.new sink.new in
+        (given : Result (List Word) CommandFault) × A.gives words.now given × IsProgram old new given
+        (λ list. EndsBy (IsOfWords old new list (λ args fault. OfGame args.game
+        (IsGameIn ⟦<Towers as Facts>⟧.facts ⟦<Plain as Format<Towers>>⟧.reply F.reads F.writes R.Source W.Sink old new args fault)
+        (IsGameIn ⟦<Unequal as Facts>⟧.facts ⟦<Plain as Format<Unequal>>⟧.reply F.reads F.writes R.Source W.Sink old new args fault)))
+        result)
+        (λ list. EndsBy (IsOfWords old new list (λ args fault. OfGame args.game
+        (IsGameIn ⟦<Towers as Facts>⟧.facts ⟦<Json as Format<Towers>>⟧.reply F.reads F.writes R.Source W.Sink old new args fault)
+        (IsGameIn ⟦<Unequal as Facts>⟧.facts ⟦<Json as Format<Unequal>>⟧.reply F.reads F.writes R.Source W.Sink old new args fault)))
+        result)
+        result }
 {
-    let words = process_words(rt).map_err(Fault::Words)?;
+    let words = match words.words() {
+        Ok(words) => words,
+        Err(fault) => return status_of(rt, Err(Fault::Words(fault))),
+    };
     match program_name(&words) {
-        ProgramName::Puzzles => play_in::<Plain, R>(rt, &PUZZLES, &words),
-        ProgramName::PuzzlesJson => play_in::<Json, R>(rt, &PUZZLES_JSON, &words),
+        ProgramName::Puzzles => {
+            program_in::<Plain, T, F, R, W>(rt, alloc, &PUZZLES, &words, files, source, sink)
+        }
+        ProgramName::PuzzlesJson => {
+            program_in::<Json, T, F, R, W>(rt, alloc, &PUZZLES_JSON, &words, files, source, sink)
+        }
     }
 }
 
-// Does so in this format, for a program with these texts.
-fn play_in<
-    T: Format<Towers> + Format<Unequal>,
-    R: Files<File = File> + RandomSource + Input + Print + AllocGlobal,
->(rt: &R, texts: &ProgramTexts, words: &[String]) -> Result<(), Fault>
-    ensures { IfErr result IsHelpOrFails }
+// Does so in this format, for a program with these texts and words.
+fn program_in<
+    N: Format<Towers> + Format<Unequal>,
+    T: Print + Eprint,
+    F: GameFiles,
+    R: Source,
+    W: Sink,
+>(
+    rt: &T,
+    alloc: Global,
+    texts: &ProgramTexts,
+    words: &[String],
+    files: &mut F,
+    source: &mut R,
+    sink: &mut W,
+) -> u8
+    requires source { R.has_failed source.old ≡ false }
+    requires sink { W.has_failed sink.old ≡ false }
+    ensures { let old = world files.old source.old sink.old in let new = world files.new source.new sink.new in
+        EndsBy (IsOfWords old new words.now (λ args fault. OfGame args.game
+        (IsGameIn ⟦<Towers as Facts>⟧.facts ⟦<N as Format<Towers>>⟧.reply F.reads F.writes R.Source W.Sink old new args fault)
+        (IsGameIn ⟦<Unequal as Facts>⟧.facts ⟦<N as Format<Unequal>>⟧.reply F.reads F.writes R.Source W.Sink old new args fault)))
+        result }
 {
-    let args = args(rt.alloc(), texts, words).map_err(Fault::Words)?;
-    let mut files = SystemFiles { rt };
-    let mut source = FromRead::new(rt.reader());
-    let mut sink = ToWrite::new(io::writer(rt));
-    play::<T, _, _, _>(rt.alloc(), &args, &mut files, &mut source, &mut sink)
+    let ended = play_words::<N, F, R, W>(alloc, texts, words, files, source, sink);
+    status_of(rt, ended)
+}
+
+// Reads the words and plays the game.
+#[tactic(auto, using(crate::proofs::WholeGames::of_args))]
+fn play_words<N: Format<Towers> + Format<Unequal>, F: GameFiles, R: Source, W: Sink>(
+    alloc: Global,
+    texts: &ProgramTexts,
+    words: &[String],
+    files: &mut F,
+    source: &mut R,
+    sink: &mut W,
+) -> Result<(), Fault>
+    requires source { R.has_failed source.old ≡ false }
+    requires sink { W.has_failed sink.old ≡ false }
+    ensures { let old = world files.old source.old sink.old in let new = world files.new source.new sink.new in
+        IsOfWords old new words.now (λ args fault. OfGame args.game
+        (IsGameIn ⟦<Towers as Facts>⟧.facts ⟦<N as Format<Towers>>⟧.reply F.reads F.writes R.Source W.Sink old new args fault)
+        (IsGameIn ⟦<Unequal as Facts>⟧.facts ⟦<N as Format<Unequal>>⟧.reply F.reads F.writes R.Source W.Sink old new args fault))
+        (result_err result) }
+{
+    match args(alloc, texts, words) {
+        Ok(args) => play::<N, F, R, W>(alloc, &args, files, source, sink),
+        Err(fault) => Err(Fault::Words(fault)),
+    }
 }

@@ -25,9 +25,9 @@ module _ (old : List FolderChange) (change : FolderChange) where
   pub grows : ChangesGoOn old grown
   grows = record {
     later = omega (arith, size);
-    nothing_else = λ t f le stood. elim (cases_eq stood.0 (length old + 1)) [
-      | inl last ↦ inr (λ name. stood.3 name ∙ whole stood.0 name last)
-      | inr earlier ↦ let within : stood.0 ≤ length old = omega (arith, stood.2, size, earlier) in inl (stood.0, stood.1, within, λ name. stood.3 name ∙ front stood.0 name within)
+    nothing_else = λ t f le (k, since, among, same). elim (cases_eq k (length old + 1)) [
+      | inl last ↦ inr (λ name. same name ∙ whole k name last)
+      | inr earlier ↦ let within : k ≤ length old = omega (arith, among, size, earlier) in inl (k, since, within, λ name. same name ∙ front k name within)
     ];
-    keeps = λ t f le stood. (stood.0, stood.1, omega (arith, stood.2, size), λ name. stood.3 name ∙ sym (front stood.0 name stood.2));
+    keeps = λ t f le (k, since, within, same). (k, since, omega (arith, within, size), λ name. same name ∙ sym (front k name within));
   }

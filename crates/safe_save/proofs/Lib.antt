@@ -1,4 +1,5 @@
 mod Crashes
 mod Growth
 mod Moments
+mod Readers
 mod Touching

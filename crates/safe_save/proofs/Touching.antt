@@ -35,9 +35,7 @@ then name old mid new first second = record {
 }
   where
     back : (f : Image) → IsTouchedFrom name mid f → IsTouchedFrom name old f
-    back f from =
-        let earlier = first.crash from.0 from.1 in
-        (earlier.0, earlier.1, λ n apart. from.2 n apart ∙ earlier.2 n apart)
+    back f (g, left, touched) = let (h, earlier, before) = first.crash g left in (h, earlier, λ n apart. touched n apart ∙ before n apart)
 
 -- what two facts at `Ok` give there
 pub both : {T E P Q R : Type 0} (result : Result T E) → OnOk result P → OnOk result Q → (P → Q → R) → OnOk result R

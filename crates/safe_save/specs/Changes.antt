@@ -36,7 +36,7 @@ pub record ChangesGoOn (old new : List FolderChange) : Type 0 where
   pub nothing_else : (t : ℕ) (f : Image) → t ≤ length old → HasStood new t f → HasStood old t f ⊎ Same (image_of new) f
   pub keeps : (t : ℕ) (f : Image) → t ≤ length old → HasStood old t f → HasStood new t f
 
--- what a folder tells that was empty before these changes: each is made at once, so a crash leaves what stands there
+-- what a folder tells that was empty before these changes: each is made at once, so a crash leaves what stands there, and nobody else may read it
 abbrev pub told : List FolderChange → (FolderCall → FolderFault → ℕ) → FolderState
 told changes failed = record {
   stands = image_of changes;
@@ -44,6 +44,7 @@ told changes failed = record {
   moment = length changes;
   left_since = HasStood changes;
   last_failed = failed;
+  may_read = λ _ _. ⊥;
 }
 
 -- the same of its content alone

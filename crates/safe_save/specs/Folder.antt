@@ -1,5 +1,5 @@
 -- What a folder tells of itself, and what its calls do to that.
-use Rattle.std.specs.Prelude.{◌≡◌, ◌≢◌, ◌⊎◌, ℕ, ◌≤◌, ◌<◌, List, ◌++◌, Option, Some, None, Result, IfErr}
+use Rattle.std.specs.Prelude.{◌≡◌, ◌≢◌, ◌⊎◌, ℕ, ◌≤◌, ◌<◌, List, ◌++◌, Option, Some, None, IsSome, Result, IfErr}
 use Rattle.safe_save.specs.declared.folder.FolderCall.{FolderCall}
 use Rattle.safe_save.specs.declared.folder.FolderFault.{FolderFault}
 
@@ -19,6 +19,8 @@ pub record FolderState : Type 1 where
   pub left_since : ℕ → Image → Type 0
   -- the moment, counted from 1, at which each kind of call last failed with each fault; 0 where it never did
   pub last_failed : FolderCall → FolderFault → ℕ
+  -- who may read the file at each name, by the numbers of all users but the one whose folder this is
+  pub may_read : List ℕ → ℕ → Type 0
 
 -- what stands for the state of a folder that tells nothing
 abbrev pub untold : FolderState
@@ -28,6 +30,7 @@ untold = record {
   moment = 0;
   left_since = λ _ _. ⊥;
   last_failed = λ _ _. 0;
+  may_read = λ _ _. ⊥;
 }
 
 -- at each name stands what stood there
@@ -55,6 +58,18 @@ pub record Moved (from to : List ℕ) (old new : Image) : Type 0 where
 pub record MayMove (from to : List ℕ) (old new : Image) : Type 0 where
   pub whole : ((new from ≡ old from) × (new to ≡ old to)) ⊎ (new to ≡ old from)
   pub others : TouchedBoth from to old new
+
+-- where a file stood at the path, nobody may read the one at the name now who might not read that one
+abbrev pub NoWider : List ℕ → List ℕ → FolderState → FolderState → Type 0
+NoWider name path old new = IsSome (old.stands path) → (user : ℕ) → new.may_read name user → old.may_read path user
+
+-- at each name where a file stood nobody may read now who might not
+abbrev pub WidensNone : FolderState → FolderState → Type 0
+WidensNone old new = (n : List ℕ) → NoWider n n old new
+
+-- the same at each other name
+abbrev pub WidensNoOther : List ℕ → FolderState → FolderState → Type 0
+WidensNoOther name old new = (n : List ℕ) → n ≢ name → NoWider n n old new
 
 -- each image that a crash may leave now is one that it could leave before, changed so
 abbrev pub Follows : (Image → Image → Type 0) → FolderState → FolderState → Type 0

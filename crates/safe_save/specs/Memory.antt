@@ -28,4 +28,4 @@ stands_now changes t f le same =
 
 -- since the last change nothing else has stood there
 pub only_last : (changes : List FolderChange) (f : Image) → HasStood changes (length changes) f → Same (image_of changes) f
-only_last changes f stood = λ name. stood.3 name ∙ ap (λ all. image_of all name) (take_all stood.0 changes (omega (arith, stood.1)))
+only_last changes f (k, since, within, same) = λ name. same name ∙ ap (λ all. image_of all name) (take_all k changes (omega (arith, since)))

@@ -1,5 +1,5 @@
 -- What a save promises.
-use Rattle.std.specs.Prelude.{◌≡◌, ◌⊎◌, ℕ, List, Some, Result, Err}
+use Rattle.std.specs.Prelude.{◌≡◌, ◌⊎◌, ℕ, List, Some, IsSome, Result, Err}
 use Rattle.safe_save.specs.Folder.{Image, FolderState, Touched, Follows, LeavesOnly, KeepsFaults, FailedWith, HasFailed}
 use Rattle.safe_save.specs.declared.folder.FolderCall.{FolderCall}
 use Rattle.safe_save.specs.declared.folder.FolderCall.TheVariants.{OpenNew, Write, TakeAfter, Flush, Rename, Overwrite, Remove}
@@ -68,6 +68,11 @@ IsOldOrNew path beside bytes old new f =
 -- the path or the new file has the bytes
 abbrev pub IsAtEither : List ℕ → List ℕ → List ℕ → Image → Type 0
 IsAtEither path beside bytes f = (f path ≡ Some bytes) ⊎ (f beside ≡ Some bytes)
+
+-- where a file stood at the path, nobody may read the one there now who might read neither that one nor the new one
+abbrev pub ReadAsEither : List ℕ → List ℕ → FolderState → FolderState → Type 0
+ReadAsEither path beside old new =
+    IsSome (old.stands path) → (user : ℕ) → new.may_read path user → old.may_read path user ⊎ old.may_read beside user
 
 -- an image that a crash could have left before, changed at this name alone
 abbrev pub IsTouchedFrom : List ℕ → FolderState → Image → Type 0

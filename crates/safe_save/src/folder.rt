@@ -1,7 +1,7 @@
 //! What a folder has to keep, and the fault that its calls answer.
 
 ghost use Rattle.std.specs.Prelude.{◌≡◌, ◌≢◌, ◌≤◌, ℕ, Some, None, [], IsSome, OnOk, OnErr, IsErrOf};
-ghost use Rattle.safe_save.specs.Folder.{Image, FolderState, Same, Touched, TouchedBoth, Appended, Moved, MayMove, Follows, IsDurable, Elapses, HasCause};
+ghost use Rattle.safe_save.specs.Folder.{Image, FolderState, Same, Touched, TouchedBoth, Appended, Moved, MayMove, Follows, IsDurable, Elapses, HasCause, NoWider, WidensNone, WidensNoOther};
 
 /// Why a call of a folder failed.
 #[derive(Clone, Copy, Debug, PartialEq, Eq)]
@@ -58,6 +58,7 @@ pub trait Folder {
         ensures others { tells → Touched name.now (state self.old).stands (state self.new).stands }
         ensures crash { tells → Follows (Touched name.now) (state self.old) (state self.new) }
         ensures time { tells → Elapses (Touched name.now) (state self.old) (state self.new) }
+        ensures readers { tells → WidensNone (state self.old) (state self.new) }
         ensures cause { tells → HasCause FolderCall.OpenNew (state self.old) (state self.new) result };
 
     /// Writes all the bytes to the end of the new file that was opened last under the name.
@@ -69,15 +70,19 @@ pub trait Folder {
         ensures others { tells → Touched name.now (state self.old).stands (state self.new).stands }
         ensures crash { tells → Follows (Touched name.now) (state self.old) (state self.new) }
         ensures time { tells → Elapses (Touched name.now) (state self.old) (state self.new) }
+        ensures readers { tells → WidensNone (state self.old) (state self.new) }
         ensures cause { tells → HasCause FolderCall.Write (state self.old) (state self.new) result };
 
-    /// Gives the new file under the name the owner, the group and the mode of the file at the path, where one stands.
+    /// Gives the new file under the name the owner, the group and the mode of the file at the path, where one stands, so that
+    /// nobody may read the one who may not read the other.
     ///
     /// No content changes, after a fault neither.
     fn take_after(&mut self, name: &str, path: &str) -> Result<(), FolderFault>
         ensures kept { tells → Same (state self.old).stands (state self.new).stands }
         ensures crash { tells → Follows (Touched name.now) (state self.old) (state self.new) }
         ensures time { tells → Elapses (Touched name.now) (state self.old) (state self.new) }
+        ensures rights { tells → OnOk result (NoWider name.now path.now (state self.old) (state self.new)) }
+        ensures readers { tells → WidensNoOther name.now (state self.old) (state self.new) }
         ensures cause { tells → HasCause FolderCall.TakeAfter (state self.old) (state self.new) result };
 
     /// Puts what stands at the name where a crash leaves it.
@@ -89,6 +94,7 @@ pub trait Folder {
         ensures others { tells → Touched name.now (state self.old).stands (state self.new).stands }
         ensures crash { tells → Follows (Touched name.now) (state self.old) (state self.new) }
         ensures time { tells → Elapses (Touched name.now) (state self.old) (state self.new) }
+        ensures readers { tells → WidensNone (state self.old) (state self.new) }
         ensures cause { tells → HasCause FolderCall.Flush (state self.old) (state self.new) result };
 
     /// Moves the file at `from` to the name `to`, in the place of what stands there, so that a crash leaves the one or the other.
@@ -107,6 +113,9 @@ pub trait Folder {
         ensures crash { tells → Follows (MayMove from.now to.now) (state self.old)
             (state self.new) }
         ensures time { tells → Elapses (MayMove from.now to.now) (state self.old) (state self.new) }
+        ensures rights { tells → OnOk result (NoWider to.now from.now (state self.old) (state self.new)) }
+        ensures narrow { tells → OnErr result (WidensNone (state self.old) (state self.new)) }
+        ensures readers { tells → WidensNoOther to.now (state self.old) (state self.new) }
         ensures cause { tells → HasCause FolderCall.Rename (state self.old) (state self.new) result };
 
     /// Writes the bytes over the file at the name, and puts them where a crash leaves them.
@@ -118,6 +127,7 @@ pub trait Folder {
         ensures others { tells → Touched name.now (state self.old).stands (state self.new).stands }
         ensures crash { tells → Follows (Touched name.now) (state self.old) (state self.new) }
         ensures time { tells → Elapses (Touched name.now) (state self.old) (state self.new) }
+        ensures readers { tells → WidensNone (state self.old) (state self.new) }
         ensures cause { tells → HasCause FolderCall.Overwrite (state self.old) (state self.new) result };
 
     /// Takes the file at the name away. After a fault what stands is unchanged.
@@ -127,6 +137,7 @@ pub trait Folder {
         ensures others { tells → Touched name.now (state self.old).stands (state self.new).stands }
         ensures crash { tells → Follows (Touched name.now) (state self.old) (state self.new) }
         ensures time { tells → Elapses (Touched name.now) (state self.old) (state self.new) }
+        ensures readers { tells → WidensNone (state self.old) (state self.new) }
         ensures cause { tells → HasCause FolderCall.Remove (state self.old) (state self.new) result };
 
     /// Puts what stands at the path, also after a rename, where a crash leaves it. No content changes, after a fault neither.
@@ -135,6 +146,7 @@ pub trait Folder {
         ensures durable { tells → OnOk result (IsDurable path.now (state self.new)) }
         ensures crash { tells → Follows Same (state self.old) (state self.new) }
         ensures time { tells → Elapses Same (state self.old) (state self.new) }
+        ensures readers { tells → WidensNone (state self.old) (state self.new) }
         ensures cause { tells → HasCause FolderCall.FlushFolder (state self.old)
             (state self.new) result };
 

@@ -1,8 +1,8 @@
 //! A save: bytes take the place of a file, by a new file beside it.
 
 ghost use Rattle.std.specs.Prelude.{◌≡◌, ◌≢◌, ◌⊎◌, Some, None, [], IsSome, OnOk, OnErr, IsErrOf};
-ghost use Rattle.safe_save.specs.Folder.{TouchedBoth, LeavesOnly, KeepsFaults, HasFailed};
-ghost use Rattle.safe_save.specs.Save.{IsStored, IsLeftBeside, IsGivenUp, IsCleared, Keeps, KeepsPath, KeepsBeside, FillFailed, IsOldOrNew, IsAtEither, TouchesOnly};
+ghost use Rattle.safe_save.specs.Folder.{TouchedBoth, LeavesOnly, KeepsFaults, HasFailed, NoWider, WidensNoOther};
+ghost use Rattle.safe_save.specs.Save.{IsStored, IsLeftBeside, IsGivenUp, IsCleared, Keeps, KeepsPath, KeepsBeside, FillFailed, IsOldOrNew, IsAtEither, ReadAsEither, TouchesOnly};
 
 use crate::folder::{Folder, FolderCall, FolderFault};
 
@@ -50,6 +50,9 @@ pub fn save<F: Folder>(
     ensures gone { F.tells → IsCleared result
         → KeepsBeside beside.now (F.state folder.old) (F.state folder.new) }
 
+    // A file at the path is never replaced by one that more may read.
+    ensures private { F.tells → NoWider path.now path.now (F.state folder.old) (F.state folder.new) }
+
     // A crash at any moment of the call leaves the old file or the new one.
     ensures any_moment { F.tells → LeavesOnly (F.state folder.old) (F.state folder.new)
         (IsOldOrNew path.now beside.now bytes.now (F.state folder.old) (F.state folder.new)) }
@@ -90,6 +93,8 @@ fn fill<F: Folder>(
     requires { F.tells → (F.state folder.old).stands beside.now ≡ Some [] }
     ensures filled { F.tells → OnOk result (IsStored beside.now bytes.now (F.state folder.new)) }
     ensures touches { F.tells → TouchesOnly beside.now (F.state folder.old) (F.state folder.new) }
+    ensures private { F.tells → OnOk result (NoWider beside.now path.now (F.state folder.old) (F.state folder.new)) }
+    ensures readers { F.tells → WidensNoOther beside.now (F.state folder.old) (F.state folder.new) }
     ensures cause { F.tells → OnErr result (FillFailed (F.state folder.old) (F.state folder.new)) }
 {
     folder.take_after(beside, path)?;
@@ -115,6 +120,7 @@ fn replace<F: Folder>(
     ensures left_path { F.tells → IsErrOf result SaveFault.LeftBeside
         → KeepsPath path.now (F.state folder.old) (F.state folder.new) }
     ensures others { F.tells → TouchedBoth beside.now path.now (F.state folder.old).stands (F.state folder.new).stands }
+    ensures readers { F.tells → ReadAsEither path.now beside.now (F.state folder.old) (F.state folder.new) }
     ensures gone { F.tells → IsCleared result → ((F.state folder.new).stands beside.now ≡ None)
         ⊎ HasFailed FolderCall.Remove (F.state folder.old) (F.state folder.new) }
     ensures any_moment { F.tells → LeavesOnly (F.state folder.old) (F.state folder.new)
@@ -148,6 +154,7 @@ fn in_place<F: Folder>(
     ensures one_fault { OnErr result (result ≡ Err SaveFault.LeftBeside) }
     ensures left { F.tells → OnErr result (IsStored beside.now bytes.now (F.state folder.new)) }
     ensures others { F.tells → TouchedBoth beside.now path.now (F.state folder.old).stands (F.state folder.new).stands }
+    ensures readers { F.tells → NoWider path.now path.now (F.state folder.old) (F.state folder.new) }
     ensures gone { F.tells → OnOk result (((F.state folder.new).stands beside.now ≡ None)
         ⊎ HasFailed FolderCall.Remove (F.state folder.old) (F.state folder.new)) }
     ensures any_moment { F.tells → LeavesOnly (F.state folder.old) (F.state folder.new)

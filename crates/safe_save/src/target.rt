@@ -3,6 +3,7 @@
 //! A call by a name has room for that name on the stack. What makes such calls isn't inlined, so that few have theirs at once.
 
 ghost use Rattle.std.specs.Prelude.{IfErr, OnOk};
+ghost use Rattle.safe_save.specs.Folder.{NoWider};
 ghost use Rattle.safe_save.specs.Save.{IsStored};
 ghost use Rattle.safe_save.specs.Targets.{IsToldOf};
 
@@ -151,6 +152,7 @@ fn save_beside<R: RandomSource + AllocGlobal, F: Folder>(
     ensures saved { F.tells → OnOk result (IsStored path.now bytes.now (F.state folder.new)) }
     ensures unsaved { F.tells → IfErr result (λ fault.
         IsToldOf path.now bytes.now (F.state folder.old) (F.state folder.new) fault) }
+    ensures private { F.tells → NoWider path.now path.now (F.state folder.old) (F.state folder.new) }
 {
     for _ in 0..MOST_NAMES {
         let beside = fresh_name(rt, path)?;

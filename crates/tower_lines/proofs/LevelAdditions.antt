@@ -1,5 +1,5 @@
 -- Masks that are added to the levels, one set after another, and whether there are any.
-use Rattle.std.proofs.Common.{◌≡◌, ℕ, ◌+◌, ◌<◌, ◌≤◌, ◌⊎◌, ◌↔◌, inl, inr, Bool, true, false, ◌||◌, List, refl, sym, subst, arith}
+use Rattle.std.proofs.Common.{◌≡◌, ℕ, ◌+◌, ◌<◌, ◌≤◌, ◌⊎◌, ◌↔◌, inl, inr, Bool, true, false, ◌||◌, List, refl, arith}
 use Rattle.std.proofs.lemmas.Bool.{false≢true, both_ways, cases_eq, or_cases, or_left, or_right}
 use Rattle.tower_lines.specs.Inner.MaskSets.{has_mask, has_at}
 use Rattle.tower_lines.specs.Inner.Levels.{AreAdded, AreNoted, IsCommon}
@@ -47,7 +47,7 @@ added_as Other Added old now added is level mask = (
 pub noted_none : (Added : ℕ → ℕ → Type 0) (old : List (List ℕ)) → ((level mask : ℕ) → Added level mask → ⊥) → AreNoted Added old old false
 noted_none Added old none = record {
   added = added_none Added old none;
-  some = (λ e. absurd (false≢true e), λ r. absurd (none r.0 r.1 r.2));
+  some = (λ e. absurd (false≢true e), λ (level, mask, added). absurd (none level mask added));
 }
 
 pub noted_both : (First Second Added : ℕ → ℕ → Type 0) (old mid now : List (List ℕ)) (some more : Bool) → AreNoted First old mid some
@@ -56,12 +56,12 @@ noted_both First Second Added old mid now some more first second is = record {
   added = added_both First Second Added old mid now first.added second.added is;
   some = (
     λ e. elim (or_cases some more e) [
-      | inl here ↦ (let r = first.some.0 here in (r.0, r.1, (is r.0 r.1).1 (inl r.2)))
-      | inr there ↦ (let r = second.some.0 there in (r.0, r.1, (is r.0 r.1).1 (inr r.2)))
+      | inl here ↦ (let (level, mask, added) = first.some.0 here in (level, mask, (is level mask).1 (inl added)))
+      | inr there ↦ (let (level, mask, added) = second.some.0 there in (level, mask, (is level mask).1 (inr added)))
     ],
-    λ r. elim ((is r.0 r.1).0 r.2) [
-      | inl a ↦ or_left some more (first.some.1 (r.0, r.1, a))
-      | inr b ↦ or_right some more (second.some.1 (r.0, r.1, b))
+    λ (level, mask, added). elim ((is level mask).0 added) [
+      | inl a ↦ or_left some more (first.some.1 (level, mask, a))
+      | inr b ↦ or_right some more (second.some.1 (level, mask, b))
     ],
   );
 }
@@ -72,8 +72,8 @@ pub noted_as : (Other Added : ℕ → ℕ → Type 0) (old now : List (List ℕ)
 noted_as Other Added old now some noted is = record {
   added = added_as Other Added old now noted.added is;
   some = (
-    λ e. let r = noted.some.0 e in (r.0, r.1, (is r.0 r.1).1 r.2),
-    λ r. noted.some.1 (r.0, r.1, (is r.0 r.1).0 r.2),
+    λ e. let (level, mask, other) = noted.some.0 e in (level, mask, (is level mask).1 other),
+    λ (level, mask, added). noted.some.1 (level, mask, (is level mask).0 added),
   );
 }
 
@@ -88,10 +88,7 @@ pub at_level : (Added : ℕ → ℕ → Type 0) (at : ℕ) (old now : List (List
     → AreAdded (λ level mask. (level ≡ at) × (has_mask set mask ≡ true)) old now → AreAdded (IsOnlyAt at Added) old now
 at_level Added at old now set is added =
     added_as (λ level mask. (level ≡ at) × (has_mask set mask ≡ true)) (IsOnlyAt at Added) old now added (λ level mask.
-    let P : ℕ → Type 0 = λ i. Added i mask in (
-      λ a. (a.0, (is mask).1 (subst P a.0 a.1)),
-      λ s. (s.0, subst P (sym s.0) ((is mask).0 s.1)),
-    ))
+    (λ a. (a.0, (is mask).1 (rw a.0 at a.1)), λ s. (s.0, rw s.0 ((is mask).0 s.1))))
 
 -- those of a level that are in a set, put to it and told
 pub common_at_level : (Added : ℕ → ℕ → Type 0) (at : ℕ) (fronts old now : List (List ℕ)) (set : List ℕ) (some : Bool)
@@ -102,13 +99,10 @@ common_at_level Added at fronts old now set some is added told =
     noted_as (λ level mask. (level ≡ at) × IsCommon fronts set at mask) (IsOnlyAt at Added) old now some
     record {
       added = added;
-      some = (λ e. let r = told.0 e in (at, r.0, (refl, r.1)), λ r. let found = r.2 in told.1 (r.1, found.1));
+      some = (λ e. let (mask, common) = told.0 e in (at, mask, (refl, common)), λ (level, mask, found). told.1 (mask, found.1));
     }
     (λ level mask.
-    let P : ℕ → Type 0 = λ i. Added i mask in (
-      λ a. (a.0, (is mask).0 (subst P a.0 a.1)),
-      λ s. (s.0, subst P (sym s.0) ((is mask).1 s.1)),
-    ))
+    (λ a. (a.0, (is mask).0 (rw a.0 at a.1)), λ s. (s.0, rw s.0 ((is mask).1 s.1))))
 
 -- all masks are at that level
 pub only_level : (Added : ℕ → ℕ → Type 0) (at : ℕ) → ((level mask : ℕ) → Added level mask → level ≡ at)

@@ -1,7 +1,7 @@
 -- The levels of starts: how a value at the end leads from one to another, and that each start that a filling begins with has one.
 use Rattle.std.proofs.Common.{◌≡◌, ◌≢◌, ℕ, ◌+◌, ◌-◌, ◌^◌, ◌<◌, ◌≤◌, ◌↔◌, inl, inr, true, false, ◌||◌, eqb, ltb, List, [], ◌∷◌, ◌++◌, length, get_or, refl, sym, ap, ◌∙◌, arith, append_assoc}
 use Rattle.std.specs.List.{list_all}
-use Rattle.std.proofs.lemmas.Bool.{eqb-true, eqb-false, eq-eqb, ne_eqb, lt-ltb, le-ltb, cases_eq, cases_lt, cases_Bool, false≢true, both_ways, or_left}
+use Rattle.std.proofs.lemmas.Bool.{eqb-true, eqb-false, eq-eqb, ne_eqb, lt-ltb, le-ltb, cases_eq, cases_lt, cases_Bool, false≢true, or_left}
 use Rattle.std.proofs.Math.Bool.{or-false}
 use Rattle.std.proofs.lemmas.List.{nil_from_length}
 use Rattle.std.proofs.lemmas.List.Folds.{list_all_at, list_any-append}
@@ -9,12 +9,12 @@ use Rattle.tower_lines.specs.TowersSeen.{seen, seen_after}
 use Rattle.number_sets.specs.Sets.{has_number}
 use Rattle.tower_lines.specs.LineFillings.{IsStart, IsFilling}
 use Rattle.tower_lines.specs.Inner.LineMasks.{is_in}
-use Rattle.tower_lines.specs.Inner.Levels.{LacksLeast, IsMove, IsLowMask, IsAtLevel, IsLastStep, IsLeastStep, IsLowStep, IsStep}
+use Rattle.tower_lines.specs.Inner.Levels.{LacksLeast, Within, Hidden, Shown, First, Later, IsLowMask, IsAtLevel, IsStep, Greatest, Least, Between}
 use Rattle.number_sets.proofs.Members.{has_number-below}
 use Rattle.tower_lines.proofs.LowMaskLemmas.{low_mask_of, low_unique, low_bit, low_more, low_same, whole_of, whole_half, tower_half, least_tells, least_told, rest_low, rest_last}
 use Rattle.tower_lines.proofs.MaskLemmas.{is_in-push, is_in-push_same, tower_is, tower, seen-more}
 use Rattle.tower_lines.proofs.SeenLemmas.{seen-append, seen-push}
-use Rattle.tower_lines.proofs.StartLemmas.{IsNextValue, is_in-place, start_front, start_next, start_more}
+use Rattle.tower_lines.proofs.StartLemmas.{is_in-place, start_front, start_next, start_more}
 use Rattle.tower_lines.proofs.WholeLines.{whole_mask}
 
 -- ---- what is seen before and after the greatest value
@@ -22,8 +22,8 @@ use Rattle.tower_lines.proofs.WholeLines.{whole_mask}
 -- the greatest value hides what comes after it
 hidden_after : (p : List ℕ) (n x : ℕ) → is_in n p ≡ true → x ≤ n → list_all (λ y. ltb y x) p ≡ false
 hidden_after p n x has most =
-    let there = is_in-place n p has in
-    list_all_at (λ y. ltb y x) p there.0 0 there.1 (le-ltb (get_or p there.0 0) x (omega (arith, there.2)))
+    let (place, inside, here) = is_in-place n p has in
+    list_all_at (λ y. ltb y x) p place 0 inside (le-ltb (get_or p place 0) x (omega arith))
 
 none_seen : {sets : List ℕ} (p s : List ℕ) → IsStart sets (p ++ s) → is_in (length sets) p ≡ true → seen_after p s ≡ 0
 none_seen {sets} p [] start has = refl
@@ -141,24 +141,6 @@ pushed_at {sets} {clue} {level} {mask} {level_then} p k value at start used show
   ];
 }
 
--- the greatest value after a start at a level
-last_step_from : {sets : List ℕ} {clue k level mask level_then mask_then : ℕ} (p : List ℕ) → IsAtLevel sets clue level mask p → length p < length sets
-    → has_number (get_or sets (length p) 0) (k + 1) ≡ true → IsLastStep (length sets) clue k level mask level_then mask_then
-    → IsAtLevel sets clue level_then mask_then (p ++ (k + 1) ∷ [])
-last_step_from {sets} {clue} {k} {level} {mask} {level_then} {mask_then} p at room candidate s =
-    let is = s.value in
-    let before = s.before in
-    let after = s.after in
-    let lacks = at_low_lacks p at (omega arith) in
-    let next : IsNextValue sets p (k + 1) = record { room = room; low = omega arith; high = omega arith; candidate = candidate; fresh = rw is lacks } in
-    record {
-      start = start_more p (k + 1) at.start next;
-      used = rw s.same (low_same p (k + 1) at.used (λ j l e. omega arith));
-      low = omega arith;
-      shown = omega (arith, shown_last p k is at.start lacks, at.shown);
-      last = is_in-push_same p (k + 1) (length sets) is ∙ sym (eq-eqb level_then clue after);
-    }
-
 -- whether a start lacks the least value, by its mask
 lacks_least : {sets : List ℕ} {clue level mask : ℕ} (p : List ℕ) → 1 < length sets → IsAtLevel sets clue level mask p
     → LacksLeast (length p) clue level mask → is_in 1 p ≡ false
@@ -168,237 +150,180 @@ lacks_least {sets} {clue} {level} p more at told =
       | inr last ↦ least_told p (rest_last p more at.start (at.last ∙ eq-eqb level clue last.0) at.used) last.1
     ]
 
--- the least value
-least_step_from : {sets : List ℕ} {clue k level mask level_then mask_then : ℕ} (p : List ℕ) → IsAtLevel sets clue level mask p → length p < length sets
-    → has_number (get_or sets (length p) 0) (k + 1) ≡ true → IsLeastStep (length p) (length sets) clue k level mask level_then mask_then
-    → IsAtLevel sets clue level_then mask_then (p ++ (k + 1) ∷ [])
-least_step_from {sets} {clue} {k} {level} {mask} {level_then} {mask_then} p at room candidate s =
-    let value = s.value in
-    let more = s.more in
-    let one : 1 ≡ k + 1 = omega arith in
-    let next : is_in 1 p ≡ false → IsNextValue sets p (k + 1) = λ fresh. record {
-      room = room;
-      low = omega arith;
-      high = omega arith;
-      candidate = candidate;
-      fresh = ap (λ v. is_in v p) (sym one) ∙ fresh;
-    } in
-    let used : IsLowMask (length sets) mask_then (p ++ (k + 1) ∷ []) = rw s.same (low_same p (k + 1) at.used (λ j l e. omega arith)) in
-    elim s.moves [
-      | inl first ↦ (let fresh : is_in 1 p ≡ false = ap (is_in 1) (nil_from_length p first.0) in
-          pushed_at p k (omega arith) at (start_more p (k + 1) at.start (next fresh)) used (omega (arith, shown_first p (k + 1) first.0, at.shown, first.1))
-          (omega (arith, first.2)) (λ e. omega (arith, first.1, first.2), λ e. omega (arith, first.2)))
-      | inr later ↦ pushed_at p k (omega arith) at (start_more p (k + 1) at.start (next (lacks_least p more at later.2))) used
-          (omega (arith, shown_later p k value at.start later.0, at.shown, later.1)) (omega (arith, later.1, at.low))
-          (λ e. omega (arith, later.1), λ e. omega (arith, later.1))
-    ]
+-- a value that a start lacks, and the mask of the start with it
+record IsNew (sets : List ℕ) (k mask_then : ℕ) (p : List ℕ) : Type 0 where
+  high : k + 1 ≤ length sets
+  fresh : is_in (k + 1) p ≡ false
+  used : IsLowMask (length sets) mask_then (p ++ (k + 1) ∷ [])
 
--- a value between them
-low_step_from : {sets : List ℕ} {clue k level mask level_then mask_then : ℕ} (p : List ℕ) → IsAtLevel sets clue level mask p → length p < length sets
-    → has_number (get_or sets (length p) 0) (k + 1) ≡ true → IsLowStep (length sets) clue k level mask level_then mask_then
-    → IsAtLevel sets clue level_then mask_then (p ++ (k + 1) ∷ [])
-low_step_from {sets} {clue} {k} {level} {mask} {level_then} {mask_then} p at room candidate s =
-    let bit = s.bit in
-    let is = s.is in
-    let value = s.value in
-    let next : IsNextValue sets p (k + 1) = record {
-      room = room;
-      low = omega arith;
-      high = omega arith;
-      candidate = candidate;
-      fresh = sym (low_bit p k bit is at.used value) ∙ s.fresh;
-    } in
-    let start = start_more p (k + 1) at.start next in
-    let used : IsLowMask (length sets) mask_then (p ++ (k + 1) ∷ []) = rw s.more (low_more p k bit is at.used value s.fresh) in
-    elim s.moves [
-      | inl same ↦ pushed_at p k (omega arith) at start used
-          (omega (arith, shown_same p k start (at.last ∙ eq-eqb level clue same.0), at.shown, same.0, same.1)) (omega (arith, same.1)) (λ e. same.1, λ e. same.0)
-      | inr low ↦ elim low [
-        | inl hidden ↦ (let shown = shown_more p k bit is at.start (at_low_lacks p at hidden.0) at.used in
-            pushed_at p k (omega arith) at start used (omega (arith, shown, tower_none mask bit hidden.1, at.shown, hidden.2))
-            (omega (arith, hidden.0, hidden.2)) (λ e. omega (arith, hidden.2), λ e. omega (arith, hidden.2)))
-        | inr tower ↦ (let shown = shown_more p k bit is at.start (at_low_lacks p at (omega (arith, tower.1, tower.2))) at.used in
-            pushed_at p k (omega arith) at start used (omega (arith, shown, tower_one mask bit tower.0, at.shown, tower.1))
-            (omega (arith, tower.2)) (λ e. omega (arith, tower.1, tower.2), λ e. omega (arith, tower.2)))
-      ]
-    ]
+-- such is the value of a step, with the mask that it leads to
+step_new : {sets : List ℕ} {clue k level mask level_then mask_then : ℕ} (p : List ℕ) → IsAtLevel sets clue level mask p
+    → IsStep (length p) (length sets) clue k level mask level_then mask_then → IsNew sets k mask_then p
+step_new {sets} {clue} {k} {level} {mask} {level_then} {mask_then} p at (Greatest s) =
+    let is = s.value in
+    let lacks = at_low_lacks p at (omega (arith, s.before)) in
+    record { high = omega arith; fresh = rw is lacks; used = rw s.same (low_same p (k + 1) at.used (λ j l e. omega arith)) }
+step_new {sets} {clue} {k} {level} {mask} {level_then} {mask_then} p at (Least s) =
+    let one : k + 1 ≡ 1 = omega (arith, s.value) in
+    let fresh : is_in 1 p ≡ false = elim s.moves [
+      | First none next low ↦ ap (is_in 1) (nil_from_length p none)
+      | Later some same lacks ↦ lacks_least p s.more at lacks
+    ] in
+    record { high = omega (arith, s.more); fresh = ap (λ v. is_in v p) one ∙ fresh; used = rw s.same (low_same p (k + 1) at.used (λ j l e. omega arith)) }
+step_new {sets} {clue} {k} {level} {mask} {level_then} {mask_then} p at (Between bit is s) =
+    let fresh = sym (low_bit p k bit is at.used s.value) ∙ s.fresh in
+    record { high = omega (arith, s.value); fresh = fresh; used = rw s.more (low_more p k bit is at.used s.value s.fresh) }
 
 pub step_from : {sets : List ℕ} {clue k level mask level_then mask_then : ℕ} (p : List ℕ) → IsAtLevel sets clue level mask p → length p < length sets
     → has_number (get_or sets (length p) 0) (k + 1) ≡ true → IsStep (length p) (length sets) clue k level mask level_then mask_then
     → IsAtLevel sets clue level_then mask_then (p ++ (k + 1) ∷ [])
-step_from p at room candidate (inl s) = last_step_from p at room candidate s
-step_from p at room candidate (inr (inl s)) = least_step_from p at room candidate s
-step_from p at room candidate (inr (inr s)) = low_step_from p at room candidate s
+step_from {sets} {clue} {k} {level} {mask} {level_then} {mask_then} p at room candidate s =
+    let new = step_new p at s in
+    let start = start_more p (k + 1) at.start record { room = room; low = omega arith; high = new.high; candidate = candidate; fresh = new.fresh } in
+    let whole = at.shown in
+    elim s [
+      | Greatest g ↦
+          let before = g.before in
+          let shown : seen (p ++ (k + 1) ∷ []) ≡ level_then = omega (arith, shown_last p k g.value at.start (at_low_lacks p at (omega arith)), g.after) in
+          let last = is_in-push_same p (k + 1) (length sets) g.value ∙ sym (eq-eqb level_then clue g.after) in
+          record { start = start; used = new.used; low = omega (arith, g.after); shown = shown; last = last }
+      | Least b ↦
+          let value : k + 1 < length sets = omega (arith, b.value, b.more) in
+          elim b.moves [
+            | First none next low ↦
+                pushed_at p k value at start new.used (omega (arith, shown_first p (k + 1) none)) (omega arith) (λ e. omega arith, λ e. omega arith)
+            | Later some same lacks ↦
+                pushed_at p k value at start new.used (omega (arith, shown_later p k b.value at.start some)) (omega (arith, at.low)) (λ e. omega arith, λ e. omega arith)
+          ]
+      | Between bit is b ↦
+          let value : k + 1 < length sets = omega (arith, b.value) in
+          elim b.moves [
+            | Within last then ↦
+                pushed_at p k value at start new.used (omega (arith, shown_same p k start (at.last ∙ eq-eqb level clue last))) (omega arith) (λ e. then, λ e. last)
+            | Hidden early large same ↦
+                let more = shown_more p k bit is at.start (at_low_lacks p at early) at.used in
+                pushed_at p k value at start new.used (omega (arith, tower_none mask bit large)) (omega arith) (λ e. omega arith, λ e. omega arith)
+            | Shown small next low ↦
+                let more = shown_more p k bit is at.start (at_low_lacks p at (omega arith)) at.used in
+                pushed_at p k value at start new.used (omega (arith, tower_one mask bit small)) (omega arith) (λ e. omega arith, λ e. omega arith)
+          ]
+    ]
+
+-- a start that has the greatest value just where it shows all the towers is at the level of those that it shows
+front_of : {sets : List ℕ} {clue mask : ℕ} (p : List ℕ) → IsStart sets p → IsLowMask (length sets) mask p → (is_in (length sets) p ≡ true → seen p ≡ clue)
+    → (is_in (length sets) p ≡ false → seen p < clue) → IsAtLevel sets clue (seen p) mask p
+front_of {sets} {clue} p start used all few =
+    elim (cases_Bool (is_in (length sets) p)) [
+      | inl has ↦ (let last = all has in
+          record { start = start; used = used; low = omega arith; shown = refl; last = has ∙ sym (eq-eqb (seen p) clue last) })
+      | inr lacks ↦ (let early = few lacks in
+          record { start = start; used = used; low = omega arith; shown = refl; last = lacks ∙ sym (ne_eqb (seen p) clue (λ e. omega arith)) })
+    ]
 
 -- where a start's front is, and how its last value leads from there
 pub record IsStepped (sets : List ℕ) (clue k level mask : ℕ) (p : List ℕ) : Type 0 where
-  pub level_before : ℕ
   pub mask_before : ℕ
-  pub front : IsAtLevel sets clue level_before mask_before p
-  pub step : IsStep (length p) (length sets) clue k level_before mask_before level mask
+  pub front : IsAtLevel sets clue (seen p) mask_before p
+  pub step : IsStep (length p) (length sets) clue k (seen p) mask_before level mask
 
--- a front with the greatest value
-stepped_last : {sets : List ℕ} {clue level mask : ℕ} (p : List ℕ) (k : ℕ) → IsAtLevel sets clue level mask (p ++ (k + 1) ∷ [])
-    → is_in (length sets) p ≡ true → IsStepped sets clue k level mask p
-stepped_last {sets} {clue} {level} {mask} p k at has =
+-- a start's front is at the level of the towers that it shows
+front_at : {sets : List ℕ} {clue level mask front : ℕ} (p : List ℕ) (k : ℕ) → IsAtLevel sets clue level mask (p ++ (k + 1) ∷ [])
+    → IsLowMask (length sets) front p → IsAtLevel sets clue (seen p) front p
+front_at {sets} {clue} {level} p k at used =
     let start = start_front p ((k + 1) ∷ []) at.start in
-    let next = start_next p (k + 1) [] at.start in
-    let high = next.high in
-    let m = low_mask_of p start in
-    let same = at_last (p ++ (k + 1) ∷ []) at (is_in-push p (k + 1) (length sets) ∙ or_left _ _ has) in
-    let apart : k + 1 ≢ length sets = λ e. both_ways (is_in (k + 1) p) next.fresh (rw e has) in
-    let value : k + 1 < length sets = omega arith in
-    record {
-      level_before = level;
-      mask_before = m.0;
-      front = record {
-        start = start;
-        used = m.1;
-        low = at.low;
-        shown = sym (shown_same p k at.start has) ∙ at.shown;
-        last = has ∙ sym (eq-eqb level clue same);
-      };
-      step = inr (elim (cases_eq k 0) [
-        | inl least ↦ (let some = (is_in-place (length sets) p has).1 in
-            let one : 1 ≡ k + 1 = omega arith in
-            let fresh : is_in 1 p ≡ false = ap (λ v. is_in v p) one ∙ next.fresh in
-            inl record {
-              value = least;
-              more = omega arith;
-              same = low_unique (p ++ (k + 1) ∷ []) at.used (low_same p (k + 1) m.1 (λ j l e. omega arith));
-              moves = inr (omega arith, refl, inr (same, least_tells p (rest_last p (omega arith) start has m.1) fresh));
-            })
-        | inr other ↦ (let bit = k - 1 in
-            let is : k ≡ bit + 1 = omega arith in
-            let low : bit + 2 < length sets = omega arith in
-            let fresh : has_number m.0 bit ≡ false = low_bit p k bit is m.1 low ∙ next.fresh in
-            inr record {
-              bit = bit;
-              is = is;
-              value = low;
-              fresh = fresh;
-              more = low_unique (p ++ (k + 1) ∷ []) at.used (low_more p k bit is m.1 low fresh);
-              moves = inl (same, same);
-            })
-      ]);
-    }
+    let high = (start_next p (k + 1) [] at.start).high in
+    let shown = at.shown in
+    front_of p start used
+    (λ has.
+    let last = at_last (p ++ (k + 1) ∷ []) at (is_in-push p (k + 1) (length sets) ∙ or_left _ _ has) in
+    omega (arith, shown_same p k at.start has))
+    (λ lacks. elim (cases_eq (k + 1) (length sets)) [
+      | inl greatest ↦ (let last = at_last (p ++ (k + 1) ∷ []) at (is_in-push_same p (k + 1) (length sets) greatest) in
+          omega (arith, shown_last p k greatest start lacks))
+      | inr other ↦ (let early = at_low (p ++ (k + 1) ∷ []) at (greatest_in_push p (length sets) k (omega arith) ∙ lacks) in
+          omega (arith, seen-append p ((k + 1) ∷ [])))
+    ])
 
--- a front without it, which is at the level of the towers that it shows
-front_low : {sets : List ℕ} {clue mask : ℕ} (p : List ℕ) → IsStart sets p → IsLowMask (length sets) mask p → is_in (length sets) p ≡ false → seen p < clue
-    → IsAtLevel sets clue (seen p) mask p
-front_low {sets} {clue} {mask} p start used lacks low = record {
-  start = start;
-  used = used;
-  low = omega arith;
-  shown = refl;
-  last = lacks ∙ sym (ne_eqb (seen p) clue (λ e. omega arith));
-}
-
--- the greatest value after it
-stepped_greatest : {sets : List ℕ} {clue level mask : ℕ} (p : List ℕ) (k : ℕ) → k + 1 ≡ length sets → IsAtLevel sets clue level mask (p ++ (k + 1) ∷ [])
-    → is_in (length sets) p ≡ false → IsStepped sets clue k level mask p
-stepped_greatest {sets} {clue} {level} {mask} p k greatest at lacks =
-    let start = start_front p ((k + 1) ∷ []) at.start in
-    let m = low_mask_of p start in
+-- the greatest value after the front
+step_greatest : {sets : List ℕ} {clue level mask front : ℕ} (p : List ℕ) (k : ℕ) → k + 1 ≡ length sets → IsAtLevel sets clue level mask (p ++ (k + 1) ∷ [])
+    → IsAtLevel sets clue (seen p) front p → IsStep (length p) (length sets) clue k (seen p) front level mask
+step_greatest {sets} p k greatest at from =
+    let lacks : is_in (length sets) p ≡ false = ap (λ v. is_in v p) (sym greatest) ∙ (start_next p (k + 1) [] at.start).fresh in
     let last = at_last (p ++ (k + 1) ∷ []) at (is_in-push_same p (k + 1) (length sets) greatest) in
-    let before : seen p + 1 ≡ clue = omega (arith, shown_last p k greatest start lacks, at.shown) in
-    record {
-      level_before = seen p;
-      mask_before = m.0;
-      front = front_low p start m.1 lacks (omega arith);
-      step = inl record {
-        value = greatest;
-        before = before;
-        after = last;
-        same = low_unique (p ++ (k + 1) ∷ []) at.used (low_same p (k + 1) m.1 (λ j l e. omega arith));
-      };
+    Greatest record {
+      value = greatest;
+      before = omega (arith, shown_last p k greatest from.start lacks, at.shown);
+      after = last;
+      same = low_unique (p ++ (k + 1) ∷ []) at.used (low_same p (k + 1) from.used (λ j l e. omega arith));
     }
 
 -- the least
-stepped_least : {sets : List ℕ} {clue level mask : ℕ} (p : List ℕ) (k : ℕ) → k ≡ 0 → k + 1 < length sets → IsAtLevel sets clue level mask (p ++ (k + 1) ∷ [])
-    → is_in (length sets) p ≡ false → IsStepped sets clue k level mask p
-stepped_least {sets} {clue} {level} {mask} p k least value at lacks =
-    let start = start_front p ((k + 1) ∷ []) at.start in
-    let next = start_next p (k + 1) [] at.start in
-    let m = low_mask_of p start in
+step_least : {sets : List ℕ} {clue level mask front : ℕ} (p : List ℕ) (k : ℕ) → k ≡ 0 → k + 1 < length sets → IsAtLevel sets clue level mask (p ++ (k + 1) ∷ [])
+    → IsAtLevel sets clue (seen p) front p → IsStep (length p) (length sets) clue k (seen p) front level mask
+step_least {sets} {clue} {level} {mask} {front} p k least value at from =
     let one : 1 ≡ k + 1 = omega arith in
-    let fresh : is_in 1 p ≡ false = ap (λ v. is_in v p) one ∙ next.fresh in
-    let low = at_low (p ++ (k + 1) ∷ []) at (greatest_in_push p (length sets) k value ∙ lacks) in
-    let same = low_unique (p ++ (k + 1) ∷ []) at.used (low_same p (k + 1) m.1 (λ j l e. omega arith)) in
-    let lacking = least_tells p (rest_low p start lacks m.1) fresh in
-    elim (cases_lt 0 (length p)) [
-      | inl some ↦ (let shown = shown_later p k least start some in
-          let before : seen p < clue = omega (arith, at.shown) in
-          record {
-            level_before = seen p;
-            mask_before = m.0;
-            front = front_low p start m.1 lacks before;
-            step = inr (inl record {
-              value = least;
-              more = omega arith;
-              same = same;
-              moves = inr (some, omega (arith, at.shown), inl (before, omega arith));
-            });
-          })
-      | inr none ↦ (let first : length p ≡ 0 = omega arith in
-          let shown = shown_first p (k + 1) first in
-          record {
-            level_before = seen p;
-            mask_before = m.0;
-            front = front_low p start m.1 lacks (omega (arith, at.shown));
-            step = inr (inl record { value = least; more = omega arith; same = same; moves = inl (first, omega (arith, at.shown), low) });
-          })
-    ]
+    let fresh : is_in 1 p ≡ false = ap (λ v. is_in v p) one ∙ (start_next p (k + 1) [] at.start).fresh in
+    let tells : LacksLeast (length p) clue (seen p) front = elim (cases_Bool (is_in (length sets) p)) [
+      | inl has ↦ inr (at_last p from has, least_tells p (rest_last p (omega arith) from.start has from.used) fresh)
+      | inr lacks ↦ inl (at_low p from lacks, omega (arith, least_tells p (rest_low p from.start lacks from.used) fresh))
+    ] in
+    Least record {
+      value = least;
+      more = omega arith;
+      same = low_unique (p ++ (k + 1) ∷ []) at.used (low_same p (k + 1) from.used (λ j l e. omega arith));
+      moves = elim (cases_lt 0 (length p)) [
+        | inl some ↦ Later some (omega (arith, shown_later p k least from.start some, at.shown)) tells
+        | inr none ↦
+            let first : length p ≡ 0 = omega arith in
+            let lacks : is_in (length sets) p ≡ false = ap (is_in (length sets)) (nil_from_length p first) in
+            First first (omega (arith, shown_first p (k + 1) first, at.shown))
+            (at_low (p ++ (k + 1) ∷ []) at (greatest_in_push p (length sets) k value ∙ lacks))
+      ];
+    }
 
 -- a value between them
-stepped_between : {sets : List ℕ} {clue level mask : ℕ} (p : List ℕ) (k : ℕ) → 0 < k → k + 1 < length sets → IsAtLevel sets clue level mask (p ++ (k + 1) ∷ [])
-    → is_in (length sets) p ≡ false → IsStepped sets clue k level mask p
-stepped_between {sets} {clue} {level} {mask} p k some value at lacks =
-    let start = start_front p ((k + 1) ∷ []) at.start in
-    let next = start_next p (k + 1) [] at.start in
-    let m = low_mask_of p start in
+step_between : {sets : List ℕ} {clue level mask front : ℕ} (p : List ℕ) (k : ℕ) → 0 < k → k + 1 < length sets → IsAtLevel sets clue level mask (p ++ (k + 1) ∷ [])
+    → IsAtLevel sets clue (seen p) front p → IsStep (length p) (length sets) clue k (seen p) front level mask
+step_between {sets} {clue} {level} {mask} {front} p k some value at from =
     let bit = k - 1 in
     let is : k ≡ bit + 1 = omega arith in
     let inside : bit + 2 < length sets = omega arith in
-    let shown = shown_more p k bit is start lacks m.1 in
+    let fresh : has_number front bit ≡ false = low_bit p k bit is from.used inside ∙ (start_next p (k + 1) [] at.start).fresh in
     let whole = at.shown in
-    let low = at_low (p ++ (k + 1) ∷ []) at (greatest_in_push p (length sets) k value ∙ lacks) in
-    let fresh : has_number m.0 bit ≡ false = low_bit p k bit is m.1 inside ∙ next.fresh in
-    let more = low_unique (p ++ (k + 1) ∷ []) at.used (low_more p k bit is m.1 inside fresh) in
-    let moves : IsMove clue bit (seen p) m.0 level =
-    inr (elim (cases_lt m.0 (2 ^ bit)) [
-      | inl small ↦ (let one = tower_one m.0 bit small in inr (small, omega arith, low))
-      | inr large ↦ (let none = tower_none m.0 bit large in inl (omega arith, large, omega arith))
-    ]) in
-    let before : seen p < clue = elim (cases_lt m.0 (2 ^ bit)) [
-      | inl small ↦ (let one = tower_one m.0 bit small in omega arith)
-      | inr large ↦ (let none = tower_none m.0 bit large in omega arith)
-    ] in
-    record {
-      level_before = seen p;
-      mask_before = m.0;
-      front = front_low p start m.1 lacks before;
-      step = inr (inr record { bit = bit; is = is; value = inside; fresh = fresh; more = more; moves = moves });
+    Between bit is record {
+      value = inside;
+      fresh = fresh;
+      more = low_unique (p ++ (k + 1) ∷ []) at.used (low_more p k bit is from.used inside fresh);
+      moves = elim (cases_Bool (is_in (length sets) p)) [
+        | inl has ↦ (let last = at_last p from has in Within last (omega (arith, shown_same p k at.start has)))
+        | inr lacks ↦
+            let shown = shown_more p k bit is from.start lacks from.used in
+            elim (cases_lt front (2 ^ bit)) [
+              | inl small ↦ Shown small (omega (arith, tower_one front bit small))
+                  (at_low (p ++ (k + 1) ∷ []) at (greatest_in_push p (length sets) k value ∙ lacks))
+              | inr large ↦ Hidden (at_low p from lacks) large (omega (arith, tower_none front bit large))
+            ]
+      ];
     }
-
-stepped_low : {sets : List ℕ} {clue level mask : ℕ} (p : List ℕ) (k : ℕ) → IsAtLevel sets clue level mask (p ++ (k + 1) ∷ [])
-    → is_in (length sets) p ≡ false → IsStepped sets clue k level mask p
-stepped_low {sets} {clue} {level} {mask} p k at lacks =
-    let next = start_next p (k + 1) [] at.start in
-    let high = next.high in
-    elim (cases_eq (k + 1) (length sets)) [
-      | inl greatest ↦ stepped_greatest p k greatest at lacks
-      | inr other ↦ elim (cases_eq k 0) [
-        | inl least ↦ stepped_least p k least (omega arith) at lacks
-        | inr some ↦ stepped_between p k (omega arith) (omega arith) at lacks
-      ]
-    ]
 
 -- the last value of a start at a level leads from its front's level
 pub stepped : {sets : List ℕ} {clue level mask : ℕ} (p : List ℕ) (k : ℕ) → IsAtLevel sets clue level mask (p ++ (k + 1) ∷ [])
     → IsStepped sets clue k level mask p
 stepped {sets} p k at =
-    elim (cases_Bool (is_in (length sets) p)) [ inl has ↦ stepped_last p k at has | inr lacks ↦ stepped_low p k at lacks ]
+    let high = (start_next p (k + 1) [] at.start).high in
+    let (mask, used) = low_mask_of p (start_front p ((k + 1) ∷ []) at.start) in
+    let from = front_at p k at used in
+    record {
+      mask_before = mask;
+      front = from;
+      step = elim (cases_eq (k + 1) (length sets)) [
+        | inl greatest ↦ step_greatest p k greatest at from
+        | inr other ↦ elim (cases_eq k 0) [
+          | inl least ↦ step_least p k least (omega arith) at from
+          | inr some ↦ step_between p k (omega arith) (omega arith) at from
+        ]
+      ];
+    }
 
 -- ---- the fronts of fillings
 
@@ -408,14 +333,14 @@ pub front_level : {sets : List ℕ} {clue : ℕ} (p s : List ℕ) → 0 < length
 front_level {sets} {clue} p s some filling =
     let n = length sets in
     let start = start_front p s filling.start in
-    let m = low_mask_of p start in
+    let (mask, used) = low_mask_of p start in
     let parts = seen-append p s in
-    let shown = filling.shown in
-    elim (cases_Bool (is_in n p)) [
-      | inl has ↦ (let none = none_seen p s filling.start has in
-          (m.0, record { start = start; used = m.1; low = omega arith; shown = refl; last = has ∙ sym (eq-eqb (seen p) clue (omega arith)) }))
-      | inr lacks ↦ (let later : is_in n s ≡ true = let whole = list_any-append (λ x. eqb x n) p s in
-          rw lacks at (sym whole ∙ has_greatest (p ++ s) some filling.start filling.whole) in
-          let more = some_seen p s some filling.start lacks later in
-          (m.0, front_low p start m.1 lacks (omega arith)))
-    ]
+    let shown = filling.shown in (
+      mask,
+      front_of p start used
+          (λ has. omega (arith, none_seen p s filling.start has))
+          (λ lacks.
+          let whole = list_any-append (λ x. eqb x n) p s in
+          let later : is_in n s ≡ true = rw lacks at (sym whole ∙ has_greatest (p ++ s) some filling.start filling.whole) in
+          omega (arith, some_seen p s some filling.start lacks later)),
+    )

@@ -1,103 +1,71 @@
--- What a step of each kind is, and the masks that it leads to and from: the greatest value, the least, and those between them.
+-- Of which kind a step is, and the masks that it leads to and from: the greatest value, the least, and those between them.
 use Rattle.std.proofs.Common.{◌≡◌, ℕ, ◌+◌, ◌-◌, ◌^◌, ◌<◌, ◌≤◌, ◌⊎◌, ◌↔◌, inl, inr, true, false, not, ◌&&◌, ◌||◌, eqb, leb, ltb, List, [], get_or, refl, sym, ap, ◌∙◌, subst, arith, count_ones, Bool}
-use Rattle.std.proofs.lemmas.Bool.{eqb-true, eq-eqb, ltb-true, leb-true, lt-ltb, le-leb, and_parts, and_from, or_cases, or_left, or_right, not-true, not_from_false, both_ways}
+use Rattle.std.proofs.lemmas.Bool.{eqb-true, eq-eqb, ltb-true, leb-true, lt-ltb, le-leb, and_parts, and_from, or_cases, or_left, or_right, not-true, not_from_false, both_ways, false≢true}
+use Rattle.std.proofs.Math.Bool.{and_comm, and_assoc, or_comm}
 use Rattle.std.proofs.lemmas.Nat.{pow_pos}
 use Rattle.std.proofs.lemmas.Grind.{pow_more}
 use Rattle.number_sets.specs.Sets.{has_number}
 use Rattle.number_sets.proofs.Members.{power_most}
 use Rattle.number_sets.proofs.OneMore.{added_with, added_without, added_lacks, added_has}
 use Rattle.tower_lines.specs.Inner.MaskSets.{has_mask, has_at}
-use Rattle.tower_lines.specs.Inner.Levels.{IsMove, LacksLeast, IsLeastMove, IsStep, AreFew, IsCommon, IsLinked, IsReachedBy, LeadsTo, IsPassing}
+use Rattle.tower_lines.specs.Inner.Levels.{IsMove, Within, Hidden, Shown, LacksLeast, First, Later, IsLastStep, IsLeastStep, IsLowStep, IsStep, Greatest, Least, Between, AreFew, IsCommon, IsLinked, IsReachedBy, LeadsTo, IsPassing}
 
--- ---- what a step of each kind is
+-- ---- of which kind a step is
 
--- the greatest value leads from the level before the last to the last one
-pub greatest_step : (place width clue k level mask level_then mask_then : ℕ) → k + 1 ≡ width
-    → IsStep place width clue k level mask level_then mask_then ↔ ((level + 1 ≡ clue) × (level_then ≡ clue) × (mask_then ≡ mask))
-greatest_step place width clue k level mask level_then mask_then top = (
-  λ s. elim s [
-    | inl last ↦ (last.before, last.after, last.same)
-    | inr other ↦ elim other [ inl least ↦ absurd (omega (arith, least.value, least.more)) | inr low ↦ absurd (omega (arith, low.is, low.value)) ]
-  ],
-  λ p. inl record { value = top; before = p.0; after = p.1; same = p.2 },
-)
+-- of the greatest value
+pub only_greatest : {place width clue k level mask level_then mask_then : ℕ} → k + 1 ≡ width → IsStep place width clue k level mask level_then mask_then
+    → IsLastStep width clue k level mask level_then mask_then
+only_greatest top (Greatest s) = s
+only_greatest top (Least s) = absurd (omega (arith, s.value, s.more))
+only_greatest top (Between bit is s) = absurd (omega (arith, s.value))
 
--- the greatest value leads to the last level, from the one before it
-pub greatest_to : (place width clue k level mask level_then mask_then : ℕ) → k + 1 ≡ width → IsStep place width clue k level mask level_then mask_then
-    → (level + 1 ≡ clue) × (level_then ≡ clue)
-greatest_to place width clue k level mask level_then mask_then top s =
-    let p = (greatest_step place width clue k level mask level_then mask_then top).0 s in (p.0, p.1)
+only_least : {place width clue k level mask level_then mask_then : ℕ} → k ≡ 0 → 1 < width → IsStep place width clue k level mask level_then mask_then
+    → IsLeastStep place width clue k level mask level_then mask_then
+only_least least more (Greatest s) = absurd (omega (arith, s.value))
+only_least least more (Least s) = s
+only_least least more (Between bit is s) = absurd (omega arith)
 
--- the least value keeps the mask
-pub least_step : (place width clue level mask level_then mask_then : ℕ) → 1 < width
-    → IsStep place width clue 0 level mask level_then mask_then ↔ ((mask_then ≡ mask) × IsLeastMove place clue level mask level_then)
-least_step place width clue level mask level_then mask_then more = (
-  λ s. elim s [
-    | inl last ↦ absurd (omega (arith, last.value))
-    | inr other ↦ elim other [ inl least ↦ (least.same, least.moves) | inr low ↦ absurd (omega (arith, low.is)) ]
-  ],
-  λ p. inr (inl record { value = refl; more = more; same = p.0; moves = p.1 }),
-)
-
--- a value between them comes to a mask that lacks its bit
-pub between_step : (place width clue k level mask level_then mask_then : ℕ) → k + 2 < width
-    → IsStep place width clue (k + 1) level mask level_then mask_then
-    ↔ ((has_number mask k ≡ false) × (mask_then ≡ mask + 2 ^ k) × IsMove clue k level mask level_then)
-between_step place width clue k level mask level_then mask_then less = (
-  λ s. elim s [
-    | inl last ↦ absurd (omega (arith, last.value))
-    | inr other ↦ elim other [
-      | inl least ↦ absurd (omega (arith, least.value))
-      | inr low ↦
-          let same : low.bit ≡ k = omega (arith, low.is) in
-          let P : ℕ → Type 0 = λ i. (has_number mask i ≡ false) × (mask_then ≡ mask + 2 ^ i) × IsMove clue i level mask level_then in
-          subst P same (low.fresh, low.more, low.moves)
-    ]
-  ],
-  λ p. inr (inr record { bit = k; is = refl; value = less; fresh = p.0; more = p.1; moves = p.2 }),
-)
+only_between : {place width clue k level mask level_then mask_then : ℕ} → k + 2 < width → IsStep place width clue (k + 1) level mask level_then mask_then
+    → IsLowStep width clue k level mask level_then mask_then
+only_between less (Greatest s) = absurd (omega (arith, s.value))
+only_between less (Least s) = absurd (omega (arith, s.value))
+only_between {place} {width} {clue} {k} {level} {mask} {level_then} {mask_then} less (Between bit is s) =
+    let same : bit ≡ k = omega arith in
+    subst (λ i. IsLowStep width clue i level mask level_then mask_then) same s
 
 -- ---- the masks of the levels with a link, where it tells the level and the mask
 
--- from one mask alone
-pub linked_one : (Link : ℕ → ℕ → Type 0) (levels : List (List ℕ)) (at other : ℕ) (If : Type 0)
-    → ((level mask : ℕ) → Link level mask ↔ ((level ≡ at) × (mask ≡ other) × If)) → IsLinked Link levels ↔ ((has_at levels at other ≡ true) × If)
-linked_one Link levels at other If is = (
-  λ r.
-      let told = (is r.level r.mask).0 r.link in
-      let L : ℕ → Type 0 = λ i. has_at levels i r.mask ≡ true in
-      let M : ℕ → Type 0 = λ x. has_at levels at x ≡ true in
-      (subst M told.1 (subst L told.0 r.here), told.2),
-  λ p. record { level = at; mask = other; here = p.0; link = (is at other).1 (refl, refl, p.1) },
-)
+-- this level and mask, where a test passes
+record IsAt (at other : ℕ) (test : Bool) (level mask : ℕ) : Type 0 where
+  level_is : level ≡ at
+  mask_is : mask ≡ other
+  passes : test ≡ true
 
--- from the same mask alone: the set is that level's
-pub linked_same : (Link : ℕ → ℕ → Type 0) (levels : List (List ℕ)) (set : List ℕ) (at other : ℕ) → set ≡ get_or levels at []
-    → ((level mask : ℕ) → Link level mask ↔ ((level ≡ at) × (mask ≡ other))) → (has_mask set other ≡ true) ↔ IsLinked Link levels
-linked_same Link levels set at other set_is is =
-    let S : List ℕ → Type 0 = λ s. has_mask s other ≡ true in (
-      λ e. record { level = at; mask = other; here = subst S set_is e; link = (is at other).1 (refl, refl) },
-      λ r.
-          let told = (is r.level r.mask).0 r.link in
-          subst S (sym set_is) (subst (λ x. has_at levels at x ≡ true) told.1 (subst (λ i. has_at levels i r.mask ≡ true) told.0 r.here)),
-    )
+found_at : {at other level mask : ℕ} {test : Bool} (levels : List (List ℕ)) → IsAt at other test level mask → has_at levels level mask ≡ true
+    → test && has_at levels at other ≡ true
+found_at levels s here = and_from _ _ s.passes (rw (s.level_is, s.mask_is) at here)
 
--- from that mask at one of two levels
-pub linked_either : (Link : ℕ → ℕ → Type 0) (levels : List (List ℕ)) (first second other : ℕ) (If Else : Type 0)
-    → ((level mask : ℕ) → Link level mask ↔ (((level ≡ first) × (mask ≡ other) × If) ⊎ ((level ≡ second) × (mask ≡ other) × Else)))
-    → IsLinked Link levels ↔ (((has_at levels first other ≡ true) × If) ⊎ ((has_at levels second other ≡ true) × Else))
-linked_either Link levels first second other If Else is = (
-  λ r.
-      let M : ℕ → ℕ → Type 0 = λ i x. has_at levels i x ≡ true in
-      elim ((is r.level r.mask).0 r.link) [
-        | inl a ↦ inl (subst (M first) a.1 (subst (λ i. M i r.mask) a.0 r.here), a.2)
-        | inr b ↦ inr (subst (M second) b.1 (subst (λ i. M i r.mask) b.0 r.here), b.2)
-      ],
-  λ s. elim s [
-    | inl a ↦ record { level = first; mask = other; here = a.0; link = (is first other).1 (inl (refl, refl, a.1)) }
-    | inr b ↦ record { level = second; mask = other; here = b.0; link = (is second other).1 (inr (refl, refl, b.1)) }
+-- from a mask at one of two levels
+linked_two : (Link : ℕ → ℕ → Type 0) (levels : List (List ℕ)) (first second other : ℕ) (far near whole : Bool)
+    → whole ≡ ((near && has_at levels second other) || (far && has_at levels first other))
+    → (far ≡ true → Link first other) → (near ≡ true → Link second other)
+    → ((level mask : ℕ) → Link level mask → IsAt first other far level mask ⊎ IsAt second other near level mask) → (whole ≡ true) ↔ IsLinked Link levels
+linked_two Link levels first second other far near whole is to_first to_second only = (
+  λ e. elim (or_cases _ _ (sym is ∙ e)) [
+    | inl b ↦ let p = and_parts _ _ b in record { level = second; mask = other; here = p.1; link = to_second p.0 }
+    | inr a ↦ let p = and_parts _ _ a in record { level = first; mask = other; here = p.1; link = to_first p.0 }
+  ],
+  λ r. is ∙ elim (only r.level r.mask r.link) [
+    | inl s ↦ or_right _ _ (found_at levels s r.here)
+    | inr s ↦ or_left _ _ (found_at levels s r.here)
   ],
 )
+
+-- from that mask at one level
+linked_one : (Link : ℕ → ℕ → Type 0) (levels : List (List ℕ)) (at other : ℕ) (test whole : Bool) → whole ≡ (test && has_at levels at other)
+    → (test ≡ true → Link at other) → ((level mask : ℕ) → Link level mask → IsAt at other test level mask) → (whole ≡ true) ↔ IsLinked Link levels
+linked_one Link levels at other test whole is to only =
+    linked_two Link levels at at other test false whole is to (λ e. absurd (false≢true e)) (λ l x s. inl (only l x s))
 
 -- from none
 pub linked_none : (Link : ℕ → ℕ → Type 0) (levels : List (List ℕ)) (set : List ℕ) (mask : ℕ) → has_mask set mask ≡ false
@@ -107,181 +75,136 @@ linked_none Link levels set mask empty none = (
   λ r. absurd (none r.level r.mask r.link),
 )
 
--- ---- what is told in two parts
-
--- both are the same as a third
-both : {A B C : Type 0} → A ↔ B → C ↔ B → A ↔ C
-both f g = (λ a. g.1 (f.0 a), λ c. f.1 (g.0 c))
-
-one_part : (whole part test : Bool) → whole ≡ (test && part) → (whole ≡ true) ↔ ((part ≡ true) × (test ≡ true))
-one_part whole part test is = (
-  λ e. let p = and_parts _ _ (sym is ∙ e) in (p.1, p.0),
-  λ p. is ∙ and_from _ _ p.1 p.0,
-)
-
--- a mask passes two tests: of its bit and of its size
-record HasPassed (bit size : Bool) : Type 0 where
-  pub of_bit : bit ≡ true
-  pub of_size : size ≡ true
-
-either_part : (whole first second test far near : Bool) → whole ≡ (test && ((first && far) || (second && near)))
-    → (whole ≡ true) ↔ (((first ≡ true) × HasPassed test far) ⊎ ((second ≡ true) × HasPassed test near))
-either_part whole first second test far near is = (
-  λ e.
-      let p = and_parts _ _ (sym is ∙ e) in
-      elim (or_cases _ _ p.1) [
-        | inl a ↦ (let q = and_parts _ _ a in inl (q.0, record { of_bit = p.0; of_size = q.1 }))
-        | inr b ↦ (let q = and_parts _ _ b in inr (q.0, record { of_bit = p.0; of_size = q.1 }))
-      ],
-  λ s. is ∙ elim s [
-    | inl a ↦ and_from _ _ a.1.of_bit (or_left _ _ (and_from _ _ a.0 a.1.of_size))
-    | inr b ↦ and_from _ _ b.1.of_bit (or_right _ _ (and_from _ _ b.0 b.1.of_size))
-  ],
-)
-
 -- ---- the greatest value
 
 -- it leads to the last level from the masks of the one before
 pub greatest_reached : (place width clue k : ℕ) (levels : List (List ℕ)) (set : List ℕ) → k + 1 ≡ width → 0 < clue → set ≡ get_or levels (clue - 1) []
     → (mask : ℕ) → (has_mask set mask ≡ true) ↔ IsReachedBy place width clue k levels clue mask
 greatest_reached place width clue k levels set top some is mask =
-    linked_same (λ l x. IsStep place width clue k l x clue mask) levels set (clue - 1) mask is (λ l x.
-    let step = greatest_step place width clue k l x clue mask top in (
-      λ s. let p = step.0 s in (omega (arith, p.0), sym p.2),
-      λ p. step.1 (omega (arith, p.0), refl, sym p.1),
-    ))
+    linked_one (λ l x. IsStep place width clue k l x clue mask) levels (clue - 1) mask true (has_mask set mask) (ap (λ (s : List ℕ). has_mask s mask) is)
+    (λ _. Greatest record { value = top; before = omega arith; after = refl; same = refl })
+    (λ l x s. let g = only_greatest top s in record { level_is = omega (arith, g.before); mask_is = sym g.same; passes = refl })
 
 -- and from the level before the last to the masks of the last
 pub greatest_leads : (place width clue k : ℕ) (after : List (List ℕ)) (set : List ℕ) → k + 1 ≡ width → 0 < clue → set ≡ get_or after clue []
     → (mask : ℕ) → (has_mask set mask ≡ true) ↔ LeadsTo place width clue k after (clue - 1) mask
 greatest_leads place width clue k after set top some is mask =
-    linked_same (λ l x. IsStep place width clue k (clue - 1) mask l x) after set clue mask is (λ l x.
-    let step = greatest_step place width clue k (clue - 1) mask l x top in (
-      λ s. let p = step.0 s in (p.1, p.2),
-      λ p. step.1 (omega arith, p.0, p.1),
-    ))
+    linked_one (λ l x. IsStep place width clue k (clue - 1) mask l x) after clue mask true (has_mask set mask) (ap (λ (s : List ℕ). has_mask s mask) is)
+    (λ _. Greatest record { value = top; before = omega arith; after = refl; same = refl })
+    (λ l x s. let g = only_greatest top s in record { level_is = g.after; mask_is = g.same; passes = refl })
 
 -- ---- the least value
 
--- where it isn't the first, it keeps the level
-least_later : (place width clue level mask level_then mask_then : ℕ) → 1 < width → 0 < place
-    → IsStep place width clue 0 level mask level_then mask_then ↔ ((level_then ≡ level) × (mask_then ≡ mask) × LacksLeast place clue level mask)
-least_later place width clue level mask level_then mask_then more some =
-    let step = least_step place width clue level mask level_then mask_then more in (
-      λ s. let p = step.0 s in elim p.1 [ inl first ↦ absurd (omega (arith, first.0)) | inr later ↦ (later.1, p.0, later.2) ],
-      λ p. step.1 (p.1, inr (some, p.0, p.2)),
-    )
-
--- where it is the first, it goes to the next one
-least_first : (place width clue level mask level_then mask_then : ℕ) → 1 < width → place ≡ 0
-    → IsStep place width clue 0 level mask level_then mask_then ↔ ((level_then ≡ level + 1) × (mask_then ≡ mask) × (level_then < clue))
-least_first place width clue level mask level_then mask_then more none =
-    let step = least_step place width clue level mask level_then mask_then more in (
-      λ s. let p = step.0 s in elim p.1 [ inl first ↦ (first.1, p.0, first.2) | inr later ↦ absurd (omega (arith, later.0)) ],
-      λ p. step.1 (p.1, inl (none, p.0, p.2)),
-    )
-
--- the set has the masks of the level that lack the least value
-abbrev pub AreLacking : ℕ → ℕ → List (List ℕ) → ℕ → List ℕ → Type 0
-AreLacking place clue levels level set = (mask : ℕ) → (has_mask set mask ≡ true) ↔ ((has_at levels level mask ≡ true) × LacksLeast place clue level mask)
-
--- the masks counted are those that lack the least value
-pub lacking : (place clue count level : ℕ) (levels : List (List ℕ)) (set : List ℕ)
+-- where it isn't the first, it keeps the level, and comes to the masks there that are counted as lacking it
+pub least_reached : (place clue count level : ℕ) (levels : List (List ℕ)) (set : List ℕ) → 0 < place
     → ((mask : ℕ) → has_mask set mask ≡ (has_at levels level mask && eqb (count_ones mask) count))
-    → ((mask : ℕ) → (count_ones mask ≡ count) ↔ LacksLeast place clue level mask) → AreLacking place clue levels level set
-lacking place clue count level levels set counted told mask = (
-  λ e.
-      let p = and_parts _ _ (sym (counted mask) ∙ e) in
-      (p.0, (told mask).0 (eqb-true (count_ones mask) count p.1)),
-  λ p. counted mask ∙ and_from _ _ p.0 (eq-eqb (count_ones mask) count ((told mask).1 p.1)),
-)
-
-pub least_reached : (place clue level : ℕ) (levels : List (List ℕ)) (set : List ℕ) → 0 < place → AreLacking place clue levels level set
+    → ((mask : ℕ) → (count_ones mask ≡ count) ↔ LacksLeast place clue level mask)
     → (width mask : ℕ) → 1 < width → (has_mask set mask ≡ true) ↔ IsReachedBy place width clue 0 levels level mask
-least_reached place clue level levels set some are width mask more =
-    both (are mask) (linked_one (λ l x. IsStep place width clue 0 l x level mask) levels level mask (LacksLeast place clue level mask) (λ l x.
-    let step = least_later place width clue l x level mask more some in
-    let P : ℕ → ℕ → Type 0 = λ i y. LacksLeast place clue i y in (
-      λ s. let p = step.0 s in (sym p.0, sym p.1, subst (P level) (sym p.1) (subst (λ i. P i x) (sym p.0) p.2)),
-      λ p. step.1 (sym p.0, sym p.1, subst (P l) (sym p.1) (subst (λ i. P i mask) (sym p.0) p.2)),
-    )))
+least_reached place clue count level levels set some counted told width mask more =
+    linked_one (λ l x. IsStep place width clue 0 l x level mask) levels level mask (eqb (count_ones mask) count) (has_mask set mask)
+    (counted mask ∙ and_comm (has_at levels level mask) _)
+    (λ e. Least record { value = refl; more = more; same = refl; moves = Later some refl ((told mask).0 (eqb-true _ _ e)) })
+    (λ l x s. let b = only_least refl more s in elim b.moves [
+      | First none next low ↦ absurd (omega arith)
+      | Later _ same lacks ↦
+          let here : LacksLeast place clue level mask = rw (same, b.same) lacks in
+          record { level_is = sym same; mask_is = sym b.same; passes = eq-eqb _ _ ((told mask).1 here) }
+    ])
 
-pub least_leads : (place clue level : ℕ) (after : List (List ℕ)) (set : List ℕ) → 0 < place → AreLacking place clue after level set
+-- it leads from these masks
+pub least_leads : (place clue count level : ℕ) (after : List (List ℕ)) (set : List ℕ) → 0 < place
+    → ((mask : ℕ) → has_mask set mask ≡ (has_at after level mask && eqb (count_ones mask) count))
+    → ((mask : ℕ) → (count_ones mask ≡ count) ↔ LacksLeast place clue level mask)
     → (width mask : ℕ) → 1 < width → (has_mask set mask ≡ true) ↔ LeadsTo place width clue 0 after level mask
-least_leads place clue level after set some are width mask more =
-    both (are mask) (linked_one (λ l x. IsStep place width clue 0 level mask l x) after level mask (LacksLeast place clue level mask)
-    (λ l x. least_later place width clue level mask l x more some))
+least_leads place clue count level after set some counted told width mask more =
+    linked_one (λ l x. IsStep place width clue 0 level mask l x) after level mask (eqb (count_ones mask) count) (has_mask set mask)
+    (counted mask ∙ and_comm (has_at after level mask) _)
+    (λ e. Least record { value = refl; more = more; same = refl; moves = Later some refl ((told mask).0 (eqb-true _ _ e)) })
+    (λ l x s. let b = only_least refl more s in elim b.moves [
+      | First none next low ↦ absurd (omega arith)
+      | Later _ same lacks ↦ record { level_is = same; mask_is = b.same; passes = eq-eqb _ _ ((told mask).1 lacks) }
+    ])
 
+-- where it is the first, it goes to the next level
 pub least_first_reached : (place clue level : ℕ) (levels : List (List ℕ)) (set : List ℕ) → place ≡ 0 → 1 ≤ level → level < clue
     → set ≡ get_or levels (level - 1) []
     → (width mask : ℕ) → 1 < width → (has_mask set mask ≡ true) ↔ IsReachedBy place width clue 0 levels level mask
 least_first_reached place clue level levels set none some early is width mask more =
-    linked_same (λ l x. IsStep place width clue 0 l x level mask) levels set (level - 1) mask is (λ l x.
-    let step = least_first place width clue l x level mask more none in (
-      λ s. let p = step.0 s in (omega (arith, p.0), sym p.1),
-      λ p. step.1 (omega (arith, p.0), sym p.1, early),
-    ))
+    linked_one (λ l x. IsStep place width clue 0 l x level mask) levels (level - 1) mask true (has_mask set mask) (ap (λ (s : List ℕ). has_mask s mask) is)
+    (λ _. Least record { value = refl; more = more; same = refl; moves = First none (omega arith) early })
+    (λ l x s. let b = only_least refl more s in elim b.moves [
+      | First _ next low ↦ record { level_is = omega arith; mask_is = sym b.same; passes = refl }
+      | Later later same lacks ↦ absurd (omega arith)
+    ])
 
 pub least_first_leads : (place clue level : ℕ) (after : List (List ℕ)) (set : List ℕ) → place ≡ 0 → level + 1 < clue
     → set ≡ get_or after (level + 1) []
     → (width mask : ℕ) → 1 < width → (has_mask set mask ≡ true) ↔ LeadsTo place width clue 0 after level mask
 least_first_leads place clue level after set none early is width mask more =
-    linked_same (λ l x. IsStep place width clue 0 level mask l x) after set (level + 1) mask is (λ l x.
-    let step = least_first place width clue level mask l x more none in (
-      λ s. let p = step.0 s in (p.0, p.1),
-      λ p. step.1 (p.0, p.1, omega (arith, p.0)),
-    ))
+    linked_one (λ l x. IsStep place width clue 0 level mask l x) after (level + 1) mask true (has_mask set mask) (ap (λ (s : List ℕ). has_mask s mask) is)
+    (λ _. Least record { value = refl; more = more; same = refl; moves = First none refl early })
+    (λ l x s. let b = only_least refl more s in elim b.moves [
+      | First _ next low ↦ record { level_is = next; mask_is = b.same; passes = refl }
+      | Later later same lacks ↦ absurd (omega arith)
+    ])
 
 -- as the first it doesn't lead to the last level
-pub least_first_late : (place width clue level mask level_then mask_then : ℕ) → 1 < width → place ≡ 0 → clue ≤ level_then ⊎ clue ≤ level + 1
+pub least_first_late : {place width clue level mask level_then mask_then : ℕ} → 1 < width → place ≡ 0 → clue ≤ level_then ⊎ clue ≤ level + 1
     → IsStep place width clue 0 level mask level_then mask_then → ⊥
-least_first_late place width clue level mask level_then mask_then more none late s =
-    let p = (least_first place width clue level mask level_then mask_then more none).0 s in
-    elim late [ inl to ↦ omega (arith, to, p.2) | inr from ↦ omega (arith, from, p.0, p.2) ]
+least_first_late more none late s =
+    elim (only_least refl more s).moves [
+      | First _ next low ↦ elim late [ inl to ↦ omega arith | inr from ↦ omega arith ]
+      | Later later same lacks ↦ omega arith
+    ]
 
 -- ---- a value between them
 
--- a mask that lacks the bit, with it, and that one without it
-put_in : (mask k more : ℕ) → ((has_number mask k ≡ false) × (more ≡ mask + 2 ^ k)) ↔ ((mask ≡ more - 2 ^ k) × (has_number more k ≡ true))
-put_in mask k more = (
-  λ p. (omega (arith, p.1), added_has (added_with mask k more p.0 p.1)),
-  λ p.
-      let most = power_most more k p.1 in
-      let back : more - 2 ^ k + 2 ^ k ≡ more = omega arith in
-      let lacks = added_lacks (added_without (more - 2 ^ k) k more p.1 back) in
-      (ap (λ x. has_number x k) p.0 ∙ lacks, omega (arith, p.0)),
-)
+-- it leads to a mask that has it from that mask without it
+put_in : {place width clue k level level_then mask : ℕ} → k + 2 < width → has_number mask k ≡ true → IsMove clue k level (mask - 2 ^ k) level_then
+    → IsStep place width clue (k + 1) level (mask - 2 ^ k) level_then mask
+put_in {k = k} {mask = mask} less has moves =
+    let most = power_most mask k has in
+    let back : mask - 2 ^ k + 2 ^ k ≡ mask = omega arith in
+    Between k refl record { value = less; fresh = added_lacks (added_without (mask - 2 ^ k) k mask has back); more = sym back; moves = moves }
+
+-- and from a mask that lacks it to that mask with it
+put_to : {place width clue k level level_then mask : ℕ} → k + 2 < width → not (has_number mask k) ≡ true → IsMove clue k level mask level_then
+    → IsStep place width clue (k + 1) level mask level_then (mask + 2 ^ k)
+put_to {k = k} less lacks moves = Between k refl record { value = less; fresh = not-true _ lacks; more = refl; moves = moves }
 
 -- to the last level
 pub between_reached_last : (clue k : ℕ) (levels : List (List ℕ)) (from set : List ℕ) → from ≡ get_or levels clue []
     → ((m : ℕ) → has_mask set m ≡ (has_number m k && has_mask from (m - 2 ^ k)))
     → (place width mask : ℕ) → k + 2 < width → (has_mask set mask ≡ true) ↔ IsReachedBy place width clue (k + 1) levels clue mask
 between_reached_last clue k levels from set is with place width mask less =
-    both (one_part (has_mask set mask) (has_at levels clue (mask - 2 ^ k)) (has_number mask k)
-    (with mask ∙ ap (λ (s : List ℕ). has_number mask k && has_mask s (mask - 2 ^ k)) is))
-    (linked_one (λ l x. IsStep place width clue (k + 1) l x clue mask) levels clue (mask - 2 ^ k) (has_number mask k ≡ true) (λ l x.
-    let step = between_step place width clue k l x clue mask less in (
-      λ s.
-          let p = step.0 s in
-          let q = (put_in x k mask).0 (p.0, p.1) in
-          elim p.2 [ inl same ↦ (same.0, q.0, q.1) | inr far ↦ elim far [ inl stays ↦ absurd (omega (arith, stays.0, stays.2)) | inr goes ↦ absurd (omega (arith, goes.2)) ] ],
-      λ p. let q = (put_in x k mask).1 (p.1, p.2) in step.1 (q.0, q.1, inl (p.0, refl)),
-    )))
+    linked_one (λ l x. IsStep place width clue (k + 1) l x clue mask) levels clue (mask - 2 ^ k) (has_number mask k) (has_mask set mask)
+    (with mask ∙ ap (λ (s : List ℕ). has_number mask k && has_mask s (mask - 2 ^ k)) is)
+    (λ has. put_in less has (Within refl refl))
+    (λ l x s. let b = only_between less s in
+    record {
+      level_is = elim b.moves [ Within last same ↦ last | Hidden low large same ↦ absurd (omega arith) | Shown small next low ↦ absurd (omega arith) ];
+      mask_is = omega (arith, b.more);
+      passes = added_has (added_with x k mask b.fresh b.more);
+    })
 
 pub between_leads_last : (clue k : ℕ) (after : List (List ℕ)) (from set : List ℕ) → from ≡ get_or after clue []
     → ((m : ℕ) → has_mask set m ≡ (not (has_number m k) && has_mask from (m + 2 ^ k)))
     → (place width mask : ℕ) → k + 2 < width → (has_mask set mask ≡ true) ↔ LeadsTo place width clue (k + 1) after clue mask
 between_leads_last clue k after from set is without place width mask less =
-    both (one_part (has_mask set mask) (has_at after clue (mask + 2 ^ k)) (not (has_number mask k))
-    (without mask ∙ ap (λ (s : List ℕ). not (has_number mask k) && has_mask s (mask + 2 ^ k)) is))
-    (linked_one (λ l x. IsStep place width clue (k + 1) clue mask l x) after clue (mask + 2 ^ k) (not (has_number mask k) ≡ true) (λ l x.
-    let step = between_step place width clue k clue mask l x less in (
-      λ s.
-          let p = step.0 s in
-          let then : l ≡ clue = elim p.2 [ inl same ↦ same.1 | inr far ↦ elim far [ inl stays ↦ absurd (omega (arith, stays.0)) | inr goes ↦ absurd (omega (arith, goes.1, goes.2)) ] ] in
-          (then, p.1, not_from_false _ p.0),
-      λ p. step.1 (not-true _ p.2, p.1, inl (refl, p.0)),
-    )))
+    linked_one (λ l x. IsStep place width clue (k + 1) clue mask l x) after clue (mask + 2 ^ k) (not (has_number mask k)) (has_mask set mask)
+    (without mask ∙ ap (λ (s : List ℕ). not (has_number mask k) && has_mask s (mask + 2 ^ k)) is)
+    (λ lacks. put_to less lacks (Within refl refl))
+    (λ l x s. let b = only_between less s in
+    record {
+      level_is = elim b.moves [ Within last same ↦ same | Hidden low large same ↦ absurd (omega arith) | Shown small next low ↦ absurd (omega arith) ];
+      mask_is = b.more;
+      passes = not_from_false _ b.fresh;
+    })
+
+-- a test before either of two is one before each
+test_each : (test first far second near : Bool) → (test && ((first && far) || (second && near))) ≡ (((test && near) && second) || ((test && far) && first))
+test_each false first far second near = refl
+test_each true first far second near = rw (and_comm first far, and_comm second near) (or_comm (far && first) (near && second))
 
 -- to a level before the last: from the masks of that level that hide the value, and from those of the level before that don't
 pub between_reached : (clue k level : ℕ) (levels : List (List ℕ)) (from lower hiding showing either set : List ℕ) → 1 ≤ level → level < clue
@@ -292,66 +215,55 @@ pub between_reached : (clue k level : ℕ) (levels : List (List ℕ)) (from lowe
     → (place width mask : ℕ) → k + 2 < width → (has_mask set mask ≡ true) ↔ IsReachedBy place width clue (k + 1) levels level mask
 between_reached clue k level levels from lower hiding showing either set some early is lower_is hides shows are with place width mask less =
     let x = mask - 2 ^ k in
-    let test = has_number mask k in
     let far = leb (2 ^ k) x in
     let near = ltb x (2 ^ k) in
-    let whole : has_mask set mask ≡ (test && ((has_at levels level x && far) || (has_at levels (level - 1) x && near))) =
-    rw (← is, ← lower_is) (with mask ∙ ap (λ b. test && b) (are x ∙ rw (hides x, shows x) refl)) in
-    both (either_part (has_mask set mask) (has_at levels level x) (has_at levels (level - 1) x) test far near whole)
-    (linked_either (λ l y. IsStep place width clue (k + 1) l y level mask) levels level (level - 1) x
-    (HasPassed test far) (HasPassed test near) (λ l y.
-    let step = between_step place width clue k l y level mask less in (
-      λ s.
-          let p = step.0 s in
-          let q = (put_in y k mask).0 (p.0, p.1) in
-          elim p.2 [
-            | inl same ↦ absurd (omega (arith, same.1))
-            | inr moves ↦ elim moves [
-              | inl stays ↦ inl (sym stays.2, q.0, record { of_bit = q.1; of_size = le-leb (2 ^ k) x (omega (arith, q.0, stays.1)) })
-              | inr goes ↦ inr (omega (arith, goes.1), q.0, record { of_bit = q.1; of_size = lt-ltb x (2 ^ k) (omega (arith, q.0, goes.0)) })
-            ]
-          ],
-      λ e. elim e [
-        | inl a ↦
-            let q = (put_in y k mask).1 (a.1, a.2.of_bit) in
-            let large = leb-true (2 ^ k) x a.2.of_size in
-            step.1 (q.0, q.1, inr (inl (omega (arith, a.0), omega (arith, a.1), sym a.0)))
-        | inr b ↦
-            let q = (put_in y k mask).1 (b.1, b.2.of_bit) in
-            let small = ltb-true x (2 ^ k) b.2.of_size in
-            step.1 (q.0, q.1, inr (inr (omega (arith, b.1), omega (arith, b.0), early)))
-      ],
-    )))
+    linked_two (λ l y. IsStep place width clue (k + 1) l y level mask) levels level (level - 1) x (has_number mask k && far) (has_number mask k && near)
+    (has_mask set mask)
+    (rw (← is, ← lower_is) (with mask ∙ ap (λ b. has_number mask k && b) (are x ∙ rw (hides x, shows x) refl) ∙ test_each _ _ far _ near))
+    (λ p. let (has, large) = and_parts _ _ p in put_in less has (Hidden early (leb-true (2 ^ k) x large) refl))
+    (λ p. let (has, small) = and_parts _ _ p in put_in less has (Shown (ltb-true x (2 ^ k) small) (omega arith) early))
+    (λ l y s.
+    let b = only_between less s in
+    let has = added_has (added_with y k mask b.fresh b.more) in
+    let back : y ≡ x = omega (arith, b.more) in
+    elim b.moves [
+      | Within last same ↦ absurd (omega arith)
+      | Hidden low large same ↦ inl record { level_is = sym same; mask_is = back; passes = and_from _ _ has (le-leb (2 ^ k) x (omega arith)) }
+      | Shown small next low ↦ inr record { level_is = omega arith; mask_is = back; passes = and_from _ _ has (lt-ltb x (2 ^ k) (omega arith)) }
+    ])
 
--- how such a value is hidden and shown, as the sets tell it of the mask that it leads to
-abbrev IsHidden : ℕ → ℕ → Type 0
-IsHidden k mask = HasPassed (not (has_number mask k)) (leb (2 ^ (k + 1)) (mask + 2 ^ k))
+-- whether such a value is hidden, and whether it is shown, as the sets tell it of the mask that it leads to
+abbrev is_hidden : ℕ → ℕ → Bool
+is_hidden k mask = not (has_number mask k) && leb (2 ^ (k + 1)) (mask + 2 ^ k)
 
--- a value above all in the mask, tested from its low side
-abbrev IsShown : ℕ → ℕ → Type 0
-IsShown k mask = HasPassed (not (has_number mask k)) (ltb (mask + 2 ^ k) (2 ^ (k + 1)))
+-- it is above all in the mask, tested from its low side
+abbrev is_shown : ℕ → ℕ → Bool
+is_shown k mask = not (has_number mask k) && ltb (mask + 2 ^ k) (2 ^ (k + 1))
 
-hidden_step : (place width clue k level mask : ℕ) → k + 2 < width → level < clue → IsHidden k mask → IsStep place width clue (k + 1) level mask level (mask + 2 ^ k)
-hidden_step place width clue k level mask less early h =
-    let large = leb-true (2 ^ (k + 1)) (mask + 2 ^ k) h.of_size in
-    (between_step place width clue k level mask level (mask + 2 ^ k) less).1 (not-true _ h.of_bit, refl, inr (inl (early, omega (arith, pow_more 2 k, large), refl)))
+hidden_step : {place width clue level : ℕ} (k mask : ℕ) → k + 2 < width → level < clue → is_hidden k mask ≡ true
+    → IsStep place width clue (k + 1) level mask level (mask + 2 ^ k)
+hidden_step k mask less early p =
+    let (lacks, size) = and_parts _ _ p in
+    let large = leb-true (2 ^ (k + 1)) (mask + 2 ^ k) size in
+    put_to less lacks (Hidden early (omega (arith, pow_more 2 k)) refl)
 
-shown_step : (place width clue k level mask : ℕ) → k + 2 < width → level + 1 < clue → IsShown k mask
+shown_step : {place width clue level : ℕ} (k mask : ℕ) → k + 2 < width → level + 1 < clue → is_shown k mask ≡ true
     → IsStep place width clue (k + 1) level mask (level + 1) (mask + 2 ^ k)
-shown_step place width clue k level mask less early s =
-    let small = ltb-true (mask + 2 ^ k) (2 ^ (k + 1)) s.of_size in
-    (between_step place width clue k level mask (level + 1) (mask + 2 ^ k) less).1 (not-true _ s.of_bit, refl, inr (inr (omega (arith, pow_more 2 k, small), refl, early)))
+shown_step k mask less early p =
+    let (lacks, size) = and_parts _ _ p in
+    let small = ltb-true (mask + 2 ^ k) (2 ^ (k + 1)) size in
+    put_to less lacks (Shown (omega (arith, pow_more 2 k)) refl early)
 
-step_from_low : (place width clue k level mask : ℕ) → k + 2 < width → level < clue → (l y : ℕ) → IsStep place width clue (k + 1) level mask l y
-    → ((l ≡ level) × (y ≡ mask + 2 ^ k) × IsHidden k mask) ⊎ ((l ≡ level + 1) × (y ≡ mask + 2 ^ k) × (level + 1 < clue) × IsShown k mask)
-step_from_low place width clue k level mask less early l y s =
-    let p = (between_step place width clue k level mask l y less).0 s in
-    elim p.2 [
-      | inl same ↦ absurd (omega (arith, same.0))
-      | inr moves ↦ elim moves [
-        | inl stays ↦ inl (stays.2, p.1, record { of_bit = not_from_false _ p.0; of_size = le-leb (2 ^ (k + 1)) (mask + 2 ^ k) (omega (arith, pow_more 2 k, stays.1)) })
-        | inr goes ↦ inr (goes.1, p.1, omega (arith, goes.1, goes.2), record { of_bit = not_from_false _ p.0; of_size = lt-ltb (mask + 2 ^ k) (2 ^ (k + 1)) (omega (arith, pow_more 2 k, goes.0)) })
-      ]
+step_from_low : {place width clue level : ℕ} (k mask : ℕ) → k + 2 < width → level < clue → (l y : ℕ) → IsStep place width clue (k + 1) level mask l y
+    → IsAt level (mask + 2 ^ k) (is_hidden k mask) l y ⊎ (IsAt (level + 1) (mask + 2 ^ k) (is_shown k mask) l y × (level + 1 < clue))
+step_from_low k mask less early l y s =
+    let b = only_between less s in
+    let lacks = not_from_false _ b.fresh in
+    let next = pow_more 2 k in
+    elim b.moves [
+      | Within last same ↦ absurd (omega arith)
+      | Hidden low large same ↦ inl record { level_is = same; mask_is = b.more; passes = and_from _ _ lacks (le-leb _ _ (omega arith)) }
+      | Shown small later low ↦ inr (record { level_is = later; mask_is = b.more; passes = and_from _ _ lacks (lt-ltb _ _ (omega arith)) }, omega arith)
     ]
 
 -- from a level before the last to the masks of that level that hide the value, and to those of the next that show it, if that isn't the last
@@ -363,42 +275,24 @@ pub between_leads : (clue k level : ℕ) (after : List (List ℕ)) (same_level n
     → (place width mask : ℕ) → k + 2 < width → (has_mask set mask ≡ true) ↔ LeadsTo place width clue (k + 1) after level mask
 between_leads clue k level after same_level next hidden shown either set early is next_is hides shows are without place width mask less =
     let x = mask + 2 ^ k in
-    let test = not (has_number mask k) in
-    let far = leb (2 ^ (k + 1)) x in
-    let near = ltb x (2 ^ (k + 1)) in
-    let whole : has_mask set mask ≡ (test && ((has_at after level x && far) || (has_at after (level + 1) x && near))) =
-    rw (← is, ← next_is) (without mask ∙ ap (λ b. test && b) (are x ∙ rw (hides x, shows x) refl)) in
-    both (either_part (has_mask set mask) (has_at after level x) (has_at after (level + 1) x) test far near whole)
-    (linked_either (λ l y. IsStep place width clue (k + 1) level mask l y) after level (level + 1) x (IsHidden k mask) (IsShown k mask) (λ l y. (
-      λ s. elim (step_from_low place width clue k level mask less (omega arith) l y s) [ inl h ↦ inl h | inr n ↦ inr (n.0, n.1, n.3) ],
-      λ e.
-          let S : ℕ → ℕ → Type 0 = λ i z. IsStep place width clue (k + 1) level mask i z in
-          elim e [
-            | inl h ↦ subst (λ i. S i y) (sym h.0) (subst (S level) (sym h.1) (hidden_step place width clue k level mask less (omega arith) h.2))
-            | inr n ↦ subst (λ i. S i y) (sym n.0) (subst (S (level + 1)) (sym n.1) (shown_step place width clue k level mask less early n.2))
-          ],
-    )))
+    let lacks = not (has_number mask k) in
+    linked_two (λ l y. IsStep place width clue (k + 1) level mask l y) after level (level + 1) x (is_hidden k mask) (is_shown k mask) (has_mask set mask)
+    (rw (← is, ← next_is) (without mask ∙ ap (λ b. lacks && b) (are x ∙ rw (hides x, shows x) refl) ∙ test_each lacks _ _ _ _))
+    (hidden_step k mask less (omega arith)) (shown_step k mask less early)
+    (λ l y s. elim (step_from_low k mask less (omega arith) l y s) [ inl h ↦ inl h | inr n ↦ inr n.0 ])
 
+-- from the level before the last to no mask of the last
 pub between_leads_hidden : (clue k level : ℕ) (after : List (List ℕ)) (same_level hidden set : List ℕ) → level < clue → clue ≤ level + 1
     → same_level ≡ get_or after level [] → ((m : ℕ) → has_mask hidden m ≡ (has_mask same_level m && leb (2 ^ (k + 1)) m))
     → ((m : ℕ) → has_mask set m ≡ (not (has_number m k) && has_mask hidden (m + 2 ^ k)))
     → (place width mask : ℕ) → k + 2 < width → (has_mask set mask ≡ true) ↔ LeadsTo place width clue (k + 1) after level mask
 between_leads_hidden clue k level after same_level hidden set early late is hides without place width mask less =
     let x = mask + 2 ^ k in
-    let linked = linked_one (λ l y. IsStep place width clue (k + 1) level mask l y) after level x (IsHidden k mask) (λ l y. (
-      λ s. elim (step_from_low place width clue k level mask less early l y s) [ inl h ↦ h | inr n ↦ absurd (omega (arith, n.2)) ],
-      λ h.
-          let S : ℕ → ℕ → Type 0 = λ i z. IsStep place width clue (k + 1) level mask i z in
-          subst (λ i. S i y) (sym h.0) (subst (S level) (sym h.1) (hidden_step place width clue k level mask less early h.2)),
-    )) in
-    let whole : has_mask set mask ≡ (not (has_number mask k) && (has_at after level x && leb (2 ^ (k + 1)) x)) =
-    rw (← is) (without mask ∙ ap (λ b. not (has_number mask k) && b) (hides x)) in (
-      λ e.
-          let p = and_parts _ _ (sym whole ∙ e) in
-          let q = and_parts _ _ p.1 in
-          linked.1 (q.0, record { of_bit = p.0; of_size = q.1 }),
-      λ r. let h = linked.0 r in whole ∙ and_from _ _ h.1.of_bit (and_from _ _ h.0 h.1.of_size),
-    )
+    let lacks = not (has_number mask k) in
+    linked_one (λ l y. IsStep place width clue (k + 1) level mask l y) after level x (is_hidden k mask) (has_mask set mask)
+    (rw (← is) (without mask ∙ ap (λ b. lacks && b) (hides x ∙ and_comm (has_mask same_level x) _) ∙ sym (and_assoc lacks _ _)))
+    (hidden_step k mask less early)
+    (λ l y s. elim (step_from_low k mask less early l y s) [ inl h ↦ h | inr n ↦ absurd (omega (arith, n.1)) ])
 
 -- ---- where the masks are to which a value leads, and from which
 
@@ -423,26 +317,19 @@ in_reach place width clue k levels few level mask r =
     let known = few r.level r.mask r.here in
     let most = known.most in
     elim r.link [
-      | inl s ↦ record { some = omega (arith, s.before, s.after); next = omega (arith, s.before, s.after); last = omega (arith, s.after) }
-      | inr other ↦ elim other [
-        | inl s ↦ elim s.moves [
-          | inl first ↦ record { some = omega (arith, first.1); next = omega (arith, first.1); last = omega (arith, first.2) }
-          | inr later ↦
-              let least = known.least later.0 in
-              let low : r.level ≤ clue = elim later.2 [ inl early ↦ omega (arith, early.0) | inr last ↦ omega (arith, last.0) ] in
-              record { some = omega (arith, later.1); next = omega (arith, later.1); last = omega (arith, later.1) }
-        ]
-        | inr s ↦
-            elim s.moves [
-              | inl same ↦
-                  let some = known.some (inr same.0) in
-                  record { some = omega (arith, same.0, same.1); next = omega (arith, same.0, same.1); last = omega (arith, same.1) }
-              | inr moves ↦ elim moves [
-                | inl stays ↦
-                    let some = known.some (inl (omega (arith, stays.1, pow_pos s.bit))) in
-                    record { some = omega (arith, stays.2); next = omega (arith, stays.2); last = omega (arith, stays.0, stays.2) }
-                | inr goes ↦ record { some = omega (arith, goes.1); next = omega (arith, goes.1); last = omega (arith, goes.2) }
-              ]
-            ]
+      | Greatest s ↦ record { some = omega (arith, s.before, s.after); next = omega (arith, s.before, s.after); last = omega (arith, s.after) }
+      | Least s ↦ elim s.moves [
+        | First none next low ↦ record { some = omega arith; next = omega arith; last = omega arith }
+        | Later some same lacks ↦
+            let least = known.least some in
+            let low : r.level ≤ clue = elim lacks [ inl early ↦ omega (arith, early.0) | inr last ↦ omega (arith, last.0) ] in
+            record { some = omega arith; next = omega arith; last = omega arith }
+      ]
+      | Between bit is s ↦ elim s.moves [
+        | Within last same ↦ let some = known.some (inr last) in record { some = omega arith; next = omega arith; last = omega arith }
+        | Hidden early large same ↦
+            let some = known.some (inl (omega (arith, pow_pos bit))) in
+            record { some = omega arith; next = omega arith; last = omega arith }
+        | Shown small next low ↦ record { some = omega arith; next = omega arith; last = omega arith }
       ]
     ]

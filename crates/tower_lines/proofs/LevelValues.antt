@@ -35,9 +35,7 @@ others_less left value others here are =
     let rest : left - 2 ^ value + 2 ^ value ≡ left = omega arith in
     let added : IsAdded (left - 2 ^ value) value left = added_without (left - 2 ^ value) value left here rest in
     let same : others ≡ left - 2 ^ value = same_set others (left - 2 ^ value) (λ n. elim (cases_eq n value) [
-      | inl is ↦
-          let P : ℕ → Type 0 = λ m. has_number others m ≡ has_number (left - 2 ^ value) m in
-          subst P (sym is) (others_lack left value others are ∙ sym (added_lacks added))
+      | inl is ↦ rw is (others_lack left value others are ∙ sym (added_lacks added))
       | inr other ↦
           let lacks : eqb n value ≡ false = false_from_ne_true (eqb n value) (λ s. other (eqb-true n value s)) in
           are n ∙ ap (λ b. has_number left n && not b) lacks ∙ and-true (has_number left n) ∙ added_other added n other
@@ -73,43 +71,42 @@ none_done width values left k is d =
 pub fewer_left : (width values left value others : ℕ) → AreLeft width values left → AreOthers left value others → AreLeft width values others
 fewer_left width values left value others are others_are n e = are n (others_inside left value others n others_are e)
 
--- then one more is done
-done_then : (width values left value others k : ℕ) → AreLeft width values left → has_number left value ≡ true → AreOthers left value others
-    → IsDone width values others k ↔ (IsDone width values left k ⊎ (k + 1 ≡ value))
-done_then width values left value others k are here others_are = (
-  λ d. elim (cases_eq (k + 1) value) [
-    | inl same ↦ inr same
-    | inr other ↦ inl record {
-      inside = d.inside;
-      candidate = d.candidate;
-      done = false_from_ne_true (has_number left (k + 1)) (λ e. both_ways (has_number others (k + 1)) d.done (others_have left value others (k + 1) others_are other e));
-    }
-  ],
-  λ s. elim s [
-    | inl d ↦ record {
-      inside = d.inside;
-      candidate = d.candidate;
-      done = false_from_ne_true (has_number others (k + 1)) (λ e. both_ways (has_number left (k + 1)) d.done (others_inside left value others (k + 1) others_are e));
-    }
-    | inr same ↦
-        let known = are value here in
-        let P : ℕ → Type 0 = λ n. has_number values n ≡ true in
-        let Q : ℕ → Type 0 = λ n. has_number others n ≡ false in
-        record {
-          inside = omega (arith, known.1);
-          candidate = subst P (sym same) known.2;
-          done = subst Q (sym same) (others_lack left value others others_are);
-        }
-  ],
-)
-
 -- ---- what the values that are done add
 
--- a mask that such a value gives
-pub record IsGiven (Given : ℕ → ℕ → ℕ → Type 0) (width values left level mask : ℕ) : Type 0 where
+-- one of the values that are done, of which this holds
+pub record IsDoneWith (P : ℕ → Type 0) (width values left : ℕ) : Type 0 where
   pub k : ℕ
   pub done : IsDone width values left k
-  pub given : Given k level mask
+  pub holds : P k
+
+-- with one value more it holds of one that was done before, or of that one
+done_with : (P : ℕ → Type 0) (width values left value others : ℕ) → AreLeft width values left → has_number left value ≡ true → AreOthers left value others
+    → IsDoneWith P width values others ↔ (IsDoneWith P width values left ⊎ P (value - 1))
+done_with P width values left value others are here others_are =
+    let (low, high, candidate) = are value here in
+    let next : value - 1 + 1 ≡ value = omega arith in (
+      λ r.
+          let d = r.done in
+          elim (cases_eq (r.k + 1) value) [
+            | inl same ↦ (let last : r.k ≡ value - 1 = omega arith in inr (subst P last r.holds))
+            | inr other ↦
+                let done = false_from_ne_true _ (λ e. both_ways (has_number others (r.k + 1)) d.done (others_have left value others (r.k + 1) others_are other e)) in
+                inl record { k = r.k; done = record { inside = d.inside; candidate = d.candidate; done = done }; holds = r.holds }
+          ],
+      λ s. elim s [
+        | inl r ↦
+            let d = r.done in
+            let done = false_from_ne_true _ (λ e. both_ways (has_number left (r.k + 1)) d.done (others_inside left value others (r.k + 1) others_are e)) in
+            record { k = r.k; done = record { inside = d.inside; candidate = d.candidate; done = done }; holds = r.holds }
+        | inr h ↦
+            let lacks = others_lack left value others others_are in
+            record { k = value - 1; done = record { inside = omega arith; candidate = rw next candidate; done = rw next lacks }; holds = h }
+      ],
+    )
+
+-- a mask that such a value gives
+abbrev pub IsGiven : (ℕ → ℕ → ℕ → Type 0) → ℕ → ℕ → ℕ → ℕ → ℕ → Type 0
+IsGiven Given width values left level mask = IsDoneWith (λ k. Given k level mask) width values left
 
 -- before the first value nothing is given
 pub given_none : (Given : ℕ → ℕ → ℕ → Type 0) (width values left : ℕ) (old : List (List ℕ))
@@ -121,35 +118,19 @@ pub given_more : (Given : ℕ → ℕ → ℕ → Type 0) (width values left val
     → has_number left value ≡ true → AreOthers left value others → AreAdded (IsGiven Given width values left) old mid → AreAdded (Given (value - 1)) mid now
     → AreAdded (IsGiven Given width values others) old now
 given_more Given width values left value others old mid now are here others_are before new =
-    added_both (IsGiven Given width values left) (Given (value - 1)) (IsGiven Given width values others) old mid now before new (λ level mask. (
-      λ r. elim ((done_then width values left value others r.k are here others_are).0 r.done) [
-        | inl was ↦ inl record { k = r.k; done = was; given = r.given }
-        | inr same ↦
-            let low : r.k ≡ value - 1 = omega arith in
-            let P : ℕ → Type 0 = λ k. Given k level mask in
-            inr (subst P low r.given)
-      ],
-      λ s. elim s [
-        | inl r ↦ record { k = r.k; done = (done_then width values left value others r.k are here others_are).1 (inl r.done); given = r.given }
-        | inr g ↦
-            let known = are value here in
-            let same : value - 1 + 1 ≡ value = omega (arith, known.0) in
-            record { k = value - 1; done = (done_then width values left value others (value - 1) are here others_are).1 (inr same); given = g }
-      ],
-    ))
+    added_both (IsGiven Given width values left) (Given (value - 1)) (IsGiven Given width values others) old mid now before new
+    (λ level mask. done_with (λ k. Given k level mask) width values left value others are here others_are)
 
--- a value that gives some mask of some level
-pub record IsGiving (Given : ℕ → ℕ → ℕ → Type 0) (width values left value : ℕ) : Type 0 where
-  pub k : ℕ
+-- the value gives some mask of some level
+pub record IsGiving (Given : ℕ → ℕ → ℕ → Type 0) (value k : ℕ) : Type 0 where
   pub is : value ≡ k + 1
-  pub done : IsDone width values left k
   pub level : ℕ
   pub mask : ℕ
   pub given : Given k level mask
 
--- the set has those values
+-- the set has those of the values that are done
 abbrev pub AreGiving : (ℕ → ℕ → ℕ → Type 0) → ℕ → ℕ → ℕ → ℕ → Type 0
-AreGiving Given width values left kept = (value : ℕ) → (has_number kept value ≡ true) ↔ IsGiving Given width values left value
+AreGiving Given width values left kept = (value : ℕ) → (has_number kept value ≡ true) ↔ IsDoneWith (IsGiving Given value) width values left
 
 pub giving_none : (Given : ℕ → ℕ → ℕ → Type 0) (width values left kept : ℕ) → kept ≡ 0
     → ((n : ℕ) → has_number left n ≡ (has_number values n && (leb 1 n && leb n width))) → AreGiving Given width values left kept
@@ -162,41 +143,24 @@ pub giving_more : (Given : ℕ → ℕ → ℕ → Type 0) (width values left on
     → AreOthers left one others → ((level : ℕ) × (mask : ℕ) × Given (one - 1) level mask)
     → ((value : ℕ) → has_number more value ≡ (has_number kept value || eqb value one))
     → AreGiving Given width values left kept → AreGiving Given width values others more
-giving_more Given width values left one others kept more are here others_are some more_is before value = (
-  λ e. elim (or_cases _ _ (sym (more_is value) ∙ e)) [
-    | inl old ↦
-        let r = (before value).0 old in
-        record { k = r.k; is = r.is; done = (done_then width values left one others r.k are here others_are).1 (inl r.done); level = r.level; mask = r.mask; given = r.given }
-    | inr new ↦
-        let known = are one here in
-        let same : one - 1 + 1 ≡ one = omega (arith, known.0) in
-        record {
-          k = one - 1;
-          is = eqb-true value one new ∙ sym same;
-          done = (done_then width values left one others (one - 1) are here others_are).1 (inr same);
-          level = some.0;
-          mask = some.1;
-          given = some.2;
-        }
-  ],
-  λ r. more_is value ∙ elim ((done_then width values left one others r.k are here others_are).0 r.done) [
-    | inl was ↦ or_left _ _ ((before value).1 record { k = r.k; is = r.is; done = was; level = r.level; mask = r.mask; given = r.given })
-    | inr same ↦ or_right _ _ (eq-eqb value one (r.is ∙ same))
-  ],
-)
+giving_more Given width values left one others kept more are here others_are (level, mask, given) more_is before value =
+    let then = done_with (IsGiving Given value) width values left one others are here others_are in
+    let (low, high, candidate) = are one here in (
+      λ e. then.1 (elim (or_cases _ _ (sym (more_is value) ∙ e)) [
+        | inl old ↦ inl ((before value).0 old)
+        | inr new ↦ (let same = eqb-true value one new in inr record { is = omega arith; level = level; mask = mask; given = given })
+      ]),
+      λ r. more_is value ∙ elim (then.0 r) [
+        | inl was ↦ or_left _ _ ((before value).1 was)
+        | inr new ↦ or_right _ _ (eq-eqb value one (omega (arith, new.is)))
+      ],
+    )
 
 pub giving_skipped : (Given : ℕ → ℕ → ℕ → Type 0) (width values left one others kept : ℕ) → AreLeft width values left → has_number left one ≡ true
     → AreOthers left one others → (((level : ℕ) × (mask : ℕ) × Given (one - 1) level mask) → ⊥)
     → AreGiving Given width values left kept → AreGiving Given width values others kept
-giving_skipped Given width values left one others kept are here others_are none before value = (
-  λ e.
-      let r = (before value).0 e in
-      record { k = r.k; is = r.is; done = (done_then width values left one others r.k are here others_are).1 (inl r.done); level = r.level; mask = r.mask; given = r.given },
-  λ r. elim ((done_then width values left one others r.k are here others_are).0 r.done) [
-    | inl was ↦ (before value).1 record { k = r.k; is = r.is; done = was; level = r.level; mask = r.mask; given = r.given }
-    | inr same ↦
-        let low : r.k ≡ one - 1 = omega arith in
-        let P : ℕ → Type 0 = λ k. Given k r.level r.mask in
-        absurd (none (r.level, r.mask, subst P low r.given))
-  ],
-)
+giving_skipped Given width values left one others kept are here others_are none before value =
+    let then = done_with (IsGiving Given value) width values left one others are here others_are in (
+      λ e. then.1 (inl ((before value).0 e)),
+      λ r. elim (then.0 r) [ inl was ↦ (before value).1 was | inr new ↦ absurd (none (new.level, new.mask, new.given)) ],
+    )

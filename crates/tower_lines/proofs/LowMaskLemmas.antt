@@ -8,9 +8,9 @@ use Rattle.number_sets.specs.Sets.{has_number}
 use Rattle.number_sets.proofs.Members.{has_number-above, has_number-half, has_number-mod, bit-from_number, bit-from_no_number, below_from_numbers, power_most, same_set}
 use Rattle.number_sets.proofs.OneMore.{IsAdded, added_with, added_without, added_has, added_lacks, added_other, added_ones}
 use Rattle.tower_lines.specs.LineFillings.{IsStart}
-use Rattle.tower_lines.specs.Inner.LineMasks.{is_in, IsMask}
+use Rattle.tower_lines.specs.Inner.LineMasks.{is_in}
 use Rattle.tower_lines.specs.Inner.Levels.{IsLowMask}
-use Rattle.tower_lines.proofs.MaskLemmas.{is_in-push_same, is_in-push_other, mask_of, tower}
+use Rattle.tower_lines.proofs.MaskLemmas.{is_in-push_same, is_in-push_other, IsMasked, mask_of, tower}
 use Rattle.tower_lines.proofs.StartLemmas.{is_in-place, is_in-at}
 
 -- ---- the low mask of a list
@@ -71,31 +71,20 @@ low_same {width} {mask} p x h apart = record {
 none_high : {sets : List ℕ} (p : List ℕ) (x : ℕ) → IsStart sets p → is_in (length sets) p ≡ false → length sets ≤ x → is_in x p ≡ false
 none_high {sets} p x start lacks high =
     false_from_ne_true (is_in x p) (λ e.
-    let there = is_in-place x p e in
-    let most = (start.values there.0 there.1).1 in
-    both_ways (is_in (length sets) p) lacks (is_in-at (length sets) p there.0 there.1 (omega (arith, there.2, most))))
+    let (place, inside, here) = is_in-place x p e in
+    let most = (start.values place inside).1 in
+    both_ways (is_in (length sets) p) lacks (is_in-at (length sets) p place inside (omega arith)))
 
 -- the mask of all values of a start that lacks the greatest
-pub record IsWhole (sets p : List ℕ) : Type 0 where
-  pub mask : ℕ
-  pub used : IsMask mask p
-  pub ones : count_ones mask ≡ length p
-  pub small : mask < 2 ^ (length sets - 1)
-
--- a start that lacks the greatest value has such a mask
-pub whole_of : {sets : List ℕ} (p : List ℕ) → IsStart sets p → is_in (length sets) p ≡ false → IsWhole sets p
+pub whole_of : {sets : List ℕ} (p : List ℕ) → IsStart sets p → is_in (length sets) p ≡ false → IsMasked (length sets - 1) p
 whole_of {sets} p start lacks =
     let b = mask_of p start in
-    record {
-      mask = b.mask;
-      used = b.used;
-      ones = b.ones;
-      small = below_from_numbers b.mask (length sets - 1) (λ j l. b.used.bits j ∙ none_high p (j + 1) start lacks (omega arith));
-    }
+    let small = below_from_numbers b.mask (length sets - 1) (λ j l. b.used.bits j ∙ none_high p (j + 1) start lacks (omega arith)) in
+    record { mask = b.mask; used = b.used; ones = b.ones; small = small }
 
 -- but for the least they are the low mask
 pub whole_half : {sets : List ℕ} {mask : ℕ} (p : List ℕ) → IsStart sets p → is_in (length sets) p ≡ false → IsLowMask (length sets) mask p
-    → (w : IsWhole sets p) → mask ≡ w.mask / 2
+    → (w : IsMasked (length sets - 1) p) → mask ≡ w.mask / 2
 whole_half {sets} {mask} p start lacks h w =
     same_set mask (w.mask / 2) (λ j.
     let e : j + 1 + 1 ≡ j + 2 = omega arith in

@@ -38,14 +38,14 @@ mask_more {m} {k} {n} p h a = record {
   ];
 }
 
--- a list with its mask
-pub record IsMasked (sets p : List ℕ) : Type 0 where
+-- a list of values up to a width, with its mask
+pub record IsMasked (width : ℕ) (p : List ℕ) : Type 0 where
   pub mask : ℕ
   pub used : IsMask mask p
   pub ones : count_ones mask ≡ length p
-  pub small : mask < 2 ^ length sets
+  pub small : mask < 2 ^ width
 
-masked_along : (sets s q : List ℕ) → IsStart sets (q ++ s) → IsMasked sets q → IsMasked sets (q ++ s)
+masked_along : (sets s q : List ℕ) → IsStart sets (q ++ s) → IsMasked (length sets) q → IsMasked (length sets) (q ++ s)
 masked_along sets [] q h b = rw append-nil b
 masked_along sets (x ∷ s) q h b =
     let next = start_next q x s h in
@@ -55,7 +55,7 @@ masked_along sets (x ∷ s) q h b =
     let a = added_with b.mask (x - 1) (b.mask + 2 ^ (x - 1)) fresh refl in
     let used = mask_more q b.used a in
     let whole : (q ++ x ∷ []) ++ s ≡ q ++ x ∷ s = append_assoc q (x ∷ []) s in
-    let more : IsMasked sets (q ++ x ∷ []) = record {
+    let more : IsMasked (length sets) (q ++ x ∷ []) = record {
       mask = b.mask + 2 ^ (x - 1);
       used = rw (← e) at used;
       ones = added_ones a ∙ ap (λ n. n + 1) b.ones ∙ sym (length_push q x);
@@ -64,7 +64,7 @@ masked_along sets (x ∷ s) q h b =
     rw whole at (masked_along sets s (q ++ x ∷ []) (rw whole h) more)
 
 -- each start has a mask
-pub mask_of : {sets : List ℕ} (p : List ℕ) → IsStart sets p → IsMasked sets p
+pub mask_of : {sets : List ℕ} (p : List ℕ) → IsStart sets p → IsMasked (length sets) p
 mask_of {sets} p h = masked_along sets p [] h record {
   mask = 0;
   used = mask_none;

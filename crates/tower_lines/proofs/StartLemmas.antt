@@ -13,7 +13,7 @@ is_in-place x [] e = absurd (false≢true e)
 is_in-place x (y ∷ p) e =
     elim (cases_Bool (eqb y x)) [
       | inl here ↦ (0, omega arith, eqb-true y x here)
-      | inr other ↦ (let rest = is_in-place x p (rw other at e) in (rest.0 + 1, omega (arith, rest.1), rw add-one rest.2))
+      | inr other ↦ (let (i, inside, here) = is_in-place x p (rw other at e) in (i + 1, omega arith, rw add-one here))
     ]
 
 -- a list has each of its entries
@@ -52,8 +52,8 @@ start_next {sets} p v s h =
       high = range.1;
       candidate = rw here at (h.candidates (length p) inside);
       fresh = false_from_ne_true (is_in v p) (λ e.
-          let at = is_in-place v p e in
-          h.apart at.0 (length p) at.1 inside (get_or_append_left p (v ∷ s) 0 at.0 at.1 ∙ at.2 ∙ sym here));
+          let (i, low, there) = is_in-place v p e in
+          h.apart i (length p) low inside (get_or_append_left p (v ∷ s) 0 i low ∙ there ∙ sym here));
     }
 
 -- what holds of each place of p and of v after it

@@ -66,8 +66,8 @@ column_at : (g : GridValue) → IsLatin g → (value : ℕ) → 1 ≤ value → 
 column_at g latin value low high row =
     elim (cases_lt row g.size) [
       | inl inside ↦
-          let found = value_at g latin row value (omega arith) low high in
-          (found.0, λ _. (found.1, found.2))
+          let (column, within, here) = value_at g latin row value (omega arith) low high in
+          (column, λ _. (within, here))
       | inr outside ↦ (0, λ inside. absurd (omega arith))
     ]
 

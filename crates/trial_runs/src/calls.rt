@@ -42,10 +42,13 @@ pub(crate) fn make_call(rt: &(impl Print + AllocGlobal), game: &str, name: &str)
 
 /// Lists the calls, each with its game.
 pub(crate) fn list_calls(rt: &impl Print) -> io::Result<()> {
-    for game in ["towers", "unequal"] {
-        for (name, _, _) in CALLS.iter() {
-            println!(rt; "{game} {name}")?;
-        }
+    list_calls_of(rt, "towers")?;
+    list_calls_of(rt, "unequal")
+}
+
+fn list_calls_of(rt: &impl Print, game: &str) -> io::Result<()> {
+    for (name, _, _) in CALLS.iter() {
+        println!(rt; "{game} {name}")?;
     }
     Ok(())
 }
@@ -76,13 +79,15 @@ fn tell<P: Draw>(
 fn print_told(rt: &impl Print, told: &Told) -> io::Result<()> {
     match told {
         Told::Fixture => println!(rt; "fixture"),
-        Told::Refused(name, likeness) => println!(rt; "{name}\n{likeness}"),
-        Told::Made(likeness, text) => {
-            println!(rt; "ok\n{likeness}")?;
-            io::writer(rt).write_all(text)
-        }
+        Told::Refused(name, likeness) => print_answer(rt, name, likeness, b""),
+        Told::Made(likeness, text) => print_answer(rt, "ok", likeness, text),
         Told::Afterwards => println!(rt; "afterwards"),
     }
+}
+
+fn print_answer(rt: &impl Print, name: &str, likeness: &str, text: &[u8]) -> io::Result<()> {
+    println!(rt; "{name}\n{likeness}")?;
+    io::writer(rt).write_all(text)
 }
 
 fn call_told<P: Draw>(alloc: Global, id: &str, start: Start, call: &Call) -> Told {

@@ -26,6 +26,7 @@ mod seeded;
 use crate::requests::saves::{Detail, print_damaged, print_loaded};
 use crate::requests::seeded::seeded_answer;
 use clue_rules::{Game, Towers, Unequal};
+use std::io::Write;
 use std::rt::Files;
 use std::{fs, io};
 
@@ -71,22 +72,29 @@ fn answer(rt: &(impl Files + Print + AllocGlobal), line: &str) -> io::Result<()>
         }
         _ => {
             let answer = seeded_answer(rt.alloc(), line)?;
-            let answer = String::from_utf8_lossy(rt.alloc(), &answer)?;
-            println!(rt; "{line} {}", answer.as_str())
+            print_behind(rt, line, &answer)
         }
     }
+}
+
+fn print_behind(rt: &impl Print, line: &str, answer: &[u8]) -> io::Result<()> {
+    print!(rt; "{line} ")?;
+    io::writer(rt).write_all(answer)?;
+    println!(rt; "")
 }
 
 /// Answers the lines of standard input.
 pub(crate) fn answer_requests(rt: &(impl Input + Files + Print + AllocGlobal)) -> io::Result<()> {
     for line in rt.lines(rt.alloc()) {
-        let line = line?;
-        let text = line.as_str();
-        if text.starts_with('#') {
-            println!(rt; "{text}")?;
-        } else {
-            answer(rt, text)?;
-        }
+        answer_line(rt, line?.as_str())?;
     }
     Ok(())
+}
+
+fn answer_line(rt: &(impl Files + Print + AllocGlobal), line: &str) -> io::Result<()> {
+    if line.starts_with('#') {
+        println!(rt; "{line}")
+    } else {
+        answer(rt, line)
+    }
 }

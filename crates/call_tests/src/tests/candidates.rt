@@ -3,7 +3,7 @@
 ghost use Rattle.std.specs.Prelude.{◌≡◌, ◌&&◌};
 
 use super::rows::{Row, Same, check};
-use super::worked::grid_of;
+use super::worked::{grid_of, is_square};
 use latin_board::{Grid, Size};
 use number_sets::NumberSet;
 use std::alloc::Global;
@@ -302,7 +302,7 @@ impl Row for Solved {
         match solve(&p) {
             Answer::None => self.1.is_none() && !self.2,
             Answer::One(grid) => match self.1 {
-                Some(digits) => grid_of(3, digits) == Some(grid),
+                Some(digits) => is_square(&grid, digits),
                 None => false,
             },
             Answer::Several(first, second) => self.2 && differ_and_solve(&p, &first, &second),
@@ -377,7 +377,7 @@ fn one_item_is_all_that_is_asked(rt: HostRuntime) {
 fn is_in_order(listed: &[Grid]) -> bool {
     let mut is_same = listed.len() <= SQUARES.len();
     for (digits, grid) in SQUARES.iter().zip(listed) {
-        is_same = is_same && grid_of(3, digits) == Some(*grid);
+        is_same = is_same && is_square(grid, digits);
     }
     is_same
 }

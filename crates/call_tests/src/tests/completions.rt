@@ -1,7 +1,7 @@
 //! Boards of width 3 and what stands on them: how many solutions keep it, and what follows from it.
 
 use super::rows::{Row, check};
-use super::worked::{Described, grid_of, puzzle};
+use super::worked::{Described, grid_of, is_square, puzzle};
 use board_checks::{Deduces, Hint, find_hint};
 use clue_rules::{Game, Towers, Unequal};
 use latin_board::Grid;
@@ -27,13 +27,6 @@ const SIGNED: Described = Described::Unequal("0,0L,0L,0U,0,0,0U,0,0,");
 
 // A puzzle, a board as digits, and the squares that complete it: all of them, where there are one or two.
 struct Completed(Described, &'static str, &'static [&'static str]);
-
-fn is_square(grid: &Grid, digits: &str) -> bool {
-    match grid_of(3, digits) {
-        Some(wanted) => *grid == wanted,
-        None => false,
-    }
-}
 
 fn are_squares(a: &Grid, b: &Grid, squares: &[&str]) -> bool {
     squares.len() == 2 && is_square(a, squares[0]) && is_square(b, squares[1])

@@ -26,6 +26,14 @@ pub(crate) fn grid_of(width: u8, digits: &str) -> Option<Grid> {
     Some(grid)
 }
 
+/// Whether a grid is the one of width 3 with these numbers.
+pub(crate) fn is_square(grid: &Grid, digits: &str) -> bool {
+    match grid_of(3, digits) {
+        Some(wanted) => *grid == wanted,
+        None => false,
+    }
+}
+
 /// The puzzle of a width that a text describes.
 pub(crate) fn puzzle<P: Game>(width: u8, text: &str) -> Result<P, IdFault> {
     let size = Size::new(width).ok_or(IdFault::BadSize)?;

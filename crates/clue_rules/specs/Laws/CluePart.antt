@@ -71,26 +71,20 @@ fields_lack c (clue ∷ clues) small = (field_lacks c clue small, fields_lack c 
 pub clue_part_lacks_comma : (clues : List ℕ) → Lacks comma (clue_part clues)
 clue_part_lacks_comma clues = lacks_join comma slash (map clue_field clues) (omega arith) (fields_lack comma clues (omega arith))
 
-clues_in_taken : (w : ℕ) (fs : List (List ℕ)) (clues : List ℕ) → clues_in w fs ≡ Ok clues
-    → (list_all (is_clue_field w) fs ≡ true) × (map clue_in fs ≡ clues)
-clues_in_taken w fs clues read =
-    let readable = refused_else (list_all (is_clue_field w) fs) (Ok (map clue_in fs)) BadClue clues read in
-    let same : Ok (map clue_in fs) ≡ Ok clues = readable.1 in
-    (readable.0, cc)
-
 -- clues that are read are those that the text spells, one for each place and none above the width
 pub clues_taken : (w : ℕ) (part clues : List ℕ) → clues_at w part ≡ Ok clues
     → (part ≡ clue_part clues) × (length clues ≡ 4 * w) × AllByRecursion (λ clue. clue ≤ w) clues
 unfolding clues_at
 clues_taken w part clues read =
     let steps = bind_taken (exactly (4 * w) (fields part)) (clues_in w) clues read in
-    let count = exactly_taken (4 * w) (fields part) steps.value steps.gives in
-    let ones = clues_in_taken w steps.value clues steps.rest in
-    let each = fields_taken w steps.value ones.0 in
-    let written : map clue_field clues ≡ fields part = ap (map clue_field) (sym ones.1) ∙ (each.0 ∙ sym count.0) in
+    let (same, count) = exactly_taken (4 * w) (fields part) steps.value steps.gives in
+    let (readable, said) = refused_else (list_all (is_clue_field w) steps.value) (Ok (map clue_in steps.value)) BadClue clues steps.rest in
+    let clues_are : map clue_in steps.value ≡ clues = cc in
+    let (fields_are, within) = fields_taken w steps.value readable in
+    let written : map clue_field clues ≡ fields part = ap (map clue_field) (sym clues_are) ∙ (fields_are ∙ sym same) in
     let joined : clue_part clues ≡ part = ap (join_with_byte slash) written ∙ join_with_byte-slice_split slash part in
-    let lengths : length clues ≡ length steps.value = ap length (sym ones.1) ∙ length-map steps.value clue_in in
-    (sym joined, lengths ∙ (ap length (sym count.0) ∙ count.1), subst (AllByRecursion (λ clue. clue ≤ w)) ones.1 each.1)
+    let lengths : length clues ≡ length steps.value = ap length (sym clues_are) ∙ length-map steps.value clue_in in
+    (sym joined, lengths ∙ (ap length (sym same) ∙ count), subst (AllByRecursion (λ clue. clue ≤ w)) clues_are within)
 
 pub clues_again : (w : ℕ) (clues : List ℕ) → 0 < w → length clues ≡ 4 * w → AllByRecursion (λ clue. clue ≤ w) clues
     → clues_at w (clue_part clues) ≡ Ok clues

@@ -8,11 +8,12 @@ use Rattle.std.proofs.lemmas.List.Elements.{All-from_recursion}
 use Rattle.std.proofs.lemmas.List.Splits.{join_with_byte-slice_split}
 use Rattle.byte_text.specs.Cuts.{Lacks}
 use Rattle.byte_text.specs.Bytes.{comma}
+use Rattle.byte_text.proofs.CutLaws.{pieces_join}
 use Rattle.clue_rules.specs.declared.id_fault.IdFault.TheVariants.{BadClue, BadSquares, OffGrid, Contradiction}
 use Rattle.clue_rules.specs.declared.unequal.direction.Direction.{Direction}
 use Rattle.clue_rules.specs.Unequal.{UnequalValue, IsUnequal, neighbour}
 use Rattle.clue_rules.specs.UnequalText.{Piece, letter_of, piece_text, without_empty_last, pieces_of, number_in, has_number, direction_of, has_letters, is_inside, points_inside, sign_said, contradicts, grid_in, puzzle_in, puzzle_at, ArePiecesOf}
-use Rattle.clue_rules.specs.Laws.Pieces.{comma_pieces, pieces-join, join-push, dropped_last, drop-push, pieces-push}
+use Rattle.clue_rules.specs.Laws.Pieces.{comma_pieces, join-push, dropped_last, drop-push, pieces-push}
 use Rattle.clue_rules.specs.Laws.Letters.{direction_of-letter, contains_here, contains_there, contains_cases, number_in-piece, letters_piece, lacks_comma, read_piece, read_piece_written, number_small}
 use Rattle.clue_rules.specs.Laws.Refusals.{refused_then}
 use Rattle.clue_rules.specs.Laws.Signs.{signed_valid}
@@ -108,7 +109,7 @@ pub pieces_again : (text : List ℕ) (p : Piece) (pieces : List Piece) → ArePi
     → pieces_of text ≡ map piece_text (p ∷ pieces)
 pieces_again text p pieces h =
     let split : comma_pieces (join_with_byte comma (map piece_text (p ∷ pieces))) ≡ map piece_text (p ∷ pieces) =
-    pieces-join (piece_text p) (map piece_text pieces) (all_lack (p ∷ pieces)) in
+    pieces_join comma (map piece_text (p ∷ pieces)) (omega arith) (all_lack (p ∷ pieces)) in
     elim h [
       | inl same ↦ rw (same, split) (none_empty p pieces)
       | inr more ↦

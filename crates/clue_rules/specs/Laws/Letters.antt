@@ -1,7 +1,7 @@
 -- Letters and numbers as the bytes of a piece: what is read of a piece that was written, and what is written of one that was read.
-use Rattle.std.proofs.Common.{◌≡◌, ◌≢◌, ℕ, zero, suc, ◌+◌, ◌-◌, ◌<◌, ◌≤◌, ◌⊎◌, Bool, true, false, nat_le, not, ◌&&◌, ◌||◌, List, [], ◌∷◌, length, drop, map, Option, Some, None, is_some, unwrap_or, refl, sym, ap, ◌∙◌, inl, inr, arith, ◌==◌, if◌then◌else◌, slice_index_or}
+use Rattle.std.proofs.Common.{◌≡◌, ◌≢◌, ℕ, zero, suc, ◌+◌, ◌-◌, ◌<◌, ◌≤◌, ◌⊎◌, Bool, true, false, nat_le, not, ◌&&◌, List, [], ◌∷◌, length, drop, map, Option, Some, None, is_some, unwrap_or, refl, sym, ap, ◌∙◌, inl, inr, arith, ◌==◌, if◌then◌else◌}
 use Rattle.std.specs.List.{list_all, list_any, filter, filter_map, Contains}
-use Rattle.std.proofs.lemmas.Bool.{eq-eqb, eqb-true, false≢true, and_parts}
+use Rattle.std.proofs.lemmas.Bool.{eq-eqb, eqb-true, false≢true, and_parts, cond_both, or_cases, or_right}
 use Rattle.std.proofs.lemmas.Bool.Decides.{nat_tests}
 use Rattle.byte_text.specs.Cuts.{Lacks}
 use Rattle.byte_text.specs.Decimals.{begins_digit}
@@ -55,37 +55,28 @@ contains_here x y xs e = (0, omega arith, e)
 
 -- a list has what its tail has
 pub contains_there : {X : Type 0} (x y : X) (xs : List X) → Contains xs x → Contains (y ∷ xs) x
-contains_there x y xs h = (suc h.0, omega (arith, h.1), h.2)
+contains_there x y xs (k, inside, here) = (suc k, omega (arith, inside), here)
 
 -- what a list has is its head or in its tail
 pub contains_cases : {X : Type 0} (x y : X) (xs : List X) → Contains (y ∷ xs) x → (y ≡ x) ⊎ Contains xs x
-contains_cases x y xs h = at h.0 h.1 h.2
-  where
-    at : (k : ℕ) → k < length (y ∷ xs) → slice_index_or (y ∷ xs) k x ≡ x → (y ≡ x) ⊎ Contains xs x
-    at zero inside e = inl e
-    at (suc k) inside e = inr (k, omega arith, e)
+contains_cases x y xs (zero, inside, here) = inl here
+contains_cases x y xs (suc k, inside, here) = inr (k, omega (arith, inside), here)
 
 pub contains_filter : {X : Type 0} (p : X → Bool) (x : X) (xs : List X) → Contains xs x → p x ≡ true → Contains (filter p xs) x
 contains_filter p x [] h e = absurd (omega (arith, h.1))
 contains_filter p x (y ∷ xs) h e = elim (contains_cases x y xs h) [
   | inl here ↦ rw (ap p here ∙ e) (contains_here x y (filter p xs) here)
-  | inr there ↦ kept (p y) (contains_filter p x xs there e)
+  | inr there ↦
+      let rest = contains_filter p x xs there e in
+      cond_both (p y) (y ∷ filter p xs) (filter p xs) (λ ys. Contains ys x) (λ is. contains_there x y (filter p xs) rest) (λ is. rest)
 ]
-  where
-    kept : (b : Bool) → Contains (filter p xs) x → Contains (if b then (y ∷ filter p xs) else filter p xs) x
-    kept true h = contains_there x y (filter p xs) h
-    kept false h = h
 
 pub filter_contains : {X : Type 0} (p : X → Bool) (x : X) (xs : List X) → Contains (filter p xs) x → p x ≡ true
 filter_contains p x [] h = absurd (omega (arith, h.1))
 filter_contains p x (y ∷ xs) h =
-    elim (p y) as (λ t. p y ≡ t → Contains (if t then (y ∷ filter p xs) else filter p xs) x → p x ≡ true) [
-      | true ↦ λ e h. elim (contains_cases x y (filter p xs) h) [
-        | inl here ↦ ap p (sym here) ∙ e
-        | inr there ↦ filter_contains p x xs there
-      ]
-      | false ↦ λ e h. filter_contains p x xs h
-    ] refl h
+    cond_both (p y) (y ∷ filter p xs) (filter p xs) (λ ys. Contains ys x → p x ≡ true)
+    (λ e h. elim (contains_cases x y (filter p xs) h) [ inl here ↦ ap p (sym here) ∙ e | inr there ↦ filter_contains p x xs there ])
+    (λ e h. filter_contains p x xs h) h
 
 -- a letter among letters is its direction among directions
 
@@ -93,21 +84,15 @@ pub letter_among : (ds : List Direction) (d : Direction) → Contains ds d → l
 letter_among [] d h = absurd (omega (arith, h.1))
 letter_among (x ∷ ds) d h = elim (contains_cases d x ds h) [
   | inl here ↦ rw (eq-eqb (letter_of x) (letter_of d) (ap letter_of here)) refl
-  | inr there ↦ rw (letter_among ds d there) (either (letter_of x == letter_of d))
+  | inr there ↦ or_right (letter_of x == letter_of d) _ (letter_among ds d there)
 ]
-  where
-    either : (s : Bool) → (s || true) ≡ true
-    either true = refl
-    either false = refl
 
 pub among_letters : (ds : List Direction) (d : Direction) → list_any (λ b. b == letter_of d) (map letter_of ds) ≡ true → Contains ds d
 among_letters [] d e = absurd (false≢true e)
-among_letters (x ∷ ds) d e = go (λ h. among_letters ds d h) (letter_of x == letter_of d) refl e
-  where
-    go : (list_any (λ b. b == letter_of d) (map letter_of ds) ≡ true → Contains ds d) → (t : Bool)
-        → (letter_of x == letter_of d) ≡ t → (t || list_any (λ b. b == letter_of d) (map letter_of ds)) ≡ true → Contains (x ∷ ds) d
-    go rest true here h = contains_here d x ds (same_letter x d here)
-    go rest false other h = contains_there d x ds (rest h)
+among_letters (x ∷ ds) d e = elim (or_cases (letter_of x == letter_of d) (list_any (λ b. b == letter_of d) (map letter_of ds)) e) [
+  | inl here ↦ contains_here d x ds (same_letter x d here)
+  | inr there ↦ contains_there d x ds (among_letters ds d there)
+]
 
 -- the pieces as texts
 

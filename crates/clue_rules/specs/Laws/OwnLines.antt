@@ -125,25 +125,23 @@ record AreOnLine (w line : ℕ) (ends : SignEnds) : Type 0 where
 ends_on_line : (v : UnequalValue) (line k : ℕ) (ends : SignEnds) → k < v.size - 1
     → unequal.AreEnds v (line_cell v.size line k) (line_cell v.size line (k + 1)) ends → AreOnLine v.size line ends
 ends_on_line v line k ends low are = elim are.is [
-  | inl first ↦ record { greater = (k, omega arith, first.1); lesser = (k + 1, omega arith, first.2) }
-  | inr second ↦ record { greater = (k + 1, omega arith, second.1); lesser = (k, omega arith, second.2) }
+  | inl (sign, greater, lesser) ↦ record { greater = (k, omega arith, greater); lesser = (k + 1, omega arith, lesser) }
+  | inr (sign, greater, lesser) ↦ record { greater = (k + 1, omega arith, greater); lesser = (k, omega arith, lesser) }
 ]
 
 -- a candidate of a square of the line in the second is one in the first
 square_there : (line : ℕ) (a b : CandidatesValue) (cell : ℕ) → AreSameAlong line a b → ((k : ℕ) × (k < a.size) × (cell ≡ line_cell a.size line k))
     → (u : ℕ) → may_be b cell u ≡ may_be a cell u
-square_there line a b cell same on u =
-    ap (λ (i : ℕ). may_be b i u) on.2 ∙ same.each on.0 u on.1 ∙ ap (λ (i : ℕ). may_be a i u) (sym on.2)
+square_there line a b cell same (k, inside, is) u =
+    ap (λ (i : ℕ). may_be b i u) is ∙ same.each k u inside ∙ ap (λ (i : ℕ). may_be a i u) (sym is)
 
 -- what the signs along a line strike can be told from its squares
 pub signs_own : (v : UnequalValue) (line : ℕ) → IsOfLine v.size line (unequal.IsStruckAlong v line)
-signs_own v line a b size same cell value s =
-    let k = s.0 in
-    let at = s.2 in
+signs_own v line a b size same cell value (k, low, at) =
     let on : AreOnLine a.size line at.ends =
-    subst (λ (w : ℕ). AreOnLine w line at.ends) (sym size) (ends_on_line v line k at.ends s.1 at.are) in (
+    subst (λ (w : ℕ). AreOnLine w line at.ends) (sym size) (ends_on_line v line k at.ends low at.are) in (
       k,
-      s.1,
+      low,
       record {
         ends = at.ends;
         are = at.are;

@@ -1,8 +1,8 @@
 -- What commas separate: pieces that are joined again, and a comma at the end.
 use Rattle.std.proofs.Common.{◌≡◌, ℕ, ◌⊎◌, true, false, List, [], ◌∷◌, ◌++◌, Option, Some, None, refl, sym, ap, ◌∙◌, inl, inr, append_assoc, ◌==◌, if◌then◌else◌}
-use Rattle.std.specs.List.{slice_split, join_with_byte, onto_first, AllByRecursion}
-use Rattle.byte_text.specs.Cuts.{Lacks, before, behind}
-use Rattle.byte_text.proofs.CutLaws.{cut_whole, pieces_more, pieces_last, before_at, behind_at, before_all, behind_none_in}
+use Rattle.std.specs.List.{slice_split, join_with_byte, onto_first}
+use Rattle.byte_text.specs.Cuts.{before, behind}
+use Rattle.byte_text.proofs.CutLaws.{cut_whole, pieces_more, pieces_last}
 use Rattle.byte_text.specs.Bytes.{comma}
 use Rattle.clue_rules.specs.UnequalText.{without_empty_last}
 
@@ -21,14 +21,6 @@ split_once bs = elim (behind comma bs) as (λ o. behind comma bs ≡ o → comma
   | None ↦ λ e. pieces_last comma bs e ∙ ap (λ xs. xs ∷ []) (sym (cut_whole comma bs e))
   | Some rest ↦ λ e. pieces_more comma bs rest e
 ] refl
-
--- a piece without commas, and the pieces behind it
-pub pieces-join : (p : List ℕ) (ps : List (List ℕ)) → AllByRecursion (Lacks comma) (p ∷ ps)
-    → comma_pieces (join_with_byte comma (p ∷ ps)) ≡ p ∷ ps
-pieces-join p [] h = rw (split_once p, before_all comma p h.0, behind_none_in comma p h.0) refl
-pieces-join p (q ∷ ps) h =
-    let rest : List ℕ = join_with_byte comma (q ∷ ps) in
-    split_once (p ++ comma ∷ rest) ∙ rw (before_at comma p rest h.0, behind_at comma p rest h.0) (ap (λ qs. p ∷ qs) (pieces-join q ps h.1))
 
 -- an empty piece more at the end is a separator more
 pub join-push : (c : ℕ) (p : List ℕ) (ps : List (List ℕ)) → join_with_byte c ((p ∷ ps) ++ [] ∷ []) ≡ join_with_byte c (p ∷ ps) ++ c ∷ []

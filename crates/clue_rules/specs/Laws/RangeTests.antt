@@ -37,8 +37,7 @@ some_in_range p a zero e = absurd (false≢true e)
 some_in_range p a (suc n) e = elim (or_cases (p a) (list_any p (range_with_len (a + 1) n)) e) [
   | inl here ↦ (a, omega arith, omega arith, here)
   | inr later ↦
-      let there = some_in_range p (a + 1) n later in
-      (there.0, omega (arith, there.1), omega (arith, there.2), there.3)
+      let (k, low, high, holds) = some_in_range p (a + 1) n later in (k, omega (arith, low), omega (arith, high), holds)
 ]
 
 -- a test that holds of no number of a range
@@ -49,4 +48,4 @@ none_in_range p a n i e low high = false_from_ne_true (p i) (λ h. false≢true 
 pub range_none : (p : ℕ → Bool) (a n : ℕ) → ((i : ℕ) → a ≤ i → i < a + n → p i ≡ false) → list_any p (range_with_len a n) ≡ false
 range_none p a n h =
     false_from_ne_true (list_any p (range_with_len a n))
-    (λ some. let there = some_in_range p a n some in false≢true (sym (h there.0 there.1 there.2) ∙ there.3))
+    (λ some. let (k, low, high, holds) = some_in_range p a n some in false≢true (sym (h k low high) ∙ holds))

@@ -29,16 +29,17 @@ points_to (Some c) b e = ap (λ n. Some n) (eqb-true c b e)
 said_by : (w : ℕ) (pieces : List (List ℕ)) (a b : ℕ) → says_greater w pieces a b ≡ true
     → (d : Direction) × (says pieces a d ≡ true) × (neighbour w a d ≡ Some b)
 said_by w pieces a b e =
-    let there = Any-from_list_any (λ d. says pieces a d && option_map_or (λ c. c == b) (neighbour w a d) false) directions e in
-    let both = and_parts (says pieces a there.1) (option_map_or (λ c. c == b) (neighbour w a there.1) false) there.4 in
-    (there.1, both.0, points_to (neighbour w a there.1) b both.1)
+    let (place, d, inside, here, passes) =
+    Any-from_list_any (λ d. says pieces a d && option_map_or (λ c. c == b) (neighbour w a d) false) directions e in
+    let (letter, points) = and_parts (says pieces a d) (option_map_or (λ c. c == b) (neighbour w a d) false) passes in
+    (d, letter, points_to (neighbour w a d) b points)
 
 said : (w : ℕ) (pieces : List (List ℕ)) (a b : ℕ) (d : Direction) → says pieces a d ≡ true → neighbour w a d ≡ Some b
     → says_greater w pieces a b ≡ true
 said w pieces a b d letter points =
-    let at = all_has d in
-    list_any_at (λ d. says pieces a d && option_map_or (λ c. c == b) (neighbour w a d) false) directions at.0 d at.1
-    (rw at.2 (and_from (says pieces a d) (option_map_or (λ c. c == b) (neighbour w a d) false) letter (rw points (eq-eqb b b refl))))
+    let (place, inside, here) = all_has d in
+    list_any_at (λ d. says pieces a d && option_map_or (λ c. c == b) (neighbour w a d) false) directions place d inside
+    (rw here (and_from (says pieces a d) (option_map_or (λ c. c == b) (neighbour w a d) false) letter (rw points (eq-eqb b b refl))))
 
 -- a letter says of two squares which is the greater exactly where the test finds one
 pub says_tested : (w : ℕ) (pieces : List Piece) (a b : ℕ) → Says w pieces a b → says_greater w (map piece_text pieces) a b ≡ true
@@ -46,8 +47,8 @@ says_tested w pieces a b h = said w (map piece_text pieces) a b h.direction (con
 
 pub tested_says : (w : ℕ) (pieces : List Piece) (a b : ℕ) → says_greater w (map piece_text pieces) a b ≡ true → Says w pieces a b
 tested_says w pieces a b e =
-    let by = said_by w (map piece_text pieces) a b e in
-    record { direction = by.0; letter = says_contains pieces a by.0 by.1; points = by.2 }
+    let (d, letter, points) = said_by w (map piece_text pieces) a b e in
+    record { direction = d; letter = says_contains pieces a d letter; points = points }
 
 -- ---- squares that contradict each other
 
@@ -72,8 +73,8 @@ pub neighbours_agree : (w : ℕ) (pieces : List (List ℕ)) → 3 ≤ w
     → list_any (contradicts_towards w pieces Right) (range_with_len 0 (w * w)) ≡ false
     → list_any (contradicts_towards w pieces Down) (range_with_len 0 (w * w)) ≡ false → contradicts w pieces ≡ false
 neighbours_agree w pieces small right below = never_contradict w pieces (λ a b inside first second.
-    let by = said_by w pieces a b first in
-    elim (towards w a b by.0 small inside by.2) [
+    let (d, letter, points) = said_by w pieces a b first in
+    elim (towards w a b d small inside points) [
       | inl next ↦ apart a b next first second
       | inr next ↦ apart b a next second first
     ])

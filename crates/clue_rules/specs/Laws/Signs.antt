@@ -1,17 +1,18 @@
 -- The signs of a puzzle: between which squares they stand, which square they say to be the greater, and those that a rule gives.
-use Rattle.std.proofs.Common.{◌≡◌, ◌↔◌, Bool, ℕ, ◌+◌, ◌*◌, ◌<◌, ◌≤◌, ◌⊎◌, true, List, length, Some, None, refl, sym, ap, ◌∙◌, inl, inr, arith, slice_index_or}
+use Rattle.std.proofs.Common.{◌≡◌, ◌↔◌, Bool, ℕ, ◌+◌, ◌*◌, ◌<◌, ◌≤◌, ◌⊎◌, true, List, length, Option, Some, None, refl, sym, ap, ◌∙◌, inl, inr, arith, slice_index_or}
 use Rattle.std.specs.Bool.{IsTrue}
 use Rattle.std.specs.Option.{option_map_or}
-use Rattle.std.proofs.lemmas.Bool.{eq-eqb, ne_eqb, cases_eq, cases_lt, false≢true, or_cases, or_right}
+use Rattle.std.proofs.lemmas.Bool.{and_from, and_parts, eq-eqb, ne_eqb, cases_eq, cases_lt, false≢true, or_cases, or_right}
 use Rattle.std.proofs.lemmas.List.{get_or_past}
 use Rattle.std.proofs.lemmas.List.FromFn.{length-map-range_with_len, get_or-map-range_with_len}
-use Rattle.latin_board.specs.Squares.{IsGrid}
+use Rattle.latin_board.specs.Squares.{GridValue, IsGrid, number_at}
 use Rattle.clue_rules.specs.declared.unequal.direction.Direction.{Direction}
 use Rattle.clue_rules.specs.declared.unequal.direction.Direction.TheVariants.{Right, Down}
 use Rattle.clue_rules.specs.declared.unequal.sign.Sign.{Sign}
 use Rattle.clue_rules.specs.declared.unequal.sign.Sign.TheVariants.{Absent, FirstGreater, SecondGreater}
-use Rattle.clue_rules.specs.Unequal.{UnequalValue, IsUnequal, IsGreater, neighbour, right_sign, lower_sign, sign_between, says_first, says_second, is_greater, sign_towards, signs_towards, signed_puzzle}
+use Rattle.clue_rules.specs.Unequal.{UnequalValue, IsUnequal, IsGreater, neighbour, right_sign, lower_sign, sign_between, says_first, says_second, is_greater, holds_sign, holds_signs, holds_towards, sign_towards, signs_towards, signed_puzzle}
 use Rattle.clue_rules.specs.Laws.Neighbours.{IsNext, right_of, below_of, next_order}
+use Rattle.clue_rules.specs.Laws.RangeTests.{all_in_range, range_all}
 
 -- a sign that says something
 abbrev pub IsSaid : Sign → Type 0
@@ -129,6 +130,30 @@ greater_decides v a b = (
 
 pub greater_tested : (v : UnequalValue) (a b : ℕ) (t : Bool) → t ≡ is_greater v a b → IsTrue t ↔ IsGreater v a b
 greater_tested v a b t value = rw value (greater_decides v a b)
+
+-- ---- the test of the signs
+
+-- where it is passed, the numbers of a square and the next are as the sign between them says
+pub sign_held : (v : UnequalValue) (g : GridValue) (a b : ℕ) → holds_signs v g ≡ true → IsNext v.size a b
+    → holds_sign (sign_between v a b) (number_at g a) (number_at g b) ≡ true
+sign_held v g a b h next =
+    let here = all_in_range _ 0 (v.size * v.size) a h (omega arith) (omega (arith, next.inside)) in
+    let (on_right, below) = and_parts (holds_towards v g a Right) (holds_towards v g a Down) here in
+    elim next.points [ inl right ↦ rw right at on_right | inr lower ↦ rw lower at below ]
+
+-- and it is passed where they are for each square and the next
+pub each_sign_held : (v : UnequalValue) (g : GridValue)
+    → ((a b : ℕ) → IsNext v.size a b → holds_sign (sign_between v a b) (number_at g a) (number_at g b) ≡ true) → holds_signs v g ≡ true
+each_sign_held v g each =
+    range_all _ 0 (v.size * v.size) (λ a low high.
+    and_from (holds_towards v g a Right) (holds_towards v g a Down)
+    (towards a (neighbour v.size a Right) (λ b is. each a b (record { inside = omega arith; points = inl is })))
+    (towards a (neighbour v.size a Down) (λ b is. each a b (record { inside = omega arith; points = inr is }))))
+  where
+    towards : (a : ℕ) (o : Option ℕ) → ((b : ℕ) → o ≡ Some b → holds_sign (sign_between v a b) (number_at g a) (number_at g b) ≡ true)
+        → option_map_or (λ b. holds_sign (sign_between v a b) (number_at g a) (number_at g b)) o true ≡ true
+    towards a None held = refl
+    towards a (Some b) held = held b refl
 
 -- ---- the signs that a rule gives
 

@@ -54,65 +54,46 @@ squares_of_digit b low high =
 pub squares_taken : (w : ℕ) (bs : List ℕ) → w ≤ 9 → is_square_part w bs ≡ true → IsSquareText w bs (flat_map squares_of bs)
 squares_taken w [] small is = refl
 squares_taken w (b ∷ bs) small is =
-    let tests = and_parts (is_square_byte w b bs) (is_square_part w bs) is in
-    let more = squares_taken w bs small tests.1 in
+    let (byte, others) = and_parts (is_square_byte w b bs) (is_square_part w bs) is in
     let rest = flat_map squares_of bs in
-    elim (byte_taken w b bs tests.0) [
+    let more = squares_taken w bs small others in
+    elim (byte_taken w b bs byte) [
       | inl same ↦ inl (same, rw (squares_of_underscore b same) more)
       | inr other ↦
           elim other [
-            | inl letter ↦
-                inr (inl (letter.0, letter.1, (rest, ap (λ xs. xs ++ rest) (squares_of_letter b letter.0 letter.1), more)))
-            | inr given ↦
-                inr (inr (given.0, given.1, given.2, (rest, ap (λ xs. xs ++ rest) (squares_of_digit b (omega arith) (omega arith)), more)))
+            | inl (low, high) ↦ inr (inl (low, high, (rest, ap (λ xs. xs ++ rest) (squares_of_letter b low high), more)))
+            | inr (low, high, ends) ↦
+                inr (inr (low, high, ends, (rest, ap (λ xs. xs ++ rest) (squares_of_digit b (omega arith) (omega arith)), more)))
           ]
     ]
 
 -- a byte of the grammar passes, and so does the rest
 byte_again : (w b : ℕ) (bs : List ℕ) → SquareByte w b bs → is_square_byte w b bs ≡ true
-byte_again w b bs byte =
-    let digit = nat_le (digit_zero + 1) b && (nat_le b (digit_zero + w) && not (begins_digit bs)) in
-    elim byte [
-      | inl same ↦ rw (eq-eqb b underscore same) refl
-      | inr other ↦
-          elim other [
-            | inl letter ↦ or_right (b == underscore) (is_blank_letter b || digit) (rw (letter_true b letter.0 letter.1) refl)
-            | inr given ↦
-                let ends : not (begins_digit bs) ≡ true = rw given.2 refl in
-                let bounds = and_from (nat_le b (digit_zero + w)) (not (begins_digit bs)) (le-leb b (digit_zero + w) given.1) ends in
-                let is_given =
-                and_from (nat_le (digit_zero + 1) b) (nat_le b (digit_zero + w) && not (begins_digit bs))
-                (le-leb (digit_zero + 1) b given.0) bounds in
-                or_right (b == underscore) (is_blank_letter b || digit) (or_right (is_blank_letter b) digit is_given)
-          ]
-    ]
+byte_again w b bs (inl same) = rw (eq-eqb b underscore same) refl
+byte_again w b bs (inr (inl (low, high))) = or_right (b == underscore) _ (rw (letter_true b low high) refl)
+byte_again w b bs (inr (inr (low, high, ends))) =
+    let last : not (begins_digit bs) ≡ true = rw ends refl in
+    let bounds = and_from (nat_le b (digit_zero + w)) (not (begins_digit bs)) (le-leb b (digit_zero + w) high) last in
+    or_right (b == underscore) _
+    (or_right (is_blank_letter b) _ (and_from (nat_le (digit_zero + 1) b) _ (le-leb (digit_zero + 1) b low) bounds))
 
 pub squares_again : (w : ℕ) (bs squares : List ℕ) → w ≤ 9 → IsSquareText w bs squares
     → (is_square_part w bs ≡ true) × (flat_map squares_of bs ≡ squares)
 squares_again w [] squares small text = (refl, sym text)
-squares_again w (b ∷ bs) squares small text =
-    elim text [
-      | inl underscore ↦
-          let more = squares_again w bs squares small underscore.1 in
-          (and_from _ _ (byte_again w b bs (inl underscore.0)) more.0, rw (squares_of_underscore b underscore.0) more.1)
-      | inr other ↦
-          elim other [
-            | inl letter ↦
-                let rest = letter.2.0 in
-                let more = squares_again w bs rest small letter.2.2 in
-                let here = squares_of_letter b letter.0 letter.1 in (
-                  and_from _ _ (byte_again w b bs (inr (inl (letter.0, letter.1)))) more.0,
-                  ap (λ xs. xs ++ flat_map squares_of bs) here ∙ (ap (λ xs. replicate (blanks_of b) 0 ++ xs) more.1 ∙ sym letter.2.1),
-                )
-            | inr given ↦
-                let rest = given.3.0 in
-                let more = squares_again w bs rest small given.3.2 in
-                let here = squares_of_digit b (omega arith) (omega arith) in (
-                  and_from _ _ (byte_again w b bs (inr (inr (given.0, given.1, given.2)))) more.0,
-                  ap (λ xs. xs ++ flat_map squares_of bs) here ∙ (ap (λ xs. (b - digit_zero) ∷ xs) more.1 ∙ sym given.3.1),
-                )
-          ]
-    ]
+squares_again w (b ∷ bs) squares small (inl (same, text)) =
+    let (passes, are) = squares_again w bs squares small text in
+    (and_from _ _ (byte_again w b bs (inl same)) passes, rw (squares_of_underscore b same) are)
+squares_again w (b ∷ bs) squares small (inr (inl (low, high, (rest, says, text)))) =
+    let (passes, are) = squares_again w bs rest small text in (
+      and_from _ _ (byte_again w b bs (inr (inl (low, high)))) passes,
+      ap (λ xs. xs ++ flat_map squares_of bs) (squares_of_letter b low high) ∙ (ap (λ xs. replicate (blanks_of b) 0 ++ xs) are ∙ sym says),
+    )
+squares_again w (b ∷ bs) squares small (inr (inr (low, high, ends, (rest, says, text)))) =
+    let (passes, are) = squares_again w bs rest small text in
+    let here = squares_of_digit b (omega arith) (omega arith) in (
+      and_from _ _ (byte_again w b bs (inr (inr (low, high, ends)))) passes,
+      ap (λ xs. xs ++ flat_map squares_of bs) here ∙ (ap (λ xs. (b - digit_zero) ∷ xs) are ∙ sym says),
+    )
 
 -- the squares of a square part are in range
 pub zeros_within : (w n : ℕ) (squares : List ℕ) → AllByRecursion (λ s. s ≤ w) squares
@@ -122,18 +103,11 @@ zeros_within w (suc n) squares within = (omega arith, zeros_within w n squares w
 
 pub squares_within : (w : ℕ) (bs squares : List ℕ) → IsSquareText w bs squares → AllByRecursion (λ s. s ≤ w) squares
 squares_within w [] squares text = subst (AllByRecursion (λ s. s ≤ w)) (sym text) tt
-squares_within w (b ∷ bs) squares text =
-    elim text [
-      | inl underscore ↦ squares_within w bs squares underscore.1
-      | inr other ↦
-          elim other [
-            | inl letter ↦
-                subst (AllByRecursion (λ s. s ≤ w)) (sym letter.2.1)
-                (zeros_within w (blanks_of b) letter.2.0 (squares_within w bs letter.2.0 letter.2.2))
-            | inr given ↦
-                subst (AllByRecursion (λ s. s ≤ w)) (sym given.3.1) (omega arith, squares_within w bs given.3.0 given.3.2)
-          ]
-    ]
+squares_within w (b ∷ bs) squares (inl (same, text)) = squares_within w bs squares text
+squares_within w (b ∷ bs) squares (inr (inl (low, high, (rest, says, text)))) =
+    subst (AllByRecursion (λ s. s ≤ w)) (sym says) (zeros_within w (blanks_of b) rest (squares_within w bs rest text))
+squares_within w (b ∷ bs) squares (inr (inr (low, high, ends, (rest, says, text)))) =
+    subst (AllByRecursion (λ s. s ≤ w)) (sym says) (omega arith, squares_within w bs rest text)
 
 pub givens_taken : (w : ℕ) (part givens : List ℕ) → w ≤ 9 → givens_at w part ≡ Ok givens
     → (length givens ≡ w * w) × IsSquareText w part givens

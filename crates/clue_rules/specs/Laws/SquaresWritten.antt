@@ -2,7 +2,7 @@
 use Rattle.std.proofs.Common.{◌≡◌, ◌≢◌, ℕ, zero, suc, ◌+◌, ◌-◌, ◌*◌, ◌/◌, ◌%◌, ◌<◌, ◌≤◌, Bool, true, false, ◌==◌, ◌&&◌, List, [], ◌∷◌, ◌++◌, replicate, inl, inr, refl, sym, ap, ◌∙◌, subst, arith, append_assoc, append-nil, nat_le, if◌then◌else◌}
 use Rattle.std.specs.List.{AllByRecursion}
 use Rattle.std.proofs.lemmas.List.{replicate-append-replicate, replicate_more}
-use Rattle.std.proofs.lemmas.Bool.{and_right, eqb-true, eqb-false, ne_eqb, lt-leb}
+use Rattle.std.proofs.lemmas.Bool.{and_right, cases_eq, cond_both, eqb-true, eqb-false, ne_eqb, lt-leb}
 use Rattle.byte_text.specs.Decimals.{is_digit, begins_digit}
 use Rattle.byte_text.specs.Bytes.{letter_z, letter_a, digit_nine, digit_zero, underscore}
 use Rattle.clue_rules.specs.TowersText.{IsSquareText, blank_letters, given_written, squares_written}
@@ -46,15 +46,13 @@ run_text w k r bs squares small text =
 -- the letters of a run of blanks
 blanks_text : (w n : ℕ) (bs squares : List ℕ) → IsSquareText w bs squares
     → IsSquareText w (blank_letters n ++ bs) (replicate n 0 ++ squares)
-blanks_text w n bs squares text =
-    elim (n == 0) as (λ t. (n == 0) ≡ t → IsSquareText w (blank_letters n ++ bs) (replicate n 0 ++ squares)) [
-      | true ↦ λ none. let e = eqb-true n 0 none in rw e text
-      | false ↦ λ some.
-          let apart = eqb-false n 0 some in
-          let count : (n - 1) / 26 * 26 + ((n - 1) % 26 + 1) ≡ n = omega arith in
-          let run = run_text w ((n - 1) / 26) ((n - 1) % 26) bs squares (omega arith) text in
-          rw (blank_letters_some n apart) (subst (λ m. IsSquareText w ((replicate ((n - 1) / 26) letter_z ++ ((letter_a + (n - 1) % 26) ∷ [])) ++ bs) (replicate m 0 ++ squares)) count run)
-    ] refl
+blanks_text w n bs squares text = elim (cases_eq n 0) [
+  | inl none ↦ rw none text
+  | inr some ↦
+      let count : (n - 1) / 26 * 26 + ((n - 1) % 26 + 1) ≡ n = omega arith in
+      let run = run_text w ((n - 1) / 26) ((n - 1) % 26) bs squares (omega arith) text in
+      rw (blank_letters_some n some) (subst (λ m. IsSquareText w ((replicate ((n - 1) / 26) letter_z ++ ((letter_a + (n - 1) % 26) ∷ [])) ++ bs) (replicate m 0 ++ squares)) count run)
+]
 
 -- No digit follows a given.
 digit_not : (b : ℕ) → digit_nine < b → is_digit b ≡ false
@@ -75,23 +73,19 @@ given_whole : (n : ℕ) (after_given : Bool) (s : ℕ) (bs : List ℕ)
 given_whole n after_given s bs = simp append_assoc
 
 given_begins : (n s : ℕ) (bs : List ℕ) → begins_digit (given_written n true s ++ bs) ≡ false
-given_begins n s bs =
-    elim (n == 0) as (λ t. (n == 0) ≡ t → begins_digit (given_written n true s ++ bs) ≡ false) [
-      | true ↦ λ none. rw none refl
-      | false ↦ λ some. subst (λ xs. begins_digit xs ≡ false) (given_whole n true s bs) (letters_begin n ((if (n == 0) && true then (underscore ∷ []) else []) ++ ((digit_zero + s) ∷ bs)) (eqb-false n 0 some))
-    ] refl
+given_begins n s bs = elim (cases_eq n 0) [
+  | inl none ↦ rw none refl
+  | inr some ↦ subst (λ xs. begins_digit xs ≡ false) (given_whole n true s bs) (letters_begin n ((if (n == 0) && true then (underscore ∷ []) else []) ++ ((digit_zero + s) ∷ bs)) some)
+]
 
 begins_written : (n : ℕ) (squares : List ℕ) → begins_digit (squares_written n true squares) ≡ false
-begins_written n [] =
-    elim (n == 0) as (λ t. (n == 0) ≡ t → begins_digit (blank_letters n) ≡ false) [
-      | true ↦ λ none. rw none refl
-      | false ↦ λ some. subst (λ xs. begins_digit xs ≡ false) (append-nil (blank_letters n)) (letters_begin n [] (eqb-false n 0 some))
-    ] refl
+begins_written n [] = elim (cases_eq n 0) [
+  | inl none ↦ rw none refl
+  | inr some ↦ subst (λ xs. begins_digit xs ≡ false) (append-nil (blank_letters n)) (letters_begin n [] some)
+]
 begins_written n (s ∷ ss) =
-    elim (s == 0) as (λ t. begins_digit (if t then squares_written (n + 1) true ss else (given_written n true s ++ squares_written 0 true ss)) ≡ false) [
-      | true ↦ begins_written (n + 1) ss
-      | false ↦ given_begins n s (squares_written 0 true ss)
-    ]
+    cond_both (s == 0) (squares_written (n + 1) true ss) (given_written n true s ++ squares_written 0 true ss) (λ bs. begins_digit bs ≡ false)
+    (λ none. begins_written (n + 1) ss) (λ some. given_begins n s (squares_written 0 true ss))
 
 -- a given, and `_` before it or not
 digit_text : (w s : ℕ) (bs squares : List ℕ) → s ≢ 0 → s ≤ w → begins_digit bs ≡ false → IsSquareText w bs squares
@@ -114,15 +108,15 @@ written_text : (w n : ℕ) (after_given : Bool) (squares : List ℕ) → AllByRe
 written_text w n after_given [] within =
     subst (λ t. IsSquareText w t (replicate n 0 ++ [])) (append-nil (blank_letters n)) (blanks_text w n [] [] refl)
 written_text w n after_given (s ∷ ss) within =
-    elim (s == 0) as (λ t. (s == 0) ≡ t → IsSquareText w (if t then squares_written (n + 1) after_given ss else (given_written n after_given s ++ squares_written 0 true ss)) (replicate n 0 ++ s ∷ ss)) [
-      | true ↦ λ none.
-          let e = eqb-true s 0 none in
-          let squares_are : replicate (n + 1) 0 ++ ss ≡ replicate n 0 ++ s ∷ ss =
-          zeros_more n ss ∙ ap (λ x. replicate n 0 ++ x ∷ ss) (sym e) in
-          subst (IsSquareText w (squares_written (n + 1) after_given ss)) squares_are (written_text w (n + 1) after_given ss within.1)
-      | false ↦ λ some.
-          subst (λ t. IsSquareText w t (replicate n 0 ++ s ∷ ss)) (given_whole n after_given s (squares_written 0 true ss)) (blanks_text w n _ (s ∷ ss) (given_text w s ((n == 0) && after_given) (squares_written 0 true ss) ss (eqb-false s 0 some) within.0 (begins_written 0 ss) (written_text w 0 true ss within.1)))
-    ] refl
+    cond_both (s == 0) (squares_written (n + 1) after_given ss) (given_written n after_given s ++ squares_written 0 true ss)
+    (λ bs. IsSquareText w bs (replicate n 0 ++ s ∷ ss))
+    (λ none.
+    let squares_are : replicate (n + 1) 0 ++ ss ≡ replicate n 0 ++ s ∷ ss =
+    zeros_more n ss ∙ ap (λ x. replicate n 0 ++ x ∷ ss) (sym (eqb-true s 0 none)) in
+    subst (IsSquareText w (squares_written (n + 1) after_given ss)) squares_are (written_text w (n + 1) after_given ss within.1))
+    (λ some.
+    subst (λ t. IsSquareText w t (replicate n 0 ++ s ∷ ss)) (given_whole n after_given s (squares_written 0 true ss))
+    (blanks_text w n _ (s ∷ ss) (given_text w s ((n == 0) && after_given) (squares_written 0 true ss) ss (eqb-false s 0 some) within.0 (begins_written 0 ss) (written_text w 0 true ss within.1))))
 
 -- what is written is a text of the squares
 pub squares_written_text : (w : ℕ) (squares : List ℕ) → AllByRecursion (λ s. s ≤ w) squares

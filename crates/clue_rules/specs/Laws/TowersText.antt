@@ -44,21 +44,21 @@ unfolding towers_at
 towers_taken w text p small large read =
     let first = bind_taken (clues_at w (before comma text)) (λ clues. givens_behind w (behind comma text) >>= made w clues) p read in
     let second = bind_taken (givens_behind w (behind comma text)) (made w first.value) p first.rest in
-    let clues = clues_taken w (before comma text) first.value first.gives in
-    let squares = givens_behind_taken w text second.value (behind comma text) large refl second.gives in
+    let (front, clue_count, clues_within) = clues_taken w (before comma text) first.value first.gives in
+    let (count, within, says) = givens_behind_taken w text second.value (behind comma text) large refl second.gives in
     let value : TowersValue = record { size = w; clues = first.value; givens = second.value } in
     let is : value ≡ p = cc in
     let puzzle : IsTowers value = record {
       givens = record {
         smallest = small;
         largest = large;
-        count = squares.0;
-        within = All-from_recursion (λ n. n ≤ w) second.value squares.1;
+        count = count;
+        within = All-from_recursion (λ n. n ≤ w) second.value within;
       };
-      clue_count = clues.1;
-      clues_within = All-from_recursion (λ n. n ≤ w) first.value clues.2;
+      clue_count = clue_count;
+      clues_within = All-from_recursion (λ n. n ≤ w) first.value clues_within;
     } in
-    let parts = subst (λ front. SaysSquares w text front second.value) clues.0 squares.2 in
+    let parts = subst (λ clues. SaysSquares w text clues second.value) front says in
     subst (λ v. IsTowersText v text × IsTowers v × (v.size ≡ w)) is (record { puzzle = puzzle; parts = parts }, puzzle, refl)
 
 -- where the description is cut, its clues and its givens are read
@@ -68,13 +68,12 @@ cut_again : (w : ℕ) (text : List ℕ) (clues givens : List ℕ) → w ≤ 9 �
 cut_again w text clues givens small count parts =
     let lacks = clue_part_lacks_comma clues in
     elim parts [
-      | inl alone ↦
-          let none : behind comma text ≡ None = ap (behind comma) alone.0 ∙ behind_none_in comma (clue_part clues) lacks in
-          (ap (before comma) alone.0 ∙ before_all comma (clue_part clues) lacks, rw none (ap Ok (sym alone.1)))
-      | inr both ↦
-          let part = both.0 in
-          let some : behind comma text ≡ Some part = ap (behind comma) both.1 ∙ behind_at comma (clue_part clues) part lacks in
-          (ap (before comma) both.1 ∙ before_at comma (clue_part clues) part lacks, rw some (givens_again w part givens small count both.2))
+      | inl (alone, blank) ↦
+          let none : behind comma text ≡ None = ap (behind comma) alone ∙ behind_none_in comma (clue_part clues) lacks in
+          (ap (before comma) alone ∙ before_all comma (clue_part clues) lacks, rw none (ap Ok (sym blank)))
+      | inr (part, both, squares) ↦
+          let some : behind comma text ≡ Some part = ap (behind comma) both ∙ behind_at comma (clue_part clues) part lacks in
+          (ap (before comma) both ∙ before_at comma (clue_part clues) part lacks, rw some (givens_again w part givens small count squares))
     ]
 
 pub towers_again : (text : List ℕ) (p : TowersValue) → IsTowersText p text → towers_at p.size text ≡ Ok p

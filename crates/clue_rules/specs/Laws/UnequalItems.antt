@@ -1,26 +1,22 @@
 -- The laws of Unequal items: what a cut keeps, what two cuts make, and that the full puzzle of a Latin square is solved by it.
-use Rattle.std.proofs.Common.{◌≡◌, ◌≢◌, ℕ, zero, ◌+◌, ◌-◌, ◌*◌, ◌/◌, ◌%◌, ◌<◌, ◌≤◌, nat_lt, ◌⊎◌, Bool, true, false, ◌&&◌, List, Option, Some, None, refl, sym, ap, subst, ◌∙◌, inl, inr, arith, if◌then◌else◌, slice_index, ◌==◌}
-use Rattle.std.specs.Option.{option_map_or}
+use Rattle.std.proofs.Common.{◌≡◌, ◌≢◌, ℕ, zero, ◌+◌, ◌-◌, ◌*◌, ◌/◌, ◌%◌, ◌<◌, ◌≤◌, nat_lt, ◌⊎◌, Bool, true, false, ◌&&◌, List, refl, sym, ap, subst, ◌∙◌, inl, inr, arith, if◌then◌else◌, slice_index, ◌==◌}
 use Rattle.std.proofs.Math.Nat.{mul_comm}
 use Rattle.std.proofs.lemmas.Nat.{div_below, mod_below, div-mul-add, mod-mul-add, mul-add-lt}
-use Rattle.std.proofs.lemmas.Bool.{false≢true, lt-ltb, le-ltb, cases_lt, cases_eq, and_parts, and_from, eq-eqb, ne_eqb}
+use Rattle.std.proofs.lemmas.Bool.{false≢true, lt-ltb, le-ltb, cases_lt, cases_eq, eq-eqb, ne_eqb}
 use Rattle.std.proofs.lemmas.List.{get_or_past}
 use Rattle.latin_board.specs.Squares.{GridValue, IsGrid, IsLatin, number_at}
 use Rattle.latin_board.proofs.LatinLines.{line_differs, latin_full}
 use Rattle.latin_board.proofs.Numbers.{number_within}
 use Rattle.trail_solver.specs.Puzzles.{Solves}
 use Rattle.clue_rules.specs.declared.game.TheConstants.{MOST_ITEMS}
-use Rattle.clue_rules.specs.declared.unequal.direction.Direction.{Direction}
-use Rattle.clue_rules.specs.declared.unequal.direction.Direction.TheVariants.{Right, Down}
 use Rattle.clue_rules.specs.declared.unequal.item.Item.{Item}
 use Rattle.clue_rules.specs.declared.unequal.item.Item.TheVariants.{RightSign, LowerSign, Given}
 use Rattle.clue_rules.specs.declared.unequal.sign.Sign.{Sign}
 use Rattle.clue_rules.specs.declared.unequal.sign.Sign.TheVariants.{Absent, FirstGreater, SecondGreater}
-use Rattle.clue_rules.specs.Unequal.{UnequalValue, IsUnequal, neighbour, right_sign, lower_sign, sign_between, holds_sign, holds_towards, unequal_puzzle, pairs_across, unequal_items, item_at, item_number, is_present, has_item, has_unequal, keeps_kind, cut_unequal, sign_of, sign_in_grid, full_unequal, unequal_given_grid}
+use Rattle.clue_rules.specs.Unequal.{UnequalValue, IsUnequal, IsGreater, right_sign, lower_sign, sign_between, holds_sign, unequal_puzzle, pairs_across, unequal_items, item_at, item_number, is_present, has_item, has_unequal, keeps_kind, cut_unequal, sign_of, sign_in_grid, full_unequal, unequal_given_grid}
 use Rattle.clue_rules.specs.Items.{kept_items}
 use Rattle.clue_rules.specs.Laws.Neighbours.{IsNext, right_of, below_of, next_line, next_inside}
-use Rattle.clue_rules.specs.Laws.Signs.{IsSaid, said_next, right_between, below_between, signed_between, signed_valid}
-use Rattle.clue_rules.specs.Laws.RangeTests.{all_in_range, range_all}
+use Rattle.clue_rules.specs.Laws.Signs.{IsSaid, first_said, second_said, said_next, right_between, below_between, sign_held, each_sign_held, signed_between, signed_valid}
 use Rattle.clue_rules.specs.Laws.KeptItems.{length-kept, entry-kept, kept-all, kept-kept, kept-same, present_kept, not_positive, still_asked, none_asked, small_widths, IsGrid-kept}
 
 -- what holds of every puzzle
@@ -215,15 +211,28 @@ cut_between v keep a b = elim (cases_eq b (a + 1)) [
     either true s = inl refl
     either false s = inr refl
 
-cut_holds : (v : UnequalValue) (keep : ℕ → Bool) (g : GridValue) (cell : ℕ) (d : Direction)
-    → holds_towards v g cell d ≡ true → holds_towards (cut_unequal v keep) g cell d ≡ true
-cut_holds v keep g cell d = by (neighbour v.size cell d)
+-- a cut says of no two squares which is the greater, where the whole doesn't
+pub cut_greater : (v : UnequalValue) (keep : ℕ → Bool) (a b : ℕ) → IsGreater (cut_unequal v keep) a b → IsGreater v a b
+cut_greater v keep a b h = elim h [
+  | inl first ↦ elim (cut_between v keep a b) [
+    | inl same ↦ inl (sym same ∙ first)
+    | inr none ↦ absurd (first_said (sym none ∙ first))
+  ]
+  | inr second ↦ elim (cut_between v keep b a) [
+    | inl same ↦ inr (sym same ∙ second)
+    | inr none ↦ absurd (second_said (sym none ∙ second))
+  ]
+]
+
+-- a given of a cut is that of the whole
+pub cut_given : (v : UnequalValue) (keep : ℕ → Bool) (cell : ℕ) → 0 < slice_index (cut_unequal v keep).givens cell
+    → slice_index (cut_unequal v keep).givens cell ≡ slice_index v.givens cell
+cut_given v keep cell =
+    rw (entry-kept zero (keeps_kind v.size keep Given) 0 v.givens cell cell (omega arith)) (either (keeps_kind v.size keep Given cell))
   where
-    by : (o : Option ℕ)
-        → option_map_or (λ b. holds_sign (sign_between v cell b) (number_at g cell) (number_at g b)) o true ≡ true
-        → option_map_or (λ b. holds_sign (sign_between (cut_unequal v keep) cell b) (number_at g cell) (number_at g b)) o true ≡ true
-    by None h = refl
-    by (Some b) h = elim (cut_between v keep cell b) [ inl same ↦ rw same h | inr none ↦ rw none refl ]
+    either : {n : ℕ} (b : Bool) → 0 < (if b then n else zero) → (if b then n else zero) ≡ n
+    either true low = refl
+    either false low = absurd (omega arith)
 
 -- a cut loses no solution
 pub cut_solved : (v : UnequalValue) (keep : ℕ → Bool) (g : GridValue) → Solves (unequal_puzzle v) g → Solves (unequal_puzzle (cut_unequal v keep)) g
@@ -232,10 +241,10 @@ cut_solved v keep g h = record {
   same_size = h.same_size;
   latin = h.latin;
   givens = λ cell inside. still_asked (keeps_kind v.size keep Given) 0 v.givens cell (number_at g cell) (h.givens cell inside);
-  clues = range_all _ 0 (v.size * v.size) (λ cell low high.
-      let here = and_parts (holds_towards v g cell Right) (holds_towards v g cell Down) (all_in_range _ 0 (v.size * v.size) cell h.clues low high) in
-      and_from (holds_towards (cut_unequal v keep) g cell Right) (holds_towards (cut_unequal v keep) g cell Down)
-      (cut_holds v keep g cell Right here.0) (cut_holds v keep g cell Down here.1));
+  clues = each_sign_held (cut_unequal v keep) g (λ a b next. elim (cut_between v keep a b) [
+    | inl same ↦ rw same (sign_held v g a b h.clues next)
+    | inr none ↦ rw none refl
+  ]);
 }
 
 -- without items there is no sign
@@ -250,14 +259,6 @@ none_between v a b =
     either false true = refl
     either false false = refl
 
-none_holds : (v : UnequalValue) (g : GridValue) (cell : ℕ) (d : Direction) → holds_towards (cut_unequal v (λ i. false)) g cell d ≡ true
-none_holds v g cell d = by (neighbour v.size cell d)
-  where
-    by : (o : Option ℕ)
-        → option_map_or (λ b. holds_sign (sign_between (cut_unequal v (λ i. false)) cell b) (number_at g cell) (number_at g b)) o true ≡ true
-    by None = refl
-    by (Some b) = rw (none_between v cell b) refl
-
 -- without items a puzzle asks nothing
 pub cut_none : (v : UnequalValue) (g : GridValue) → IsGrid g → IsLatin g → g.size ≡ v.size
     → Solves (unequal_puzzle (cut_unequal v (λ i. false))) g
@@ -266,9 +267,7 @@ cut_none v g is_grid latin size = record {
   same_size = size;
   latin = latin;
   givens = λ cell inside. none_asked 0 v.givens cell (number_at g cell);
-  clues = range_all _ 0 (v.size * v.size) (λ cell low high.
-      and_from (holds_towards (cut_unequal v (λ i. false)) g cell Right) (holds_towards (cut_unequal v (λ i. false)) g cell Down)
-      (none_holds v g cell Right) (none_holds v g cell Down));
+  clues = each_sign_held (cut_unequal v (λ i. false)) g (λ a b next. rw (none_between v a b) refl);
 }
 
 -- ---- the full puzzle
@@ -292,16 +291,6 @@ sign_of_holds x y = elim (cases_lt y x) [
   ]
 ]
 
-full_holds : (g : GridValue) (cell : ℕ) (d : Direction) → 3 ≤ g.size → ((b : ℕ) → neighbour g.size cell d ≡ Some b → IsNext g.size cell b)
-    → holds_towards (full_unequal g) g cell d ≡ true
-full_holds g cell d small next = by (neighbour g.size cell d) next
-  where
-    by : (o : Option ℕ) → ((b : ℕ) → o ≡ Some b → IsNext g.size cell b)
-        → option_map_or (λ b. holds_sign (sign_between (full_unequal g) cell b) (number_at g cell) (number_at g b)) o true ≡ true
-    by None next = refl
-    by (Some b) next =
-        rw (signed_between g.size (sign_in_grid g) g.numbers cell b small (next b refl)) (sign_of_holds (number_at g cell) (number_at g b))
-
 -- a Latin square solves its full puzzle
 pub full_solved : (g : GridValue) → IsGrid g → IsLatin g → Solves (unequal_puzzle (full_unequal g)) g
 full_solved g is_grid latin = record {
@@ -309,10 +298,8 @@ full_solved g is_grid latin = record {
   same_size = refl;
   latin = latin;
   givens = λ cell inside low. refl;
-  clues = range_all _ 0 (g.size * g.size) (λ cell low high.
-      and_from (holds_towards (full_unequal g) g cell Right) (holds_towards (full_unequal g) g cell Down)
-      (full_holds g cell Right is_grid.smallest (λ b e. record { inside = omega arith; points = inl e }))
-      (full_holds g cell Down is_grid.smallest (λ b e. record { inside = omega arith; points = inr e })));
+  clues = each_sign_held (full_unequal g) g (λ a b next.
+      rw (signed_between g.size (sign_in_grid g) g.numbers a b is_grid.smallest next) (sign_of_holds (number_at g a) (number_at g b)));
 }
 
 -- squares that are next to each other have different numbers, and so a sign

@@ -32,9 +32,9 @@ abbrev pub LacksLeast : ℕ → ℕ → ℕ → ℕ → Type 0
 LacksLeast place clue level mask = ((level < clue) × (count_ones mask ≡ place)) ⊎ ((level ≡ clue) × (count_ones mask + 1 ≡ place))
 
 -- how the least value leads from a level of starts with so many values that lack it to another: it is seen where it is the first, and else hidden
-abbrev pub IsLeastMove : ℕ → ℕ → ℕ → ℕ → ℕ → Type 0
-IsLeastMove place clue level mask level_then = ((place ≡ 0) × (level_then ≡ level + 1) × (level_then < clue))
-    ⊎ ((0 < place) × (level_then ≡ level) × LacksLeast place clue level mask)
+pub data IsLeastMove (place clue level mask level_then : ℕ) : Type 0 where
+  First : place ≡ 0 → level_then ≡ level + 1 → level_then < clue → IsLeastMove place clue level mask level_then
+  Later : 0 < place → level_then ≡ level → LacksLeast place clue level mask → IsLeastMove place clue level mask level_then
 
 -- the least value leads to the same mask
 pub record IsLeastStep (place width clue k level mask level_then mask_then : ℕ) : Type 0 where
@@ -44,24 +44,23 @@ pub record IsLeastStep (place width clue k level mask level_then mask_then : ℕ
   pub moves : IsLeastMove place clue level mask level_then
 
 -- how a value between them leads from one level to another: it is seen where it is above all of the mask, at any level but the last
-abbrev pub IsMove : ℕ → ℕ → ℕ → ℕ → ℕ → Type 0
-IsMove clue k level mask level_then = ((level ≡ clue) × (level_then ≡ clue))
-    ⊎ (((level < clue) × (2 ^ k ≤ mask) × (level_then ≡ level)) ⊎ ((mask < 2 ^ k) × (level_then ≡ level + 1) × (level_then < clue)))
+pub data IsMove (clue bit level mask level_then : ℕ) : Type 0 where
+  Within : level ≡ clue → level_then ≡ clue → IsMove clue bit level mask level_then
+  Hidden : level < clue → 2 ^ bit ≤ mask → level_then ≡ level → IsMove clue bit level mask level_then
+  Shown : mask < 2 ^ bit → level_then ≡ level + 1 → level_then < clue → IsMove clue bit level mask level_then
 
 -- a value between them, that of the bit, leads from a mask that lacks it
-pub record IsLowStep (width clue k level mask level_then mask_then : ℕ) : Type 0 where
-  pub bit : ℕ
-  pub is : k ≡ bit + 1
+pub record IsLowStep (width clue bit level mask level_then mask_then : ℕ) : Type 0 where
   pub value : bit + 2 < width
   pub fresh : has_number mask bit ≡ false
   pub more : mask_then ≡ mask + 2 ^ bit
   pub moves : IsMove clue bit level mask level_then
 
 -- the value k + 1 leads from a level and mask of starts with so many values to others
-abbrev pub IsStep : ℕ → ℕ → ℕ → ℕ → ℕ → ℕ → ℕ → ℕ → Type 0
-IsStep place width clue k level mask level_then mask_then =
-    IsLastStep width clue k level mask level_then mask_then
-    ⊎ (IsLeastStep place width clue k level mask level_then mask_then ⊎ IsLowStep width clue k level mask level_then mask_then)
+pub data IsStep (place width clue k level mask level_then mask_then : ℕ) : Type 0 where
+  Greatest : IsLastStep width clue k level mask level_then mask_then → IsStep place width clue k level mask level_then mask_then
+  Least : IsLeastStep place width clue k level mask level_then mask_then → IsStep place width clue k level mask level_then mask_then
+  Between : (bit : ℕ) → k ≡ bit + 1 → IsLowStep width clue bit level mask level_then mask_then → IsStep place width clue k level mask level_then mask_then
 
 -- the levels have the masks of all starts with so many values, and no other
 abbrev pub AreReached : List ℕ → ℕ → ℕ → List (List ℕ) → Type 0
@@ -70,10 +69,8 @@ AreReached sets clue place levels = (level mask : ℕ)
 
 -- the levels have the masks of the starts with so many values that some filling begins with, and of no other start
 pub record AreContinued (sets : List ℕ) (clue place : ℕ) (levels : List (List ℕ)) : Type 0 where
-  pub only : (level mask : ℕ) (line : List ℕ) → has_at levels level mask ≡ true → length line ≡ place → IsAtLevel sets clue level mask line
-      → (rest : List ℕ) × IsFilling sets clue (line ++ rest)
-  pub all : (level mask : ℕ) (line rest : List ℕ) → length line ≡ place → IsAtLevel sets clue level mask line
-      → IsFilling sets clue (line ++ rest) → has_at levels level mask ≡ true
+  pub is : (level mask : ℕ) (line : List ℕ) → length line ≡ place → IsAtLevel sets clue level mask line
+      → (has_at levels level mask ≡ true) ↔ ((rest : List ℕ) × IsFilling sets clue (line ++ rest))
 
 -- a mask of the levels that has the link
 pub record IsLinked (Link : ℕ → ℕ → Type 0) (levels : List (List ℕ)) : Type 0 where
@@ -140,7 +137,7 @@ pub record IsKeptBy (place width clue values : ℕ) (fronts after : List (List �
   pub k : ℕ
   pub is : value ≡ k + 1
   pub inside : k < width
-  pub candidate : has_number values value ≡ true
+  pub candidate : has_number values (k + 1) ≡ true
   pub level : ℕ
   pub mask : ℕ
   pub passing : IsPassing place width clue k fronts after level mask

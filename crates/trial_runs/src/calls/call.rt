@@ -1,6 +1,6 @@
 //! The calls that take memory, and some that are refused by their own names before they take any.
 
-use crate::calls::fixture::Start;
+use crate::calls::fixture::{Start, play};
 use crate::calls::made::Made;
 use clue_rules::Params;
 use latin_board::Change;
@@ -123,12 +123,12 @@ pub(crate) fn make<P: Draw>(
     call: &Call,
 ) -> Result<Made<P>, NotMade> {
     match call {
-        Call::Play(text) => play(session, text),
+        Call::Play(text) => done(play(session, text.as_bytes())),
         Call::Restart => done(session.restart()),
         Call::Solve => done(session.solve()),
         Call::New => begin_again(alloc, session),
-        Call::Begin => first_session(alloc, id),
-        Call::BeginSeed => first_session(alloc, "4!7"),
+        Call::Begin => first_session(alloc, id.as_bytes()),
+        Call::BeginSeed => first_session(alloc, b"4!7"),
         Call::BeginFile => session_of_file(alloc, session),
         Call::Load => loaded(alloc, session),
         Call::ReadWords => words(alloc),
@@ -139,13 +139,6 @@ pub(crate) fn make<P: Draw>(
 fn done<P: Draw>(answer: Result<(), PlayFault>) -> Result<Made<P>, NotMade> {
     match answer {
         Ok(()) => Ok(Made::Nothing),
-        Err(fault) => Err(NotMade::Refused(fault.name())),
-    }
-}
-
-fn play<P: Draw>(session: &mut Session<P>, text: &str) -> Result<Made<P>, NotMade> {
-    match read_move(text.as_bytes()) {
-        Ok(m) => done(session.play(m)),
         Err(fault) => Err(NotMade::Refused(fault.name())),
     }
 }
@@ -169,32 +162,39 @@ fn begin_again<P: Draw>(alloc: Global, session: &Session<P>) -> Result<Made<P>, 
     }
 }
 
-fn first_session<P: Draw>(alloc: Global, id: &str) -> Result<Made<P>, NotMade> {
-    match begin::<P>(alloc, Some(id.as_bytes()), None) {
+fn first_session<P: Draw>(alloc: Global, id: &[u8]) -> Result<Made<P>, NotMade> {
+    match begin::<P>(alloc, Some(id), None) {
+        Ok(session) => Ok(Made::First(session)),
+        Err(fault) => Err(NotMade::Refused(fault.name())),
+    }
+}
+
+fn first_of_file<P: Draw>(alloc: Global, file: &[u8]) -> Result<Made<P>, NotMade> {
+    match begin::<P>(alloc, None, Some(file)) {
         Ok(session) => Ok(Made::First(session)),
         Err(fault) => Err(NotMade::Refused(fault.name())),
     }
 }
 
 fn session_of_file<P: Draw>(alloc: Global, session: &Session<P>) -> Result<Made<P>, NotMade> {
-    let file = save_before(alloc, session)?;
-    match begin::<P>(alloc, None, Some(&file)) {
-        Ok(session) => Ok(Made::First(session)),
-        Err(fault) => Err(NotMade::Refused(fault.name())),
+    match save(alloc, session) {
+        Ok(file) => first_of_file(alloc, &file),
+        Err(_) => Err(NotMade::Fixture),
     }
 }
 
 fn loaded<P: Draw>(alloc: Global, session: &Session<P>) -> Result<Made<P>, NotMade> {
-    let file = save_before(alloc, session)?;
-    match load::<P>(alloc, &file) {
-        Ok(session) => Ok(Made::Session(session)),
-        Err(fault) => Err(NotMade::Refused(fault.name())),
+    match save(alloc, session) {
+        Ok(file) => session_loaded(alloc, &file),
+        Err(_) => Err(NotMade::Fixture),
     }
 }
 
-// The session's save, made before the call.
-fn save_before<P: Draw>(alloc: Global, session: &Session<P>) -> Result<Vec<u8>, NotMade> {
-    save(alloc, session).map_err(|_| NotMade::Fixture)
+fn session_loaded<P: Draw>(alloc: Global, file: &[u8]) -> Result<Made<P>, NotMade> {
+    match load::<P>(alloc, file) {
+        Ok(session) => Ok(Made::Session(session)),
+        Err(fault) => Err(NotMade::Refused(fault.name())),
+    }
 }
 
 fn words<P: Draw>(alloc: Global) -> Result<Made<P>, NotMade> {
@@ -257,6 +257,8 @@ fn text_of<P: Draw>(
 }
 
 fn written(alloc: Global, text: &str) -> Result<Vec<u8>, PlayFault> {
-    let m = read_move(text.as_bytes())?;
-    write_move(alloc, &m)
+    match read_move(text.as_bytes()) {
+        Ok(m) => write_move(alloc, &m),
+        Err(fault) => Err(fault),
+    }
 }

@@ -1,6 +1,6 @@
 //! The sessions that the calls are made in.
 
-use play_midend::{MOST_STATES, Move, Session, read_move};
+use play_midend::{MOST_STATES, Move, PlayFault, Session, read_move};
 use puzzle_cli::{Draw, begin};
 use std::alloc::Global;
 
@@ -20,11 +20,11 @@ pub(crate) fn session_at<P: Draw>(alloc: Global, id: &str, start: Start) -> Opti
     let mut session = begin::<P>(alloc, Some(id.as_bytes()), None).ok()??;
     match start {
         Start::Undone => {
-            play(&mut session, b"R0,0,1")?;
-            play(&mut session, b"R1,0,2")?;
+            play(&mut session, b"R0,0,1").ok()?;
+            play(&mut session, b"R1,0,2").ok()?;
             session.undo().ok()?;
         }
-        Start::AtEnd => play(&mut session, b"R0,0,1")?,
+        Start::AtEnd => play(&mut session, b"R0,0,1").ok()?,
         Start::Full => {
             for _ in 1..MOST_STATES {
                 session.play(Move::Real { x: 0, y: 0, n: 1 }).ok()?;
@@ -34,6 +34,10 @@ pub(crate) fn session_at<P: Draw>(alloc: Global, id: &str, start: Start) -> Opti
     Some(session)
 }
 
-fn play<P: Draw>(session: &mut Session<P>, text: &[u8]) -> Option<()> {
-    session.play(read_move(text).ok()?).ok()
+/// Makes the move that a text spells.
+pub(crate) fn play<P: Draw>(session: &mut Session<P>, text: &[u8]) -> Result<(), PlayFault> {
+    match read_move(text) {
+        Ok(m) => session.play(m),
+        Err(fault) => Err(fault),
+    }
 }

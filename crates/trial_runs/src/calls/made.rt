@@ -34,25 +34,49 @@ impl<P: Draw> Made<P> {
 
 fn words_text(alloc: Global, args: &Args) -> Result<Vec<u8>, AllocError> {
     let mut text = Vec::new(alloc);
-    for word in [&args.id, &args.load, &args.save] {
-        match word {
-            Some(word) => text.extend_from_slice(word.as_bytes())?,
-            None => text.extend_from_slice(b"none")?,
-        }
-        text.push(b'\n')?;
+    match add_words(&mut text, args) {
+        Ok(()) => Ok(text),
+        Err(error) => Err(error),
     }
-    Ok(text)
+}
+
+fn add_words(text: &mut Vec<u8>, args: &Args) -> Result<(), AllocError> {
+    add_word(text, &args.id)?;
+    add_word(text, &args.load)?;
+    add_word(text, &args.save)
+}
+
+// A word on a line of its own.
+fn add_word(text: &mut Vec<u8>, word: &Option<String>) -> Result<(), AllocError> {
+    match word {
+        Some(word) => text.extend_from_slice(word.as_bytes())?,
+        None => text.extend_from_slice(b"none")?,
+    }
+    text.push(b'\n')?;
+    Ok(())
 }
 
 fn digits_of(alloc: Global, grids: &[Grid]) -> Result<Vec<u8>, AllocError> {
     let mut text = Vec::new(alloc);
-    for grid in grids {
-        let width = usize::from(grid.size().get());
-        for cell in 0..width * width {
-            let digit = grid.get(cell);
-            text.push(b'0'.wrapping_add(digit))?;
-        }
-        text.push(b'\n')?;
+    match add_grids(&mut text, grids) {
+        Ok(()) => Ok(text),
+        Err(error) => Err(error),
     }
-    Ok(text)
+}
+
+fn add_grids(text: &mut Vec<u8>, grids: &[Grid]) -> Result<(), AllocError> {
+    for grid in grids {
+        add_digits(text, grid)?;
+    }
+    Ok(())
+}
+
+// The numbers of a grid on a line of their own.
+fn add_digits(text: &mut Vec<u8>, grid: &Grid) -> Result<(), AllocError> {
+    let width = usize::from(grid.size().get());
+    for cell in 0..width * width {
+        text.push(b'0'.wrapping_add(grid.get(cell)))?;
+    }
+    text.push(b'\n')?;
+    Ok(())
 }

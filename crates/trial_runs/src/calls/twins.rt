@@ -18,18 +18,10 @@ fn have_equal_games<P: Draw>(one: &Session<P>, other: &Session<P>) -> bool {
     one.puzzle().same(other.puzzle())
         && *one.params() == *other.params()
         && *one.next_params() == *other.next_params()
-        && keep_the_same(&one.extras().seed, &other.extras().seed)
-        && keep_the_same(&one.extras().auxinfo, &other.extras().auxinfo)
-        && keep_the_same(&one.extras().ui, &other.extras().ui)
-        && keep_the_same(&one.extras().time, &other.extras().time)
-}
-
-fn keep_the_same(one: &Option<Vec<u8>>, other: &Option<Vec<u8>>) -> bool {
-    match (one, other) {
-        (Some(one), Some(other)) => one.as_slice() == other.as_slice(),
-        (None, None) => true,
-        _ => false,
-    }
+        && one.extras().seed == other.extras().seed
+        && one.extras().auxinfo == other.extras().auxinfo
+        && one.extras().ui == other.extras().ui
+        && one.extras().time == other.extras().time
 }
 
 fn have_equal_moves<P: Draw>(one: &Session<P>, other: &Session<P>) -> bool {

@@ -1,6 +1,7 @@
 //! Answers to texts of saves, and what is kept of many of them.
 
 use clue_rules::Game;
+use latin_board::Board;
 use play_midend::Session;
 use play_save::{LoadFault, load, save};
 use std::alloc::{AllocError, Global};
@@ -85,35 +86,46 @@ impl Answer {
 fn refusal(alloc: Global, fault: LoadFault) -> Result<Vec<u8>, AllocError> {
     let name = fault.name();
     match fault {
-        LoadFault::BadState(index) => format!(in alloc; "{name} {index}\n")?
-            .as_bytes()
-            .to_vec(alloc),
-        _ => format!(in alloc; "{name}\n")?.as_bytes().to_vec(alloc),
+        LoadFault::BadState(index) => Ok(format!(in alloc; "{name} {index}\n")?.into_bytes()),
+        _ => Ok(format!(in alloc; "{name}\n")?.into_bytes()),
     }
 }
 
 // The status of a session as a line, and its save.
 fn status_and_save<P: Game>(alloc: Global, session: &Session<P>) -> Result<Vec<u8>, AllocError> {
     let mut text = status_line(alloc, session)?;
-    if let Ok(own) = save(alloc, session) {
-        text.extend_from_slice(&own)?;
+    match add_save(alloc, &mut text, session) {
+        Ok(()) => Ok(text),
+        Err(error) => Err(error),
     }
-    Ok(text)
+}
+
+fn add_save<P: Game>(
+    alloc: Global,
+    text: &mut Vec<u8>,
+    session: &Session<P>,
+) -> Result<(), AllocError> {
+    match save(alloc, session) {
+        Ok(own) => text.extend_from_slice(&own),
+        Err(_) => Ok(()),
+    }
 }
 
 fn status_line<P: Game>(alloc: Global, session: &Session<P>) -> Result<Vec<u8>, AllocError> {
     let word = word(session);
     let (position, states) = (session.position(), session.states());
-    format!(in alloc; "{word} {position}/{states}\n")?
-        .as_bytes()
-        .to_vec(alloc)
+    Ok(format!(in alloc; "{word} {position}/{states}\n")?.into_bytes())
 }
 
 /// The word of the status line.
 pub(crate) fn word<P: Game>(session: &Session<P>) -> &'static str {
-    if session.board().cheated() {
+    word_of(session.board())
+}
+
+fn word_of(board: &Board) -> &'static str {
+    if board.cheated() {
         "helped"
-    } else if session.board().completed() {
+    } else if board.completed() {
         "solved"
     } else {
         "playing"
@@ -122,14 +134,22 @@ pub(crate) fn word<P: Game>(session: &Session<P>) -> &'static str {
 
 // Whether the session's own save loads as a session with the same save.
 fn loads_again<P: Game>(alloc: Global, session: &Session<P>) -> bool {
-    let Ok(text) = save(alloc, session) else {
-        return false;
-    };
-    let Ok(again) = load::<P>(alloc, &text) else {
-        return false;
-    };
-    match save(alloc, &again) {
-        Ok(second) => second.as_slice() == text.as_slice(),
+    match save(alloc, session) {
+        Ok(text) => loads_as_its_own::<P>(alloc, &text),
+        Err(_) => false,
+    }
+}
+
+fn loads_as_its_own<P: Game>(alloc: Global, text: &[u8]) -> bool {
+    match load::<P>(alloc, text) {
+        Ok(again) => is_save_of(alloc, text, &again),
+        Err(_) => false,
+    }
+}
+
+fn is_save_of<P: Game>(alloc: Global, text: &[u8], session: &Session<P>) -> bool {
+    match save(alloc, session) {
+        Ok(own) => own.as_slice() == text,
         Err(_) => false,
     }
 }

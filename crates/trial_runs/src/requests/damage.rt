@@ -42,20 +42,27 @@ impl<'a> SaveText<'a> {
     /// The records are those up to the first place where none can be read.
     pub(crate) fn new(alloc: Global, text: &'a [u8]) -> Result<SaveText<'a>, AllocError> {
         let mut records = Vec::new(alloc);
-        let mut rest = text;
-        for _ in 0..text.len() {
-            let Ok(Some((_, behind))) = next_record(rest) else {
-                break;
-            };
-            let length = rest.len().saturating_sub(behind.len());
-            let Some(record) = rest.get(..length) else {
-                break;
-            };
-            records.push(record)?;
-            rest = behind;
+        match add_records(&mut records, text) {
+            Ok(()) => Ok(SaveText { text, records }),
+            Err(error) => Err(error),
         }
-        Ok(SaveText { text, records })
     }
+}
+
+fn add_records<'a>(records: &mut Vec<&'a [u8]>, text: &'a [u8]) -> Result<(), AllocError> {
+    let mut rest = text;
+    for _ in 0..text.len() {
+        let Ok(Some((_, behind))) = next_record(rest) else {
+            break;
+        };
+        let length = rest.len().saturating_sub(behind.len());
+        let Some(record) = rest.get(..length) else {
+            break;
+        };
+        records.push(record)?;
+        rest = behind;
+    }
+    Ok(())
 }
 
 impl Damage {
@@ -184,16 +191,23 @@ fn with_exchange(
 
 fn joined_twice(alloc: Global, front: &[&[u8]], rest: &[&[u8]]) -> Result<Vec<u8>, AllocError> {
     let mut text = joined(alloc, front)?;
-    for part in rest {
-        text.extend_from_slice(part)?;
+    match add_parts(&mut text, rest) {
+        Ok(()) => Ok(text),
+        Err(error) => Err(error),
     }
-    Ok(text)
 }
 
 fn joined(alloc: Global, parts: &[&[u8]]) -> Result<Vec<u8>, AllocError> {
     let mut text = Vec::new(alloc);
+    match add_parts(&mut text, parts) {
+        Ok(()) => Ok(text),
+        Err(error) => Err(error),
+    }
+}
+
+fn add_parts(text: &mut Vec<u8>, parts: &[&[u8]]) -> Result<(), AllocError> {
     for part in parts {
         text.extend_from_slice(part)?;
     }
-    Ok(text)
+    Ok(())
 }

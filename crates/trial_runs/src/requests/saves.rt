@@ -3,8 +3,11 @@
 use crate::requests::answers::{Answer, Block, Count, word};
 use crate::requests::damage::{DAMAGES, Damage, SaveText};
 use clue_rules::Game;
+use play_midend::Session;
 use play_save::{load, save};
+use std::alloc::Global;
 use std::io;
+use std::io::Write;
 
 /// How much is printed of damaged texts: what came of each kind, or each answer.
 #[derive(Clone, Copy)]
@@ -19,29 +22,49 @@ pub(crate) fn print_loaded<P: Game>(
     name: &str,
     bytes: &[u8],
 ) -> io::Result<()> {
-    let session = match load::<P>(rt.alloc(), bytes) {
-        Ok(session) => session,
-        Err(fault) => return println!(rt; "{name}; {}", fault.name()),
-    };
-    let params = String::from_utf8_lossy(rt.alloc(), session.params().write().as_slice())?;
-    let Ok(text) = session.puzzle().write_desc(rt.alloc()) else {
+    match load::<P>(rt.alloc(), bytes) {
+        Ok(session) => print_session(rt, name, bytes, &session),
+        Err(fault) => println!(rt; "{name}; {}", fault.name()),
+    }
+}
+
+fn print_session<P: Game>(
+    rt: &(impl Print + AllocGlobal),
+    name: &str,
+    bytes: &[u8],
+    session: &Session<P>,
+) -> io::Result<()> {
+    let Some(respelled) = respelled(rt.alloc(), bytes, session) else {
         return println!(rt; "{name}; no memory");
     };
-    let Ok(again) = save(rt.alloc(), &session) else {
-        return println!(rt; "{name}; no memory");
-    };
-    let desc = String::from_utf8_lossy(rt.alloc(), &text)?;
-    let respelled = if again.as_slice() == bytes {
-        ""
-    } else {
-        " respelled"
-    };
-    println!(rt;
-        "{name}; ok; {} {}/{}; {params}:{desc};{respelled}",
-        word(&session),
-        session.position(),
-        session.states()
-    )
+    match session.puzzle().write_desc(rt.alloc()) {
+        Ok(desc) => print_id(rt, name, session, &desc, respelled),
+        Err(_) => println!(rt; "{name}; no memory"),
+    }
+}
+
+// What is told where the session is written otherwise; None where memory is refused.
+fn respelled<P: Game>(alloc: Global, bytes: &[u8], session: &Session<P>) -> Option<&'static str> {
+    match save(alloc, session) {
+        Ok(again) if again.as_slice() == bytes => Some(""),
+        Ok(_) => Some(" respelled"),
+        Err(_) => None,
+    }
+}
+
+fn print_id<P: Game>(
+    rt: &impl Print,
+    name: &str,
+    session: &Session<P>,
+    desc: &[u8],
+    respelled: &'static str,
+) -> io::Result<()> {
+    let (position, states) = (session.position(), session.states());
+    print!(rt; "{name}; ok; {} {position}/{states}; ", word(session))?;
+    io::writer(rt).write_all(session.params().write().as_slice())?;
+    print!(rt; ":")?;
+    io::writer(rt).write_all(desc)?;
+    println!(rt; ";{respelled}")
 }
 
 /// Prints the answers to the texts that each kind of damage makes of a save file.
@@ -66,15 +89,13 @@ fn print_kind<P: Game>(
     let kind = damage.name();
     let mut block = Block::new();
     for number in 0..damage.numbers(save) {
-        let Some(text) = damage.text(rt.alloc(), save, number)? else {
-            continue;
-        };
-        let answer = Answer::of::<P>(rt.alloc(), &text)?;
-        if matches!(detail, Detail::Each) {
-            let at = block.texts();
-            println!(rt; "{kind} {at}; {}; {:016x}", answer.name(), answer.digest())?;
+        if let Some(text) = damage.text(rt.alloc(), save, number)? {
+            let answer = Answer::of::<P>(rt.alloc(), &text)?;
+            block.take(&answer);
+            if matches!(detail, Detail::Each) {
+                print_answer(rt, kind, block.texts(), &answer)?;
+            }
         }
-        block.take(&answer);
     }
     match detail {
         Detail::Counts => {
@@ -83,6 +104,17 @@ fn print_kind<P: Game>(
         }
         Detail::Each => Ok(()),
     }
+}
+
+// The line of an answer, which is the last of so many.
+fn print_answer(
+    rt: &impl Print,
+    kind: &'static str,
+    texts: u64,
+    answer: &Answer,
+) -> io::Result<()> {
+    let at = texts.saturating_sub(1);
+    println!(rt; "{kind} {at}; {}; {:016x}", answer.name(), answer.digest())
 }
 
 // The rest of the line: how often each answer came.

@@ -1,20 +1,26 @@
 //! Squares and games of seeds.
 
 use clue_rules::{Game, Params, Towers, Unequal};
-use latin_board::Size;
+use latin_board::{Grid, Size};
 use puzzle_gen::{generate, square};
-use std::alloc::Global;
+use std::alloc::{AllocError, Global};
 use std::io;
 
 /// The numbers of the seed's square.
 fn square_text(alloc: Global, size: Size, seed: u64) -> io::Result<Vec<u8>> {
-    let grid = square(size, seed);
-    let width = grid.size().get() as usize;
     let mut text = Vec::new(alloc);
+    match add_digits(&mut text, &square(size, seed)) {
+        Ok(()) => Ok(text),
+        Err(error) => Err(error.into()),
+    }
+}
+
+fn add_digits(text: &mut Vec<u8>, grid: &Grid) -> Result<(), AllocError> {
+    let width = grid.size().get() as usize;
     for cell in 0..width * width {
         text.push(b'0'.saturating_add(grid.get(cell)))?;
     }
-    Ok(text)
+    Ok(())
 }
 
 /// The ID of the seed's game, or the name of the refusal.
@@ -24,12 +30,25 @@ fn game_text<P: Game>(alloc: Global, size: Size, seed: u64) -> io::Result<Vec<u8
         Ok(puzzle) => puzzle,
         Err(fault) => return Ok(fault.name().as_bytes().to_vec(alloc)?),
     };
-    let mut text = params.write().as_slice().to_vec(alloc)?;
-    text.push(b':')?;
-    if let Ok(desc) = puzzle.write_desc(alloc) {
-        text.extend_from_slice(&desc)?;
+    let mut text = Vec::new(alloc);
+    match add_id(alloc, &mut text, &params, &puzzle) {
+        Ok(()) => Ok(text),
+        Err(error) => Err(error.into()),
     }
-    Ok(text)
+}
+
+fn add_id<P: Game>(
+    alloc: Global,
+    text: &mut Vec<u8>,
+    params: &Params,
+    puzzle: &P,
+) -> Result<(), AllocError> {
+    text.extend_from_slice(params.write().as_slice())?;
+    text.push(b':')?;
+    match puzzle.write_desc(alloc) {
+        Ok(desc) => text.extend_from_slice(&desc),
+        Err(_) => Ok(()),
+    }
 }
 
 /// The answer to a line: a square's numbers in reading order, or a game's ID; a question mark where nothing is asked.

@@ -5,7 +5,7 @@
 
 use crate::timing::batches::{Call, nanoseconds_of};
 use crate::timing::boards::{FILLINGS, Filling, session_of};
-use crate::timing::checks::{BoardCheck, CHECKS};
+use crate::timing::checks::{BoardCheck, CHECKS, Check};
 use crate::timing::objects::BoardReply;
 use crate::timing::times::{Subject, Times};
 use clue_rules::{Game, Towers, Unequal};
@@ -31,10 +31,10 @@ fn time_id<P: Shows, R: Clock + Alloc<A = Global>>(
     times: &mut Times,
     id: &[u8],
 ) -> io::Result<bool> {
-    for filling in FILLINGS {
+    for filling in FILLINGS.iter() {
         let known = match calls {
-            Calls::Checks => time_checks::<P, R>(rt, times, id, filling)?,
-            Calls::Objects => time_reply::<P, R>(rt, times, id, filling)?,
+            Calls::Checks => time_checks::<P, R>(rt, times, id, *filling)?,
+            Calls::Objects => time_reply::<P, R>(rt, times, id, *filling)?,
         };
         if !known {
             return Ok(false);
@@ -49,13 +49,26 @@ fn time_checks<P: Shows, R: Clock + Alloc<A = Global>>(
     id: &[u8],
     filling: Filling,
 ) -> io::Result<bool> {
-    for check in CHECKS {
-        let Some(session) = session_of::<P>(rt.alloc(), id, filling) else {
+    for check in CHECKS.iter() {
+        if !time_check::<P, R>(rt, times, id, filling, *check)? {
             return Ok(false);
-        };
-        let subject = subject_of::<P>(session.puzzle(), filling, check.name());
-        time_call(rt, times, subject, &mut BoardCheck { check, session })?;
+        }
     }
+    Ok(true)
+}
+
+fn time_check<P: Shows, R: Clock + Alloc<A = Global>>(
+    rt: &R,
+    times: &mut Times,
+    id: &[u8],
+    filling: Filling,
+    check: Check,
+) -> io::Result<bool> {
+    let Some(session) = session_of::<P>(rt.alloc(), id, filling) else {
+        return Ok(false);
+    };
+    let subject = subject_of::<P>(session.puzzle(), filling, check.name());
+    time_call(rt, times, subject, &mut BoardCheck { check, session })?;
     Ok(true)
 }
 
@@ -124,8 +137,17 @@ pub(crate) fn time_boards<R: Clock + Alloc<A = Global> + Input + Print + Eprint>
     calls: Calls,
 ) -> io::Result<()> {
     let mut times = Times::new(rt.alloc());
-    for line in rt.lines(rt.alloc()) {
-        time_line(rt, calls, &mut times, line?.as_str())?;
-    }
+    time_lines(rt, calls, &mut times)?;
     times.print(rt)
+}
+
+fn time_lines<R: Clock + Alloc<A = Global> + Input + Eprint>(
+    rt: &R,
+    calls: Calls,
+    times: &mut Times,
+) -> io::Result<()> {
+    for line in rt.lines(rt.alloc()) {
+        time_line(rt, calls, times, line?.as_str())?;
+    }
+    Ok(())
 }

@@ -17,7 +17,7 @@ pub(crate) enum Filling {
 }
 
 /// All of them.
-pub(crate) const FILLINGS: [Filling; 3] = [Filling::Empty, Filling::Sparse, Filling::Half];
+pub(crate) static FILLINGS: [Filling; 3] = [Filling::Empty, Filling::Sparse, Filling::Half];
 
 impl Filling {
     /// Its name in the tables.

@@ -16,7 +16,7 @@ pub(crate) enum Check {
 }
 
 /// All of them.
-pub(crate) const CHECKS: [Check; 3] = [Check::Errors, Check::Hint, Check::Completion];
+pub(crate) static CHECKS: [Check; 3] = [Check::Errors, Check::Hint, Check::Completion];
 
 impl Check {
     /// Its name in the table.

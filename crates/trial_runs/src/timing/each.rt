@@ -19,12 +19,18 @@ pub(crate) fn answer_each<R: Clock + Alloc<A = Global> + Input + Print>(
     task: Task,
 ) -> io::Result<()> {
     for line in rt.lines(rt.alloc()) {
-        let line = line?;
-        let line = line.as_str();
-        match timing_of_line(rt, task, line, SITTING)? {
-            Some(timing) => println!(rt; "{} {}", timing.nanoseconds, timing.solutions)?,
-            None => println!(rt; "cannot read {line}")?,
-        }
+        answer_line(rt, task, line?.as_str())?;
     }
     Ok(())
+}
+
+fn answer_line<R: Clock + Alloc<A = Global> + Print>(
+    rt: &R,
+    task: Task,
+    line: &str,
+) -> io::Result<()> {
+    match timing_of_line(rt, task, line, SITTING)? {
+        Some(timing) => println!(rt; "{} {}", timing.nanoseconds, timing.solutions),
+        None => println!(rt; "cannot read {line}"),
+    }
 }

@@ -79,22 +79,39 @@ pub(crate) fn time_puzzles<R: Clock + Alloc<A = Global> + Input + Print + Eprint
     task: Task,
 ) -> io::Result<()> {
     let mut classes = Vec::new(rt.alloc());
+    solve_lines(rt, task, &mut classes)?;
+    print_classes(rt, &classes)
+}
+
+fn solve_lines<R: Clock + Alloc<A = Global> + Input + Eprint>(
+    rt: &R,
+    task: Task,
+    classes: &mut Vec<Class>,
+) -> io::Result<()> {
     for line in rt.lines(rt.alloc()) {
-        solve_line(rt, task, &mut classes, line?.as_str())?;
-    }
-    for class in &classes {
-        let name = class.name.as_str();
-        let puzzles = class.puzzles;
-        let unique = class.unique;
-        let mean = class.total / class.puzzles.max(1);
-        print!(rt; "{name:<16} puzzles {puzzles:>3}  unique {unique:>3}  ")?;
-        println!(rt;
-            "mean {:>5}.{}  slowest {:>5}.{}",
-            mean / 1000,
-            mean / 100 % 10,
-            class.slowest / 1000,
-            class.slowest / 100 % 10
-        )?;
+        solve_line(rt, task, classes, line?.as_str())?;
     }
     Ok(())
+}
+
+fn print_classes(rt: &impl Print, classes: &[Class]) -> io::Result<()> {
+    for class in classes {
+        print_class(rt, class)?;
+    }
+    Ok(())
+}
+
+fn print_class(rt: &impl Print, class: &Class) -> io::Result<()> {
+    let name = class.name.as_str();
+    let puzzles = class.puzzles;
+    let unique = class.unique;
+    let mean = class.total / class.puzzles.max(1);
+    print!(rt; "{name:<16} puzzles {puzzles:>3}  unique {unique:>3}  ")?;
+    println!(rt;
+        "mean {:>5}.{}  slowest {:>5}.{}",
+        mean / 1000,
+        mean / 100 % 10,
+        class.slowest / 1000,
+        class.slowest / 100 % 10
+    )
 }

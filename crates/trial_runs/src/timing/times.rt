@@ -47,12 +47,11 @@ impl Times {
                 return Ok(());
             }
         }
-        let mut row = Row {
+        let nanoseconds = Vec::from_slice(alloc, &[nanoseconds])?;
+        self.rows.push(Row {
             subject,
-            nanoseconds: Vec::new(alloc),
-        };
-        row.nanoseconds.push(nanoseconds)?;
-        self.rows.push(row)?;
+            nanoseconds,
+        })?;
         Ok(())
     }
 

@@ -11,9 +11,9 @@ draw_order-requires g c =
 
 pub returns-clause-order : goal.returns-clause-order
 returns-clause-order g c =
-    let done = refilled c.args.count c.first_items-items.result.items c.as_mut_slice.result.now c.draw_order.new.items
+    let (length, whole, order) = refilled c.args.count c.first_items-items.result.items c.as_mut_slice.result.now c.draw_order.new.items
     c.first_items-items.ensures c.as_mut_slice.ensures.value c.draw_order.ensures.order in
-    done.2
+    order
 
 pub returns-clause-drawn : goal.returns-clause-drawn
 returns-clause-drawn g c =

@@ -17,6 +17,6 @@ returns-clause-any_moment g c tells =
     let written = at_ok c.overwrite.result fine (c.overwrite.ensures.written tells) in
     let durable = at_ok c.overwrite.result fine (c.overwrite.ensures.durable tells) in
     let over_write = over_first (Touched path) has_bytes (state c.args.folder.now) (state c.overwrite.new.self) (λ f left. inr (filled.durable f (g.met.F.Folder.only_now _ f tells left)))
-    (λ f from. inr (from.2 beside apart ∙ filled.durable from.0 from.1)) (c.overwrite.ensures.time tells) in
-    over_next (Touched beside) has_bytes _ _ (state c.remove.new.self) over_write (λ f from. inl (from.2 path (λ same. apart (sym same)) ∙ durable from.0 from.1 ∙ written))
+    (λ f (old, left, touched). inr (touched beside apart ∙ filled.durable old left)) (c.overwrite.ensures.time tells) in
+    over_next (Touched beside) has_bytes _ _ (state c.remove.new.self) over_write (λ f (old, left, touched). inl (touched path (λ same. apart (sym same)) ∙ durable old left ∙ written))
     (c.remove.ensures.time tells)

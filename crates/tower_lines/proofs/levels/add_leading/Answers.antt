@@ -4,7 +4,7 @@ use Rattle.std.proofs.lemmas.Bool.{cases_lt, le-ltb}
 use Rattle.std.proofs.lemmas.List.{get_or_default}
 use Rattle.tower_lines.specs.Inner.Levels.{IsPassing}
 use Rattle.tower_lines.proofs.LevelAdditions.{IsBelow, IsOnlyAt, noted_none, noted_both, noted_as, common_at_level, only_level, none_below, one_more_below, all_below}
-use Rattle.tower_lines.proofs.LevelSteps.{shared_passing, greatest_leads, greatest_to}
+use Rattle.tower_lines.proofs.LevelSteps.{shared_passing, greatest_leads, only_greatest}
 use Rattle.tower_lines.proofs.levels.add_leading.Goals as goal
 
 pub returns-then-last-gt0 : goal.returns-then-last-gt0
@@ -20,17 +20,14 @@ returns-then-last-gt0 g c =
     (greatest_leads a.place a.width a.last k a.after.now set (omega arith) (omega arith)
     (get_or_default a.after.now a.last c.index-after-last.result [] (omega arith))))
     c.add_common.ensures.before c.add_common.ensures.some)
-    (only_level Passing at (λ level mask p.
-    let to = greatest_to a.place a.width a.last k level mask p.leads.level p.leads.mask (omega arith) p.leads.link in
-    omega (arith, to.0)))
+    (only_level Passing at (λ level mask p. let s = only_greatest (omega arith) p.leads.link in omega (arith, s.before)))
 
 pub returns-else-last-gt0 : goal.returns-else-last-gt0
 returns-else-last-gt0 g c =
     let a = c.args in
     let k = a.value - 1 in
-    rw (le-ltb 0 a.last c.if-last-gt0.false) (noted_none (IsPassing a.place a.width a.last k a.levels.now a.after.now) a.before.now (λ level mask p.
-    let to = greatest_to a.place a.width a.last k level mask p.leads.level p.leads.mask (omega arith) p.leads.link in
-    omega (arith, to.0)))
+    rw (le-ltb 0 a.last c.if-last-gt0.false) (noted_none (IsPassing a.place a.width a.last k a.levels.now a.after.now) a.before.now
+    (λ level mask p. let s = only_greatest (omega arith) p.leads.link in omega (arith, s.before)))
 
 pub loop-level-init : goal.loop-level-init
 loop-level-init g c =

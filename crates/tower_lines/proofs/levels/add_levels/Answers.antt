@@ -38,6 +38,6 @@ pub returns : goal.returns
 returns g c =
     added_as _ (IsReachedFrom c.args.place c.args.width c.args.clue c.args.values c.args.levels.now) c.args.next.now c.loop-value.next c.loop-value.invariant.added
     (λ level mask. (
-      λ r. record { k = r.k; done = record { inside = r.inside; candidate = r.candidate; done = c.in_default.ensures.value (r.k + 1) }; given = r.reached },
-      λ r. record { k = r.k; inside = r.done.inside; candidate = r.done.candidate; reached = r.given },
+      λ r. record { k = r.k; done = record { inside = r.inside; candidate = r.candidate; done = c.in_default.ensures.value (r.k + 1) }; holds = r.reached },
+      λ r. record { k = r.k; inside = r.done.inside; candidate = r.done.candidate; reached = r.holds },
     ))

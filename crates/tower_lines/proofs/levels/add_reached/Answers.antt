@@ -3,7 +3,7 @@ use Rattle.std.proofs.Common.{ℕ, ◌+◌, ◌-◌, ◌<◌, [], arith}
 use Rattle.std.proofs.lemmas.List.{get_or_default}
 use Rattle.tower_lines.specs.Inner.Levels.{IsReachedBy}
 use Rattle.tower_lines.proofs.LevelAdditions.{IsBelow, IsOnlyAt, added_none, added_both, added_as, at_level, only_level, none_below, one_more_below, all_below}
-use Rattle.tower_lines.proofs.LevelSteps.{greatest_reached, greatest_to, in_reach}
+use Rattle.tower_lines.proofs.LevelSteps.{greatest_reached, only_greatest, in_reach}
 use Rattle.tower_lines.proofs.levels.add_reached.Goals as goal
 
 pub loop-level-init : goal.loop-level-init
@@ -45,11 +45,11 @@ returns-then-last-gt0 g c =
     (greatest_reached a.place a.width a.last k a.levels.now _ (omega arith) (omega arith)
     (get_or_default a.levels.now (a.last - 1) c.index-levels-last.result [] (omega arith)))
     c.add_at-then-last-gt0.ensures)
-    (only_level Reached a.last (λ level mask r. (greatest_to a.place a.width a.last k r.level r.mask level mask (omega arith) r.link).1))
+    (only_level Reached a.last (λ level mask r. (only_greatest (omega arith) r.link).after))
 
 pub returns-else-last-gt0 : goal.returns-else-last-gt0
 returns-else-last-gt0 g c =
     let a = c.args in
     let k = a.value - 1 in
     added_none (IsReachedBy a.place a.width a.last k a.levels.now) a.next.now
-    (λ level mask r. let to = greatest_to a.place a.width a.last k r.level r.mask level mask (omega arith) r.link in omega (arith, to.0))
+    (λ level mask r. let s = only_greatest (omega arith) r.link in omega (arith, s.before))

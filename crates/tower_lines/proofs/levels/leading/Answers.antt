@@ -2,14 +2,14 @@
 -- the last level, and before it from those that hide it and to those of the next level that show it.
 use Rattle.std.proofs.Common.{◌≡◌, ℕ, ◌+◌, ◌-◌, inr, [], get_or, ap, ◌∙◌, arith}
 use Rattle.std.proofs.lemmas.List.{get_or_default}
-use Rattle.tower_lines.proofs.LevelSteps.{lacking, least_leads, least_first_leads, linked_none, least_first_late, between_leads_last, between_leads, between_leads_hidden}
+use Rattle.tower_lines.proofs.LevelSteps.{least_leads, least_first_leads, linked_none, least_first_late, between_leads_last, between_leads, between_leads_hidden}
 use Rattle.tower_lines.proofs.levels.leading.Goals as goal
 
 pub returns-then-place-gt0 : goal.returns-then-place-gt0
 returns-then-place-gt0 g c =
     let a = c.args in
-    rw c.if-value-eq1.true (least_leads a.place a.last a.level a.after.now c.counted.result (omega arith)
-    (lacking a.place a.last c.count_without_least.result a.level a.after.now c.counted.result c.counted.ensures c.count_without_least.ensures.count))
+    rw c.if-value-eq1.true (least_leads a.place a.last c.count_without_least.result a.level a.after.now c.counted.result (omega arith)
+    c.counted.ensures c.count_without_least.ensures.count)
 
 pub returns-then-level-last : goal.returns-then-level-last
 returns-then-level-last g c =
@@ -21,7 +21,7 @@ pub returns-else-level-last : goal.returns-else-level-last
 returns-else-level-last g c =
     let a = c.args in
     rw c.if-value-eq1.true (λ width mask more. linked_none _ a.after.now c.none.result mask (c.none.ensures mask)
-    (λ l x. least_first_late a.place width a.last a.level mask l x more (omega arith) (inr (omega arith))))
+    (λ l x. least_first_late more (omega arith) (inr (omega arith))))
 
 pub returns-then-level-last-2 : goal.returns-then-level-last-2
 returns-then-level-last-2 g c = λ width mask less.

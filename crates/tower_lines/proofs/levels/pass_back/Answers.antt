@@ -1,5 +1,5 @@
 -- One value after another gives the masks from which it leads on, and is kept where there are any.
-use Rattle.std.proofs.Common.{◌≡◌, ℕ, ◌+◌, true, not, ◌&&◌, ◌||◌, leb, sym, ap, ◌∙◌, subst}
+use Rattle.std.proofs.Common.{◌≡◌, ℕ, ◌+◌, not, ◌&&◌, ◌||◌, leb, sym, ap, ◌∙◌, subst}
 use Rattle.std.proofs.lemmas.Bool.{both_ways}
 use Rattle.number_sets.specs.Sets.{has_number}
 use Rattle.tower_lines.specs.Inner.Levels.{IsPassing, IsPassed}
@@ -57,24 +57,19 @@ returns-clause-before g c =
     added_alone Passed c.no_levels-before.result c.loop-value.before c.no_levels-before.ensures
     (added_as _ Passed c.no_levels-before.result c.loop-value.before c.loop-value.invariant.added
     (λ level mask. (
-      λ r. record { k = r.k; done = record { inside = r.inside; candidate = r.candidate; done = c.in_default.ensures.value (r.k + 1) }; given = r.passing },
-      λ r. record { k = r.k; inside = r.done.inside; candidate = r.done.candidate; passing = r.given },
+      λ r. record { k = r.k; done = record { inside = r.inside; candidate = r.candidate; done = c.in_default.ensures.value (r.k + 1) }; holds = r.passing },
+      λ r. record { k = r.k; inside = r.done.inside; candidate = r.done.candidate; passing = r.holds },
     )))
 
 pub returns-clause-kept : goal.returns-clause-kept
 returns-clause-kept g c = λ value. (
   λ e.
       let r = (c.loop-value.invariant.kept value).0 e in
-      let P : ℕ → Type 0 = λ v. has_number c.args.values v ≡ true in
-      record { k = r.k; is = r.is; inside = r.done.inside; candidate = subst P (sym r.is) r.done.candidate; level = r.level; mask = r.mask; passing = r.given },
-  λ r.
-      let P : ℕ → Type 0 = λ v. has_number c.args.values v ≡ true in
-      (c.loop-value.invariant.kept value).1 record {
-        k = r.k;
-        is = r.is;
-        done = record { inside = r.inside; candidate = subst P r.is r.candidate; done = c.in_default.ensures.value (r.k + 1) };
-        level = r.level;
-        mask = r.mask;
-        given = r.passing;
-      },
+      let by = r.holds in
+      record { k = r.k; is = by.is; inside = r.done.inside; candidate = r.done.candidate; level = by.level; mask = by.mask; passing = by.given },
+  λ r. (c.loop-value.invariant.kept value).1 record {
+    k = r.k;
+    done = record { inside = r.inside; candidate = r.candidate; done = c.in_default.ensures.value (r.k + 1) };
+    holds = record { is = r.is; level = r.level; mask = r.mask; given = r.passing };
+  },
 )

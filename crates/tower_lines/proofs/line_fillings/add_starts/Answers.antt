@@ -1,12 +1,11 @@
 -- One place after another has the levels of the starts with so many values.
-use Rattle.std.proofs.Common.{◌≡◌, ◌≢◌, ℕ, ◌+◌, ◌-◌, ◌<◌, ◌↔◌, ◌++◌, true, false, inl, inr, List, [], length, get_or, set, sym, ap, ◌∙◌, subst, arith, rules, length-set}
-use Rattle.std.proofs.lemmas.Bool.{cases_eq}
-use Rattle.std.proofs.lemmas.List.{get_or-set_same, get_or-set_other, set-append_right}
+use Rattle.std.proofs.Common.{◌≡◌, ℕ, ◌+◌, ◌-◌, ◌<◌, ◌++◌, false, List, [], length, get_or, set, sym, ap, ◌∙◌, arith, rules, length-set}
+use Rattle.std.proofs.lemmas.List.{get_or-set_other, set-append_right}
 use Rattle.std.proofs.lemmas.Grind.{get_or_default_zero}
 use Rattle.tower_lines.specs.Inner.MaskSets.{has_at}
 use Rattle.tower_lines.specs.Inner.Levels.{AreReached, IsReachedFrom}
 use Rattle.tower_lines.proofs.LevelAdditions.{added_alone}
-use Rattle.tower_lines.proofs.LevelTables.{first_reached, next_reached, reached_few}
+use Rattle.tower_lines.proofs.LevelTables.{first_reached, next_reached, reached_few, set_each}
 use Rattle.tower_lines.proofs.line_fillings.add_starts.Goals as goal
 
 -- a write at the start of the second part is one after the first part
@@ -22,12 +21,8 @@ loop-place-init g c =
     let sets = c.args.sets.now in
     record {
       long = length-set starts 0 first ∙ search rules;
-      reached = λ p low.
-          let zero : p ≡ 0 = omega arith in
-          let here : get_or (set starts 0 first) 0 [] ≡ first = get_or-set_same starts 0 first [] (search rules) in
-          let P : ℕ → Type 0 = λ q. AreReached sets c.args.clue q (get_or (set starts 0 first) q []) in
-          let Q : List (List ℕ) → Type 0 = λ levels. AreReached sets c.args.clue 0 levels in
-          subst P (sym zero) (subst Q (sym here) (first_reached first c.requires.some c.first_levels.ensures));
+      reached = λ p low. set_each (AreReached sets c.args.clue) starts 0 p first [] (search rules)
+          (first_reached first c.requires.some c.first_levels.ensures) (λ other. absurd (omega arith));
       none = λ p level mask after inside.
           ap (λ (levels : List (List ℕ)). has_at levels level mask) (get_or-set_other starts 0 p first [] (omega arith)) ∙ c.requires.blank p level mask inside;
     }
@@ -37,8 +32,7 @@ add_levels-requires g c =
     let place = c.loop-place.place in
     let levels = get_or c.split_at_mut-done.result.0.now place [] in
     let same = c.split_at_mut-done.ensures.by_index.0 place [] (omega arith) in
-    let L : List (List ℕ) → Type 0 = λ l. AreReached c.args.sets.now c.args.clue place l in
-    let reached = subst L (sym same) (c.loop-place.invariant.reached place (omega arith)) in
+    let reached : AreReached c.args.sets.now c.args.clue place levels = rw same (c.loop-place.invariant.reached place (omega arith)) in
     (search rules, (search rules, (omega arith, (c.requires.room, (c.requires.clue, (c.requires.small, reached_few levels reached))))))
 
 pub loop-place-preserved : goal.loop-place-preserved
@@ -55,30 +49,16 @@ loop-place-preserved g c =
     let joined : front ++ set back 0 next ≡ set starts (place + 1) next =
     set_after front back (place + 1) next parts.front_len ∙ ap (λ (s : List (List (List ℕ))). set s (place + 1) next) (sym parts.value) in
     let inside : place < length sets = omega arith in
-    let L : List (List ℕ) → Type 0 = λ l. AreReached sets clue place l in
-    let before = subst L (sym (parts.by_index.0 place [] (omega arith))) (c.loop-place.invariant.reached place (omega arith)) in
+    let before : AreReached sets clue place levels = rw (parts.by_index.0 place [] (omega arith)) (c.loop-place.invariant.reached place (omega arith)) in
     let values : c.index-sets-place.result ≡ get_or sets place 0 = c.index-sets-place.is ∙ get_or_default_zero sets place c.index-sets-place.result inside in
     let blank : (level mask : ℕ) → has_at (get_or back 0 []) level mask ≡ false = λ level mask. ap (λ (l : List (List ℕ)). has_at l level mask) (parts.by_index.1 0 []) ∙ c.loop-place.invariant.none (place + 1 + 0) level mask (omega arith) (omega arith) in
     let reached = added_alone (IsReachedFrom place (length sets) clue c.index-sets-place.result levels) (get_or back 0 []) next blank c.add_levels.ensures in
-    let S : ℕ → Type 0 = λ v. (level mask : ℕ) → (has_at next level mask ≡ true) ↔ IsReachedFrom place (length sets) clue v levels level mask in
-    let after : AreReached sets clue (place + 1) next = next_reached next inside before (subst S values reached) in
-    let others : (p : ℕ) → p ≢ place + 1 → get_or (set starts (place + 1) next) p [] ≡ get_or starts p [] =
-    λ p other. get_or-set_other starts (place + 1) p next [] other in
+    let after : AreReached sets clue (place + 1) next = next_reached next inside before (rw values at reached) in
     record {
       long = ap (λ (s : List (List (List ℕ))). length s) joined ∙ length-set starts (place + 1) next ∙ c.loop-place.invariant.long;
-      reached = λ p low.
-          let R : List (List (List ℕ)) → Type 0 = λ s. AreReached sets clue p (get_or s p []) in
-          subst R (sym joined) (elim (cases_eq p (place + 1)) [
-            | inl same ↦
-                let here : get_or (set starts (place + 1) next) (place + 1) [] ≡ next = get_or-set_same starts (place + 1) next [] (omega (arith, c.loop-place.invariant.long)) in
-                let P : ℕ → Type 0 = λ q. AreReached sets clue q (get_or (set starts (place + 1) next) q []) in
-                let Q : List (List ℕ) → Type 0 = λ levels. AreReached sets clue (place + 1) levels in
-                subst P (sym same) (subst Q (sym here) after)
-            | inr other ↦
-                let Q : List (List ℕ) → Type 0 = λ levels. AreReached sets clue p levels in
-                subst Q (sym (others p other)) (c.loop-place.invariant.reached p (omega arith))
-          ]);
+      reached = λ p low. rw joined (set_each (AreReached sets clue) starts (place + 1) p next [] (omega (arith, c.loop-place.invariant.long)) after
+          (λ other. c.loop-place.invariant.reached p (omega arith)));
       none = λ p level mask later inside.
-          ap (λ (s : List (List (List ℕ))). has_at (get_or s p []) level mask) joined ∙ ap (λ (levels : List (List ℕ)). has_at levels level mask) (others p (omega arith))
+          ap (λ (s : List (List (List ℕ))). has_at (get_or s p []) level mask) joined ∙ ap (λ (levels : List (List ℕ)). has_at levels level mask) (get_or-set_other starts (place + 1) p next [] (omega arith))
           ∙ c.loop-place.invariant.none p level mask (omega arith) inside;
     }

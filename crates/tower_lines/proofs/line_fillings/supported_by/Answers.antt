@@ -1,14 +1,13 @@
 -- One place after another, from the last, has the starts that a filling begins with, and its values.
-use Rattle.std.proofs.Common.{◌≡◌, ℕ, ◌+◌, ◌-◌, ◌<◌, ◌↔◌, inl, inr, true, false, List, [], length, get_or, set, replicate, sym, ap, ◌∙◌, subst, arith, rules, length-set}
-use Rattle.std.proofs.lemmas.Bool.{cases_eq, cases_lt, both_ways}
-use Rattle.std.proofs.lemmas.List.{get_or-set_same, get_or-set_other, get_or-replicate, get_or_past, length-replicate}
+use Rattle.std.proofs.Common.{◌≡◌, ℕ, ◌+◌, ◌-◌, ◌<◌, ◌↔◌, inl, inr, true, false, List, [], length, get_or, replicate, ap, ◌∙◌, arith, rules, length-set}
+use Rattle.std.proofs.lemmas.Bool.{cases_lt, both_ways}
+use Rattle.std.proofs.lemmas.List.{get_or-replicate, get_or_past, length-replicate}
 use Rattle.std.proofs.lemmas.Grind.{get_or_default_zero}
 use Rattle.number_sets.specs.Sets.{has_number}
 use Rattle.number_sets.proofs.Members.{has_number-none}
 use Rattle.tower_lines.specs.LineFillings.{IsSupported}
-use Rattle.tower_lines.specs.Inner.MaskSets.{has_at}
-use Rattle.tower_lines.specs.Inner.Levels.{AreContinued, IsPassed, IsKeptBy}
-use Rattle.tower_lines.proofs.LevelTables.{reached_few, last_continued, before_continued, kept_supported}
+use Rattle.tower_lines.specs.Inner.Levels.{AreContinued}
+use Rattle.tower_lines.proofs.LevelTables.{reached_few, last_continued, before_continued, kept_supported, set_each}
 use Rattle.tower_lines.proofs.line_fillings.supported_by.Goals as goal
 
 -- an empty table has no value
@@ -52,29 +51,17 @@ loop-place-preserved g c =
     let next : c.loop-place.place ≡ at + 1 = omega arith in
     let reached = c.add_starts.ensures at (omega arith) in
     let values : c.index-sets-place.result ≡ get_or sets at 0 = c.index-sets-place.is ∙ get_or_default_zero sets at c.index-sets-place.result inside in
-    let C : ℕ → Type 0 = λ p. AreContinued sets clue p after in
-    let continued = subst C next c.loop-place.invariant.continued in
-    let B : ℕ → Type 0 = λ v. (level mask : ℕ) → (has_at c.pass_back.new.after level mask ≡ true) ↔ IsPassed at (length sets) clue v levels after level mask in
-    let K : ℕ → Type 0 = λ v. (value : ℕ) → (has_number c.pass_back.result value ≡ true) ↔ IsKeptBy at (length sets) clue v levels after value in
-    let passed = subst B values c.pass_back.ensures.before in
-    let kept_here = subst K values c.pass_back.ensures.kept in
+    let continued : AreContinued sets clue (at + 1) after = rw (← next) c.loop-place.invariant.continued in
+    let passed = rw values at c.pass_back.ensures.before in
+    let kept_here = rw values at c.pass_back.ensures.kept in
     let long : at < length kept = omega (arith, c.loop-place.invariant.long) in
     record {
       long = length-set kept at c.pass_back.result ∙ c.loop-place.invariant.long;
       inside = omega arith;
       continued = before_continued inside reached continued passed;
-      done = λ place value from. elim (cases_eq place at) [
-        | inl same ↦
-            let P : ℕ → Type 0 = λ p. (has_number (get_or (set kept at c.pass_back.result) p 0) value ≡ true) ↔ IsSupported sets clue p value in
-            let here : has_number (get_or (set kept at c.pass_back.result) at 0) value ≡ has_number c.pass_back.result value =
-            ap (λ (n : ℕ). has_number n value) (get_or-set_same kept at c.pass_back.result 0 long) in
-            let supported = kept_supported inside reached continued value in
-            let by = kept_here value in
-            subst P (sym same) (λ e. supported.0 (by.0 (sym here ∙ e)), λ s. here ∙ by.1 (supported.1 s))
-        | inr other ↦
-            let there : has_number (get_or (set kept at c.pass_back.result) place 0) value ≡ has_number (get_or kept place 0) value =
-            ap (λ (n : ℕ). has_number n value) (get_or-set_other kept at place c.pass_back.result 0 other) in
-            let done = c.loop-place.invariant.done place value (omega arith) in
-            (λ e. done.0 (sym there ∙ e), λ s. there ∙ done.1 s)
-      ];
+      done = λ place value from.
+          let supported = kept_supported inside reached continued value in
+          let by = kept_here value in
+          set_each (λ p n. (has_number n value ≡ true) ↔ IsSupported sets clue p value) kept at place c.pass_back.result 0 long
+          (λ e. supported.0 (by.0 e), λ s. by.1 (supported.1 s)) (λ other. c.loop-place.invariant.done place value (omega arith));
     }

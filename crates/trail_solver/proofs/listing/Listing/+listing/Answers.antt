@@ -18,7 +18,11 @@ pub list_values-loop-value-init : goal.list_values-loop-value-init
 list_values-loop-value-init g t c =
     let now = c.args.self.now.search in
     let size : now.candidates.size ≡ (g.P.Rules.puzzle now.rules).size = rw (← c.self.view_is) c.self.invariant in
-    (refl, refl, value_lists_none (g.P.Rules.puzzle now.rules) now.candidates c.args.cell c.args.self.now.limit c.args.self.now.listed.items size c.requires.first.is_open.inside)
+    record {
+      search = refl;
+      limit = refl;
+      lists = value_lists_none (g.P.Rules.puzzle now.rules) now.candidates c.args.cell c.args.self.now.limit c.args.self.now.listed.items size c.requires.first.is_open.inside;
+    }
 
 pub list_values-loop-value-preserved : goal.list_values-loop-value-preserved
 list_values-loop-value-preserved g t c =
@@ -29,11 +33,13 @@ list_values-loop-value-preserved g t c =
     let ys = c.loop-value.self.listed.items in
     let zs = c.list_guess.new.self.listed.items in
     let At : SearchValue _ → ℕ → Type 0 = λ s limit. Lists (IsAmongAt (puzzle s.rules) s.candidates c.args.cell c.loop-value.value) limit ys zs in
-    let here : At now first.limit = rw (← c.loop-value.invariant.0, ← c.loop-value.invariant.1) c.in_ok-list_guess.ensures.lists in (
-      c.list_guess.ensures.same ∙ c.loop-value.invariant.0,
-      c.list_guess.ensures.limit ∙ c.loop-value.invariant.1,
-      value_lists_more (puzzle now.rules) now.candidates c.args.cell c.loop-value.value first.limit first.listed.items ys zs size c.requires.first c.loop-value.invariant.2 here,
-    )
+    let before = c.loop-value.invariant in
+    let here : At now first.limit = rw (← before.search, ← before.limit) c.in_ok-list_guess.ensures.lists in
+    record {
+      search = c.list_guess.ensures.same ∙ before.search;
+      limit = c.list_guess.ensures.limit ∙ before.limit;
+      lists = value_lists_more (puzzle now.rules) now.candidates c.args.cell c.loop-value.value first.limit first.listed.items ys zs size c.requires.first before.lists here;
+    }
 
 pub list_values-returns-clause-lists : goal.list_values-returns-clause-lists
 list_values-returns-clause-lists g t c =
@@ -41,7 +47,7 @@ list_values-returns-clause-lists g t c =
     let now = first.search in
     let size : now.candidates.size ≡ (g.P.Rules.puzzle now.rules).size = rw (← c.self.view_is) c.self.invariant in
     let width : c.get-width.result ≡ now.candidates.size = rw (← c.self.view_is) (c.get-width.ensures.value ∙ c.size.ensures.value) in
-    value_lists_all (g.P.Rules.puzzle now.rules) now.candidates c.args.cell c.loop-value.value first.limit first.listed.items c.loop-value.self.listed.items size c.requires.first.is_open.inside (omega arith) c.loop-value.invariant.2
+    value_lists_all (g.P.Rules.puzzle now.rules) now.candidates c.args.cell c.loop-value.value first.limit first.listed.items c.loop-value.self.listed.items size c.requires.first.is_open.inside (omega arith) c.loop-value.invariant.lists
 
 pub list_guess-returns-clause-same : goal.list_guess-returns-clause-same
 list_guess-returns-clause-same g t c =

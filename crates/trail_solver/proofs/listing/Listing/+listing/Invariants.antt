@@ -17,6 +17,8 @@ decreases-list g l = 3 * (PAIRS - length l.self.now.search.candidates.trail) + 2
 abbrev pub invariant-list_values-loop-value : goal.invariant-list_values-loop-value
 invariant-list_values-loop-value g l =
     let first = l.initial.self in
-    (l.self.search ≡ first.search) × (l.self.limit ≡ first.limit)
-    × Lists (IsAmongBelow (g.P.Rules.puzzle first.search.rules) first.search.candidates l.cell l.value) first.limit first.listed.items
-    l.self.listed.items
+    record {
+      search : l.self.search ≡ first.search;
+      limit : l.self.limit ≡ first.limit;
+      lists : Lists (IsAmongBelow (g.P.Rules.puzzle first.search.rules) first.search.candidates l.cell l.value) first.limit first.listed.items l.self.listed.items;
+    }

@@ -1,10 +1,8 @@
 //! Runs without a session: over the client's devices, over those in memory, and over readers and writers of `std`.
 
-use crate::latin::Latin;
-use crate::sheet::Sheet;
-use crate::tape::Tape;
-use crate::tests::Said;
-use crate::tests::calls::copied;
+use super::Said;
+use super::calls::copied;
+use client::{Latin, Sheet, Tape};
 use play_midend::Session;
 use puzzle_cli::{End, run};
 use puzzle_io::{FromRead, MemorySink, MemorySource, ToWrite};

@@ -1,7 +1,7 @@
 //! The calls on a session or a puzzle, each with what it says as text.
 
-use crate::latin::Latin;
-use crate::tests::Said;
+use super::Said;
+use client::Latin;
 use clue_rules::{Game, GameId, Params, read_id};
 use latin_board::{Grid, Size};
 use play_midend::{Extras, Move, PlayFault, Session, change_of, read_move, write_move};

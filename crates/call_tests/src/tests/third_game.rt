@@ -4,13 +4,13 @@
 mod calls;
 mod runs;
 
-use crate::latin::Latin;
-use crate::tests::calls::{
+use crate::tests::third_game::calls::{
     answered, begun, begun_by_words, changed, compared, copied, described, facts, first_record,
     generated, id_read, kept, listed, made, moved, nothing_said, params_written, reloaded, saved,
     solved,
 };
-use crate::tests::runs::{ran, ran_in_memory, ran_over_std};
+use crate::tests::third_game::runs::{ran, ran_in_memory, ran_over_std};
+use client::Latin;
 use clue_rules::Game;
 use play_midend::Session;
 use puzzle_cli::{done_text, marks_text, picture, status_text};

@@ -1,0 +1,158 @@
+-- What follows by a grade: it is the only solution, it follows by the next grade and with more items, and each board of it leads on.
+use Rattle.std.proofs.Common.{◌≡◌, ◌≢◌, ℕ, ◌*◌, ◌<◌, true, List, [], ◌∷◌, refl, sym, ◌∙◌, subst}
+use Rattle.latin_board.specs.Squares.{GridValue, number_at}
+use Rattle.latin_board.proofs.Numbers.{same_numbers}
+use Rattle.trail_solver.specs.Candidates.{CandidatesValue, IsWithin}
+use Rattle.trail_solver.specs.Pairs.{IsPair}
+use Rattle.trail_solver.specs.Puzzles.{Puzzle, Solves}
+use Rattle.trail_solver.specs.Solutions.{IsOnlySolution}
+use Rattle.trail_solver.specs.Completions.{Completes}
+use Rattle.named_steps.specs.Left.{IsLeft, IsFewer, all_of, without}
+use Rattle.named_steps.specs.Grades.{has_reason}
+use Rattle.named_steps.specs.Chains.{StepValue, IsChain, left_by, AreOfGrade, Shows, IsView}
+use Rattle.named_steps.specs.Following.{Follows, IsRefuted}
+use Rattle.named_steps.proofs.Antitone.{IsAntitone, chain_less, left_fewer, left_size}
+use Rattle.named_steps.proofs.Kept.{IsSoundFor, number_left, chain_keeps, completion_in_view}
+use Rattle.named_steps.specs.declared.reason.Reason.{Reason}
+use Rattle.named_steps.specs.declared.grade.Grade.{Grade}
+use Rattle.named_steps.specs.declared.grade.Grade.TheVariants.{Latin, Easy, Hard}
+use Rattle.named_steps.specs.declared.reason.Reason.TheVariants.{Given, Peer, Place, Bound, Stand, Clue, Sign, Set}
+use Rattle.named_steps.specs.declared.goal.Goal.TheVariants.{OnlyValue}
+
+-- ---- the only solution
+
+within_all : (w : ℕ) (g : GridValue) → IsWithin (all_of w) g
+within_all w g = record { each = λ cell inside. refl }
+
+pub follows_only : (p : Puzzle) (Struck : CandidatesValue → Reason → ℕ → ℕ → Type 0) → IsSoundFor p Struck → (grade : Grade) (g : GridValue)
+    → Follows Struck grade g → Solves p g → IsOnlySolution p g
+follows_only p Struck sound grade g f s = record {
+  solves = s;
+  only = λ h other.
+      let end = left_by (all_of g.size) f.steps in
+      let size : end.size ≡ p.size = left_size (all_of g.size) f.steps ∙ s.same_size in
+      let within = chain_keeps p Struck sound (all_of g.size) f.steps h s.same_size f.chain other (within_all g.size h) in
+      same_numbers h g other.is_grid s.is_grid (other.same_size ∙ sym s.same_size) (λ cell inside.
+      let here : cell < g.size * g.size = subst (λ (w : ℕ). cell < w * w) (other.same_size ∙ sym s.same_size) inside in
+      let there : cell < end.size * end.size = subst (λ (w : ℕ). cell < w * w) (sym (left_size (all_of g.size) f.steps)) here in
+      f.alone cell here (number_at h cell) (number_left p end h cell size other within there));
+}
+
+-- ---- the next grade
+
+next_has : (lower higher : Grade) → ((reason : Reason) → has_reason lower reason ≡ true → has_reason higher reason ≡ true)
+    → (steps : List StepValue) → AreOfGrade lower steps → AreOfGrade higher steps
+next_has lower higher has [] h = tt
+next_has lower higher has (step ∷ steps) h = (has step.reason h.0, next_has lower higher has steps h.1)
+
+pub easy_has : (reason : Reason) → has_reason Latin reason ≡ true → has_reason Easy reason ≡ true
+easy_has (Given cell) h = refl
+easy_has (Peer cell) h = refl
+easy_has (Place line index value) h = refl
+easy_has (Bound place) h = refl
+easy_has (Stand place) h = refl
+easy_has (Clue place) h = h
+easy_has (Sign from to) h = refl
+easy_has (Set line squares values) h = h
+
+-- each reason of the middle grade is one of the highest
+pub hard_has : (reason : Reason) → has_reason Easy reason ≡ true → has_reason Hard reason ≡ true
+hard_has (Given cell) h = refl
+hard_has (Peer cell) h = refl
+hard_has (Place line index value) h = refl
+hard_has (Bound place) h = refl
+hard_has (Stand place) h = refl
+hard_has (Clue place) h = refl
+hard_has (Sign from to) h = refl
+hard_has (Set line squares values) h = refl
+
+follows_higher : (Struck : CandidatesValue → Reason → ℕ → ℕ → Type 0) (lower higher : Grade)
+    → ((reason : Reason) → has_reason lower reason ≡ true → has_reason higher reason ≡ true) → (g : GridValue)
+    → Follows Struck lower g → Follows Struck higher g
+follows_higher Struck lower higher has g f = record {
+  steps = f.steps;
+  chain = f.chain;
+  allowed = next_has lower higher has f.steps f.allowed;
+  alone = f.alone;
+}
+
+pub grades_nested : (Struck : CandidatesValue → Reason → ℕ → ℕ → Type 0) (g : GridValue)
+    → (Follows Struck Latin g → Follows Struck Easy g) × (Follows Struck Easy g → Follows Struck Hard g)
+grades_nested Struck g = (follows_higher Struck Latin Easy easy_has g, follows_higher Struck Easy Hard hard_has g)
+
+-- ---- more items
+
+chain_more : (Less More : CandidatesValue → Reason → ℕ → ℕ → Type 0)
+    → ((c : CandidatesValue) (reason : Reason) (cell value : ℕ) → Less c reason cell value → More c reason cell value)
+    → (c : CandidatesValue) (steps : List StepValue) → IsChain Less c steps → IsChain More c steps
+chain_more Less More more c [] h = tt
+chain_more Less More more c (step ∷ steps) h = (
+  λ cell value has. ((h.0 cell value has).0, more c step.reason cell value (h.0 cell value has).1),
+  chain_more Less More more (without c step.strikes) steps h.1,
+)
+
+pub follows_more : (Less More : CandidatesValue → Reason → ℕ → ℕ → Type 0)
+    → ((c : CandidatesValue) (reason : Reason) (cell value : ℕ) → Less c reason cell value → More c reason cell value)
+    → (grade : Grade) (g : GridValue) → Follows Less grade g → Follows More grade g
+follows_more Less More more grade g f = record {
+  steps = f.steps;
+  chain = chain_more Less More more (all_of g.size) f.steps f.chain;
+  allowed = f.allowed;
+  alone = f.alone;
+}
+
+-- ---- boards
+
+-- all pairs are left at first
+all_fewer : (w : ℕ) (c : CandidatesValue) → c.size ≡ w → IsFewer (all_of w) c
+all_fewer w c size = λ cell value h. record { pair = subst (λ (n : ℕ). IsPair n cell value) size h.pair; may = refl }
+
+from_view : (Struck : CandidatesValue → Reason → ℕ → ℕ → Type 0) → IsAntitone Struck → (grade : Grade) (s : GridValue) (c : CandidatesValue)
+    (f : Follows Struck grade s) → c.size ≡ s.size → IsChain Struck c f.steps × IsFewer (left_by (all_of s.size) f.steps) (left_by c f.steps)
+from_view Struck less grade s c f size = chain_less Struck less (all_of s.size) c f.steps (sym size) (all_fewer s.size c size) f.chain
+
+-- from each board of a puzzle that follows by the grade, a chain shows the number of each square
+pub boards_lead : (Struck : CandidatesValue → Reason → ℕ → ℕ → Type 0) → IsAntitone Struck → (grade : Grade) (s g : GridValue)
+    (view : CandidatesValue) (cell : ℕ) → Follows Struck grade s → g.size ≡ s.size → IsView g view → cell < s.size * s.size
+    → (steps : List StepValue) × Shows Struck grade view steps (OnlyValue cell (number_at s cell))
+boards_lead Struck less grade s g view cell f size in_view inside =
+    let there = from_view Struck less grade s view f (in_view.size ∙ size) in (
+      f.steps,
+      record {
+        chain = there.0;
+        allowed = f.allowed;
+        shown = λ other left. f.alone cell inside other (there.1 cell other left);
+      },
+    )
+
+-- from a board with a wrong number, a chain leaves nothing of it
+pub boards_refuted : (Struck : CandidatesValue → Reason → ℕ → ℕ → Type 0) → IsAntitone Struck → (grade : Grade) (s g : GridValue)
+    (view : CandidatesValue) (cell : ℕ) → Follows Struck grade s → g.size ≡ s.size → IsView g view → cell < s.size * s.size
+    → number_at g cell ≢ 0 → number_at g cell ≢ number_at s cell
+    → IsRefuted Struck grade view
+boards_refuted Struck less grade s g view cell f size in_view inside some wrong =
+    let there = from_view Struck less grade s view f (in_view.size ∙ size) in
+    record {
+      steps = f.steps;
+      chain = there.0;
+      allowed = f.allowed;
+      cell = cell;
+      inside = subst (λ (w : ℕ). cell < w * w) (sym (in_view.size ∙ size)) inside;
+      nothing = λ value left.
+          let right : value ≡ number_at s cell = f.alone cell inside value (there.1 cell value left) in
+          let was : IsLeft view cell value = left_fewer view f.steps cell value left in
+          let pair : IsPair g.size cell value = subst (λ (w : ℕ). IsPair w cell value) in_view.size was.pair in
+          let stands : value ≡ number_at g cell = (in_view.filled cell value pair some).0 was.may in
+          wrong (sym stands ∙ right);
+    }
+
+-- a board that is refuted is completed by no solution
+pub refuted_none : (p : Puzzle) (Struck : CandidatesValue → Reason → ℕ → ℕ → Type 0) → IsSoundFor p Struck → (grade : Grade) (g : GridValue)
+    (view : CandidatesValue) → g.size ≡ p.size → IsView g view → IsRefuted Struck grade view → (h : GridValue) → Completes p g h → ⊥
+refuted_none p Struck sound grade g view size in_view r h done =
+    let view_size : view.size ≡ p.size = in_view.size ∙ size in
+    let within = chain_keeps p Struck sound view r.steps h view_size r.chain done.0 (completion_in_view p g h view size in_view done) in
+    let end = left_by view r.steps in
+    let end_size : end.size ≡ view.size = left_size view r.steps in
+    let inside : r.cell < end.size * end.size = subst (λ (w : ℕ). r.cell < w * w) (sym end_size) r.inside in
+    r.nothing (number_at h r.cell) (number_left p end h r.cell (end_size ∙ view_size) done.0 within inside)

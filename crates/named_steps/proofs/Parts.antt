@@ -1,0 +1,115 @@
+-- Where no single step of a chain can be left out, no several steps can.
+use Rattle.std.proofs.Common.{◌≡◌, ℕ, List, [], ◌∷◌, ◌++◌, inl, inr, ◌⊎◌, refl, sym, ap, ◌∙◌, subst}
+use Rattle.trail_solver.specs.Candidates.{CandidatesValue}
+use Rattle.named_steps.specs.Left.{IsFewer, without}
+use Rattle.named_steps.specs.Chains.{StepValue, IsChain, left_by, AreOfGrade, Shows, IsTight}
+use Rattle.named_steps.specs.StepLaws.{IsPart}
+use Rattle.named_steps.proofs.Antitone.{IsAntitone, chain_less, left_size, fewer_without, without_fewer}
+use Rattle.named_steps.proofs.Shown.{shown_less}
+use Rattle.named_steps.specs.declared.reason.Reason.{Reason}
+use Rattle.named_steps.specs.declared.grade.Grade.{Grade}
+use Rattle.named_steps.specs.declared.goal.Goal.{Goal}
+
+-- the last step that a part lacks: behind it the part has all
+record LacksLast (part steps : List StepValue) : Type 0 where
+  front : List StepValue
+  step : StepValue
+  back : List StepValue
+  kept : List StepValue
+  whole : steps ≡ front ++ step ∷ back
+  is : part ≡ kept ++ back
+  of : IsPart kept front
+
+-- a part is the whole, or lacks a last step
+lacks_last : (steps part : List StepValue) → IsPart part steps → (part ≡ steps) ⊎ LacksLast part steps
+lacks_last [] part h = inl h
+lacks_last (step ∷ steps) part h = elim h [
+  | inl without_it ↦ elim (lacks_last steps part without_it) [
+    | inl all ↦ inr (record { front = []; step = step; back = steps; kept = []; whole = refl; is = all; of = refl })
+    | inr l ↦ inr (record {
+      front = step ∷ l.front;
+      step = l.step;
+      back = l.back;
+      kept = l.kept;
+      whole = ap (λ xs. step ∷ xs) l.whole;
+      is = l.is;
+      of = inl l.of;
+    })
+  ]
+  | inr with_it ↦ elim (lacks_last steps with_it.0 with_it.2) [
+    | inl all ↦ inl (with_it.1 ∙ ap (λ xs. step ∷ xs) all)
+    | inr l ↦ inr (record {
+      front = step ∷ l.front;
+      step = l.step;
+      back = l.back;
+      kept = step ∷ l.kept;
+      whole = ap (λ xs. step ∷ xs) l.whole;
+      is = with_it.1 ∙ ap (λ xs. step ∷ xs) l.is;
+      of = inr (l.kept, refl, l.of);
+    })
+  ]
+]
+
+-- a part leaves what the whole leaves
+part_fewer : (steps part : List StepValue) (c d : CandidatesValue) → IsFewer c d → IsPart part steps → IsFewer (left_by c part) (left_by d steps)
+part_fewer [] part c d fewer h = subst (λ xs. IsFewer (left_by c xs) d) (sym h) fewer
+part_fewer (step ∷ steps) part c d fewer h = elim h [
+  | inl without_it ↦
+      part_fewer steps part c (without d step.strikes) (λ cell value left. fewer cell value (without_fewer d step.strikes cell value left)) without_it
+  | inr with_it ↦
+      subst (λ xs. IsFewer (left_by c xs) (left_by (without d step.strikes) steps)) (sym with_it.1)
+      (part_fewer steps with_it.0 (without c step.strikes) (without d step.strikes) (fewer_without c d step.strikes fewer) with_it.2)
+]
+
+-- ---- a chain in two pieces
+
+-- two chains, one after the other, leave what the second leaves of what the first does
+pub left_append : (c : CandidatesValue) (front back : List StepValue) → left_by c (front ++ back) ≡ left_by (left_by c front) back
+left_append c [] back = refl
+left_append c (step ∷ front) back = left_append (without c step.strikes) front back
+
+chain_split : (Struck : CandidatesValue → Reason → ℕ → ℕ → Type 0) (c : CandidatesValue) (front back : List StepValue) → IsChain Struck c (front ++ back)
+    → IsChain Struck c front × IsChain Struck (left_by c front) back
+chain_split Struck c [] back h = (tt, h)
+chain_split Struck c (step ∷ front) back h =
+    let rest = chain_split Struck (without c step.strikes) front back h.1 in
+    ((h.0, rest.0), rest.1)
+
+-- two chains, one after the other, are one
+pub chain_joined : (Struck : CandidatesValue → Reason → ℕ → ℕ → Type 0) (c : CandidatesValue) (front back : List StepValue) → IsChain Struck c front
+    → IsChain Struck (left_by c front) back → IsChain Struck c (front ++ back)
+chain_joined Struck c [] back first second = second
+chain_joined Struck c (step ∷ front) back first second = (first.0, chain_joined Struck (without c step.strikes) front back first.1 second)
+
+grade_split : (grade : Grade) (front back : List StepValue) (step : StepValue) → AreOfGrade grade (front ++ step ∷ back) → AreOfGrade grade (front ++ back)
+grade_split grade [] back step h = h.1
+grade_split grade (first ∷ front) back step h = (h.0, grade_split grade front back step h.1)
+
+-- ----
+
+-- with the steps before the last one that is lacking the rest shows as much
+shows_more : (Struck : CandidatesValue → Reason → ℕ → ℕ → Type 0) → IsAntitone Struck → (grade : Grade) (c : CandidatesValue)
+    (front back kept : List StepValue) (step : StepValue) (goal : Goal) → Shows Struck grade c (front ++ step ∷ back) goal → IsPart kept front
+    → Shows Struck grade c (kept ++ back) goal → Shows Struck grade c (front ++ back) goal
+shows_more Struck less grade c front back kept step goal whole of part =
+    let before = (chain_split Struck c front (step ∷ back) whole.chain).0 in
+    let behind = (chain_split Struck c kept back part.chain).1 in
+    let size : (left_by c kept).size ≡ (left_by c front).size = left_size c kept ∙ sym (left_size c front) in
+    let more = chain_less Struck less (left_by c kept) (left_by c front) back size (part_fewer front kept c c (λ cell value h. h) of) behind in
+    record {
+      chain = chain_joined Struck c front back before more.0;
+      allowed = grade_split grade front back step whole.allowed;
+      shown = shown_less (left_by c (kept ++ back)) (left_by c (front ++ back)) goal (left_size c (kept ++ back) ∙ sym (left_size c (front ++ back)))
+          (subst (λ d. IsFewer d (left_by c (front ++ back))) (sym (left_append c kept back))
+          (subst (λ d. IsFewer (left_by (left_by c kept) back) d) (sym (left_append c front back)) more.1)) part.shown;
+    }
+
+pub tight_least : (Struck : CandidatesValue → Reason → ℕ → ℕ → Type 0) → IsAntitone Struck → (grade : Grade) (c : CandidatesValue)
+    (steps part : List StepValue) (goal : Goal) → Shows Struck grade c steps goal → IsTight Struck grade c steps goal → IsPart part steps
+    → Shows Struck grade c part goal → part ≡ steps
+tight_least Struck less grade c steps part goal whole tight of shows = elim (lacks_last steps part of) [
+  | inl all ↦ all
+  | inr l ↦
+      absurd (tight l.front l.back l.step l.whole (shows_more Struck less grade c l.front l.back l.kept l.step goal
+      (subst (λ xs. Shows Struck grade c xs goal) l.whole whole) l.of (subst (λ xs. Shows Struck grade c xs goal) l.is shows)))
+]

@@ -1,0 +1,90 @@
+-- What the other squares of a line strike in one, as sets.
+use Rattle.std.proofs.Common.{◌≡◌, ◌≢◌, ◌↔◌, ℕ, ◌<◌, ◌≤◌, true, nat_le, ◌&&◌, ◌||◌, ◌==◌, not, inl, inr, sym, ap, ◌∙◌, arith}
+use Rattle.std.proofs.lemmas.Bool.{both_ways, and_parts, and_from, or_left, or_right, cases_eq, cases_Bool, false_from_ne_true, leb-true, le-leb, not_from_false, eq-eqb, ne_eqb}
+use Rattle.number_sets.specs.Sets.{has_number, IsLeast, IsGreatest}
+use Rattle.latin_board.specs.Lines.{line_cell}
+use Rattle.trail_solver.specs.Candidates.{CandidatesValue}
+use Rattle.named_steps.specs.Left.{IsLeft, HasNoOther, HasNoOtherPlace}
+use Rattle.named_steps.specs.Inner.LineStrikes.{IsByRest}
+
+-- what one set has and another lacks
+has_rest : (all some rest v : ℕ) → ((n : ℕ) → has_number rest n ≡ (has_number all n && not (has_number some n)))
+    → (has_number rest v ≡ true) ↔ ((has_number all v ≡ true) × (has_number some v ≡ true → ⊥))
+has_rest all some rest v is = (
+  λ has.
+      let both = and_parts (has_number all v) (not (has_number some v)) (sym (is v) ∙ has) in
+      (both.0, λ there. both_ways (not (has_number some v)) (ap not there) both.1),
+  λ h. is v ∙ and_from (has_number all v) (not (has_number some v)) h.0
+      (not_from_false (has_number some v) (false_from_ne_true (has_number some v) h.1)),
+)
+
+pub rest_struck : (c : CandidatesValue) (line index all left lacking lone beside result v : ℕ)
+    → ((k : ℕ) → has_number all k ≡ (nat_le 1 k && nat_le k c.size))
+    → ((v : ℕ) → (has_number left v ≡ true) ↔ ((k : ℕ) × (k < c.size) × (k ≢ index) × IsLeft c (line_cell c.size line k) v))
+    → ((n : ℕ) → has_number lacking n ≡ (has_number all n && not (has_number left n)))
+    → ((v : ℕ) → (has_number lone v ≡ true)
+    ↔ ((1 ≤ v) × (v ≤ c.size) × ((k : ℕ) × (k < c.size) × ((k ≢ index) × HasNoOther c (line_cell c.size line k) v))))
+    → ((v : ℕ) → (has_number beside v ≡ true) ↔ ((has_number all v ≡ true) × ((u : ℕ) × (has_number lacking u ≡ true) × (v ≢ u))))
+    → ((n : ℕ) → has_number result n ≡ (has_number lone n || has_number beside n))
+    → (has_number result v ≡ true) ↔ ((1 ≤ v) × (v ≤ c.size) × IsByRest c line index v)
+rest_struck c line index all left lacking lone beside result v all_is left_is lacking_is lone_is beside_is result_is =
+    let within : (u : ℕ) → (has_number all u ≡ true) ↔ ((1 ≤ u) × (u ≤ c.size)) = λ u. (
+      λ has. let both = and_parts (nat_le 1 u) (nat_le u c.size) (sym (all_is u) ∙ has) in (leb-true 1 u both.0, leb-true u c.size both.1),
+      λ h. all_is u ∙ and_from (nat_le 1 u) (nat_le u c.size) (le-leb 1 u h.0) (le-leb u c.size h.1),
+    ) in
+    let no_place : (u : ℕ) → (has_number left u ≡ true → ⊥) → HasNoOtherPlace c line u index = λ u lacks k low there. elim (cases_eq k index) [
+      | inl same ↦ same
+      | inr other ↦ absurd (lacks ((left_is u).1 (k, low, other, there)))
+    ] in (
+      λ has. elim (cases_Bool (has_number lone v)) [
+        | inl first ↦ let h = (lone_is v).0 first in (h.0, h.1, inl (h.2.0, h.2.1, h.2.2.0, h.2.2.1))
+        | inr lacks ↦
+            let second : has_number beside v ≡ true = elim (cases_Bool (has_number beside v)) [
+              | inl is ↦ is
+              | inr absent ↦ absurd (both_ways (has_number result v) (result_is v ∙ ap (λ b. b || has_number beside v) lacks ∙ absent) has)
+            ] in
+            let h = (beside_is v).0 second in
+            let bounds = (within v).0 h.0 in
+            let u = (has_rest all left lacking h.1.0 lacking_is).0 h.1.1 in
+            let u_bounds = (within h.1.0).0 u.0 in
+            (bounds.0, bounds.1, inr (h.1.0, u_bounds.0, u_bounds.1, h.1.2, no_place h.1.0 u.1))
+      ],
+      λ h. elim h.2 [
+        | inl alone ↦ result_is v ∙ or_left (has_number lone v) (has_number beside v) ((lone_is v).1 (h.0, h.1, (alone.0, alone.1, (alone.2, alone.3))))
+        | inr p ↦
+            let lacks : has_number left p.0 ≡ true → ⊥ = λ has. let there = (left_is p.0).0 has in there.2 (p.4 there.0 there.1 there.3) in
+            let u : has_number lacking p.0 ≡ true = (has_rest all left lacking p.0 lacking_is).1 ((within p.0).1 (p.1, p.2), lacks) in
+            result_is v ∙ or_right (has_number lone v) (has_number beside v) ((beside_is v).1 ((within v).1 (h.0, h.1), (p.0, u, p.3)))
+      ],
+    )
+
+pub beside_ends : (all some least greatest one last low high result v : ℕ) → IsLeast some least → IsGreatest some greatest
+    → ((k : ℕ) → has_number one k ≡ (k == least)) → ((k : ℕ) → has_number last k ≡ (k == greatest))
+    → ((n : ℕ) → has_number low n ≡ (has_number all n && not (has_number one n))) → ((n : ℕ) → has_number high n ≡ (has_number all n && not (has_number last n)))
+    → ((n : ℕ) → has_number result n ≡ (has_number low n || has_number high n))
+    → (has_number result v ≡ true) ↔ ((has_number all v ≡ true) × ((u : ℕ) × (has_number some u ≡ true) × (v ≢ u)))
+beside_ends all some least greatest one last low high result v least_is greatest_is one_is last_is low_is high_is result_is = (
+  λ has. elim (cases_Bool (has_number low v)) [
+    | inl first ↦
+        let h = (has_rest all one low v low_is).0 first in
+        (h.0, (least, least_is.has, λ same. h.1 (one_is v ∙ eq-eqb v least same)))
+    | inr lacks ↦
+        let second : has_number high v ≡ true = elim (cases_Bool (has_number high v)) [
+          | inl is ↦ is
+          | inr absent ↦ absurd (both_ways (has_number result v) (result_is v ∙ ap (λ b. b || has_number high v) lacks ∙ absent) has)
+        ] in
+        let h = (has_rest all last high v high_is).0 second in
+        (h.0, (greatest, greatest_is.has, λ same. h.1 (last_is v ∙ eq-eqb v greatest same)))
+  ],
+  λ h. elim (cases_eq v least) [
+    | inl first ↦
+        let under = least_is.least h.1.0 h.1.1 in
+        let over = greatest_is.greatest h.1.0 h.1.1 in
+        let other : v ≢ greatest = λ same. h.1.2 (omega (arith, first, same, under, over)) in
+        result_is v ∙ or_right (has_number low v) (has_number high v) ((has_rest all last high v high_is).1
+        (h.0, λ there. both_ways (has_number last v) (last_is v ∙ ne_eqb v greatest other) there))
+    | inr other ↦
+        result_is v ∙ or_left (has_number low v) (has_number high v) ((has_rest all one low v low_is).1
+        (h.0, λ there. both_ways (has_number one v) (one_is v ∙ ne_eqb v least other) there))
+  ],
+)

@@ -1,0 +1,95 @@
+-- The solution that a grade leaves.
+use Rattle.std.proofs.Common.{◌≡◌, ℕ, ◌*◌, ◌<◌, [], refl, sym, ◌∙◌, subst}
+use Rattle.latin_board.specs.Squares.{GridValue, number_at}
+use Rattle.latin_board.proofs.Numbers.{same_numbers}
+use Rattle.trail_solver.specs.Candidates.{CandidatesValue, IsOnly, IsWithin}
+use Rattle.trail_solver.specs.Puzzles.{Puzzle, Solves}
+use Rattle.trail_solver.specs.Inner.Squares.{IsFilled}
+use Rattle.named_steps.specs.Left.{IsLeft, all_of}
+use Rattle.named_steps.specs.Chains.{left_by}
+use Rattle.named_steps.specs.Following.{IsClosure, Follows}
+use Rattle.named_steps.specs.Graded.{IsSolutionBy, FollowsBy}
+use Rattle.named_steps.specs.Inner.Fills.{HasOpen}
+use Rattle.named_steps.proofs.Antitone.{IsAntitone, chain_settled, closure_fewer, left_size}
+use Rattle.named_steps.proofs.Kept.{IsSoundFor, number_left, chain_keeps}
+use Rattle.named_steps.specs.declared.reason.Reason.{Reason}
+use Rattle.named_steps.specs.declared.grade.Grade.{Grade}
+use Rattle.named_steps.specs.declared.grade.Grade.TheVariants.{Latin, Easy, Hard}
+
+all_pairs : (c : CandidatesValue) (w : ℕ) → c.size ≡ w → c.trail ≡ [] → c ≡ all_of w
+all_pairs c w size none = λ i. record { size = size i; trail = none i }
+
+within_all : (w : ℕ) (g : GridValue) → IsWithin (all_of w) g
+within_all w g = record { each = λ cell inside. refl }
+
+-- what is left when a grade is settled are the numbers of each solution that follows
+follows_left : (p : Puzzle) (Struck : CandidatesValue → Reason → ℕ → ℕ → Type 0) → IsSoundFor p Struck → IsAntitone Struck → (grade : Grade)
+    (g : GridValue) (d : CandidatesValue) → Solves p g → IsClosure Struck grade (all_of g.size) d → Follows Struck grade g
+    → (cell : ℕ) → cell < d.size * d.size → IsOnly d cell (number_at g cell)
+follows_left p Struck sound less grade g d s h f = λ cell inside.
+    let here : cell < g.size * g.size = subst (λ (w : ℕ). cell < w * w) h.size inside in
+    let end = left_by (all_of g.size) h.steps in
+    let size : end.size ≡ g.size = left_size (all_of g.size) h.steps in
+    let within = chain_keeps p Struck sound (all_of g.size) h.steps g s.same_size h.chain s (within_all g.size g) in
+    let number : IsLeft d cell (number_at g cell) =
+    h.left.1 cell (number_at g cell) (number_left p end g cell (size ∙ s.same_size) s within (subst (λ (w : ℕ). cell < w * w) (sym size) here)) in
+    let fewer = chain_settled Struck less grade (all_of g.size) d f.steps f.allowed f.chain (closure_fewer Struck grade (all_of g.size) d h) h.settled in
+    record {
+      low = number.pair.low;
+      high = number.pair.high;
+      left = number.may;
+      alone = λ other low high may. f.alone cell here other (fewer cell other (record { pair = record { inside = inside; low = low; high = high }; may = may }));
+    }
+
+from_all : (Struck : CandidatesValue → Reason → ℕ → ℕ → Type 0) (grade : Grade) (w : ℕ) (c d : CandidatesValue) → c.size ≡ w → c.trail ≡ []
+    → IsClosure Struck grade c d → IsClosure Struck grade (all_of w) d
+from_all Struck grade w c d size none h = subst (λ a. IsClosure Struck grade a d) (all_pairs c w size none) h
+
+-- the grid that is left, where it solves the puzzle, is a solution that follows
+pub found_follows : (p : Puzzle) (Struck : CandidatesValue → Reason → ℕ → ℕ → Type 0) (grade : Grade) (c d : CandidatesValue) (g : GridValue)
+    → c.size ≡ p.size → c.trail ≡ [] → IsClosure Struck grade c d → IsFilled d g → Solves p g → IsSolutionBy p Struck grade g
+found_follows p Struck grade c d g size none h fill s =
+    let k = from_all Struck grade g.size c d (size ∙ sym s.same_size) none h in
+    record {
+      solves = s;
+      follows = record {
+        steps = k.steps;
+        chain = k.chain;
+        allowed = k.allowed;
+        alone = λ cell inside other left.
+            let now : IsLeft d cell other = k.left.1 cell other left in
+            (fill.each cell (subst (λ (w : ℕ). cell < w * w) (sym k.size) inside)).alone other now.pair.low now.pair.high now.may;
+      };
+    }
+
+-- where several values or none are left of a square, no solution follows
+pub open_none : (p : Puzzle) (Struck : CandidatesValue → Reason → ℕ → ℕ → Type 0) → IsSoundFor p Struck → IsAntitone Struck → (grade : Grade)
+    (c d : CandidatesValue) → c.size ≡ p.size → c.trail ≡ [] → IsClosure Struck grade c d → HasOpen d → FollowsBy p Struck grade → ⊥
+open_none p Struck sound less grade c d size none h open_ f =
+    let g = f.0 in
+    let s = f.1.solves in
+    let k = from_all Struck grade g.size c d (size ∙ sym s.same_size) none h in
+    open_.2 (number_at g open_.0) (follows_left p Struck sound less grade g d s k f.1.follows open_.0 open_.1)
+
+only_same : (c : CandidatesValue) (cell a b : ℕ) → IsOnly c cell a → IsOnly c cell b → a ≡ b
+only_same c cell a b one other = other.alone a one.low one.high one.left
+
+-- where the grid that is left is no solution, none follows
+pub filled_none : (p : Puzzle) (Struck : CandidatesValue → Reason → ℕ → ℕ → Type 0) → IsSoundFor p Struck → IsAntitone Struck → (grade : Grade)
+    (c d : CandidatesValue) (g : GridValue) → c.size ≡ p.size → c.trail ≡ [] → IsClosure Struck grade c d → IsFilled d g → (Solves p g → ⊥)
+    → FollowsBy p Struck grade → ⊥
+filled_none p Struck sound less grade c d g size none h fill wrong f =
+    let s = f.1.solves in
+    let k = from_all Struck grade f.0.size c d (size ∙ sym s.same_size) none h in
+    let sizes : g.size ≡ f.0.size = fill.same_size ∙ k.size in
+    let same : g ≡ f.0 = same_numbers g f.0 fill.is_grid s.is_grid sizes (λ cell inside.
+    let here : cell < d.size * d.size = subst (λ (w : ℕ). cell < w * w) fill.same_size inside in
+    only_same d cell (number_at g cell) (number_at f.0 cell) (fill.each cell here) (follows_left p Struck sound less grade f.0 d s k f.1.follows cell here)) in
+    wrong (subst (λ (x : GridValue). Solves p x) (sym same) s)
+
+-- none of the grades is none at all
+pub none_follows : (p : Puzzle) (Struck : CandidatesValue → Reason → ℕ → ℕ → Type 0) → (FollowsBy p Struck Latin → ⊥) → (FollowsBy p Struck Easy → ⊥)
+    → (FollowsBy p Struck Hard → ⊥) → (grade : Grade) → FollowsBy p Struck grade → ⊥
+none_follows p Struck latin easy hard Latin f = latin f
+none_follows p Struck latin easy hard Easy f = easy f
+none_follows p Struck latin easy hard Hard f = hard f

@@ -1,0 +1,330 @@
+-- Values that are taken away, square by square, and the steps that this is.
+use Rattle.std.proofs.Common.{◌≡◌, ◌↔◌, ◌⊎◌, ℕ, ◌+◌, ◌<◌, ◌≤◌, true, false, not, ◌&&◌, ◌||◌, ◌==◌, List, [], ◌∷◌, ◌++◌, length, inl, inr, refl, sym, ap, ◌∙◌, subst, arith, append_assoc, append-nil, length-append}
+use Rattle.std.proofs.lemmas.Bool.{both_ways, and_parts, and_from, or_left, or_right, eq-eqb, eqb-true, cases_eq, cases_Bool, not_from_false}
+use Rattle.std.proofs.lemmas.List.Folds.{list_any-append}
+use Rattle.number_sets.specs.Sets.{has_number}
+use Rattle.trail_solver.specs.Pairs.{IsPair, has_pair, pairs_of}
+use Rattle.trail_solver.specs.Candidates.{CandidatesValue, may_be}
+use Rattle.trail_solver.proofs.Removals.{set_below}
+use Rattle.trail_solver.proofs.SetPairs.{has_pair-pairs_of}
+use Rattle.named_steps.specs.Left.{IsFewer, without}
+use Rattle.named_steps.specs.Grades.{has_reason}
+use Rattle.named_steps.specs.Chains.{StepValue, IsChain, AreOfGrade, left_by}
+use Rattle.named_steps.specs.Passes.{LeadsTo, Passes}
+use Rattle.named_steps.specs.Inner.Takes.{Strikes, Takes}
+use Rattle.named_steps.proofs.Antitone.{IsAntitone, left_size, without_fewer}
+use Rattle.named_steps.proofs.Parts.{chain_joined, left_append}
+use Rattle.named_steps.specs.declared.reason.Reason.{Reason}
+use Rattle.named_steps.specs.declared.grade.Grade.{Grade}
+
+-- ---- pairs that are taken
+
+has_append : (ps qs : List (ℕ × ℕ)) (cell v : ℕ) → has_pair (ps ++ qs) cell v ≡ (has_pair ps cell v || has_pair qs cell v)
+has_append ps qs cell v = list_any-append _ ps qs
+
+-- what is gone stays gone with more pairs
+gone_append : (c : CandidatesValue) (d : CandidatesValue) (ps : List (ℕ × ℕ)) (cell v : ℕ) → d.trail ≡ c.trail ++ ps → may_be c cell v ≡ false → may_be d cell v ≡ false
+gone_append c d ps cell v is gone =
+    let had : has_pair c.trail cell v ≡ true = elim (cases_Bool (has_pair c.trail cell v)) [
+      | inl has ↦ has
+      | inr lacks ↦ absurd (both_ways (may_be c cell v) gone (not_from_false (has_pair c.trail cell v) lacks))
+    ] in
+    let now : has_pair d.trail cell v ≡ true =
+    ap (λ (qs : List (ℕ × ℕ)). has_pair qs cell v) is ∙ has_append c.trail ps cell v ∙ or_left (has_pair c.trail cell v) (has_pair ps cell v) had in
+    ap not now
+
+-- what is one of the pairs is gone with them
+gone_pair : (c d : CandidatesValue) (ps : List (ℕ × ℕ)) (cell v : ℕ) → d.trail ≡ c.trail ++ ps → has_pair ps cell v ≡ true → may_be d cell v ≡ false
+gone_pair c d ps cell v is has =
+    ap not (ap (λ (qs : List (ℕ × ℕ)). has_pair qs cell v) is ∙ has_append c.trail ps cell v ∙ or_right (has_pair c.trail cell v) (has_pair ps cell v) has)
+
+pub takes_none : (Which : ℕ → ℕ → Type 0) (c : CandidatesValue) → ((cell v : ℕ) → Which cell v → ⊥) → Takes Which c c
+takes_none Which c none = record {
+  pairs = [];
+  size = refl;
+  trail = sym (append-nil c.trail);
+  each = λ cell v has. absurd (cc);
+  gone = λ cell v pair is. absurd (none cell v is);
+}
+
+-- the same pairs under another name
+pub takes_map : (Which More : ℕ → ℕ → Type 0) (c d : CandidatesValue) → ((cell v : ℕ) → Which cell v → More cell v)
+    → ((cell v : ℕ) → IsPair c.size cell v → More cell v → Which cell v) → Takes Which c d → Takes More c d
+takes_map Which More c d forth back t = record {
+  pairs = t.pairs;
+  size = t.size;
+  trail = t.trail;
+  each = λ cell v has. let h = t.each cell v has in (h.0, forth cell v h.1);
+  gone = λ cell v pair is. t.gone cell v pair (back cell v pair is);
+}
+
+-- two kinds, one after the other
+pub takes_both : (First Second : ℕ → ℕ → Type 0) (a b c : CandidatesValue) → Takes First a b → Takes Second b c
+    → Takes (λ cell v. First cell v ⊎ Second cell v) a c
+takes_both First Second a b c t u = record {
+  pairs = t.pairs ++ u.pairs;
+  size = u.size ∙ t.size;
+  trail = u.trail ∙ ap (λ (ps : List (ℕ × ℕ)). ps ++ u.pairs) t.trail ∙ append_assoc a.trail t.pairs u.pairs;
+  each = λ cell v has. elim (cases_Bool (has_pair t.pairs cell v)) [
+    | inl first ↦ let h = t.each cell v first in (h.0, inl h.1)
+    | inr lacks ↦
+        let second : has_pair u.pairs cell v ≡ true = elim (cases_Bool (has_pair u.pairs cell v)) [
+          | inl is ↦ is
+          | inr absent ↦ absurd (both_ways (has_pair (t.pairs ++ u.pairs) cell v) (has_append t.pairs u.pairs cell v ∙ ap (λ b. b || has_pair u.pairs cell v) lacks ∙ absent) has)
+        ] in
+        let h = u.each cell v second in
+        (subst (λ (w : ℕ). IsPair w cell v) t.size h.0, inr h.1)
+  ];
+  gone = λ cell v pair is. elim is [
+    | inl first ↦ gone_append b c u.pairs cell v u.trail (t.gone cell v pair first)
+    | inr second ↦ u.gone cell v (subst (λ (w : ℕ). IsPair w cell v) (sym t.size) pair) second
+  ];
+}
+
+-- what a square loses
+pub takes_struck : (a b : CandidatesValue) (cell values : ℕ) → Strikes a b cell values → Takes (λ c v. (c ≡ cell) × (has_number values v ≡ true)) a b
+takes_struck a b cell values s =
+    let low = set_below a.size cell s.set s.small (λ v has. (s.left v has).0) in
+    record {
+      pairs = pairs_of cell s.set;
+      size = s.size;
+      trail = s.trail;
+      each = λ c v has.
+          let both = and_parts (c == cell) (has_number s.set v) (sym (has_pair-pairs_of cell s.set c v low) ∙ has) in
+          let here : c ≡ cell = eqb-true c cell both.0 in
+          (subst (λ (n : ℕ). IsPair a.size n v) (sym here) (s.left v both.1).0, (here, s.some v both.1));
+      gone = λ c v pair is.
+          let P : ℕ → Type 0 = λ n. may_be b n v ≡ false in
+          subst P (sym is.0) (elim (cases_Bool (may_be a cell v)) [
+            | inl left ↦
+                let in_set = s.all v is.1 (subst (λ (n : ℕ). IsPair a.size n v) is.0 pair) left in
+                gone_pair a b (pairs_of cell s.set) cell v s.trail
+                (has_pair-pairs_of cell s.set cell v low ∙ and_from (cell == cell) (has_number s.set v) (eq-eqb cell cell refl) in_set)
+            | inr gone ↦ gone_append a b (pairs_of cell s.set) cell v s.trail gone
+          ]);
+    }
+
+-- what the next of a row of squares loses
+pub takes_next : (at : ℕ → ℕ) (Values : ℕ → ℕ → Type 0) (k values : ℕ) (a b c : CandidatesValue)
+    → Takes (λ cell v. (j : ℕ) × (j < k) × (cell ≡ at j) × Values j v) a b → Strikes b c (at k) values
+    → ((v : ℕ) → IsPair a.size (at k) v → (has_number values v ≡ true) ↔ Values k v)
+    → Takes (λ cell v. (j : ℕ) × (j < k + 1) × (cell ≡ at j) × Values j v) a c
+takes_next at Values k values a b c t s is =
+    let Before : ℕ → ℕ → Type 0 = λ cell v. (j : ℕ) × (j < k) × (cell ≡ at j) × Values j v in
+    let Here : ℕ → ℕ → Type 0 = λ cell v. (cell ≡ at k) × (has_number values v ≡ true) in
+    let u = takes_both Before Here a b c t (takes_struck b c (at k) values s) in
+    record {
+      pairs = u.pairs;
+      size = u.size;
+      trail = u.trail;
+      each = λ cell v has.
+          let h = u.each cell v has in (
+            h.0,
+            elim h.1 [
+              | inl before ↦ (before.0, omega (arith, before.1), before.2, before.3)
+              | inr here ↦ (k, omega arith, here.0, (is v (subst (λ (n : ℕ). IsPair a.size n v) here.0 h.0)).0 here.1)
+            ],
+          );
+      gone = λ cell v pair h. u.gone cell v pair (elim (cases_eq h.0 k) [
+        | inl last ↦
+            let here : cell ≡ at k = h.2 ∙ ap at last in
+            let one : Values k v = subst (λ (j : ℕ). Values j v) last h.3 in
+            inr (here, (is v (subst (λ (n : ℕ). IsPair a.size n v) here pair)).1 one)
+        | inr other ↦ inl (h.0, omega (arith, h.1, other), h.2, h.3)
+      ]);
+    }
+
+-- nothing of a square goes
+pub takes_skip : (at : ℕ → ℕ) (Values : ℕ → ℕ → Type 0) (k : ℕ) (a b : CandidatesValue)
+    → Takes (λ cell v. (j : ℕ) × (j < k) × (cell ≡ at j) × Values j v) a b → ((v : ℕ) → Values k v → ⊥)
+    → Takes (λ cell v. (j : ℕ) × (j < k + 1) × (cell ≡ at j) × Values j v) a b
+takes_skip at Values k a b t none = record {
+  pairs = t.pairs;
+  size = t.size;
+  trail = t.trail;
+  each = λ cell v has. let h = t.each cell v has in (h.0, (h.1.0, omega (arith, h.1.1), h.1.2, h.1.3));
+  gone = λ cell v pair h. elim (cases_eq h.0 k) [
+    | inl last ↦ absurd (none v (subst (λ (j : ℕ). Values j v) last h.3))
+    | inr other ↦ t.gone cell v pair (h.0, omega (arith, h.1, other), h.2, h.3)
+  ];
+}
+
+-- ---- steps
+
+pub leads_none : (Struck : CandidatesValue → Reason → ℕ → ℕ → Type 0) (grade : Grade) (c : CandidatesValue) → LeadsTo Struck grade c c
+leads_none Struck grade c = record { steps = []; chain = tt; allowed = tt; is = refl }
+
+allowed_joined : (grade : Grade) (front back : List StepValue) → AreOfGrade grade front → AreOfGrade grade back → AreOfGrade grade (front ++ back)
+allowed_joined grade [] back first second = second
+allowed_joined grade (step ∷ front) back first second = (first.0, allowed_joined grade front back first.1 second)
+
+-- one chain after another
+pub leads_on : (Struck : CandidatesValue → Reason → ℕ → ℕ → Type 0) (grade : Grade) (a b c : CandidatesValue) → LeadsTo Struck grade a b
+    → LeadsTo Struck grade b c → LeadsTo Struck grade a c
+leads_on Struck grade a b c h k = record {
+  steps = h.steps ++ k.steps;
+  chain = chain_joined Struck a h.steps k.steps h.chain (subst (λ d. IsChain Struck d k.steps) h.is k.chain);
+  allowed = allowed_joined grade h.steps k.steps h.allowed k.allowed;
+  is = k.is ∙ ap (λ d. left_by d k.steps) h.is ∙ sym (left_append a h.steps k.steps);
+}
+
+-- the size stays
+pub leads_size : (Struck : CandidatesValue → Reason → ℕ → ℕ → Type 0) (grade : Grade) (a b : CandidatesValue) → LeadsTo Struck grade a b → b.size ≡ a.size
+leads_size Struck grade a b h = ap (λ (d : CandidatesValue). d.size) h.is ∙ left_size a h.steps
+
+-- what a chain leaves has a longer trail
+record HasMore (c d : CandidatesValue) : Type 0 where
+  pairs : List (ℕ × ℕ)
+  size : d.size ≡ c.size
+  trail : d.trail ≡ c.trail ++ pairs
+
+left_more : (c : CandidatesValue) (steps : List StepValue) → HasMore c (left_by c steps)
+left_more c [] = record { pairs = []; size = refl; trail = sym (append-nil c.trail) }
+left_more c (step ∷ steps) =
+    let rest = left_more (without c step.strikes) steps in
+    record {
+      pairs = step.strikes ++ rest.pairs;
+      size = rest.size;
+      trail = rest.trail ∙ append_assoc c.trail step.strikes rest.pairs;
+    }
+
+leads_more : (Struck : CandidatesValue → Reason → ℕ → ℕ → Type 0) (grade : Grade) (a b : CandidatesValue) → LeadsTo Struck grade a b → HasMore a b
+leads_more Struck grade a b h = subst (λ d. HasMore a d) (sym h.is) (left_more a h.steps)
+
+-- the trail grows
+pub leads_length : (Struck : CandidatesValue → Reason → ℕ → ℕ → Type 0) (grade : Grade) (a b : CandidatesValue) → LeadsTo Struck grade a b
+    → length a.trail ≤ length b.trail
+leads_length Struck grade a b h =
+    let m = leads_more Struck grade a b h in
+    omega (arith, ap length m.trail, length-append a.trail m.pairs)
+
+nil_from_length : (ps : List (ℕ × ℕ)) → length ps ≡ 0 → ps ≡ []
+nil_from_length [] e = refl
+nil_from_length (p ∷ ps) e = absurd (omega (arith, e))
+
+same_more : (a b : CandidatesValue) → HasMore a b → length b.trail ≡ length a.trail → b ≡ a
+same_more a b m e =
+    let none : m.pairs ≡ [] = nil_from_length m.pairs (omega (arith, e, ap length m.trail, length-append a.trail m.pairs)) in
+    let trail : b.trail ≡ a.trail = m.trail ∙ ap (λ (ps : List (ℕ × ℕ)). a.trail ++ ps) none ∙ append-nil a.trail in
+    λ i. record { size = m.size i; trail = trail i }
+
+-- where the trail has not grown nothing went
+pub leads_same : (Struck : CandidatesValue → Reason → ℕ → ℕ → Type 0) (grade : Grade) (a b : CandidatesValue) → LeadsTo Struck grade a b
+    → length b.trail ≡ length a.trail → b ≡ a
+leads_same Struck grade a b h e = same_more a b (leads_more Struck grade a b h) e
+
+-- a reason of the grade strikes the pair
+abbrev pub HasStruck : (CandidatesValue → Reason → ℕ → ℕ → Type 0) → Grade → CandidatesValue → ℕ → ℕ → Type 0
+HasStruck Struck grade c cell v = (reason : Reason) × (has_reason grade reason ≡ true) × Struck c reason cell v
+
+one_pair : (p : ℕ × ℕ) (cell v : ℕ) → has_pair (p ∷ []) cell v ≡ true → (cell ≡ p.0) × (v ≡ p.1)
+one_pair p cell v has =
+    let first : ((cell == p.0) && (v == p.1)) ≡ true = elim (cases_Bool ((cell == p.0) && (v == p.1))) [
+      | inl is ↦ is
+      | inr absent ↦ absurd (both_ways (has_pair (p ∷ []) cell v) (ap (λ b. b || false) absent) has)
+    ] in
+    let both = and_parts (cell == p.0) (v == p.1) first in
+    (eqb-true cell p.0 both.0, eqb-true v p.1 both.1)
+
+first_has : (p : ℕ × ℕ) (ps : List (ℕ × ℕ)) → has_pair (p ∷ ps) p.0 p.1 ≡ true
+first_has p ps = or_left ((p.0 == p.0) && (p.1 == p.1)) (has_pair ps p.0 p.1) (and_from (p.0 == p.0) (p.1 == p.1) (eq-eqb p.0 p.0 refl) (eq-eqb p.1 p.1 refl))
+
+-- pairs that are struck one by one
+pairs_lead : (Struck : CandidatesValue → Reason → ℕ → ℕ → Type 0) → IsAntitone Struck → (grade : Grade) (a b : CandidatesValue) → IsFewer a b
+    → (ps : List (ℕ × ℕ)) → ((cell v : ℕ) → has_pair ps cell v ≡ true → IsPair b.size cell v × HasStruck Struck grade a cell v)
+    → LeadsTo Struck grade b (without b ps)
+pairs_lead Struck less grade a b fewer [] each = record {
+  steps = [];
+  chain = tt;
+  allowed = tt;
+  is = λ i. record { size = b.size; trail = append-nil b.trail i };
+}
+pairs_lead Struck less grade a b fewer (p ∷ ps) each =
+    let here = each p.0 p.1 (first_has p ps) in
+    let step : StepValue = record { reason = here.1.0; strikes = p ∷ [] } in
+    let next = without b (p ∷ []) in
+    let rest = pairs_lead Struck less grade a next (λ cell v left. fewer cell v (without_fewer b (p ∷ []) cell v left)) ps
+    (λ cell v has. each cell v (or_right ((cell == p.0) && (v == p.1)) (has_pair ps cell v) has)) in
+    record {
+      steps = step ∷ rest.steps;
+      chain = (
+        λ cell v has.
+            let is = one_pair p cell v has in
+            let P : ℕ → ℕ → Type 0 = λ x y. IsPair b.size x y × Struck b here.1.0 x y in
+            subst (λ (x : ℕ). P x v) (sym is.0) (subst (λ (y : ℕ). P p.0 y) (sym is.1) (here.0, less a b here.1.0 p.0 p.1 fewer here.1.2)),
+        rest.chain,
+      );
+      allowed = (here.1.1, rest.allowed);
+      is = (λ i. record { size = b.size; trail = sym (append_assoc b.trail (p ∷ []) ps) i }) ∙ rest.is;
+    }
+
+-- where a reason strikes each pair of a kind, taking them away is a pass
+pub passes_taken : (Struck : CandidatesValue → Reason → ℕ → ℕ → Type 0) → IsAntitone Struck → (grade : Grade) (IsQuiet : CandidatesValue → Type 0)
+    (Which : ℕ → ℕ → Type 0) (a b : CandidatesValue) → Takes Which a b
+    → ((cell v : ℕ) → IsPair a.size cell v → Which cell v → HasStruck Struck grade a cell v)
+    → (((cell v : ℕ) → IsPair a.size cell v → Which cell v → may_be a cell v ≡ false) → IsQuiet a) → Passes Struck grade IsQuiet a b
+passes_taken Struck less grade IsQuiet Which a b t why quiet =
+    let lead = pairs_lead Struck less grade a a (λ cell v left. left) t.pairs (λ cell v has. let h = t.each cell v has in (h.0, why cell v h.0 h.1)) in
+    let is : b ≡ without a t.pairs = λ i. record { size = t.size i; trail = t.trail i } in
+    record {
+      leads = subst (λ d. LeadsTo Struck grade a d) (sym is) lead;
+      quiet = λ e.
+          let same : b ≡ a = same_more a b (record { pairs = t.pairs; size = t.size; trail = t.trail }) e in
+          quiet (λ cell v pair h. subst (λ (d : CandidatesValue). may_be d cell v ≡ false) same (t.gone cell v pair h));
+    }
+
+-- ---- passes
+
+-- nothing to go through
+pub passes_none : (Struck : CandidatesValue → Reason → ℕ → ℕ → Type 0) (grade : Grade) (IsQuiet : CandidatesValue → Type 0) (c : CandidatesValue) → IsQuiet c
+    → Passes Struck grade IsQuiet c c
+passes_none Struck grade IsQuiet c quiet = record { leads = leads_none Struck grade c; quiet = λ e. quiet }
+
+-- what is quiet so is quiet in another way too
+pub passes_map : (Struck : CandidatesValue → Reason → ℕ → ℕ → Type 0) (grade : Grade) (IsQuiet IsStill : CandidatesValue → Type 0) (a b : CandidatesValue)
+    → (IsQuiet a → IsStill a) → Passes Struck grade IsQuiet a b → Passes Struck grade IsStill a b
+passes_map Struck grade IsQuiet IsStill a b f h = record { leads = h.leads; quiet = λ e. f (h.quiet e) }
+
+-- one pass after another
+pub passes_both : (Struck : CandidatesValue → Reason → ℕ → ℕ → Type 0) (grade : Grade) (First Second : CandidatesValue → Type 0) (a b c : CandidatesValue)
+    → Passes Struck grade First a b → Passes Struck grade Second b c → Passes Struck grade (λ d. First d × Second d) a c
+passes_both Struck grade First Second a b c h k = record {
+  leads = leads_on Struck grade a b c h.leads k.leads;
+  quiet = λ e.
+      let first = leads_length Struck grade a b h.leads in
+      let second = leads_length Struck grade b c k.leads in
+      let same : length b.trail ≡ length a.trail = omega (arith, e, first, second) in
+      let whole : b ≡ a = leads_same Struck grade a b h.leads same in
+      (h.quiet same, subst (λ (d : CandidatesValue). Second d) whole (k.quiet (omega (arith, e, same))));
+}
+
+-- the passes of a loop
+pub passes_next : (Struck : CandidatesValue → Reason → ℕ → ℕ → Type 0) (grade : Grade) (IsQuiet : ℕ → CandidatesValue → Type 0) (k : ℕ) (a b c : CandidatesValue)
+    → Passes Struck grade (λ d. (j : ℕ) → j < k → IsQuiet j d) a b → Passes Struck grade (IsQuiet k) b c
+    → Passes Struck grade (λ d. (j : ℕ) → j < k + 1 → IsQuiet j d) a c
+passes_next Struck grade IsQuiet k a b c h s =
+    let both = passes_both Struck grade (λ d. (j : ℕ) → j < k → IsQuiet j d) (IsQuiet k) a b c h s in
+    passes_map Struck grade (λ d. ((j : ℕ) → j < k → IsQuiet j d) × IsQuiet k d) (λ d. (j : ℕ) → j < k + 1 → IsQuiet j d) a c (λ q j low.
+    elim (cases_eq j k) [
+      | inl last ↦ subst (λ (i : ℕ). IsQuiet i a) (sym last) q.1
+      | inr other ↦ q.0 j (omega (arith, low, other))
+    ]) both
+
+-- by a wider relation, and a higher grade
+wider_chain : (Less More : CandidatesValue → Reason → ℕ → ℕ → Type 0) (lower higher : Grade)
+    → ((c : CandidatesValue) (reason : Reason) (cell v : ℕ) → Less c reason cell v → More c reason cell v)
+    → ((reason : Reason) → has_reason lower reason ≡ true → has_reason higher reason ≡ true) → (c : CandidatesValue) (steps : List StepValue)
+    → IsChain Less c steps → AreOfGrade lower steps → IsChain More c steps × AreOfGrade higher steps
+wider_chain Less More lower higher wider has c [] h of = (tt, tt)
+wider_chain Less More lower higher wider has c (step ∷ steps) h of =
+    let rest = wider_chain Less More lower higher wider has (without c step.strikes) steps h.1 of.1 in
+    ((λ cell v is. let s = h.0 cell v is in (s.0, wider c step.reason cell v s.1), rest.0), (has step.reason of.0, rest.1))
+
+-- by a wider relation and a higher grade it is a pass too
+pub passes_wider : (Less More : CandidatesValue → Reason → ℕ → ℕ → Type 0) (lower higher : Grade)
+    → ((c : CandidatesValue) (reason : Reason) (cell v : ℕ) → Less c reason cell v → More c reason cell v)
+    → ((reason : Reason) → has_reason lower reason ≡ true → has_reason higher reason ≡ true) → (IsQuiet : CandidatesValue → Type 0) (a b : CandidatesValue)
+    → Passes Less lower IsQuiet a b → Passes More higher IsQuiet a b
+passes_wider Less More lower higher wider has IsQuiet a b h =
+    let w = wider_chain Less More lower higher wider has a h.leads.steps h.leads.chain h.leads.allowed in
+    record { leads = record { steps = h.leads.steps; chain = w.0; allowed = w.1; is = h.leads.is }; quiet = h.quiet }

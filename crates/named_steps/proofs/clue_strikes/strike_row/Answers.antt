@@ -1,0 +1,19 @@
+use Rattle.std.proofs.Common.{◌≡◌, ℕ, ◌<◌, true, slice_index, ap, ◌∙◌, arith}
+use Rattle.std.proofs.lemmas.Grind.{get_or_default_zero}
+use Rattle.number_sets.specs.Sets.{has_number}
+use Rattle.clue_rules.specs.Views.{view_cell}
+use Rattle.named_steps.proofs.Takes.{takes_next}
+use Rattle.named_steps.proofs.clue_strikes.strike_row.Goals as goal
+
+pub loop-k-preserved : goal.loop-k-preserved
+loop-k-preserved c =
+    let first = c.args.candidates.now in
+    let row = c.args.row.now in
+    let k = c.loop-k.k in
+    let width = c.get-k-end.ensures.value ∙ c.size-size.ensures.value in
+    let low : k < first.size = omega (arith, c.loop-k-test.true, width) in
+    let cell : c.view_cell.result ≡ view_cell first.size c.args.place k =
+    c.view_cell.ensures.value ∙ ap (λ (n : ℕ). view_cell n c.args.place k) c.size-size.ensures.value in
+    let set = get_or_default_zero row k c.index-row-k.result (omega (arith, c.type_inv.row, low, c.size-size.ensures.valid.largest)) in
+    takes_next (view_cell first.size c.args.place) (λ j v. has_number (slice_index row j) v ≡ true) k (slice_index row k) first c.loop-k.candidates
+    c.strike.new.candidates c.loop-k.invariant (rw (cell, set) at c.strike.ensures) (λ v pair. (λ h. h, λ h. h))

@@ -1,0 +1,52 @@
+-- What the squares of a row or column strike in one another.
+use Rattle.std.specs.Prelude.{◌≡◌, ◌≢◌, ◌↔◌, ℕ, ◌<◌, ◌≤◌, ◌^◌, ◌⊎◌, true, false, List, length, slice_index, count_ones}
+use Rattle.number_sets.specs.Sets.{has_number}
+use Rattle.latin_board.specs.Lines.{line_cell}
+use Rattle.trail_solver.specs.Pairs.{IsPair}
+use Rattle.trail_solver.specs.Candidates.{CandidatesValue, IsSetOf, may_be}
+use Rattle.named_steps.specs.Left.{IsLeft, HasNoOther, HasNoOtherPlace}
+
+-- nothing but the value is left of another square of the line, or another value has no other place in it
+abbrev pub IsByRest : CandidatesValue → ℕ → ℕ → ℕ → Type 0
+IsByRest c line index v =
+    ((k : ℕ) × (k < c.size) × (k ≢ index) × HasNoOther c (line_cell c.size line k) v)
+    ⊎ ((u : ℕ) × (1 ≤ u) × (u ≤ c.size) × (v ≢ u) × HasNoOtherPlace c line u index)
+
+-- the first n sets are what the other squares of the line strike in each
+pub record AreRestRow (c : CandidatesValue) (line n : ℕ) (row : List ℕ) : Type 0 where
+  pub count : length row ≡ 9
+  pub each : (k v : ℕ) → k < n → (has_number (slice_index row k) v ≡ true) ↔ ((1 ≤ v) × (v ≤ c.size) × IsByRest c line k v)
+
+-- none of that is left
+abbrev pub IsRestQuiet : ℕ → CandidatesValue → Type 0
+IsRestQuiet line c =
+    (k v : ℕ) → k < c.size → IsPair c.size (line_cell c.size line k) v → IsByRest c line k v → may_be c (line_cell c.size line k) v ≡ false
+
+-- the first n sets are of what is left of the line's squares
+pub record AreLineSets (c : CandidatesValue) (line n : ℕ) (sets : List ℕ) : Type 0 where
+  pub count : length sets ≡ 9
+  pub each : (k : ℕ) → k < n → IsSetOf c (line_cell c.size line k) (slice_index sets k)
+
+-- the values that are left of some of a line's squares
+pub record IsUnion (w : ℕ) (c : CandidatesValue) (line squares union : ℕ) : Type 0 where
+  pub all : (k v : ℕ) → has_number squares k ≡ true → IsLeft c (line_cell w line k) v → has_number union v ≡ true
+  pub only : (v : ℕ) → has_number union v ≡ true → (k : ℕ) × (has_number squares k ≡ true) × IsLeft c (line_cell w line k) v
+
+-- the square is another one of the line than those of a group below the limit that have as many values left as they are, and the
+-- value is one of these
+pub record IsByGroup (c : CandidatesValue) (line limit cell value : ℕ) : Type 0 where
+  pub squares : ℕ
+  pub below : squares < limit
+  pub union : ℕ
+  pub is : IsUnion c.size c line squares union
+  pub same : count_ones union ≡ count_ones squares
+  pub index : ℕ
+  pub index_is : index < c.size
+  pub outside : has_number squares index ≡ false
+  pub here : cell ≡ line_cell c.size line index
+  pub one : has_number union value ≡ true
+
+-- none of that is left
+abbrev pub IsGroupQuiet : ℕ → CandidatesValue → Type 0
+IsGroupQuiet line c =
+    (cell value : ℕ) → IsPair c.size cell value → IsByGroup c line (2 ^ c.size) cell value → may_be c cell value ≡ false

@@ -1,0 +1,54 @@
+-- What may stand in the squares from a place, as a row of sets.
+use Rattle.std.specs.Prelude.{◌≡◌, ◌↔◌, ℕ, ◌<◌, true, false, List, length, slice_index}
+use Rattle.number_sets.specs.Sets.{has_number}
+use Rattle.trail_solver.specs.Pairs.{IsPair}
+use Rattle.trail_solver.specs.Candidates.{CandidatesValue, may_be}
+use Rattle.clue_rules.specs.Views.{view_cell}
+use Rattle.named_steps.specs.Left.{IsLeft}
+use Rattle.clue_rules.specs.Towers.{TowersValue}
+use Rattle.named_steps.specs.Fillings.{Anything, Standing, IsUnfilled}
+use Rattle.named_steps.specs.Reasons.{IsByClue}
+use Rattle.named_steps.specs.declared.reason.Reason.{Reason}
+use Rattle.named_steps.specs.declared.reason.Reason.TheVariants.{Bound, Stand, Clue}
+use Rattle.named_steps.specs.declared.grade.Grade.{Grade}
+use Rattle.named_steps.specs.declared.grade.Grade.TheVariants.{Easy, Hard}
+use Rattle.named_steps.specs.declared.clue_strikes.Look.{Look}
+use Rattle.named_steps.specs.declared.clue_strikes.Look.TheVariants.{Alone, Stands, Marks}
+
+-- what may stand in a square, by how a clue is looked at
+abbrev pub May : Look → CandidatesValue → ℕ → ℕ → Type 0
+May Alone c cell value = Anything cell value
+May Stands c cell value = Standing c cell value
+May Marks c cell value = IsLeft c cell value
+
+-- the set is of the values that may stand in the square
+abbrev pub IsMaySet : ℕ → (ℕ → ℕ → Type 0) → ℕ → ℕ → Type 0
+IsMaySet w May cell set = (v : ℕ) → (has_number set v ≡ true) ↔ (IsPair w cell v × May cell v)
+
+-- the first n sets are those of the first n squares from a place
+pub record AreMaySets (w : ℕ) (May : ℕ → ℕ → Type 0) (place n : ℕ) (sets : List ℕ) : Type 0 where
+  pub count : length sets ≡ 9
+  pub each : (k : ℕ) → k < n → IsMaySet w May (view_cell w place k) (slice_index sets k)
+
+-- the first n sets are of the values that are in no filling in each of the first n squares from a place
+pub record AreUnfilledRow (w : ℕ) (May : ℕ → ℕ → Type 0) (place clue n : ℕ) (row : List ℕ) : Type 0 where
+  pub count : length row ≡ 9
+  pub each : (k v : ℕ) → k < n → (has_number (slice_index row k) v ≡ true)
+      ↔ (IsPair w (view_cell w place k) v × IsUnfilled w May place clue (view_cell w place k) v)
+
+-- the reason by which a clue is looked at so
+abbrev pub look_reason : Look → ℕ → Reason
+look_reason Alone place = Bound place
+look_reason Stands place = Stand place
+look_reason Marks place = Clue place
+
+-- the least grade that has it
+abbrev pub look_grade : Look → Grade
+look_grade Alone = Easy
+look_grade Stands = Easy
+look_grade Marks = Hard
+
+-- as it is looked at, the clue at the place strikes nothing that is left
+abbrev pub IsViewQuiet : TowersValue → Look → ℕ → CandidatesValue → Type 0
+IsViewQuiet v look place c =
+    (cell value : ℕ) → IsPair c.size cell value → IsByClue v (May look c) place cell value → may_be c cell value ≡ false

@@ -1,0 +1,25 @@
+-- What named steps strike, chains of them, what a chain shows, and what follows by a grade. Each file is one subject, and has
+-- definitions alone.
+
+-- the pairs that are left of candidates
+pub mod Left
+-- the lines of squares that a clue allows
+pub mod Fillings
+-- what each reason strikes
+pub mod Reasons
+-- which reasons a grade has
+pub mod Grades
+-- steps, chains of them, goals, and hints that explain
+pub mod Chains
+-- what a grade leaves, and what follows by it
+pub mod Following
+-- what going through some reasons leads to
+pub mod Passes
+-- which puzzles follow by a grade, and the least of them
+pub mod Graded
+-- the laws of named steps
+pub mod StepLaws
+-- words that the contracts of private functions alone use
+pub mod Inner
+-- lemmas for the laws of the trait that both games keep
+pub mod Laws

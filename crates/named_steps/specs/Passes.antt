@@ -1,0 +1,34 @@
+-- What going through some reasons leads to: fewer candidates, by steps of a grade; and where nothing went, these reasons strike
+-- nothing that is left.
+use Rattle.std.specs.Prelude.{◌≡◌, ℕ, true, false, List, length}
+use Rattle.trail_solver.specs.Pairs.{IsPair}
+use Rattle.trail_solver.specs.Candidates.{CandidatesValue, may_be}
+use Rattle.trail_solver.specs.Puzzles.{Puzzle}
+use Rattle.named_steps.specs.Grades.{has_reason, is_of_clues}
+use Rattle.named_steps.specs.Reasons.{IsByGiven}
+use Rattle.named_steps.specs.Chains.{StepValue, IsChain, AreOfGrade, left_by}
+use Rattle.named_steps.specs.declared.reason.Reason.{Reason}
+use Rattle.named_steps.specs.declared.grade.Grade.{Grade}
+
+-- a chain of the grade's steps leads from the first candidates to the second
+pub record LeadsTo (Struck : CandidatesValue → Reason → ℕ → ℕ → Type 0) (grade : Grade) (c d : CandidatesValue) : Type 0 where
+  pub steps : List StepValue
+  pub chain : IsChain Struck c steps
+  pub allowed : AreOfGrade grade steps
+  pub is : d ≡ left_by c steps
+
+-- a chain of the grade's steps leads there, and where nothing went it is quiet
+pub record Passes (Struck : CandidatesValue → Reason → ℕ → ℕ → Type 0) (grade : Grade) (IsQuiet : CandidatesValue → Type 0)
+    (old new : CandidatesValue) : Type 0 where
+  pub leads : LeadsTo Struck grade old new
+  pub quiet : length new.trail ≡ length old.trail → IsQuiet old
+
+-- no clue and no sign strikes anything that is left, as the grade looks at them
+abbrev pub AreCluesSettled : (CandidatesValue → Reason → ℕ → ℕ → Type 0) → Grade → CandidatesValue → Type 0
+AreCluesSettled Struck grade c =
+    (reason : Reason) (cell value : ℕ) → is_of_clues reason ≡ true → has_reason grade reason ≡ true → IsPair c.size cell value
+    → Struck c reason cell value → may_be c cell value ≡ false
+
+-- no given strikes anything that is left
+abbrev pub AreGivensSettled : Puzzle → CandidatesValue → Type 0
+AreGivensSettled p c = (at cell value : ℕ) → IsPair c.size cell value → IsByGiven p at cell value → may_be c cell value ≡ false

@@ -1,0 +1,42 @@
+//! Named steps: why values are ruled out, what a grade's reasons leave, and the least grade by which a puzzle follows.
+//!
+//! A `Reason` is a kind of step and the place where it looks. What each strikes from candidates is a definition of one line, and
+//! `strikes` tells it exactly. A `Grade` has some kinds of reasons. `settle` takes away all that the reasons of a grade strike,
+//! one after another, until they strike nothing that is left: in whatever order that is done, the same is left (`laws`). A puzzle
+//! follows by a grade where its solution alone is left of all pairs (`follows`, `solution_by`), and `grade_of` is the least such
+//! grade. Nothing here takes memory from the heap.
+//!
+//! ```
+//! match grade_of(&puzzle) {
+//!     Some(Grade::Latin) => println!(rt; "rows and columns are enough")?,
+//!     Some(grade) => println!(rt; "{grade:?}")?,
+//!     None => println!(rt; "it doesn't follow by these steps")?,
+//! }
+//! ```
+#![tactic(auto)]
+
+mod clue_strikes;
+mod following;
+mod goal;
+mod grade;
+mod group_passes;
+mod latin_strikes;
+mod line_passes;
+mod reason;
+mod set_strikes;
+mod settling;
+mod sign_strikes;
+mod step_laws;
+mod steps;
+mod strikes;
+mod striking;
+mod towers;
+mod unequal;
+
+pub use following::{follows, grade_of, solution_by};
+pub use goal::Goal;
+pub use grade::Grade;
+pub use reason::Reason;
+pub use settling::settle;
+pub use step_laws::laws;
+pub use steps::Steps;

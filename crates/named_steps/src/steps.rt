@@ -1,0 +1,57 @@
+//! What the steps of a game owe.
+ghost use Rattle.std.specs.Prelude.{◌≡◌, ◌≢◌, ◌↔◌, ℕ, ◌+◌, ◌*◌, ◌<◌, Bool, true};
+ghost use Rattle.number_sets.specs.Sets.{has_number};
+ghost use Rattle.latin_board.specs.Squares.{GridValue, number_at};
+ghost use Rattle.trail_solver.specs.Pairs.{IsPair};
+ghost use Rattle.trail_solver.specs.Candidates.{CandidatesValue, IsWithin};
+ghost use Rattle.trail_solver.specs.Puzzles.{Solves};
+ghost use Rattle.named_steps.specs.Left.{IsFewer};
+ghost use Rattle.named_steps.specs.Grades.{is_of_lines};
+ghost use Rattle.named_steps.specs.Reasons.{IsByGiven, IsByLine};
+ghost use Rattle.named_steps.specs.Passes.{Passes, AreCluesSettled};
+ghost use Rattle.named_steps.specs.declared.reason.Reason.{Reason};
+ghost use Rattle.named_steps.specs.declared.reason.Reason.TheVariants.{Given};
+
+use crate::grade::Grade;
+use crate::reason::Reason;
+use number_sets::NumberSet;
+use trail_solver::{Candidates, Rules};
+
+/// A puzzle whose steps have names.
+pub trait Steps: Rules {
+    // What a reason strikes from candidates: pairs of a square and a value.
+    ghost struck_by: { Self → CandidatesValue → Reason → ℕ → ℕ → Type 0 };
+
+    /// The values that a reason strikes in a square; the sizes are equal, and the square is one of the grid's.
+    fn strikes(&self, candidates: &Candidates, reason: Reason, cell: usize) -> NumberSet
+        requires size { candidates.now.size ≡ (Self.Rules.puzzle self.now).size }
+        requires inside { cell < candidates.now.size * candidates.now.size }
+        ensures { (v : ℕ) → (has_number result v ≡ true)
+            ↔ (IsPair candidates.now.size cell v × struck_by self.now candidates.now reason cell v) };
+
+    /// Goes through the clues or signs once, and takes away what they strike by a grade's reasons; the sizes are equal.
+    fn strike_by_clues(&self, grade: Grade, candidates: &mut Candidates)
+        requires { candidates.old.size ≡ (Self.Rules.puzzle self.now).size }
+        ensures { Passes (struck_by self.now) grade (AreCluesSettled (struck_by self.now) grade) candidates.old candidates.new };
+
+    // What a given strikes, and what rows and columns do, is the same in each game.
+    ghost given_struck: { (p : Self) (c : CandidatesValue) (at cell value : ℕ)
+        → IsByGiven (Self.Rules.puzzle p) at cell value ↔ struck_by p c (Given at) cell value };
+
+    ghost line_struck: { (p : Self) (c : CandidatesValue) (reason : Reason) (cell value : ℕ) → is_of_lines reason ≡ true
+        → IsByLine (Self.Rules.puzzle p).size c reason cell value ↔ struck_by p c reason cell value };
+
+    // What is struck from candidates is struck from fewer.
+    ghost struck_less: { (p : Self) (c d : CandidatesValue) (reason : Reason) (cell value : ℕ) → IsFewer c d
+        → struck_by p c reason cell value → struck_by p d reason cell value };
+
+    // What is struck is in no solution within the candidates.
+    ghost struck_sound: { (p : Self) (c : CandidatesValue) (reason : Reason) (cell value : ℕ) (g : GridValue) → Self.Rules.valid p
+        → c.size ≡ (Self.Rules.puzzle p).size → Solves (Self.Rules.puzzle p) g → IsWithin c g
+        → cell < (Self.Rules.puzzle p).size * (Self.Rules.puzzle p).size
+        → struck_by p c reason cell value → number_at g cell ≢ value };
+
+    // What is struck in a cut is struck in the whole puzzle.
+    ghost struck_cut: { (p : Self) (keep : ℕ → Bool) (c : CandidatesValue) (reason : Reason) (cell value : ℕ)
+        → struck_by (Self.Rules.cut p keep) c reason cell value → struck_by p c reason cell value };
+}

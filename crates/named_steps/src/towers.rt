@@ -1,0 +1,104 @@
+//! The steps of Towers.
+ghost use Rattle.std.specs.Prelude.{◌≡◌, ◌↔◌, ℕ, ◌*◌, ◌<◌, ◌≤◌, true};
+ghost use Rattle.number_sets.specs.Sets.{has_number};
+ghost use Rattle.trail_solver.specs.Pairs.{IsPair};
+ghost use Rattle.clue_rules.specs.Towers.{clue_of};
+ghost use Rattle.named_steps.specs.Reasons.{IsByClue, IsTowersStruckBy};
+ghost use Rattle.named_steps.specs.Passes.{Passes};
+ghost use Rattle.named_steps.specs.Inner.Rows.{May, IsViewQuiet, look_grade};
+
+use crate::clue_strikes::{Look, by_clue, strike_view};
+use crate::grade::Grade;
+use crate::reason::Reason;
+use crate::steps::Steps;
+use crate::strikes::{by_any_peer, by_any_place, by_any_set, by_given};
+use clue_rules::Towers;
+use number_sets::NumberSet;
+use trail_solver::{Candidates, Rules};
+
+impl Steps for Towers {
+    ghost use Rattle.named_steps.specs.Reasons.{IsTowersStruckBy};
+    ghost use Rattle.named_steps.specs.Laws.Shared as shared;
+    ghost use Rattle.named_steps.specs.Laws.Less as less;
+    ghost use Rattle.named_steps.specs.Laws.Sound as sound;
+    ghost use Rattle.named_steps.specs.Laws.Cuts as cuts;
+
+    ghost struck_by = { IsTowersStruckBy };
+
+    fn strikes(&self, candidates: &Candidates, reason: Reason, cell: usize) -> NumberSet {
+        match reason {
+            Reason::Given { cell: at } => by_given(self, candidates, at, cell),
+            Reason::Peer { cell: by } => by_any_peer(candidates, by, cell),
+            Reason::Place { line, index, value } => {
+                by_any_place(candidates, line, index, value, cell)
+            }
+            Reason::Bound { place } => by_any_clue(self, candidates, Look::Alone, place, cell),
+            Reason::Stand { place } => by_any_clue(self, candidates, Look::Stands, place, cell),
+            Reason::Clue { place } => by_any_clue(self, candidates, Look::Marks, place, cell),
+            Reason::Sign { from: _, to: _ } => NumberSet::empty(),
+            Reason::Set {
+                line,
+                squares,
+                values,
+            } => by_any_set(candidates, line, squares, values, cell),
+        }
+    }
+
+    fn strike_by_clues(&self, grade: Grade, candidates: &mut Candidates) {
+        match grade {
+            Grade::Latin => {}
+            Grade::Easy => strike_views(self, Look::Stands, candidates),
+            Grade::Hard => strike_views(self, Look::Marks, candidates),
+        }
+    }
+
+    ghost given_struck = { shared.towers_givens };
+
+    ghost line_struck = { shared.towers_lines };
+
+    ghost struck_less = { less.towers_less };
+
+    ghost struck_sound = { sound.towers_sound };
+
+    ghost struck_cut = { cuts.towers_whole };
+}
+
+// Goes through the clues once, and takes away what they strike as they are looked at.
+fn strike_views(p: &Towers, look: Look, candidates: &mut Candidates)
+    requires { candidates.old.size ≡ p.now.size }
+    ensures { Passes (IsTowersStruckBy p.now) (look_grade look)
+        (λ c. (place : ℕ) → place < 4 * candidates.old.size → IsViewQuiet p.now look place c) candidates.old candidates.new }
+{
+    let size = candidates.size();
+    for place in 0..4 * size.get() {
+        let clue = p.clue(place);
+        if clue != 0 {
+            strike_view(candidates, look, place, clue);
+        }
+    }
+}
+
+// What a clue strikes in a square.
+#[tactic(auto, using(crate::proofs::GameSets::clue_struck))]
+fn by_any_clue(
+    p: &Towers,
+    candidates: &Candidates,
+    look: Look,
+    place: usize,
+    cell: usize,
+) -> NumberSet
+    requires size { candidates.now.size ≡ p.now.size }
+    requires inside { cell < candidates.now.size * candidates.now.size }
+    ensures { (v : ℕ) → (has_number result v ≡ true)
+        ↔ (IsPair candidates.now.size cell v × IsByClue p.now (May look candidates.now) place cell v) }
+{
+    let width = candidates.size().get() as usize;
+    if place >= 4 * width {
+        return NumberSet::empty();
+    }
+    let clue = p.clue(place as u8);
+    if clue == 0 {
+        return NumberSet::empty();
+    }
+    by_clue(candidates, look, place as u8, clue, cell)
+}

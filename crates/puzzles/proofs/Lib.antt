@@ -1,0 +1,2 @@
+-- Lemmas on the program as one expression.
+pub mod WholeGames

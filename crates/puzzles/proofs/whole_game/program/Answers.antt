@@ -1,0 +1,25 @@
+use Rattle.std.proofs.Common.{Ok, Err, refl}
+use Rattle.puzzles.proofs.WholeGames.{in_lines, in_objects}
+use Rattle.puzzles.proofs.whole_game.program.Goals as goal
+
+-- src/whole_game.rt: the words can't be had
+pub returns-in-Err : goal.returns-in-Err
+returns-in-Err g c = (Err c.in-Err.fault, c.in-Err.ensures.err, (c.status_of.ensures, refl))
+
+-- lines of text
+pub returns-in-Puzzles : goal.returns-in-Puzzles
+returns-in-Puzzles g c = (
+  Ok c.in-Ok.words.items,
+  c.in-Ok.ensures.ok,
+  in_lines _ _ _ _ _ _ c.deref.ensures.value
+      c.deref-in-Puzzles.ensures.value c.program_name.ensures c.in-Puzzles.is c.program_in.ensures,
+)
+
+-- objects
+pub returns : goal.returns
+returns g c = (
+  Ok c.in-Ok.words.items,
+  c.in-Ok.ensures.ok,
+  in_objects _ _ _ _ _ _ c.deref.ensures.value
+      c.deref-in-PuzzlesJson.ensures.value c.program_name.ensures c.in-PuzzlesJson.is c.program_in-in-PuzzlesJson.ensures,
+)
