@@ -1,6 +1,7 @@
 -- What the candidates that deductions leave say of the solutions that keep a grid's numbers.
-use Rattle.std.proofs.Common.{◌≡◌, ℕ, ◌*◌, ◌<◌, ◌≤◌, true, sym, ◌∙◌, subst, ⊎_elim, arith}
-use Rattle.std.proofs.lemmas.Bool.{cases_eq, both_ways}
+use Rattle.std.proofs.Common.{◌≡◌, ◌≢◌, ℕ, ◌*◌, ◌<◌, ◌≤◌, Bool, true, false, refl, sym, ◌∙◌, subst, ⊎_elim, arith}
+use Rattle.std.specs.Bool.{OnFalse, OnTrue}
+use Rattle.std.proofs.lemmas.Bool.{cases_eq, both_ways, OnFalse_at, OnTrue_at}
 use Rattle.latin_board.specs.Squares.{GridValue, number_at}
 use Rattle.trail_solver.specs.Pairs.{IsPair}
 use Rattle.trail_solver.specs.Candidates.{CandidatesValue, IsEarlier, IsWithin, may_be}
@@ -10,10 +11,10 @@ use Rattle.trail_solver.specs.Completions.{AreOfGrid, Completes}
 use Rattle.trail_solver.proofs.Earlier.{within_earlier}
 use Rattle.trail_solver.proofs.FilledGrids.{solution_pair}
 use Rattle.trail_solver.proofs.GridCandidates.{within_of_kept}
-use Rattle.board_checks.specs.Hints.{AreNarrowed, FollowsAt, HaveNoneLast, HaveValues, IsDeduced, IsForced, IsSound, IsSoonest}
+use Rattle.clue_rules.specs.Struck.{NoneLeft}
+use Rattle.board_checks.specs.Hints.{AreNarrowed, FollowsAt, HaveNoneLast, HaveValues, IsByNarrowing, IsDeduced, IsForced, IsHintOf, IsLeftHint, IsNarrowing, IsSound, IsSoonest}
 use Rattle.board_checks.specs.declared.hints.Hint.{Hint}
 use Rattle.board_checks.specs.declared.hints.Hint.TheVariants.{Follows, Nothing, Contradiction}
-use Rattle.board_checks.specs.Inner.LeftValues.{IsLeftHint}
 
 -- each solution that keeps the grid's numbers is within the candidates that are left
 completes_within : (p : Puzzle) (g h : GridValue) (start c : CandidatesValue) → AreOfGrid g start → g.size ≡ p.size
@@ -21,7 +22,7 @@ completes_within : (p : Puzzle) (g h : GridValue) (start c : CandidatesValue) �
 completes_within p g h start c of size keeps m = keeps h m.0 (within_of_kept p g h start of size m.0 m.1)
 
 -- so none does where none is within them
-pub none_completes : (p : Puzzle) (g : GridValue) (start c : CandidatesValue) → AreOfGrid g start → g.size ≡ p.size
+none_completes : (p : Puzzle) (g : GridValue) (start c : CandidatesValue) → AreOfGrid g start → g.size ≡ p.size
     → KeepsSolutions p start c → HasNoSolutionWithin p c → (h : GridValue) → Completes p g h → ⊥
 none_completes p g start c of size keeps none h m = none h m.0 (completes_within p g h start c of size keeps m)
 
@@ -48,7 +49,7 @@ soonest_follows p g start c cell value of size less keeps s =
     }
 
 -- a forced square would have had only one candidate
-pub none_forced : (p : Puzzle) (Struck : CandidatesValue → ℕ → ℕ → Type 0) (g : GridValue) (c : CandidatesValue) (cell : ℕ)
+none_forced : (p : Puzzle) (Struck : CandidatesValue → ℕ → ℕ → Type 0) (g : GridValue) (c : CandidatesValue) (cell : ℕ)
     → AreNarrowed p Struck g c → HaveNoneLast g c → IsForced Struck g cell → ⊥
 none_forced p Struck g c cell narrowed none forced =
     let start = narrowed.start in
@@ -75,13 +76,13 @@ none_forced p Struck g c cell narrowed none forced =
 
 -- ---- the hint that is found
 
-pub deduced_hint : (p : Puzzle) (Struck : CandidatesValue → ℕ → ℕ → Type 0) (g : GridValue) (c : CandidatesValue) (found : Hint)
+deduced_hint : (p : Puzzle) (Struck : CandidatesValue → ℕ → ℕ → Type 0) (g : GridValue) (c : CandidatesValue) (found : Hint)
     → AreNarrowed p Struck g c → IsLeftHint g c found → IsDeduced p Struck g found
 deduced_hint p Struck g c (Follows cell value) narrowed left = (c, narrowed, left.0, left.1)
 deduced_hint p Struck g c Nothing narrowed left = (c, narrowed, record { some = left.0; several = left.1 })
 deduced_hint p Struck g c Contradiction narrowed left = tt
 
-pub deduced_sound : (p : Puzzle) (Struck : CandidatesValue → ℕ → ℕ → Type 0) (g : GridValue) (c : CandidatesValue) (found : Hint) → g.size ≡ p.size
+deduced_sound : (p : Puzzle) (Struck : CandidatesValue → ℕ → ℕ → Type 0) (g : GridValue) (c : CandidatesValue) (found : Hint) → g.size ≡ p.size
     → AreNarrowed p Struck g c → IsLeftHint g c found → IsSound p g found
 deduced_sound p Struck g c (Follows cell value) size narrowed left =
     soonest_follows p g narrowed.start c cell value narrowed.of_grid size narrowed.less narrowed.keeps left.1
@@ -90,8 +91,56 @@ deduced_sound p Struck g c Contradiction size narrowed lacks =
     none_completes p g narrowed.start c narrowed.of_grid size narrowed.keeps
     (none_without_values p c (narrowed.less.size ∙ narrowed.of_grid.size ∙ size) lacks)
 
-pub none_forced_at : (p : Puzzle) (Struck : CandidatesValue → ℕ → ℕ → Type 0) (g : GridValue) (cell : ℕ) (found : Hint) → found ≡ Nothing
+none_forced_at : (p : Puzzle) (Struck : CandidatesValue → ℕ → ℕ → Type 0) (g : GridValue) (cell : ℕ) (found : Hint) → found ≡ Nothing
     → IsDeduced p Struck g found → IsForced Struck g cell → ⊥
 none_forced_at p Struck g cell found is d forced =
     let (c, narrowed, none) = subst (λ (h : Hint). IsDeduced p Struck g h) is d in
     none_forced p Struck g c cell narrowed none forced
+
+-- ---- the hint that is told
+
+-- narrowing that leaves something leaves narrowed candidates
+narrowed_of : (p : Puzzle) (Struck : CandidatesValue → ℕ → ℕ → Type 0) (g : GridValue) (start c : CandidatesValue) → AreOfGrid g start
+    → IsNarrowing p Struck start c true → AreNarrowed p Struck g c
+narrowed_of p Struck g start c of h = record {
+  start = start;
+  of_grid = of;
+  less = h.less;
+  keeps = h.keeps;
+  struck = OnTrue_at {P = NoneLeft Struck start c} refl h.struck;
+  settled = OnTrue_at {P = NoneLeft Struck c c} refl h.settled;
+}
+
+sound_of : (p : Puzzle) (Struck : CandidatesValue → ℕ → ℕ → Type 0) (g : GridValue) (start c : CandidatesValue) (left : Bool) (found : Hint)
+    → g.size ≡ p.size → AreOfGrid g start → IsNarrowing p Struck start c left → IsHintOf g c left found → IsSound p g found
+sound_of p Struck g start c true found size of h told = deduced_sound p Struck g c found size (narrowed_of p Struck g start c of h) told
+sound_of p Struck g start c false found size of h told =
+    subst (λ (f : Hint). IsSound p g f) (sym told) (none_completes p g start start of size (λ h s within. within) (OnFalse_at refl h.refutes))
+
+deduced_of : (p : Puzzle) (Struck : CandidatesValue → ℕ → ℕ → Type 0) (g : GridValue) (start c : CandidatesValue) (left : Bool) (found : Hint)
+    → AreOfGrid g start → IsNarrowing p Struck start c left → IsHintOf g c left found → IsDeduced p Struck g found
+deduced_of p Struck g start c true found of h told = deduced_hint p Struck g c found (narrowed_of p Struck g start c of h) told
+deduced_of p Struck g start c false found of h told = subst (λ (f : Hint). IsDeduced p Struck g f) (sym told) tt
+
+module _ (p : Puzzle) (Struck : CandidatesValue → ℕ → ℕ → Type 0) (g : GridValue) (start c : CandidatesValue) (left : Bool) (found : Hint)
+    (of : AreOfGrid g start) (less : IsEarlier start c) (keeps : KeepsSolutions p start c) (refutes : OnFalse left (HasNoSolutionWithin p start))
+    (struck : OnTrue left (NoneLeft Struck start c)) (settled : OnTrue left (NoneLeft Struck c c)) (told : IsHintOf g c left found) where
+  narrowing : IsNarrowing p Struck start c left
+  narrowing = record { less = less; keeps = keeps; refutes = refutes; struck = struck; settled = settled }
+
+  -- what is told is right
+  pub told_sound : g.size ≡ p.size → IsSound p g found
+  told_sound size = sound_of p Struck g start c left found size of narrowing told
+
+  -- it follows by the deductions
+  pub told_deduced : IsDeduced p Struck g found
+  told_deduced = deduced_of p Struck g start c left found of narrowing told
+
+  -- where a square is forced, something follows
+  pub told_strong : (cell : ℕ) → IsForced Struck g cell → found ≢ Nothing
+  told_strong cell forced is = none_forced_at p Struck g cell found is told_deduced forced
+
+-- it is read from what narrowing leaves
+pub told_by_narrowing : (Narrows : CandidatesValue → CandidatesValue → Bool → Type 0) (g : GridValue) (start c : CandidatesValue) (left : Bool) (found : Hint)
+    → AreOfGrid g start → Narrows start c left → IsHintOf g c left found → IsByNarrowing Narrows g found
+told_by_narrowing Narrows g start c left found of narrows told = (start, c, left, of, narrows, told)

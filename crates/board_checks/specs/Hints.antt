@@ -1,10 +1,11 @@
 -- Hints: the empty square of a grid that the deductions settle first.
-use Rattle.std.specs.Prelude.{◌≡◌, ◌≢◌, ℕ, ◌*◌, ◌<◌, true, length}
+use Rattle.std.specs.Prelude.{◌≡◌, ◌≢◌, ℕ, ◌*◌, ◌<◌, Bool, true, false, length}
+use Rattle.std.specs.Bool.{OnFalse, OnTrue}
 use Rattle.latin_board.specs.Squares.{GridValue, number_at}
 use Rattle.trail_solver.specs.Pairs.{IsPair}
 use Rattle.trail_solver.specs.Candidates.{CandidatesValue, IsEarlier, IsOnly, may_be}
 use Rattle.trail_solver.specs.Puzzles.{Puzzle}
-use Rattle.trail_solver.specs.Solutions.{KeepsSolutions}
+use Rattle.trail_solver.specs.Solutions.{HasNoSolutionWithin, KeepsSolutions}
 use Rattle.trail_solver.specs.Completions.{AreOfGrid, Completes}
 use Rattle.clue_rules.specs.Struck.{NoneLeft}
 use Rattle.board_checks.specs.declared.hints.Hint.{Hint}
@@ -55,6 +56,36 @@ pub record HaveValues (c : CandidatesValue) : Type 0 where
 pub record HaveNoneLast (g : GridValue) (c : CandidatesValue) : Type 0 where
   pub some : HaveValues c
   pub several : (cell value : ℕ) → IsLastLeft g c cell value → ⊥
+
+-- what comes of narrowing by a game's deductions: no solution is lost, false tells that there is none, and where it answers true no
+-- pair remains that they strike from the candidates at first or from those that remain
+pub record IsNarrowing (p : Puzzle) (Struck : CandidatesValue → ℕ → ℕ → Type 0) (old new : CandidatesValue) (left : Bool) : Type 0 where
+  pub less : IsEarlier old new
+  pub keeps : KeepsSolutions p old new
+  pub refutes : OnFalse left (HasNoSolutionWithin p old)
+  pub struck : OnTrue left (NoneLeft Struck old new)
+  pub settled : OnTrue left (NoneLeft Struck new new)
+
+-- the empty square that has one candidate soonest, or that none has
+abbrev pub IsSoonestHint : GridValue → CandidatesValue → Hint → Type 0
+IsSoonestHint g c (Follows cell value) = IsSoonest g c cell value
+IsSoonestHint g c Nothing = (cell value : ℕ) → IsLastLeft g c cell value → ⊥
+IsSoonestHint g c Contradiction = ⊥
+
+-- the hint that candidates give: that the numbers contradict the rules just where some square has none left
+abbrev pub IsLeftHint : GridValue → CandidatesValue → Hint → Type 0
+IsLeftHint g c Contradiction = HaveValues c → ⊥
+IsLeftHint g c found = HaveValues c × IsSoonestHint g c found
+
+-- the hint that narrowing gives: a contradiction where it finds one, else what the candidates that it leaves give
+abbrev pub IsHintOf : GridValue → CandidatesValue → Bool → Hint → Type 0
+IsHintOf g c false found = found ≡ Contradiction
+IsHintOf g c true found = IsLeftHint g c found
+
+-- it is so of what a game's narrowing makes of the candidates that the grid leaves
+abbrev pub IsByNarrowing : (CandidatesValue → CandidatesValue → Bool → Type 0) → GridValue → Hint → Type 0
+IsByNarrowing Narrows g found =
+    (start c : CandidatesValue) × (left : Bool) × AreOfGrid g start × Narrows start c left × IsHintOf g c left found
 
 -- how a hint is read from the candidates that the deductions leave: a number is told only where each square has one left
 abbrev pub IsDeduced : Puzzle → (CandidatesValue → ℕ → ℕ → Type 0) → GridValue → Hint → Type 0

@@ -2,4 +2,3 @@
 pub mod Repeats
 pub mod TowersLines
 pub mod SignEnds
-pub mod LeftValues

@@ -1,7 +1,6 @@
 //! Hints: a square of a board whose value follows from what stands.
 ghost use Rattle.std.specs.Prelude.{◌≡◌, ◌≢◌, ◌↔◌, ℕ, ◌*◌, ◌<◌, MatchOption, IsTrue};
-ghost use Rattle.board_checks.specs.Hints.{HaveValues, IsForced, IsLastLeft, IsDeduced, IsSound};
-ghost use Rattle.board_checks.specs.Inner.LeftValues.{IsLeftHint, IsSoonestHint};
+ghost use Rattle.board_checks.specs.Hints.{HaveValues, IsByNarrowing, IsForced, IsLastLeft, IsLeftHint, IsDeduced, IsHintOf, IsSoonestHint, IsSound};
 
 use crate::deductions::Deduces;
 use latin_board::Grid;
@@ -19,16 +18,28 @@ pub enum Hint {
 }
 
 /// What follows from the numbers of the grid by the puzzle's deductions alone: of the empty squares that these leave one
-/// value, the one that they settle first. The grid has the puzzle's size, and need not have its givens. It takes no memory.
+/// value, the one that they settle first; or a contradiction where they find one. The grid has the puzzle's size, and need not
+/// have its givens. It takes no memory.
+#[tactic(auto, using(crate::proofs::FoundHints::told_sound, crate::proofs::FoundHints::told_by_narrowing, crate::proofs::FoundHints::told_deduced))]
 pub fn find_hint<P: Deduces>(p: &P, grid: &Grid) -> Hint
     requires { grid.now.size ≡ (P.puzzle p.now).size }
     ensures sound { IsSound (P.puzzle p.now) grid.now result }
+    ensures narrowed { IsByNarrowing (P.narrows p.now) grid.now result }
     ensures deduced { IsDeduced (P.puzzle p.now) (P.strikes p.now) grid.now result }
     ensures strong { (cell : ℕ) → IsForced (P.strikes p.now) grid.now cell → result ≢ Hint.Nothing }
 {
     let mut candidates = grid_candidates(grid);
-    if p.narrow_struck(&mut candidates) {
-        left_hint(grid, &candidates)
+    let left = p.narrow_struck(&mut candidates);
+    hint_of(grid, &candidates, left)
+}
+
+// The hint that narrowing gives, by what it leaves and whether it leaves anything.
+fn hint_of(grid: &Grid, candidates: &Candidates, left: bool) -> Hint
+    requires { grid.now.size ≡ candidates.now.size }
+    ensures { IsHintOf grid.now candidates.now left result }
+{
+    if left {
+        left_hint(grid, candidates)
     } else {
         Hint::Contradiction
     }

@@ -6,8 +6,8 @@
 //! of that alone `errors` tells which squares and spots are errors. Where one is, no solution has the board's numbers, and
 //! a full board with the puzzle's givens has none only where it is the solution.
 //!
-//! `find_hint` names an empty square whose value follows by the puzzle's deductions alone (`Deduces`), without a guess; or it tells
-//! that nothing follows by them, or that no solution keeps the board's numbers.
+//! `find_hint` names an empty square whose value follows by what the puzzle's deductions leave (`Deduces`), and by nothing else; or it
+//! tells that nothing follows by them, or that they find that no solution keeps the board's numbers.
 //!
 //! ```
 //! let found = errors(&puzzle, board.grid());
