@@ -12,7 +12,7 @@ use Rattle.trail_solver.proofs.Earlier.{within_earlier}
 use Rattle.trail_solver.proofs.FilledGrids.{solution_pair}
 use Rattle.trail_solver.proofs.GridCandidates.{within_of_kept}
 use Rattle.clue_rules.specs.Struck.{NoneLeft}
-use Rattle.board_checks.specs.Hints.{AreNarrowed, FollowsAt, HaveNoneLast, HaveValues, IsByNarrowing, IsDeduced, IsForced, IsHintOf, IsLeftHint, IsNarrowing, IsSound, IsSoonest}
+use Rattle.board_checks.specs.Hints.{AreNarrowed, FollowsAt, HaveValues, IsByNarrowing, IsDeduced, IsForced, IsHintOf, IsLastLeft, IsLeftHint, IsNarrowing, IsSound, IsSoonest}
 use Rattle.board_checks.specs.declared.hints.Hint.{Hint}
 use Rattle.board_checks.specs.declared.hints.Hint.TheVariants.{Follows, Nothing, Contradiction}
 
@@ -50,20 +50,20 @@ soonest_follows p g start c cell value of size less keeps s =
 
 -- a forced square would have had only one candidate
 none_forced : (p : Puzzle) (Struck : CandidatesValue → ℕ → ℕ → Type 0) (g : GridValue) (c : CandidatesValue) (cell : ℕ)
-    → AreNarrowed p Struck g c → HaveNoneLast g c → IsForced Struck g cell → ⊥
-none_forced p Struck g c cell narrowed none forced =
+    → AreNarrowed p Struck g c → HaveValues c → ((k v : ℕ) → IsLastLeft g c k v → ⊥) → IsForced Struck g cell → ⊥
+none_forced p Struck g c cell narrowed some none forced =
     let start = narrowed.start in
-    let width : c.size ≡ g.size = narrowed.less.size ∙ narrowed.of_grid.size in
-    let some = none.some.each cell (subst (λ (n : ℕ). cell < n * n) (sym width) forced.inside) in
+    let struck : NoneLeft Struck start c = OnTrue_at {P = NoneLeft Struck start c} refl narrowed.by.struck in
+    let width : c.size ≡ g.size = narrowed.by.less.size ∙ narrowed.of_grid.size in
     let is : (u : ℕ) → 1 ≤ u → u ≤ c.size → may_be c cell u ≡ true → u ≡ forced.value = λ u low high left.
     let pair : IsPair g.size cell u = record { inside = forced.inside; low = low; high = omega (arith, high, width) } in
     let pair' : IsPair start.size cell u = subst (λ (n : ℕ). IsPair n cell u) (sym narrowed.of_grid.size) pair in
     ⊎_elim
     (λ e. e)
-    (λ n. absurd (both_ways (may_be c cell u) (narrowed.struck cell u pair' (forced.others start narrowed.of_grid u pair n)) left))
+    (λ n. absurd (both_ways (may_be c cell u) (struck cell u pair' (forced.others start narrowed.of_grid u pair n)) left))
     (cases_eq u forced.value) in
-    let (value, pair, may) = some in
-    none.several cell value (record {
+    let (value, pair, may) = some.each cell (subst (λ (n : ℕ). cell < n * n) (sym width) forced.inside) in
+    none cell value (record {
       inside = forced.inside;
       empty = forced.empty;
       only = record {
@@ -78,53 +78,41 @@ none_forced p Struck g c cell narrowed none forced =
 
 deduced_hint : (p : Puzzle) (Struck : CandidatesValue → ℕ → ℕ → Type 0) (g : GridValue) (c : CandidatesValue) (found : Hint)
     → AreNarrowed p Struck g c → IsLeftHint g c found → IsDeduced p Struck g found
-deduced_hint p Struck g c (Follows cell value) narrowed left = (c, narrowed, left.0, left.1)
-deduced_hint p Struck g c Nothing narrowed left = (c, narrowed, record { some = left.0; several = left.1 })
 deduced_hint p Struck g c Contradiction narrowed left = tt
+deduced_hint p Struck g c found narrowed left = (c, narrowed, left)
 
 deduced_sound : (p : Puzzle) (Struck : CandidatesValue → ℕ → ℕ → Type 0) (g : GridValue) (c : CandidatesValue) (found : Hint) → g.size ≡ p.size
     → AreNarrowed p Struck g c → IsLeftHint g c found → IsSound p g found
 deduced_sound p Struck g c (Follows cell value) size narrowed left =
-    soonest_follows p g narrowed.start c cell value narrowed.of_grid size narrowed.less narrowed.keeps left.1
+    soonest_follows p g narrowed.start c cell value narrowed.of_grid size narrowed.by.less narrowed.by.keeps left.1
 deduced_sound p Struck g c Nothing size narrowed left = tt
 deduced_sound p Struck g c Contradiction size narrowed lacks =
-    none_completes p g narrowed.start c narrowed.of_grid size narrowed.keeps
-    (none_without_values p c (narrowed.less.size ∙ narrowed.of_grid.size ∙ size) lacks)
+    none_completes p g narrowed.start c narrowed.of_grid size narrowed.by.keeps
+    (none_without_values p c (narrowed.by.less.size ∙ narrowed.of_grid.size ∙ size) lacks)
 
 none_forced_at : (p : Puzzle) (Struck : CandidatesValue → ℕ → ℕ → Type 0) (g : GridValue) (cell : ℕ) (found : Hint) → found ≡ Nothing
     → IsDeduced p Struck g found → IsForced Struck g cell → ⊥
 none_forced_at p Struck g cell found is d forced =
-    let (c, narrowed, none) = subst (λ (h : Hint). IsDeduced p Struck g h) is d in
-    none_forced p Struck g c cell narrowed none forced
+    let (c, narrowed, left) = subst (λ (h : Hint). IsDeduced p Struck g h) is d in
+    none_forced p Struck g c cell narrowed left.0 left.1 forced
 
 -- ---- the hint that is told
 
--- narrowing that leaves something leaves narrowed candidates
-narrowed_of : (p : Puzzle) (Struck : CandidatesValue → ℕ → ℕ → Type 0) (g : GridValue) (start c : CandidatesValue) → AreOfGrid g start
-    → IsNarrowing p Struck start c true → AreNarrowed p Struck g c
-narrowed_of p Struck g start c of h = record {
-  start = start;
-  of_grid = of;
-  less = h.less;
-  keeps = h.keeps;
-  struck = OnTrue_at {P = NoneLeft Struck start c} refl h.struck;
-  settled = OnTrue_at {P = NoneLeft Struck c c} refl h.settled;
-}
-
 sound_of : (p : Puzzle) (Struck : CandidatesValue → ℕ → ℕ → Type 0) (g : GridValue) (start c : CandidatesValue) (left : Bool) (found : Hint)
     → g.size ≡ p.size → AreOfGrid g start → IsNarrowing p Struck start c left → IsHintOf g c left found → IsSound p g found
-sound_of p Struck g start c true found size of h told = deduced_sound p Struck g c found size (narrowed_of p Struck g start c of h) told
+sound_of p Struck g start c true found size of h told = deduced_sound p Struck g c found size (record { start = start; of_grid = of; by = h }) told
 sound_of p Struck g start c false found size of h told =
     subst (λ (f : Hint). IsSound p g f) (sym told) (none_completes p g start start of size (λ h s within. within) (OnFalse_at refl h.refutes))
 
 deduced_of : (p : Puzzle) (Struck : CandidatesValue → ℕ → ℕ → Type 0) (g : GridValue) (start c : CandidatesValue) (left : Bool) (found : Hint)
     → AreOfGrid g start → IsNarrowing p Struck start c left → IsHintOf g c left found → IsDeduced p Struck g found
-deduced_of p Struck g start c true found of h told = deduced_hint p Struck g c found (narrowed_of p Struck g start c of h) told
+deduced_of p Struck g start c true found of h told = deduced_hint p Struck g c found (record { start = start; of_grid = of; by = h }) told
 deduced_of p Struck g start c false found of h told = subst (λ (f : Hint). IsDeduced p Struck g f) (sym told) tt
 
 module _ (p : Puzzle) (Struck : CandidatesValue → ℕ → ℕ → Type 0) (g : GridValue) (start c : CandidatesValue) (left : Bool) (found : Hint)
     (of : AreOfGrid g start) (less : IsEarlier start c) (keeps : KeepsSolutions p start c) (refutes : OnFalse left (HasNoSolutionWithin p start))
     (struck : OnTrue left (NoneLeft Struck start c)) (settled : OnTrue left (NoneLeft Struck c c)) (told : IsHintOf g c left found) where
+  -- what narrowing owes, as one
   narrowing : IsNarrowing p Struck start c left
   narrowing = record { less = less; keeps = keeps; refutes = refutes; struck = struck; settled = settled }
 

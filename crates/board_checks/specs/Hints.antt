@@ -23,15 +23,20 @@ IsSound p g (Follows cell value) = FollowsAt p g cell value
 IsSound p g Nothing = Unit {0}
 IsSound p g Contradiction = (h : GridValue) → Completes p g h → ⊥
 
--- what the deductions make of the candidates that a grid leaves: no solution is lost, and no pair remains that they strike from
--- those at first or from those that remain
+-- what comes of narrowing by a game's deductions: no solution is lost, false tells that there is none, and where it answers true no
+-- pair remains that they strike from the candidates at first or from those that remain
+pub record IsNarrowing (p : Puzzle) (Struck : CandidatesValue → ℕ → ℕ → Type 0) (old new : CandidatesValue) (left : Bool) : Type 0 where
+  pub less : IsEarlier old new
+  pub keeps : KeepsSolutions p old new
+  pub refutes : OnFalse left (HasNoSolutionWithin p old)
+  pub struck : OnTrue left (NoneLeft Struck old new)
+  pub settled : OnTrue left (NoneLeft Struck new new)
+
+-- what the deductions leave of the candidates of a grid, which they don't refute
 pub record AreNarrowed (p : Puzzle) (Struck : CandidatesValue → ℕ → ℕ → Type 0) (g : GridValue) (c : CandidatesValue) : Type 0 where
   pub start : CandidatesValue
   pub of_grid : AreOfGrid g start
-  pub less : IsEarlier start c
-  pub keeps : KeepsSolutions p start c
-  pub struck : NoneLeft Struck start c
-  pub settled : NoneLeft Struck c c
+  pub by : IsNarrowing p Struck start c true
 
 -- the square is empty in the grid, and the value is its only candidate
 pub record IsLastLeft (g : GridValue) (c : CandidatesValue) (cell value : ℕ) : Type 0 where
@@ -51,20 +56,6 @@ pub record IsSoonest (g : GridValue) (c : CandidatesValue) (cell value : ℕ) : 
 -- each square has a candidate
 pub record HaveValues (c : CandidatesValue) : Type 0 where
   pub each : (cell : ℕ) → cell < c.size * c.size → (v : ℕ) × IsPair c.size cell v × (may_be c cell v ≡ true)
-
--- each square has a candidate, and no empty one has only one
-pub record HaveNoneLast (g : GridValue) (c : CandidatesValue) : Type 0 where
-  pub some : HaveValues c
-  pub several : (cell value : ℕ) → IsLastLeft g c cell value → ⊥
-
--- what comes of narrowing by a game's deductions: no solution is lost, false tells that there is none, and where it answers true no
--- pair remains that they strike from the candidates at first or from those that remain
-pub record IsNarrowing (p : Puzzle) (Struck : CandidatesValue → ℕ → ℕ → Type 0) (old new : CandidatesValue) (left : Bool) : Type 0 where
-  pub less : IsEarlier old new
-  pub keeps : KeepsSolutions p old new
-  pub refutes : OnFalse left (HasNoSolutionWithin p old)
-  pub struck : OnTrue left (NoneLeft Struck old new)
-  pub settled : OnTrue left (NoneLeft Struck new new)
 
 -- the empty square that has one candidate soonest, or that none has
 abbrev pub IsSoonestHint : GridValue → CandidatesValue → Hint → Type 0
@@ -89,9 +80,8 @@ IsByNarrowing Narrows g found =
 
 -- how a hint is read from the candidates that the deductions leave: a number is told only where each square has one left
 abbrev pub IsDeduced : Puzzle → (CandidatesValue → ℕ → ℕ → Type 0) → GridValue → Hint → Type 0
-IsDeduced p Struck g (Follows cell value) = (c : CandidatesValue) × AreNarrowed p Struck g c × HaveValues c × IsSoonest g c cell value
-IsDeduced p Struck g Nothing = (c : CandidatesValue) × AreNarrowed p Struck g c × HaveNoneLast g c
 IsDeduced p Struck g Contradiction = Unit {0}
+IsDeduced p Struck g found = (c : CandidatesValue) × AreNarrowed p Struck g c × IsLeftHint g c found
 
 -- all values but one of an empty square are struck from the candidates that the grid leaves
 pub record IsForced (Struck : CandidatesValue → ℕ → ℕ → Type 0) (g : GridValue) (cell : ℕ) : Type 0 where
