@@ -1,5 +1,5 @@
--- The lines of a reply that ends in LF, each with LF, are the reply.
-use Rattle.std.proofs.Common.{◌≡◌, ℕ, ◌-◌, ◌≤◌, ◌==◌, true, false, if◌then◌else◌, List, [], ◌∷◌, ◌++◌, length, take, refl, sym, ap, ap₂, ◌∙◌, arith}
+-- The lines of a reply of whole lines, each with LF, are the reply.
+use Rattle.std.proofs.Common.{◌≡◌, ℕ, ◌-◌, ◌≤◌, ◌==◌, true, false, if◌then◌else◌, List, [], ◌∷◌, ◌++◌, length, take, refl, sym, ap, ap₂, ◌∙◌, inl, inr, arith}
 use Rattle.std.proofs.Math.Seq.{take-append_seam}
 use Rattle.std.proofs.lemmas.Bool.{eqb-true}
 use Rattle.std.proofs.lemmas.List.{length_push}
@@ -47,6 +47,6 @@ lines_of_end front = ap (λ ps. take (length ps - 1) ps) (segments_end front) �
 
 -- the lines of an object, one after another, are the plain reply
 pub lines_are_the_reply : LinesAreTheReply
-lines_are_the_reply said ends =
-    let front = ends.0 in
-    ap (λ s. lines_text (lines_of s)) ends.1 ∙ ap lines_text (lines_of_end front) ∙ segments_text front ∙ sym ends.1
+lines_are_the_reply said (inl none) = ap (λ s. lines_text (lines_of s)) none ∙ sym none
+lines_are_the_reply said (inr (front, is)) =
+    ap (λ s. lines_text (lines_of s)) is ∙ ap lines_text (lines_of_end front) ∙ segments_text front ∙ sym is

@@ -1,10 +1,11 @@
 -- Laws of what is told as JSON: an object determines the plain reply.
-use Rattle.std.specs.Prelude.{◌≡◌, ◌≢◌, ℕ, List, [], ◌∷◌, ◌++◌, Option, Some}
-use Rattle.byte_text.specs.Bytes.{line_feed}
+use Rattle.std.specs.Prelude.{◌≡◌, ◌≢◌, ℕ, List, Option, Some}
 use Rattle.play_midend.specs.Histories.{History}
+use Rattle.puzzle_cli.specs.Lines.{Line}
 use Rattle.puzzle_cli.specs.GameFacts.{GameFacts}
 use Rattle.puzzle_cli.specs.SessionReplies.{Outcome}
-use Rattle.puzzle_cli.specs.Replies.{plain_text}
+use Rattle.puzzle_cli.specs.Replies.{LineGives, plain_text}
+use Rattle.puzzle_cli.specs.WholeLines.{AreWholeLines}
 use Rattle.json_replies.specs.Texts.{lines_of, lines_text}
 use Rattle.json_replies.specs.ObjectLines.{lost_line, OrLost}
 use Rattle.json_replies.specs.Replies.{refused_name, IsReplyLine}
@@ -13,19 +14,15 @@ use Rattle.json_replies.specs.declared.further_line.FurtherLine.{FurtherLine}
 use Rattle.json_replies.specs.FurtherLines.{BoardFacts, further_key, IsFurtherLine}
 use Rattle.json_replies.specs.JsonReplies.{JsonReply}
 
--- LF is the last of the bytes
-abbrev pub EndsInLineFeed : List ℕ → Type 0
-EndsInLineFeed said = (front : List ℕ) × (said ≡ front ++ line_feed ∷ [])
-
--- the lines that are told of a reply that ends in LF, each with LF, are the reply
+-- the lines that are told of a reply of whole lines, each with LF, are the reply
 abbrev pub LinesAreTheReply : Type 0
-LinesAreTheReply = (said : List ℕ) → EndsInLineFeed said → lines_text (lines_of said) ≡ said
+LinesAreTheReply = (said : List ℕ) → AreWholeLines said → lines_text (lines_of said) ≡ said
 
--- one line of an object tells one reply that ends so, one refusal or none, and one session
+-- one line of an object tells one reply, one refusal or none, and one session, of all that answers any lines of any sessions
 abbrev pub ObjectsTellOneReply : {P : Type 0} → GameFacts P → Type 0
 ObjectsTellOneReply {P} f =
-    (one other : Outcome P) (new last : Option (History P)) (bytes : List ℕ)
-    → EndsInLineFeed (plain_text one) → EndsInLineFeed (plain_text other) → IsReplyLine f one new bytes → IsReplyLine f other last bytes
+    (old before : Option (History P)) (line earlier : Line) (one other : Outcome P) (new last : Option (History P)) (bytes : List ℕ)
+    → LineGives f old line one → LineGives f before earlier other → IsReplyLine f one new bytes → IsReplyLine f other last bytes
     → (plain_text one ≡ plain_text other) × (refused_name one ≡ refused_name other) × (session_data f new ≡ session_data f last)
 
 -- no object's line is the one that tells that an object was lost

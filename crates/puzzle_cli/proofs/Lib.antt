@@ -23,5 +23,6 @@ pub mod SaveReplies
 pub mod SeededReplies
 pub mod LinesAnswered
 pub mod PlainReplies
+pub mod WholeReplies
 pub mod CommandLines
 pub mod UnplayedGames

@@ -31,6 +31,7 @@ use Rattle.puzzle_cli.specs.SolutionTexts.{move_line, grid_line}
 use Rattle.puzzle_cli.specs.SessionReplies.{Outcome, text_outcome, sentence_outcome, ok_line, shown_board, IsCallRead, call_sentence}
 use Rattle.puzzle_cli.specs.Replies.{LineGives, AmpleGives, AmpleReply, Reply, left, refusal_line}
 use Rattle.puzzle_cli.specs.Runs.{RepliesInTurn}
+use Rattle.puzzle_cli.specs.WholeLines.{AreWholeLines}
 
 -- ---- lines
 
@@ -92,6 +93,11 @@ abbrev pub OtherRepliesAnswer : {P : Type 0} → GameFacts P → Type 0
 OtherRepliesAnswer {P} f =
     (old new : Option (History P)) (line : Line) (bytes : List ℕ)
     → Reply f old line bytes new → (IsRefusalLine bytes → ⊥) → LineGives f old line (Ok (bytes, new))
+
+-- a reply has no byte, or LF is its last
+abbrev pub RepliesAreWholeLines : {P : Type 0} → GameFacts P → Type 0
+RepliesAreWholeLines {P} f =
+    (old new : Option (History P)) (line : Line) (bytes : List ℕ) → Reply f old line bytes new → AreWholeLines bytes
 
 -- ---- the session's own calls
 

@@ -1,6 +1,6 @@
 //! The laws of what lines make of sessions. Each is of all lines and sessions, and so no clause of one call, which every caller would
 //! have to carry: they are the contract of a function that does nothing.
-ghost use Rattle.puzzle_cli.specs.RunLaws.{LinesAreReadOnce, RefusedLinesLeave, OtherRepliesAnswer, OutputIsOne, OutputIsThere, AnswersStayStorable, LinesAreCalls, OtherRequestsLeave, UndoLineTakesBack, RedoLineTakesUndoBack, SaveLineLoadsBack, SeededLinesHaveOne};
+ghost use Rattle.puzzle_cli.specs.RunLaws.{LinesAreReadOnce, RefusedLinesLeave, OtherRepliesAnswer, RepliesAreWholeLines, OutputIsOne, OutputIsThere, AnswersStayStorable, LinesAreCalls, OtherRequestsLeave, UndoLineTakesBack, RedoLineTakesUndoBack, SaveLineLoadsBack, SeededLinesHaveOne};
 
 use crate::draw::Draw;
 use crate::reply::facts::Facts;
@@ -8,9 +8,9 @@ use crate::reply::facts::Facts;
 /// The laws of what [`obey`](crate::obey) makes of lines, in any game; each format tells it in its words.
 ///
 /// Each line is read in one way. Of the bytes that [`run`](crate::run) writes, `refused: ` and a name tell that the line left the
-/// session, and any others are the answer as it was given: so what is said here of answers holds of what is written. With ample memory there is one output and one
-/// session for each list of lines, where each seed has a puzzle or a refusal, as `generate` answers. Where a session can be
-/// stored, or there is none, so it is after each line.
+/// session, and any others are the answer as it was given: so what is said here of answers holds of what is written. A reply is
+/// empty or ends with a line feed. With ample memory there is one output and one session for each list of lines, where each seed
+/// has a puzzle or a refusal, as `generate` answers. Where a session can be stored, or there is none, so it is after each line.
 ///
 /// A line that asks for a call of the session is answered as the session answers the call; one that asks for anything else
 /// leaves the session. A move, a restart or a solution that was made and then `undo` give back the board, the past, the
@@ -23,6 +23,7 @@ pub fn laws<P: Draw>()
     ensures read_once { LinesAreReadOnce }
     ensures refused { RefusedLinesLeave ⟦<P as Facts>⟧.facts }
     ensures answered { OtherRepliesAnswer ⟦<P as Facts>⟧.facts }
+    ensures whole_lines { RepliesAreWholeLines ⟦<P as Facts>⟧.facts }
     ensures one_output { OutputIsOne ⟦<P as Facts>⟧.facts }
     ensures output { OutputIsThere ⟦<P as Facts>⟧.facts }
     ensures stays_storable { AnswersStayStorable ⟦<P as Facts>⟧.facts }

@@ -18,8 +18,8 @@ use std::alloc::Global;
 /// Answers the lines of the source in turn, up to `quit`, and gives back the session that they left.
 ///
 /// It begins with the session, or with none. Each reply is made whole, written and flushed before the next line is looked
-/// at. A line ends with LF, or at the end of the input, and loses one CR at its end; an empty one has no reply, and one of
-/// more than 1,024 bytes is refused as `LongLine`.
+/// at: the contract says so of the end alone, and tests of each line. A line ends with LF, or at the end of the input, and loses
+/// one CR at its end; an empty one has no reply, and one of more than 1,024 bytes is refused as `LongLine`.
 ///
 /// `Finished` where the input is at its end or a line was `quit`. `ReadFault` where a read fails, or 1,000,000,000 bytes were
 /// read and neither had come: a line that has not ended then has no reply. `WriteFault` where a write or a flush fails, or a

@@ -1,0 +1,2 @@
+-- Lemmas for the law of `Draw` that the games keep.
+pub mod Pictures
