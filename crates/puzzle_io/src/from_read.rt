@@ -10,7 +10,8 @@ use std::marker::Model;
 
 /// The source that gives what a reader of `std` gives, and tells nothing of its bytes.
 ///
-/// Every error of the reader is `DeviceFault`, `Interrupted` too.
+/// Every error of the reader is `DeviceFault`, `Interrupted` too. No clause of `std` tells when a reader has an error, so that is tested
+/// only.
 #[derive(Drop)]
 pub struct FromRead<R> {
     reader: R,

@@ -11,7 +11,8 @@ use std::marker::Model;
 
 /// The sink that hands what it takes to a writer of `std`, and tells nothing of its bytes.
 ///
-/// Every error of the writer is `DeviceFault`, `Interrupted` too.
+/// Every error of the writer is `DeviceFault`, `Interrupted` too. No clause of `std` tells when a writer has an error, so that is tested
+/// only.
 #[derive(Drop)]
 pub struct ToWrite<W> {
     writer: W,

@@ -9,7 +9,7 @@ use puzzle_cli::{CommandFault, Fault};
 /// The status that a program ends with, after it has said what there is to say.
 ///
 /// 0 where its work is done. Else the line of the fault, or the text of refused words, goes to standard error, and the status is the
-/// fault's. The text of help goes to standard output, with status 0, or 1 where that can't be written.
+/// fault's. The text of help goes to standard output, with status 0, or 1 where that can't be written. What is printed is tested only.
 pub(crate) fn status_of(rt: &(impl Print + Eprint), ended: Result<(), Fault>) -> u8
     ensures { IsStatus (result_err ended) result }
 {

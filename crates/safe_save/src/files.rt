@@ -1,4 +1,5 @@
-//! A folder of the system's files. It tells nothing of what stands there, since no contract can say what a file holds.
+//! A folder of the system's files. It tells nothing of what stands there, since no contract can say what a file holds: what the
+//! comments here say of files is trusted, and tried from outside.
 //!
 //! All that is done to the new file is done by its descriptor: a name can be made to lead elsewhere between two calls.
 //!

@@ -49,7 +49,8 @@ impl From<io::Error> for Unsaved {
     }
 }
 
-/// Makes these bytes the content of the file at the path.
+/// Makes these bytes the content of the file at the path. No clause can say so of the system's files: what is told here is tried from
+/// outside.
 ///
 /// A pipe, a device, and a file that is open here for writing are written after what went there before. Links at the end of the
 /// path stay. `LeftBeside`: the whole save stands beside it, as `.puzzles.` and 16 hexadecimal digits and `.tmp`. `Failed`: what stood
