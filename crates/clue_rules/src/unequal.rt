@@ -12,6 +12,7 @@ mod game;
 mod item;
 mod lines;
 mod pieces;
+mod reasons;
 mod rules;
 mod sign;
 

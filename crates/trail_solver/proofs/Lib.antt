@@ -17,6 +17,7 @@ pub mod DeniedItems
 pub mod JoinedAnswers
 pub mod SearchSteps
 pub mod ShavingSteps
+pub mod NogoodSteps
 pub mod Pigeonholes
 pub mod PairedSquares
 pub mod CrowdSteps

@@ -7,3 +7,4 @@ pub mod Added
 pub mod Runs
 pub mod Searches
 pub mod Listed
+pub mod Nogoods

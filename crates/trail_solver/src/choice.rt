@@ -4,6 +4,7 @@ ghost use Rattle.std.specs.Prelude.{MatchOption};
 ghost use Rattle.std.specs.Bool.{OnTrue};
 ghost use Rattle.trail_solver.specs.Inner.Squares.{AreSettled, IsBranch, IsChoice, IsDead, IsFirstOpen, IsOpen};
 
+use crate::activity::Activity;
 use crate::candidates::Candidates;
 use crate::failures::Failures;
 use crate::proposal::best_proposal;
@@ -33,6 +34,20 @@ pub(crate) fn choose(candidates: &Candidates, failures: &Failures) -> Choice
             value: best.value,
         },
         _ => lowest_at(candidates, open),
+    }
+}
+
+/// The same, rather where failures were about most.
+pub(crate) fn choose_active(
+    candidates: &Candidates,
+    failures: &Failures,
+    activity: &Activity,
+) -> Choice
+    ensures { IsChoice candidates.now result }
+{
+    match activity.most_active(candidates) {
+        Some((cell, value)) if is_branch(candidates, cell, value) => Choice::Branch { cell, value },
+        _ => choose(candidates, failures),
     }
 }
 

@@ -15,16 +15,21 @@
 //! ```
 #![tactic(auto)]
 
+mod activity;
+mod analysis;
 mod answer;
 mod candidates;
 mod choice;
 mod completions;
 mod crowds;
 mod failures;
+mod learned;
+mod learning;
 mod listing;
 mod losses;
 mod matching;
 mod narrowing;
+mod nogood;
 mod pairing;
 mod place_counts;
 mod proposal;
@@ -39,6 +44,6 @@ pub use answer::Answer;
 pub use candidates::{Candidates, Mark};
 pub use completions::{completion, grid_candidates};
 pub use listing::{MOST_LISTED, solutions};
-pub use rules::{Rules, solves};
+pub use rules::{Reason, Rules, solves};
 pub use solver::{has_other, solve};
 pub use trail::Trail;

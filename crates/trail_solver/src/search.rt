@@ -23,6 +23,9 @@ use std::marker::Model;
 /// How many failures each run may have that is left for another one. The last run has no limit.
 const RUN_LIMITS: [u32; 3] = [100, 150, 225];
 
+/// How many more the run may have that is left for learning.
+const BEFORE_LEARNING: u32 = 5000;
+
 /// A place to which a search can go back.
 #[derive(Clone, Copy)]
 pub(crate) struct Place {
@@ -180,9 +183,24 @@ impl<P: Rules> Search<P> {
         ensures adds { Adds (IsAmong (P.puzzle self.old.rules) self.old.candidates) known.now result }
     {
         if self.shave() {
-            self.whole_answer(known)
+            self.thorough_answer(known)
         } else {
             *known
+        }
+    }
+
+    // The same of candidates that are shaved: by one run without a limit, or where the rules say so by learning after one more limited run.
+    fn thorough_answer(&mut self, known: &Answer) -> Answer
+        ensures same { self.new ≡ self.old }
+        ensures adds { Adds (IsAmong (P.puzzle self.old.rules) self.old.candidates) known.now result }
+    {
+        if !self.rules.learns() {
+            return self.whole_answer(known);
+        }
+        let limit = self.failures.after(BEFORE_LEARNING);
+        match self.attempt(known, Some(limit)) {
+            Some(answer) => answer,
+            None => self.learning_answer(known),
         }
     }
 
@@ -293,7 +311,7 @@ impl<P: Rules> Search<P> {
     // frames of the calls within calls.
     #[inline(never)]
     #[tactic(auto, using(crate::proofs::SearchSteps::leaf_adds, crate::proofs::SearchSteps::leaf_none))]
-    fn add_leaf(&self, found: &mut Answer)
+    pub fn add_leaf(&self, found: &mut Answer)
         requires { AreSettled self.now.candidates }
         ensures { Adds (IsAmong (P.puzzle self.now.rules) self.now.candidates) found.old found.new }
     {

@@ -17,7 +17,8 @@ use crate::unequal::item::{Item, item_at, item_count};
 use crate::unequal::sign::Sign;
 use crate::unequal::{Unequal, square_count};
 use latin_board::{CELLS, Grid, Size};
-use trail_solver::{Candidates, Rules};
+use number_sets::NumberSet;
+use trail_solver::{Candidates, Reason, Rules};
 
 impl Unequal {
     // A function of its own, so that `holds` need only prove that the test decides the rule.
@@ -192,6 +193,14 @@ impl Rules for Unequal {
 
     fn narrow_from(&self, candidates: &mut Candidates, cell: usize) -> bool {
         narrow_by_lines_of(self, candidates, cell)
+    }
+
+    fn learns(&self) -> bool {
+        true
+    }
+
+    fn reason(&self, sets: &[NumberSet; CELLS], cell: usize, value: u8) -> Option<Reason> {
+        self.reason_against(sets, cell, value)
     }
 
     fn item_count(size: Size) -> usize {
