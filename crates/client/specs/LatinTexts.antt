@@ -1,5 +1,5 @@
--- The laws of the description: what is read is spelled so, and what is spelled so is read. And the one of the picture.
-use Rattle.std.proofs.Common.{◌≡◌, ℕ, ◌+◌, ◌-◌, ◌*◌, ◌≤◌, true, false, ◌&&◌, nat_le, nat_lt, cond, codes, List, [], ◌∷◌, ◌++◌, length, map, Option, Some, None, option_map, option_and_then, Result, Ok, Err, ok_or, refl, sym, ap, ◌∙◌, subst, inr, arith}
+-- The laws of the description: what is read is spelled so, and what is spelled so is read.
+use Rattle.std.proofs.Common.{◌≡◌, ℕ, ◌+◌, ◌-◌, ◌*◌, ◌≤◌, true, false, ◌&&◌, nat_le, nat_lt, cond, codes, List, [], ◌∷◌, ◌++◌, length, map, Option, Some, None, option_map, option_and_then, Result, Ok, Err, ok_or, refl, sym, ap, ◌∙◌, subst, arith}
 use Rattle.std.specs.List.{AllByRecursion}
 use Rattle.std.proofs.lemmas.List.{length-map}
 use Rattle.std.proofs.lemmas.List.Elements.{All-from_recursion, recursion_from_All}
@@ -7,7 +7,6 @@ use borrow.Author.Tests.{leb-true, le-leb}
 use Rattle.byte_text.specs.Bytes.{digit}
 use Rattle.byte_text.specs.Reading.{◌>>=◌}
 use Rattle.latin_board.specs.Squares.{GridValue, IsGrid}
-use Rattle.latin_board.specs.Boards.{BoardValue}
 use Rattle.clue_rules.specs.declared.game.TheConstants.{MOST_ITEMS}
 use Rattle.clue_rules.specs.declared.id_fault.IdFault.{IdFault}
 use Rattle.clue_rules.specs.declared.id_fault.IdFault.TheVariants.{BadSquares, TooFew, TooMany}
@@ -16,8 +15,7 @@ use Rattle.clue_rules.specs.IdFaults.{NotForMemory, exactly}
 use Rattle.clue_rules.specs.Laws.Exactly.{exactly_taken, exactly_again}
 use Rattle.clue_rules.specs.Laws.KeptItems.{small_widths}
 use Rattle.clue_rules.specs.Laws.NotForMemory.{not_for_memory-then, not_for_memory-if}
-use Rattle.puzzle_cli.specs.WholeLines.{AreWholeLines}
-use Rattle.client.specs.Latin.{items_of, latin_text, latin_picture, number_in, numbers_in, givens_in, latin_at}
+use Rattle.client.specs.Latin.{items_of, latin_text, number_in, numbers_in, givens_in, latin_at}
 
 -- the widths that are generated have few squares
 pub few_items : (w : ℕ) → 3 ≤ w → w ≤ 6 → items_of w ≤ MOST_ITEMS
@@ -144,7 +142,3 @@ latin_not_for_memory w text =
 -- the written form describes its puzzle
 pub latin_canonical : (p : GridValue) → IsGrid p → latin_text p ≡ latin_text p
 latin_canonical p h = refl
-
--- the picture is a whole line
-pub latin_whole : (p : GridValue) (b : BoardValue) → AreWholeLines (latin_picture p b)
-latin_whole p b = inr (map digit b.numbers, refl)

@@ -8,11 +8,9 @@ use Rattle.serde_json.specs.Read.{read}
 use Rattle.serde_json.specs.View.{items_of}
 use Rattle.serde_json.specs.Written.{compact_text}
 use Rattle.serde_json.proofs.OnLiterals.{serde_json_on_literals}
-use Rattle.latin_board.specs.Boards.{BoardValue}
 use Rattle.play_midend.specs.Histories.{History}
 use Rattle.puzzle_cli.specs.GameFacts.{GameFacts}
 use Rattle.puzzle_cli.specs.Replies.{plain_text, refusal_line}
-use Rattle.puzzle_cli.specs.WholeLines.{AreWholeLines}
 use Rattle.puzzle_cli.proofs.WholeReplies.{answers_are_whole}
 use Rattle.json_replies.specs.declared.further_line.FurtherLine.{FurtherLine}
 use Rattle.json_replies.specs.declared.further_line.FurtherLine.TheVariants.{Board, Completable, Hint}
@@ -77,7 +75,7 @@ names_same None (Some b) is = absurd (cc is)
 names_same (Some a) None is = absurd (cc is)
 names_same (Some a) (Some b) is = let texts : latin_text a ≡ latin_text b = cc is in ap Some (encodes_same a b texts)
 
-pub objects_tell_one_reply : {P : Type 0} (f : GameFacts P) → ((p : P) (b : BoardValue) → AreWholeLines (f.drawing p b)) → ObjectsTellOneReply f
+pub objects_tell_one_reply : {P : Type 0} (f : GameFacts P) → ObjectsTellOneReply f
 objects_tell_one_reply f drawn old before line earlier one other new last bytes gives answers tells says =
     let said = plain_text one in
     let told = plain_text other in

@@ -6,6 +6,7 @@ use Rattle.puzzle_cli.specs.GameFacts.{GameFacts}
 use Rattle.puzzle_cli.specs.SessionReplies.{Outcome}
 use Rattle.puzzle_cli.specs.Replies.{LineGives, plain_text}
 use Rattle.puzzle_cli.specs.WholeLines.{AreWholeLines}
+use Rattle.puzzle_cli.specs.RunLaws.{PicturesAreWholeLines}
 use Rattle.json_replies.specs.Texts.{lines_of, lines_text}
 use Rattle.json_replies.specs.ObjectLines.{lost_line, OrLost}
 use Rattle.json_replies.specs.Replies.{refused_name, IsReplyLine}
@@ -18,10 +19,12 @@ use Rattle.json_replies.specs.JsonReplies.{JsonReply}
 abbrev pub LinesAreTheReply : Type 0
 LinesAreTheReply = (said : List ℕ) → AreWholeLines said → lines_text (lines_of said) ≡ said
 
--- one line of an object tells one reply, one refusal or none, and one session, of all that answers any lines of any sessions
+-- where pictures are whole lines, one line of an object tells one reply, one refusal or none, and one session, of all that answers any lines
+-- of any sessions
 abbrev pub ObjectsTellOneReply : {P : Type 0} → GameFacts P → Type 0
 ObjectsTellOneReply {P} f =
-    (old before : Option (History P)) (line earlier : Line) (one other : Outcome P) (new last : Option (History P)) (bytes : List ℕ)
+    PicturesAreWholeLines f.drawing
+    → (old before : Option (History P)) (line earlier : Line) (one other : Outcome P) (new last : Option (History P)) (bytes : List ℕ)
     → LineGives f old line one → LineGives f before earlier other → IsReplyLine f one new bytes → IsReplyLine f other last bytes
     → (plain_text one ≡ plain_text other) × (refused_name one ≡ refused_name other) × (session_data f new ≡ session_data f last)
 

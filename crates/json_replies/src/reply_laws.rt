@@ -8,8 +8,9 @@ use puzzle_cli::Facts;
 
 /// The laws of the objects that answer lines, in any game.
 ///
-/// The lines that are told of a reply of whole lines, each with LF, are the reply. Every plain reply is whole lines, so two that
-/// are told by the same bytes are the same, and what is told of the session that they leave is the same. No object's line is
+/// The lines that are told of a reply of whole lines, each with LF, are the reply. Where a game's pictures are
+/// whole lines every plain reply is, so two that are told by the same bytes are the same, and what is told of the session that they
+/// leave is the same. No object's line is
 /// `{"lost":"OutOfMemory"}`. The lines `board`, `completable` and `hint` leave the session, and are answered from it.
 pub fn laws<P: Shows>()
     ensures lines { LinesAreTheReply }

@@ -23,6 +23,7 @@ pub mod SaveReplies
 pub mod SeededReplies
 pub mod LinesAnswered
 pub mod PlainReplies
+pub mod WholePictures
 pub mod WholeReplies
 pub mod CommandLines
 pub mod UnplayedGames

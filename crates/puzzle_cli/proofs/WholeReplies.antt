@@ -30,9 +30,9 @@ use Rattle.puzzle_cli.specs.Refusals.{refusal_name, play_refusal, start_refusal}
 use Rattle.puzzle_cli.specs.GameFacts.{GameFacts}
 use Rattle.puzzle_cli.specs.SessionReplies.{Outcome, RequestGives, CallSays, IsSaidOf, sentence_outcome, text_outcome, shown_board, id_words, view_text, call_sentence}
 use Rattle.puzzle_cli.specs.Replies.{LineGives, ReadGives, begun, plain_text, refusal_line}
-use Rattle.puzzle_cli.specs.RunLaws.{RepliesAreWholeLines}
+use Rattle.puzzle_cli.specs.RunLaws.{PicturesAreWholeLines, RepliesAreWholeLines}
 use Rattle.puzzle_cli.specs.WholeLines.{AreWholeLines}
-use Rattle.puzzle_cli.specs.Laws.Pictures.{ends_after, each_whole, line_whole}
+use Rattle.puzzle_cli.proofs.WholePictures.{ends_after, each_whole, line_whole}
 
 -- ---- texts
 
@@ -74,7 +74,7 @@ save_whole title desc_of h = each_whole record_text record_whole (session_record
 refusal_whole : (refusal : Refusal) → AreWholeLines (refusal_line (refusal_name refusal))
 refusal_whole refusal = line_whole (codes "refused: " ++ refusal_name refusal)
 
-module _ {P : Type 0} (f : GameFacts P) (drawn : (p : P) (b : BoardValue) → AreWholeLines (f.drawing p b)) where
+module _ {P : Type 0} (f : GameFacts P) (drawn : PicturesAreWholeLines f.drawing) where
   -- what is told of a session
   view_whole : (h : History P) (view : View) → AreWholeLines (view_text f h view)
   view_whole h Show = drawn h.puzzle (shown_board f h)
@@ -142,6 +142,7 @@ module _ {P : Type 0} (f : GameFacts P) (drawn : (p : P) (b : BoardValue) → Ar
   answers_are_whole old line (Ok said) (read, is, gives) = read_whole old read (Ok said) gives
   answers_are_whole old line (Err refusal) given = refusal_whole refusal
 
-  pub replies_are_whole : RepliesAreWholeLines f
-  replies_are_whole old new line bytes (outcome, gives, tells, leaves) =
-      subst AreWholeLines (sym tells) (answers_are_whole old line outcome gives)
+-- and so a reply
+pub replies_are_whole : {P : Type 0} (f : GameFacts P) → RepliesAreWholeLines f
+replies_are_whole f drawn old new line bytes (outcome, gives, tells, leaves) =
+    subst AreWholeLines (sym tells) (answers_are_whole f drawn old line outcome gives)

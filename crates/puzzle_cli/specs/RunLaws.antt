@@ -4,6 +4,7 @@ use Rattle.std.specs.Fmt.{decimal}
 use Rattle.std.specs.Option.{IsSomeAnd}
 use Rattle.byte_text.specs.Bytes.{exclamation}
 use Rattle.latin_board.specs.Squares.{GridValue}
+use Rattle.latin_board.specs.Boards.{BoardValue}
 use Rattle.trail_solver.specs.Solutions.{HasSeveralSolutions, IsOnlySolution}
 use Rattle.clue_rules.specs.declared.params.Params.{Params}
 use Rattle.clue_rules.specs.Parameters.{IsParams, params_text}
@@ -23,6 +24,8 @@ use Rattle.puzzle_cli.specs.declared.command.Request.TheVariants.{Act}
 use Rattle.puzzle_cli.specs.declared.reply.refusal.Refusal.TheVariants.{Memory}
 use Rattle.puzzle_cli.specs.declared.start.start_fault.StartFault.{StartFault}
 use Rattle.puzzle_cli.specs.declared.start.start_fault.StartFault.TheVariants.{Load, OutOfMemory}
+use Rattle.puzzle_cli.specs.TowersPicture.{towers_picture}
+use Rattle.puzzle_cli.specs.UnequalPicture.{unequal_picture}
 use Rattle.puzzle_cli.specs.Lines.{Line}
 use Rattle.puzzle_cli.specs.Commands.{Reading, IsRead}
 use Rattle.puzzle_cli.specs.GameFacts.{GameFacts}
@@ -94,10 +97,19 @@ OtherRepliesAnswer {P} f =
     (old new : Option (History P)) (line : Line) (bytes : List ℕ)
     → Reply f old line bytes new → (IsRefusalLine bytes → ⊥) → LineGives f old line (Ok (bytes, new))
 
--- a reply has no byte, or LF is its last
+-- each picture of a game's boards has no byte, or LF is its last
+abbrev pub PicturesAreWholeLines : {P : Type 0} → (P → BoardValue → List ℕ) → Type 0
+PicturesAreWholeLines {P} drawing = (p : P) (board : BoardValue) → AreWholeLines (drawing p board)
+
+-- so it is in both games
+abbrev pub BothPicturesAreWholeLines : Type 0
+BothPicturesAreWholeLines = PicturesAreWholeLines towers_picture × PicturesAreWholeLines unequal_picture
+
+-- and where it is, so is each reply
 abbrev pub RepliesAreWholeLines : {P : Type 0} → GameFacts P → Type 0
 RepliesAreWholeLines {P} f =
-    (old new : Option (History P)) (line : Line) (bytes : List ℕ) → Reply f old line bytes new → AreWholeLines bytes
+    PicturesAreWholeLines f.drawing
+    → (old new : Option (History P)) (line : Line) (bytes : List ℕ) → Reply f old line bytes new → AreWholeLines bytes
 
 -- ---- the session's own calls
 

@@ -3,7 +3,6 @@
 ghost use Rattle.std.specs.Prelude.{◌≡◌, ℕ, List, IfOk};
 ghost use Rattle.latin_board.specs.Boards.{BoardValue};
 ghost use Rattle.play_midend.specs.Histories.{shown};
-ghost use Rattle.puzzle_cli.specs.WholeLines.{AreWholeLines};
 
 pub(crate) mod symbols;
 pub(crate) mod towers_picture;
@@ -26,9 +25,6 @@ pub trait Draw: Game {
     fn draw(&self, alloc: Global, board: &Board) -> Result<Vec<u8>, OutOfMemory>
         requires { board.now.size ≡ (Self.puzzle self.now).size }
         ensures { IfOk result (λ picture. picture.items ≡ drawing self.now board.now) };
-
-    // A picture is whole lines.
-    ghost whole_lines: { (p : Self) (board : BoardValue) → AreWholeLines (drawing p board) };
 }
 
 /// The picture of the board that a session shows.

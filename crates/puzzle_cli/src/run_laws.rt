@@ -1,6 +1,6 @@
 //! The laws of what lines make of sessions. Each is of all lines and sessions, and so no clause of one call, which every caller would
 //! have to carry: they are the contract of a function that does nothing.
-ghost use Rattle.puzzle_cli.specs.RunLaws.{LinesAreReadOnce, RefusedLinesLeave, OtherRepliesAnswer, RepliesAreWholeLines, OutputIsOne, OutputIsThere, AnswersStayStorable, LinesAreCalls, OtherRequestsLeave, UndoLineTakesBack, RedoLineTakesUndoBack, SaveLineLoadsBack, SeededLinesHaveOne};
+ghost use Rattle.puzzle_cli.specs.RunLaws.{LinesAreReadOnce, RefusedLinesLeave, OtherRepliesAnswer, BothPicturesAreWholeLines, RepliesAreWholeLines, OutputIsOne, OutputIsThere, AnswersStayStorable, LinesAreCalls, OtherRequestsLeave, UndoLineTakesBack, RedoLineTakesUndoBack, SaveLineLoadsBack, SeededLinesHaveOne};
 
 use crate::draw::Draw;
 use crate::reply::facts::Facts;
@@ -9,7 +9,7 @@ use crate::reply::facts::Facts;
 ///
 /// Each line is read in one way. Of the bytes that [`run`](crate::run) writes, `refused: ` and a name tell that the line left the
 /// session, and any others are the answer as it was given: so what is said here of answers holds of what is written. A reply is
-/// empty or ends with a line feed. With ample memory there is one output and one session for each list of lines, where each seed
+/// empty or ends with a line feed, where a game's pictures are so, and those of both games are. With ample memory there is one output and one session for each list of lines, where each seed
 /// has a puzzle or a refusal, as `generate` answers. Where a session can be stored, or there is none, so it is after each line.
 ///
 /// A line that asks for a call of the session is answered as the session answers the call; one that asks for anything else
@@ -23,6 +23,7 @@ pub fn laws<P: Draw>()
     ensures read_once { LinesAreReadOnce }
     ensures refused { RefusedLinesLeave ⟦<P as Facts>⟧.facts }
     ensures answered { OtherRepliesAnswer ⟦<P as Facts>⟧.facts }
+    ensures pictures { BothPicturesAreWholeLines }
     ensures whole_lines { RepliesAreWholeLines ⟦<P as Facts>⟧.facts }
     ensures one_output { OutputIsOne ⟦<P as Facts>⟧.facts }
     ensures output { OutputIsThere ⟦<P as Facts>⟧.facts }

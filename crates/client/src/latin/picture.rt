@@ -8,7 +8,6 @@ use std::alloc::Global;
 
 impl Draw for Latin {
     ghost use Rattle.client.specs.Latin.{latin_picture};
-    ghost use Rattle.client.specs.LatinTexts as laws;
 
     ghost drawing = { latin_picture };
 
@@ -17,6 +16,4 @@ impl Draw for Latin {
         picture.push(b'\n')?;
         Ok(picture)
     }
-
-    ghost whole_lines = { laws.latin_whole };
 }

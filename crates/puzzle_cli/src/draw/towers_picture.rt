@@ -14,8 +14,6 @@ use trail_solver::Rules;
 type Symbols = ArrayVec<u8, 11>;
 
 impl Draw for Towers {
-    ghost use Rattle.puzzle_cli.specs.Laws.Pictures as laws;
-
     ghost drawing = { towers_picture };
 
     fn draw(&self, alloc: Global, board: &Board) -> Result<Vec<u8>, OutOfMemory> {
@@ -29,8 +27,6 @@ impl Draw for Towers {
         push_spaced_line(&mut picture, &clue_row(self, width))?;
         Ok(picture)
     }
-
-    ghost whole_lines = { laws.towers_whole };
 }
 
 fn clue_row(puzzle: &Towers, first: u8) -> Symbols

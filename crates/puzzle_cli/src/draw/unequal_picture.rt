@@ -11,8 +11,6 @@ use std::alloc::{AllocError, Global};
 use trail_solver::Rules;
 
 impl Draw for Unequal {
-    ghost use Rattle.puzzle_cli.specs.Laws.Pictures as laws;
-
     ghost drawing = { unequal_picture };
 
     fn draw(&self, alloc: Global, board: &Board) -> Result<Vec<u8>, OutOfMemory> {
@@ -26,8 +24,6 @@ impl Draw for Unequal {
         }
         Ok(picture)
     }
-
-    ghost whole_lines = { laws.unequal_whole };
 }
 
 // Appends the row of squares that begins with the first square, and the signs in it.

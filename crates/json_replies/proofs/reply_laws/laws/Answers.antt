@@ -9,7 +9,7 @@ pub returns-clause-lines : goal.returns-clause-lines
 returns-clause-lines g c = lines_are_the_reply
 
 pub returns-clause-one_reply : goal.returns-clause-one_reply
-returns-clause-one_reply g c = objects_tell_one_reply (facts_of g.P.Rules g.P.Game g.P.Draw) g.met.P.Draw.whole_lines
+returns-clause-one_reply g c = objects_tell_one_reply (facts_of g.P.Rules g.P.Game g.P.Draw)
 
 pub returns-clause-not_lost : goal.returns-clause-not_lost
 returns-clause-not_lost g c =

@@ -7,6 +7,7 @@ use Rattle.puzzle_cli.specs.Inner.CommandReading.{read_at}
 use Rattle.puzzle_cli.proofs.CommandLaws.{line_is_read, read_once}
 use Rattle.puzzle_cli.proofs.RepliesOnce.{IdsAreReadOnce, ids_once, output_once}
 use Rattle.puzzle_cli.proofs.RepliesTold.{refused_lines_leave, other_replies_answer}
+use Rattle.puzzle_cli.proofs.WholePictures.{towers_whole, unequal_whole}
 use Rattle.puzzle_cli.proofs.WholeReplies.{replies_are_whole}
 use Rattle.puzzle_cli.proofs.StorableReplies.{answers_stay_storable}
 use Rattle.puzzle_cli.proofs.CallReplies.{lines_are_calls, other_requests_leave}
@@ -39,8 +40,11 @@ returns-clause-refused g c = refused_lines_leave (facts_of g.P.Rules g.P.Game g.
 pub returns-clause-answered : goal.returns-clause-answered
 returns-clause-answered g c = other_replies_answer (facts_of g.P.Rules g.P.Game g.P.Draw)
 
+pub returns-clause-pictures : goal.returns-clause-pictures
+returns-clause-pictures g c = (towers_whole, unequal_whole)
+
 pub returns-clause-whole_lines : goal.returns-clause-whole_lines
-returns-clause-whole_lines g c = replies_are_whole (facts_of g.P.Rules g.P.Game g.P.Draw) g.met.P.Draw.whole_lines
+returns-clause-whole_lines g c = replies_are_whole (facts_of g.P.Rules g.P.Game g.P.Draw)
 
 pub returns-clause-one_output : goal.returns-clause-one_output
 returns-clause-one_output g c = output_once (facts_of g.P.Rules g.P.Game g.P.Draw) (laws_of g.met.P.Rules) (ids g)

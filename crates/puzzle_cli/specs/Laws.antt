@@ -1,2 +1,0 @@
--- Lemmas for the law of `Draw` that the games keep.
-pub mod Pictures
