@@ -6,7 +6,7 @@ use Rattle.std.proofs.Common.{◌≡◌, ℕ, ◌+◌, ◌*◌, ◌<◌, Bool, t
 use Rattle.std.proofs.lemmas.Bool.{cases_Bool, cases_eq, cases_lt, and_parts}
 use Rattle.latin_board.specs.Squares.{GridValue, number_at}
 use Rattle.number_sets.specs.Sets.{has_number}
-use Rattle.trail_solver.specs.Pairs.{IsPair, pairs_of}
+use Rattle.trail_solver.specs.Pairs.{pairs_of}
 use Rattle.trail_solver.specs.Candidates.{CandidatesValue, AreCandidates, IsCandidates, IsSetOf, IsWithin, may_be}
 use Rattle.trail_solver.specs.Puzzles.{Puzzle, Solves}
 use Rattle.trail_solver.specs.Inner.Among.{IsAmong}
