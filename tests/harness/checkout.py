@@ -4,12 +4,11 @@ from __future__ import annotations
 
 import os
 import shutil
-import subprocess
 from typing import Dict, Mapping, Optional, Sequence
 
 from tests.harness.builds import TOP
-from tests.harness.program import Ended
-from tests.harness.room import Room
+from tests.harness.program import Ended, run
+from tests.harness.room import Folder, Room
 from tests.harness.users import User
 
 #: What of the repository is copied: folders and files.
@@ -51,25 +50,7 @@ class Checkout:
         """An environment with as little as may be."""
         return {'PATH': os.environ.get('PATH', os.defpath), 'HOME': os.path.dirname(self.path), **more}
 
-    def run(
-        self,
-        words: Sequence[str],
-        *,
-        cwd: str = '',
-        input: bytes = b'',
-        env: Optional[Mapping[str, str]] = None,
-        seconds: float = 120,
-    ) -> Ended:
+    def run(self, words: Sequence[str], *, cwd: str = '', input: bytes = b'', env: Optional[Mapping[str, str]] = None) -> Ended:
         """Runs a command, there or in a folder named from there, with what else the environment has."""
-        done = subprocess.run(
-            words,
-            cwd=os.path.join(self.path, cwd),
-            env=self.env(env or {}),
-            input=input,
-            stdout=subprocess.PIPE,
-            stderr=subprocess.PIPE,
-            timeout=seconds,
-            preexec_fn=self._user.become if self._user else None,
-            check=False,
-        )
-        return Ended(done.returncode, done.stdout, done.stderr)
+        with Folder(os.path.join(self.path, cwd)) as folder:
+            return run(words, folder, input=input, user=self._user, env=self.env(env or {}), seconds=120)

@@ -11,30 +11,8 @@ from tests.harness.checkout import Checkout
 from tests.harness.terminal import Terminal
 from tests.harness.users import ANNA
 
-#: Does what `rt` does as far as the scripts know: `lib` leaves statements in `out/`, `run` and `ci` leave programs there, and all say what they were asked.
-#: RT_PROGRAM is the program that is left, RT_SAYS what is printed besides, RT_STATUS the status, and RT_VERSION the line of the kit.
-RT = b"""\
-#!/bin/sh
-leave() {
-    [ -z "$RT_PROGRAM" ] || { mkdir -p "$1/out" && cp "$RT_PROGRAM" "$1/out/$2"; }
-}
-[ "$1" != version ] || { echo "${RT_VERSION:-a kit that proves nothing}"; exit; }
-echo "asked for $* in ${PWD##*/}"
-case $1 in
-    lib)
-        echo 'logic=proved functions=12 of 12'
-        mkdir -p out/rlib && : > out/rlib/stamp ;;
-    run)
-        echo 'logic=proved functions=12 of 12'
-        leave . "${PWD##*/}" ;;
-    ci)
-        leave crates/puzzles puzzles
-        leave crates/puzzles puzzles.by-rattle
-        leave crates/trial_runs trial_runs ;;
-esac
-[ -z "$RT_SAYS" ] || echo "$RT_SAYS"
-exit "${RT_STATUS:-0}"
-"""
+#: What stands for commands that the scripts call.
+STAND_INS = TOP / 'tests' / 'scripts' / 'stand_ins'
 
 
 class Place(Checkout):
@@ -43,7 +21,7 @@ class Place(Checkout):
     def __init__(self, room: Room, program: str, objects: str) -> None:
         self.user: Optional[User] = ANNA if is_root() else None
         super().__init__(room, self.user)
-        self.rt = self.put('../kit/bin/rt', RT)
+        self.rt = self.stand_in('rt', '../kit/bin/rt')
         self.put('../kit/KIT-ID', b'a kit that proves nothing\n', 0o644)
         self.program = program
         self.objects = objects
@@ -53,6 +31,10 @@ class Place(Checkout):
         self._temporary = os.path.join(os.path.dirname(self.path), 'for a while')
         os.mkdir(self._temporary, 0o700)
         self.give()
+
+    def stand_in(self, name: str, path: str) -> str:
+        """Puts what stands for a command there, and gives its whole path."""
+        return self.put(path, (STAND_INS / name).read_bytes())
 
     def env(self, more: Mapping[str, str]) -> Dict[str, str]:
         """`rt` is the one of this place, and the programs that it leaves are the one that is tested, or as is said."""

@@ -23,20 +23,6 @@ packages.has_modules = lambda python, modules: all(os.path.exists(os.path.join(o
 print(packages.make_ready())
 """
 
-#: Stands for apt: notes how it is asked, and gives all commands, or, where the first word of HOW is the call that it is asked for, none.
-APT = """\
-#!/bin/sh
-for word; do call=$last last=$word; case $word in install | update) asked=$word; break ;; esac; done
-read -r answer && answer="an answer is read"
-echo "$asked $DEBIAN_FRONTEND$answer" >> "$APT_LOG"
-case "$asked $APT_FAILS" in
-    'install first') [ "$(wc -l < "$APT_LOG")" -gt 1 ] || exit 100 ;;
-    *always) exit 100 ;;
-esac
-[ "$asked" = update ] || for name in $APT_GIVES; do printf '' > "${0%/*}/$name"; chmod 755 "${0%/*}/$name"; done
-"""
-
-
 class Lacking(NamedTuple):
     """What apt does, what it is asked then, and whether all is there at last."""
 
@@ -94,7 +80,7 @@ def ready(place: Place, env: Dict[str, str]) -> str:
 def small_path(place: Place, name: str) -> str:
     """A folder with a Python, what a script of these cases needs, and an apt."""
     folder = os.path.join(os.path.dirname(place.path), f'path {name}')
-    apt = place.put(os.path.join(folder, 'apt-get'), APT.encode())
+    apt = place.stand_in('apt-get', os.path.join(folder, 'apt-get'))
     for command in ('sh', 'sleep', 'wc', 'chmod'):
         os.symlink(shutil.which(command) or command, os.path.join(os.path.dirname(apt), command))
     python = place.run(['python3', '-c', 'import sys; print(sys.executable)']).output.decode().strip()
