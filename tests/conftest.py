@@ -4,12 +4,12 @@ from __future__ import annotations
 
 import os
 import signal
-from typing import Iterator, List, NamedTuple
+from typing import Any, Dict, Iterator, List, NamedTuple
 
 import pytest
 
 #: What the cases of each folder share says of an assertion what pytest says.
-for name in ('harness', 'saving.game', 'lines.runs', 'board.front', 'board.playing', 'exchange.sides', 'faults', 'installing.site', 'objects.worked_lines', 'scripts.small'):
+for name in ('harness', 'saving.game', 'lines.runs', 'board.front', 'board.playing', 'exchange.sides', 'faults', 'installing.site', 'objects', 'scripts.small'):
     pytest.register_assert_rewrite(f'tests.{name}')
 
 from building.ready import NotReady, ready
@@ -88,6 +88,16 @@ def room() -> Iterator[Room]:
     """A folder for this case alone."""
     with Room() as made:
         yield made
+
+
+@pytest.fixture
+def stream(request: pytest.FixtureRequest, room: Room) -> Iterator[Dict[str, Any]]:
+    """What `run` is given so that a stream fails: the input is a folder, which can't be read; the output is full, or closed, or its reader has gone."""
+    with open('/dev/full', 'wb') as full, room.make_folder('no input') as folder:
+        reading, writing = os.pipe()
+        os.close(reading)
+        yield {'unread': {'stdin': folder.fd}, 'full': {'stdout': full.fileno()}, 'closed': {'closed': [1]}, 'gone': {'stdout': writing}}[request.param]
+        os.close(writing)
 
 
 @pytest.fixture(scope='session')

@@ -2,6 +2,8 @@
 
 from __future__ import annotations
 
+from typing import Any, Dict
+
 import pytest
 
 from tests.harness import by_name
@@ -107,10 +109,6 @@ def test_words(player: Player, row: Run) -> None:
     player.play(row)
 
 
-def test_closed_output(player: Player) -> None:
-    player.play(UNWRITTEN, closed=[1])
-
-
-def test_full_output(player: Player) -> None:
-    with open('/dev/full', 'wb') as full:
-        player.play(UNWRITTEN, stdout=full.fileno())
+@pytest.mark.parametrize('stream', ['closed', 'full'], indirect=True)
+def test_unwritten(player: Player, stream: Dict[str, Any]) -> None:
+    player.play(UNWRITTEN, **stream)
