@@ -12,6 +12,7 @@ EDITS = [
     (0, [b'COMMENT :1:x', SAMPLE[0]], 'NotASave'),
     (1, [b'VERSION :1:2'], 'Version'),
     (2, [b'GAME    :6:towers'], 'WrongGame'),
+    (2, [b'GAME    :6:Towern'], 'WrongGame'),
     (2, [b'GAME    :6:Towers', b'GAME    :6:Towers'], 'Repeated'),
     (2, [b'GAME    :6:Towers', b'GAME    :6:Nothing'], 'Repeated'),
     (6, [b'MOVE    :6:R0,0,1', b'NSTATES :1:3'], 'EarlyState'),
@@ -34,6 +35,8 @@ EDITS = [
     (6, [b'NSTATES :1:4'], 'Missing'),
     (6, [b'NSTATES :6:100000'], 'Missing'),
     (8, [b'MOVE    :7:R01,0,1'], 'BadState 1'),
+    (8, [b'MOVE    :5:D1,-1'], 'BadState 1'),
+    (8, [b'MOVE    :5:D-0,1'], 'BadState 1'),
     (9, [b'MOVE    :6:R3,0,2'], 'BadState 2'),
     (9, [b'SOLVE   :10:S132213321'], 'BadState 2'),
     # States are judged on the board so far.
