@@ -8,8 +8,7 @@ from typing import Any, Collection, Iterator, List, Sequence
 
 from bodies.edits import Texts
 from bodies.kit import Kit, Said
-from building.copies import copy_folder, write_list
-from building.crates import PARTS, all_of, listed, own
+from building.crates import PARTS, all_of, copy_folder, listed, own, write_list
 
 
 class Tree:
