@@ -96,7 +96,13 @@ def stream(request: pytest.FixtureRequest, room: Room) -> Iterator[Dict[str, Any
     with open('/dev/full', 'wb') as full, room.make_folder('no input') as folder:
         reading, writing = os.pipe()
         os.close(reading)
-        yield {'unread': {'stdin': folder.fd}, 'full': {'stdout': full.fileno()}, 'closed': {'closed': [1]}, 'gone': {'stdout': writing}}[request.param]
+        kinds: Dict[str, Dict[str, Any]] = {
+            'unread': {'stdin': folder.fd},
+            'full': {'stdout': full.fileno()},
+            'closed': {'closed': [1]},
+            'gone': {'stdout': writing},
+        }
+        yield kinds[request.param]
         os.close(writing)
 
 

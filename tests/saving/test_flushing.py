@@ -8,9 +8,10 @@ from typing import Optional
 import pytest
 
 from tests.harness import Folder, is_root
+from tests.harness.game import save_text
 from tests.harness.room import Owner
 from tests.harness.users import ANNA
-from tests.saving.game import Saver, expect_none_left, expect_refused, expect_saved, save_text
+from tests.saving.game import Saver, expect_none_left, expect_refused, expect_saved
 
 #: What is saved to, in a folder with a file `s.sav` and a `link` to it.
 TARGETS = [('s.sav', 's.sav'), ('link', 's.sav'), ('new.sav', 'new.sav')]

@@ -8,10 +8,10 @@ from typing import Optional
 import pytest
 
 from tests.harness import Folder, Room, need_root
-from tests.harness.game import NEW_NAME
+from tests.harness.game import NEW_NAME, left_files, save_text
 from tests.harness.mounts import bound_file, fill, small_disk
 from tests.harness.users import ANNA, BERT, GAMES
-from tests.saving.game import Saver, expect_none_left, expect_refused, expect_saved, left_files, save_text
+from tests.saving.game import Saver, expect_none_left, expect_refused, expect_saved
 
 #: Longer than any save here, so that a rest of it would show.
 OLD = b'an old file\n' * 100

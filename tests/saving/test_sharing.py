@@ -9,9 +9,10 @@ from typing import NamedTuple, Optional
 import pytest
 
 from tests.harness import Folder, Skip, User, by_name, need_root
+from tests.harness.game import save_text
 from tests.harness.room import Owner
 from tests.harness.users import ANNA, BERT, CARL, CHESS, GAMES
-from tests.saving.game import Saver, expect_none_left, expect_saved, save_text
+from tests.saving.game import Saver, expect_none_left, expect_saved
 
 
 class Share(NamedTuple):

@@ -11,8 +11,9 @@ from typing import Iterator, Optional, Tuple
 import pytest
 
 from tests.harness import Room, User, is_root
+from tests.harness.game import left_files, save_text
 from tests.harness.users import ANNA
-from tests.saving.game import Saver, expect_none_left, expect_refused, expect_saved, expect_whole_left, left_files, replies, save_text
+from tests.saving.game import Saver, expect_none_left, expect_refused, expect_saved, expect_whole_left, replies
 
 #: Paths of standard output in a room with a few links. FD is its number in this process, whose number is PID.
 OUTPUT_PATHS = [
@@ -141,17 +142,7 @@ def test_another_pipe(saver: Saver, path: str) -> None:
 @pytest.mark.parametrize('path', PLAIN_PATHS)
 def test_plain(saver: Saver, path: str) -> None:
     """It is replaced as any file, or made."""
-    room = saver.room
-    name = named(path, room)
-    expect_saved(saver.save(room, name))
-    assert room.read('s.sav') == save_text(0), 'the first save'
-    room.put('s.sav', b'an old file', 0o604)
-    with room.reader('s.sav') as old:
-        expect_saved(saver.save(room, name, 1), 1)
-        assert room.read('s.sav') == save_text(1), 'the second save'
-        assert old.read() == b'an old file', 'the old file, which is not written into,'
-    assert room.mode('s.sav') == 0o604, 'its mode'
-    expect_none_left(room)
+    saver.save_twice(saver.room, named(path, saver.room), 's.sav')
 
 
 @pytest.mark.parametrize('path', ['in', './in', 'link', '/dev/stdin'])

@@ -14,9 +14,10 @@ from typing import Iterator, List
 import pytest
 
 from tests.harness import Folder, Room, Skip, is_root, need_root
+from tests.harness.game import left_files
 from tests.harness.mounts import small_disk
 from tests.harness.users import ANNA, GAMES
-from tests.saving.game import Saver, left_files
+from tests.saving.game import Saver
 
 #: How often root saves while somebody swaps, and how many names are looked at.
 SAVES = 2000

@@ -37,7 +37,11 @@ def touch(*paths: str) -> Callable[[Place], object]:
 
 
 def remove(*paths: str) -> Callable[[Place], object]:
-    return lambda place: [os.remove(os.path.join(place.path, path)) for path in paths]
+    def does(place: Place) -> None:
+        for path in paths:
+            os.remove(os.path.join(place.path, path))
+
+    return does
 
 
 def put(path: str, text: bytes) -> Callable[[Place], object]:
