@@ -4,10 +4,9 @@ from __future__ import annotations
 
 from typing import Any, Mapping, NamedTuple, Optional, Sequence
 
-from tests.harness import Folder, Room, User, is_root, run
+from tests.harness import Folder, Room, run
 from tests.harness.game import NEW_NAME, told_left
 from tests.harness.program import Word
-from tests.harness.users import ANNA
 
 
 class Run(NamedTuple):
@@ -85,8 +84,3 @@ def expect_left(folder: Folder, new: Sequence[str], wanted: Optional[bytes]) -> 
     for path in new:
         assert bool(NEW_NAME.fullmatch(path)), f'it is called {path}'
         assert folder.read(path) == wanted, 'what is left'
-
-
-def plain_user() -> Optional[User]:
-    """A user who isn't root: another one where the test is root's, or else the test's own, for whom nothing is said."""
-    return ANNA if is_root() else None

@@ -8,8 +8,8 @@ from typing import Callable, ContextManager, Iterator, Optional, Tuple
 
 import pytest
 
-from tests.harness import Folder, Room, User, is_root
-from tests.harness.users import ANNA
+from tests.harness import Folder, Room, User
+from tests.harness.users import plain_user
 from tests.saving.game import Saver
 
 #: Ways to write the path of a file in a room with a folder `sub` and a link `way` to it, and where the file then lies.
@@ -52,7 +52,7 @@ def not_utf8(room: Room) -> Iterator[Hard]:
 @contextlib.contextmanager
 def not_searched(room: Room) -> Iterator[Hard]:
     """Root could search it, so that another user saves."""
-    user = ANNA if is_root() else None
+    user = plain_user()
     with room.make_folder('closed') as above, above.make_folder('open', owner=user and user.owner) as folder:
         os.fchmod(above.fd, 0)
         yield folder, user

@@ -102,7 +102,8 @@ def expect_owner(folder: Folder, owner: Owner, mode: int) -> None:
 
 @pytest.mark.parametrize(('mode', 'umask'), OWN_MODES)
 def test_own_mode_kept(saver: Saver, mode: int, umask: int) -> None:
-    saver.room.put('s.sav', b'old', mode)
+    # It is longer than the save: no rest of it may show.
+    saver.room.put('s.sav', b'old' * 1000, mode)
     expect_saved(saver.save(saver.room, 's.sav', umask=umask))
     assert saver.room.read('s.sav') == save_text(0), 'the content'
     assert oct(saver.room.mode('s.sav') or 0) == oct(mode & 0o777), 'the mode'

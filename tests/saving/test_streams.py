@@ -5,14 +5,15 @@ from __future__ import annotations
 import contextlib
 import os
 import socket
+import stat
 import subprocess
 from typing import Iterator, Optional, Tuple
 
 import pytest
 
-from tests.harness import Room, User, is_root
+from tests.harness import Room
 from tests.harness.game import left_files, save_text
-from tests.harness.users import ANNA
+from tests.harness.users import plain_user
 from tests.saving.game import Saver, expect_none_left, expect_refused, expect_saved, expect_whole_left, replies
 
 #: Paths of standard output in a room with a few links. FD is its number in this process, whose number is PID.
@@ -170,7 +171,7 @@ def test_closed(saver: Saver, number: int) -> None:
 
 @pytest.mark.parametrize(('number', 'path'), [(1, '/dev/stdout'), (2, '/dev/stderr')])
 def test_closed_itself(saver: Saver, number: int, path: str) -> None:
-    user = ANNA if is_root() else None
+    user = plain_user()
     with saver.room.make_folder('hers', owner=user and user.owner) as hers:
         ended = saver.save(hers, path, user=user, closed=[number])
         assert ended.status == 1, 'the status'
@@ -200,7 +201,7 @@ def test_folder(saver: Saver, path: str) -> None:
 @pytest.mark.parametrize('is_linked', [False, True])
 def test_device(saver: Saver, path: str, saves: bool, is_linked: bool) -> None:
     """A user who isn't root tries it, since root could take the device's place for all the machine."""
-    user: Optional[User] = ANNA if is_root() else None
+    user = plain_user()
     before = os.stat(path)
     with saver.room.make_folder('hers', owner=user and user.owner) as folder:
         folder.link('link', path)
@@ -223,3 +224,4 @@ def test_fifo(saver: Saver, path: str) -> None:
     expect_saved(saver.save(room, path, 1), 1)
     assert reader.communicate()[0] == save_text(1), 'what came through'
     assert room.names() == ['fifo', 'link'], 'what lies there'
+    assert stat.S_ISFIFO(os.stat('fifo', dir_fd=room.fd).st_mode)
