@@ -1,95 +1,55 @@
-"""The second implementation reads samples as docs/FORMATS.md says of them in sections 1 to 5, and saves as the program does.
-
-A row is a text and its answer: the name of a refusal, or the text in its canonical form.
-"""
+"""The second implementation reads IDs, moves and saves as the program does."""
 
 from __future__ import annotations
 
-from typing import Callable, List, Tuple
+import re
+from typing import Callable
 
 import pytest
 
 from tests.harness import by_name
 from tests.lines.save_files import ROWS
 from tests.lines.save_files.sample import Loaded
-from tests.second_implementation.games import GAMES
+from tests.lines.transcripts import Transcript, transcripts
+from tests.second_implementation.games import GAMES, Game
 from tests.second_implementation.moves import read_move
 from tests.second_implementation.refusal import Refused
 from tests.second_implementation.saves import load, save
 
-Row = Tuple[str, str]
-
-PARAMETERS = {
-    'towers': 'BadLetter BadLetter BadParams BadSize BadSize BadSize BadSize',
-    'unequal': '5dk BadLetter AdjacentMode BadSize BadSize BadSize BadSize',
-}
-PARAMETER_TEXTS = ['5dk', '5d', '5adk', '2', '10', '05', '']
-
-#: Descriptions at size 3.
-TOWERS: List[Row] = [
-    ('3//////3/////', '3//////3/////'),
-    ('///////////,1c3c2', '///////////,1c3c2'),
-    ('///////////,_1__2_g_', '///////////,1_2g'),
-    ('///////////,i', '///////////'),
-    ('3//////3////', 'TooFew'),
-    ('3//////3//////', 'TooMany'),
-    ('4///////////', 'BadClue'),
-    ('///////////,12g', 'BadSquares'),
-    ('///////////,4h', 'BadSquares'),
-    ('///////////,0h', 'BadSquares'),
-    ('///////////,1c3c2,', 'BadSquares'),
-    ('///////////,1_2f', 'TooFew'),
-    ('///////////,', 'TooFew'),
-    ('///////////,1_2h', 'TooMany'),
-    ('3//////3////,!', 'TooFew'),
-]
-UNEQUAL: List[Row] = [
-    ('0,0L,0L,0U,0,0,0U,0,0,', '0,0L,0L,0U,0,0,0U,0,0,'),
-    ('0,0L,0L,0U,0,0,0U,0,0', '0,0L,0L,0U,0,0,0U,0,0,'),
-    ('0,0LL,0L,0U,0,0,0U,0,0', '0,0L,0L,0U,0,0,0U,0,0,'),
-    ('0,0,0,0,0,0,0,0,0,,', 'TooMany'),
-    ('', 'TooFew'),
-    ('0,0,0', 'TooFew'),
-    ('4,0,0,0,0,0,0,0,0,', 'BadSquares'),
-    ('00,0,0,0,0,0,0,0,0,', 'BadSquares'),
-    ('0,,0,0,0,0,0,0,0,', 'BadSquares'),
-    ('0X,0,0,0,0,0,0,0,0,', 'BadClue'),
-    ('0X,9,0,0,0,0,0,0,0,', 'BadSquares'),
-    ('0U,0,0,0,0,0,0,0,0,', 'OffGrid'),
-    ('0R,0L,0,0,0,0,0,0,0D,', 'OffGrid'),
-    ('0R,0L,0,0,0,0,0,0,0,', 'Contradiction'),
-    ('1,1,0,0,0,0,0,0,0,', '1,1,0,0,0,0,0,0,0,'),
-]
-MOVES: List[Row] = [
-    *((text, text) for text in ('R0,0,1', 'R255,0,1', 'P8,8,0', 'M', 'D0,-1', 'D-1,-1', 'D127,0', 'S123231312')),
-    *((text, 'BadMove') for text in ('R01,0,1', 'R256,0,1', 'R-1,0,1', 'R0,0', 'R0,0,1 ', 'm', 'r0,0,1', 'h', 'f', '')),
-    *((text, 'BadMove') for text in ('S123231310', 'S12323131', 'S423231312', 'D-0,1', 'D128,0', 'D-2,0', 'D-1', 'D')),
-    *((text, 'Unsupported') for text in ('H', 'H0,0,2', 'F0,0,2', 'Fx')),
-]
+#: The refusals of a move's text, and those that come before it is read.
+OF_TEXTS = {'refused: BadMove\n', 'refused: Unsupported\n'}
+UNREAD = {'refused: NoGame\n', 'refused: LongLine\n', 'refused: BadCommand\n'}
 
 
-def answered(reader: Callable[[], str]) -> str:
+def answered(reader: Callable[[Game, bytes], str], game: str, text: bytes) -> str:
+    """What a reader gives, or the line of a refusal."""
     try:
-        return reader()
+        return reader(GAMES[game], text)
     except Refused as refused:
-        return refused.text()
+        return f'refused: {refused.text()}\n'
 
 
-@pytest.mark.parametrize(('name', 'text', 'wanted'), [(name, *row) for name in GAMES for row in zip(PARAMETER_TEXTS, PARAMETERS[name].split())])
-def test_parameters(name: str, text: str, wanted: str) -> None:
-    assert answered(lambda: GAMES[name].read_parameters(text.encode()).text()) == wanted
+def written_id(game: Game, text: bytes) -> str:
+    parameters, _, description = text.partition(b':')
+    read = game.read_parameters(parameters)
+    return f'{read.text()}:{game.read_description(read.size, description).description()}\n'
 
 
-@pytest.mark.parametrize(('name', 'text', 'wanted'), [*(('towers', *row) for row in TOWERS), *(('unequal', *row) for row in UNEQUAL)])
-def test_description(name: str, text: str, wanted: str) -> None:
-    assert answered(lambda: GAMES[name].read_description(3, text.encode()).description()) == wanted
-
-
-@pytest.mark.parametrize(('text', 'wanted'), MOVES)
-def test_move(text: str, wanted: str) -> None:
-    assert answered(lambda: read_move(text.encode()).text) == wanted
+@pytest.mark.parametrize('played', transcripts(), ids=by_name)
+def test_transcript(played: Transcript) -> None:
+    """Each ID with a description is written as `id` does, or refused as there, and each text of a move is a move where the program takes it for one."""
+    for line, after in zip(played.lines, [*played.lines[1:], played.lines[0]]):
+        word, _, text = line.typed.partition(' ')
+        if word == 'new' and re.match('[^:#!]*:', text) and line.reply not in UNREAD:
+            found = answered(written_id, played.game, text.encode())
+            assert line.reply in ('ok\n', found)
+            assert found == after.reply or after.typed != 'id' or line.reply != 'ok\n'
+        if word == 'move' and line.reply not in UNREAD:
+            found = answered(lambda _, text: read_move(text).text, played.game, text.encode())
+            assert found == (line.reply if line.reply in OF_TEXTS else text)
 
 
 @pytest.mark.parametrize('row', ROWS, ids=by_name)
 def test_save(row: Loaded) -> None:
-    assert answered(lambda: save(load(GAMES[row.game], row.text)).decode('latin-1')) == (row.refusal or row.written.decode('latin-1'))
+    found = answered(lambda game, text: save(load(game, text)).decode('latin-1'), row.game, row.text)
+    assert found == (f'refused: {row.refusal}\n' if row.refusal else row.written.decode('latin-1'))
