@@ -66,7 +66,8 @@ def make_ready() -> str:
     if names and os.geteuid() == 0 and shutil.which('apt-get'):
         print(f'Installing {" ".join(names)}, which the tests need.', flush=True)
         # The lists of a new machine are empty.
-        install(['install', *names]) or (install(['update']) and install(['install', *names]))
+        if not install(['install', *names]) and install(['update']):
+            install(['install', *names])
         names = lacking()
     return f'The tests need more, to be installed by: apt-get install {" ".join(names)}' if names else ''
 

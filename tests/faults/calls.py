@@ -32,10 +32,9 @@ class Calls:
         # refused again.
         self.full_game, self.full_first = '', 1
 
-    def listed(self) -> List[Tuple[str, str]]:
-        """A game and a call of it for each line."""
-        lines = run([self.program, 'calls'], self.room).output.decode().splitlines()
-        return [(game, call) for game, call in map(str.split, lines)]
+    def listed(self) -> List[List[str]]:
+        """Each call: a game and a call of it."""
+        return list(map(str.split, run([self.program, 'calls'], self.room).output.decode().splitlines()))
 
     def refuse(self, game: str, call: str) -> None:
         """The Nth request is refused, and then all from the Nth on, until the call is behind it."""

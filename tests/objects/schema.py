@@ -72,7 +72,7 @@ def is_one(value: object, shape: Any) -> bool:
         return any(not list(unfit('', value, one)) for one in shape)
     if isinstance(shape, range):
         # No boolean is a number.
-        return type(value) is int and value in shape
+        return isinstance(value, int) and not isinstance(value, bool) and value in shape
     return bool(shape(value)) if callable(shape) else type(value) is type(shape) and value == shape
 
 

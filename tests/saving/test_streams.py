@@ -116,16 +116,16 @@ STREAM_PATHS = ['/dev/fd/FD', '/proc/self/fd/FD', '//dev/fd/FD', 'link']
 
 
 @pytest.mark.parametrize('path', STREAM_PATHS)
-@pytest.mark.parametrize('mode', ['ab', 'r+b'])
-def test_another_stream(saver: Saver, path: str, mode: str) -> None:
+@pytest.mark.parametrize('flag', [os.O_APPEND, 0])
+def test_another_stream(saver: Saver, path: str, flag: int) -> None:
     """The caller has opened it for writing. A line of his stands there before."""
     room = saver.room
     room.put('more', b'a line\n')
-    with open(f'{room.path}/more', mode) as file:
-        file.seek(0, os.SEEK_END)
-        fd = file.fileno()
-        room.link('link', f'/dev/fd/{fd}')
-        expect_saved(saver.save(room, named(path, room, fd), 1, kept=[fd]), 1)
+    fd = os.open('more', os.O_RDWR | flag, dir_fd=room.fd)
+    os.lseek(fd, 0, os.SEEK_END)
+    room.link('link', f'/dev/fd/{fd}')
+    expect_saved(saver.save(room, named(path, room, fd), 1, kept=[fd]), 1)
+    os.close(fd)
     assert room.read('more') == b'a line\n' + save_text(1), 'what the stream has'
     expect_none_left(room)
 

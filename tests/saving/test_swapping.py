@@ -121,7 +121,7 @@ def swapper(folder: Folder, secret: str) -> Iterator[None]:
             ANNA.become()
             swap_while_alive(test, secret)
         finally:
-            os._exit(1)
+            os._exit(1)  # pylint: disable=protected-access
     try:
         yield
     finally:

@@ -6,6 +6,7 @@ What stands behind the last record is left out where records are put together ag
 
 from __future__ import annotations
 
+from itertools import combinations
 from typing import Callable, Dict, Iterator, List
 
 from tests.second_implementation.refusal import Refused
@@ -62,11 +63,10 @@ def records_doubled(text: bytes) -> Iterator[bytes]:
 
 def records_exchanged(text: bytes) -> Iterator[bytes]:
     records = records_of(text)
-    for first in range(len(records)):
-        for second in range(first + 1, len(records)):
-            changed = list(records)
-            changed[first], changed[second] = records[second], records[first]
-            yield b''.join(changed)
+    for first, second in combinations(range(len(records)), 2):
+        changed = list(records)
+        changed[first], changed[second] = records[second], records[first]
+        yield b''.join(changed)
 
 
 #: Each kind by its name, in the order in which they are answered.

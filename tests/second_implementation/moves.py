@@ -44,8 +44,9 @@ def read_move(text: bytes) -> Move:
         return Move('M', 'M')
     for pattern, most in NUMBERED:
         match = pattern.fullmatch(text)
-        if match and max(map(int, match.groups())) <= most:
-            return Move(text[:1].decode(), text.decode(), *map(int, match.groups()))
+        x, y, n = [*map(int, match.groups()), 0][:3] if match else [most + 1, 0, 0]
+        if max(x, y, n) <= most:
+            return Move(text[:1].decode(), text.decode(), x, y, n)
     digits = tuple(map(int, text[1:].decode())) if re.fullmatch(rb'S[1-9]+', text) else ()
     if digits and max(digits) <= SIZES.get(len(digits), 0):
         return Move('S', text.decode(), digits=digits)

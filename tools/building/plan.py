@@ -47,7 +47,7 @@ class Plan:
         #: Seconds from the start of a crate to the end of all that waits for it.
         self.chain: Dict[str, float] = {}
         for name in sorted(names, key=lambda name: -len(self.waits_for[name])):
-            after = [self.chain[other] for other in self.chain if name in self.waits_for[other]]
+            after = [seconds for other, seconds in self.chain.items() if name in self.waits_for[other]]
             self.chain[name] = self.seconds[name] + max(after, default=0)
         self.order: List[str] = sorted(names, key=lambda name: (-self.chain[name], name))
 
