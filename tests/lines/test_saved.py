@@ -43,6 +43,8 @@ SAVED = [
         output=b'refused: NoGame\n',
         absent=['new.sav'],
     ),
+    Run('an empty input leaves no session', ['towers', '--save', 'new.sav'], absent=['new.sav']),
+    Run('empty lines leave no session', ['towers', '--save', 'new.sav'], b'\n\n', absent=['new.sav']),
     Run('without a session nothing is changed', ['towers', '--save', 'old.sav'], given=GIVEN, holds=GIVEN),
     Run(
         'a refused ID leaves the file',

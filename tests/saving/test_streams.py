@@ -18,20 +18,8 @@ from tests.saving.game import Saver, expect_none_left, expect_refused, expect_sa
 
 #: Paths of standard output in a room with a few links. FD is its number in this process, whose number is PID.
 OUTPUT_PATHS = [
-    '/dev/stdout',
-    '//dev/stdout',
-    '/dev/./stdout',
-    '/dev/../dev//stdout',
-    '/dev/fd/1',
-    '/proc/self/fd/1',
-    '/proc//self/fd/../fd/1',
-    '/proc/thread-self/fd/1',
-    '/proc/PID/fd/FD',
-    'link',
-    'link to link',
-    'ROOM/link to link',
-    'link to fd',
-    'way/1',
+    '/dev/stdout', '//dev/stdout', '/dev/./stdout', '/dev/../dev//stdout', '/dev/fd/1', '/proc/self/fd/1', '/proc//self/fd/../fd/1',
+    '/proc/thread-self/fd/1', '/proc/PID/fd/FD', 'link', 'link to link', 'ROOM/link to link', 'link to fd', 'way/1',
 ]
 
 LINKS = [('link', '/dev/stdout'), ('link to link', 'link'), ('link to fd', '/proc/self/fd/1'), ('way', '/dev/fd')]

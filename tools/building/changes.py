@@ -4,14 +4,9 @@ from __future__ import annotations
 
 import os
 from hashlib import sha256
+from typing import Dict, Optional, Set, Tuple
 
-from building.listing import TOP, all_of, below, files_of
-
-TYPE_CHECKING = False
-if TYPE_CHECKING:
-    from typing import Dict, Optional, Set, Tuple
-
-    from building.crates import Listed
+from building.listing import TOP, Listed, all_of, below, files_of
 
 #: The crates of the programs, each with the names under which its program is left in build/.
 PROGRAMS: Dict[str, Tuple[str, ...]] = {'puzzles': ('puzzles', 'puzzles-json')}

@@ -5,14 +5,11 @@ from __future__ import annotations
 import os
 import shutil
 from pathlib import Path
-from typing import Dict, Iterable, List
+from typing import Iterable
 
-from building.listing import PARTS, TOP, all_of, below, listed
+from building.listing import PARTS, TOP, Listed, all_of, below, listed
 
 __all__ = ['BUILD', 'Listed', 'PARTS', 'ROOT', 'all_of', 'below', 'copy_folder', 'listed', 'own', 'write_list']
-
-#: The crates of the repository, each with the libraries that it stands on, the kit's too.
-Listed = Dict[str, List[str]]
 
 ROOT = Path(TOP)
 
