@@ -8,8 +8,10 @@ from typing import Any, Dict, Iterator, List, NamedTuple
 
 import pytest
 
-#: What the cases of each folder share says of an assertion what pytest says.
-for name in ('harness', 'saving.game', 'lines.runs', 'board.front', 'board.playing', 'exchange.sides', 'faults', 'installing.site', 'objects', 'scripts.small'):
+#: What the cases of a folder share, the fixtures there too; and more that says of an assertion what pytest says.
+SHARED = ['scripts.place', 'scripts.small', 'installing.site', 'lines.runs', 'objects.agreement', 'saving.game', 'exchange.sides']
+pytest_plugins = [f'tests.{name}' for name in SHARED]
+for name in ('board', 'faults', 'harness', 'objects'):
     pytest.register_assert_rewrite(f'tests.{name}')
 
 from building.ready import NotReady, ready

@@ -4,12 +4,15 @@ from __future__ import annotations
 
 import os
 import re
+import shutil
 from typing import Iterable, List, Sequence
+
+import pytest
 
 from tests.harness import Ended, Room, run
 
-#: Where Debian has the usual programs.
-USUAL_PATH = '/usr/games'
+#: Debian has the usual programs in the last folder.
+PATH = f'{os.environ.get("PATH", os.defpath)}:/usr/games'
 
 #: How long a program may take, for a few puzzles.
 SECONDS = 300
@@ -50,8 +53,7 @@ class Sides:
 
     def theirs(self, game: str, *words: str) -> Ended:
         """The usual program."""
-        env = {'PATH': f'{os.environ.get("PATH", os.defpath)}:{USUAL_PATH}'}
-        return run([f'sgt-{game}', *words], self.room, env=env, seconds=SECONDS)
+        return run([f'sgt-{game}', *words], self.room, env={'PATH': PATH}, seconds=SECONDS)
 
     def draws(self, game: str, kind: str, what: str, picture: str) -> None:
         """The usual program shows a save, or the puzzle of an ID, as a picture. It answers no status where that can't be had."""
@@ -87,3 +89,11 @@ class Sides:
 
 def picture_of(save: str) -> str:
     return f'{save[: -len(".sav")]}.png'
+
+
+@pytest.fixture
+def sides(program: str, room: Room) -> Sides:
+    for usual in ('sgt-towers', 'sgt-unequal'):
+        if not shutil.which(usual, path=PATH):
+            pytest.skip(f"{usual} is not there; install Debian's package sgt-puzzles")
+    return Sides(room, program)

@@ -5,6 +5,9 @@ from __future__ import annotations
 import os
 from typing import Dict, List, Mapping, Optional, Sequence, Tuple
 
+import pytest
+
+from tests.conftest import Programs
 from tests.scripts.place import Place
 from tests.harness import Room
 from tests.harness.program import Ended
@@ -60,3 +63,8 @@ def expect_plays(site: Site, folder: str) -> None:
         assert ended == Ended(0, written, b''), program
     ended = site.run([os.path.join(folder, 'puzzles-play'), '--help'], cwd='..')
     assert (ended.status, ended.error) == (0, b'')
+
+
+@pytest.fixture
+def site(room: Room, programs: Programs) -> Site:
+    return Site(room, *programs)

@@ -4,6 +4,8 @@ from __future__ import annotations
 
 from typing import Any, Mapping, NamedTuple, Optional, Sequence
 
+import pytest
+
 from tests.harness import Folder, Room, run
 from tests.harness.game import NEW_NAME, told_left
 from tests.harness.program import Word
@@ -84,3 +86,8 @@ def expect_left(folder: Folder, new: Sequence[str], wanted: Optional[bytes]) -> 
     for path in new:
         assert bool(NEW_NAME.fullmatch(path)), f'it is called {path}'
         assert folder.read(path) == wanted, 'what is left'
+
+
+@pytest.fixture
+def player(program: str, room: Room) -> Player:
+    return Player(program, room)

@@ -5,6 +5,9 @@ from __future__ import annotations
 from itertools import chain, islice
 from typing import Any, Dict, List, NamedTuple, Optional, Sequence, Tuple
 
+import pytest
+
+from tests.conftest import Programs
 from tests.harness import Ended, Room, run
 from tests.objects.boards import Texts, board_of, numbers_of, puzzle_of
 from tests.objects.reading import OWN_LINES, Answered, lines_with_reply, read_answers, shortened, without_own
@@ -103,3 +106,8 @@ def session_of(game: str, status: Answered, id: Answered) -> Optional[Dict[str, 
     position, states = map(int, counts.split('/'))
     named = id.reply.decode('latin-1').rstrip('\n')
     return {'game': game, 'id': named, 'position': position, 'states': states, 'status': word}
+
+
+@pytest.fixture
+def pair(programs: Programs) -> Pair:
+    return Pair(programs.objects, programs.puzzles)

@@ -6,6 +6,8 @@ import os
 import re
 from typing import Any, Callable, Optional, Sequence
 
+import pytest
+
 from tests.harness import Ended, FaultLibrary, Folder, Room, User, run
 from tests.harness.game import ID, MOVES, left_files, save_text
 
@@ -66,3 +68,8 @@ def expect_whole_left(folder: Folder, content: bytes) -> None:
 
 def expect_none_left(folder: Folder) -> None:
     assert left_files(folder) == []
+
+
+@pytest.fixture
+def saver(request: pytest.FixtureRequest, program: str, room: Room) -> Saver:
+    return Saver(program, room, lambda: request.getfixturevalue('library'))

@@ -5,6 +5,9 @@ from __future__ import annotations
 import os
 from typing import Dict, Mapping, Optional
 
+import pytest
+
+from tests.conftest import Programs
 from tests.harness import Room, User, is_root
 from tests.harness.builds import TOP
 from tests.harness.checkout import Checkout
@@ -51,3 +54,8 @@ class Place(Checkout):
                 return file.read()
         except FileNotFoundError:
             return b''
+
+
+@pytest.fixture
+def place(room: Room, programs: Programs) -> Place:
+    return Place(room, *programs)

@@ -5,6 +5,8 @@ from __future__ import annotations
 import os
 from typing import Callable, Dict, List, Sequence
 
+import pytest
+
 from building.changes import PROGRAMS
 from tests.scripts.place import Place
 from tests.harness.program import Ended
@@ -88,3 +90,8 @@ class Small:
         for path in paths:
             assert os.path.exists(os.path.join(self.place.path, path))
         assert os.listdir(os.path.join(self.place.path, 'build/proving')) == []
+
+
+@pytest.fixture
+def small(place: Place) -> Small:
+    return Small(place)
