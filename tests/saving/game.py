@@ -4,6 +4,7 @@ from __future__ import annotations
 
 import os
 import re
+from functools import partial
 from typing import Any, Callable, Optional, Sequence
 
 import pytest
@@ -72,4 +73,4 @@ def expect_none_left(folder: Folder) -> None:
 
 @pytest.fixture
 def saver(request: pytest.FixtureRequest, program: str, room: Room) -> Saver:
-    return Saver(program, room, lambda: request.getfixturevalue('library'))
+    return Saver(program, room, partial(request.getfixturevalue, 'library'))

@@ -7,9 +7,9 @@ from typing import Dict, Iterator, Tuple
 
 from tests.second_implementation.damage import KINDS
 from tests.second_implementation.games import GAMES, Game
-from tests.second_implementation.refusal import Refused
 from tests.second_implementation.saves import Session, load, save
 from tests.second_implementation.seeded import generate, square
+from tests.second_implementation.words import Refused
 
 #: The answers to a text of a save, in the order of their numbers (docs/FORMATS.md, section 10).
 NAMES = [

@@ -9,8 +9,8 @@ from __future__ import annotations
 from itertools import combinations
 from typing import Callable, Dict, Iterator, List
 
-from tests.second_implementation.refusal import Refused
 from tests.second_implementation.saves import next_record
+from tests.second_implementation.words import Refused
 
 #: The bytes that each byte is changed to: ends of lines, what records and moves are made of, and some that stand in none.
 VALUES = [0, 10, 13, 32, 48, 51, 58, 72, 83, 255]

@@ -7,7 +7,7 @@ from dataclasses import dataclass, field, replace
 from typing import Dict, FrozenSet, Tuple
 
 from tests.second_implementation.puzzles import Numbers, Puzzle
-from tests.second_implementation.refusal import Refused
+from tests.second_implementation.words import Refused
 
 #: The lengths of a solution's digits, and the sizes.
 SIZES: Dict[int, int] = {size * size: size for size in range(3, 10)}

@@ -13,8 +13,8 @@ from tests.lines.save_files.sample import Loaded
 from tests.lines.transcripts import Transcript, transcripts
 from tests.second_implementation.games import GAMES, Game
 from tests.second_implementation.moves import read_move
-from tests.second_implementation.refusal import Refused
 from tests.second_implementation.saves import load, save
+from tests.second_implementation.words import Refused
 
 #: The refusals of a move's text, and those that come before it is read.
 OF_TEXTS = {'refused: BadMove\n', 'refused: Unsupported\n'}

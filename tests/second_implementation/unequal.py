@@ -5,9 +5,8 @@ from __future__ import annotations
 from dataclasses import dataclass
 from typing import Dict, FrozenSet, List, Set, Tuple
 
-from tests.second_implementation.numbers import one_digit, run_of_digits
 from tests.second_implementation.puzzles import Numbers, Puzzle
-from tests.second_implementation.refusal import Refused
+from tests.second_implementation.words import Refused, one_digit, run_of_digits
 
 #: A greater cell and a smaller one.
 Sign = Tuple[int, int]
