@@ -15,8 +15,9 @@ from tests.harness.game import ID
 #: How many puzzles of each family are made.
 EACH = 4
 
-#: Answers nothing.
+#: Answers nothing, without any work, or at work.
 SILENT = b'#!/bin/sh\nexec sleep 600\n'
+BUSY = b'#!/bin/sh\nwhile :; do :; done\n'
 
 #: Reads no line as a puzzle.
 REFUSING = b'#!/bin/sh\nwhile read -r line; do echo "cannot read $line"; done\n'
@@ -43,7 +44,7 @@ ROUNDS = [
     Measure('a line has no answer in time', ['bench/time_lines', '--limit', '0.01'], SILENT, says=['towers other +1 .* 1 +1 +1\n']),
     Measure('a line is no puzzle', ['bench/time_lines'], REFUSING, says=[f'cannot read towers other {ID}']),
     Measure('a climb', ['bench/climb', '1', '--steps', '150'], says=[r'# towers, size 9, seed 1: 150 puzzles', '\nunequal climbed 9:', '\ntowers climbed 9:']),
-    Measure('a climb at a limit', ['bench/climb', '1', '--steps', '3', '--limit', '0.01'], SILENT, says=['3 puzzles, 3 climbs\n# 10.0 ms\nunequal climbed 9:']),
+    Measure('a climb at a limit', ['bench/climb', '1', '--steps', '3', '--limit', '0.01'], BUSY, says=['3 puzzles, 3 climbs\n# 10.0 ms\nunequal climbed 9:']),
     Measure('a climb at a small size', ['bench/climb', '1', '--game', 'towers', '--size', '4', '--steps', '90'], says=['towers climbed 4:']),
     Measure('beside the usual program, which is not there', ['bench/compare'], status=77, says=['the usual program is left out']),
     Measure('the families are named', ['bench/make_families'], says=['unequal +checkerboard +Squares', 'towers +one-side +All']),
