@@ -6,7 +6,6 @@ terminal  a run in a terminal, with what is typed to it and what it shows
 screen    the screen of that terminal
 builds    where the repository is, and copies of programs
 game      a small game, what its saves are, and the new files that saves leave
-checkout  a copy of the scripts at another place, and commands that are run there
 faults    the library tests/faults/faults.c, by which a chosen call of the program fails
 mounts    a file that is mounted alone, and a disk that is soon full
 users     whom a program can be run as

@@ -24,10 +24,7 @@ class Site(Place):
 
     def expect(self, words: Sequence[str], status: int = 0, says: str = '', env: Optional[Mapping[str, str]] = None) -> Ended:
         """Runs a command. Its status is this one, and it says this somewhere."""
-        ended = self.run(words, env=env)
-        said = (ended.output + ended.error).decode(errors='replace')
-        assert ended.status == status and says in said, f'{words}: {ended.status}, {said[-600:]}'
-        return ended
+        return self.run(words, env=env).expect(says, status=status)
 
 
 def snapshot(folder: str) -> List[str]:
