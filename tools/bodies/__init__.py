@@ -2,8 +2,7 @@
 
 edits     what their files say
 sources   in which functions they stand, and by what name the prover knows those
-kit       what of the kit is used: the words by which it names a crate to the prover, and the prover
-tree      the copy of crates in which they are tried
+kit       what of the kit is used, and the copy of crates in which they are tried
 trial     the edits of a crate, tried together, and what the prover said
 outcomes  what comes of wrong bodies and twins, with what earlier runs have found
 kept      where that is kept

@@ -9,9 +9,8 @@ from typing import Generator, Iterable, Iterator, List, NamedTuple, Tuple
 
 from bodies.edits import MUST_FAIL, Body, Edit
 from bodies.kept import Kept
-from bodies.kit import Kit
+from bodies.kit import Kit, Tree
 from bodies.outcomes import Outcome, name_of_twin, of_bodies, of_kept, of_twins
-from bodies.tree import Tree
 from bodies.trial import Trial
 
 #: How many wrong bodies of a crate the gate tries at least, where there are so many.

@@ -7,8 +7,8 @@ import re
 from typing import List, NamedTuple, Sequence, Set
 
 from bodies.edits import BadEdit, Edit, Texts, all_applied, applied
+from bodies.kit import Tree
 from bodies.sources import Place, place_at, places_of
-from bodies.tree import Tree
 
 #: What the prover says of a goal where it tells values that make it false.
 VALUES = 'the facts known there allow values at which this goal is false'
