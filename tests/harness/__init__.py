@@ -9,7 +9,6 @@ game      a small game, what its saves are, and the new files that saves leave
 faults    the library tests/faults/faults.c, by which a chosen call of the program fails
 mounts    a file that is mounted alone, and a disk that is soon full
 users     whom a program can be run as
-skip      what can't be tried here
 """
 
 from __future__ import annotations
@@ -18,8 +17,7 @@ from typing import Protocol
 
 from tests.harness.faults import FaultLibrary, Met
 from tests.harness.program import Ended, run
-from tests.harness.room import Folder, Room
-from tests.harness.skip import Skip
+from tests.harness.room import Folder, Room, Skip
 from tests.harness.users import User, is_root, need_root
 
 __all__ = ['Ended', 'FaultLibrary', 'Folder', 'Met', 'Room', 'Skip', 'User', 'by_name', 'is_root', 'need_root', 'run']

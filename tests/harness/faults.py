@@ -8,8 +8,7 @@ import subprocess
 from pathlib import Path
 from typing import Dict, NamedTuple
 
-from tests.harness.skip import Skip
-from tests.harness.room import Room, can_preload
+from tests.harness.room import Room, Skip, can_preload
 
 SOURCE = Path(__file__).resolve().parent.parent / 'faults' / 'faults.c'
 

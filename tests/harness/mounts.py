@@ -7,8 +7,7 @@ import ctypes
 import os
 from typing import Iterator, Optional
 
-from tests.harness.skip import Skip
-from tests.harness.room import Folder
+from tests.harness.room import Folder, Skip
 
 CLONE_NEWNS = 0x00020000
 MS_BIND, MS_REC, MS_PRIVATE = 0x1000, 0x4000, 0x40000

@@ -5,8 +5,7 @@ from __future__ import annotations
 import os
 from typing import NamedTuple, Optional, Tuple
 
-from tests.harness.skip import Skip
-from tests.harness.room import Owner
+from tests.harness.room import Owner, Skip
 
 
 class User(NamedTuple):

@@ -55,11 +55,8 @@ ROUNDS = [
     Gate('a part is skipped whole', part=('0 passed, 0 failed, 1 skipped', 0), env=ALLOWED, counts=(5, 0, 1)),
 ]
 
-#: Ways to start the gate, each with the folder from which.
-WAYS = [(['make', 'gate'], ''), (['../../tools/gate'], 'crates/puzzles')]
-
-#: Ways to start what a stranger's machine runs: the tests, which are a part of the gate too, and then the gate.
-WHOLE = [(['.ci/run'], ''), (['bash', '../.ci/run'], 'man')]
+#: Ways to start the gate, each with the folder from which; and what a stranger's machine runs: the tests, which are a part of the gate too, and then the gate.
+WAYS = [(['make', 'gate'], '', 0), (['../../tools/gate'], 'crates/puzzles', 0), (['.ci/run'], '', 1), (['bash', '../.ci/run'], 'man', 1)]
 
 #: No gate of these cases has anything from another.
 ANEW = {'ANEW': '1'}
@@ -129,14 +126,9 @@ def test_part(place: Place, scripts: List[str], row: Gate) -> None:
     expect(place, row, len(scripts) - 1, ['tools/gate'])
 
 
-@pytest.mark.parametrize(('words', 'cwd'), WAYS)
-def test_gate(place: Place, scripts: List[str], words: List[str], cwd: str) -> None:
-    expect(place, Gate('all passes'), len(scripts) - 1, words, cwd)
-
-
-@pytest.mark.parametrize(('words', 'cwd'), WHOLE)
-def test_whole(place: Place, scripts: List[str], words: List[str], cwd: str) -> None:
-    expect(place, Gate('all passes'), len(scripts), words, cwd)
+@pytest.mark.parametrize(('words', 'cwd', 'more'), WAYS)
+def test_gate(place: Place, scripts: List[str], words: List[str], cwd: str, more: int) -> None:
+    expect(place, Gate('all passes'), len(scripts) - 1 + more, words, cwd)
 
 
 def test_no_part(place: Place, scripts: List[str]) -> None:

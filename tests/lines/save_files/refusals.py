@@ -2,6 +2,8 @@
 
 from __future__ import annotations
 
+from itertools import accumulate
+
 from tests.lines.save_files.sample import SAMPLE, Loaded, edited, text_of
 
 #: The place of a line of the sample, the lines in place of it, and the refusal.
@@ -80,10 +82,28 @@ PAIRS = [
     ({2: [b'PARAMS  :3:3dt'], 3: [b'GAME    :7:Unequal']}, 'BadParams'),
 ]
 
+#: The sample and where its lines end, without LF.
+WHOLE = text_of(SAMPLE)
+ENDS = [end - 1 for end in accumulate(len(line) + 1 for line in SAMPLE)]
+
+
+def refusal_of(length: int) -> str:
+    """Of so many bytes; nothing where these have the last line."""
+    if length >= ENDS[-1]:
+        return ''
+    if length < ENDS[0]:
+        return 'NotASave'
+    return 'Missing' if length in ENDS or length - 1 in ENDS else 'Malformed'
+
+
+#: Each beginning of the sample: it is refused until it has all that counts.
+BEGINNINGS = [Loaded(f'the first {length} bytes', WHOLE[:length], WHOLE, refusal_of(length)) for length in range(len(WHOLE) + 1)]
+
 #: As many bytes as a save may have.
 MOST_BYTES = 16_777_216
 
 ROWS = [
+    *BEGINNINGS,
     *[Loaded(f'the sample with {lines} in line {place}', edited({place: lines}), refusal=name) for place, lines, name in EDITS],
     *[Loaded(f'the sample without line {place}', edited({place: []}), refusal=name) for place, name in enumerate(LEFT_OUT)],
     *[Loaded(f'the sample with {edits}', edited(edits), refusal=name) for edits, name in PAIRS],
