@@ -1,7 +1,5 @@
 """What the tests have in common: the programs, a room for each case, the library by which calls fail, and the last line, which counts."""
 
-from __future__ import annotations
-
 import os
 import signal
 from typing import Any, Dict, Iterator, List, NamedTuple

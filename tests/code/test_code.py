@@ -1,7 +1,5 @@
 """All Python passes mypy and pylint, and all shell shellcheck."""
 
-from __future__ import annotations
-
 import os
 import shutil
 import subprocess

@@ -1,7 +1,5 @@
 """The two sides: our program, and the usual program of each game; and what one does with a save of the other."""
 
-from __future__ import annotations
-
 import os
 import re
 import shutil

@@ -1,7 +1,5 @@
 """Our saves, opened by the usual program: every kind of move, with later states, solved, restarted, seeded, with kept bytes."""
 
-from __future__ import annotations
-
 import re
 from typing import List, Sequence, Tuple
 

@@ -1,7 +1,5 @@
 """Saves and IDs of the usual program, opened by ours; and what doesn't go across."""
 
-from __future__ import annotations
-
 import re
 from typing import List
 

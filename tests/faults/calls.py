@@ -3,8 +3,6 @@
 What a run writes begins with the answer and with how the session is behind it.
 """
 
-from __future__ import annotations
-
 from typing import Iterator, List, NamedTuple, Tuple
 
 from tests.harness import FaultLibrary, Room, run

@@ -1,7 +1,5 @@
 """Memory is refused, request by request. What is answered is compared with runs in which nothing fails."""
 
-from __future__ import annotations
-
 import re
 from pathlib import Path
 from typing import Any, Dict, FrozenSet, List, NamedTuple, Sequence, Set, Tuple

@@ -1,7 +1,5 @@
 """One run of the program under a fault, and what it left."""
 
-from __future__ import annotations
-
 import contextlib
 import os
 import resource

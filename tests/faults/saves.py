@@ -1,7 +1,5 @@
 """The save fails, call by call, or the program is killed there. The old file stands, or the save does, or a new file is whole."""
 
-from __future__ import annotations
-
 import signal
 from typing import List, NamedTuple, Tuple
 

@@ -5,8 +5,6 @@ answers then is compared with runs in which nothing fails.
 no C compiler for it, or the program can't be made to load it, all is skipped.
 """
 
-from __future__ import annotations
-
 from typing import List
 
 import pytest

@@ -11,8 +11,6 @@ mounts    a file that is mounted alone, and a disk that is soon full
 users     whom a program can be run as
 """
 
-from __future__ import annotations
-
 from typing import Protocol
 
 from tests.harness.faults import FaultLibrary, Met

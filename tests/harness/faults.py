@@ -1,7 +1,5 @@
 """The library tests/faults/faults.c: a chosen call of a program fails, or the program is killed there."""
 
-from __future__ import annotations
-
 import os
 import shutil
 import subprocess

@@ -1,7 +1,5 @@
 """Mounts for a case: a file that is mounted alone, and a disk that is soon full."""
 
-from __future__ import annotations
-
 import contextlib
 import ctypes
 import os

@@ -1,7 +1,5 @@
 """Users whom a program can be run as, where the test is root's."""
 
-from __future__ import annotations
-
 import os
 from typing import NamedTuple, Optional, Tuple
 

@@ -1,7 +1,5 @@
 """A copy of the repository in which the programs are built, and what is done there."""
 
-from __future__ import annotations
-
 import os
 from typing import Dict, List, Mapping, Optional, Sequence, Tuple
 

@@ -1,7 +1,5 @@
 """What `make install` puts below a DESTDIR, for a package."""
 
-from __future__ import annotations
-
 import os
 from typing import List
 

@@ -1,7 +1,5 @@
 """A run as a row of a table: what is there, what is typed, and what has to have come of it."""
 
-from __future__ import annotations
-
 from typing import Any, Mapping, NamedTuple, Optional, Sequence
 
 import pytest

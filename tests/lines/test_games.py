@@ -1,7 +1,5 @@
 """First games: the input, the replies, and what becomes of a stream that fails."""
 
-from __future__ import annotations
-
 import os
 import pty
 from typing import Any, Dict

@@ -1,7 +1,5 @@
 """A game that goes on in run after run: each begins with the session that the last one left."""
 
-from __future__ import annotations
-
 from typing import Sequence
 
 import pytest

@@ -1,7 +1,5 @@
 """The file to load: saves, files that are none, and files that can't be read."""
 
-from __future__ import annotations
-
 import os
 import resource
 

@@ -1,7 +1,5 @@
 """Games as transcripts, line by line."""
 
-from __future__ import annotations
-
 import pytest
 
 from tests.harness import by_name

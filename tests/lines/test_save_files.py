@@ -1,7 +1,5 @@
 """Texts that are loaded as saves: what is written of each, or its refusal."""
 
-from __future__ import annotations
-
 import pytest
 
 from tests.harness import by_name

@@ -1,7 +1,5 @@
 """When a session is saved, and what becomes of the file. How it is saved to any place is tried in tests/saving."""
 
-from __future__ import annotations
-
 import os
 
 import pytest

@@ -1,7 +1,5 @@
 """Words of the command line: those that are refused, and those that ask for help."""
 
-from __future__ import annotations
-
 from typing import Any, Dict
 
 import pytest

@@ -4,8 +4,6 @@
 end of a line. What begins with `# ` is said to the reader.
 """
 
-from __future__ import annotations
-
 import re
 from pathlib import Path
 from typing import Iterator, List, NamedTuple

@@ -1,7 +1,5 @@
 """One run of each program over the same lines: the replies are the plain bytes, and what else is told agrees with them."""
 
-from __future__ import annotations
-
 from itertools import chain, islice
 from typing import Any, Dict, List, NamedTuple, Optional, Sequence, Tuple
 

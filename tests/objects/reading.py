@@ -1,7 +1,5 @@
 """Objects from what a run wrote."""
 
-from __future__ import annotations
-
 import json
 import re
 from typing import Any, Dict, List, NamedTuple, Sequence, Tuple

@@ -1,8 +1,6 @@
 """The keys of each object, with the types and ranges of their values (docs/JSON.md)."""
 
-from __future__ import annotations
-
-from typing import Any, Dict, Iterator
+from typing import Any, Dict, Iterator, Set
 
 
 def text(value: object) -> bool:
@@ -49,7 +47,7 @@ ANSWERS: Dict[str, Any] = {'board': BOARD, 'completable': COUNTS, 'hint': HINT}
 LOST: Dict[str, Any] = {'lost': 'OutOfMemory'}
 
 
-def names() -> set[str]:
+def names() -> Set[str]:
     """All keys that there are."""
     return {key for table in (COMMON, ANSWERS, SESSION, BOARD, CLUE, SIGN, HINT, LOST) for key in table}
 

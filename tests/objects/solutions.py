@@ -1,7 +1,5 @@
 """What completes a board: by trying all Latin squares at sizes 3 and 4, and by the second implementation's count above."""
 
-from __future__ import annotations
-
 from dataclasses import replace
 from functools import lru_cache
 from itertools import chain, permutations

@@ -1,7 +1,5 @@
 """Reads, writes and requests for memory are refused, each in turn: what is written is whole objects, and no session is in doubt."""
 
-from __future__ import annotations
-
 from typing import Any, Callable, List, Sequence
 
 import pytest

@@ -1,8 +1,6 @@
 """Lines at random: moves good and bad, calls, views, IDs good and bad, long lines, bytes that are no UTF-8. Both programs answer them alike, and
 what else is told agrees with a second implementation."""
 
-from __future__ import annotations
-
 from typing import Dict, List
 
 import pytest

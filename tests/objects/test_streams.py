@@ -1,7 +1,5 @@
 """Words, files and streams, as the plain program has them; a game line by line; a long game."""
 
-from __future__ import annotations
-
 import json
 import os
 import select

@@ -1,7 +1,5 @@
 """The program that saves a small game, and what has to come of it."""
 
-from __future__ import annotations
-
 import os
 import re
 from functools import partial

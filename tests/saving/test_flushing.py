@@ -1,7 +1,5 @@
 """7. That the folder's new name is not on the disk is told, but not that a folder can't be asked."""
 
-from __future__ import annotations
-
 import os
 from typing import Optional
 

@@ -1,7 +1,5 @@
 """4. A link stays. What it names is replaced, or made, as if it had been named itself."""
 
-from __future__ import annotations
-
 import resource
 import signal
 from typing import List, NamedTuple, Optional, Tuple

@@ -1,7 +1,5 @@
 """1. A second save works wherever the first one did, however the folder is reached."""
 
-from __future__ import annotations
-
 import contextlib
 import os
 from typing import Callable, ContextManager, Iterator, Optional, Tuple

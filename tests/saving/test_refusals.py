@@ -1,7 +1,5 @@
 """5. Where the new file can't take the old one's place, the old one is written; where that fails too, the new file is left."""
 
-from __future__ import annotations
-
 import os
 from typing import Any, Optional
 

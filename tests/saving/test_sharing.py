@@ -1,7 +1,5 @@
 """2. Who may read and write a file is as it was: its group, its owner, its mode. Never may more."""
 
-from __future__ import annotations
-
 import os
 import struct
 from typing import NamedTuple, Optional

@@ -1,7 +1,5 @@
 """6. A save to a stream that is open for writing goes behind what was written there, whatever the path is called."""
 
-from __future__ import annotations
-
 import contextlib
 import os
 import socket

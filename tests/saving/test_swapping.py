@@ -1,7 +1,5 @@
 """3. What is done to the new file is done to it alone, whatever stands at its name meanwhile, and nobody knows that name."""
 
-from __future__ import annotations
-
 import contextlib
 import os
 import re

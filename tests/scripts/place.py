@@ -1,7 +1,5 @@
 """A copy of the scripts with a command `rt` of its own, in which another user works, with next to nothing in the environment."""
 
-from __future__ import annotations
-
 import os
 import shutil
 from typing import Dict, Mapping, Optional, Sequence

@@ -1,7 +1,5 @@
 """A small repository, with a command `rt` that proves nothing and keeps a list of what it is asked for."""
 
-from __future__ import annotations
-
 import os
 from typing import Callable, Dict, List, Sequence
 

@@ -1,7 +1,5 @@
 """What is said of wrong bodies and twins that a prover refuses here or there, or not at all."""
 
-from __future__ import annotations
-
 import os
 from typing import Dict, NamedTuple, Sequence, Tuple
 

@@ -1,7 +1,5 @@
 """What `make` asks `rt` for, in a small repository: what has changed, and nothing else, each crate once those below it are proved."""
 
-from __future__ import annotations
-
 import os
 from typing import Callable, NamedTuple, Sequence
 

@@ -1,7 +1,5 @@
 """What the gate says of parts that pass, fail, skip, or say nothing, and what it takes from an earlier one."""
 
-from __future__ import annotations
-
 import os
 import re
 from typing import Callable, List, Mapping, NamedTuple, Optional, Sequence, Tuple

@@ -1,7 +1,5 @@
 """What `make` and the scripts do in a copy elsewhere."""
 
-from __future__ import annotations
-
 import os
 import re
 import shutil

@@ -1,7 +1,5 @@
 """What measures the solver: the makers of hard puzzles, and the scripts that time puzzles, with programs that answer at once, never, or otherwise."""
 
-from __future__ import annotations
-
 import re
 from collections import defaultdict
 from typing import DefaultDict, List, NamedTuple, Sequence

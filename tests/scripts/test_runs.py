@@ -1,7 +1,5 @@
 """What tests/run does where something is lacking that the tests need."""
 
-from __future__ import annotations
-
 import os
 import re
 import shutil

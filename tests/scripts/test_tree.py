@@ -1,7 +1,5 @@
 """The programs in the tree, in a small repository: when they are taken, when others are built, how they are stored, and what they are compared with."""
 
-from __future__ import annotations
-
 import os
 from typing import List, NamedTuple, Optional, Sequence
 

@@ -1,7 +1,5 @@
 """What `crates/trial_runs` answers to each request of its input."""
 
-from __future__ import annotations
-
 from pathlib import Path
 from typing import Dict, Iterator, Tuple
 

@@ -4,8 +4,6 @@ A record goes from the end of the one before it to the end of its value, so the 
 What stands behind the last record is left out where records are put together again.
 """
 
-from __future__ import annotations
-
 from itertools import combinations
 from typing import Callable, Dict, Iterator, List
 

@@ -1,7 +1,5 @@
 """The two games: what their names, letters and readers are; and their parameters (docs/FORMATS.md, section 1)."""
 
-from __future__ import annotations
-
 from dataclasses import dataclass
 from typing import Callable, Dict
 

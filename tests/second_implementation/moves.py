@@ -1,7 +1,5 @@
 """Moves: their texts, and what they do to a board (docs/FORMATS.md, section 5; docs/RULES.md, sections 5 and 6)."""
 
-from __future__ import annotations
-
 import re
 from dataclasses import dataclass, field, replace
 from typing import Dict, FrozenSet, Tuple

@@ -1,7 +1,5 @@
 """Save files: records, loading and saving (docs/FORMATS.md, section 6)."""
 
-from __future__ import annotations
-
 import re
 from dataclasses import dataclass, field
 from typing import Dict, List, Optional, Tuple

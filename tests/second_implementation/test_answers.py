@@ -1,7 +1,5 @@
 """What `crates/trial_runs` has to answer to requests is what the second implementation makes of its input."""
 
-from __future__ import annotations
-
 from itertools import islice
 from typing import List, Tuple
 

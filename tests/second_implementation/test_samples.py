@@ -1,7 +1,5 @@
 """The second implementation reads IDs, moves and saves as the program does."""
 
-from __future__ import annotations
-
 import re
 from typing import Callable
 

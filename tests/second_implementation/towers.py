@@ -1,7 +1,5 @@
 """Towers: the towers that are seen, and descriptions (docs/RULES.md, section 2; docs/FORMATS.md, section 3)."""
 
-from __future__ import annotations
-
 import re
 from dataclasses import dataclass
 from typing import List, Sequence, Tuple

@@ -1,7 +1,5 @@
 """Unequal: signs between neighbours, and descriptions (docs/RULES.md, section 3; docs/FORMATS.md, section 4)."""
 
-from __future__ import annotations
-
 from dataclasses import dataclass
 from typing import Dict, FrozenSet, List, Set, Tuple
 

@@ -1,7 +1,5 @@
 """Texts: decimals and runs of digits (docs/FORMATS.md, "Words"), and what is said of one that is refused (section 10)."""
 
-from __future__ import annotations
-
 import re
 from functools import lru_cache
 from typing import Optional

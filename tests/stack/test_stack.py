@@ -4,8 +4,6 @@ How much stack a program takes is its compiler's affair, too. So this is no test
 as much.
 """
 
-from __future__ import annotations
-
 import resource
 from pathlib import Path
 from typing import NamedTuple

@@ -1,7 +1,5 @@
 """Parts of a text."""
 
-from __future__ import annotations
-
 import re
 from typing import List
 

@@ -3,8 +3,6 @@
 That of bash is run. Those of zsh and fish are read by their shells where these are there; what they name is held against the help.
 """
 
-from __future__ import annotations
-
 import shutil
 from typing import Callable, Dict, List, NamedTuple, Sequence
 

@@ -1,7 +1,5 @@
 """The documents are read in minutes: no line is wide, and README is short, with a picture of the board as it is."""
 
-from __future__ import annotations
-
 import pytest
 
 from tests.texts.parts import documents, read

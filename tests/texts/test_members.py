@@ -1,7 +1,5 @@
 """The texts on puzzles-json name its members, its own lines, and what the plain program has in common with it."""
 
-from __future__ import annotations
-
 from tests.harness import Room, run
 from tests.objects import schema
 from tests.objects.reading import OWN_LINES

@@ -1,7 +1,5 @@
 """What the documents name is there: functions, types, definitions, files, crates, targets of `make`, wrong bodies."""
 
-from __future__ import annotations
-
 import re
 from typing import Dict, Iterator, Set
 

@@ -1,7 +1,5 @@
 """The manual pages name what the programs have, and can be read: without a warning, and in 80 columns."""
 
-from __future__ import annotations
-
 import re
 import shutil
 from typing import Dict, Iterator, List, NamedTuple, Sequence

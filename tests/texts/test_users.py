@@ -3,8 +3,6 @@
 Commands and refusals are those of the definitions in `specs/`, the rest is what docs/FORMATS.md says.
 """
 
-from __future__ import annotations
-
 import re
 from typing import List
 

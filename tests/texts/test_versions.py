@@ -1,7 +1,5 @@
 """The version is written in the file VERSION: the changes, the package and the programs have the same. The kit is that of the programs' record, and of `rt`."""
 
-from __future__ import annotations
-
 import re
 import warnings
 

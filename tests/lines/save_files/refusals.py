@@ -1,7 +1,5 @@
 """Texts that are refused: each refusal, and which comes first."""
 
-from __future__ import annotations
-
 from itertools import accumulate
 
 from tests.lines.save_files.sample import SAMPLE, Loaded, edited, text_of

@@ -1,7 +1,5 @@
 """Texts that load: other spellings, other orders, and what is passed over."""
 
-from __future__ import annotations
-
 from tests.lines.save_files.sample import SAMPLE, Loaded, edited, text_of
 
 #: The sample with other lines in place of one of it, which load as the sample: the place, and the lines.
