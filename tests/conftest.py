@@ -1,15 +1,15 @@
 """What the tests have in common: the programs, a room for each case, the library by which calls fail, and the last line, which counts."""
 
-from __future__ import annotations
-
 import os
 import signal
-from typing import Iterator, List, NamedTuple
+from typing import Any, Dict, Iterator, List, NamedTuple
 
 import pytest
 
-#: What the cases of each folder share says of an assertion what pytest says.
-for name in ('harness', 'saving.game', 'lines.runs', 'board.front', 'board.playing', 'exchange.sides', 'faults', 'installing.site', 'objects.worked_lines', 'scripts.small'):
+#: What the cases of a folder share, the fixtures there too; and more that says of an assertion what pytest says.
+SHARED = ['scripts.place', 'scripts.small', 'installing.site', 'lines.runs', 'objects.agreement', 'saving.game', 'exchange.sides']
+pytest_plugins = [f'tests.{name}' for name in SHARED]
+for name in ('board', 'faults', 'harness', 'objects'):
     pytest.register_assert_rewrite(f'tests.{name}')
 
 from building.ready import NotReady, ready
@@ -88,6 +88,22 @@ def room() -> Iterator[Room]:
     """A folder for this case alone."""
     with Room() as made:
         yield made
+
+
+@pytest.fixture
+def stream(request: pytest.FixtureRequest, room: Room) -> Iterator[Dict[str, Any]]:
+    """What `run` is given so that a stream fails: the input is a folder, which can't be read; the output is full, or closed, or its reader has gone."""
+    with open('/dev/full', 'wb') as full, room.make_folder('no input') as folder:
+        reading, writing = os.pipe()
+        os.close(reading)
+        kinds: Dict[str, Dict[str, Any]] = {
+            'unread': {'stdin': folder.fd},
+            'full': {'stdout': full.fileno()},
+            'closed': {'closed': [1]},
+            'gone': {'stdout': writing},
+        }
+        yield kinds[request.param]
+        os.close(writing)
 
 
 @pytest.fixture(scope='session')

@@ -1,7 +1,5 @@
 """All Python passes mypy and pylint, and all shell shellcheck."""
 
-from __future__ import annotations
-
 import os
 import shutil
 import subprocess
@@ -15,14 +13,14 @@ from tests.harness.builds import TOP
 
 SETTINGS = TOP / 'tests' / 'code'
 
-#: The folders with Python, but the clients in docs/, which the documents show word by word.
-FOLDERS = ['bench', 'board', 'tests', 'tools']
+#: The folders with Python and shell.
+FOLDERS = ['.ci', 'bench', 'board', 'docs', 'tests', 'tools']
 
 
 def scripts(*commands: str) -> List[str]:
     """The paths of the files whose first line names one of these commands, from the top."""
     found: List[str] = []
-    for folder in [*FOLDERS, 'docs', '.ci']:
+    for folder in FOLDERS:
         for path in sorted((TOP / folder).rglob('*')):
             if path.is_file() and path.suffix != '.py' and first_line(path).rpartition('/')[2].split()[-1:] in [[word] for word in commands]:
                 found.append(str(path.relative_to(TOP)))
@@ -40,10 +38,6 @@ def modules() -> List[str]:
     return sorted(str(path.relative_to(TOP)) for folder in FOLDERS for path in (TOP / folder).rglob('*.py'))
 
 
-def programs() -> List[str]:
-    return [path for path in scripts('python3') if not path.startswith('docs/')]
-
-
 def said(words: Sequence[str]) -> str:
     """What a command complains of."""
     if not shutil.which(words[0]):
@@ -58,13 +52,11 @@ def test_mypy() -> None:
     """Modules at once, and then the scripts, one by one, since each is a main program."""
     words = ['mypy', '--strict', '--explicit-package-bases', '--no-error-summary', '--python-executable', sys.executable]
     words += ['--config-file', str(SETTINGS / 'mypy.ini'), '--cache-dir', os.devnull, '--scripts-are-modules']
-    assert said([*words, *modules(), *programs()]) == ''
+    assert said([*words, *modules(), *scripts('python3')]) == ''
 
 
-@pytest.mark.parametrize('folder', FOLDERS)
-def test_pylint(folder: str) -> None:
-    files = [path for path in [*modules(), *programs()] if path.startswith(f'{folder}/')]
-    assert said(['pylint', f'--rcfile={SETTINGS / "pylintrc"}', '--score=n', *files]) == ''
+def test_pylint() -> None:
+    assert said(['pylint', f'--rcfile={SETTINGS / "pylintrc"}', '--score=n', *modules(), *scripts('python3')]) == ''
 
 
 def test_shellcheck() -> None:

@@ -1,7 +1,5 @@
 """Our saves, opened by the usual program: every kind of move, with later states, solved, restarted, seeded, with kept bytes."""
 
-from __future__ import annotations
-
 import re
 from typing import List, Sequence, Tuple
 
@@ -38,61 +36,42 @@ def stored_puzzles(game: str, size: int) -> List[str]:
 ])
 def test_saves(sides: Sides, game: str, size: int, number: int, puzzle: str) -> None:
     """A puzzle's saves: fresh, with every kind of move, solved by hand and by the program, restarted, and with later states."""
-    at = f'{game} {puzzle}'
     start = [f'--id={puzzle}']
 
     def save(kind: str, *commands: str) -> str:
         path = f'{game}-{size}-{number}-{kind}.sav'
-        sides.make_save(f'{at}, {kind}', game, path, start, commands)
+        sides.make_save(game, path, start, commands)
         return path
 
-    solution = sides.said(game, start, 'solve')
-    sides.check(f'{at}: is solved', bool(re.fullmatch('S[1-9]*', solution)), solution)
-    moves = moves_to(sides, game, size, puzzle, solution[1:])
+    moves = moves_to(sides, game, size, puzzle, sides.solution(game, *start))
     every = ['move M', *marks_and_clears(size), *done_marks(size), *moves]
 
     fresh = save('fresh')
-    by_id = f'{game}-{size}-{number}-id.sav'
-    sides.draws(f'{at}: theirs opens the ID', game, '--game', puzzle, f'{by_id[:-4]}.png')
-    sides.look_alike(f'{at}, fresh and ID', fresh, by_id)
+    sides.draws(game, '--game', puzzle, 'id.png')
+    sides.look_alike(fresh, 'id.sav')
 
-    hand = save('by hand', *moves)
-    expect_status(sides, f'{at}, by hand: solved', game, hand, 'solved ')
-    solve = save('solve', 'solve')
-    expect_status(sides, f'{at}, solve: helped', game, solve, 'helped 2/2')
-    sides.look_alike(f'{at}, by hand and by solve', hand, solve)
+    hand, solve = save('by hand', *moves), save('solve', 'solve')
+    assert sides.said(game, [f'--load={hand}'], 'status').startswith('solved ')
+    assert sides.said(game, [f'--load={solve}'], 'status') == 'helped 2/2'
+    sides.look_alike(hand, solve)
 
     full = save('every move', *every, 'solve', 'restart', 'move M', *moves[:2])
-    sides.has_lines(f'{at}, every move', full, [':M$', ':P.,.,[1-9]$', ':P.,.,0$', ':R', '^SOLVE ', '^RESTART '])
-    if game == 'towers':
-        sides.has_lines(f'{at}, every move', full, [':D'])
-    restarted = save('restarted', *every, 'restart')
-    sides.look_alike(f'{at}, restarted and fresh', restarted, fresh)
-
-    later = save('later states', *moves, 'undo', 'undo', 'undo')
-    earlier = save('without them', *moves[:-3])
-    sides.look_alike(f'{at}, later states and without', later, earlier)
-    undone = save('all undone', 'move M', 'solve', 'undo', 'undo')
-    sides.look_alike(f'{at}, all undone and fresh', undone, fresh)
-    kept_bytes(sides, f'{at}, kept bytes', game, fresh)
+    sides.has_lines(full, [':M$', ':P.,.,[1-9]$', ':P.,.,0$', ':R', '^SOLVE ', '^RESTART ', *[':D'] * (game == 'towers')])
+    sides.look_alike(save('restarted', *every, 'restart'), fresh)
+    sides.look_alike(save('later states', *moves, 'undo', 'undo', 'undo'), save('without them', *moves[:-3]))
+    sides.look_alike(save('all undone', 'move M', 'solve', 'undo', 'undo'), fresh)
+    kept_bytes(sides, game, fresh)
 
 
-def expect_status(sides: Sides, name: str, game: str, save: str, beginning: str) -> None:
-    """Our program's status on a save begins so."""
-    found = sides.said(game, [f'--load={save}'], 'status')
-    sides.check(name, found.startswith(beginning), f'found {found}, wanted {beginning}..')
-
-
-def kept_bytes(sides: Sides, name: str, game: str, fresh: str) -> None:
+def kept_bytes(sides: Sides, game: str, fresh: str) -> None:
     """A game with the records that are kept as bytes, played on."""
     lines = (sides.room.read(fresh) or b'').decode().splitlines()
     for before, record in reversed(KEPT):
         at = next((at for at, line in enumerate(lines, 1) if line.startswith(before)), 0)
         lines.insert(at, record)
     sides.room.put('with bytes.sav', ''.join(f'{line}\n' for line in lines).encode())
-    kept = f'{fresh[: -len("fresh.sav")]}kept.sav'
-    sides.make_save(name, game, kept, ['--load=with bytes.sav'], ['move M', 'undo'])
-    sides.has_lines(name, kept, [f'^{re.escape(record)}$' for _, record in KEPT])
+    sides.make_save(game, 'kept.sav', ['--load=with bytes.sav'], ['move M', 'undo'])
+    sides.has_lines('kept.sav', [f'^{re.escape(record)}$' for _, record in KEPT])
 
 
 @pytest.mark.parametrize('game', GAMES)
@@ -100,12 +79,9 @@ def kept_bytes(sides: Sides, name: str, game: str, fresh: str) -> None:
 def test_seeded(sides: Sides, game: str, seeded: str) -> None:
     """A seeded game: theirs opens its save and the ID that we write for it."""
     start = [f'--id={seeded}']
-    save = f'{game}-seeded-{seeded[0]}.sav'
-    sides.make_save(f'{game} {seeded}', game, save, start, ['move M', 'undo'])
-    puzzle = sides.said(game, start, 'id')
-    by_id = f'{game}-seeded-{seeded[0]}-id.sav'
-    sides.draws(f'{game} {seeded}: theirs opens {puzzle}', game, '--game', puzzle, f'{by_id[:-4]}.png')
-    sides.look_alike(f'{game} {seeded}, save and ID', save, by_id)
+    sides.make_save(game, 'seeded.sav', start, ['move M', 'undo'])
+    sides.draws(game, '--game', sides.said(game, start, 'id'), 'id.png')
+    sides.look_alike('seeded.sav', 'id.sav')
 
 
 # Moves

@@ -1,7 +1,5 @@
 """Saves and IDs of the usual program, opened by ours; and what doesn't go across."""
 
-from __future__ import annotations
-
 import re
 from typing import List
 
@@ -24,7 +22,7 @@ PUZZLES = 2
 
 @pytest.mark.parametrize(('game', 'kind', 'said'), REFUSED)
 def test_refused(sides: Sides, game: str, kind: str, said: str) -> None:
-    sides.makes('theirs makes a save', game, *saving(1, f'refused-{game}-{kind}-'), kind)
+    sides.makes(game, *saving(1, f'refused-{game}-{kind}-'), kind)
     assert sides.said(game, [f'--load=refused-{game}-{kind}-0.sav'], 'status') == said
 
 
@@ -36,21 +34,16 @@ def saving(count: int, front: str) -> List[str]:
 @pytest.mark.parametrize(('game', 'kind'), [(game, kind) for game, kinds in GENERATED.items() for kind in kinds])
 def test_generated(sides: Sides, game: str, kind: str) -> None:
     """Saves and IDs that the usual program makes, fresh and with their solutions."""
-    at = f'{game} {kind}'
-    front = f'theirs-{game}-{kind}-'
-    sides.makes(f'{at}: theirs makes saves', game, *saving(PUZZLES, front), kind)
-    for save in [f'{front}{number}.sav' for number in range(PUZZLES)]:
-        sides.opens(f'{at}, their save', game, save)
-        solution = sides.said(game, [f'--load={save}'], 'solve')
-        sides.check(f'{at}: ours solves it', bool(re.fullmatch('S[1-9]*', solution)), solution)
-    front += 's'
-    sides.makes(f'{at}: theirs makes solved saves', game, '--with-solutions', *saving(PUZZLES, front), kind)
-    for save in [f'{front}{number}.sav' for number in range(PUZZLES)]:
-        sides.opens(f'{at}, their solved save', game, save)
+    sides.makes(game, *saving(PUZZLES, 'theirs'), kind)
+    for save in [f'theirs{number}.sav' for number in range(PUZZLES)]:
+        sides.opens(game, save)
+        sides.solution(game, f'--load={save}')
+    sides.makes(game, '--with-solutions', *saving(PUZZLES, 'solved'), kind)
+    for save in [f'solved{number}.sav' for number in range(PUZZLES)]:
+        sides.opens(game, save)
         solutions = re.findall(r'^SOLVE *:\d+:(.*)$', (sides.room.read(save) or b'').decode(), re.MULTILINE)
-        found = sides.said(game, [f'--load={save}'], 'undo', 'solve')
-        assert found.splitlines() == ['ok', *solutions], f'{at}: the same solution'
-    puzzles = sides.makes(f'{at}: theirs prints IDs', game, '--generate', str(PUZZLES), kind)
-    assert len(puzzles) == PUZZLES, f'{at}: how many'
+        assert sides.said(game, [f'--load={save}'], 'undo', 'solve').splitlines() == ['ok', *solutions]
+    puzzles = sides.makes(game, '--generate', str(PUZZLES), kind)
+    assert len(puzzles) == PUZZLES
     for puzzle in puzzles:
-        assert sides.said(game, [f'--id={puzzle}'], 'id') == puzzle, f'{at}: {puzzle}'
+        assert sides.said(game, [f'--id={puzzle}'], 'id') == puzzle

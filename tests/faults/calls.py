@@ -3,8 +3,6 @@
 What a run writes begins with the answer and with how the session is behind it.
 """
 
-from __future__ import annotations
-
 from typing import Iterator, List, NamedTuple, Tuple
 
 from tests.harness import FaultLibrary, Room, run
@@ -32,10 +30,9 @@ class Calls:
         # refused again.
         self.full_game, self.full_first = '', 1
 
-    def listed(self) -> List[Tuple[str, str]]:
-        """A game and a call of it for each line."""
-        lines = run([self.program, 'calls'], self.room).output.decode().splitlines()
-        return [(game, call) for game, call in map(str.split, lines)]
+    def listed(self) -> List[List[str]]:
+        """Each call: a game and a call of it."""
+        return list(map(str.split, run([self.program, 'calls'], self.room).output.decode().splitlines()))
 
     def refuse(self, game: str, call: str) -> None:
         """The Nth request is refused, and then all from the Nth on, until the call is behind it."""

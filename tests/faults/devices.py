@@ -1,7 +1,5 @@
 """Standard input, standard output and the file to load fail, call by call."""
 
-from __future__ import annotations
-
 from typing import Dict, List
 
 from tests.faults.memory import GAME_SAVE

@@ -1,204 +1,142 @@
-"""Memory is refused, request by request. What is answered is compared with runs in which nothing fails.
-
-A mark stands behind each command: a command that is none. Its reply takes no memory, so it shows where the one before it ends.
-"""
-
-from __future__ import annotations
+"""Memory is refused, request by request. What is answered is compared with runs in which nothing fails."""
 
 import re
-from typing import Dict, List, NamedTuple, Sequence, Set, Tuple
+from pathlib import Path
+from typing import Any, Dict, FrozenSet, List, NamedTuple, Sequence, Set, Tuple
 
-from tests.faults.rounds import Round, Rounds, State, Target
+from tests.faults.rounds import OLD_SAVE, Round, Rounds, State, Target
+from tests.objects.reading import Unread, without_own
 
-MARK, MARK_REPLY = b'##', b'refused: BadCommand'
-REFUSAL = b'refused: OutOfMemory'
+FOLDER = Path(__file__).resolve().parent / 'games'
+
+#: Stands behind each command: a command that is none. Its reply takes no memory, so it shows where the one before it ends.
+MARK, MARK_REPLY = b'##\n', b'refused: BadCommand\n'
 
 #: Commands that take no memory.
 NEEDLESS = re.compile(rb'undo|redo|status|done|quit|move R9')
 
-TOWERS = b"""\
-new 3:3//////3/////
-move M
-move P1,1,2
-move R0,0,1
-undo
-move R9,0,1
-redo
-restart
-solve
-marks
-show
-id
-list 5
-done
-move D0,-1
-done
-save
-undo
-undo
-move S123231312
-redo
-status
-"""
-UNEQUAL = b"""\
-show
-solve
-undo
-move R0,0,1
-marks
-move R9,0,1
-new 4!7
-id
-solve
-list 3
-undo
-redo
-save
-status
-"""
-LOADED = b"""\
-status
-redo
-move M
-restart
-save
-undo
-id
-"""
-OLD_SAVE = b'an old file\n'
-GAME_SAVE = b"""\
-SAVEFILE:41:Simon Tatham's Portable Puzzle Collection
-VERSION :1:1
-GAME    :6:Towers
-PARAMS  :3:3de
-CPARAMS :3:3de
-SEED    :15:123456789012345
-DESC    :13:3//////3/////
-AUXINFO :8:0011aabb
-NSTATES :1:4
-STATEPOS:1:2
-MOVE    :6:R0,0,1
-RESTART :13:3//////3/////
-MOVE    :1:M
-"""
+GAME_SAVE = (FOLDER / 'game.sav').read_bytes()
 
 
 class Game(NamedTuple):
-    """A game, and the words of the commands that are answered with OutOfMemory in some round."""
+    """A game: its words, the name of a file with its commands, and the words of those that are answered with OutOfMemory in some round."""
 
     name: str
     words: List[str]
-    script: bytes
+    script: str
     target: Target
     met: str
 
+    @property
+    def commands(self) -> List[bytes]:
+        return (FOLDER / f'{self.script}.txt').read_bytes().splitlines()
+
 
 OVER = Target(OLD_SAVE)
-ITSELF = Target(GAME_SAVE)
-LINKED = Target(OLD_SAVE, is_link=True)
-LINKED_NEW = Target(is_link=True)
-UNEQUAL_ID = '3:0,0L,0L,0U,0,0,0U,0,0'
+UNEQUAL = ['unequal', '--id', '3:0,0L,0L,0U,0,0,0U,0,0']
+LOADED = ['towers', '--load', 'game.sav']
+SEEDED = ['towers', '--id', '5!7']
 GAMES = [
-    Game('a game of Towers', ['towers'], TOWERS, OVER, 'new move restart solve marks show id list save'),
-    Game('a game of Unequal from its ID', ['unequal', '--id', UNEQUAL_ID], UNEQUAL, OVER, 'new show solve marks id list save'),
-    Game('a loaded game', ['towers', '--load', 'game.sav'], LOADED, Target(), 'move restart save id'),
-    Game('a game that is saved where it was loaded', ['towers', '--load', 'new.sav'], LOADED, ITSELF, 'move restart save id'),
-    Game('a seeded game', ['towers', '--id', '5!7'], LOADED, OVER, 'move save id'),
-    Game('a game that is saved through a link', ['towers', '--id', '5!7'], LOADED, LINKED, 'move save id'),
-    Game('a game that is saved through a link to nothing', ['towers', '--id', '5!7'], LOADED, LINKED_NEW, 'move save id'),
+    Game('a game of Towers', ['towers'], 'towers', OVER, 'new move restart solve marks show id list save'),
+    Game('a game of Unequal from its ID', UNEQUAL, 'unequal', OVER, 'new show solve marks id list save'),
+    Game('a loaded game', LOADED, 'loaded', Target(), 'move restart save id'),
+    Game('a game that is saved where it was loaded', ['towers', '--load', 'new.sav'], 'loaded', Target(GAME_SAVE), 'move restart save id'),
+    Game('a seeded game', SEEDED, 'loaded', OVER, 'move save id'),
+    Game('a game that is saved through a link', SEEDED, 'loaded', Target(OLD_SAVE, is_link=True), 'move save id'),
+    Game('a game that is saved through a link to nothing', SEEDED, 'loaded', Target(is_link=True), 'move save id'),
 ]
 
-Numbers = Tuple[int, ...]
+#: The numbers of commands, counted from 0.
+Numbers = FrozenSet[int]
 
 
 class Refusing:
-    """One game, again and again."""
+    """One game of the plain program, again and again. An answer is the bytes of a reply."""
+
+    #: About so many rounds are made in which all memory is refused from a request on; as many as there are requests, where it is nothing.
+    rounds_on = 0
 
     def __init__(self, rounds: Rounds, game: Game) -> None:
         self.rounds = rounds
-        self.name = game.name
-        self.words = game.met.split()
-        self.commands = game.script.splitlines()
+        self.commands = without_own(game.commands)
+        self.owed = game.met.split()
+        #: The commands that were lost in some round, and the words of those and of what was refused.
+        self.lost: Set[bytes] = set()
         self.met: Set[bytes] = set()
-        self.references: Dict[Numbers, Tuple[bytes, State]] = {}
+        self._references: Dict[Numbers, Tuple[List[Any], State]] = {}
+        rounds.words = [*game.words, '--save', 'new.sav']
+        rounds.target = game.target
+
+    def typed(self, commands: Sequence[bytes]) -> bytes:
+        return b''.join(command + b'\n' + MARK for command in commands)
+
+    def read(self, output: bytes) -> List[Any]:
+        """The answers. Raises `Unread` where these aren't answers to the commands."""
+        *replies, rest = output.split(MARK_REPLY)
+        if len(replies) != self.rounds.input.count(MARK) or rest:
+            raise Unread(f'{len(replies)} commands are answered, and {rest!r} is left')
+        return replies
+
+    def is_refused(self, answer: Any) -> bool:
+        return bool(answer == b'refused: OutOfMemory\n')
+
+    def is_lost(self, answer: Any) -> bool:
+        """Whether the command was carried out, and memory for its answer lacked."""
+        return False
 
     def refuse(self) -> None:
         """The Nth request is refused, N from 1 until a round meets none; and then all from the Nth on."""
-        self.rounds.input = marked(self.commands)
+        self.rounds.input = self.typed(self.commands)
         ample = self.rounds.run('memory')
-        assert ample.wrong_end(0, '') + ample.wrong_left() == [], f'{self.name}, with ample memory'
-        for mode in ('once', 'on'):
-            is_last = False
-            for at in range(1, ample.met.calls + 51):
-                found = self.rounds.run('memory', at, on=mode == 'on')
-                is_last = found.met.calls < at
-                if is_last:
+        assert ample.wrong_end(0, '') + ample.wrong_left() == []
+        for is_on in (False, True):
+            for at in range(1, ample.met.calls + 51, 1 + (ample.met.calls // self.rounds_on if is_on and self.rounds_on else 0)):
+                found = self.rounds.run('memory', at, on=is_on)
+                if found.met.calls < at:
                     break
-                assert self.wrong(found, mode) == [], f'{self.name}, request {at} refused {mode}'
-            assert is_last, f'{self.name}, a last round that meets none, {mode}'
-        for word in self.words:
-            assert word.encode() in self.met, f'{self.name}, {word}'
+                assert self.wrong(found, is_on) == [], f'request {at} refused {"on" if is_on else "once"}'
+            assert (found.met.calls < at, found.status, found.output) == (True, 0, ample.output), 'a last round that meets none'
+        assert [word for word in self.owed if word.encode() not in self.met] == []
 
-    def wrong(self, found: Round, mode: str) -> List[str]:
+    def wrong(self, found: Round, is_on: bool) -> List[str]:
         """What is wrong with a round."""
         if not found.output and found.status == 1:
             return ended_for_want(found)
-        numbers = refused(found.output)
-        self.met.update(self.commands[number].split()[0] for number in numbers)
-        wrong = [f'{self.commands[number]!r} takes no memory' for number in numbers if NEEDLESS.match(self.commands[number])]
-        if mode == 'once' and len(numbers) + (found.status == 1) > 1:
-            wrong.append(f'commands {numbers} are refused with one request, and the status is {found.status}')
-        output, saved = self.reference(numbers)
-        if found.output != output:
-            wrong.append('the replies are not those of a run without what was refused')
+        try:
+            answers = self.read(found.output)
+        except Unread as unread:
+            return [str(unread)]
+        lost = frozenset(at for at, answer in enumerate(answers) if self.is_lost(answer))
+        refused = frozenset(at for at, answer in enumerate(answers) if self.is_refused(answer))
+        self.lost.update(self.commands[at] for at in lost)
+        self.met.update(self.commands[at].split()[0] for at in lost | refused)
+        wrong = [f'{self.commands[at]!r} takes no memory' for at in refused if NEEDLESS.match(self.commands[at])]
+        if not is_on and len(lost) + len(refused) + (found.status == 1) > 1:
+            wrong.append(f'{lost} are lost and {refused} refused by one request, and the status is {found.status}')
+        # Those whose answer is lost were carried out; where all memory is gone, they may have been refused.
+        carried_out, saved = self.reference(refused)
+        left_out = self.reference(refused | lost)[0] if is_on else carried_out
+        for at, answer in enumerate(answers):
+            if at not in lost | refused and answer not in (carried_out[at], left_out[at]):
+                wrong.append(f'{self.commands[at]!r} is answered {answer}, which a run without what was refused does not')
         if found.status == 1:
             return wrong + ended_for_want(found)
-        if found.after[1:] != saved[1:]:
+        if not (is_on and lost) and found.after[1:] != saved[1:]:
             wrong.append('the save file is not that of a run without what was refused')
         return wrong + found.wrong_end(0, '') + found.wrong_left()
 
-    def reference(self, gone: Numbers) -> Tuple[bytes, State]:
-        """The replies and the save file of a run without these commands, in which nothing fails; their replies are put in."""
-        if gone not in self.references:
-            left = [command for number, command in enumerate(self.commands) if number not in gone]
-            self.rounds.input = marked(left)
+    def reference(self, gone: Numbers) -> Tuple[List[Any], State]:
+        """The answers and the save file of a run without these commands, in which nothing fails; nothing is the answer to those."""
+        if gone not in self._references:
+            whole = self.rounds.input
+            self.rounds.input = self.typed([command for at, command in enumerate(self.commands) if at not in gone])
             found = self.rounds.run()
-            self.rounds.input = marked(self.commands)
-            self.references[gone] = spliced(found.output, gone, len(self.commands)), found.after
-        return self.references[gone]
+            told = iter(self.read(found.output))
+            self._references[gone] = [None if at in gone else next(told, None) for at in range(len(self.commands))], found.after
+            self.rounds.input = whole
+        return self._references[gone]
 
 
 def ended_for_want(found: Round) -> List[str]:
     wrong = found.wrong_end(1, 'out of memory') + found.wrong_left()
     return wrong if found.stands else [*wrong, 'the save file has changed']
-
-
-def marked(commands: Sequence[bytes]) -> bytes:
-    """The commands as lines, with the mark behind each."""
-    return b''.join(command + b'\n' + MARK + b'\n' for command in commands)
-
-
-def parts(output: bytes) -> List[List[bytes]]:
-    """The lines of each reply."""
-    replies: List[List[bytes]] = [[]]
-    for line in output.splitlines():
-        if line == MARK_REPLY:
-            replies.append([])
-        else:
-            replies[-1].append(line)
-    return replies[:-1]
-
-
-def refused(output: bytes) -> Numbers:
-    """The numbers of the commands, from 0, that were answered with OutOfMemory."""
-    return tuple(number for number, reply in enumerate(parts(output)) if reply == [REFUSAL])
-
-
-def spliced(output: bytes, gone: Numbers, count: int) -> bytes:
-    """The replies of a run without some commands, with OutOfMemory in the places of those."""
-    replies = iter(parts(output))
-    lines: List[bytes] = []
-    for number in range(count):
-        lines += [REFUSAL] if number in gone else next(replies, [])
-        lines.append(MARK_REPLY)
-    return b''.join(line + b'\n' for line in lines)

@@ -1,19 +1,21 @@
 """One run of the program under a fault, and what it left."""
 
-from __future__ import annotations
-
+import contextlib
 import os
+import resource
 import signal
 import stat
-from typing import Any, List, Mapping, NamedTuple, Optional, Sequence
+from typing import Any, List, NamedTuple, Optional, Sequence
 
-from tests.harness import FaultLibrary, Met, Room, is_root, run
+from tests.harness import FaultLibrary, Met, Room, Skip, is_root, run
 from tests.harness.game import told_left
 from tests.harness.users import ANNA, GAMES
 
 #: The file that is saved to, and where it lies when that name is a link.
 SAVE, FAR = 'new.sav', 'far/real.sav'
 
+#: What stands there mostly, and its mode.
+OLD_SAVE = b'an old file\n'
 OLD_MODE = 0o640
 
 
@@ -69,32 +71,28 @@ class Round(NamedTuple):
         return [f'{len(self.left)} new files are left'] if self.left else []
 
 
-class Limit(NamedTuple):
-    """The most of some resources, and signals that are ignored, as `run` takes them."""
-
-    limits: Mapping[int, int]
-    ignored: Sequence[signal.Signals]
-
-
 class Rounds:
     """Runs a program with the words, the input and the save file that are set by whoever wants the run."""
 
     def __init__(self, room: Room, program: str, library: FaultLibrary) -> None:
-        self.words: List[str] = []
+        """Raises `Skip` where the program can't be made to fail."""
+        self.words = ['towers', '--save', 'new.sav']
         self.input = b''
-        self.target = Target()
+        self.target = Target(OLD_SAVE)
         self._room = room
         self._program = program
         self._library = library
         room.make_folder('far').close()
+        if not self.run('memory').met.calls:
+            raise Skip('the program asks for memory past the library')
 
-    def run(self, call: str = 'none', at: int = 0, error: str = 'EIO', limit: Optional[Limit] = None, **how: Any) -> Round:
-        """One run. The words behind `limit` are those of `FaultLibrary.env`."""
+    def run(self, call: str = 'none', at: int = 0, error: str = 'EIO', most_bytes: Optional[int] = None, ignored: Sequence[signal.Signals] = (), **how: Any) -> Round:
+        """One run, in which no file may have more bytes. The words behind these are those of `FaultLibrary.env`."""
         self._furnish()
         before = self._state(self._file())
         env = self._library.env(call, at, error, **how)
-        limited = limit._asdict() if limit else {}
-        ended = run([self._program, *self.words], self._room, input=self.input, env=env, **limited)
+        limits = {} if most_bytes is None else {resource.RLIMIT_FSIZE: most_bytes}
+        ended = run([self._program, *self.words], self._room, input=self.input, env=env, limits=limits, ignored=ignored)
         left = self._left_names()
         return Round(
             ended.status,
@@ -117,10 +115,8 @@ class Rounds:
 
     def _furnish(self) -> None:
         for name in (SAVE, FAR, *self._left_names()):
-            try:
+            with contextlib.suppress(FileNotFoundError):
                 self._room.remove(name)
-            except FileNotFoundError:
-                pass
         if self.target.is_link:
             self._room.link(SAVE, FAR)
         if self.target.old is not None:

@@ -1,13 +1,9 @@
 """The save fails, call by call, or the program is killed there. The old file stands, or the save does, or a new file is whole."""
 
-from __future__ import annotations
-
-import resource
 import signal
 from typing import List, NamedTuple, Tuple
 
-from tests.faults.memory import OLD_SAVE
-from tests.faults.rounds import Limit, Round, Rounds, State, Target
+from tests.faults.rounds import OLD_SAVE, Round, Rounds, State, Target
 
 
 class Save(NamedTuple):
@@ -169,7 +165,7 @@ def must_pass(save: Save, call: str, error: str) -> bool:
 def size_limited(rounds: Rounds, whole: Round, is_ignored: bool) -> None:
     """No file may have a byte. A signal says so, which ends the program in the midst of the file, or is ignored."""
     ignored = [signal.SIGXFSZ] if is_ignored else []
-    limited = rounds.run(limit=Limit({resource.RLIMIT_FSIZE: 0}, ignored))
+    limited = rounds.run(most_bytes=0, ignored=ignored)
     assert limited.stands, 'the old file does not stand'
     found = rounds.run()
     assert is_whole(found.after, whole), 'it is not whole'

@@ -5,15 +5,13 @@ answers then is compared with runs in which nothing fails.
 no C compiler for it, or the program can't be made to load it, all is skipped.
 """
 
-from __future__ import annotations
-
 from typing import List
 
 import pytest
 
 from tests.faults import devices, memory, saves
 from tests.faults.calls import Calls
-from tests.faults.rounds import Rounds, Target
+from tests.faults.rounds import Rounds
 from tests.harness import FaultLibrary, Room, by_name, need_root
 from tests.harness.builds import TOP
 
@@ -25,20 +23,12 @@ PARTS = 6
 
 @pytest.fixture
 def rounds(program: str, room: Room, library: FaultLibrary) -> Rounds:
-    made = Rounds(room, program, library)
-    made.words = ['towers']
-    if not made.run('memory').met.calls:
-        pytest.skip('the program asks for memory past the library')
-    made.target = Target(memory.OLD_SAVE)
-    made.words = ['towers', '--save', 'new.sav']
-    return made
+    return Rounds(room, program, library)
 
 
 @pytest.mark.parametrize('game', memory.GAMES, ids=by_name)
 def test_memory(rounds: Rounds, game: memory.Game) -> None:
     rounds.put('game.sav', memory.GAME_SAVE)
-    rounds.words = [*game.words, '--save', 'new.sav']
-    rounds.target = game.target
     memory.Refusing(rounds, game).refuse()
 
 

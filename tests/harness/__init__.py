@@ -6,21 +6,16 @@ terminal  a run in a terminal, with what is typed to it and what it shows
 screen    the screen of that terminal
 builds    where the repository is, and copies of programs
 game      a small game, what its saves are, and the new files that saves leave
-checkout  a copy of the scripts at another place, and commands that are run there
 faults    the library tests/faults/faults.c, by which a chosen call of the program fails
 mounts    a file that is mounted alone, and a disk that is soon full
 users     whom a program can be run as
-skip      what can't be tried here
 """
-
-from __future__ import annotations
 
 from typing import Protocol
 
 from tests.harness.faults import FaultLibrary, Met
 from tests.harness.program import Ended, run
-from tests.harness.room import Folder, Room
-from tests.harness.skip import Skip
+from tests.harness.room import Folder, Room, Skip
 from tests.harness.users import User, is_root, need_root
 
 __all__ = ['Ended', 'FaultLibrary', 'Folder', 'Met', 'Room', 'Skip', 'User', 'by_name', 'is_root', 'need_root', 'run']

@@ -1,7 +1,5 @@
 """Where the repository is, and copies of programs."""
 
-from __future__ import annotations
-
 import os
 import shutil
 from pathlib import Path

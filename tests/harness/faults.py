@@ -1,15 +1,12 @@
 """The library tests/faults/faults.c: a chosen call of a program fails, or the program is killed there."""
 
-from __future__ import annotations
-
 import os
 import shutil
 import subprocess
 from pathlib import Path
 from typing import Dict, NamedTuple
 
-from tests.harness.skip import Skip
-from tests.harness.room import Room, can_preload
+from tests.harness.room import Room, Skip, can_preload
 
 SOURCE = Path(__file__).resolve().parent.parent / 'faults' / 'faults.c'
 

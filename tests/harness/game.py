@@ -1,7 +1,5 @@
 """A small game of Towers, what its saves are, and the new files that saves leave."""
 
-from __future__ import annotations
-
 import os
 import re
 from typing import Iterable, List, Optional

@@ -1,14 +1,11 @@
 """Mounts for a case: a file that is mounted alone, and a disk that is soon full."""
 
-from __future__ import annotations
-
 import contextlib
 import ctypes
 import os
 from typing import Iterator, Optional
 
-from tests.harness.skip import Skip
-from tests.harness.room import Folder
+from tests.harness.room import Folder, Skip
 
 CLONE_NEWNS = 0x00020000
 MS_BIND, MS_REC, MS_PRIVATE = 0x1000, 0x4000, 0x40000

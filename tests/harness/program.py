@@ -22,6 +22,18 @@ class Ended(NamedTuple):
     output: bytes
     error: bytes
 
+    @property
+    def said(self) -> str:
+        """All that it wrote."""
+        return (self.output + self.error).decode(errors='replace')
+
+    def expect(self, *says: str, status: int = 0) -> Ended:
+        """It ended with this status, and wrote these texts somewhere."""
+        assert self.status == status, self.said[-600:]
+        for text in says:
+            assert text in self.said
+        return self
+
 
 def run(
     words: Sequence[Word],

@@ -8,8 +8,14 @@ import stat
 import tempfile
 from typing import BinaryIO, List, Optional, Tuple, Union
 
+from _pytest.outcomes import Skipped
+
 Name = Union[str, bytes]
 Owner = Tuple[int, int]
+
+
+class Skip(Skipped):
+    """Raised in a case that can't be tried here. Its text is the reason."""
 
 
 class Folder:

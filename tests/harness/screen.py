@@ -1,7 +1,5 @@
 """The screen of a terminal, by pyte, with what pyte leaves out of what terminals of the kind xterm are sent."""
 
-from __future__ import annotations
-
 from typing import List, Set
 
 import pyte

@@ -1,12 +1,9 @@
 """Users whom a program can be run as, where the test is root's."""
 
-from __future__ import annotations
-
 import os
-from typing import NamedTuple, Tuple
+from typing import NamedTuple, Optional, Tuple
 
-from tests.harness.skip import Skip
-from tests.harness.room import Owner
+from tests.harness.room import Owner, Skip
 
 
 class User(NamedTuple):
@@ -37,6 +34,11 @@ CARL = User(60003, 60003)
 
 def is_root() -> bool:
     return os.geteuid() == 0
+
+
+def plain_user() -> Optional[User]:
+    """A user who isn't root: another one where the test is root's, or else the test's own, for whom nothing is said."""
+    return ANNA if is_root() else None
 
 
 def need_root() -> None:

@@ -1,10 +1,11 @@
 """A copy of the repository in which the programs are built, and what is done there."""
 
-from __future__ import annotations
-
 import os
 from typing import Dict, List, Mapping, Optional, Sequence, Tuple
 
+import pytest
+
+from tests.conftest import Programs
 from tests.scripts.place import Place
 from tests.harness import Room
 from tests.harness.program import Ended
@@ -21,10 +22,7 @@ class Site(Place):
 
     def expect(self, words: Sequence[str], status: int = 0, says: str = '', env: Optional[Mapping[str, str]] = None) -> Ended:
         """Runs a command. Its status is this one, and it says this somewhere."""
-        ended = self.run(words, env=env)
-        said = (ended.output + ended.error).decode(errors='replace')
-        assert ended.status == status and says in said, f'{words}: {ended.status}, {said[-600:]}'
-        return ended
+        return self.run(words, env=env).expect(says, status=status)
 
 
 def snapshot(folder: str) -> List[str]:
@@ -60,3 +58,8 @@ def expect_plays(site: Site, folder: str) -> None:
         assert ended == Ended(0, written, b''), program
     ended = site.run([os.path.join(folder, 'puzzles-play'), '--help'], cwd='..')
     assert (ended.status, ended.error) == (0, b'')
+
+
+@pytest.fixture
+def site(room: Room, programs: Programs) -> Site:
+    return Site(room, *programs)

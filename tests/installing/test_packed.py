@@ -1,8 +1,6 @@
 """What `make dist` packs: the same bytes each time, sources that know their commit, and programs that another user plays from where they
 were unpacked."""
 
-from __future__ import annotations
-
 import os
 import shutil
 

@@ -1,7 +1,5 @@
 """What `make install` puts below a DESTDIR, for a package."""
 
-from __future__ import annotations
-
 import os
 from typing import List
 
@@ -24,6 +22,8 @@ def wanted() -> List[str]:
     listed = [
         *(f'games/{name}' for name in names),
         *(f'share/bash-completion/completions/{name}' for name in names),
+        'share/zsh/site-functions/_puzzles',
+        *(f'share/fish/vendor_completions.d/{name}.fish' for name in names),
         *(f'share/man/man{page.name[-1]}/{page.name}' for page in (TOP / 'man').iterdir()),
         f'{OURS}/VERSION',
         *(f'{OURS}/board/bank/{game}.txt' for game in ('towers', 'unequal')),
@@ -32,10 +32,6 @@ def wanted() -> List[str]:
         *(f'{DOCUMENTS}/docs/{path.name}' for path in (TOP / 'docs').glob('*.md')),
         *(f'{DOCUMENTS}/docs/clients/{path.name}' for path in (TOP / 'docs' / 'clients').iterdir() if path.is_file()),
     ]
-    if (TOP / 'board' / 'completion.zsh').exists():
-        listed.append('share/zsh/site-functions/_puzzles')
-    if (TOP / 'board' / 'completion.fish').exists():
-        listed += [f'share/fish/vendor_completions.d/{name}.fish' for name in names]
     return sorted(listed)
 
 

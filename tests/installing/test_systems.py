@@ -1,7 +1,5 @@
 """What `make install` does on a system, without a DESTDIR, where something lies already."""
 
-from __future__ import annotations
-
 import os
 from typing import List, Sequence
 

@@ -1,13 +1,12 @@
 """A run as a row of a table: what is there, what is typed, and what has to have come of it."""
 
-from __future__ import annotations
-
 from typing import Any, Mapping, NamedTuple, Optional, Sequence
 
-from tests.harness import Folder, Room, User, is_root, run
+import pytest
+
+from tests.harness import Folder, Room, run
 from tests.harness.game import NEW_NAME, told_left
 from tests.harness.program import Word
-from tests.harness.users import ANNA
 
 
 class Run(NamedTuple):
@@ -87,6 +86,6 @@ def expect_left(folder: Folder, new: Sequence[str], wanted: Optional[bytes]) -> 
         assert folder.read(path) == wanted, 'what is left'
 
 
-def plain_user() -> Optional[User]:
-    """A user who isn't root: another one where the test is root's, or else the test's own, for whom nothing is said."""
-    return ANNA if is_root() else None
+@pytest.fixture
+def player(program: str, room: Room) -> Player:
+    return Player(program, room)

@@ -1,9 +1,8 @@
 """First games: the input, the replies, and what becomes of a stream that fails."""
 
-from __future__ import annotations
-
 import os
 import pty
+from typing import Any, Dict
 
 import pytest
 
@@ -73,29 +72,14 @@ def test_seeded(player: Player) -> None:
     player.play(SEEDED_BY_COMMAND._replace(output=b'ok\n' + first))
 
 
-# A stream that fails ends the run, and nothing is saved.
+@pytest.mark.parametrize(('row', 'stream'), [(UNREAD, 'unread'), (FULL, 'full'), (CLOSED, 'closed'), (GONE, 'gone')], indirect=['stream'])
+def test_stream_fails(player: Player, row: Run, stream: Dict[str, Any]) -> None:
+    """That ends the run, and nothing is saved."""
+    player.play(row, **stream)
 
 
-def test_unread(player: Player) -> None:
-    """A folder can be opened, but not read."""
-    player.play(UNREAD, stdin=player.room.fd)
-
-
-def test_full(player: Player) -> None:
-    with open('/dev/full', 'wb') as full:
-        player.play(FULL, stdout=full.fileno())
-
-
-@pytest.mark.parametrize(('row', 'number'), [(CLOSED, 1), (NO_ERROR, 2)])
-def test_closed(player: Player, row: Run, number: int) -> None:
-    player.play(row, closed=[number])
-
-
-def test_no_reader(player: Player) -> None:
-    reading, writing = os.pipe()
-    os.close(reading)
-    with os.fdopen(writing, 'wb') as pipe:
-        player.play(GONE, stdout=pipe.fileno())
+def test_closed_error(player: Player) -> None:
+    player.play(NO_ERROR, closed=[2])
 
 
 def test_terminal(player: Player) -> None:

@@ -1,10 +1,9 @@
 """A game that goes on in run after run: each begins with the session that the last one left."""
 
-from __future__ import annotations
+from typing import Sequence
 
 import pytest
 
-from tests.harness import by_name
 from tests.harness.game import ID, save_text
 from tests.lines.runs import Player, Run
 
@@ -28,23 +27,15 @@ RUNS = [
     Run('left as it is, where no line comes', LOADED, holds={'game.sav': save_text(2, 1)}),
 ]
 
-#: Runs without a session at their end.
-WITHOUT = [
-    Run('an empty input leaves no session', ['towers', '--save', 'new.sav'], absent=['new.sav']),
-    Run('empty lines leave no session', ['towers', '--save', 'new.sav'], b'\n\n', absent=['new.sav']),
-]
+SEEDED_WORDS = ['towers', '--id', '5!7']
+TOWER = ['towers', '--load', 'tower.sav']
 
-#: Beginnings: with an ID, a seed, or a file.
-BEGUN = [
-    Run('begun with nothing', ['towers'], b'status\n', output=b'refused: NoGame\n'),
-    Run('begun with an ID', ['towers', '--id', ID], b'status\nid\n', output=b'playing 1/1\n%s\n' % ID.encode()),
-    Run(
-        'begun with a file',
-        ['towers', '--load', 'game.sav'],
-        b'status\nid\n',
-        given={'game.sav': save_text(2, 2)},
-        output=b'playing 2/3\n%s\n' % ID.encode(),
-    ),
+#: What somebody does who has never seen the program: help first, a seeded game, played, saved, loaded, finished.
+FIRST_DAYS = [
+    Run('help', ['--help'], output_has=[b"puzzles towers --id '5!7' --save"]),
+    Run('the first day', [*SEEDED_WORDS, '--save', 'tower.sav'], b'show\nmove M\nquit\n', output=None, made=['tower.sav']),
+    Run('the second', [*TOWER, '--save', 'tower.sav'], b'undo\nredo\nsolve\nstatus\n', output_has=[b'helped 3/3\n']),
+    Run('the last', TOWER, b'status\nundo\nstatus\n', output=b'helped 3/3\nok\nplaying 2/3\n'),
 ]
 
 SEEDED = Run('begun with a seed', ['unequal', '--id', '4!7', '--save', 'new.sav'], b'status\nid\n', output=None, made=['new.sav'])
@@ -61,11 +52,7 @@ def test_seeded(player: Player) -> None:
     player.play(SEEDED._replace(output=first))
 
 
-def test_run_after_run(player: Player) -> None:
-    for row in RUNS:
+@pytest.mark.parametrize('runs', [RUNS, FIRST_DAYS])
+def test_run_after_run(player: Player, runs: Sequence[Run]) -> None:
+    for row in runs:
         player.play(row)
-
-
-@pytest.mark.parametrize('row', [*WITHOUT, *BEGUN], ids=by_name)
-def test_begun(player: Player, row: Run) -> None:
-    player.play(row)

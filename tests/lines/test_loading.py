@@ -1,35 +1,20 @@
 """The file to load: saves, files that are none, and files that can't be read."""
 
-from __future__ import annotations
-
 import os
 import resource
 
 import pytest
 
 from tests.harness import Room, by_name
-from tests.harness.game import HEAD, save_text
-from tests.lines.runs import Player, Run, plain_user
+from tests.harness.game import save_text
+from tests.harness.users import plain_user
+from tests.lines.runs import Player, Run
+from tests.lines.save_files.sample import text_of
+from tests.lines.save_files.spellings import FOREIGN
 
 LOAD = ['towers', '--load', 'game.sav']
 UNDONE = save_text(2, 2)
 MOST_BYTES = 16_777_216
-
-#: A save with a second move that can't be made.
-BAD_STATE = UNDONE.replace(b'R1,0,2', b'R9,0,2')
-
-#: A save as other programs write it, line by line, with records that are kept and one that isn't.
-FOREIGN = [
-    *HEAD.replace(b':1:3', b':3:3de').splitlines()[:-2],
-    b'CPARAMS :3:3de',
-    b'SEED    :15:123456789012345',
-    b'COMMENT :5:hello',
-    b'DESC    :13:3//////3/////',
-    b'AUXINFO :8:0011aabb',
-    b'NSTATES :1:1',
-    b'STATEPOS:1:1',
-]
-FOREIGN_KEPT = b''.join(line + b'\n' for line in FOREIGN if not line.startswith(b'COMMENT'))
 
 LOADED = [
     Run(
@@ -44,31 +29,16 @@ LOADED = [
         'a save of another program, with CR LF',
         [*LOAD, '--save', 'game.sav'],
         b'id\n',
-        given={'game.sav': b''.join(line + b'\r\n' for line in FOREIGN)},
+        given={'game.sav': text_of(FOREIGN, b'\r\n')},
         output=b'3de:3//////3/////\n',
-        holds={'game.sav': FOREIGN_KEPT},
+        holds={'game.sav': text_of(FOREIGN)},
     ),
 ]
 
 REFUSED = [
     Run('a missing file', LOAD, status=1, error=b'cannot read the file\n'),
     Run('an empty name', ['towers', '--load', ''], status=1, error=b'cannot read the file\n'),
-    Run('an empty file', LOAD, given={'game.sav': b''}, status=3, error=b'refused: NotASave\n'),
     Run('a file without end', ['towers', '--load', '/dev/zero'], status=3, error=b'refused: TooLarge\n'),
-    Run(
-        'a save of the other game',
-        ['unequal', '--load', 'game.sav'],
-        given={'game.sav': UNDONE},
-        status=3,
-        error=b'refused: WrongGame\n',
-    ),
-    Run(
-        'a save with a second move that cannot be made',
-        LOAD,
-        given={'game.sav': BAD_STATE},
-        status=3,
-        error=b'refused: BadState 2\n',
-    ),
 ]
 
 #: Files that are made longer by zeros, and how long they are then.

@@ -1,16 +1,14 @@
 """Texts that are loaded as saves: what is written of each, or its refusal."""
 
-from __future__ import annotations
-
 import pytest
 
 from tests.harness import by_name
 from tests.lines.runs import Player
-from tests.lines.save_files import beginnings, longest, refusals, spellings
+from tests.lines.save_files import ROWS, longest
 from tests.lines.save_files.sample import Loaded, run_of
 
 
-@pytest.mark.parametrize('row', [*spellings.ROWS, *refusals.ROWS, *beginnings.ROWS], ids=by_name)
+@pytest.mark.parametrize('row', ROWS, ids=by_name)
 def test_text(player: Player, row: Loaded) -> None:
     player.play(run_of(row))
 

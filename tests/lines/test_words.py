@@ -1,6 +1,6 @@
 """Words of the command line: those that are refused, and those that ask for help."""
 
-from __future__ import annotations
+from typing import Any, Dict
 
 import pytest
 
@@ -66,30 +66,9 @@ REFUSED = [
 
 #: What the help has to name.
 HELP = [
-    b'Usage: puzzles [OPTIONS] <GAME>',
-    b'--id',
-    b'--load',
-    b'--save',
-    b'5!7',
-    ID.encode(),
-    b'new ID',
-    b'move TEXT',
-    b'undo',
-    b'redo',
-    b'restart',
-    b'solve',
-    b'list N',
-    b'show',
-    b'marks',
-    b'done',
-    b'status',
-    b'id',
-    b'save',
-    b'quit',
-    b'Examples:',
-    b'Exit status:',
-    b'puzzles-play',
-    b'puzzles-json',
+    b'Usage: puzzles [OPTIONS] <GAME>', b'--id', b'--load', b'--save', b'5!7', ID.encode(), b'new ID', b'move TEXT', b'undo', b'redo',
+    b'restart', b'solve', b'list N', b'show', b'marks', b'done', b'status', b'id', b'save', b'quit', b'Examples:', b'Exit status:',
+    b'puzzles-play', b'puzzles-json',
 ]
 
 ASKED = [
@@ -107,10 +86,6 @@ def test_words(player: Player, row: Run) -> None:
     player.play(row)
 
 
-def test_closed_output(player: Player) -> None:
-    player.play(UNWRITTEN, closed=[1])
-
-
-def test_full_output(player: Player) -> None:
-    with open('/dev/full', 'wb') as full:
-        player.play(UNWRITTEN, stdout=full.fileno())
+@pytest.mark.parametrize('stream', ['closed', 'full'], indirect=True)
+def test_unwritten(player: Player, stream: Dict[str, Any]) -> None:
+    player.play(UNWRITTEN, **stream)

@@ -1,7 +1,5 @@
 """A board as it has to be told: from the plain program's texts, and from the puzzle of its ID as tests/second_implementation reads it."""
 
-from __future__ import annotations
-
 from functools import lru_cache
 from typing import Dict, FrozenSet, List, NamedTuple, Sequence, Set, Tuple
 

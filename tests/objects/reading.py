@@ -1,14 +1,12 @@
 """Objects from what a run wrote."""
 
-from __future__ import annotations
-
 import json
 import re
-from typing import Dict, List, NamedTuple, Sequence, Tuple
+from typing import Any, Dict, List, NamedTuple, Sequence, Tuple
 
-from tests.objects.schema import LOST, members, wrong_object
+from tests.objects.schema import LOST, unfit, wrong_object
 
-Object = Dict[str, object]
+Object = Dict[str, Any]
 
 #: A text within an object.
 TEXT = re.compile(r'"(?:[^"\\]|\\.)*"')
@@ -21,7 +19,7 @@ OWN_LINES = (b'board', b'completable', b'hint')
 
 
 class Unread(Exception):
-    """What was written is no object. Its text says why."""
+    """What was written is not an object for each line. The text says why."""
 
 
 def read_object(line: bytes) -> Object:
@@ -65,13 +63,7 @@ class Answered(NamedTuple):
     @property
     def reply(self) -> bytes:
         """The bytes of the plain program's reply."""
-        texts = self.found['reply']
-        assert isinstance(texts, list)
-        return b''.join(text.encode('latin-1') + b'\n' for text in texts)
-
-    @property
-    def session(self) -> object:
-        return self.found['session']
+        return b''.join(text.encode('latin-1') + b'\n' for text in self.found['reply'])
 
 
 def lines_with_reply(script: bytes) -> List[bytes]:
@@ -92,21 +84,17 @@ def without_own(lines: Sequence[bytes]) -> List[bytes]:
     return [line for line in lines if line.rstrip(b'\r') not in OWN_LINES]
 
 
-def read_answers(script: bytes, output: bytes, may_lose: bool = False) -> Tuple[List[Answered], List[str]]:
-    """The objects of a run with their lines, and what is wrong with them."""
-    lines = lines_with_reply(script)
-    try:
-        objects = read_objects(output)
-    except Unread as unread:
-        return [], [str(unread)]
+def read_answers(script: bytes, output: bytes, may_lose: bool = False) -> List[Answered]:
+    """The objects of a run with their lines. Raises `Unread` where one is not as it has to be."""
+    lines, objects = lines_with_reply(script), read_objects(output)
+    if len(objects) != len(lines):
+        raise Unread(f'{len(objects)} objects answer {len(lines)} lines')
     answers = [Answered(line, found) for line, found in zip(lines, objects)]
-    wrong = [f'{len(objects)} objects answer {len(lines)} lines'] if len(objects) != len(lines) else []
     for answer in answers:
-        if answer.is_lost and may_lose:
-            wrong += list(members(LOST)('it', answer.found))
-        else:
-            wrong += [f'{shortened(answer.line)}: {what}' for what in wrong_object(answer.found, answer.line)]
-    return answers, wrong
+        is_lost = may_lose and answer.is_lost
+        for what in unfit('it', answer.found, LOST) if is_lost else wrong_object(answer.found, answer.line):
+            raise Unread(f'{shortened(answer.line)}: {what}')
+    return answers
 
 
 def shortened(line: bytes) -> str:

@@ -1,74 +1,17 @@
 """The keys of each object, with the types and ranges of their values (docs/JSON.md)."""
 
-from __future__ import annotations
-
-from typing import Callable, Dict, Iterator, List
-
-#: Says what is wrong with a value, which stands at a place of an object.
-Check = Callable[[str, object], Iterator[str]]
+from typing import Any, Dict, Iterator, Set
 
 
-def whole(least: int, most: int) -> Check:
-    """A whole number of a range. No boolean is one."""
-
-    def check(place: str, value: object) -> Iterator[str]:
-        if not isinstance(value, int) or isinstance(value, bool) or not least <= value <= most:
-            yield f'{place} is {value!r}'
-
-    return check
-
-
-def one_of(*values: object) -> Check:
-    """One of these values, and of their type."""
-
-    def check(place: str, value: object) -> Iterator[str]:
-        if not any(type(value) is type(known) and value == known for known in values):
-            yield f'{place} is {value!r}'
-
-    return check
-
-
-def text(place: str, value: object) -> Iterator[str]:
+def text(value: object) -> bool:
     """Characters each of which stands for a byte; no LF."""
-    if not isinstance(value, str) or '\n' in value or max(value, default='') > '\xff':
-        yield f'{place} is {value!r}'
+    return isinstance(value, str) and '\n' not in value and max(value, default='') <= '\xff'
 
 
-def list_of(inner: Check) -> Check:
-    def check(place: str, value: object) -> Iterator[str]:
-        if not isinstance(value, list):
-            yield f'{place} is {value!r}'
-            return
-        for at, item in enumerate(value):
-            yield from inner(f'{place}[{at}]', item)
-
-    return check
-
-
-def or_null(inner: Check) -> Check:
-    def check(place: str, value: object) -> Iterator[str]:
-        if value is not None:
-            yield from inner(place, value)
-
-    return check
-
-
-def members(wanted: Dict[str, Check]) -> Check:
-    """An object with exactly these keys."""
-
-    def check(place: str, value: object) -> Iterator[str]:
-        if not isinstance(value, dict) or set(value) != set(wanted):
-            yield f'{place} is {value!r}'
-            return
-        for key, inner in wanted.items():
-            yield from inner(f'{place}.{key}', value[key])
-
-    return check
-
-
-boolean = one_of(True, False)
-cell = whole(0, 80)
-digit = whole(0, 9)
+BOOLEAN = (True, False)
+CELL = range(81)
+DIGIT = range(10)
+NUMBER = range(1, 10)
 
 #: Texts that stand for one of a few things.
 STATUSES = ('playing', 'solved', 'helped')
@@ -76,68 +19,68 @@ COUNTS = ('none', 'one', 'several')
 KINDS = ('follows', 'nothing', 'contradiction')
 
 #: The keys of the objects within an object.
-SESSION: Dict[str, Check] = {
-    'game': one_of('Towers', 'Unequal'),
+SESSION: Dict[str, Any] = {
+    'game': ('Towers', 'Unequal'),
     'id': text,
-    'position': whole(1, 100_000),
-    'states': whole(1, 100_000),
-    'status': one_of(*STATUSES),
+    'position': range(1, 100_001),
+    'states': range(1, 100_001),
+    'status': STATUSES,
 }
-CLUE: Dict[str, Check] = {'clue': whole(1, 9), 'done': boolean, 'error': boolean, 'x': whole(-1, 9), 'y': whole(-1, 9)}
-SIGN: Dict[str, Check] = {'error': boolean, 'greater': cell, 'less': cell}
-BOARD: Dict[str, Check] = {
-    'cheated': boolean,
-    'clues': list_of(members(CLUE)),
-    'completed': boolean,
-    'errors': list_of(cell),
-    'givens': list_of(digit),
-    'marks': list_of(list_of(whole(1, 9))),
-    'numbers': list_of(digit),
-    'signs': list_of(members(SIGN)),
-    'size': whole(3, 9),
+CLUE: Dict[str, Any] = {'clue': NUMBER, 'done': BOOLEAN, 'error': BOOLEAN, 'x': range(-1, 10), 'y': range(-1, 10)}
+SIGN: Dict[str, Any] = {'error': BOOLEAN, 'greater': CELL, 'less': CELL}
+BOARD: Dict[str, Any] = {
+    'cheated': BOOLEAN,
+    'clues': [CLUE],
+    'completed': BOOLEAN,
+    'errors': [CELL],
+    'givens': [DIGIT],
+    'marks': [[NUMBER]],
+    'numbers': [DIGIT],
+    'signs': [SIGN],
+    'size': range(3, 10),
 }
-HINT: Dict[str, Check] = {
-    'cell': or_null(cell),
-    'kind': one_of(*KINDS),
-    'number': or_null(whole(1, 9)),
-}
+HINT: Dict[str, Any] = {'cell': (None, CELL), 'kind': KINDS, 'number': (None, NUMBER)}
 
-#: What each object has that answers a line.
-COMMON: Dict[str, Check] = {'refused': or_null(text), 'reply': list_of(text), 'session': or_null(members(SESSION))}
-
-#: What an object has besides, by the line that it answers.
-ANSWERS: Dict[str, Check] = {
-    'board': members(BOARD),
-    'completable': one_of(*COUNTS),
-    'hint': members(HINT),
-}
-LOST: Dict[str, Check] = {'lost': one_of('OutOfMemory')}
+#: What each object has that answers a line, and what besides, by the line that it answers.
+COMMON: Dict[str, Any] = {'refused': (None, text), 'reply': [text], 'session': (None, SESSION)}
+ANSWERS: Dict[str, Any] = {'board': BOARD, 'completable': COUNTS, 'hint': HINT}
+LOST: Dict[str, Any] = {'lost': 'OutOfMemory'}
 
 
-def names() -> List[str]:
+def names() -> Set[str]:
     """All keys that there are."""
-    tables = (COMMON, ANSWERS, SESSION, BOARD, CLUE, SIGN, HINT, LOST)
-    return sorted({key for table in tables for key in table})
+    return {key for table in (COMMON, ANSWERS, SESSION, BOARD, CLUE, SIGN, HINT, LOST) for key in table}
 
 
-def wrong_object(found: Dict[str, object], line: bytes) -> Iterator[str]:
-    """What is wrong with the object that answers a line."""
+def unfit(place: str, value: object, shape: Any) -> Iterator[str]:
+    """What of a value, which stands at a place of an object, is not of a shape: one of several, a list of one, an object with exactly these keys, a
+    whole number of a range, what a function says, or this very value."""
+    if isinstance(shape, list) and isinstance(value, list):
+        for at, item in enumerate(value):
+            yield from unfit(f'{place}[{at}]', item, shape[0])
+    elif isinstance(shape, dict) and isinstance(value, dict) and set(value) == set(shape):
+        for key, inner in shape.items():
+            yield from unfit(f'{place}.{key}', value[key], inner)
+    elif not is_one(value, shape):
+        yield f'{place} is {value!r}'
+
+
+def is_one(value: object, shape: Any) -> bool:
+    if isinstance(shape, tuple):
+        return any(not list(unfit('', value, one)) for one in shape)
+    if isinstance(shape, range):
+        # No boolean is a number.
+        return isinstance(value, int) and not isinstance(value, bool) and value in shape
+    return bool(shape(value)) if callable(shape) else type(value) is type(shape) and value == shape
+
+
+def wrong_object(found: Dict[str, Any], line: bytes) -> Iterator[str]:
+    """What is wrong with the object that answers a line. A refusal is named where the reply is its line, and nowhere else; the own lines have no other reply."""
     key = line.decode('latin-1')
-    has_more = key in ANSWERS and found.get('refused') is None
-    yield from members({**COMMON, key: ANSWERS[key]} if has_more else COMMON)('it', found)
-    yield from wrong_refusal(found.get('refused'), texts_of(found), key in ANSWERS)
-
-
-def wrong_refusal(refused: object, reply: List[str], is_own: bool) -> Iterator[str]:
-    """A refusal is named where the reply is its line, and nowhere else. The own lines have no other reply."""
-    line = f'refused: {refused}'
-    if refused is not None and reply != [line]:
+    refused, reply = found.get('refused'), found.get('reply')
+    yield from unfit('it', found, {**COMMON, key: ANSWERS[key]} if key in ANSWERS and refused is None else COMMON)
+    if refused is not None and reply != [f'refused: {refused}']:
         yield f'refused is {refused!r}, and the reply {reply}'
-    is_refusal = len(reply) == 1 and reply[0].startswith('refused: ')
-    if refused is None and (is_refusal or is_own == bool(reply)):
+    is_refusal = isinstance(reply, list) and len(reply) == 1 and str(reply[0]).startswith('refused: ')
+    if refused is None and (is_refusal or (key in ANSWERS) == bool(reply)):
         yield f'nothing is refused, and the reply is {reply}'
-
-
-def texts_of(found: Dict[str, object]) -> List[str]:
-    reply = found.get('reply')
-    return [text for text in reply if isinstance(text, str)] if isinstance(reply, list) else []

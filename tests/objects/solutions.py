@@ -1,11 +1,9 @@
 """What completes a board: by trying all Latin squares at sizes 3 and 4, and by the second implementation's count above."""
 
-from __future__ import annotations
-
 from dataclasses import replace
 from functools import lru_cache
 from itertools import chain, permutations
-from typing import Iterator, List, Optional, Tuple
+from typing import List, Tuple
 
 from tests.objects.reading import Object
 from tests.objects.schema import COUNTS
@@ -48,30 +46,18 @@ def completions(puzzle: Puzzle, numbers: Numbers) -> int:
     return min(2, sum(keeps(numbers, square) for square in solutions_of(puzzle)))
 
 
-def wrong_completable(puzzle: Puzzle, numbers: Numbers, told: object) -> Iterator[str]:
-    if puzzle.size <= MOST_COUNTED:
-        wanted = COUNTS[completions(puzzle, numbers)]
-        if told != wanted:
-            yield f'completable is {told!r}, not {wanted!r}, with {numbers}'
+def expect_completable(puzzle: Puzzle, numbers: Numbers, told: object) -> None:
+    assert puzzle.size > MOST_COUNTED or told == COUNTS[completions(puzzle, numbers)], numbers
 
 
-def wrong_hint(puzzle: Puzzle, numbers: Numbers, hint: Object) -> Iterator[str]:
-    """What a hint says that isn't so. That one is found is promised nowhere."""
-    cell, number, kind = hint['cell'], hint['number'], hint['kind']
-    if kind != 'follows':
-        if (cell, number) != (None, None):
-            yield f'{hint} names a square or a number'
-    elif not isinstance(cell, int) or not isinstance(number, int) or cell >= len(numbers) or numbers[cell]:
-        yield f'{hint} is for no empty square of {numbers}'
-    elif puzzle.size <= MOST_COUNTED and other_fits(puzzle, numbers, cell, number):
-        yield f'{hint} does not follow from {numbers}'
-    if kind == 'contradiction' and puzzle.size <= MOST_COUNTED and completions(puzzle, numbers):
-        yield f'{numbers} has a solution'
-
-
-def other_fits(puzzle: Puzzle, numbers: Numbers, cell: int, number: int) -> Optional[int]:
-    """Another number in a square with which a solution is left."""
-    for other in range(1, puzzle.size + 1):
-        if other != number and completions(puzzle, numbers[:cell] + (other,) + numbers[cell + 1:]):
-            return other
-    return None
+def expect_hint(puzzle: Puzzle, numbers: Numbers, hint: Object) -> None:
+    """What a hint says is so. That one is found is promised nowhere."""
+    cell, number = hint['cell'], hint['number']
+    if hint['kind'] == 'follows':
+        assert cell < len(numbers) and not numbers[cell] and number, 'it is for an empty square'
+        others = (other for other in range(1, puzzle.size + 1) if other != number and puzzle.size <= MOST_COUNTED)
+        assert not any(completions(puzzle, numbers[:cell] + (other,) + numbers[cell + 1:]) for other in others), numbers
+    else:
+        assert (cell, number) == (None, None)
+    if hint['kind'] == 'contradiction' and puzzle.size <= MOST_COUNTED:
+        assert not completions(puzzle, numbers), numbers

@@ -1,8 +1,6 @@
 """docs/JSON.md, docs/SCRIPTING.md and README: the clients stand there as they are in docs/clients, and play; the examples are what the
 programs write."""
 
-from __future__ import annotations
-
 import os
 import re
 import shutil

@@ -1,7 +1,5 @@
 """What a program may have: memory for some times what it says."""
 
-from __future__ import annotations
-
 import resource
 
 from tests.harness import Room, run

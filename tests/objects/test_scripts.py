@@ -1,8 +1,6 @@
 """Lines at random: moves good and bad, calls, views, IDs good and bad, long lines, bytes that are no UTF-8. Both programs answer them alike, and
 what else is told agrees with a second implementation."""
 
-from __future__ import annotations
-
 from typing import Dict, List
 
 import pytest
@@ -10,7 +8,7 @@ from hypothesis import HealthCheck, given, seed, settings
 from hypothesis import strategies as st
 
 from tests.harness.builds import TOP
-from tests.objects.agreement import BOARD, SESSION, Pair, Script, wrong_script
+from tests.objects.agreement import BOARD, SESSION, Pair, Script, expect_agreement
 from tests.second_implementation.games import GAMES
 from tests.second_implementation.saves import COLLECTION, written
 
@@ -124,6 +122,6 @@ def test_scripts(pair: Pair, part: int) -> None:
     @settings(max_examples=EACH, database=None, deadline=None, suppress_health_check=list(HealthCheck))
     @given(scripts())
     def agree(script: Script) -> None:
-        assert wrong_script(pair, script) == []
+        expect_agreement(pair, script)
 
     agree()

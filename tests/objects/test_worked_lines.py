@@ -1,7 +1,5 @@
 """Worked lines with the objects that answer them, byte for byte."""
 
-from __future__ import annotations
-
 import pytest
 
 from tests.harness import Room, by_name

@@ -1,7 +1,5 @@
 """Worked lines with the objects that answer them, byte for byte: the tables of the folder `worked`."""
 
-from __future__ import annotations
-
 from pathlib import Path
 from typing import Iterator, List, NamedTuple
 

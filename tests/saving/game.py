@@ -1,25 +1,14 @@
 """The program that saves a small game, and what has to come of it."""
 
-from __future__ import annotations
-
 import os
 import re
+from functools import partial
 from typing import Any, Callable, Optional, Sequence
 
-from tests.harness import Ended, FaultLibrary, Folder, Room, run
+import pytest
+
+from tests.harness import Ended, FaultLibrary, Folder, Room, User, run
 from tests.harness.game import ID, MOVES, left_files, save_text
-
-__all__ = [
-    'Saver',
-    'expect_none_left',
-    'expect_refused',
-    'expect_saved',
-    'expect_whole_left',
-    'left_files',
-    'replies',
-    'save_text',
-]
-
 
 #: What a line on standard error says before the name of a new file that was left.
 TOLD = re.compile('^the save is in (.*/)?')
@@ -40,6 +29,17 @@ class Saver:
         words = [*front, self.program, 'towers', '--id', ID, '--save', path]
         return run(words, folder, input=script, **how)
 
+    def save_twice(self, folder: Folder, path: str, file: str, user: Optional[User] = None) -> None:
+        """The first save makes the file, and the second one replaces it: the old one is not written into."""
+        expect_saved(self.save(folder, path, user=user, umask=0o027))
+        assert (folder.read(file), folder.mode(file)) == (save_text(0), 0o640), 'the first save'
+        folder.put(file, save_text(0), 0o604)
+        with folder.reader(file) as old:
+            expect_saved(self.save(folder, path, 1, user=user), 1)
+            assert (folder.read(file), folder.mode(file)) == (save_text(1), 0o604), 'the second save'
+            assert old.read() == save_text(0), 'the old file'
+        expect_none_left(folder)
+
 
 def replies(moves: int) -> bytes:
     return b'ok\n' * moves
@@ -47,27 +47,28 @@ def replies(moves: int) -> bytes:
 
 def expect_saved(ended: Ended, moves: int = 0) -> None:
     """The run ended well and said what it had to say."""
-    assert ended.error == b'', 'standard error'
-    assert ended.status == 0, 'the status'
-    assert ended.output == replies(moves), 'the output'
+    assert ended == Ended(0, replies(moves), b'')
 
 
 def expect_refused(ended: Ended, moves: int = 0, left: Optional[Folder] = None) -> None:
     """The run ended with the word that the save can't be written, and told of a new file that it left in this folder or below."""
-    first, *told = ended.error.decode(errors='replace').splitlines(keepends=True)
-    assert first == 'cannot write the file\n', 'standard error'
+    first, *told = ended.error.decode(errors='replace').splitlines()
     names = [os.path.basename(path) for path in left_files(left)] if left else []
-    assert [TOLD.sub('', line) for line in told] == [f'{name}\n' for name in names], 'what is told to be left'
-    assert ended.status == 1, 'the status'
-    assert ended.output == replies(moves), 'the output'
+    assert (first, [TOLD.sub('', line) for line in told]) == ('cannot write the file', names)
+    assert (ended.status, ended.output) == (1, replies(moves))
 
 
 def expect_whole_left(folder: Folder, content: bytes) -> None:
     """Where nothing could be done the whole save may be left, and nobody may run it."""
     for name in left_files(folder):
-        assert folder.read(name) == content, 'what is left beside'
-        assert (folder.mode(name) or 0) & 0o111 == 0, f'its mode is {folder.mode(name) or 0:o}'
+        assert folder.read(name) == content
+        assert (folder.mode(name) or 0) & 0o111 == 0, oct(folder.mode(name) or 0)
 
 
 def expect_none_left(folder: Folder) -> None:
-    assert left_files(folder) == [], 'what is left beside'
+    assert left_files(folder) == []
+
+
+@pytest.fixture
+def saver(request: pytest.FixtureRequest, program: str, room: Room) -> Saver:
+    return Saver(program, room, partial(request.getfixturevalue, 'library'))

@@ -1,16 +1,15 @@
 """7. That the folder's new name is not on the disk is told, but not that a folder can't be asked."""
 
-from __future__ import annotations
-
 import os
 from typing import Optional
 
 import pytest
 
-from tests.harness import Folder, is_root
+from tests.harness import Folder
+from tests.harness.game import save_text
 from tests.harness.room import Owner
-from tests.harness.users import ANNA
-from tests.saving.game import Saver, expect_none_left, expect_refused, expect_saved, save_text
+from tests.harness.users import plain_user
+from tests.saving.game import Saver, expect_none_left, expect_refused, expect_saved
 
 #: What is saved to, in a folder with a file `s.sav` and a `link` to it.
 TARGETS = [('s.sav', 's.sav'), ('link', 's.sav'), ('new.sav', 'new.sav')]
@@ -41,7 +40,7 @@ def test_flush_fails(saver: Saver, path: str, file: str, answer: str, is_told: b
 @pytest.mark.parametrize('mode', UNREAD)
 def test_folder_unread(saver: Saver, path: str, file: str, mode: int) -> None:
     """Only who may read a folder may ask for its flush."""
-    user = ANNA if is_root() else None
+    user = plain_user()
     owner = user and user.owner
     with saver.room.make_folder('unread', owner=owner) as folder:
         furnish(folder, owner)

@@ -1,7 +1,5 @@
 """4. A link stays. What it names is replaced, or made, as if it had been named itself."""
 
-from __future__ import annotations
-
 import resource
 import signal
 from typing import List, NamedTuple, Optional, Tuple
@@ -9,8 +7,9 @@ from typing import List, NamedTuple, Optional, Tuple
 import pytest
 
 from tests.harness import Folder, by_name, need_root
+from tests.harness.game import left_files, save_text
 from tests.harness.mounts import fill, small_disk
-from tests.saving.game import Saver, expect_none_left, expect_refused, expect_saved, expect_whole_left, left_files, save_text
+from tests.saving.game import Saver, expect_none_left, expect_refused, expect_saved, expect_whole_left
 
 #: A name and a text for each link.
 Links = List[Tuple[str, str]]
@@ -83,20 +82,8 @@ def expect_links(room: Folder, links: Links) -> None:
 @pytest.mark.parametrize('way', WAYS, ids=by_name)
 def test_to_nothing_and_to_a_file(saver: Saver, way: Way) -> None:
     furnish(saver.room, way.links)
-    path = way.path.replace('ROOM', saver.room.path)
-    expect_saved(saver.save(saver.room, path, umask=0o027))
-    assert saver.room.read(way.file) == save_text(0), 'the first save'
-    assert saver.room.mode(way.file) == 0o640, 'its mode'
+    saver.save_twice(saver.room, way.path.replace('ROOM', saver.room.path), way.file)
     expect_links(saver.room, way.links)
-    expect_none_left(saver.room)
-    saver.room.put(way.file, save_text(0), 0o604)
-    with saver.room.reader(way.file) as old:
-        expect_saved(saver.save(saver.room, path, 1), 1)
-        assert saver.room.read(way.file) == save_text(1), 'the second save'
-        assert saver.room.mode(way.file) == 0o604, 'its mode'
-        assert old.read() == save_text(0), 'the old file, which is not written into,'
-    expect_links(saver.room, way.links)
-    expect_none_left(saver.room)
 
 
 @pytest.mark.parametrize('way', WAYS, ids=by_name)

@@ -1,16 +1,14 @@
 """1. A second save works wherever the first one did, however the folder is reached."""
 
-from __future__ import annotations
-
 import contextlib
 import os
 from typing import Callable, ContextManager, Iterator, Optional, Tuple
 
 import pytest
 
-from tests.harness import Folder, Room, User, is_root
-from tests.harness.users import ANNA
-from tests.saving.game import Saver, expect_none_left, expect_saved, save_text
+from tests.harness import Folder, Room, User
+from tests.harness.users import plain_user
+from tests.saving.game import Saver
 
 #: Ways to write the path of a file in a room with a folder `sub` and a link `way` to it, and where the file then lies.
 PATHS = [
@@ -52,7 +50,7 @@ def not_utf8(room: Room) -> Iterator[Hard]:
 @contextlib.contextmanager
 def not_searched(room: Room) -> Iterator[Hard]:
     """Root could search it, so that another user saves."""
-    user = ANNA if is_root() else None
+    user = plain_user()
     with room.make_folder('closed') as above, above.make_folder('open', owner=user and user.owner) as folder:
         os.fchmod(above.fd, 0)
         yield folder, user
@@ -71,7 +69,7 @@ def deeper_than_a_path(room: Room) -> Iterator[Hard]:
 def test_path(saver: Saver, path: str, file: str) -> None:
     saver.room.make_folder('sub').close()
     saver.room.link('way', 'sub')
-    save_twice(saver, saver.room, path.replace('ROOM', saver.room.path), file)
+    saver.save_twice(saver.room, path.replace('ROOM', saver.room.path), file)
 
 
 @pytest.mark.parametrize('make', [not_utf8, not_searched, deeper_than_a_path])
@@ -81,16 +79,5 @@ def test_hard_folder(saver: Saver, make: Callable[[Room], ContextManager[Hard]],
         folder.make_folder('sub', owner=user and user.owner).close()
         folder.link('link', 's.sav')
         folder.link('down', 'sub/s.sav')
-        save_twice(saver, folder, path, file, user)
+        saver.save_twice(folder, path, file, user)
         assert [folder.link_text('link'), folder.link_text('down')] == ['s.sav', 'sub/s.sav'], 'the links'
-
-
-def save_twice(saver: Saver, folder: Folder, path: str, file: str, user: Optional[User] = None) -> None:
-    """The first save makes the file, and the second one replaces it."""
-    expect_saved(saver.save(folder, path, user=user))
-    assert folder.read(file) == save_text(0), 'the first save'
-    with folder.reader(file) as old:
-        expect_saved(saver.save(folder, path, 1, user=user), 1)
-        assert folder.read(file) == save_text(1), 'the second save'
-        assert old.read() == save_text(0), 'the old file, which is not written into,'
-    expect_none_left(folder)

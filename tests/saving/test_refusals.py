@@ -1,17 +1,15 @@
 """5. Where the new file can't take the old one's place, the old one is written; where that fails too, the new file is left."""
 
-from __future__ import annotations
-
 import os
-from typing import Optional
+from typing import Any, Optional
 
 import pytest
 
 from tests.harness import Folder, Room, need_root
-from tests.harness.game import NEW_NAME
+from tests.harness.game import NEW_NAME, left_files, save_text
 from tests.harness.mounts import bound_file, fill, small_disk
 from tests.harness.users import ANNA, BERT, GAMES
-from tests.saving.game import Saver, expect_none_left, expect_refused, expect_saved, left_files, save_text
+from tests.saving.game import Saver, expect_none_left, expect_refused, expect_saved
 
 #: Longer than any save here, so that a rest of it would show.
 OLD = b'an old file\n' * 100
@@ -29,14 +27,13 @@ def test_mounted_file(saver: Saver, path: str) -> None:
     assert room.read('other') == save_text(1), 'the other name'
 
 
-def expect_written(saver: Saver, room: Room, path: str) -> None:
+def expect_written(saver: Saver, folder: Folder, path: str, **how: Any) -> None:
     """The same file has the save's bytes, and no others."""
-    before = room.status('s.sav')
-    expect_saved(saver.save(room, path.replace('ROOM', room.path), 1), 1)
-    after = room.status('s.sav')
-    assert room.read('s.sav') == save_text(1), 'the content'
-    assert identity(after) == identity(before), 'the file'
-    expect_none_left(room)
+    before = folder.status('s.sav')
+    expect_saved(saver.save(folder, path.replace('ROOM', folder.path), 1, **how), 1)
+    assert folder.read('s.sav') == save_text(1), 'the content'
+    assert identity(folder.status('s.sav')) == identity(before), 'the file'
+    expect_none_left(folder)
 
 
 def identity(found: Optional[os.stat_result]) -> object:
@@ -52,12 +49,7 @@ def test_sticky_folder(saver: Saver, path: str) -> None:
         folder.put('s.sav', OLD, 0o660, (ANNA.uid, GAMES))
         folder.link('link', 's.sav')
         os.chown('link', *BERT.owner, dir_fd=folder.fd, follow_symlinks=False)
-        before = folder.status('s.sav')
-        name = path.replace('ROOM', f'{saver.room.path}/sticky')
-        expect_saved(saver.save(folder, name, 1, user=BERT), 1)
-        assert folder.read('s.sav') == save_text(1), 'the content'
-        assert identity(folder.status('s.sav')) == identity(before), 'the file'
-        expect_none_left(folder)
+        expect_written(saver, folder, path, user=BERT)
 
 
 def test_mounted_file_on_a_full_disk(saver: Saver) -> None:
@@ -92,13 +84,7 @@ def furnish(room: Room) -> Room:
 @pytest.mark.parametrize('path', ['s.sav', 'link'])
 @pytest.mark.parametrize('number', ['EBUSY', 'EPERM', 'EACCES', 'EXDEV'])
 def test_rename_refused(saver: Saver, path: str, number: str) -> None:
-    room = furnish(saver.room)
-    before = room.status('s.sav')
-    env = saver.faults().env('rename', 1, number, on=True)
-    expect_saved(saver.save(room, path, 1, env=env), 1)
-    assert room.read('s.sav') == save_text(1), 'the content'
-    assert identity(room.status('s.sav')) == identity(before), 'the file'
-    expect_none_left(room)
+    expect_written(saver, furnish(saver.room), path, env=saver.faults().env('rename', 1, number, on=True))
 
 
 @pytest.mark.parametrize('path', ['s.sav', 'link'])

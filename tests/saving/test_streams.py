@@ -1,35 +1,23 @@
 """6. A save to a stream that is open for writing goes behind what was written there, whatever the path is called."""
 
-from __future__ import annotations
-
 import contextlib
 import os
 import socket
+import stat
 import subprocess
 from typing import Iterator, Optional, Tuple
 
 import pytest
 
-from tests.harness import Room, User, is_root
-from tests.harness.users import ANNA
-from tests.saving.game import Saver, expect_none_left, expect_refused, expect_saved, expect_whole_left, left_files, replies, save_text
+from tests.harness import Room
+from tests.harness.game import left_files, save_text
+from tests.harness.users import plain_user
+from tests.saving.game import Saver, expect_none_left, expect_refused, expect_saved, expect_whole_left, replies
 
 #: Paths of standard output in a room with a few links. FD is its number in this process, whose number is PID.
 OUTPUT_PATHS = [
-    '/dev/stdout',
-    '//dev/stdout',
-    '/dev/./stdout',
-    '/dev/../dev//stdout',
-    '/dev/fd/1',
-    '/proc/self/fd/1',
-    '/proc//self/fd/../fd/1',
-    '/proc/thread-self/fd/1',
-    '/proc/PID/fd/FD',
-    'link',
-    'link to link',
-    'ROOM/link to link',
-    'link to fd',
-    'way/1',
+    '/dev/stdout', '//dev/stdout', '/dev/./stdout', '/dev/../dev//stdout', '/dev/fd/1', '/proc/self/fd/1', '/proc//self/fd/../fd/1',
+    '/proc/thread-self/fd/1', '/proc/PID/fd/FD', 'link', 'link to link', 'ROOM/link to link', 'link to fd', 'way/1',
 ]
 
 LINKS = [('link', '/dev/stdout'), ('link to link', 'link'), ('link to fd', '/proc/self/fd/1'), ('way', '/dev/fd')]
@@ -114,16 +102,16 @@ STREAM_PATHS = ['/dev/fd/FD', '/proc/self/fd/FD', '//dev/fd/FD', 'link']
 
 
 @pytest.mark.parametrize('path', STREAM_PATHS)
-@pytest.mark.parametrize('mode', ['ab', 'r+b'])
-def test_another_stream(saver: Saver, path: str, mode: str) -> None:
+@pytest.mark.parametrize('flag', [os.O_APPEND, 0])
+def test_another_stream(saver: Saver, path: str, flag: int) -> None:
     """The caller has opened it for writing. A line of his stands there before."""
     room = saver.room
     room.put('more', b'a line\n')
-    with open(f'{room.path}/more', mode) as file:
-        file.seek(0, os.SEEK_END)
-        fd = file.fileno()
-        room.link('link', f'/dev/fd/{fd}')
-        expect_saved(saver.save(room, named(path, room, fd), 1, kept=[fd]), 1)
+    fd = os.open('more', os.O_RDWR | flag, dir_fd=room.fd)
+    os.lseek(fd, 0, os.SEEK_END)
+    room.link('link', f'/dev/fd/{fd}')
+    expect_saved(saver.save(room, named(path, room, fd), 1, kept=[fd]), 1)
+    os.close(fd)
     assert room.read('more') == b'a line\n' + save_text(1), 'what the stream has'
     expect_none_left(room)
 
@@ -141,17 +129,7 @@ def test_another_pipe(saver: Saver, path: str) -> None:
 @pytest.mark.parametrize('path', PLAIN_PATHS)
 def test_plain(saver: Saver, path: str) -> None:
     """It is replaced as any file, or made."""
-    room = saver.room
-    name = named(path, room)
-    expect_saved(saver.save(room, name))
-    assert room.read('s.sav') == save_text(0), 'the first save'
-    room.put('s.sav', b'an old file', 0o604)
-    with room.reader('s.sav') as old:
-        expect_saved(saver.save(room, name, 1), 1)
-        assert room.read('s.sav') == save_text(1), 'the second save'
-        assert old.read() == b'an old file', 'the old file, which is not written into,'
-    assert room.mode('s.sav') == 0o604, 'its mode'
-    expect_none_left(room)
+    saver.save_twice(saver.room, named(path, saver.room), 's.sav')
 
 
 @pytest.mark.parametrize('path', ['in', './in', 'link', '/dev/stdin'])
@@ -179,7 +157,7 @@ def test_closed(saver: Saver, number: int) -> None:
 
 @pytest.mark.parametrize(('number', 'path'), [(1, '/dev/stdout'), (2, '/dev/stderr')])
 def test_closed_itself(saver: Saver, number: int, path: str) -> None:
-    user = ANNA if is_root() else None
+    user = plain_user()
     with saver.room.make_folder('hers', owner=user and user.owner) as hers:
         ended = saver.save(hers, path, user=user, closed=[number])
         assert ended.status == 1, 'the status'
@@ -209,7 +187,7 @@ def test_folder(saver: Saver, path: str) -> None:
 @pytest.mark.parametrize('is_linked', [False, True])
 def test_device(saver: Saver, path: str, saves: bool, is_linked: bool) -> None:
     """A user who isn't root tries it, since root could take the device's place for all the machine."""
-    user: Optional[User] = ANNA if is_root() else None
+    user = plain_user()
     before = os.stat(path)
     with saver.room.make_folder('hers', owner=user and user.owner) as folder:
         folder.link('link', path)
@@ -232,3 +210,4 @@ def test_fifo(saver: Saver, path: str) -> None:
     expect_saved(saver.save(room, path, 1), 1)
     assert reader.communicate()[0] == save_text(1), 'what came through'
     assert room.names() == ['fifo', 'link'], 'what lies there'
+    assert stat.S_ISFIFO(os.stat('fifo', dir_fd=room.fd).st_mode)

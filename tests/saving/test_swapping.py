@@ -1,7 +1,5 @@
 """3. What is done to the new file is done to it alone, whatever stands at its name meanwhile, and nobody knows that name."""
 
-from __future__ import annotations
-
 import contextlib
 import os
 import re
@@ -14,9 +12,10 @@ from typing import Iterator, List
 import pytest
 
 from tests.harness import Folder, Room, Skip, is_root, need_root
+from tests.harness.game import left_files
 from tests.harness.mounts import small_disk
 from tests.harness.users import ANNA, GAMES
-from tests.saving.game import Saver, left_files
+from tests.saving.game import Saver
 
 #: How often root saves while somebody swaps, and how many names are looked at.
 SAVES = 2000
@@ -120,7 +119,7 @@ def swapper(folder: Folder, secret: str) -> Iterator[None]:
             ANNA.become()
             swap_while_alive(test, secret)
         finally:
-            os._exit(1)
+            os._exit(1)  # pylint: disable=protected-access
     try:
         yield
     finally:

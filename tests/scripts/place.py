@@ -1,52 +1,42 @@
 """A copy of the scripts with a command `rt` of its own, in which another user works, with next to nothing in the environment."""
 
-from __future__ import annotations
-
 import os
-from typing import Dict, Mapping, Optional
+import shutil
+from typing import Dict, Mapping, Optional, Sequence
 
-from tests.harness import Room, User, is_root
+import pytest
+
+from tests.conftest import Programs
+from tests.harness import Ended, Folder, Room, run
 from tests.harness.builds import TOP
-from tests.harness.checkout import Checkout
 from tests.harness.terminal import Terminal
-from tests.harness.users import ANNA
+from tests.harness.users import plain_user
 
-#: Does what `rt` does as far as the scripts know: `lib` leaves statements in `out/`, `run` and `ci` leave programs there, and all say what they were asked.
-#: RT_PROGRAM is the program that is left, RT_SAYS what is printed besides, RT_STATUS the status, and RT_VERSION the line of the kit.
-RT = b"""\
-#!/bin/sh
-leave() {
-    [ -z "$RT_PROGRAM" ] || { mkdir -p "$1/out" && cp "$RT_PROGRAM" "$1/out/$2"; }
-}
-[ "$1" != version ] || { echo "${RT_VERSION:-a kit that proves nothing}"; exit; }
-echo "asked for $* in ${PWD##*/}"
-case $1 in
-    lib)
-        echo 'logic=proved functions=12 of 12'
-        mkdir -p out/rlib && : > out/rlib/stamp ;;
-    run)
-        echo 'logic=proved functions=12 of 12'
-        leave . "${PWD##*/}" ;;
-    ci)
-        leave crates/puzzles puzzles
-        leave crates/puzzles puzzles.by-rattle
-        leave crates/trial_runs trial_runs ;;
-esac
-[ -z "$RT_SAYS" ] || echo "$RT_SAYS"
-exit "${RT_STATUS:-0}"
-"""
+#: What of the repository is copied: folders and files.
+PARTS = ['.ci', 'board', 'tests', 'tools', 'man', 'docs', 'bench', 'Makefile', 'README.md', 'CHANGELOG.md', 'LICENSE', 'VERSION', 'COMMIT', '.gitattributes', '.gitignore']
+
+#: What stands for commands that the scripts call.
+STAND_INS = TOP / 'tests' / 'scripts' / 'stand_ins'
 
 
-class Place(Checkout):
-    """The copy, with crates that are empty, and a folder for TMPDIR into which nobody else may go."""
+class Place:
+    """The copy, with crates that are empty, and a folder for TMPDIR into which nobody else may go. It lies in a folder `a b` of a room, so that there is a
+    blank in each path."""
 
     def __init__(self, room: Room, program: str, objects: str) -> None:
-        self.user: Optional[User] = ANNA if is_root() else None
-        super().__init__(room, self.user)
-        self.rt = self.put('../kit/bin/rt', RT)
-        self.put('../kit/KIT-ID', b'a kit that proves nothing\n', 0o644)
+        self.user = plain_user()
         self.program = program
         self.objects = objects
+        self.path = os.path.join(room.path, 'a b', 'checkout')
+        os.makedirs(self.path)
+        for name in PARTS:
+            source, target = TOP / name, os.path.join(self.path, name)
+            if source.is_dir():
+                shutil.copytree(source, target, ignore=shutil.ignore_patterns('__pycache__'))
+            else:
+                shutil.copy2(source, target)
+        self.rt = self.stand_in('rt', '../kit/bin/rt')
+        self.put('../kit/KIT-ID', b'a kit that proves nothing\n', 0o644)
         self.put('crates.txt', (TOP / 'crates.txt').read_bytes(), 0o644)
         for crate in (TOP / 'crates').iterdir():
             self.put(f'crates/{crate.name}/src/lib.rt', b'', 0o644)
@@ -54,9 +44,37 @@ class Place(Checkout):
         os.mkdir(self._temporary, 0o700)
         self.give()
 
+    def put(self, path: str, content: bytes, mode: int = 0o755) -> str:
+        """Makes a file of the copy, or gives it this content, and gives its whole path."""
+        whole = os.path.join(self.path, path)
+        os.makedirs(os.path.dirname(whole), exist_ok=True)
+        with open(whole, 'wb') as file:
+            os.fchmod(file.fileno(), mode)
+            file.write(content)
+        return whole
+
+    def stand_in(self, name: str, path: str) -> str:
+        """Puts what stands for a command there, and gives its whole path."""
+        return self.put(path, (STAND_INS / name).read_bytes())
+
+    def give(self) -> None:
+        """All of it, and the folder above, belongs to the user from here on."""
+        if self.user:
+            for _, _, names, fd in os.fwalk(os.path.dirname(self.path)):
+                os.fchown(fd, *self.user.owner)
+                for name in names:
+                    os.chown(name, *self.user.owner, dir_fd=fd)
+
     def env(self, more: Mapping[str, str]) -> Dict[str, str]:
-        """`rt` is the one of this place, and the programs that it leaves are the one that is tested, or as is said."""
-        return super().env({'RT': self.rt, 'RT_PROGRAM': self.program, 'TMPDIR': self._temporary, **more})
+        """An environment with as little as may be: `rt` is the one of this place, and the programs that it leaves are the one that is tested."""
+        home = os.path.dirname(self.path)
+        path = os.environ.get('PATH', os.defpath)
+        return {'PATH': path, 'HOME': home, 'RT': self.rt, 'RT_PROGRAM': self.program, 'TMPDIR': self._temporary, **more}
+
+    def run(self, words: Sequence[str], *, cwd: str = '', input: bytes = b'', env: Optional[Mapping[str, str]] = None) -> Ended:
+        """Runs a command, there or in a folder named from there, with what else the environment has."""
+        with Folder(os.path.join(self.path, cwd)) as folder:
+            return run(words, folder, input=input, user=self.user, env=self.env(env or {}), seconds=120)
 
     def terminal(self, *words: str, **env: str) -> Terminal:
         """A command in a terminal. The named words are what else the environment has."""
@@ -69,3 +87,8 @@ class Place(Checkout):
                 return file.read()
         except FileNotFoundError:
             return b''
+
+
+@pytest.fixture
+def place(room: Room, programs: Programs) -> Place:
+    return Place(room, *programs)

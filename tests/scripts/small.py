@@ -1,42 +1,13 @@
 """A small repository, with a command `rt` that proves nothing and keeps a list of what it is asked for."""
 
-from __future__ import annotations
-
 import os
 from typing import Callable, Dict, List, Sequence
+
+import pytest
 
 from building.changes import PROGRAMS
 from tests.scripts.place import Place
 from tests.harness.program import Ended
-
-#: Keeps a list of the crates that it begins with and ends. It looks whether the statements of all crates below are there. RT_MEET are crates that are
-#: to be under way together, RT_BAD is one that isn't proved, RT_HANGS one that doesn't end, and RT_ADDS what programs have at their end.
-RT = b"""\
-#!/bin/sh
-[ "$1" != version ] || { echo 'a kit without a line'; exit; }
-name=${PWD##*/}
-echo "begun $name" >> "$RT_CALLS"
-for below in ../*/; do
-    [ "$below" = "../$name/" ] || [ -f "$below/out/rlib/stamp" ] || { echo "$below is not built"; exit 4; }
-done
-case " $RT_MEET " in
-    *" $name "*)
-        for other in $RT_MEET; do
-            tries=0
-            until grep -qx "begun $other" "$RT_CALLS"; do
-                tries=$((tries + 1))
-                [ "$tries" -lt 600 ] || exit 5
-                sleep 0.05
-            done
-        done ;;
-esac
-[ "$name" != "$RT_HANGS" ] || { echo $$ > "$RT_CALLS.pid"; exec sleep 60; }
-[ "$name" != "$RT_BAD" ] || { echo 'an open goal'; exit 1; }
-mkdir -p out/rlib out/incremental && : > out/rlib/stamp
-[ "$1" = lib ] || { printf '#!/bin/sh\\n%s\\n' "$RT_ADDS" > "out/$name" && chmod +x "out/$name"; }
-echo 'logic=proved functions=12 of 12'
-echo "ended $name" >> "$RT_CALLS"
-"""
 
 #: The first and the last crate of a program, which may be one. The last stands on a crate more.
 FIRST, LAST = list(PROGRAMS)[0], list(PROGRAMS)[-1]
@@ -82,7 +53,7 @@ class Small:
 
     def __init__(self, place: Place) -> None:
         self.place = place
-        self.rt = place.put('../small kit/bin/rt', RT)
+        self.rt = place.stand_in('small-rt', '../small kit/bin/rt')
         self.calls = os.path.join(os.path.dirname(self.rt), 'calls')
         place.put('../small kit/KIT-ID', b'a small kit\n', 0o644)
         place.put('crates.txt', CRATES, 0o644)
@@ -105,15 +76,20 @@ class Small:
         return [line.partition(' ')[2] for line in lines if line.startswith(word)]
 
     def expect(self, ended: Ended, asked: Sequence[str], status: int = 0, says: Sequence[bytes] = ()) -> None:
-        begun = self.said('begun')
-        wrong = [] if ended.status == status else [f'the status is {ended.status}']
-        wrong += [] if sorted(begun) == sorted(asked) else [f'asked for were {begun}']
-        wrong += [f'it lacks {text!r}' for text in says if text not in ended.error]
-        wrong += [f'it says {ended.error!r}'] if ended.error and (wrong or not (asked or says)) else []
-        assert not wrong
+        """What the prover was asked for, and what is said: nothing, where that is nothing."""
+        assert sorted(self.said('begun')) == sorted(asked), ended.error
+        assert ended.status == status
+        for text in says:
+            assert text in ended.error
+        assert asked or says or not ended.error
 
     def is_left(self, *paths: str) -> None:
         """These files are there, and nothing is left of where crates were proved."""
-        wrong = [f'{path} is lacking' for path in paths if not os.path.exists(os.path.join(self.place.path, path))]
-        wrong += [f'{left} is left' for left in os.listdir(os.path.join(self.place.path, 'build/proving'))]
-        assert not wrong
+        for path in paths:
+            assert os.path.exists(os.path.join(self.place.path, path))
+        assert os.listdir(os.path.join(self.place.path, 'build/proving')) == []
+
+
+@pytest.fixture
+def small(place: Place) -> Small:
+    return Small(place)

@@ -1,7 +1,5 @@
 """What `make` asks `rt` for, in a small repository: what has changed, and nothing else, each crate once those below it are proved."""
 
-from __future__ import annotations
-
 import os
 from typing import Callable, NamedTuple, Sequence
 
@@ -98,12 +96,11 @@ def test_in_a_terminal(built: Small) -> None:
     """There is one line, and at the end another one."""
     edit('crates/high/src/lib.rt')(built.place)
     with built.place.terminal('tools/build', **built.env({})) as terminal:
-        status = terminal.status()
+        assert terminal.status() == 0
     count = len(OF_HIGH)
-    wrong = [] if status == 0 else [f'the status is {status}']
-    wrong += [f'it lacks {text!r}' for text in (f'crate 1 of {count}, about ', 'left: high', f'built: {count} of {count} crates proved anew in ') if text not in terminal.shown]
-    wrong += [] if terminal.shown.count('\n') == 1 else ['there is another number of lines']
-    assert not wrong, [*wrong, repr(terminal.shown)]
+    for text in (f'crate 1 of {count}, about ', 'left: high', f'built: {count} of {count} crates proved anew in '):
+        assert text in terminal.shown
+    assert terminal.shown.count('\n') == 1
 
 
 #: Ends a build by a signal while a crate is under way, and what it has begun with, if that is still there.

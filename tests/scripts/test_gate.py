@@ -1,7 +1,5 @@
 """What the gate says of parts that pass, fail, skip, or say nothing, and what it takes from an earlier one."""
 
-from __future__ import annotations
-
 import os
 import re
 from typing import Callable, List, Mapping, NamedTuple, Optional, Sequence, Tuple
@@ -10,6 +8,7 @@ import pytest
 
 from tests.harness import by_name
 from tests.scripts.place import Place
+from tests.scripts.small import put, remove
 from tests.harness.program import Ended
 
 PROVED = '5 passed, 0 failed'
@@ -54,11 +53,8 @@ ROUNDS = [
     Gate('a part is skipped whole', part=('0 passed, 0 failed, 1 skipped', 0), env=ALLOWED, counts=(5, 0, 1)),
 ]
 
-#: Ways to start the gate, each with the folder from which.
-WAYS = [(['make', 'gate'], ''), (['../../tools/gate'], 'crates/puzzles')]
-
-#: Ways to start what a stranger's machine runs: the tests, which are a part of the gate too, and then the gate.
-WHOLE = [(['.ci/run'], ''), (['bash', '../.ci/run'], 'man')]
+#: Ways to start the gate, each with the folder from which; and what a stranger's machine runs: the tests, which are a part of the gate too, and then the gate.
+WAYS = [(['make', 'gate'], '', 0), (['../../tools/gate'], 'crates/puzzles', 0), (['.ci/run'], '', 1), (['bash', '../.ci/run'], 'man', 1)]
 
 #: No gate of these cases has anything from another.
 ANEW = {'ANEW': '1'}
@@ -73,14 +69,6 @@ class Again(NamedTuple):
     does: Callable[[Place], object]
     is_kept: bool
     env: Mapping[str, str] = {}
-
-
-def put(path: str, content: bytes) -> Callable[[Place], object]:
-    return lambda place: place.put(path, content, 0o644)
-
-
-def remove(path: str) -> Callable[[Place], object]:
-    return lambda place: os.remove(os.path.join(place.path, path))
 
 
 def damage(place: Place) -> None:
@@ -136,14 +124,9 @@ def test_part(place: Place, scripts: List[str], row: Gate) -> None:
     expect(place, row, len(scripts) - 1, ['tools/gate'])
 
 
-@pytest.mark.parametrize(('words', 'cwd'), WAYS)
-def test_gate(place: Place, scripts: List[str], words: List[str], cwd: str) -> None:
-    expect(place, Gate('all passes'), len(scripts) - 1, words, cwd)
-
-
-@pytest.mark.parametrize(('words', 'cwd'), WHOLE)
-def test_whole(place: Place, scripts: List[str], words: List[str], cwd: str) -> None:
-    expect(place, Gate('all passes'), len(scripts), words, cwd)
+@pytest.mark.parametrize(('words', 'cwd', 'more'), WAYS)
+def test_gate(place: Place, scripts: List[str], words: List[str], cwd: str, more: int) -> None:
+    expect(place, Gate('all passes'), len(scripts) - 1 + more, words, cwd)
 
 
 def test_no_part(place: Place, scripts: List[str]) -> None:
@@ -166,17 +149,13 @@ def expect(place: Place, row: Gate, others: int, words: Sequence[str], cwd: str 
     text, status = row.proofs
     ended = place.run(words, cwd=cwd, env={'RT_SAYS': text, 'RT_STATUS': str(status), **ANEW, **row.env})
     passed, failed, skipped = row.counts
-    last = f'{passed + others} passed, {failed} failed, {skipped} skipped'
-    assert not wrong_gate(ended, last, row.status, 'make' in words)
-
-
-def wrong_gate(ended: Ended, last: str, status: int, by_make: bool = False) -> List[str]:
-    found = ended.output.decode(errors='replace').splitlines()[-1:]
-    wrong = [] if found == [last] else [f'its last line is {found}, not {last!r}: {ended.error!r}']
     # Where a command fails, `make` ends with a status of its own.
-    if ended.status != (2 if by_make and status else status):
-        wrong.append(f'the status is {ended.status}, not {status}')
-    return wrong
+    expect_last(ended, f'{passed + others} passed, {failed} failed, {skipped} skipped', 2 * row.status if 'make' in words else row.status)
+
+
+def expect_last(ended: Ended, line: str, status: int) -> None:
+    assert ended.output.decode(errors='replace').splitlines()[-1:] == [line], ended.error
+    assert ended.status == status
 
 
 def test_both_fail(place: Place, scripts: List[str]) -> None:
@@ -190,34 +169,36 @@ def test_logged(place: Place, scripts: List[str]) -> None:
     """The log begins with the commit and the prover, and has the sums of the programs and all that was said."""
     place.run(['tools/gate'], env={'RT_SAYS': PROVED, **ANEW})
     log = place.file('build/gate.log').decode()
-    wanted = [r'\Acommit unknown\nprover a kit that proves nothing\n== ', r'^asked for ci --anew in checkout$', r'^[0-9a-f]{64}  crates/puzzles/out/puzzles$']
-    wanted += [r'^[0-9]+ passed, 0 failed, 0 skipped\n\Z']
-    assert list([f'it lacks {text!r}: {log}' for text in wanted if not re.search(text, log, re.MULTILINE)]) == [], "the gate's log"
+    for text in (r'\Acommit unknown\nprover a kit that proves nothing\n== ', r'^asked for ci --anew in checkout$',
+                 r'^[0-9a-f]{64}  crates/puzzles/out/puzzles$', r'^[0-9]+ passed, 0 failed, 0 skipped\n\Z'):
+        assert re.search(text, log, re.MULTILINE), log
 
 
 def test_results_are_kept(place: Place, scripts: List[str]) -> None:
     """What has passed is taken from the last gate, as long as nothing of it has changed; what has failed never is."""
-    others = len(scripts)
+
+    def fails(is_kept: bool, env: Optional[Mapping[str, str]] = None) -> Ended:
+        """The proofs would fail now."""
+        ended = gate(place, FAILS, env)
+        expect_last(ended, f'{len(scripts) + (5 if is_kept else 3)} passed, {0 if is_kept else 2} failed, 0 skipped', int(not is_kept))
+        return ended
+
     for row in AGAINS:
         gate(place, (PROVED, 0))
         row.does(place)
-        ended = gate(place, FAILS, row.env)
-        passed, failed = (5, 0) if row.is_kept else (3, 2)
-        wrong = wrong_gate(ended, f'{passed + others} passed, {failed} failed, 0 skipped', int(failed > 0))
-        wrong += [] if (b'(kept from 20' in ended.output) == row.is_kept else ['it says something else about what is kept']
-        wrong += [] if place.file('crates/puzzles/out/puzzles') == place.file(place.program) else ['the program is not left']
-        assert not wrong
-    place.put('crates/puzzles/src/lib.rt', b'// What fails.\n', 0o644)
+        assert (b'(kept from 20' in fails(row.is_kept, row.env).output) == row.is_kept
+        assert place.file('crates/puzzles/out/puzzles') == place.file(place.program)
+    source = 'crates/puzzles/src/lib.rt'
+    put(source, b'// What fails.\n')(place)
     gate(place, FAILS)
-    assert not wrong_gate(gate(place, FAILS), f'{3 + others} passed, 2 failed, 0 skipped', 1)
+    fails(False)
     for number in range(MOST + 2):
-        place.put('crates/puzzles/src/lib.rt', b'// Number %d.\n' % number, 0o644)
+        put(source, b'// Number %d.\n' % number)(place)
         gate(place, (PROVED, 0))
-    assert len(kept_files(place)) == MOST, f'there are {kept_files(place)}'
-    for number, passed in ((0, 3), (MOST + 1, 5)):
-        place.put('crates/puzzles/src/lib.rt', b'// Number %d.\n' % number, 0o644)
-        last = f'{passed + others} passed, {5 - passed} failed, 0 skipped'
-        assert not wrong_gate(gate(place, FAILS), last, int(passed < 5))
+    assert len(kept_files(place)) == MOST
+    for number, is_kept in ((0, False), (MOST + 1, True)):
+        put(source, b'// Number %d.\n' % number)(place)
+        fails(is_kept)
 
 
 def gate(place: Place, proofs: Tuple[str, int], env: Optional[Mapping[str, str]] = None) -> Ended:

@@ -1,7 +1,5 @@
 """What is said of lemmas and definitions that nothing uses, or of which no line above tells."""
 
-from __future__ import annotations
-
 from typing import Dict, NamedTuple, Sequence
 
 import pytest

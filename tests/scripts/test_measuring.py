@@ -1,7 +1,5 @@
 """What measures the solver: the makers of hard puzzles, and the scripts that time puzzles, with programs that answer at once, never, or otherwise."""
 
-from __future__ import annotations
-
 import re
 from collections import defaultdict
 from typing import DefaultDict, List, NamedTuple, Sequence
@@ -15,11 +13,9 @@ from tests.harness.game import ID
 #: How many puzzles of each family are made.
 EACH = 4
 
-#: Answers each line as one that took a microsecond and has one solution, and says what it was asked.
-READY = b'#!/bin/sh\nwhile read -r line; do echo "asked for $line" >&2; echo 1000 1; done\n'
-
-#: Answers nothing.
+#: Answers nothing, without any work, or at work.
 SILENT = b'#!/bin/sh\nexec sleep 600\n'
+BUSY = b'#!/bin/sh\nwhile :; do :; done\n'
 
 #: Reads no line as a puzzle.
 REFUSING = b'#!/bin/sh\nwhile read -r line; do echo "cannot read $line"; done\n'
@@ -28,11 +24,11 @@ PUZZLES = f'# some puzzles\n\ntowers small {ID}\ntowers small {ID}\ntowers other
 
 
 class Measure(NamedTuple):
-    """A command with a program that answers, and what has to come of it."""
+    """A command with a program that answers, or with one that answers each line at once, and what has to come of it."""
 
     name: str
     words: Sequence[str]
-    program: bytes = READY
+    program: bytes = b''
     status: int = 0
     says: Sequence[str] = ()
     input: bytes = PUZZLES
@@ -46,7 +42,7 @@ ROUNDS = [
     Measure('a line has no answer in time', ['bench/time_lines', '--limit', '0.01'], SILENT, says=['towers other +1 .* 1 +1 +1\n']),
     Measure('a line is no puzzle', ['bench/time_lines'], REFUSING, says=[f'cannot read towers other {ID}']),
     Measure('a climb', ['bench/climb', '1', '--steps', '150'], says=[r'# towers, size 9, seed 1: 150 puzzles', '\nunequal climbed 9:', '\ntowers climbed 9:']),
-    Measure('a climb at a limit', ['bench/climb', '1', '--steps', '3', '--limit', '0.01'], SILENT, says=['3 puzzles, 3 climbs\n# 10.0 ms\nunequal climbed 9:']),
+    Measure('a climb at a limit', ['bench/climb', '1', '--steps', '3', '--limit', '0.01'], BUSY, says=['3 puzzles, 3 climbs\n# 10.0 ms\nunequal climbed 9:']),
     Measure('a climb at a small size', ['bench/climb', '1', '--game', 'towers', '--size', '4', '--steps', '90'], says=['towers climbed 4:']),
     Measure('beside the usual program, which is not there', ['bench/compare'], status=77, says=['the usual program is left out']),
     Measure('the families are named', ['bench/make_families'], says=['unequal +checkerboard +Squares', 'towers +one-side +All']),
@@ -58,12 +54,11 @@ ROUNDS = [
 
 @pytest.mark.parametrize('row', ROUNDS, ids=by_name)
 def test_measure(place: Place, row: Measure) -> None:
-    program = place.put('../answering', row.program)
+    program = place.put('../answering', row.program) if row.program else place.stand_in('solver', '../answering')
     ended = place.run(row.words, input=row.input, env={'BENCH': program})
-    said = (ended.output + ended.error).decode()
-    assert ended.status == row.status, said
+    assert ended.status == row.status, ended.said
     for pattern in row.says:
-        assert re.search(pattern, said, re.DOTALL), said
+        assert re.search(pattern, ended.said, re.DOTALL)
 
 
 def test_made_puzzles(place: Place) -> None:
@@ -76,12 +71,11 @@ def test_made_puzzles(place: Place) -> None:
         families[name].append(text)
     for name, texts in families.items():
         said = place.run([place.program, name.split()[0]], input=''.join(f'new {text}\nid\n' for text in texts).encode()).output.decode()
-        wrong = [] if said.splitlines() == [part for text in texts for part in ('ok', text)] else [repr(said[:400])]
-        wrong += [f'it makes {len(set(texts))} puzzles'] if len(set(texts)) < EACH else []
-        wrong += [f'the size is {text[0]}' for text in texts if text[0] not in '789']
-        assert not wrong
-    assert made(place, '', 'bench/make_families', '5', count) == lines, 'it is not'
-    assert not (set(made(place, '', 'bench/make_families', '6', count)) & set(lines)), 'they are the same'
+        assert said == ''.join(f'ok\n{text}\n' for text in texts)
+        assert len(set(texts)) == EACH
+        assert {text[0] for text in texts} <= set('789')
+    assert made(place, '', 'bench/make_families', '5', count) == lines
+    assert not set(made(place, '', 'bench/make_families', '6', count)) & set(lines)
 
 
 def made(place: Place, cwd: str, *words: str) -> List[str]:

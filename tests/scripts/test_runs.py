@@ -1,40 +1,18 @@
 """What tests/run does where something is lacking that the tests need."""
 
-from __future__ import annotations
-
 import os
 import re
 import shutil
-from typing import Dict, NamedTuple, Sequence
+from typing import NamedTuple, Sequence
 
 import pytest
 
 from tests.harness import by_name
-from tests.packages import listed
+from tests.harness.builds import TOP
 from tests.scripts.place import Place
 
-#: Tries what is lacking, as root, whoever it is.
-READY = """\
-import os
-os.geteuid = lambda: 0
-import packages
-packages.PYTHONS = packages.PYTHONS[:1]
-packages.has_modules = lambda python, modules: all(os.path.exists(os.path.join(os.environ['PATH'], module)) for module in modules)
-print(packages.make_ready())
-"""
-
-#: Stands for apt: notes how it is asked, and gives all commands, or, where the first word of HOW is the call that it is asked for, none.
-APT = """\
-#!/bin/sh
-for word; do call=$last last=$word; case $word in install | update) asked=$word; break ;; esac; done
-read -r answer && answer="an answer is read"
-echo "$asked $DEBIAN_FRONTEND$answer" >> "$APT_LOG"
-case "$asked $APT_FAILS" in
-    'install first') [ "$(wc -l < "$APT_LOG")" -gt 1 ] || exit 100 ;;
-    *always) exit 100 ;;
-esac
-[ "$asked" = update ] || for name in $APT_GIVES; do printf '' > "${0%/*}/$name"; chmod 755 "${0%/*}/$name"; done
-"""
+#: The commands that it calls, and those that the one does which stands for apt.
+COMMANDS = ['bash', 'chmod', 'dirname', 'id', 'nproc', 'realpath', 'sed', 'sh', 'tail', 'timeout', 'tr', 'wc']
 
 
 class Lacking(NamedTuple):
@@ -55,49 +33,41 @@ LACKINGS = [
 
 @pytest.mark.parametrize('row', LACKINGS, ids=by_name)
 def test_lacking(place: Place, row: Lacking) -> None:
-    """In a PATH with next to nothing."""
-    gives = sorted({package.module or package.gives[0] for package in listed() if not package.gives[0].startswith('/')})
-    path, log = small_path(place, row.name), os.path.join(os.path.dirname(place.path), f'{row.name}.log')
-    env = {'PATH': path, 'APT_FAILS': row.fails, 'APT_LOG': log, 'APT_GIVES': ' '.join(gives)}
-    said = ready(place, env)
-    asked = place.file(log).decode().splitlines()
-    assert asked == [f'{one} noninteractive' for one in row.asked]
-    assert (said.strip() == '') == row.is_ready, said
+    """In a PATH with next to nothing, where it takes itself for root's."""
+    path, log = small_path(place), os.path.join(os.path.dirname(place.path), 'log')
+    os.remove(os.path.join(path, 'id'))
+    place.put(os.path.join(path, 'id'), b'#!/bin/sh\necho 0\n')
+    gives = re.findall(r'^[\w-]+ +(?:import:)?(\w+)', (TOP / 'tests' / 'packages.txt').read_text(encoding='utf-8'), re.MULTILINE)
+    env = {'PATH': path, 'PYTHON': 'python3', 'APT_FAILS': row.fails, 'APT_LOG': log, 'APT_GIVES': ' '.join(gives)}
+    for _ in range(2 if row.is_ready else 1):
+        ended = place.run(['tests/run', 'one', 'other'], env=env)
+        assert place.file(log).decode().splitlines() == [f'{one} noninteractive' for one in row.asked]
     if row.is_ready:
-        ready(place, env)
-        assert place.file(log).decode().splitlines() == asked, 'it is asked for again'
+        ended.expect('asked for -B -m pytest ', ' tests/lines')
     else:
+        ended.expect('0 passed, 1 failed', status=1)
         for name in ('jq', 'gcc', 'python3-pytest'):
-            assert re.search(rf'apt-get install .*\b{name}\b', said)
+            assert re.search(rf'apt-get install .*\b{name}\b', ended.said)
 
 
 def test_user_is_told(place: Place) -> None:
     place.put('tests/packages.txt', b'nothing  a-command-that-is-not-there\npython3-none  import:a_module_that_is_not_there\n', 0o644)
-    ended = place.run(['tests/run', 'one', 'other'], env={'PATH': small_path(place, 'by a user')})
+    ended = place.run(['tests/run', 'one', 'other'], env={'PATH': small_path(place)})
     lines = ended.output.decode().splitlines()
     assert (ended.status, lines) == (1, ['The tests need more, to be installed by: apt-get install nothing python3-none', '0 passed, 1 failed'])
 
 
 @pytest.mark.parametrize('words', [[], ['one']])
 def test_words(place: Place, words: Sequence[str]) -> None:
-    ended = place.run(['tests/run', *words])
-    assert ended.status == 2 and b'usage:' in ended.error
+    place.run(['tests/run', *words]).expect('usage:', status=2)
 
 
-def ready(place: Place, env: Dict[str, str]) -> str:
-    """What is still to be typed, as it is told."""
-    ended = place.run(['python3', '-B', '-c', READY], cwd='tests', env=env)
-    lines = ended.output.decode().splitlines()
-    return lines[-1] if lines and ended.status == 0 else f'{ended}'
-
-
-def small_path(place: Place, name: str) -> str:
-    """A folder with a Python, what a script of these cases needs, and an apt."""
-    folder = os.path.join(os.path.dirname(place.path), f'path {name}')
-    apt = place.put(os.path.join(folder, 'apt-get'), APT.encode())
-    for command in ('sh', 'sleep', 'wc', 'chmod'):
-        os.symlink(shutil.which(command) or command, os.path.join(os.path.dirname(apt), command))
-    python = place.run(['python3', '-c', 'import sys; print(sys.executable)']).output.decode().strip()
-    os.symlink(python, os.path.join(folder, 'python3'))
+def small_path(place: Place) -> str:
+    """A folder with what the script calls, a Python and an apt."""
+    folder = os.path.join(os.path.dirname(place.path), 'small path')
+    for name in ('apt-get', 'python3'):
+        place.stand_in(name, os.path.join(folder, name))
+    for command in COMMANDS:
+        os.symlink(shutil.which(command) or command, os.path.join(folder, command))
     place.give()
     return folder

@@ -1,7 +1,5 @@
 """The programs in the tree, in a small repository: when they are taken, when others are built, how they are stored, and what they are compared with."""
 
-from __future__ import annotations
-
 import os
 from typing import List, NamedTuple, Optional, Sequence
 
@@ -100,10 +98,8 @@ def taken(small: Small, row: Change) -> None:
     path = os.path.join(small.place.path, row.path)
     old, mode = small.place.file(row.path), os.stat(path).st_mode if os.path.exists(path) else 0
     set_file(small, row.path, row.text, row.mode)
-    if row.says:
-        where(small, '', says=[row.says, b': they are proved and built\nnot built: there is no command'], RT='/no kit')
-    else:
-        where(small, FOLDER, RT='/no kit')
+    says = [row.says, b': they are proved and built\nnot built: there is no command'] if row.says else []
+    where(small, '' if row.says else FOLDER, says=says, RT='/no kit')
     set_file(small, row.path, old if mode else None, mode & 0o777)
 
 
@@ -165,10 +161,8 @@ def compared(small: Small) -> None:
     built = ['build/puzzles', 'build/puzzles-json']
 
     def expect_compared(status: int, *says: str, words: Sequence[str] = (), **env: str) -> None:
-        ended = small.run('tools/programs', 'compare', *(words or built), **env)
-        wrong = [f'it lacks {text!r}' for text in says if text not in ended.output.decode()]
-        wrong += [] if ended.status == status and not ended.error and ended.output.decode().endswith(f'{says[-1]}\n') else ['its end']
-        assert not wrong, [*wrong, f'{ended}']
+        ended = small.run('tools/programs', 'compare', *(words or built), **env).expect(*says, status=status)
+        assert (ended.error, ended.said.endswith(f'{says[-1]}\n')) == (b'', True), ended
 
     advice = ': make programs, and commit\n'
     expect_compared(0, '3 passed, 0 failed')

@@ -1,15 +1,13 @@
 """What `crates/trial_runs` answers to each request of its input."""
 
-from __future__ import annotations
-
 from pathlib import Path
 from typing import Dict, Iterator, Tuple
 
 from tests.second_implementation.damage import KINDS
 from tests.second_implementation.games import GAMES, Game
-from tests.second_implementation.refusal import Refused
 from tests.second_implementation.saves import Session, load, save
 from tests.second_implementation.seeded import generate, square
+from tests.second_implementation.words import Refused
 
 #: The answers to a text of a save, in the order of their numbers (docs/FORMATS.md, section 10).
 NAMES = [

@@ -4,12 +4,11 @@ A record goes from the end of the one before it to the end of its value, so the 
 What stands behind the last record is left out where records are put together again.
 """
 
-from __future__ import annotations
-
+from itertools import combinations
 from typing import Callable, Dict, Iterator, List
 
-from tests.second_implementation.refusal import Refused
 from tests.second_implementation.saves import next_record
+from tests.second_implementation.words import Refused
 
 #: The bytes that each byte is changed to: ends of lines, what records and moves are made of, and some that stand in none.
 VALUES = [0, 10, 13, 32, 48, 51, 58, 72, 83, 255]
@@ -62,11 +61,10 @@ def records_doubled(text: bytes) -> Iterator[bytes]:
 
 def records_exchanged(text: bytes) -> Iterator[bytes]:
     records = records_of(text)
-    for first in range(len(records)):
-        for second in range(first + 1, len(records)):
-            changed = list(records)
-            changed[first], changed[second] = records[second], records[first]
-            yield b''.join(changed)
+    for first, second in combinations(range(len(records)), 2):
+        changed = list(records)
+        changed[first], changed[second] = records[second], records[first]
+        yield b''.join(changed)
 
 
 #: Each kind by its name, in the order in which they are answered.

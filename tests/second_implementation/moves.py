@@ -1,14 +1,11 @@
 """Moves: their texts, and what they do to a board (docs/FORMATS.md, section 5; docs/RULES.md, sections 5 and 6)."""
 
-from __future__ import annotations
-
 import re
 from dataclasses import dataclass, field, replace
-from typing import Dict, FrozenSet, Optional, Tuple
+from typing import Dict, FrozenSet, Tuple
 
-from tests.second_implementation.numbers import number
 from tests.second_implementation.puzzles import Numbers, Puzzle
-from tests.second_implementation.refusal import Refused
+from tests.second_implementation.words import Refused
 
 #: The lengths of a solution's digits, and the sizes.
 SIZES: Dict[int, int] = {size * size: size for size in range(3, 10)}
@@ -29,46 +26,29 @@ class Move:
 RESTART = Move('')
 
 
+#: The texts of moves that have numbers, which are decimals without leading zeros, and the most of each.
+NUMBER = rb'(0|[1-9][0-9]*)'
+NUMBERED = [
+    (re.compile(rb'[RP]%b,%b,%b' % (NUMBER, NUMBER, NUMBER)), 255),
+    (re.compile(rb'D(-1|0|[1-9][0-9]*),(-1|0|[1-9][0-9]*)'), 127),
+]
+
+
 def read_move(text: bytes) -> Move:
     """The move of a text."""
     if text[:1] in (b'H', b'F'):
         raise Refused('Unsupported')
-    move = entry(text) or solution(text) or done_mark(text)
     if text == b'M':
-        move = Move('M', 'M')
-    if move is None:
-        raise Refused('BadMove')
-    return move
-
-
-def entry(text: bytes) -> Optional[Move]:
-    """`Rx,y,n` or `Px,y,n`."""
-    if text[:1] not in (b'R', b'P'):
-        return None
-    values = [number(part, 0, 255) for part in text[1:].split(b',')]
-    if len(values) != 3 or None in values:
-        return None
-    x, y, n = (value or 0 for value in values)
-    return Move(text[:1].decode(), text.decode(), x, y, n)
-
-
-def solution(text: bytes) -> Optional[Move]:
-    """`S` and digits."""
-    size = SIZES.get(len(text) - 1, 0)
-    if not re.fullmatch(rb'S[1-9]+', text) or size == 0:
-        return None
-    digits = tuple(int(digit) for digit in text[1:].decode())
-    return Move('S', text.decode(), digits=digits) if max(digits) <= size else None
-
-
-def done_mark(text: bytes) -> Optional[Move]:
-    """`Dx,y`."""
-    if text[:1] != b'D':
-        return None
-    values = [-1 if part == b'-1' else number(part, 0, 127) for part in text[1:].split(b',')]
-    if len(values) != 2 or values[0] is None or values[1] is None:
-        return None
-    return Move('D', text.decode(), values[0], values[1])
+        return Move('M', 'M')
+    for pattern, most in NUMBERED:
+        match = pattern.fullmatch(text)
+        x, y, n = [*map(int, match.groups()), 0][:3] if match else [most + 1, 0, 0]
+        if max(x, y, n) <= most:
+            return Move(text[:1].decode(), text.decode(), x, y, n)
+    digits = tuple(map(int, text[1:].decode())) if re.fullmatch(rb'S[1-9]+', text) else ()
+    if digits and max(digits) <= SIZES.get(len(digits), 0):
+        return Move('S', text.decode(), digits=digits)
+    raise Refused('BadMove')
 
 
 @dataclass(frozen=True)

@@ -1,7 +1,5 @@
 """What both games have in common: squares, and the rule of a Latin square (docs/RULES.md, sections 1 and 4)."""
 
-from __future__ import annotations
-
 from dataclasses import dataclass
 from typing import List, Sequence, Tuple
 

@@ -1,17 +1,13 @@
 """Save files: records, loading and saving (docs/FORMATS.md, section 6)."""
 
-from __future__ import annotations
-
 import re
 from dataclasses import dataclass, field
 from typing import Dict, List, Optional, Tuple
 
-from tests.second_implementation.games import Game
+from tests.second_implementation.games import Game, Parameters
 from tests.second_implementation.moves import RESTART, Board, Move, first_board, played, read_move
-from tests.second_implementation.numbers import number
-from tests.second_implementation.parameters import Parameters
 from tests.second_implementation.puzzles import Puzzle
-from tests.second_implementation.refusal import Refused
+from tests.second_implementation.words import Refused, number
 
 COLLECTION = b"Simon Tatham's Portable Puzzle Collection"
 MOST_BYTES = 16_777_216

@@ -1,7 +1,5 @@
 """Seeded squares and games (docs/RULES.md, section 8)."""
 
-from __future__ import annotations
-
 from dataclasses import replace
 from typing import Iterator, List, Tuple
 

@@ -1,7 +1,5 @@
 """How many solutions a puzzle has, up to two: by the permutations that each row and each column can still have."""
 
-from __future__ import annotations
-
 from functools import lru_cache
 from itertools import permutations
 from typing import Dict, FrozenSet, List, Optional, Sequence, Set, Tuple

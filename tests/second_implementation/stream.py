@@ -4,8 +4,6 @@ ChaCha20 is written from its definition: a block is 16 words (four constants, ei
 number of two, here 0), ten times a round over columns and one over diagonals, added to what it began with.
 """
 
-from __future__ import annotations
-
 from typing import Iterator, List, Sequence
 
 WORD = 1 << 32

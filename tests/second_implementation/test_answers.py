@@ -1,15 +1,11 @@
-"""What `crates/trial_runs` has to answer to requests is what the second implementation makes of its input, and that reads the samples of
-docs/FORMATS.md as they are told there."""
-
-from __future__ import annotations
+"""What `crates/trial_runs` has to answer to requests is what the second implementation makes of its input."""
 
 from itertools import islice
-from typing import Callable, List, Tuple
+from typing import List, Tuple
 
 import pytest
 
 from tests.harness.builds import TOP
-from tests.second_implementation import samples
 from tests.second_implementation.answers import answers, lines_of
 
 TRIALS = TOP / 'crates' / 'trial_runs'
@@ -47,8 +43,3 @@ def test_each_save_is_asked_for() -> None:
     asked = {request.partition(' ')[2] for request in REQUESTS}
     files = [str(path.relative_to(TRIALS / 'data')) for path in (TRIALS / 'data').rglob('*.sav')]
     assert [name for name in files if name not in asked] == []
-
-
-@pytest.mark.parametrize(('reader', 'wanted'), [row[1:] for row in samples.rows()], ids=[row[0] for row in samples.rows()])
-def test_sample(reader: Callable[[], str], wanted: str) -> None:
-    assert samples.answered(reader) == wanted

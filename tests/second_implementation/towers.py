@@ -1,14 +1,11 @@
 """Towers: the towers that are seen, and descriptions (docs/RULES.md, section 2; docs/FORMATS.md, section 3)."""
 
-from __future__ import annotations
-
 import re
 from dataclasses import dataclass
 from typing import List, Sequence, Tuple
 
-from tests.second_implementation.numbers import one_digit
 from tests.second_implementation.puzzles import Numbers, Puzzle, column, row
-from tests.second_implementation.refusal import Refused
+from tests.second_implementation.words import Refused, one_digit
 
 
 def seen(line: Sequence[int]) -> int:

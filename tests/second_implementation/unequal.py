@@ -1,13 +1,10 @@
 """Unequal: signs between neighbours, and descriptions (docs/RULES.md, section 3; docs/FORMATS.md, section 4)."""
 
-from __future__ import annotations
-
 from dataclasses import dataclass
 from typing import Dict, FrozenSet, List, Set, Tuple
 
-from tests.second_implementation.numbers import one_digit, run_of_digits
 from tests.second_implementation.puzzles import Numbers, Puzzle
-from tests.second_implementation.refusal import Refused
+from tests.second_implementation.words import Refused, one_digit, run_of_digits
 
 #: A greater cell and a smaller one.
 Sign = Tuple[int, int]

@@ -4,9 +4,8 @@ How much stack a program takes is its compiler's affair, too. So this is no test
 as much.
 """
 
-from __future__ import annotations
-
 import resource
+from pathlib import Path
 from typing import NamedTuple
 
 import pytest
@@ -17,28 +16,7 @@ from tests.lines.runs import Player, Run
 STACK = 64 * 1024
 
 #: Each command, on the puzzle itself and on a board with all its marks, and then on a seeded game.
-COMMANDS = b'''show
-marks
-done
-status
-id
-save
-move M
-marks
-undo
-redo
-restart
-list 1
-list 100
-solve
-show
-status
-save
-new 6!1
-list 2
-solve
-id
-'''
+COMMANDS = Path(__file__).with_name('commands.txt').read_bytes()
 
 #: The lines that the plain program doesn't know.
 FURTHER = b'board\ncompletable\nhint\n'

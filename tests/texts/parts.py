@@ -1,9 +1,7 @@
 """Parts of a text."""
 
-from __future__ import annotations
-
 import re
-from typing import Collection, Iterator, List
+from typing import List
 
 from tests.harness.builds import TOP
 
@@ -43,15 +41,3 @@ def without_samples(text: str) -> str:
     """A text without what it shows in lines of their own: between three backquotes, or further in. The lines stay."""
     samples = re.compile(r'^ *```.*?^ *```|^    .*?$', re.MULTILINE | re.DOTALL)
     return samples.sub(lambda sample: '\n' * sample[0].count('\n'), text)
-
-
-def differences(told: Collection[object], wanted: Collection[object]) -> Iterator[str]:
-    """How what a text names isn't what it should."""
-    yield from lacking(wanted, told)
-    yield from (f'{item} is there and not wanted' for item in told if item not in wanted)
-    if not wanted:
-        yield 'nothing is wanted'
-
-
-def lacking(wanted: Collection[object], told: Collection[object]) -> Iterator[str]:
-    return (f'{item} is lacking' for item in wanted if item not in told)

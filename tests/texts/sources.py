@@ -1,7 +1,5 @@
 """What the sources declare."""
 
-from __future__ import annotations
-
 import re
 from typing import Dict, List, Set
 

@@ -3,15 +3,13 @@
 That of bash is run. Those of zsh and fish are read by their shells where these are there; what they name is held against the help.
 """
 
-from __future__ import annotations
-
 import shutil
 from typing import Callable, Dict, List, NamedTuple, Sequence
 
 import pytest
 
 from tests.harness import Room, by_name, run
-from tests.texts.parts import ROOT, differences, found, lacking, part, read
+from tests.texts.parts import ROOT, found, part, read
 from tests.texts.test_users import said
 
 GAMES = ['towers', 'unequal']
@@ -95,8 +93,8 @@ def test_options(room: Room, shell: str, offered: Callable[[], Dict[str, List[st
     """Those of the help, and the names of the programs and games."""
     wanted = {'puzzles': said('FORMATS', read('docs/FORMATS.md'))[1], 'puzzles-play': play_options(room)}
     for program, told in offered().items():
-        assert list(differences(told, wanted[program])) == [], program
-    assert list(lacking(['puzzles', 'puzzles-json', 'puzzles-play', *GAMES], read(f'board/completion.{shell}'))) == []
+        assert set(told) == set(wanted[program]) != set(), program
+    assert [text for text in ['puzzles', 'puzzles-json', 'puzzles-play', *GAMES] if text not in read(f'board/completion.{shell}')] == []
 
 
 @pytest.mark.parametrize('shell', ['zsh', 'fish'])

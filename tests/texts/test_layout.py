@@ -1,10 +1,8 @@
 """The documents are read in minutes: no line is wide, and README is short, with a picture of the board as it is."""
 
-from __future__ import annotations
-
 import pytest
 
-from tests.texts.parts import documents, lacking, read
+from tests.texts.parts import documents, read
 
 #: What a line of a document may have at most, and what README may.
 COLUMNS = 110
@@ -27,4 +25,4 @@ def test_readme_is_short() -> None:
 @pytest.mark.parametrize('name', PICTURES)
 def test_readme_shows_the_board(name: str) -> None:
     shown = [line.strip() for line in read(f'tests/board/pictures/{name}.txt').splitlines()[:PICTURE_LINES]]
-    assert list(lacking(shown, read('README.md'))) == []
+    assert [text for text in shown if text not in read('README.md')] == []

@@ -1,25 +1,23 @@
 """The texts on puzzles-json name its members, its own lines, and what the plain program has in common with it."""
 
-from __future__ import annotations
-
 from tests.harness import Room, run
 from tests.objects import schema
 from tests.objects.reading import OWN_LINES
-from tests.texts.parts import differences, found, lacking, part, read
+from tests.texts.parts import found, part, read
 from tests.texts.test_users import KINDS, said
 
 
 def test_members() -> None:
-    assert list(lacking(schema.names(), found(r'`(\w+)`', read('docs/JSON.md')))) == []
+    assert not schema.names() - set(found(r'`(\w+)`', read('docs/JSON.md')))
 
 
 def test_lines() -> None:
-    assert list(lacking([line.decode() for line in OWN_LINES], found(r'^### (\w+)', read('docs/JSON.md')))) == []
+    assert not {line.decode() for line in OWN_LINES} - set(found(r'^### (\w+)', read('docs/JSON.md')))
 
 
 def test_manual() -> None:
     manual = found(r'^\.It Li (\w+)', part(read('man/puzzles-json.6'), '.Ss Objects', r'^\.Ss'))
-    assert list(lacking([*schema.COMMON, *schema.ANSWERS], manual)) == []
+    assert not set([*schema.COMMON, *schema.ANSWERS]) - set(manual)
 
 
 def test_help(program: str, objects: str, room: Room) -> None:
@@ -31,6 +29,6 @@ def test_help(program: str, objects: str, room: Room) -> None:
         told.append(ended.output.decode())
     plain, own = (dict(zip(KINDS, said('help', text))) for text in told)
     for kind in ('options', 'statuses'):
-        assert list(differences(own[kind], plain[kind])) == [], kind
+        assert set(own[kind]) == set(plain[kind]) != set(), kind
     wanted = [*(line.decode() for line in OWN_LINES), *schema.COMMON]
-    assert list(lacking(wanted, found(r'^  ([a-z]+) ', told[1]))) == []
+    assert not set(wanted) - set(found(r'^  ([a-z]+) ', told[1]))

@@ -1,7 +1,5 @@
 """The manual pages name what the programs have, and can be read: without a warning, and in 80 columns."""
 
-from __future__ import annotations
-
 import re
 import shutil
 from typing import Dict, Iterator, List, NamedTuple, Sequence
@@ -12,7 +10,7 @@ from tests.harness import Room, by_name, run
 from tests.objects import schema
 from tests.objects.reading import OWN_LINES
 from tests.texts import sources
-from tests.texts.parts import ROOT, differences, found, lacking, part, read
+from tests.texts.parts import ROOT, found, part, read
 from tests.texts.test_completions import play_options
 from tests.texts.test_users import wanted
 
@@ -63,41 +61,41 @@ def too_wide(shown: str) -> Iterator[str]:
 
 def test_commands() -> None:
     listed = words(part(read('man/puzzles.5'), '.Sh COMMANDS AND REPLIES', r'^\.Sh'), '[a-z]+')
-    assert list(lacking(wanted()[0], listed)) == []
+    assert not set(wanted()[0]) - set(listed)
 
 
 def test_moves() -> None:
     """Those of docs/FORMATS.md."""
     told = found(r'^\.It Li ([A-Z])\b', part(read('man/puzzles.5'), '.Sh MOVES', r'^\.Sh'))
-    assert list(differences(told, wanted()[3])) == []
+    assert set(told) == set(wanted()[3]) != set()
 
 
 def test_records() -> None:
     table = part(read('docs/FORMATS.md'), '### What is written', '^#')
     records = found(r'[A-Z]{2,}', '\n'.join(found(r'^\| ([A-Z, ]+) \|', table)))
-    assert list(differences(words(part(read('man/puzzles.5'), '.Ss Records', r'^\.Ss'), '[A-Z]{2,}'), records)) == []
+    assert set(words(part(read('man/puzzles.5'), '.Ss Records', r'^\.Ss'), '[A-Z]{2,}')) == set(records) != set()
 
 
 def test_objects() -> None:
     page = read('man/puzzles-json.6')
-    assert list(differences(named_options(page), wanted()[1])) == [], 'options'
-    assert list(lacking([line.decode() for line in OWN_LINES], found(r'^\.It Cm (\w+)', page))) == [], 'lines'
-    assert list(lacking(schema.names(), set(re.findall(r'\w+', page)))) == [], 'members'
+    assert set(named_options(page)) == set(wanted()[1]) != set(), 'options'
+    assert not {line.decode() for line in OWN_LINES} - set(found(r'^\.It Cm (\w+)', page)), 'lines'
+    assert not schema.names() - set(re.findall(r'\w+', page)), 'members'
 
 
 def test_board(room: Room) -> None:
     page = read('man/puzzles-play.6')
-    assert list(differences(named_options(page), play_options(room))) == [], 'options'
+    assert set(named_options(page)) == set(play_options(room)) != set(), 'options'
     own = set(found(r'^    \'  ([a-z]{4,})\b', part(read('board/manual.py'), 'LINES', 'and the program'))) - {'pencil'}
-    assert list(lacking(own, set(re.findall(r'\w+', part(page, '.Ss The line mode', r'^\.Sh'))))) == [], 'the line mode'
+    assert not own - set(re.findall(r'\w+', part(page, '.Ss The line mode', r'^\.Sh'))), 'the line mode'
 
 
 @pytest.mark.parametrize(('kind', 'names'), {**sources.faults(), **ONE_FAULT}.items())
 def test_faults(kind: str, names: Dict[str, str]) -> None:
     """Each type of fault has the numbers and names of the definitions, and each of them a cause."""
     section = part(read('man/puzzles.5'), f'.Ss {kind}', r'^\.S[hs]')
-    assert list(differences(re.findall(r'^\.It (\d+) Sy (\w+)$', section, re.MULTILINE), names.items())) == []
-    assert list(lacking(names, re.findall(r'^\.It (\d+).*\n(?!\.It|\.El)', section, re.MULTILINE))) == [], 'causes'
+    assert set(re.findall(r'^\.It (\d+) Sy (\w+)$', section, re.MULTILINE)) == set(names.items()) != set()
+    assert not set(names) - set(re.findall(r'^\.It (\d+).*\n(?!\.It|\.El)', section, re.MULTILINE)), 'causes'
 
 
 @pytest.mark.parametrize('page', pages())
@@ -106,7 +104,7 @@ def test_source(page: str) -> None:
     text = read(page)
     others = [other[len('man/') :].replace('.', ' ') for other in pages() if other != page]
     assert [line for line in text.split('\n') if len(line) > COLUMNS] == []
-    assert list(lacking(others, found(r'^\.Xr (\S+ \d)', part(text, '.Sh SEE ALSO', r'^\.Sh')))) == []
+    assert not set(others) - set(found(r'^\.Xr (\S+ \d)', part(text, '.Sh SEE ALSO', r'^\.Sh')))
 
 
 @pytest.mark.parametrize('reader', READERS, ids=by_name)

@@ -2,15 +2,10 @@
 
 edits     what their files say
 sources   in which functions they stand, and by what name the prover knows those
-kit       what of the kit is used: the words by which it names a crate to the prover, and the prover
-tree      the copy of crates in which they are tried
-trial     the edits of a crate, tried together
-said      what the prover said
-twins     what comes of twins
-wrong     what comes of wrong bodies
-outcomes  what comes of both, with what earlier runs have found
+kit       what of the kit is used, and the copy of crates in which they are tried
+trial     the edits of a crate, tried together, and what the prover said
+outcomes  what comes of wrong bodies and twins, with what earlier runs have found
 kept      where that is kept
-asked     what is to be tried of a crate
-lanes     crates side by side
+asked     what is to be tried of the crates, side by side
 log       the log of a run over all, and what the gate says of it
 """

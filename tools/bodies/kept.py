@@ -2,24 +2,21 @@
 
 from __future__ import annotations
 
-import contextlib
 import hashlib
 import json
 import os
-import tempfile
-import time
 from pathlib import Path
 from typing import Dict, Iterable, List, Optional
 
 from bodies.edits import FOLDERS, Edit
 from building.crates import PARTS, all_of, listed, own
-from gating.kept import place
+from gating.kept import Store
 
 #: What a result was found by, beside the kit: these scripts.
 SCRIPTS = Path(__file__).resolve().parent
 
-#: A result that nobody asked for in so many days is forgotten.
-DAYS = 60
+#: How many results are kept: those of all crates in some versions.
+MOST = 5000
 
 
 class Kept:
@@ -28,9 +25,8 @@ class Kept:
     def __init__(self, kit: str) -> None:
         self._kit = f'{kit} {sum_of_files(SCRIPTS, ["."])}'
         self._is_anew = os.environ.get('ANEW') == '1'
-        self._folder = place('bodies')
+        self._store = Store('bodies', MOST)
         self._sums: Dict[str, str] = {}
-        self._forget()
 
     def key(self, crate: str, what: str, edit: Edit) -> str:
         """What a result goes by: the kit, the crate and all below it, what was tried, and the edit."""
@@ -39,40 +35,12 @@ class Kept:
         return sum_of([self._kit, self._sums[crate], crate, what, repr(edit.pairs)])
 
     def find(self, key: str) -> Optional[List[str]]:
-        """What is kept under a key; nothing where that is damaged."""
-        if self._is_anew or not self._folder:
-            return None
-        file = self._folder / key
-        try:
-            check, _, text = file.read_text(encoding='utf-8').partition('\n')
-            found = json.loads(text) if check == sum_of([key, text]) else None
-        except (OSError, ValueError):
-            return None
-        with contextlib.suppress(OSError):
-            os.utime(file)
-        return [str(word) for word in found] if isinstance(found, list) else None
+        found = None if self._is_anew else self._store.find(key)
+        return None if found is None else found.decode().split('\n', 1)
 
     def keep(self, key: str, words: List[str]) -> None:
-        """Keeps a result, whole or not at all, where the disk allows it."""
-        if not self._folder:
-            return
-        text = json.dumps(words)
-        with contextlib.suppress(OSError):
-            self._folder.mkdir(mode=0o700, parents=True, exist_ok=True)
-            number, name = tempfile.mkstemp(dir=self._folder, prefix='new.')
-            try:
-                with os.fdopen(number, 'w', encoding='utf-8') as file:
-                    file.write(f'{sum_of([key, text])}\n{text}')
-                os.replace(name, self._folder / key)
-            except BaseException:
-                os.unlink(name)
-                raise
-
-    def _forget(self) -> None:
-        with contextlib.suppress(OSError):
-            for file in self._folder.iterdir() if self._folder else ():
-                if file.stat().st_mtime < time.time() - DAYS * 86400:
-                    file.unlink()
+        """Keeps a result of one line, or of one and a text."""
+        self._store.keep(key, '\n'.join(words).encode())
 
 
 def sum_of(texts: Iterable[str]) -> str:

@@ -2,13 +2,99 @@
 
 from __future__ import annotations
 
-from typing import Iterable, List, NamedTuple, Optional
+from enum import Enum
+from typing import Dict, Iterable, List, NamedTuple, Optional, Sequence
 
-from bodies import twins, wrong
 from bodies.edits import Edit
 from bodies.kept import Kept
-from bodies.trial import Trial
-from bodies.wrong import Kind, Verdict
+from bodies.trial import Answer, Trial, halves
+
+
+class Kind(Enum):
+    """Where a wrong body was refused, the strongest first; or that it was not."""
+
+    VALUES = 'at an open goal with values that make it false'
+    GOAL = 'at an open goal'
+    ELSEWHERE = 'elsewhere'
+    NOT = 'NOT refused'
+
+
+#: Where a wrong body has to be refused.
+GOOD = (Kind.VALUES, Kind.GOAL)
+
+
+class Verdict(NamedTuple):
+    """What came of a wrong body: where it was refused, and what was said."""
+
+    kind: Kind
+    said: str
+
+    @property
+    def is_good(self) -> bool:
+        return self.kind in GOOD
+
+    def __str__(self) -> str:
+        return f'{self.kind.value}: {self.said}'
+
+
+def verdicts(trial: Trial, bodies: Sequence[Edit]) -> Dict[str, Verdict]:
+    """What comes of each, all in one check. One that this check leaves in doubt is tried again with fewer others, and at last alone."""
+    if not bodies:
+        return {}
+    answer = trial.check(bodies)
+    if len(bodies) == 1:
+        return {bodies[0].name: alone(trial, bodies[0], answer)}
+    shown = {body.name: at_goal(trial, body, answer) for body in bodies} if answer.is_refused else {}
+    found = {name: verdict for name, verdict in shown.items() if verdict.is_good}
+    doubtful = [body for body in bodies if body.name not in found]
+    parts: Sequence[Sequence[Edit]] = [doubtful] if found else halves(doubtful)
+    for part in parts:
+        found.update(verdicts(trial, part))
+    return found
+
+
+def at_goal(trial: Trial, body: Edit, answer: Answer) -> Verdict:
+    """Whether a goal is open in the function that it makes wrong, the one with values before all."""
+    goals = [goal for goal in trial.own(body, answer.goals) if goal.is_open]
+    for kind, some in ((Kind.VALUES, [goal for goal in goals if goal.has_values]), (Kind.GOAL, goals)):
+        if some:
+            return Verdict(kind, str(some[0]))
+    return Verdict(Kind.ELSEWHERE, answer.why)
+
+
+def alone(trial: Trial, body: Edit, answer: Answer) -> Verdict:
+    """What a check of nothing but this body says of it."""
+    if answer.is_proved:
+        return Verdict(Kind.NOT, 'what it stands in is proved with it')
+    if not answer.is_refused:
+        return Verdict(Kind.NOT, f'the check stopped before its end: {answer.why}')
+    return at_goal(trial, body, answer)
+
+
+def refused_twins(trial: Trial, twins: Sequence[Edit]) -> Dict[str, str]:
+    """The twins that aren't proved, each with what the prover said of it."""
+    if not twins:
+        return {}
+    answer = trial.check(twins)
+    if answer.is_proved:
+        return {}
+    found = blamed(trial, twins, answer)
+    if found:
+        found.update(refused_twins(trial, [twin for twin in twins if twin.name not in found]))
+        return found
+    for part in halves(twins):
+        found.update(refused_twins(trial, part))
+    if not found:
+        found.update((twin.name, f'each part of these twins is proved, but not all together: {answer.why}') for twin in twins)
+    return found
+
+
+def blamed(trial: Trial, twins: Sequence[Edit], answer: Answer) -> Dict[str, str]:
+    """The twins in whose functions something is wrong, each with that; of one twin alone all is its own."""
+    if len(twins) == 1:
+        return {twins[0].name: answer.why}
+    told = {twin.name: trial.own(twin, answer.goals) for twin in twins}
+    return {name: str(goals[0]) for name, goals in told.items() if goals}
 
 
 class Outcome(NamedTuple):
@@ -23,15 +109,15 @@ class Outcome(NamedTuple):
 def of_kept(crate: str, kept: Kept, twin_edits: Iterable[Edit], bodies: Iterable[Edit]) -> List[Outcome]:
     """What earlier runs have found of these."""
     found = [Outcome(name_of_twin(edit), '', None, True) for edit in twin_edits if kept.find(kept.key(crate, 'twin', edit)) == ['proved']]
-    verdicts = ((edit.name, as_verdict(kept.find(kept.key(crate, 'wrong', edit)))) for edit in bodies)
-    return found + [Outcome(name, '', verdict, True) for name, verdict in verdicts if verdict]
+    judged = ((edit.name, as_verdict(kept.find(kept.key(crate, 'wrong', edit)))) for edit in bodies)
+    return found + [Outcome(name, '', verdict, True) for name, verdict in judged if verdict]
 
 
 def of_twins(trial: Trial, kept: Kept, edits: Iterable[Edit]) -> List[Outcome]:
     """The twins of a crate: each has to be proved."""
     found = {edit: trial.unfit(edit) for edit in edits}
     for together in trial.rounds([edit for edit, fault in found.items() if not fault]):
-        refused = twins.refused(trial, together)
+        refused = refused_twins(trial, together)
         for edit in together:
             found[edit] = refused.get(edit.name, '')
             if not found[edit]:
@@ -44,9 +130,9 @@ def of_bodies(trial: Trial, kept: Kept, edits: Iterable[Edit]) -> List[Outcome]:
     faults = {edit: trial.unfit(edit) for edit in edits}
     outcomes = [Outcome(edit.name, fault) for edit, fault in faults.items() if fault]
     for together in trial.rounds([edit for edit, fault in faults.items() if not fault]):
-        verdicts = wrong.tried(trial, together)
+        found = verdicts(trial, together)
         for edit in together:
-            verdict = verdicts[edit.name]
+            verdict = found[edit.name]
             outcomes.append(Outcome(edit.name, '' if verdict.is_good else str(verdict), verdict))
             if verdict.is_good:
                 kept.keep(kept.key(trial.crate, 'wrong', edit), [verdict.kind.name, verdict.said])
@@ -59,6 +145,6 @@ def name_of_twin(edit: Edit) -> str:
 
 def as_verdict(words: Optional[List[str]]) -> Optional[Verdict]:
     """A verdict that was kept; only good ones are."""
-    if words and len(words) == 2 and words[0] in [kind.name for kind in wrong.GOOD]:
+    if words and len(words) == 2 and words[0] in [kind.name for kind in GOOD]:
         return Verdict(Kind[words[0]], words[1])
     return None

@@ -3,14 +3,11 @@
 from __future__ import annotations
 
 import sys
+from typing import Sequence
 
 from building.changes import command, kit_of, sum_of
 from building.record import BUILT, NAMES, TREE, put, sum_of_sources
 from building.start import make
-
-TYPE_CHECKING = False
-if TYPE_CHECKING:
-    from typing import Sequence
 
 #: What is to be done where the programs in the tree aren't those of the sources.
 ADVICE = 'make programs, and commit'

@@ -1,18 +1,16 @@
 """The crates of the repository: what each stands on, and the files that it is proved from.
 
-It is read whenever `make` is asked for something, mostly to find that nothing has changed. So it takes next to nothing of Python's library, whose modules
+It is read whenever `make` is asked for something, mostly to find that nothing has changed. So it takes little of Python's library, whose modules
 would cost more than the work; nor do `changes`, `record` and `ready`.
 """
 
 from __future__ import annotations
 
 import os
+from typing import Dict, Iterable, Iterator, List, Set
 
-TYPE_CHECKING = False
-if TYPE_CHECKING:
-    from typing import Iterable, Iterator, Set
-
-    from building.crates import Listed
+#: The crates of the repository, each with the libraries that it stands on, the kit's too.
+Listed = Dict[str, List[str]]
 
 #: The top of the repository, whatever the working folder is.
 TOP = os.path.dirname(os.path.dirname(os.path.dirname(os.path.realpath(__file__))))

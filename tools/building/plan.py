@@ -2,8 +2,7 @@
 
 from __future__ import annotations
 
-import heapq
-from typing import Dict, Iterable, List, Mapping, Set, Tuple
+from typing import Dict, Iterable, List, Mapping, Set
 
 from building.crates import Listed, below
 
@@ -48,7 +47,7 @@ class Plan:
         #: Seconds from the start of a crate to the end of all that waits for it.
         self.chain: Dict[str, float] = {}
         for name in sorted(names, key=lambda name: -len(self.waits_for[name])):
-            after = [self.chain[other] for other in self.chain if name in self.waits_for[other]]
+            after = [seconds for other, seconds in self.chain.items() if name in self.waits_for[other]]
             self.chain[name] = self.seconds[name] + max(after, default=0)
         self.order: List[str] = sorted(names, key=lambda name: (-self.chain[name], name))
 
@@ -59,19 +58,10 @@ class Plan:
 
     def seconds_left(self, done: Set[str], running: Mapping[str, float], lanes: int, scale: float) -> float:
         """How long it takes from here, with the seconds that each running crate has taken, at most so many crates side by side, and
-        each crate taking `scale` times the seconds of the table."""
-        ended, now = set(done), 0.0
-        begun = set(running)
-        ends: List[Tuple[float, str]] = [(max(self.seconds[name] * scale - spent, 1), name) for name, spent in running.items()]
-        heapq.heapify(ends)
-        while True:
-            for name in self.ready(ended, begun)[: max(lanes - len(ends), 0)]:
-                heapq.heappush(ends, (now + self.seconds[name] * scale, name))
-                begun.add(name)
-            if not ends:
-                return now
-            now, name = heapq.heappop(ends)
-            ended.add(name)
+        each crate taking `scale` times the seconds of the table: as long as the longest chain, or as all work does that the lanes share."""
+        left = [name for name in self.order if name not in done]
+        longest = max((self.chain[name] * scale - running.get(name, 0) for name in left), default=0)
+        return max(longest, (sum(self.seconds[name] for name in left) * scale - sum(running.values())) / lanes)
 
     def scale(self, took: Mapping[str, float]) -> float:
         """How this run's seconds compare with the table's, by the crates that have ended."""

@@ -4,11 +4,7 @@ from __future__ import annotations
 
 import sys
 
-from building.record import BUILT, TREE, sum_of_sources
-
-TYPE_CHECKING = False
-if TYPE_CHECKING:
-    from building.record import Programs
+from building.record import BUILT, TREE, Programs, sum_of_sources
 
 
 class NotReady(Exception):

@@ -15,13 +15,10 @@ from __future__ import annotations
 
 import os
 from hashlib import sha256
+from typing import Dict, Iterator, Optional
 
 from building.changes import PROGRAMS, sum_of
 from building.listing import TOP, all_of, files_of, listed
-
-TYPE_CHECKING = False
-if TYPE_CHECKING:
-    from typing import Dict, Iterator, Optional
 
 #: The names of the programs.
 NAMES = [name for names in PROGRAMS.values() for name in names]

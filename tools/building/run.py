@@ -6,10 +6,10 @@ import fcntl
 import os
 import shutil
 import time
-from typing import Dict, Set, Tuple
+from typing import Dict, Set
 
 from building import trees
-from building.changes import PROGRAMS, Stamp, is_kept, made_from, texts_of
+from building.changes import PROGRAMS, Stamp, is_kept, sum_of_crate
 from building.crates import BUILD, ROOT, Listed, listed, own
 from building.plan import Plan
 from building.progress import Progress
@@ -43,7 +43,7 @@ def build(rt: str, kit: str) -> int:
     stamp, crates = Stamp.read(kit), listed()
     changed = stamp.changed(crates)
     for name in changed:
-        stamp.crates.pop(name, None)
+        stamp.sums.pop(name, None)
     if changed:
         BUILT.forget()
     progress = Progress(len(changed))
@@ -78,8 +78,8 @@ class Build:
         self._rt, self._plan, self._crates, self._stamp, self._progress = rt, plan, crates, stamp, progress
         self._lanes = lanes()
         self._running: Dict[str, Proof] = {}
-        #: What each crate is made from, by dates and by texts, as it was when its proof began.
-        self._made_from: Dict[str, Tuple[str, str]] = {}
+        #: The sum of what each crate is made from, as it was when its proof began.
+        self._sums: Dict[str, str] = {}
         self._done: Set[str] = set()
         #: Seconds that crates have taken, but those that were proved before.
         self._took: Dict[str, float] = {}
@@ -108,12 +108,12 @@ class Build:
         share = max(1, processors() // max(1, len(ready) + len(self._running)))
         for name in ready[: self._lanes - len(self._running)]:
             jobs = None if self._plan.chain[name] == longest else share
-            now = made_from(name, self._crates), texts_of(name, self._crates)
+            now = sum_of_crate(name, self._crates)
             try:
                 with undisturbed():
                     proof = Proof.begun(self._rt, name, self._crates, name in PROGRAMS, jobs)
                     if proof:
-                        self._running[name], self._made_from[name] = proof, now
+                        self._running[name], self._sums[name] = proof, now
             except OSError as error:
                 raise Failed(f'{name}: {error}') from error
             if not proof:
@@ -127,7 +127,7 @@ class Build:
             write_log(ended)
             self._leave(ended.name)
             self._done.add(ended.name)
-            self._stamp.crates[ended.name], self._stamp.texts[ended.name] = self._made_from[ended.name]
+            self._stamp.sums[ended.name] = self._sums[ended.name]
             if ended.functions is not None:
                 self._took[ended.name] = ended.seconds
             self._progress.crate(ended, self._left())

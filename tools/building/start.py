@@ -19,8 +19,6 @@ def make() -> int:
     kit = kit_of(rt)
     stamp = Stamp.read(kit)
     if os.path.isfile(f'{TOP}/{BUILT.record}') and not stamp.changed(listed()):
-        if stamp.is_new:
-            stamp.write()
         return 0
     # Mostly nothing has changed, and then this need not be read.
     import signal

@@ -15,8 +15,7 @@ from pathlib import Path
 from typing import Iterator, Optional
 
 from building.changes import FILES
-from building.copies import copy_folder, write_list
-from building.crates import BUILD, PARTS, Listed, below, own
+from building.crates import BUILD, PARTS, Listed, below, copy_folder, own, write_list
 
 TREES = BUILD / 'proving'
 

@@ -1,1 +1,1 @@
-"""What `specs/` and `proofs/` declare (`declared`), the files that can use it (`files`), and what of it they do use (`cited`)."""
+"""What `specs/` and `proofs/` declare (`declared`), and what of it the files that can use it do use (`cited`)."""

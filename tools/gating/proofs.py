@@ -4,15 +4,17 @@ from __future__ import annotations
 
 import contextlib
 import hashlib
+import json
 import os
 import shutil
 import time
+from base64 import b64decode, b64encode
 from pathlib import Path
-from typing import Iterator, Sequence
+from typing import Dict, Iterator, Mapping, Sequence
 
-from gating import kept
 from gating.counts import counted
 from gating.in_turn import Said, Turns
+from gating.kept import Store
 
 #: The files and folders that `rt ci` reads, but what it makes itself.
 READ = ['crates.txt', 'HANDLES', 'crates']
@@ -21,19 +23,22 @@ MADE = 'out'
 #: What `rt ci` leaves of each crate for those above it.
 LIBRARIES = 'crates/*/out/rlib'
 
-#: The files of a kept result, beside the programs: what was said, and when.
+#: How many results are kept.
+MOST = 4
+
+#: What of a result is kept beside the programs: what was said, and when.
 SAID, WHEN = 'said', 'when'
 
 
 def prove(turns: Turns, name: str, rt: str, prover: str, programs: Sequence[str], is_anew: bool) -> None:
     """Counts the proofs. The programs that other parts try are then those that were built of these sources."""
-    key = sum_of_sources(prover)
-    found = None if is_anew else kept.read(key)
+    key, store = sum_of_sources(prover), Store('gate', MOST)
+    found = None if is_anew else store.find(key)
     for program in programs:
         with contextlib.suppress(FileNotFoundError):
             os.unlink(program)
     if found:
-        from_kept(turns, name, found, programs)
+        from_kept(turns, name, unpacked(found), programs)
         return
     # The libraries that other parts check with are those that are built here, too: `rt ci` would bring back those that it finds.
     for library in Path().glob(LIBRARIES):
@@ -46,10 +51,10 @@ def prove(turns: Turns, name: str, rt: str, prover: str, programs: Sequence[str]
     # What was changed meanwhile may not be what was proved.
     if has_passed and len(built) == len(programs) and sum_of_sources(prover) == key:
         now = time.strftime('%Y-%m-%d %H:%M UTC', time.gmtime())
-        kept.write(key, {SAID: said.text, WHEN: now.encode(), **built})
+        store.keep(key, packed({SAID: said.text, WHEN: now.encode(), **built}))
 
 
-def from_kept(turns: Turns, name: str, found: kept.Files, programs: Sequence[str]) -> None:
+def from_kept(turns: Turns, name: str, found: Dict[str, bytes], programs: Sequence[str]) -> None:
     """Says what was said then, and leaves the programs that were built."""
     name = f'{name} (kept from {found[WHEN].decode()}; ANEW=1 proves anew)'
     turns.begin(name)
@@ -60,6 +65,14 @@ def from_kept(turns: Turns, name: str, found: kept.Files, programs: Sequence[str
         path.write_bytes(found[program])
         path.chmod(0o755)
     turns.count(name, Said(found[SAID], 0), 'kept')
+
+
+def packed(files: Mapping[str, bytes]) -> bytes:
+    return json.dumps({name: b64encode(content).decode() for name, content in files.items()}).encode()
+
+
+def unpacked(content: bytes) -> Dict[str, bytes]:
+    return {name: b64decode(text) for name, text in json.loads(content).items()}
 
 
 def sum_of_sources(prover: str) -> str:

@@ -91,10 +91,8 @@ def completions() -> Iterator[Item]:
     """Each shell looks for a file by the name of the command; one file of zsh is for several."""
     for name in COMMANDS:
         yield Item('board/completion.bash', 'bashcompdir', name)
-    if (TOP / 'board' / 'completion.zsh').is_file():
-        yield Item('board/completion.zsh', 'zshcompdir', '_puzzles')
-    if (TOP / 'board' / 'completion.fish').is_file():
-        yield from (Item('board/completion.fish', 'fishcompdir', f'{name}.fish') for name in COMMANDS)
+        yield Item('board/completion.fish', 'fishcompdir', f'{name}.fish')
+    yield Item('board/completion.zsh', 'zshcompdir', '_puzzles')
 
 
 def below(folder: str, pattern: str) -> List[str]:

@@ -1,7 +1,5 @@
 """The longest history, saved and loaded: as many states as a session can have, at the last one and in the middle."""
 
-from __future__ import annotations
-
 from itertools import cycle, islice
 from typing import Iterable
 

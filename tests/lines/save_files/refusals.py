@@ -1,6 +1,6 @@
 """Texts that are refused: each refusal, and which comes first."""
 
-from __future__ import annotations
+from itertools import accumulate
 
 from tests.lines.save_files.sample import SAMPLE, Loaded, edited, text_of
 
@@ -12,6 +12,7 @@ EDITS = [
     (0, [b'COMMENT :1:x', SAMPLE[0]], 'NotASave'),
     (1, [b'VERSION :1:2'], 'Version'),
     (2, [b'GAME    :6:towers'], 'WrongGame'),
+    (2, [b'GAME    :6:Towern'], 'WrongGame'),
     (2, [b'GAME    :6:Towers', b'GAME    :6:Towers'], 'Repeated'),
     (2, [b'GAME    :6:Towers', b'GAME    :6:Nothing'], 'Repeated'),
     (6, [b'MOVE    :6:R0,0,1', b'NSTATES :1:3'], 'EarlyState'),
@@ -34,6 +35,8 @@ EDITS = [
     (6, [b'NSTATES :1:4'], 'Missing'),
     (6, [b'NSTATES :6:100000'], 'Missing'),
     (8, [b'MOVE    :7:R01,0,1'], 'BadState 1'),
+    (8, [b'MOVE    :5:D1,-1'], 'BadState 1'),
+    (8, [b'MOVE    :5:D-0,1'], 'BadState 1'),
     (9, [b'MOVE    :6:R3,0,2'], 'BadState 2'),
     (9, [b'SOLVE   :10:S132213321'], 'BadState 2'),
     # States are judged on the board so far.
@@ -77,10 +80,28 @@ PAIRS = [
     ({2: [b'PARAMS  :3:3dt'], 3: [b'GAME    :7:Unequal']}, 'BadParams'),
 ]
 
+#: The sample and where its lines end, without LF.
+WHOLE = text_of(SAMPLE)
+ENDS = [end - 1 for end in accumulate(len(line) + 1 for line in SAMPLE)]
+
+
+def refusal_of(length: int) -> str:
+    """Of so many bytes; nothing where these have the last line."""
+    if length >= ENDS[-1]:
+        return ''
+    if length < ENDS[0]:
+        return 'NotASave'
+    return 'Missing' if length in ENDS or length - 1 in ENDS else 'Malformed'
+
+
+#: Each beginning of the sample: it is refused until it has all that counts.
+BEGINNINGS = [Loaded(f'the first {length} bytes', WHOLE[:length], WHOLE, refusal_of(length)) for length in range(len(WHOLE) + 1)]
+
 #: As many bytes as a save may have.
 MOST_BYTES = 16_777_216
 
 ROWS = [
+    *BEGINNINGS,
     *[Loaded(f'the sample with {lines} in line {place}', edited({place: lines}), refusal=name) for place, lines, name in EDITS],
     *[Loaded(f'the sample without line {place}', edited({place: []}), refusal=name) for place, name in enumerate(LEFT_OUT)],
     *[Loaded(f'the sample with {edits}', edited(edits), refusal=name) for edits, name in PAIRS],

@@ -1,7 +1,5 @@
 """The save that most of these tests edit, and what has to come of a text that is loaded."""
 
-from __future__ import annotations
-
 from typing import Iterable, Mapping, NamedTuple, Sequence
 
 from tests.harness.game import save_text

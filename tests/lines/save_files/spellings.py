@@ -1,7 +1,5 @@
 """Texts that load: other spellings, other orders, and what is passed over."""
 
-from __future__ import annotations
-
 from tests.lines.save_files.sample import SAMPLE, Loaded, edited, text_of
 
 #: The sample with other lines in place of one of it, which load as the sample: the place, and the lines.
@@ -64,6 +62,7 @@ ROWS = [
     *[Loaded(f'the lines {order}', text_of(SAMPLE[place] for place in order), text_of(SAMPLE)) for order in ORDERS],
     *[Loaded(f'lines that end with {end!r}', text_of(SAMPLE, end), text_of(SAMPLE)) for end in LINE_ENDS],
     *[Loaded(f'a move by {line!r}', edited({9: [line]}), edited({9: [written]})) for line, written in FORMS],
+    Loaded('a done mark at first', edited({8: [b'MOVE    :5:D0,-1']}), edited({8: [b'MOVE    :5:D0,-1']})),
     Loaded('fewer states than there are moves', edited(TWO_STATES), edited({**TWO_STATES, 9: []})),
     *[Loaded(f'the position {line!r}', edited({7: [line]}), edited({7: [line]})) for line in POSITIONS],
     Loaded('kept bytes, and a comment', text_of([*FOREIGN[:6], b'COMMENT :5:hello', *FOREIGN[6:]], b'\r\n'), text_of(FOREIGN)),

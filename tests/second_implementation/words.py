@@ -1,12 +1,22 @@
-"""Decimals and runs of digits (docs/FORMATS.md, "Words")."""
-
-from __future__ import annotations
+"""Texts: decimals and runs of digits (docs/FORMATS.md, "Words"), and what is said of one that is refused (section 10)."""
 
 import re
 from functools import lru_cache
 from typing import Optional
 
 DECIMAL = re.compile(rb'0|[1-9][0-9]*')
+
+
+class Refused(Exception):
+    """Raised by readers. `index` counts state records from 1, and is 0 for each other name."""
+
+    def __init__(self, name: str, index: int = 0) -> None:
+        super().__init__(name)
+        self.name = name
+        self.index = index
+
+    def text(self) -> str:
+        return f'{self.name} {self.index}' if self.index else self.name
 
 
 @lru_cache(maxsize=1024)
