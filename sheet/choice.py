@@ -30,36 +30,54 @@ class WrongLines(Exception):
         self.told = told
 
 
+class Seeded:
+    """Puzzles of some seeds, as they come onto a sheet."""
+
+    def __init__(self, seeds: Seeds) -> None:
+        self.puzzles: List[Puzzle] = []
+        #: How many have the solution of an earlier one.
+        self.alike = 0
+        self._seeds = seeds
+        self._forms: Set[Form] = set()
+        #: Sizes of which there is no new solution, and kinds of which there is no new puzzle.
+        self._spent: Set[int] = set()
+        self._exhausted: Set[Kind] = set()
+
+    def add(self, kind: Kind) -> None:
+        """The next puzzle with a new solution; after many seeds without one the first that is new at all, or none. Raises `Unfit`."""
+        spare: Optional[Puzzle] = None
+        if kind in self._exhausted:
+            return
+        for _, puzzle in zip(range(TRIES), self._seeds.puzzles(kind)):
+            if form(puzzle.answer) not in self._forms:
+                self._forms.add(form(puzzle.answer))
+                self.puzzles.append(puzzle)
+                return
+            if spare is None and all(puzzle.id != other.id for other in self.puzzles):
+                spare = puzzle
+            if spare and kind.size in self._spent:
+                break
+        self._spent.add(kind.size)
+        if spare is None:
+            self._exhausted.add(kind)
+        else:
+            self.puzzles.append(spare)
+            self.alike += 1
+
+
 def of_seeds(seeds: Seeds, wanted: Sequence[Kind], progress: Progress) -> Choice:
     """One of each kind, in this order. Raises `Unfit` where none of a kind are made."""
-    puzzles: List[Puzzle] = []
-    told: List[str] = []
-    numbers: Dict[Form, int] = {}
-    exhausted: Set[Kind] = set()
+    found = Seeded(seeds)
     for kind in wanted:
-        puzzle = None if kind in exhausted else _next(seeds, kind, numbers, {puzzle.id for puzzle in puzzles})
-        if puzzle is None:
-            exhausted.add(kind)
-            continue
-        puzzles.append(puzzle)
-        earlier = numbers.setdefault(form(puzzle.answer), len(puzzles))
-        if earlier != len(puzzles):
-            told.append(f'Puzzles {earlier} and {len(puzzles)} have one solution, perhaps turned over: {TRIES} seeds gave no other one.')
-        progress(len(puzzles))
-    if len(puzzles) < len(wanted):
-        told.append(f'There are {len(puzzles)} puzzles, not {len(wanted)}: {TRIES} seeds gave none that is not there already.')
-    return Choice(puzzles, told)
-
-
-def _next(seeds: Seeds, kind: Kind, forms: Dict[Form, int], ids: Set[str]) -> Optional[Puzzle]:
-    """The next puzzle with a new solution; after many seeds without one the first that is new at all, or nothing."""
-    spare: Optional[Puzzle] = None
-    for _, puzzle in zip(range(TRIES), seeds.puzzles(kind)):
-        if form(puzzle.answer) not in forms:
-            return puzzle
-        if spare is None and puzzle.id not in ids:
-            spare = puzzle
-    return spare
+        found.add(kind)
+        progress(len(found.puzzles))
+    told: List[str] = []
+    count = len(found.puzzles)
+    if found.alike:
+        told.append(f'{found.alike} of the {count} puzzles have the solution of an earlier one, perhaps turned over: {TRIES} seeds gave no new one')
+    if count < len(wanted):
+        told.append(f'there are {count} puzzles, not {len(wanted)}: {TRIES} seeds gave none that is not there already')
+    return Choice(found.puzzles, told)
 
 
 class Entry(NamedTuple):

@@ -4,6 +4,7 @@ from __future__ import annotations
 
 import re
 import textwrap
+from functools import lru_cache
 from typing import Iterator, List, NamedTuple, Optional, Sequence
 
 from board.board import GAMES
@@ -98,6 +99,11 @@ def letters(room: int, font: int) -> int:
     return room * 100 // (font * measures.LETTER)
 
 
+def id_letters(room: int, font: int) -> int:
+    """The same of an ID, or of a command, whose letters are all as wide."""
+    return room * 100 // (font * measures.ID_LETTER)
+
+
 def lines(text: str, room: int, font: int) -> int:
     """How many lines a text takes."""
     return len(textwrap.wrap(text, letters(room, font)))
@@ -113,6 +119,7 @@ def id_pieces(id: str) -> List[str]:
     return re.findall(f'[^{ENDS}]*[{ENDS}]|[^{ENDS}]+', id)
 
 
+@lru_cache(maxsize=None)
 def id_lines(id: str, most: int) -> int:
     """How many lines of so many letters an ID takes, where each piece that is too long for the rest of a line begins a new one."""
     count, used = 1, 0
@@ -179,7 +186,7 @@ class Plan:
 
     def _caption_height(self, id: str, caption_width: int) -> int:
         density = self._density
-        of_id = id_lines(id, caption_width * 100 // (density.id * measures.ID_LETTER))
+        of_id = id_lines(id, id_letters(caption_width, density.id))
         return density.number_line + density.note_line * self._notes + density.id_line * of_id
 
 

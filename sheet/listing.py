@@ -1,4 +1,4 @@
-"""The steps of the answers, in columns. Each piece has a place of its own, so that nothing flows from one page into another."""
+"""The steps of the answers, in columns. Each block has a place of its own, so that nothing flows from one page into another."""
 
 from __future__ import annotations
 
@@ -10,11 +10,12 @@ from sheet.markup import Markup, fill, joined
 from sheet.measures import length
 from sheet.steps import Step
 
-#: Between two columns, and below a piece.
-COLUMN_GAP, GAP = 600, 90
+#: Between two columns, and below a block.
+COLUMN_GAP, GAP = 600, 150
 
-PIECE = Template('<div class="steps" style="left:$left;top:$top;width:$width;height:$height">$head<p><b>$label.</b> $text</p></div>\n')
+BLOCK = Template('<div class="steps" style="left:$left;top:$top;width:$width;height:$height">$content</div>\n')
 HEAD = Template('<p><b>$number</b> $grade</p>')
+STEP = Template('<p><b>$label.</b> $text</p>')
 
 
 class Explained(NamedTuple):
@@ -25,9 +26,9 @@ class Explained(NamedTuple):
 
 
 class Piece(NamedTuple):
-    head: Markup
-    label: str
-    text: str
+    """Some paragraphs that stay together, and how many lines they take at most."""
+
+    content: Markup
     lines: int
 
 
@@ -38,25 +39,36 @@ def sections(paper: Paper, every: Sequence[Explained]) -> Iterator[Markup]:
     room = paper.height - paper.print.head - paper.print.foot
     placed: List[Markup] = []
     column, used = 0, 0
-    for piece in pieces(every, width, font):
-        height = min(room, piece.lines * font * 5 // 4 + GAP)
+    for piece in (piece for explained in every for piece in _blocks(_pieces(explained, width, font), room // (font * 5 // 4) - 1)):
+        height = piece.lines * font * 5 // 4 + GAP
         if used + height > room:
             column, used = column + 1, 0
         if column == columns:
             yield joined(placed)
             placed, column = [], 0
-        left, top = column * (width + COLUMN_GAP), paper.print.head + used
-        place = {'left': length(left), 'top': length(top), 'width': length(width), 'height': length(height)}
-        placed.append(fill(PIECE, head=piece.head, label=piece.label, text=piece.text, **place))
+        place = {'left': column * (width + COLUMN_GAP), 'top': paper.print.head + used, 'width': width, 'height': height}
+        placed.append(fill(BLOCK, content=piece.content, **{name: length(value) for name, value in place.items()}))
         used += height
     yield joined(placed)
 
 
-def pieces(every: Sequence[Explained], width: int, font: int) -> Iterator[Piece]:
-    """A piece for each step; the first one of a puzzle has the puzzle's number above."""
-    for numbered, steps in every:
-        head = fill(HEAD, number=numbered.number, grade=numbered.puzzle.grade)
-        for step in steps:
-            label = f'Step {step.number}{", the hardest" if step.is_hardest else ""}'
-            yield Piece(head, label, step.text, lines(f'{label}. {step.text}', width, font) + (1 if head else 0))
-            head = Markup('')
+def _pieces(explained: Explained, width: int, font: int) -> Iterator[Piece]:
+    """A piece for each step; the first one has the puzzle's number above."""
+    puzzle = explained.numbered.puzzle
+    head = fill(HEAD, number=explained.numbered.number, grade=puzzle.grade)
+    for step in explained.steps:
+        label = f'Step {step.number}{", the hardest" if step.is_hardest else ""}'
+        content = joined([head, fill(STEP, label=label, text=step.text)])
+        yield Piece(content, lines(f'{label}. {step.text}', width, font) + (1 if head else 0))
+        head = Markup('')
+
+
+def _blocks(pieces: Iterator[Piece], most: int) -> Iterator[Piece]:
+    """As many pieces together as a column has room for."""
+    block = Piece(Markup(''), 0)
+    for piece in pieces:
+        if block.lines and block.lines + piece.lines > most:
+            yield block
+            block = Piece(Markup(''), 0)
+        block = Piece(joined([block.content, piece.content]), min(most, block.lines + piece.lines))
+    yield block

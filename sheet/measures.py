@@ -40,6 +40,8 @@ class Print(NamedTuple):
     rules: int
     name: int
     footer: int
+    #: The command in the foot.
+    command: int
     #: Of answers: the number above, with what it takes, and the gap between two columns.
     answer_number: int
     answer_head: int
@@ -51,8 +53,8 @@ class Print(NamedTuple):
     strength: int
 
 
-USUAL = Print(920, 450, 529, 300, 318, 247, 300, 850, 400, 282, 2, 100)
-LARGE = Print(1650, 650, 917, 564, 564, 423, 635, 1600, 900, 564, 1, 120)
+USUAL = Print(920, 450, 529, 300, 318, 247, 198, 300, 850, 400, 282, 2, 100)
+LARGE = Print(1650, 650, 917, 564, 564, 423, 282, 635, 1600, 900, 564, 1, 120)
 
 
 class Density(NamedTuple):

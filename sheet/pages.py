@@ -67,7 +67,7 @@ class Sheet:
         self._title = plain(asked.form.title or '') or ' and '.join(GAMES[game] for game in layout.games_of(self._puzzles))
         #: By this who has cut out a puzzle finds its answer.
         self._code = hashlib.sha256('\n'.join(puzzle.id for puzzle in puzzles).encode()).hexdigest()[:4].upper()
-        room = layout.letters(self._paper.width * 7 // 10, self._paper.print.footer)
+        room = layout.id_letters(self._paper.width * 4 // 5, self._paper.print.command)
         self._again = plain(asked.titled if len(asked.titled) <= room else asked.again)
         self._pages = list(layout.pages(self._paper, self._puzzles, asked.form.per_page)) if asked.form.answers != 'only' else []
 

@@ -44,7 +44,7 @@ code{display:block;font-family:$id_fonts;font-variant-ligatures:none;overflow-wr
 .answers svg{margin:.6mm 0 0}
 .steps{position:absolute;overflow:hidden;font-size:$steps;line-height:1.25}
 footer{position:absolute;left:0;right:0;bottom:0;display:flex;justify-content:space-between;align-items:baseline;font-size:$footer;white-space:nowrap}
-footer code{font-size:80%}
+footer code{font-size:$command}
 @media screen{html{background:#ddd}section{box-sizing:content-box;background:#fff;border:10mm solid #fff;margin:6mm auto}}
 """)
 
@@ -69,4 +69,5 @@ def style(paper: Paper) -> str:
         answer_number=length(fonts.answer_number),
         steps=length(fonts.steps),
         footer=length(fonts.footer),
+        command=length(fonts.command),
     )

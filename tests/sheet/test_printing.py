@@ -1,0 +1,74 @@
+"""The page in a browser, and what it prints: so many pages, nothing cut, nothing over another thing, all IDs whole."""
+
+from __future__ import annotations
+
+import re
+from typing import Iterator, List, NamedTuple, Sequence
+
+import pytest
+
+from tests.harness import Room
+from tests.harness.browser import Browser
+from tests.sheet.making import Maker, content, stored
+from tests.sheet.printing import printed, value
+
+#: In points of a printer.
+PAPERS = {'a4': (595, 842), 'letter': (612, 792)}
+
+
+class Sheet(NamedTuple):
+    """The words, and how many pages the puzzles and the answers take."""
+
+    words: Sequence[str]
+    puzzles: Sequence[str]
+    pages: int
+    answers: int
+
+
+def sixes(caption: str = '') -> List[str]:
+    return [*stored('towers', 6, 6), *(f'{id} {caption}' for id in stored('unequal', 6, 6))]
+
+
+def nines() -> List[str]:
+    return [*stored('towers', 9, 4), *stored('unequal', 9, 4)]
+
+
+def sheets(paper: str) -> Iterator[Sheet]:
+    """A page holds fewer puzzles where their squares would be too small: twelve of size 6 on Letter, nines on both."""
+    is_a4 = paper == 'a4'
+    yield Sheet(['--per-page', '12'], sixes(), 1 if is_a4 else 2, 1)
+    yield Sheet(['--per-page', '9'], sixes('for Anna'), 2, 1)
+    yield Sheet(['--per-page', '4'], sixes('for Anna and Bert, who have done all the others ' * 5), 3, 1)
+    yield Sheet(['--per-page', '2'], sixes('for Anna'), 6, 1)
+    yield Sheet(['--per-page', '1', '--answers', 'none'], sixes('for Anna'), 12, 0)
+    yield Sheet(['--per-page', '12'], nines(), 3 if is_a4 else 5, 1)
+    yield Sheet(['--large'], [sixes()[0], sixes()[-1], nines()[0], nines()[-1]], 4, 1)
+    yield Sheet(['--answers', 'only', '--per-page', '12'], nines(), 0, 1)
+
+
+@pytest.mark.parametrize('paper', PAPERS)
+def test_pages(maker: Maker, room: Room, paper: str) -> None:
+    with Browser(room) as browser:
+        for sheet in sheets(paper):
+            expect_sheet(browser, room, maker, sheet, paper)
+
+
+def expect_sheet(browser: Browser, room: Room, maker: Maker, sheet: Sheet, paper: str) -> None:
+    ended = maker.run(['--ids', '-', '--paper', paper, *sheet.words], content(sheet.puzzles))
+    assert ended.status == 0, ended.error
+    found = printed(browser, room, ended.output.decode())
+    total = sheet.pages + sheet.answers
+    assert [len(found.texts), len(found.sticks_out)] == [total, total], sheet.words
+    assert (round(found.paper[0]), round(found.paper[1])) == PAPERS[paper]
+    assert found.sticks_out == [[0, 0, 0, 0, 0]] * total, sheet.words
+    assert found.is_free, sheet.words
+    code = re.search(r'Sheet ([0-9A-F]{4})\b', found.texts[0])
+    assert code
+    for number in range(1, total + 1):
+        assert all(number in found.pages_with(text) for text in (f'Sheet{code[1]}', f'{number}/{total}', 'puzzles-sheet--ids-'))
+    assert found.pages_with('Answers:') == list(range(sheet.pages + 1, total + 1))
+    for number, line in enumerate(sheet.puzzles, 1):
+        # The ID is whole, and stands on one page, with the number of the puzzle.
+        pages = found.pages_with(line.split()[0])
+        assert len(pages) == (1 if sheet.pages else 0), line
+        assert set(pages) <= set(found.pages_with(f'{code[1]}-{number}')), line
