@@ -100,8 +100,9 @@ class Parser(argparse.ArgumentParser):
 def read(words: Sequence[str]) -> Asked:
     """Raises `Wrong`."""
     found = _parser().parse_args(words)
-    if found.game is None and found.ids is None:
-        raise Wrong('GAME is towers or unequal')
+    if len(found.games) > 1 or not set(found.games) <= set(GAMES) or not (found.games or found.ids is not None):
+        raise Wrong(f'GAME is {" or ".join(GAMES)}')
+    found.game = found.games[0] if found.games else None
     if found.ids is not None and any(value is not None for value in (found.size, found.grade, found.seed)):
         raise Wrong('--ids goes without --size, --grade and --seed: the puzzles are there')
     if found.steps and found.answers == 'none':
@@ -120,7 +121,7 @@ def read(words: Sequence[str]) -> Asked:
 
 def _parser() -> Parser:
     parser = Parser(add_help=False, allow_abbrev=False)
-    parser.add_argument('game', nargs='?', choices=list(GAMES))
+    parser.add_argument('games', nargs='*')
     parser.add_argument('--size', type=_sizes)
     parser.add_argument('--grade')
     parser.add_argument('--seed', type=_number(0, SEEDS - 1))
