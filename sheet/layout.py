@@ -111,7 +111,7 @@ def lines(text: str, room: int, font: int) -> int:
 
 def note(puzzle: Puzzle, room: int, font: int, notes: int) -> str:
     """The puzzle's own caption, as far as so many lines have room for it."""
-    return shortened(puzzle.caption, letters(room, font) * notes - 6 * (notes - 1))
+    return shortened(puzzle.caption, letters(room, font) * notes - 6 * (notes - 1)) if puzzle.caption else ''
 
 
 def id_pieces(id: str) -> List[str]:

@@ -11,7 +11,7 @@ from board.board import GAMES
 from sheet import answers, drawing, layout, listing
 from sheet.layout import Figure, Numbered, Page, Paper
 from sheet.listing import Explained
-from sheet.markup import Markup, fill, joined, plain, safe
+from sheet.markup import Markup, fill, joined, plain, safe, shortened
 from sheet.measures import BOLD_BELOW, length
 from sheet.puzzles import Puzzle
 from sheet.steps import Step
@@ -43,7 +43,7 @@ FIGURE = Template("""\
 <p class="line" style="font-size:$number_font"><b>$number</b><span>$grade</span><i style="font-size:$note_font">$game $size × $size · $code-$number</i></p>
 $note<code$bold style="font-size:$id_font;line-height:$id_line">$id</code></figcaption></figure>
 """)
-NOTE = Template('<p class="note" dir="auto" style="font-size:$font;height:$height">$text</p>\n')
+NOTE = Template('<p class="note" dir="auto" style="font-size:$font;max-height:$height;-webkit-line-clamp:$lines">$text</p>\n')
 BREAK = Markup('<wbr>')
 BOLD = Markup(' class="small"')
 
@@ -68,7 +68,7 @@ class Sheet:
         #: By this who has cut out a puzzle finds its answer.
         self._code = hashlib.sha256('\n'.join(puzzle.id for puzzle in puzzles).encode()).hexdigest()[:4].upper()
         room = layout.id_letters(self._paper.width * 4 // 5, self._paper.print.command)
-        self._again = plain(asked.titled if len(asked.titled) <= room else asked.again)
+        self._again = shortened(plain(asked.titled if len(asked.titled) <= room else asked.again), room)
         self._pages = list(layout.pages(self._paper, self._puzzles, asked.form.per_page)) if asked.form.answers != 'only' else []
 
     def html(self) -> str:
@@ -123,8 +123,8 @@ class Sheet:
         )
 
     def _note(self, page: Page, figure: Figure) -> Markup:
-        """The lines of the puzzle's own caption; they are free where other puzzles of the page alone have one."""
-        if not page.notes:
-            return Markup('')
+        """The puzzle's own caption, where it has one."""
         text = layout.note(figure.numbered.puzzle, figure.caption_width, page.density.note, page.notes)
-        return fill(NOTE, font=length(page.density.note), height=length(page.density.note_line * page.notes), text=text)
+        if not text:
+            return Markup('')
+        return fill(NOTE, font=length(page.density.note), height=length(page.density.note_line * page.notes), lines=page.notes, text=text)

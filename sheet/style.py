@@ -36,7 +36,7 @@ figcaption{flex:none;padding-top:.8mm;overflow:hidden}
 .line{display:flex;align-items:baseline;white-space:nowrap;line-height:1.2}
 .line span{font-size:85%;margin-left:1.2mm}
 .line i{font-style:normal;margin-left:auto}
-.note{line-height:1.25;overflow:hidden;overflow-wrap:anywhere;unicode-bidi:isolate}
+.note{display:-webkit-box;-webkit-box-orient:vertical;line-height:1.25;overflow:hidden;overflow-wrap:anywhere;unicode-bidi:isolate}
 code{display:block;font-family:$id_fonts;font-variant-ligatures:none;overflow-wrap:anywhere}
 .small{font-weight:700}
 .answers{display:flex;column-gap:$answer_gap}

@@ -6,7 +6,7 @@ import os
 import re
 import shutil
 import subprocess
-from typing import Any, List, NamedTuple, Sequence, Tuple
+from typing import List, NamedTuple, Sequence, Tuple
 
 from tests.harness import Room, Skip
 from tests.harness.browser import Browser
@@ -16,8 +16,8 @@ TOOLS = ['pdfinfo', 'pdftotext', 'pdftoppm']
 #: Dots on an inch, for a look at the edges; and how many of them are free there: 8 mm of the 10 that are owed.
 DOTS, FREE = 25, 8
 
-#: What sticks out of its place in a section, in points of a screen: below the foot, right and left of the page, out of a caption; and
-#: whether a picture or a caption lies over another one.
+#: What sticks out of its place in a section, in points of a screen: below the foot, right and left of the page, out of a caption, out of a
+#: line; and how many pictures and captions lie over another one.
 MEASURE = """
 [...document.querySelectorAll('section')].map(section => {
   const page = section.getBoundingClientRect(), foot = section.querySelector('footer').getBoundingClientRect()
@@ -25,10 +25,11 @@ MEASURE = """
   const boxes = inside.map(each => each.getBoundingClientRect()), own = section.querySelectorAll('svg, figcaption')
   const apart = [...own].map(each => each.getBoundingClientRect())
   const over = apart.filter((a, n) => apart.some((b, m) => m < n && a.left < b.right - 1 && b.left < a.right - 1 && a.top < b.bottom - 1 && b.top < a.bottom - 1))
-  const held = [...section.querySelectorAll('figcaption, .note, .steps, section')]
+  const held = [...section.querySelectorAll('figcaption, .steps')], lines = [...section.querySelectorAll('.line, footer')]
   return [
     Math.max(...boxes.map(box => box.bottom)) - foot.top, Math.max(...boxes.map(box => box.right)) - page.right,
-    page.left - Math.min(...boxes.map(box => box.left)), Math.max(0, ...held.map(each => each.scrollHeight - each.clientHeight)), over.length,
+    page.left - Math.min(...boxes.map(box => box.left)), Math.max(0, ...held.map(each => each.scrollHeight - each.clientHeight)),
+    Math.max(0, ...lines.map(each => each.scrollWidth - each.clientWidth)), over.length,
   ].map(length => Math.max(0, Math.round(length)))
 })
 """
@@ -52,8 +53,7 @@ class Printed(NamedTuple):
 
 def printed(browser: Browser, room: Room, page: str) -> Printed:
     need_tools()
-    room.put('page.html', page.encode())
-    browser.show(os.path.join(room.path, 'page.html'))
+    shown(browser, room, page)
     sticks_out = browser.value(MEASURE)
     path = os.path.join(room.path, 'page.pdf')
     room.put('page.pdf', browser.printed())
@@ -89,8 +89,6 @@ def edges(page: Sequence[bytes]) -> List[bytes]:
     return [*page[:FREE], *page[-FREE:], *(row[:FREE] + row[-FREE:] for row in page)]
 
 
-def value(browser: Browser, room: Room, page: str, script: str) -> Any:
-    """What an expression is worth in a page."""
+def shown(browser: Browser, room: Room, page: str) -> None:
     room.put('page.html', page.encode())
     browser.show(os.path.join(room.path, 'page.html'))
-    return browser.value(script)

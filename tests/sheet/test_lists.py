@@ -2,7 +2,8 @@
 
 from __future__ import annotations
 
-from typing import List, NamedTuple
+import itertools
+from typing import Iterator, List, NamedTuple
 
 import pytest
 
@@ -128,11 +129,13 @@ def test_of_a_bank(maker: Maker) -> None:
     assert len({tuple(min(turned(answer))) for answer in answers}) == 24
 
 
-def turned(numbers: List[int]) -> List[List[int]]:
+def turned(numbers: List[int]) -> Iterator[List[int]]:
     """A square of Unequal in all its positions, with its numbers in reverse, too; by places, and not by rows."""
     size = round(len(numbers) ** 0.5)
-    places = [(x, y) for y in range(size) for x in range(size)]
-    ways = [lambda x, y: (x, y), lambda x, y: (size - 1 - x, y), lambda x, y: (x, size - 1 - y), lambda x, y: (size - 1 - x, size - 1 - y)]
-    found = [[numbers[size * b + a] for a, b in (way(x, y) for x, y in places)] for way in ways]
-    found += [[numbers[size * a + b] for a, b in (way(x, y) for x, y in places)] for way in ways]
-    return found + [[size + 1 - number for number in each] for each in found]
+    for is_turned, across, down, is_reversed in itertools.product([False, True], repeat=4):
+        found = []
+        for x, y in itertools.product(range(size), repeat=2):
+            column, row = (size - 1 - x if across else x), (size - 1 - y if down else y)
+            number = numbers[size * column + row if is_turned else size * row + column]
+            found.append(size + 1 - number if is_reversed else number)
+        yield found

@@ -10,7 +10,7 @@ import pytest
 from tests.harness import Room
 from tests.harness.browser import Browser
 from tests.sheet.making import Maker, content, stored
-from tests.sheet.printing import printed, value
+from tests.sheet.printing import MEASURE, printed, shown
 
 #: In points of a printer.
 PAPERS = {'a4': (595, 842), 'letter': (612, 792)}
@@ -60,7 +60,7 @@ def expect_sheet(browser: Browser, room: Room, maker: Maker, sheet: Sheet, paper
     total = sheet.pages + sheet.answers
     assert [len(found.texts), len(found.sticks_out)] == [total, total], sheet.words
     assert (round(found.paper[0]), round(found.paper[1])) == PAPERS[paper]
-    assert found.sticks_out == [[0, 0, 0, 0, 0]] * total, sheet.words
+    assert not any(map(any, found.sticks_out)), sheet.words
     assert found.is_free, sheet.words
     code = re.search(r'Sheet ([0-9A-F]{4})\b', found.texts[0])
     assert code
@@ -72,3 +72,33 @@ def expect_sheet(browser: Browser, room: Room, maker: Maker, sheet: Sheet, paper
         pages = found.pages_with(line.split()[0])
         assert len(pages) == (1 if sheet.pages else 0), line
         assert set(pages) <= set(found.pages_with(f'{code[1]}-{number}')), line
+
+
+#: Titles and captions that want to be more than text.
+HOSTILE = [
+    '<script>hit = 1</script><img src=x onerror="hit = 1">',
+    '</title></style></bdi></h1></section><p onclick=\'hit = 1\'>"quoted" & \'quoted\' &amp; $code ${code} $$',
+    'A' * 10_000,
+    'long words ' * 900,
+    'שלום עולם, a title of both kinds (in brackets)',
+    '\u202eback and forth\u202c 漢字漢字漢字 é́́ 🧩',
+]
+
+#: Whether something was run, what the page fetches or could run, the title, those above the pages, and the captions.
+LOOK = """[
+  typeof hit, performance.getEntriesByType('resource').length, document.querySelectorAll('script, link, img, iframe, [src], [href], [onerror], [onclick]').length,
+  document.title, [...new Set([...document.querySelectorAll('bdi')].map(each => each.textContent))], document.querySelectorAll('.note').length,
+]"""
+
+
+def test_hostile(maker: Maker, room: Room) -> None:
+    """Titles and captions are text, whatever stands in them; and what is measured is seen where it is wrong."""
+    with Browser(room) as browser:
+        for text in HOSTILE:
+            page = maker.page(['--ids', '-', f'--title={text}', '--per-page', '12'], content([f'{sixes()[0]} {text}', *sixes()[1:5]]))
+            shown(browser, room, page)
+            title = ' '.join(text.split())
+            assert browser.value(LOOK) == ['undefined', 0, 0, title, [title], 1]
+            assert not any(map(any, browser.value(MEASURE))), text[:40]
+        shown(browser, room, re.sub('line-height:2', 'line-height:4', page))
+        assert any(map(any, browser.value(MEASURE)))
