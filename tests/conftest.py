@@ -9,7 +9,7 @@ from typing import Iterator, List, NamedTuple
 import pytest
 
 #: What the cases of each folder share says of an assertion what pytest says.
-for name in ('harness', 'saving.game', 'lines.runs', 'board.front', 'board.playing', 'exchange.sides', 'faults', 'installing.site', 'objects.worked_lines', 'scripts.small'):
+for name in ('harness', 'saving.game', 'lines.runs', 'board.front', 'board.playing', 'exchange.sides', 'faults', 'installing.site', 'objects.worked_lines', 'scripts.small', 'sheet'):
     pytest.register_assert_rewrite(f'tests.{name}')
 
 from building.ready import NotReady, ready

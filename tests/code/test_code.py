@@ -16,7 +16,7 @@ from tests.harness.builds import TOP
 SETTINGS = TOP / 'tests' / 'code'
 
 #: The folders with Python, but the clients in docs/, which the documents show word by word.
-FOLDERS = ['bench', 'board', 'tests', 'tools']
+FOLDERS = ['bench', 'board', 'sheet', 'tests', 'tools']
 
 
 def scripts(*commands: str) -> List[str]:

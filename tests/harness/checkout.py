@@ -13,7 +13,7 @@ from tests.harness.room import Room
 from tests.harness.users import User
 
 #: What of the repository is copied: folders and files.
-PARTS = ['.ci', 'board', 'tests', 'tools', 'man', 'docs', 'bench', 'Makefile', 'README.md', 'CHANGELOG.md', 'LICENSE', 'VERSION', 'COMMIT', '.gitattributes', '.gitignore']
+PARTS = ['.ci', 'board', 'sheet', 'tests', 'tools', 'man', 'docs', 'bench', 'Makefile', 'README.md', 'CHANGELOG.md', 'LICENSE', 'VERSION', 'COMMIT', '.gitattributes', '.gitignore']
 
 
 class Checkout:

@@ -13,7 +13,7 @@ from tests.objects import schema
 from tests.objects.reading import OWN_LINES
 from tests.texts import sources
 from tests.texts.parts import ROOT, differences, found, lacking, part, read
-from tests.texts.test_completions import play_options
+from tests.texts.test_completions import play_options, sheet_options
 from tests.texts.test_users import wanted
 
 #: The types of faults of which no number is in the definitions.
@@ -54,7 +54,7 @@ def words(text: str, pattern: str) -> List[str]:
 
 
 def named_options(page: str) -> List[str]:
-    return found(r'Fl -(\w+)', '\n'.join(found(r'^\.It (.*)$', part(page, '.Ss Options', r'^\.S[hs]'))))
+    return found(r'Fl -([\w-]+)', '\n'.join(found(r'^\.It (.*)$', part(page, '.Ss Options', r'^\.S[hs]'))))
 
 
 def too_wide(shown: str) -> Iterator[str]:
@@ -90,6 +90,10 @@ def test_board(room: Room) -> None:
     assert list(differences(named_options(page), play_options(room))) == [], 'options'
     own = set(found(r'^    \'  ([a-z]{4,})\b', part(read('board/manual.py'), 'LINES', 'and the program'))) - {'pencil'}
     assert list(lacking(own, set(re.findall(r'\w+', part(page, '.Ss The line mode', r'^\.Sh'))))) == [], 'the line mode'
+
+
+def test_sheet(room: Room) -> None:
+    assert list(differences(named_options(read('man/puzzles-sheet.6')), sheet_options(room))) == []
 
 
 @pytest.mark.parametrize(('kind', 'names'), {**sources.faults(), **ONE_FAULT}.items())
