@@ -10,7 +10,7 @@ import select
 import shutil
 import subprocess
 import time
-from typing import Any, Dict, Mapping
+from typing import Any, Mapping
 
 from tests.harness.room import Room
 from tests.harness.skip import Skip
@@ -50,8 +50,9 @@ class Browser:
             stderr=subprocess.DEVNULL,
             start_new_session=True,
         )
-        window = self._ask('Target.createTarget', url='about:blank')['targetId']
-        self._session: Dict[str, str] = {'sessionId': self._ask('Target.attachToTarget', targetId=window, flatten=True)['sessionId']}
+        window = self._ask('Target.createTarget', {}, {'url': 'about:blank'})['targetId']
+        attached = self._ask('Target.attachToTarget', {}, {'targetId': window, 'flatten': True})
+        self._session: Mapping[str, str] = {'sessionId': attached['sessionId']}
         self.ask('Page.enable')
 
     def __enter__(self) -> Browser:
@@ -80,11 +81,12 @@ class Browser:
         return found['result'].get('value')
 
     def ask(self, method: str, **parameters: Any) -> Mapping[str, Any]:
-        return self._ask(method, self._session, **parameters)
+        """Has the window do something, by the names of Chromium's protocol."""
+        return self._ask(method, self._session, parameters)
 
-    def _ask(self, method: str, more: Mapping[str, str] = {}, **parameters: Any) -> Mapping[str, Any]:
+    def _ask(self, method: str, session: Mapping[str, str], parameters: Mapping[str, Any]) -> Mapping[str, Any]:
         self._number += 1
-        message = json.dumps({'id': self._number, 'method': method, 'params': parameters, **more}).encode() + END
+        message = json.dumps({'id': self._number, 'method': method, 'params': parameters, **session}).encode() + END
         while message:
             message = message[os.write(self._to, message) :]
         while True:

@@ -17,9 +17,9 @@ SEEDED = 15
 class Maker:
     """The command, over a program, with what else its environment has."""
 
-    def __init__(self, program: str, room: Room, more: Mapping[str, str] = {}) -> None:
+    def __init__(self, program: str, room: Room, more: Optional[Mapping[str, str]] = None) -> None:
         self.room = room
-        self._env = {'PUZZLES_JSON': program, **more}
+        self._env = {'PUZZLES_JSON': program, **(more or {})}
 
     def run(self, words: Sequence[str], input: bytes = b'', folder: Optional[Folder] = None, **how: Any) -> Ended:
         return run([PATH, *words], folder or self.room, input=input, env={**self._env, **how.pop('env', {})}, **how)
