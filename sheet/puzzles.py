@@ -20,6 +20,8 @@ class Puzzle(NamedTuple):
     #: At its start, and with the numbers of its only solution.
     board: Board
     answer: Board
+    #: Of its grade; nothing where none is known.
+    letter: str
     caption: str = ''
 
     @property
@@ -36,8 +38,8 @@ class Puzzle(NamedTuple):
 
     @property
     def grade(self) -> str:
-        """The name of the grade that its ID has; nothing where it has none."""
-        return GRADES[self.game].get(self.board.session.letter, '').title()
+        """The name of its grade, or nothing."""
+        return GRADES[self.game].get(self.letter, '').title()
 
 
 class Programs:
@@ -84,8 +86,14 @@ def proved(programs: Programs, game: str, caption: str = '') -> Puzzle:
     ways = programs.ask(game, 'completable').completable
     if ways != 'one':
         raise Unfit(NOT_ONE.get(str(ways), 'it is not known how many solutions there are'))
+    letter = _letter(programs, game) or board.session.letter
     programs.ask(game, 'solve')
     answer = programs.board(game)
     if not answer.is_solved or answer.session.id != board.session.id:
         raise Gone('it has shown one solution, and tells none')
-    return Puzzle(board, answer, caption)
+    return Puzzle(board, answer, letter, caption)
+
+
+def _letter(programs: Programs, game: str) -> str:
+    """Of the grade by whose steps the puzzle follows, as the program finds; nothing where it finds none, or tells of no grades."""
+    return programs.object(game, 'grade').get('grade') or ''

@@ -60,10 +60,12 @@ def _chosen(steps: List[Step], is_solved: bool) -> List[Step]:
 
 
 def _hinted(programs: Programs, game: str) -> Optional[Hinted]:
-    """The next hint; nothing where no number follows."""
+    """The next hint; nothing where no number follows, or steps don't explain it."""
     hint = programs.object(game, 'hint').get('hint') or {}
     if hint.get('cell') is None:
         return None
-    if not hint.get('text'):
+    if 'text' not in hint:
         raise Unfit(NO_SENTENCES)
+    if not hint['text']:
+        return None
     return Hinted(hint['cell'], hint['number'], hint.get('grade'), len(hint.get('steps') or []), ' '.join(hint['text']))

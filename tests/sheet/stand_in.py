@@ -1,6 +1,6 @@
 #!/usr/bin/env python3
-"""Stands for puzzles-json where that is to do more than it does yet: `fair SIZE LETTER SEED` begins a seeded puzzle with a letter, and hints
-have sentences. What PROGRAM names does all the rest.
+"""Stands for puzzles-json where that is to do more than it does yet: `fair SIZE LETTER SEED` begins a seeded puzzle with a letter, hints have
+sentences, and each puzzle has the grade whose letter GRADE has, if any. What PROGRAM names does all the rest.
 
     stand_in.py GAME
 """
@@ -11,7 +11,7 @@ import json
 import os
 import subprocess
 import sys
-from typing import Any, Dict
+from typing import Any, Callable, Dict
 
 #: The letters of the grades that it makes, and the sizes.
 LETTERS, SIZES = {'towers': 'eh', 'unequal': 'tek'}, ['3', '4', '5', '6']
@@ -40,6 +40,9 @@ class Program:
         id = self.ask(f'new {size}!{seed}')['session']['id']
         return self.ask(f'new {size}d{letter}:{id.partition(":")[2]}')
 
+    def grade(self) -> Dict[str, Any]:
+        return {**self.ask('status'), 'reply': [], 'grade': os.environ.get('GRADE') or None}
+
     def hint(self) -> Dict[str, Any]:
         answer = self.ask('hint')
         hint = answer['hint']
@@ -52,10 +55,10 @@ class Program:
 
 def main(game: str) -> None:
     program = Program(game)
+    own: Dict[str, Callable[..., Dict[str, Any]]] = {'fair': program.fair, 'grade': program.grade, 'hint': program.hint}
     for line in sys.stdin:
-        words = line.split()
-        answer = program.fair(*words[1:]) if words[0] == 'fair' else program.hint() if words == ['hint'] else program.ask(line.rstrip('\n'))
-        print(json.dumps(answer), flush=True)
+        first, *words = line.split()
+        print(json.dumps(own[first](*words) if first in own else program.ask(line.rstrip('\n'))), flush=True)
 
 
 if __name__ == '__main__':

@@ -10,7 +10,8 @@ import pytest
 from board.program import Program
 from tests.harness import Room, by_name
 from tests.harness.builds import TOP
-from tests.sheet.making import Maker
+from tests.harness.game import ID
+from tests.sheet.making import Maker, content
 from tests.sheet.reading import pictures
 
 STAND_IN = str(TOP / 'tests' / 'sheet' / 'stand_in.py')
@@ -77,6 +78,14 @@ def test_steps(fair: Maker) -> None:
         assert all('&amp; no other.' in text or text == 'After that no number follows by such steps.' for *_, text in steps)
 
 
+def test_grade(fair: Maker) -> None:
+    """It is the program's; where the program finds none, that of the ID's letter."""
+    two = content(['3:3//////3/////', '3de:3//////3/////,1h'])
+    for letter, grades in (('h', ['3 Hard', '3 Hard']), ('', ['3 Easy'])):
+        ended = fair.run(['--ids', '-'], two, env={'GRADE': letter})
+        assert captions(ended.output.decode()) == grades
+
+
 class Refused(NamedTuple):
     name: str
     words: Sequence[str]
@@ -115,3 +124,17 @@ def test_program(maker: Maker, objects: str) -> None:
     else:
         assert (ended.status, ended.output) == (3, b'')
         assert ended.error.startswith(b'The program makes no puzzles by grade yet')
+
+
+def test_sentences(maker: Maker, objects: str) -> None:
+    """The program itself tells steps, or it is said that it doesn't."""
+    program = Program(objects, 'towers', ['--id', ID])
+    knows = 'text' in program.object('hint')['hint']
+    program.stop()
+    ended = maker.run(['--ids', '-', '--steps'], content([ID]))
+    if knows:
+        assert (ended.status, ended.error) == (0, b'')
+        assert 'Step 1' in ended.output.decode()
+    else:
+        assert (ended.status, ended.output) == (3, b'')
+        assert ended.error == b"The program's hints have no sentences, so no steps can be told: leave out --steps.\n"
