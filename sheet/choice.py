@@ -4,7 +4,7 @@ from __future__ import annotations
 
 from typing import Callable, Dict, Iterator, List, NamedTuple, Optional, Sequence, Set, Tuple
 
-from sheet.fair import Kind, Seeds, TRIES
+from sheet.fair import TRIES, Kind, Seeds
 from sheet.likeness import Form, form
 from sheet.lists import Line, puzzle_of
 from sheet.puzzles import Programs, Puzzle, Unfit
@@ -108,7 +108,7 @@ def of_list(programs: Programs, lines: Sequence[Line], game: Optional[str], coun
     # Those that are alike fill up what is lacking.
     kept = alike[: (count or len(lines)) - len(new)]
     told = [f'line {entry.line}: it has the solution of line {entry.like}, perhaps turned over' for entry in kept]
-    return Choice([entry.puzzle for entry in sorted(new + kept)], told)
+    return Choice([entry.puzzle for entry in sorted(new + kept, key=lambda entry: entry.line)], told)
 
 
 def _readable(programs: Programs, lines: Sequence[Line], game: Optional[str], wrong: List[str]) -> Iterator[Tuple[Line, Puzzle]]:

@@ -2,7 +2,7 @@
 
 from __future__ import annotations
 
-from typing import Iterator, List, NamedTuple, Sequence
+from typing import Dict, Iterator, List, NamedTuple, Sequence
 
 from board.board import GAMES
 from board.games import GRADES
@@ -16,7 +16,7 @@ TRIES = 60
 
 #: What there is to say where a puzzle isn't made.
 REFUSED = {
-    'BadCommand': "The program makes no puzzles by grade yet: it doesn't know 'fair'. With --ids it prints those that there are.",
+    'BadCommand': "The program makes no puzzles by grade, as it doesn't know 'fair'; --ids prints puzzles that there are.",
     'BadSize': '{game} of size {size} is not made by grade.',
     'BadLetter': '{game} of size {size} is not made {grade}.',
     'BadSeed': 'A seed is a number from 0 to 18446744073709551615.',
@@ -65,7 +65,7 @@ class Seeds:
                 raise Unfit(NONE_FOUND.format(tries=tries, seed=seed, **_words(kind)))
 
     def _has_begun(self, kind: Kind, seed: int) -> bool:
-        """The one place where a game is asked for. False where that seed has none."""
+        """Asks for the game of a seed; this is the one place that does. False where that seed has none."""
         refused = self._programs.ask(kind.game, f'fair {kind.size} {kind.letter} {seed}').refused
         if refused not in (None, 'NoneFound'):
             text = REFUSED.get(str(refused), 'The program refuses that: {name}.')
@@ -73,5 +73,5 @@ class Seeds:
         return refused is None
 
 
-def _words(kind: Kind) -> dict[str, object]:
+def _words(kind: Kind) -> Dict[str, object]:
     return {'game': GAMES[kind.game], 'size': kind.size, 'grade': GRADES[kind.game][kind.letter]}

@@ -110,7 +110,7 @@ def lines(text: str, room: int, font: int) -> int:
 
 
 def note(puzzle: Puzzle, room: int, font: int, notes: int) -> str:
-    """The puzzle's own caption, as far as so many lines have room for it."""
+    """The puzzle's own caption, as far as so many lines have room for it; each but the last may lose a word."""
     return shortened(puzzle.caption, letters(room, font) * notes - 6 * (notes - 1)) if puzzle.caption else ''
 
 
@@ -145,10 +145,9 @@ class Plan:
 
     def __init__(self, paper: Paper, density: Density, some: Sequence[Numbered]) -> None:
         self._density, self._some, self._strength = density, some, paper.print.strength
-        room = paper.room(games_of(some))
-        self._spare = room
+        self._room = paper.room(games_of(some))
         self._width = (paper.width - measures.COLUMN_GAP * (density.columns - 1)) // density.columns
-        self._height = (room - measures.ROW_GAP * (density.rows - 1)) // density.rows
+        self._height = (self._room - measures.ROW_GAP * (density.rows - 1)) // density.rows
         note_width = self._width if density.columns > 1 else measures.WIDEST_CAPTION
         longest = max((width(each.puzzle.caption) for each in some), default=0)
         self._notes = min(MOST_NOTES, -(-longest // letters(note_width, density.note)))
@@ -163,7 +162,7 @@ class Plan:
         figures = [Figure(each, fit.side, fit.caption_width) for each, fit in zip(self._some, fits)]
         caption_height = fits[0].caption_height
         height = max(fit.full for fit in fits) + caption_height
-        gap = (self._spare - height * self._density.rows) // max(1, self._density.rows - 1)
+        gap = (self._room - height * self._density.rows) // max(1, self._density.rows - 1)
         return Page(self._density, figures, height, caption_height, self._notes, min(measures.MOST_ROW_GAP, gap))
 
     def _fits(self, least_height: int) -> List[Fit]:

@@ -53,19 +53,50 @@ class Print(NamedTuple):
     strength: int
 
 
-USUAL = Print(920, 450, 529, 300, 318, 247, 198, 300, 850, 400, 282, 2, 100)
-LARGE = Print(1650, 650, 917, 564, 564, 423, 282, 635, 1600, 900, 564, 1, 120)
+USUAL = Print(
+    head=920,
+    foot=450,
+    title=529,
+    rules=300,
+    name=318,
+    footer=247,
+    command=198,
+    answer_number=300,
+    answer_head=850,
+    answer_gap=400,
+    steps=282,
+    steps_columns=2,
+    strength=100,
+)
+LARGE = Print(
+    head=1650,
+    foot=650,
+    title=917,
+    rules=564,
+    name=564,
+    footer=423,
+    command=282,
+    answer_number=635,
+    answer_head=1600,
+    answer_gap=900,
+    steps=564,
+    steps_columns=1,
+    strength=120,
+)
 
 
 class Density(NamedTuple):
-    """How many puzzles a page has, and how they are printed then: fonts, and what the lines of a caption take."""
+    """How many puzzles a page has, and how they are printed then."""
 
     columns: int
     rows: int
+    #: A square is never larger: it would look childish.
     most_side: int
+    #: The fonts of a caption.
     number: int
     note: int
     id: int
+    #: What its lines take.
     number_line: int
     note_line: int
     id_line: int
@@ -75,15 +106,15 @@ class Density(NamedTuple):
         return self.columns * self.rows
 
 
+ONE = Density(columns=1, rows=1, most_side=1800, number=423, note=247, id=229, number_line=590, note_line=310, id_line=255)
+TWO = ONE._replace(rows=2, most_side=1600)
+FOUR = TWO._replace(columns=2, most_side=1400)
+SIX = FOUR._replace(rows=3, most_side=1300, number=388, id=212, number_line=550, id_line=235)
+TWELVE = SIX._replace(columns=3, rows=4, most_side=1200, number=353, id=194, number_line=510, id_line=215)
+
 #: The densest first.
-DENSITIES = [
-    Density(3, 4, 1200, 353, 247, 194, 510, 310, 215),
-    Density(2, 3, 1300, 388, 247, 212, 550, 310, 235),
-    Density(2, 2, 1400, 423, 247, 229, 590, 310, 255),
-    Density(1, 2, 1600, 423, 247, 229, 590, 310, 255),
-    Density(1, 1, 1800, 423, 247, 229, 590, 310, 255),
-]
-LARGE_DENSITIES = [Density(1, 1, 2600, 847, 494, 423, 1110, 620, 520)]
+DENSITIES = [TWELVE, SIX, FOUR, TWO, ONE]
+LARGE_DENSITIES = [Density(columns=1, rows=1, most_side=2600, number=847, note=494, id=423, number_line=1110, note_line=620, id_line=520)]
 
 #: Below this font an ID is bold: a copier eats the strokes of small letters.
 BOLD_BELOW = 229

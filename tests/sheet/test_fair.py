@@ -123,7 +123,7 @@ def test_program(maker: Maker, objects: str) -> None:
         assert captions(ended.output.decode()) == ['5 Easy'] * 6 + ['5 Hard'] * 6
     else:
         assert (ended.status, ended.output) == (3, b'')
-        assert ended.error.startswith(b'The program makes no puzzles by grade yet')
+        assert ended.error.startswith(b'The program makes no puzzles by grade, ')
 
 
 def test_sentences(maker: Maker, objects: str) -> None:

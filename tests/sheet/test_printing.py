@@ -9,6 +9,7 @@ import pytest
 
 from tests.harness import Room
 from tests.harness.browser import Browser
+from tests.second_implementation.seeded import full_puzzle
 from tests.sheet.making import Maker, content, stored
 from tests.sheet.printing import MEASURE, printed, shown
 
@@ -33,16 +34,23 @@ def nines() -> List[str]:
     return [*stored('towers', 9, 4), *stored('unequal', 9, 4)]
 
 
+def full() -> List[str]:
+    """Puzzles of size 9 with the longest IDs: all that can be given is, and each has a long caption."""
+    square = tuple((x + y) % 9 + 1 for y in range(9) for x in range(9))
+    puzzles = [full_puzzle(game, 9, square)[0] for game in ('towers', 'unequal')]
+    return [f'9:{puzzle.description()} {"with all that can be given, and a long caption " * 5}' for puzzle in puzzles]
+
+
 def sheets(paper: str) -> Iterator[Sheet]:
     """A page holds fewer puzzles where their squares would be too small: twelve of size 6 on Letter, nines on both."""
     is_a4 = paper == 'a4'
     yield Sheet(['--per-page', '12'], sixes(), 1 if is_a4 else 2, 1)
     yield Sheet(['--per-page', '9'], sixes('for Anna'), 2, 1)
     yield Sheet(['--per-page', '4'], sixes('for Anna and Bert, who have done all the others ' * 5), 3, 1)
-    yield Sheet(['--per-page', '2'], sixes('for Anna'), 6, 1)
-    yield Sheet(['--per-page', '1', '--answers', 'none'], sixes('for Anna'), 12, 0)
+    yield Sheet(['--per-page', '2'], sixes('for Anna')[4:9], 3, 1)
+    yield Sheet(['--per-page', '1', '--answers', 'none'], sixes('for Anna')[5:7], 2, 0)
     yield Sheet(['--per-page', '12'], nines(), 3 if is_a4 else 5, 1)
-    yield Sheet(['--large'], [sixes()[0], sixes()[-1], nines()[0], nines()[-1]], 4, 1)
+    yield Sheet(['--large'], [sixes()[0], sixes()[-1], *full()], 4, 1)
     yield Sheet(['--answers', 'only', '--per-page', '12'], nines(), 0, 1)
 
 
