@@ -12,7 +12,7 @@ from sheet import answers, drawing, layout, listing
 from sheet.layout import Figure, Numbered, Page, Paper
 from sheet.listing import Explained
 from sheet.markup import Markup, fill, joined, plain, safe, shortened
-from sheet.measures import BOLD_BELOW, length
+from sheet.measures import BOLD_BELOW, CAPTION_TOP, length
 from sheet.puzzles import Puzzle
 from sheet.steps import Step
 from sheet.style import style
@@ -40,7 +40,7 @@ RULES = Template('<p class="rules"><b>$game.</b> $text</p>\n')
 PUZZLES = Template('<div class="puzzles columns$columns" style="row-gap:$gap">\n$figures</div>\n')
 FIGURE = Template("""\
 <figure style="height:$height">$picture<figcaption style="width:$width;height:$caption">
-<p class="line" style="font-size:$number_font"><b>$number</b><span>$grade</span><i style="font-size:$note_font">$game $size × $size · $code-$number</i></p>
+<p class="line" style="height:$line;font-size:$number_font"><b>$number</b><span>$grade</span><i style="font-size:$note_font">$game $size × $size · $code-$number</i></p>
 $note<code$bold style="font-size:$id_font;line-height:$id_line">$id</code></figcaption></figure>
 """)
 NOTE = Template('<p class="note" dir="auto" style="font-size:$font;max-height:$height;-webkit-line-clamp:$lines">$text</p>\n')
@@ -106,7 +106,8 @@ class Sheet:
         density, (number, puzzle) = page.density, figure.numbered
         name = drawing.title(f'Puzzle {number}', puzzle.board, puzzle.grade)
         svg = drawing.picture(puzzle.board, drawing.pen(puzzle.game, figure.side, self._paper.print.strength), name)
-        lengths = {'height': page.height, 'width': figure.caption_width, 'caption': page.caption_height}
+        line = density.number_line - CAPTION_TOP
+        lengths = {'height': page.height, 'width': figure.caption_width, 'caption': page.caption_height, 'line': line}
         fonts = {'number_font': density.number, 'note_font': density.note, 'id_font': density.id, 'id_line': density.id_line}
         return fill(
             FIGURE,

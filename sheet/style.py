@@ -5,7 +5,7 @@ from __future__ import annotations
 from string import Template
 
 from sheet.layout import Paper
-from sheet.measures import COLUMN_GAP, HEAD_GAP, SIDE, TOP, length
+from sheet.measures import CAPTION_TOP, COLUMN_GAP, HEAD_GAP, SIDE, TOP, length
 
 #: The letters of texts and of IDs. In these the 1, the l and the 0 differ, which IDs need.
 FONTS = 'Arial,"Liberation Sans",Helvetica,"DejaVu Sans",sans-serif'
@@ -32,7 +32,7 @@ figure{break-inside:avoid}
 .columns2 figure:nth-child(2n)::before,.columns3 figure:not(:nth-child(3n+1))::before
 {content:"";position:absolute;left:-2mm;top:0;bottom:0;border-left:.15mm dashed #000}
 svg{display:block;flex:none}
-figcaption{flex:none;padding-top:.8mm;overflow:hidden}
+figcaption{flex:none;padding-top:$above;overflow:hidden}
 .line{display:flex;align-items:baseline;white-space:nowrap;line-height:1.2}
 .line span{font-size:85%;margin-left:1.2mm}
 .line i{font-style:normal;margin-left:auto}
@@ -60,6 +60,7 @@ def style(paper: Paper) -> str:
         height=length(paper.height),
         gap=length(COLUMN_GAP),
         below=length(HEAD_GAP),
+        above=length(CAPTION_TOP),
         fonts=FONTS,
         id_fonts=ID_FONTS,
         title=length(fonts.title),
