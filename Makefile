@@ -1,5 +1,7 @@
 # make play       the board on the terminal, where the last game goes on; GAME=towers or GAME=unequal, ID= an ID or a save file; in a pipe
 #                 a game by the commands that come in, as echo show | make play
+# make sheet      puzzles on paper, as build/sheet.html, which is shown where there is a browser: GAME=towers or GAME=unequal, IDS= a list of IDs in
+#                 their place, and WORDS= what else puzzles-sheet takes, as WORDS='--size 4-6 --seed 7'
 # make            has both programs ready: those in programs/linux-amd64, where programs/RECORD says that they are of the sources here, so that nothing
 #                 is to be done; else it says that they aren't, and does as make build. All that tries or installs programs takes the same ones
 # make build      proves and builds both programs from the sources here, crates side by side, and leaves them as build/puzzles and build/puzzles-json; where
@@ -38,6 +40,7 @@ RT ?= rt
 GAME ?=
 ID ?=
 IDS ?=
+WORDS ?=
 SEED ?= 1
 COUNT ?= 22000
 MINUTES ?= 3
@@ -55,7 +58,7 @@ zshcompdir ?= $(datadir)/zsh/site-functions
 fishcompdir ?= $(datadir)/fish/vendor_completions.d
 DESTDIR ?=
 
-.PHONY: all build programs play test gate trust test-twins test-bodies test-faults test-saving test-json test-tools test-reference exchange bench hard climb check try must-fail fmt dist install uninstall installcheck clean help crate
+.PHONY: all build programs play sheet test gate trust test-twins test-bodies test-faults test-saving test-json test-tools test-reference exchange bench hard climb check try must-fail fmt dist install uninstall installcheck clean help crate
 
 # Prints the folder of the programs that are of the sources here, and builds them where there are none.
 WHERE = RT='$(RT)' tools/programs where
@@ -80,6 +83,15 @@ play:
 	@programs=$$($(WHERE)) || exit; \
 	if [ -t 0 ] && [ -t 1 ]; then PUZZLES_JSON="$${PUZZLES_JSON:-$$programs/puzzles-json}" exec board/puzzles-play "$${GAME:-$${ID:+towers}}" "$$ID"; \
 	else exec tools/play_in_pipe "$$programs/puzzles" "$$GAME" "$$ID"; fi
+
+sheet: export GAME := $(GAME)
+sheet: export IDS := $(IDS)
+sheet:
+	@programs=$$($(WHERE)) || exit; mkdir -p build; [ -n "$$GAME$$IDS" ] || GAME=towers; \
+	PUZZLES_JSON="$${PUZZLES_JSON:-$$programs/puzzles-json}" \
+	    sheet/puzzles-sheet $${GAME:+"$$GAME"} $${IDS:+--ids "$$IDS"} $(WORDS) --output build/sheet.html || exit; \
+	echo 'build/sheet.html is there: a browser shows and prints it'; \
+	if [ -n "$$DISPLAY$$WAYLAND_DISPLAY" ] && command -v xdg-open > /dev/null; then xdg-open build/sheet.html; fi
 
 test:
 	@$(TESTS)

@@ -1,4 +1,4 @@
-# Bash completion of puzzles, puzzles-json and puzzles-play: games, options that were not used yet, and files where there may be one.
+# Bash completion of puzzles, puzzles-json, puzzles-play and puzzles-sheet: games, options that were not used yet, and files where there may be one.
 # shellcheck shell=bash
 
 # The words before the cursor and after it, without the values of options and what comes after '='.
@@ -10,7 +10,9 @@ _puzzles_used() {
         if [[ $word == = ]]; then is_value=1; continue; fi
         if ((at != COMP_CWORD)) && [[ ! $is_value ]]; then printf ' %s ' "${word%%=*}"; fi
         is_value=
-        if [[ $word == --id || $word == --load || $word == --save ]]; then is_value=1; fi
+        case $word in
+            --id | --load | --save | --size | --grade | --seed | --count | --ids | --per-page | --answers | --title | --paper | --output) is_value=1 ;;
+        esac
     done
 }
 
@@ -61,5 +63,32 @@ _puzzles_play() {
     COMPREPLY=("${words[@]}" "${COMPREPLY[@]}")
 }
 
+_puzzles_sheet() {
+    local word=${COMP_WORDS[COMP_CWORD]} before=${COMP_WORDS[COMP_CWORD - 1]} prefix='' used option offered=()
+    used=$(_puzzles_used)
+    COMPREPLY=()
+    if [[ $before == = ]]; then
+        before=${COMP_WORDS[COMP_CWORD - 2]}
+    elif [[ $word == = ]]; then
+        word=''
+    elif [[ $word == --*=* ]]; then
+        before=${word%%=*} prefix=${word%%=*}= word=${word#*=}
+    fi
+    case $before in
+        --ids | --output) _puzzles_offer_files "$word" "$prefix"; return ;;
+        --grade) _puzzles_offer "$word" trivial easy tricky hard extreme unreasonable recursive; return ;;
+        --per-page) _puzzles_offer "$word" 1 2 4 6 12; return ;;
+        --answers) _puzzles_offer "$word" end none only; return ;;
+        --paper) _puzzles_offer "$word" a4 letter; return ;;
+        --size | --seed | --count | --title) return ;;
+    esac
+    [[ $used == *' towers '* || $used == *' unequal '* ]] || offered+=(towers unequal)
+    for option in --size --grade --seed --count --ids --per-page --answers --steps --title --paper --large --output --help --version; do
+        [[ $used == *" $option "* ]] || offered+=("$option")
+    done
+    _puzzles_offer "$word" "${offered[@]}"
+}
+
 complete -F _puzzles puzzles puzzles-json
 complete -F _puzzles_play puzzles-play
+complete -F _puzzles_sheet puzzles-sheet

@@ -1,9 +1,12 @@
-# Fish completion of puzzles, puzzles-json and puzzles-play: games, options that were not used yet, and files where there may be one.
+# Fish completion of puzzles, puzzles-json, puzzles-play and puzzles-sheet: games, options that were not used yet, and files where there may be one.
+
+# The options that have a value.
+set -g __puzzles_valued --id --load --save --size --grade --seed --count --ids --per-page --answers --title --paper --output
 
 # Whether none of these options was used. An option whose value is being typed is none that was used.
 function __puzzles_unused
     set -l words (commandline -opc)
-    contains -- $words[-1] --id --load --save; and set -e words[-1]
+    contains -- $words[-1] $__puzzles_valued; and set -e words[-1]
     for option in $argv
         string match -q -r -- "^-+$option(=|\$)" $words; and return 1
     end
@@ -14,7 +17,7 @@ end
 function __puzzles_no_game
     set -l before
     for word in (commandline -opc)
-        contains -- $word towers unequal; and not contains -- "$before" --id --load --save; and return 1
+        contains -- $word towers unequal; and not contains -- "$before" $__puzzles_valued; and return 1
         set before $word
     end
     return 0
@@ -36,3 +39,21 @@ complete -c puzzles-play -n __puzzles_no_game -a 'towers unequal' -d 'the game'
 complete -c puzzles-play -n '__puzzles_unused lines' -l lines -d 'play by lines of text'
 complete -c puzzles-play -n '__puzzles_unused help h' -s h -l help -d 'show a help text'
 complete -c puzzles-play -n '__puzzles_unused version V' -s V -l version -d 'show the version'
+
+complete -c puzzles-sheet -e
+complete -c puzzles-sheet -f
+complete -c puzzles-sheet -n __puzzles_no_game -a 'towers unequal' -d 'the game'
+complete -c puzzles-sheet -n '__puzzles_unused size' -l size -x -a '3 4 5 6 7 8 9' -d 'the sizes of the puzzles'
+complete -c puzzles-sheet -n '__puzzles_unused grade' -l grade -x -a 'trivial easy tricky hard extreme unreasonable recursive' -d 'their grades'
+complete -c puzzles-sheet -n '__puzzles_unused seed' -l seed -x -d 'other puzzles for each number'
+complete -c puzzles-sheet -n '__puzzles_unused count' -l count -x -d 'how many there are'
+complete -c puzzles-sheet -n '__puzzles_unused ids' -l ids -r -F -d 'the puzzles of a list'
+complete -c puzzles-sheet -n '__puzzles_unused per-page' -l per-page -x -a '1 2 4 6 12' -d 'how many a page has at most'
+complete -c puzzles-sheet -n '__puzzles_unused answers' -l answers -x -a 'end none only' -d 'where the answers are'
+complete -c puzzles-sheet -n '__puzzles_unused steps' -l steps -d 'tell how each answer goes on'
+complete -c puzzles-sheet -n '__puzzles_unused title' -l title -x -d 'stands above'
+complete -c puzzles-sheet -n '__puzzles_unused paper' -l paper -x -a 'a4 letter' -d 'the size of the paper'
+complete -c puzzles-sheet -n '__puzzles_unused large' -l large -d 'one on a page'
+complete -c puzzles-sheet -n '__puzzles_unused output' -l output -r -F -d 'where the page goes'
+complete -c puzzles-sheet -n '__puzzles_unused help h' -s h -l help -d 'show a help text'
+complete -c puzzles-sheet -n '__puzzles_unused version V' -s V -l version -d 'show the version'

@@ -1,5 +1,5 @@
-#compdef puzzles puzzles-json puzzles-play
-# Zsh completion of puzzles, puzzles-json and puzzles-play: games, options that were not used yet, and files where there may be one.
+#compdef puzzles puzzles-json puzzles-play puzzles-sheet
+# Zsh completion of puzzles, puzzles-json, puzzles-play and puzzles-sheet: games, options that were not used yet, and files where there may be one.
 
 _puzzles_game_or_file() {
     _alternative 'games:game:(towers unequal)' 'files:save file:_files'
@@ -13,6 +13,23 @@ case $service in
             '(- *)'{-V,--version}'[show the version]' \
             '1:game or save file:_puzzles_game_or_file' \
             '2:ID or save file:_files' ;;
+    puzzles-sheet)
+        _arguments -S \
+            '--size=[the sizes of the puzzles]:size, as 5-7:' \
+            '--grade=[their grades]:grade:(trivial easy tricky hard extreme unreasonable recursive)' \
+            '--seed=[other puzzles for each number]:number:' \
+            '--count=[how many there are]:number:' \
+            '--ids=[the puzzles of a list]:list of IDs:_files' \
+            '--per-page=[how many a page has at most]:number:(1 2 4 6 12)' \
+            '--answers=[where the answers are]:where:(end none only)' \
+            '--steps[tell how each answer goes on]' \
+            '--title=[stands above]:title:' \
+            '--paper=[the size of the paper]:paper:(a4 letter)' \
+            '--large[one on a page]' \
+            '--output=[where the page goes]:page:_files' \
+            '(- *)'{-h,--help}'[show a help text]' \
+            '(- *)'{-V,--version}'[show the version]' \
+            '1:game:(towers unequal)' ;;
     *)
         _arguments -S \
             '(--id --load)--id=[begin with the puzzle of this game ID]:ID:' \

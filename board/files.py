@@ -101,9 +101,9 @@ def other_than_file(path: str) -> str:
     return ''
 
 
-def replace(path: str, content: bytes) -> None:
-    """The file has all of the content from here on, or what it had. Raises `OSError`."""
-    new = _written(os.path.dirname(path), content)
+def replace(path: str, content: bytes, mode: int = 0o600) -> None:
+    """The file has all of the content from here on, and this mode, or is as it was. Raises `OSError`."""
+    new = _written(os.path.dirname(path), content, mode)
     try:
         os.replace(new, path)
     except BaseException:
@@ -183,7 +183,7 @@ def _content(descriptor: int, most: int) -> bytes:
     return b''.join(pieces)
 
 
-def _written(folder: str, content: bytes) -> str:
+def _written(folder: str, content: bytes, mode: int = 0o600) -> str:
     """The path of a new file that has this content on the disk. Nobody can know its name beforehand."""
     new = os.path.join(folder, f'.puzzles.{os.urandom(8).hex()}.tmp')
     descriptor = os.open(new, MAKING, 0o600)
@@ -191,6 +191,7 @@ def _written(folder: str, content: bytes) -> str:
         with open(descriptor, 'wb') as file:
             file.write(content)
             file.flush()
+            os.fchmod(file.fileno(), mode)
             os.fsync(file.fileno())
     except BaseException:
         _remove(new)

@@ -8,7 +8,7 @@ import os
 import select
 import subprocess
 import tempfile
-from typing import IO, Callable, Iterator, List, NoReturn, Optional, Sequence
+from typing import IO, Any, Callable, Iterator, List, Mapping, NoReturn, Optional, Sequence
 
 from board.board import Reply, reply_of
 from board.files import why
@@ -62,6 +62,10 @@ class Program:
 
     def ask(self, line: str, waiting: Optional[Waiting] = None) -> Reply:
         """The reply to a line, or to `board` where the line has none. Raises `Gone`, or `Stopped` after which the program is gone too."""
+        return reply_of(self.object(line, waiting))
+
+    def object(self, line: str, waiting: Optional[Waiting] = None) -> Mapping[str, Any]:
+        """All that the program tells then, as `ask`."""
         line = line.replace('\n', ' ')
         if line.rstrip('\r') in ('', 'quit'):
             line = 'board'
@@ -72,7 +76,8 @@ class Program:
             self._end()
         answer = self._line(waiting)
         try:
-            return reply_of(json.loads(answer))
+            told: Mapping[str, Any] = json.loads(answer)
+            return told
         except ValueError:
             self.stop()
             raise Gone('its answer is no object: it is not puzzles-json') from None

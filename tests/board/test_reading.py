@@ -3,6 +3,7 @@
 from __future__ import annotations
 
 import os
+from typing import Callable, List
 from unittest import mock
 
 from board import files
@@ -37,7 +38,8 @@ def test_made(room: Room) -> None:
     files.replace(os.path.join(room.path, 'link'), b'three')
     assert (room.read('link'), room.read('game.sav'), room.link_text('link')) == (b'three', b'one', None), 'over a link'
     with mock.patch('os.fsync', side_effect=OSError(28, 'No space left on device')):
-        for write in (files.replace, files.make):
+        writes: List[Callable[[str, bytes], object]] = [files.replace, files.make]
+        for write in writes:
             try:
                 write(path, b'four')
             except OSError as error:

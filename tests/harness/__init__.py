@@ -4,6 +4,7 @@ room      a folder for a case, gone afterwards, and what is made and read in it
 program   one run: words, input, folder, user, limits, streams; and how it ended
 terminal  a run in a terminal, with what is typed to it and what it shows
 screen    the screen of that terminal
+browser   a browser without a window, and what it prints
 builds    where the repository is, and copies of programs
 game      a small game, what its saves are, and the new files that saves leave
 faults    the library tests/faults/faults.c, by which a chosen call of the program fails

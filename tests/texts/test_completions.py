@@ -43,6 +43,12 @@ LINES = [
     Line('the board, a game', ['puzzles-play', 'u'], 'unequal'),
     Line('the board, a file', ['puzzles-play', '--lines', 'towers', 'o'], 'old.sav'),
     Line('the board, an option once', ['puzzles-play', '--lines', '-'], '--help --version'),
+    Line('a sheet', ['puzzles-sheet', 'towers', '--s'], '--size --seed --steps'),
+    Line('a sheet, its game', ['puzzles-sheet', '--size', '5', 'u'], 'unequal'),
+    Line('a sheet, a word of an option', ['puzzles-sheet', 'towers', '--paper', ''], 'a4 letter'),
+    Line('a sheet, a word after =', ['puzzles-sheet', 'towers', '--answers', '=', 'o'], 'only'),
+    Line('a sheet, a list', ['puzzles-sheet', '--ids', 'o'], 'old.sav'),
+    Line('a sheet, nothing for a title', ['puzzles-sheet', '--title', ''], ''),
 ]
 
 #: Completes the words after the first, which names the file of the completion, by the function that it gives the command.
@@ -64,6 +70,7 @@ def zsh_options() -> Dict[str, List[str]]:
     return {
         'puzzles': found(r'--([a-z]+)[=}]', part(text, '    *)', ';;')),
         'puzzles-play': found(r'--([a-z]+)[\[}]', part(text, '    puzzles-play)', ';;$')),
+        'puzzles-sheet': found(r'--([a-z-]+)[=\[}]', part(text, '    puzzles-sheet)', ';;$')),
     }
 
 
@@ -72,13 +79,23 @@ def fish_options() -> Dict[str, List[str]]:
     return {
         'puzzles': found(r'complete -c \$program .* -l ([a-z]+)', text),
         'puzzles-play': found(r'complete -c puzzles-play .* -l ([a-z]+)', text),
+        'puzzles-sheet': found(r'complete -c puzzles-sheet .* -l ([a-z-]+)', text),
     }
 
 
-def play_options(room: Room) -> List[str]:
-    ended = run([str(ROOT / 'board/puzzles-play'), '--help'], room)
+def front_options(room: Room, front: str) -> List[str]:
+    """Those of the help of a command in Python."""
+    ended = run([str(ROOT / front), '--help'], room)
     assert ended.status == 0
-    return found(r'--([a-z]+)', ended.output.decode())
+    return found(r'--([a-z-]+)', ended.output.decode())
+
+
+def play_options(room: Room) -> List[str]:
+    return front_options(room, 'board/puzzles-play')
+
+
+def sheet_options(room: Room) -> List[str]:
+    return front_options(room, 'sheet/puzzles-sheet')
 
 
 @pytest.mark.parametrize('line', LINES, ids=by_name)
@@ -91,10 +108,10 @@ def test_bash(room: Room, line: Line) -> None:
 @pytest.mark.parametrize(('shell', 'offered'), [('zsh', zsh_options), ('fish', fish_options)])
 def test_options(room: Room, shell: str, offered: Callable[[], Dict[str, List[str]]]) -> None:
     """Those of the help, and the names of the programs and games."""
-    wanted = {'puzzles': said('FORMATS', read('docs/FORMATS.md'))[1], 'puzzles-play': play_options(room)}
+    wanted = {'puzzles': said('FORMATS', read('docs/FORMATS.md'))[1], 'puzzles-play': play_options(room), 'puzzles-sheet': sheet_options(room)}
     for program, told in offered().items():
         assert set(told) == set(wanted[program]) != set(), program
-    assert [text for text in ['puzzles', 'puzzles-json', 'puzzles-play', *GAMES] if text not in read(f'board/completion.{shell}')] == []
+    assert [text for text in ['puzzles', 'puzzles-json', 'puzzles-play', 'puzzles-sheet', *GAMES] if text not in read(f'board/completion.{shell}')] == []
 
 
 @pytest.mark.parametrize('shell', ['zsh', 'fish'])

@@ -11,7 +11,7 @@ from tests.objects import schema
 from tests.objects.reading import OWN_LINES
 from tests.texts import sources
 from tests.texts.parts import ROOT, found, part, read
-from tests.texts.test_completions import play_options
+from tests.texts.test_completions import play_options, sheet_options
 from tests.texts.test_users import wanted
 
 #: The types of faults of which no number is in the definitions.
@@ -52,7 +52,7 @@ def words(text: str, pattern: str) -> List[str]:
 
 
 def named_options(page: str) -> List[str]:
-    return found(r'Fl -(\w+)', '\n'.join(found(r'^\.It (.*)$', part(page, '.Ss Options', r'^\.S[hs]'))))
+    return found(r'Fl -([\w-]+)', '\n'.join(found(r'^\.It (.*)$', part(page, '.Ss Options', r'^\.S[hs]'))))
 
 
 def too_wide(shown: str) -> Iterator[str]:
@@ -88,6 +88,10 @@ def test_board(room: Room) -> None:
     assert set(named_options(page)) == set(play_options(room)) != set(), 'options'
     own = set(found(r'^    \'  ([a-z]{4,})\b', part(read('board/manual.py'), 'LINES', 'and the program'))) - {'pencil'}
     assert not own - set(re.findall(r'\w+', part(page, '.Ss The line mode', r'^\.Sh'))), 'the line mode'
+
+
+def test_sheet(room: Room) -> None:
+    assert set(named_options(read('man/puzzles-sheet.6'))) == set(sheet_options(room)) != set()
 
 
 @pytest.mark.parametrize(('kind', 'names'), {**sources.faults(), **ONE_FAULT}.items())

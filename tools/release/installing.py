@@ -11,7 +11,7 @@ from typing import Iterable, Iterator, List, NamedTuple, Sequence, Tuple
 from release import places
 from release.places import NOTE, OURS, TOP, Folders, Item
 
-#: The line of the command puzzles-play that says where the board's package lies from there.
+#: The line of a command in Python that says where its package lies from there.
 PACKAGE_LINE = "PACKAGE = '..'\n"
 
 #: The list of what was installed, by which it goes again: first the files, then the folders that were made. Below a DESTDIR there is none.
@@ -25,8 +25,8 @@ def put(items: Sequence[Item], folders: Folders, note: str) -> None:
         place = folders.of(item)
         made += make_folders(folders, os.path.dirname(place))
         content = note.encode() if item.source == NOTE else (TOP / item.source).read_bytes()
-        if item.source == 'board/puzzles-play':
-            content = with_package(content, folders)
+        if item.source in places.SCRIPTS.values():
+            content = with_package(item.source, content, folders)
         put_file(folders.now(place), content, item.mode)
     if not folders.root:
         _, made_before = listed(folders)
@@ -47,11 +47,11 @@ def make_folders(folders: Folders, place: str) -> Iterator[str]:
         os.makedirs(folders.root, exist_ok=True)
 
 
-def with_package(content: bytes, folders: Folders) -> bytes:
-    """The command puzzles-play, which finds its package from where it lies: both may be moved together."""
+def with_package(source: str, content: bytes, folders: Folders) -> bytes:
+    """A command in Python, which finds its package from where it lies: both may be moved together."""
     way = os.path.relpath(folders.place('datadir', OURS), folders.place('gamesdir'))
     if content.count(PACKAGE_LINE.encode()) != 1:
-        raise ValueError(f'board/puzzles-play lacks the line {PACKAGE_LINE!r}')
+        raise ValueError(f'{source} lacks the line {PACKAGE_LINE!r}')
     return content.replace(PACKAGE_LINE.encode(), f'PACKAGE = {way!r}\n'.encode())
 
 
@@ -128,6 +128,8 @@ TRIALS = [
     Trial(['puzzles-json', 'unequal'], 'undo\n', '{"refused":"NoGame",'),
     Trial(['puzzles-play', '--help'], '', 'usage: puzzles-play '),
     Trial(['puzzles-play', '--version'], '', f'puzzles {places.version()}\n'),
+    Trial(['puzzles-sheet', '--help'], '', 'usage: puzzles-sheet '),
+    Trial(['puzzles-sheet', '--ids', '-'], '3:3//////3/////\n', '<!DOCTYPE html>\n'),
 ]
 
 

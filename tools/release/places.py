@@ -16,7 +16,11 @@ OURS = 'verified-puzzles'
 #: The folders that the Makefile names, and that packagers set.
 VARIABLES = ['gamesdir', 'datadir', 'mandir', 'docdir', 'bashcompdir', 'zshcompdir', 'fishcompdir']
 
-COMMANDS = [*NAMES, 'puzzles-play']
+#: The commands in Python, and the packages that they start: each lies in the folder of its package.
+FRONTS = {'puzzles-play': 'board', 'puzzles-sheet': 'sheet'}
+SCRIPTS = {name: f'{package}/{name}' for name, package in FRONTS.items()}
+
+COMMANDS = [*NAMES, *FRONTS]
 
 #: Stands for the text that is told of the programs, where an item names its source.
 NOTE = 'what is told of the programs'
@@ -56,27 +60,28 @@ class Folders:
 
 def items(folder: str) -> List[Item]:
     """All that is installed, with the programs of this folder. A manual page, a document or a module that is new in its folder needs no line here."""
-    return [*programs(folder), *board(), *documents(), *manual(), *completions()]
+    return [*programs(folder), *packages(), *documents(), *manual(), *completions()]
 
 
 def programs(folder: str) -> Iterator[Item]:
     yield from (Item(f'{folder}/{name}', 'gamesdir', name, 0o755) for name in NAMES)
-    yield Item('board/puzzles-play', 'gamesdir', 'puzzles-play', 0o755)
+    yield from (Item(script, 'gamesdir', name, 0o755) for name, script in SCRIPTS.items())
 
 
-def board() -> Iterator[Item]:
-    """The board's package, its puzzles, and what is told of the version."""
+def packages() -> Iterator[Item]:
+    """The packages of Python, the puzzles of the board's, and what is told of the version."""
     yield Item(NOTE, 'datadir', f'{OURS}/VERSION')
-    for pattern in ('*.py', 'bank/*.txt'):
-        for source in below('board', pattern):
-            yield Item(f'board/{source}', 'datadir', f'{OURS}/board/{source}')
+    for package in FRONTS.values():
+        for pattern in ('*.py', 'bank/*.txt'):
+            for source in below(package, pattern):
+                yield Item(f'{package}/{source}', 'datadir', f'{OURS}/{package}/{source}')
 
 
 def documents() -> Iterator[Item]:
     yield Item(NOTE, 'docdir', 'VERSION')
     for name in ('README.md', 'CHANGELOG.md', 'LICENSE'):
         yield Item(name, 'docdir', name)
-    for pattern in ('*.md', 'clients/*'):
+    for pattern in ('*.md', '*.png', 'clients/*'):
         for source in below('docs', pattern):
             yield Item(f'docs/{source}', 'docdir', f'docs/{source}')
 

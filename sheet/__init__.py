@@ -1,0 +1,14 @@
+"""Puzzles on paper: the command puzzles-sheet, which makes a page in HTML for print.
+
+main, words, writing        the words of the command line, what is told, where the page goes
+choice, likeness            which puzzles come onto the sheet, and whether two solutions are one, turned over
+lists, fair                 where they come from: IDs and save files, or games by grade, size and seed
+puzzles, steps              a puzzle with its only answer, and how that goes on, as the program says
+pages, answers, listing     the page in HTML: puzzles, answers and steps
+layout                      how many puzzles a page can have, and how large their squares are
+measures, style, markup     lengths, the style sheet, and text that becomes HTML
+drawing                     a board as a picture, also one that is played
+
+What is right, and that a puzzle has one solution, the program says: no rule of play is here. The picture and the talk with the program need
+nothing of the rest.
+"""

@@ -1,0 +1,124 @@
+"""Which puzzles come onto a sheet: no two with one solution, turned over or not, as long as there are others."""
+
+from __future__ import annotations
+
+from typing import Callable, Dict, Iterator, List, NamedTuple, Optional, Sequence, Set, Tuple
+
+from sheet.fair import TRIES, Kind, Seeds
+from sheet.likeness import Form, form
+from sheet.lists import Line, puzzle_of
+from sheet.puzzles import Programs, Puzzle, Unfit
+
+#: A sheet has no more puzzles, and of a list no more lines are told that are wrong.
+MOST = 200
+
+#: Called with the number of puzzles that there are, as one more is there.
+Progress = Callable[[int], None]
+
+
+class Choice(NamedTuple):
+    puzzles: List[Puzzle]
+    #: What there is to say of those that have one solution, or are lacking.
+    told: List[str]
+
+
+class WrongLines(Exception):
+    """Nothing is printed of a list with such lines. `told` says why, line by line."""
+
+    def __init__(self, told: List[str]) -> None:
+        super().__init__()
+        self.told = told
+
+
+class Seeded:
+    """Puzzles of some seeds, as they come onto a sheet."""
+
+    def __init__(self, seeds: Seeds) -> None:
+        self.puzzles: List[Puzzle] = []
+        #: How many have the solution of an earlier one.
+        self.alike = 0
+        self._seeds = seeds
+        self._forms: Set[Form] = set()
+        #: Sizes of which there is no new solution, and kinds of which there is no new puzzle.
+        self._spent: Set[int] = set()
+        self._exhausted: Set[Kind] = set()
+
+    def add(self, kind: Kind) -> None:
+        """The next puzzle with a new solution; after many seeds without one the first that is new at all, or none. Raises `Unfit`."""
+        spare: Optional[Puzzle] = None
+        if kind in self._exhausted:
+            return
+        for _, puzzle in zip(range(TRIES), self._seeds.puzzles(kind)):
+            if form(puzzle.answer) not in self._forms:
+                self._forms.add(form(puzzle.answer))
+                self.puzzles.append(puzzle)
+                return
+            if spare is None and all(puzzle.id != other.id for other in self.puzzles):
+                spare = puzzle
+            if spare and kind.size in self._spent:
+                break
+        self._spent.add(kind.size)
+        if spare is None:
+            self._exhausted.add(kind)
+        else:
+            self.puzzles.append(spare)
+            self.alike += 1
+
+
+def of_seeds(seeds: Seeds, wanted: Sequence[Kind], progress: Progress) -> Choice:
+    """One of each kind, in this order. Raises `Unfit` where none of a kind are made."""
+    found = Seeded(seeds)
+    for kind in wanted:
+        found.add(kind)
+        progress(len(found.puzzles))
+    told: List[str] = []
+    count = len(found.puzzles)
+    if found.alike:
+        told.append(f'{found.alike} of the {count} puzzles have the solution of an earlier one, perhaps turned over: {TRIES} seeds gave no new one')
+    if count < len(wanted):
+        told.append(f'there are {count} puzzles, not {len(wanted)}: {TRIES} seeds gave none that is not there already')
+    return Choice(found.puzzles, told)
+
+
+class Entry(NamedTuple):
+    """A puzzle of a list."""
+
+    line: int
+    puzzle: Puzzle
+    #: The first line with this solution.
+    like: int
+
+
+def of_list(programs: Programs, lines: Sequence[Line], game: Optional[str], count: Optional[int], progress: Progress) -> Choice:
+    """So many puzzles of a list, or all. Raises `Unfit` where those are too many, and `WrongLines`."""
+    if count is None and len(lines) > MOST:
+        raise Unfit(f'There are {len(lines)} puzzles, and a sheet has {MOST} at most: --count {MOST} takes the first ones.')
+    new: List[Entry] = []
+    alike: List[Entry] = []
+    first: Dict[Form, int] = {}
+    wrong: List[str] = []
+    for line, puzzle in _readable(programs, lines, game, wrong):
+        like = first.setdefault(form(puzzle.answer), line.number)
+        (new if like == line.number else alike).append(Entry(line.number, puzzle, like))
+        progress(len(new))
+        if len(new) == count:
+            break
+    if wrong:
+        raise WrongLines(wrong)
+    # Those that are alike fill up what is lacking.
+    kept = alike[: (count or len(lines)) - len(new)]
+    told = [f'line {entry.line}: it has the solution of line {entry.like}, perhaps turned over' for entry in kept]
+    return Choice([entry.puzzle for entry in sorted(new + kept, key=lambda entry: entry.line)], told)
+
+
+def _readable(programs: Programs, lines: Sequence[Line], game: Optional[str], wrong: List[str]) -> Iterator[Tuple[Line, Puzzle]]:
+    """The lines with their puzzles, and what there is to say of the others."""
+    for line in lines:
+        try:
+            puzzle = puzzle_of(programs, line, game)
+        except Unfit as unfit:
+            wrong.append(f'line {line.number}: {unfit}')
+            if len(wrong) == MOST:
+                return
+            continue
+        yield line, puzzle

@@ -1,0 +1,220 @@
+"""A board as a picture in SVG: the puzzle, numbers, pencil marks, what contradicts, and squares of a hint.
+
+One unit is a hundredth of a millimetre, and all is in whole numbers, so that the picture is the same everywhere. It is black on white. What isn't
+there on paper has a class, by which a page gives it a look: `wrong`, `done`, `hint`.
+"""
+
+from __future__ import annotations
+
+from typing import Collection, Iterable, Iterator, List, Mapping, NamedTuple, Optional, Tuple
+from xml.etree import ElementTree
+from xml.etree.ElementTree import Element, SubElement
+
+from board.board import GAMES, Board, Place, Sign
+
+#: In per cent of a square's side: the room for clues outside of Towers, and that between two squares of Unequal.
+OUTSIDE, BETWEEN = 52, 34
+
+#: How far from the frame's middle the middle of a clue is, and half of a wedge's depth and of its height, in the same measure.
+CLUE, DEPTH, HEIGHT = 35, 8, 17
+
+#: A digit's baseline is so far below its middle, in per cent of the font: half of a digit's height.
+BASELINE = 36
+
+#: How lines and digits are drawn. The edges of a picture are cut to whole points of a screen, which an outer line is not to be.
+LINES = {'fill': 'none', 'stroke': '#000', 'stroke-linejoin': 'round', 'stroke-linecap': 'round', 'overflow': 'visible'}
+DIGITS = {'fill': '#000', 'stroke': 'none', 'text-anchor': 'middle'}
+
+#: A character that stands for an empty square, or for no clue, in words.
+NONE = '-'
+
+
+class Pen(NamedTuple):
+    """How large and how strong all is drawn: sides, lines and fonts."""
+
+    #: Of a square.
+    side: int
+    #: The frame of Towers, or that of each square of Unequal.
+    frame: int
+    #: The lines between the squares of Towers.
+    inner: int
+    wedge: int
+    number: int
+    clue: int
+    mark: int
+
+
+def pen(game: str, side: int, strength: int = 100) -> Pen:
+    """For a puzzle with squares of this side; the lines may be stronger, in per cent."""
+
+    def line(percent: int, least: int, most: int) -> int:
+        return min(most, max(least, side * percent // 100)) * strength // 100
+
+    frame = line(7, 45, 90) if game == 'towers' else line(4, 25, 50)
+    return Pen(side, frame, line(3, 20, 40), line(5, 35, 75), side * 58 // 100, side * 46 // 100, side * 26 // 100)
+
+
+def small_pen(game: str, side: int) -> Pen:
+    """For an answer: its lines are thin and its clues large."""
+
+    def line(percent: int, least: int) -> int:
+        return max(least, side * percent // 100)
+
+    frame = line(7, 32) if game == 'towers' else line(3, 16)
+    return Pen(side, frame, line(3, 16), line(5, 20), side * 58 // 100, side * 52 // 100, side * 26 // 100)
+
+
+def parts(game: str, size: int) -> int:
+    """How wide a picture is without its lines, in per cent of a square's side."""
+    return 100 * size + (2 * OUTSIDE if game == 'towers' else BETWEEN * (size - 1))
+
+
+def extent(game: str, size: int, with_pen: Pen) -> int:
+    """How wide and how high a picture is."""
+    return parts(game, size) * with_pen.side // 100 + with_pen.frame
+
+
+class Places:
+    """Where squares, clues and wedges of a board are."""
+
+    def __init__(self, board: Board, with_pen: Pen) -> None:
+        self.size = board.size
+        self.side = with_pen.side
+        self.is_towers = board.session.game == 'towers'
+        outside, between = (OUTSIDE, 0) if self.is_towers else (0, BETWEEN)
+        first = with_pen.frame // 2 + self.side * outside // 100
+        self.step = self.side * (100 + between) // 100
+        #: Where each square begins, and where one more would.
+        self.at = [first + self.step * index for index in range(self.size + 1)]
+
+    def middle(self, place: Place) -> Tuple[int, int]:
+        """Of a square, or of a clue."""
+        return self._along(place[0]), self._along(place[1])
+
+    def _along(self, index: int) -> int:
+        if index < 0:
+            return self.at[0] - self.side * CLUE // 100
+        return self.at[self.size] + self.side * CLUE // 100 if index == self.size else self.at[index] + self.side // 2
+
+    def wedge(self, sign: Sign) -> str:
+        """A path that opens towards the greater number, and points at the lesser one."""
+        (x, y), (other_x, other_y) = self.middle(sign.greater), self.middle(sign.less)
+        x, y = (x + other_x) // 2, (y + other_y) // 2
+        depth, height = self.side * DEPTH // 100, self.side * HEIGHT // 100
+        if sign.greater < sign.less:
+            depth = -depth
+        if sign.greater[1] == sign.less[1]:
+            return f'M{x + depth} {y - height}l{-2 * depth} {height}l{2 * depth} {height}'
+        return f'M{x - height} {y + depth}l{height} {-2 * depth}l{height} {2 * depth}'
+
+
+def picture(board: Board, with_pen: Pen, name: str, hinted: Collection[Place] = ()) -> Element:
+    """The element `svg`, with its name and the board in words for who doesn't see it."""
+    places, full = Places(board, with_pen), extent(board.session.game, board.size, with_pen)
+    length = f'{full // 100}.{full % 100:02}mm'
+    svg = Element('svg', {'role': 'img', 'width': length, 'height': length, 'viewBox': f'0 0 {full} {full}', **LINES})
+    SubElement(svg, 'title').text = name
+    SubElement(svg, 'desc').text = ' '.join([*told(board), ''])
+    if hinted:
+        SubElement(svg, 'path', {'class': 'hint', 'd': ''.join(square(places, place) for place in sorted(hinted))})
+    _add_grid(svg, places, with_pen)
+    _add_signs(svg, board, places, with_pen)
+    _add_numbers(svg, board, places, with_pen)
+    return svg
+
+
+def text_of(element: Element) -> str:
+    """As it stands in a page."""
+    return ElementTree.tostring(element, encoding='unicode')
+
+
+def square(places: Places, place: Place) -> str:
+    """A path around a square."""
+    return f'M{places.at[place[0]]} {places.at[place[1]]}h{places.side}v{places.side}h-{places.side}z'
+
+
+def _add_grid(svg: Element, places: Places, with_pen: Pen) -> None:
+    first, *between, last = places.at
+    if places.is_towers:
+        inner = ''.join(f'M{at} {first}V{last}M{first} {at}H{last}' for at in between)
+        SubElement(svg, 'path', {'d': inner, 'stroke-width': str(with_pen.inner)})
+        SubElement(svg, 'path', {'d': f'M{first} {first}H{last}V{last}H{first}z', 'stroke-width': str(with_pen.frame)})
+    else:
+        squares = ''.join(square(places, (x, y)) for y in range(places.size) for x in range(places.size))
+        SubElement(svg, 'path', {'d': squares, 'stroke-width': str(with_pen.frame)})
+
+
+def _add_signs(svg: Element, board: Board, places: Places, with_pen: Pen) -> None:
+    for is_wrong in (False, True):
+        path = ''.join(places.wedge(sign) for sign in board.signs if sign.is_wrong == is_wrong)
+        if path:
+            SubElement(svg, 'path', {'d': path, 'stroke-width': str(with_pen.wedge), **({'class': 'wrong'} if is_wrong else {})})
+
+
+class Digit(NamedTuple):
+    x: int
+    y: int
+    number: int
+    kind: str = ''
+
+
+def _add_numbers(svg: Element, board: Board, places: Places, with_pen: Pen) -> None:
+    group = SubElement(svg, 'g', DIGITS)
+
+    def digits(given: bool) -> List[Digit]:
+        found = [(place, board.numbers[place]) for place in board.squares if place in board.numbers and (place in board.givens) == given]
+        return [Digit(*places.middle(place), number, 'wrong' if place in board.wrong else '') for place, number in found]
+
+    clues = [Digit(*places.middle(place), clue.number, 'wrong' if clue.is_wrong else 'done' if clue.is_done else '') for place, clue in board.clues.items()]
+    _add_digits(group, with_pen.number, digits(True), {'font-weight': '700'})
+    _add_digits(group, with_pen.number, digits(False))
+    _add_digits(group, with_pen.clue, clues)
+    _add_digits(group, with_pen.mark, list(_marks(board, places)), {'class': 'marks'})
+
+
+def _marks(board: Board, places: Places) -> Iterator[Digit]:
+    """Three in a row, each number at a place of its own."""
+    for place, marks in board.marks.items():
+        x, y = places.middle(place)
+        for number in marks:
+            row, column = divmod(number - 1, 3)
+            yield Digit(x + (column - 1) * places.side * 30 // 100, y + (row - 1) * places.side * 30 // 100, number)
+
+
+def _add_digits(above: Element, font: int, digits: List[Digit], more: Optional[Mapping[str, str]] = None) -> None:
+    if digits:
+        group = SubElement(above, 'g', {'font-size': str(font), **(more or {})})
+        for digit in digits:
+            attributes = {'x': str(digit.x), 'y': str(digit.y + font * BASELINE // 100), **({'class': digit.kind} if digit.kind else {})}
+            SubElement(group, 'text', attributes).text = str(digit.number)
+
+
+def told(board: Board) -> Iterator[str]:
+    """The board in words: its rows, and what stands outside of it or between its squares. Rows and columns count from 1."""
+    size = board.size
+    yield f'Rows: {"; ".join(_row([board.numbers.get((x, y)) for x in range(size)]) for y in range(size))}.'
+    if board.session.game == 'towers':
+        sides = {
+            'above': [(index, -1) for index in range(size)],
+            'below': [(index, size) for index in range(size)],
+            'left': [(-1, index) for index in range(size)],
+            'right': [(size, index) for index in range(size)],
+        }
+        numbers = {place: clue.number for place, clue in board.clues.items()}
+        for side, line in sides.items():
+            yield f'Clues {side}: {_row([numbers.get(place) for place in line])}.'
+    if board.signs:
+        yield f'Greater: {", ".join(f"{_named(sign.greater)} than {_named(sign.less)}" for sign in board.signs)}.'
+
+
+def _row(numbers: Iterable[Optional[int]]) -> str:
+    return ' '.join(str(number) if number else NONE for number in numbers)
+
+
+def _named(place: Place) -> str:
+    return f'r{place[1] + 1}c{place[0] + 1}'
+
+
+def title(kind: str, board: Board, grade: str) -> str:
+    """What a picture is called: `Puzzle 7: Towers, 6 by 6, Easy`."""
+    return ', '.join(filter(None, [f'{kind}: {GAMES[board.session.game]}', f'{board.size} by {board.size}', grade]))

@@ -1,0 +1,201 @@
+"""How many puzzles a page can have, and how large their squares are there."""
+
+from __future__ import annotations
+
+import re
+import textwrap
+from functools import lru_cache
+from typing import Iterator, List, NamedTuple, Optional, Sequence
+
+from board.board import GAMES
+from sheet import drawing, measures
+from sheet.markup import shortened, width
+from sheet.measures import Density, Print
+from sheet.puzzles import Puzzle
+
+#: The rules, in two sentences each, with the numbers that a page's puzzles have.
+RULES = {
+    'towers': 'Fill in the numbers 1 to {last}, each once in each row and in each column: they are heights of towers. '
+    'A number outside tells how many towers are seen from there, where each hides all lower ones behind it.',
+    'unequal': 'Fill in the numbers 1 to {last}, each once in each row and in each column. '
+    'A wedge between two squares opens towards the greater number, and points at the smaller one.',
+}
+ANY_SIZE = 'the size of the grid'
+
+#: What a line of an ID ends with, where it can.
+ENDS = ',/:'
+
+#: A caption of the puzzle's own has so many lines at most.
+MOST_NOTES = 2
+
+
+class Numbered(NamedTuple):
+    """A puzzle with its number on the sheet."""
+
+    number: int
+    puzzle: Puzzle
+
+
+class Figure(NamedTuple):
+    """A puzzle with its place on a page."""
+
+    numbered: Numbered
+    #: Of a square.
+    side: int
+    caption_width: int
+
+
+class Page(NamedTuple):
+    density: Density
+    figures: List[Figure]
+    #: How high a figure is with its caption, and each caption alone.
+    height: int
+    caption_height: int
+    #: How many lines the puzzles' own captions have.
+    notes: int
+    row_gap: int
+    #: How many puzzles it would have if it could have more.
+    wanted: int = 0
+
+    @property
+    def games(self) -> List[str]:
+        return games_of([figure.numbered for figure in self.figures])
+
+    def last(self, game: str) -> str:
+        """The greatest number in the puzzles of a game, for its rules."""
+        sizes = {figure.numbered.puzzle.size for figure in self.figures if figure.numbered.puzzle.game == game}
+        return str(sizes.pop()) if len(sizes) == 1 else ANY_SIZE
+
+
+class Paper:
+    """A kind of paper, and how it is printed on."""
+
+    def __init__(self, name: str, is_large: bool) -> None:
+        self.size = measures.PAPERS[name]
+        self.width = self.size.width - 2 * measures.SIDE
+        self.height = self.size.height - 2 * measures.TOP - measures.SPARE
+        self.print: Print = measures.LARGE if is_large else measures.USUAL
+        self.densities: Sequence[Density] = measures.LARGE_DENSITIES if is_large else measures.DENSITIES
+
+    def rules_height(self, games: Sequence[str]) -> int:
+        return sum(60 + lines(rules(game, ANY_SIZE), self.width, self.print.rules) * self.print.rules * 5 // 4 for game in games)
+
+    def room(self, games: Sequence[str]) -> int:
+        """The height that is left for puzzles, below the rules of these games."""
+        return self.height - self.print.head - self.print.foot - self.rules_height(games) - measures.HEAD_GAP
+
+
+def rules(game: str, last: str) -> str:
+    return f'{GAMES[game]}. {RULES[game].format(last=last)}'
+
+
+def games_of(some: Sequence[Numbered]) -> List[str]:
+    """In the order in which they come."""
+    return list(dict.fromkeys(each.puzzle.game for each in some))
+
+
+def letters(room: int, font: int) -> int:
+    """How many letters a line has room for."""
+    return room * 100 // (font * measures.LETTER)
+
+
+def id_letters(room: int, font: int) -> int:
+    """The same of an ID, or of a command, whose letters are all as wide."""
+    return room * 100 // (font * measures.ID_LETTER)
+
+
+def lines(text: str, room: int, font: int) -> int:
+    """How many lines a text takes."""
+    return len(textwrap.wrap(text, letters(room, font)))
+
+
+def note(puzzle: Puzzle, room: int, font: int, notes: int) -> str:
+    """The puzzle's own caption, as far as so many lines have room for it; each but the last may lose a word."""
+    return shortened(puzzle.caption, letters(room, font) * notes - 6 * (notes - 1)) if puzzle.caption else ''
+
+
+def id_pieces(id: str) -> List[str]:
+    """An ID, cut where a line may end."""
+    return re.findall(f'[^{ENDS}]*[{ENDS}]|[^{ENDS}]+', id)
+
+
+@lru_cache(maxsize=None)
+def id_lines(id: str, most: int) -> int:
+    """How many lines of so many letters an ID takes, where each piece that is too long for the rest of a line begins a new one."""
+    count, used = 1, 0
+    for piece in id_pieces(id):
+        if used and used + len(piece) > most:
+            count, used = count + 1, 0
+        more, used = divmod(used + len(piece) - 1, most)
+        count, used = count + more, used + 1
+    return count
+
+
+class Fit(NamedTuple):
+    """How puzzles of one game and size come into their places."""
+
+    side: int
+    full: int
+    caption_width: int
+    caption_height: int
+
+
+class Plan:
+    """A page that some puzzles could be on."""
+
+    def __init__(self, paper: Paper, density: Density, some: Sequence[Numbered]) -> None:
+        self._density, self._some, self._strength = density, some, paper.print.strength
+        self._room = paper.room(games_of(some))
+        self._width = (paper.width - measures.COLUMN_GAP * (density.columns - 1)) // density.columns
+        self._height = (self._room - measures.ROW_GAP * (density.rows - 1)) // density.rows
+        note_width = self._width if density.columns > 1 else measures.WIDEST_CAPTION
+        longest = max((width(each.puzzle.caption) for each in some), default=0)
+        self._notes = min(MOST_NOTES, -(-longest // letters(note_width, density.note)))
+
+    def page(self) -> Optional[Page]:
+        """Nothing where a square would be too small."""
+        # All captions are as high as the highest, so that those of a row stand on one line.
+        least = self._fits(0)
+        fits = self._fits(max(fit.caption_height for fit in least)) if least else None
+        if not fits:
+            return None
+        figures = [Figure(each, fit.side, fit.caption_width) for each, fit in zip(self._some, fits)]
+        caption_height = fits[0].caption_height
+        height = max(fit.full for fit in fits) + caption_height
+        gap = (self._room - height * self._density.rows) // max(1, self._density.rows - 1)
+        return Page(self._density, figures, height, caption_height, self._notes, min(measures.MOST_ROW_GAP, gap))
+
+    def _fits(self, least_height: int) -> List[Fit]:
+        """One for each puzzle, with captions of this height at least; none where one doesn't fit."""
+        kinds = {(each.puzzle.game, each.puzzle.size): each.puzzle for each in self._some}
+        found = {kind: self._fit(*kind, least_height) for kind in kinds}
+        fits = [found[each.puzzle.game, each.puzzle.size] for each in self._some]
+        return [fit for fit in fits if fit] if all(fits) else []
+
+    def _fit(self, game: str, size: int, least_height: int) -> Optional[Fit]:
+        """The greatest square at which the picture, and the caption with the longest of the IDs, come into their place."""
+        ids = [each.puzzle.id for each in self._some if (each.puzzle.game, each.puzzle.size) == (game, size)]
+        for side in range(self._density.most_side, measures.LEAST_SIDE[size] - 1, -5):
+            full = drawing.extent(game, size, drawing.pen(game, side, self._strength))
+            caption_width = self._width if self._density.columns > 1 else max(full, min(self._width, measures.WIDEST_CAPTION))
+            caption_height = max(least_height, *(self._caption_height(id, caption_width) for id in ids))
+            if full <= self._width and full + caption_height <= self._height:
+                return Fit(side, full, caption_width, caption_height)
+        return None
+
+    def _caption_height(self, id: str, caption_width: int) -> int:
+        density = self._density
+        of_id = id_lines(id, id_letters(caption_width, density.id))
+        return density.number_line + density.note_line * self._notes + density.id_line * of_id
+
+
+def pages(paper: Paper, puzzles: Sequence[Numbered], per_page: int) -> Iterator[Page]:
+    """No page is fuller than is asked for, or than is needed, and no square smaller than may be."""
+    allowed = [density for density in paper.densities if density.puzzles <= per_page] or paper.densities[-1:]
+    enough = [density for density in allowed if density.puzzles >= len(puzzles)]
+    densities = allowed[allowed.index(enough[-1]) :] if enough else allowed
+    left = list(puzzles)
+    while left:
+        page = next(filter(None, (Plan(paper, density, left[: density.puzzles]).page() for density in densities)))
+        yield page._replace(wanted=min(densities[0].puzzles, len(left)))
+        del left[: len(page.figures)]

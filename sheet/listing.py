@@ -1,0 +1,74 @@
+"""The steps of the answers, in columns. Each block has a place of its own, so that nothing flows from one page into another."""
+
+from __future__ import annotations
+
+from string import Template
+from typing import Iterator, List, NamedTuple, Sequence
+
+from sheet.layout import Numbered, Paper, lines
+from sheet.markup import Markup, fill, joined
+from sheet.measures import length
+from sheet.steps import Step
+
+#: Between two columns, and below a block.
+COLUMN_GAP, GAP = 600, 150
+
+BLOCK = Template('<div class="steps" style="left:$left;top:$top;width:$width;height:$height">$content</div>\n')
+HEAD = Template('<p><b>$number</b> $grade</p>')
+STEP = Template('<p><b>$label.</b> $text</p>')
+
+
+class Explained(NamedTuple):
+    """A puzzle, and how its answer goes on."""
+
+    numbered: Numbered
+    steps: List[Step]
+
+
+class Piece(NamedTuple):
+    """Some paragraphs that stay together, and how many lines they take at most."""
+
+    content: Markup
+    lines: int
+
+
+def sections(paper: Paper, every: Sequence[Explained]) -> Iterator[Markup]:
+    """What stands between head and foot, for each sheet of paper."""
+    columns, font = paper.print.steps_columns, paper.print.steps
+    width = (paper.width - COLUMN_GAP * (columns - 1)) // columns
+    room = paper.height - paper.print.head - paper.print.foot
+    placed: List[Markup] = []
+    column, used = 0, 0
+    for piece in (piece for explained in every for piece in _blocks(_pieces(explained, width, font), room // (font * 5 // 4) - 1)):
+        height = piece.lines * font * 5 // 4 + GAP
+        if used + height > room:
+            column, used = column + 1, 0
+        if column == columns:
+            yield joined(placed)
+            placed, column = [], 0
+        place = {'left': column * (width + COLUMN_GAP), 'top': paper.print.head + used, 'width': width, 'height': height}
+        placed.append(fill(BLOCK, content=piece.content, **{name: length(value) for name, value in place.items()}))
+        used += height
+    yield joined(placed)
+
+
+def _pieces(explained: Explained, width: int, font: int) -> Iterator[Piece]:
+    """A piece for each step; the first one has the puzzle's number above."""
+    puzzle = explained.numbered.puzzle
+    head = fill(HEAD, number=explained.numbered.number, grade=puzzle.grade)
+    for step in explained.steps:
+        label = f'Step {step.number}{", the hardest" if step.is_hardest else ""}'
+        content = joined([head, fill(STEP, label=label, text=step.text)])
+        yield Piece(content, lines(f'{label}. {step.text}', width, font) + (1 if head else 0))
+        head = Markup('')
+
+
+def _blocks(pieces: Iterator[Piece], most: int) -> Iterator[Piece]:
+    """As many pieces together as a column has room for."""
+    block = Piece(Markup(''), 0)
+    for piece in pieces:
+        if block.lines and block.lines + piece.lines > most:
+            yield block
+            block = Piece(Markup(''), 0)
+        block = Piece(joined([block.content, piece.content]), min(most, block.lines + piece.lines))
+    yield block

@@ -1,0 +1,115 @@
+"""Puzzles that are given: IDs of either game and save files, one a line, each with its caption."""
+
+from __future__ import annotations
+
+import sys
+from typing import BinaryIO, List, NamedTuple, Optional
+
+from board import files, texts
+from board.board import GAMES
+from board.printable import printable
+from board.program import Gone, Refused, started_with
+from board.table import is_there
+from sheet.markup import plain
+from sheet.puzzles import Programs, Puzzle, Unfit, proved
+
+#: The file that is standard input.
+STANDARD_INPUT = '-'
+
+
+class Line(NamedTuple):
+    #: Counted from 1.
+    number: int
+    text: str
+    #: The content of a save, where the list is none and is this save itself.
+    save: bytes = b''
+
+
+def lines_of(file: str) -> List[Line]:
+    """The lines of a list that say something. Raises `Unfit` where it can't be read, or says nothing."""
+    content = _content(file)
+    if content.startswith(texts.SAVE_BEGINS):
+        return [Line(1, '', content)]
+    # A list of another system may have a mark at its beginning, and CR at the ends of lines.
+    lines = [Line(number, plain(text)) for number, text in enumerate(content.decode('utf-8-sig', 'replace').split('\n'), 1)]
+    found = [line for line in lines if line.text]
+    if not found:
+        raise Unfit(f'{_called(file)} has no puzzles')
+    return found
+
+
+def _content(file: str) -> bytes:
+    """Raises `Unfit`."""
+    try:
+        if file == STANDARD_INPUT:
+            return _bounded(sys.stdin.buffer, file)
+        with open(file, 'rb') as stream:
+            return _bounded(stream, file)
+    except (OSError, ValueError) as error:
+        raise Unfit(f"{_called(file)} can't be read ({files.why(error)})") from error
+
+
+def _bounded(stream: BinaryIO, file: str) -> bytes:
+    content = stream.read(files.MOST_BYTES + 1)
+    if len(content) > files.MOST_BYTES:
+        raise Unfit(f'{_called(file)} has more than {files.MOST_BYTES:,} bytes')
+    return content
+
+
+def _called(file: str) -> str:
+    return 'standard input' if file == STANDARD_INPUT else printable(file)
+
+
+def puzzle_of(programs: Programs, line: Line, game: Optional[str]) -> Puzzle:
+    """The puzzle of a line, of this game where it fits both. Raises `Unfit`."""
+    if line.save:
+        return _of_save(programs, line.save, '')
+    first, _, rest = line.text.partition(' ')
+    if first in GAMES:
+        return _of_id(programs, [first], rest)
+    if is_there(line.text):
+        return _of_file(programs, line.text, '')
+    if is_there(first):
+        return _of_file(programs, first, rest)
+    return _of_id(programs, list(GAMES), line.text, game)
+
+
+def _of_id(programs: Programs, words: List[str], text: str, preferred: Optional[str] = None) -> Puzzle:
+    """Of that of these games that takes the ID."""
+    id, _, caption = text.partition(' ')
+    refusals = {word: programs.ask(word, f'new {id}').refused for word in words}
+    fitting = [word for word, refused in refusals.items() if refused is None]
+    if not fitting:
+        # The descriptions of Towers alone have strokes in them.
+        meant = words[0] if len(words) == 1 else 'towers' if '/' in id else 'unequal'
+        raise Unfit(texts.of_id(str(refusals[meant]), meant))
+    if len(fitting) == 1:
+        preferred = fitting[0]
+    if preferred is None:
+        raise Unfit(f'it fits both games: {" or ".join(fitting)} before it says which')
+    return proved(programs, preferred, caption)
+
+
+def _of_file(programs: Programs, file: str, caption: str) -> Puzzle:
+    found = files.read(file)
+    if found.kind is not files.Kind.READ:
+        raise Unfit(f'{printable(file)} {found.why or "is no longer there"}')
+    return _of_save(programs, found.content, caption)
+
+
+def _of_save(programs: Programs, content: bytes, caption: str) -> Puzzle:
+    """The puzzle of a saved game of either kind, at its start."""
+    refusals: List[str] = []
+    for game in GAMES:
+        try:
+            program = started_with(programs.path, game, content)
+        except Refused as refused:
+            refusals.append(str(refused))
+            continue
+        program.stop()
+        if program.first.session is None:
+            raise Gone("it doesn't tell the game of a save")
+        programs.ask(game, f'new {program.first.session.id}')
+        return proved(programs, game, caption)
+    other = next((name for name in refusals if name != 'WrongGame'), 'WrongGame')
+    raise Unfit((texts.of_foreign(content) if other == 'WrongGame' else '') or texts.of_save(other, 'towers'))

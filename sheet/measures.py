@@ -1,0 +1,128 @@
+"""Lengths on paper. All are hundredths of a millimetre, whole numbers: the same on every machine."""
+
+from __future__ import annotations
+
+from typing import Dict, NamedTuple
+
+
+class Paper(NamedTuple):
+    width: int
+    height: int
+
+
+PAPERS: Dict[str, Paper] = {'a4': Paper(21000, 29700), 'letter': Paper(21590, 27940)}
+
+#: What stays free at the sides, and at the top and the bottom.
+SIDE, TOP = 1200, 1000
+
+#: A page is lower by so much than what is free on the paper: one that is higher by a hair makes an empty page after it.
+SPARE = 100
+
+#: Between two columns, between two rows at least and at most, and between the head and what is below.
+COLUMN_GAP, ROW_GAP, MOST_ROW_GAP, HEAD_GAP = 400, 200, 1000, 300
+
+#: How wide a letter of a text is on the whole, and one of an ID, in per cent of its font, rounded up over the fonts that a page may get.
+LETTER, ID_LETTER = 56, 61
+
+#: The side of a square is never less, by the size: there is to be room for pencil marks.
+LEAST_SIDE = {3: 600, 4: 600, 5: 600, 6: 600, 7: 800, 8: 850, 9: 900}
+
+#: The squares of answers: so large, and never smaller than that.
+ANSWER_SIDE, LEAST_ANSWER_SIDE, LARGE_ANSWER_SIDE = 440, 420, 1100
+
+
+class Print(NamedTuple):
+    """How a whole sheet is printed: its fonts, and what head and foot take."""
+
+    head: int
+    foot: int
+    title: int
+    rules: int
+    name: int
+    footer: int
+    #: The command in the foot.
+    command: int
+    #: Of answers: the number above, with what it takes, and the gap between two columns.
+    answer_number: int
+    answer_head: int
+    answer_gap: int
+    #: Of steps: their font, and how many columns they have.
+    steps: int
+    steps_columns: int
+    #: How much stronger lines are, in per cent.
+    strength: int
+
+
+USUAL = Print(
+    head=920,
+    foot=450,
+    title=529,
+    rules=300,
+    name=318,
+    footer=247,
+    command=198,
+    answer_number=300,
+    answer_head=850,
+    answer_gap=400,
+    steps=282,
+    steps_columns=2,
+    strength=100,
+)
+LARGE = Print(
+    head=1650,
+    foot=650,
+    title=917,
+    rules=564,
+    name=564,
+    footer=423,
+    command=282,
+    answer_number=635,
+    answer_head=1600,
+    answer_gap=900,
+    steps=564,
+    steps_columns=1,
+    strength=120,
+)
+
+
+class Density(NamedTuple):
+    """How many puzzles a page has, and how they are printed then."""
+
+    columns: int
+    rows: int
+    #: A square is never larger: it would look childish.
+    most_side: int
+    #: The fonts of a caption.
+    number: int
+    note: int
+    id: int
+    #: What its lines take.
+    number_line: int
+    note_line: int
+    id_line: int
+
+    @property
+    def puzzles(self) -> int:
+        return self.columns * self.rows
+
+
+ONE = Density(columns=1, rows=1, most_side=1800, number=423, note=247, id=229, number_line=590, note_line=310, id_line=255)
+TWO = ONE._replace(rows=2, most_side=1600)
+FOUR = TWO._replace(columns=2, most_side=1400)
+SIX = FOUR._replace(rows=3, most_side=1300, number=388, id=212, number_line=550, id_line=235)
+TWELVE = SIX._replace(columns=3, rows=4, most_side=1200, number=353, id=194, number_line=510, id_line=215)
+
+#: The densest first.
+DENSITIES = [TWELVE, SIX, FOUR, TWO, ONE]
+LARGE_DENSITIES = [Density(columns=1, rows=1, most_side=2600, number=847, note=494, id=423, number_line=1110, note_line=620, id_line=520)]
+
+#: Below this font an ID is bold: a copier eats the strokes of small letters.
+BOLD_BELOW = 229
+
+#: A caption is no wider, where a page has one column; and so much of its first line is free above.
+WIDEST_CAPTION, CAPTION_TOP = 7000, 80
+
+
+def length(hundredths: int) -> str:
+    """As a style sheet has it."""
+    return f'{hundredths // 100}.{hundredths % 100:02}mm'

@@ -1,0 +1,131 @@
+"""The whole sheet in HTML: one page with a section for each sheet of paper, which nothing flows out of."""
+
+from __future__ import annotations
+
+import hashlib
+from itertools import groupby
+from string import Template
+from typing import Iterator, List, NamedTuple, Sequence
+
+from board.board import GAMES
+from sheet import answers, drawing, layout, listing
+from sheet.layout import Figure, Numbered, Page, Paper
+from sheet.listing import Explained
+from sheet.markup import Markup, fill, joined, plain, safe, shortened
+from sheet.measures import BOLD_BELOW, CAPTION_TOP, length
+from sheet.puzzles import Puzzle
+from sheet.steps import Step
+from sheet.style import style
+from sheet.words import Asked
+
+#: Nothing is fetched from anywhere, and nothing is run.
+WHOLE = Template("""\
+<!DOCTYPE html>
+<html lang="en"><head><meta charset="utf-8"><title>$title</title>
+<meta http-equiv="Content-Security-Policy" content="default-src 'none'; style-src 'unsafe-inline'">
+<meta name="viewport" content="width=device-width"><style>$style</style></head>
+<body>
+$sections</body></html>
+""")
+
+SECTION = Template("""\
+<section>
+<header><h1 dir="auto">$kind<bdi>$title</bdi></h1><p class="name">$right</p></header>
+$body<footer><span>Sheet $code</span><code>$again</code><span>$number</span></footer>
+</section>
+""")
+NAME = Markup('Name <u></u>')
+
+RULES = Template('<p class="rules"><b>$game.</b> $text</p>\n')
+PUZZLES = Template('<div class="puzzles columns$columns" style="row-gap:$gap">\n$figures</div>\n')
+FIGURE = Template("""\
+<figure style="height:$height">$picture<figcaption style="width:$width;height:$caption">
+<p class="line" style="height:$line;font-size:$number_font"><b>$number</b><span>$grade</span><i style="font-size:$note_font">$game $size × $size · $code-$number</i></p>
+$note<code$bold style="font-size:$id_font;line-height:$id_line">$id</code></figcaption></figure>
+""")
+NOTE = Template('<p class="note" dir="auto" style="font-size:$font;max-height:$height;-webkit-line-clamp:$lines">$text</p>\n')
+BREAK = Markup('<wbr>')
+BOLD = Markup(' class="small"')
+
+
+class Section(NamedTuple):
+    """What is on one sheet of paper, between its head and its foot."""
+
+    kind: str
+    body: Markup
+    has_name: bool = False
+
+
+class Sheet:
+    """Some puzzles, and how they are printed."""
+
+    def __init__(self, puzzles: Sequence[Puzzle], asked: Asked, explained: Sequence[List[Step]] = ()) -> None:
+        self._form = asked.form
+        self._paper = Paper(asked.form.paper, asked.form.is_large)
+        self._puzzles = [Numbered(number, puzzle) for number, puzzle in enumerate(puzzles, 1)]
+        self._explained = [Explained(numbered, steps) for numbered, steps in zip(self._puzzles, explained)]
+        self._title = plain(asked.form.title or '') or ' and '.join(GAMES[game] for game in layout.games_of(self._puzzles))
+        #: By this who has cut out a puzzle finds its answer.
+        self._code = hashlib.sha256('\n'.join(puzzle.id for puzzle in puzzles).encode()).hexdigest()[:4].upper()
+        room = layout.id_letters(self._paper.width * 4 // 5, self._paper.print.command)
+        self._again = shortened(plain(asked.titled if len(asked.titled) <= room else asked.again), room)
+        self._pages = list(layout.pages(self._paper, self._puzzles, asked.form.per_page)) if asked.form.answers != 'only' else []
+
+    def html(self) -> str:
+        sections = list(self._sections())
+        every = (self._section(section, f'{number} / {len(sections)}') for number, section in enumerate(sections, 1))
+        return fill(WHOLE, title=self._title, style=Markup(style(self._paper)), sections=joined(every))
+
+    def told(self) -> Iterator[str]:
+        """What there is to say of pages that have fewer puzzles than was asked for."""
+        fewer = ((number, len(page.figures), page.wanted) for number, page in enumerate(self._pages, 1) if len(page.figures) < page.wanted)
+        for (count, wanted), group in groupby(fewer, key=lambda row: row[1:]):
+            numbers = [number for number, *_ in group]
+            which = f'pages {numbers[0]} to {numbers[-1]} have' if len(numbers) > 1 else f'page {numbers[0]} has'
+            yield f'{which} {count} puzzle{"s" if count > 1 else ""}, not {wanted}: more would make the squares too small'
+
+    def _sections(self) -> Iterator[Section]:
+        for page in self._pages:
+            yield Section('', self._body(page), has_name=True)
+        if self._form.answers != 'none':
+            yield from (Section('Answers: ', body) for body in answers.sections(self._paper, self._puzzles, self._form.is_large))
+        if self._explained:
+            yield from (Section('Steps: ', body) for body in listing.sections(self._paper, self._explained))
+
+    def _section(self, section: Section, number: str) -> Markup:
+        right = NAME if section.has_name else f'Sheet {self._code}'
+        parts = {'kind': section.kind, 'title': self._title, 'right': right, 'body': section.body}
+        return fill(SECTION, code=self._code, again=self._again, number=number, **parts)
+
+    def _body(self, page: Page) -> Markup:
+        rules = (fill(RULES, game=GAMES[game], text=layout.RULES[game].format(last=page.last(game))) for game in page.games)
+        figures = joined(self._figure(page, figure) for figure in page.figures)
+        return joined([*rules, fill(PUZZLES, columns=page.density.columns, gap=length(page.row_gap), figures=figures)])
+
+    def _figure(self, page: Page, figure: Figure) -> Markup:
+        density, (number, puzzle) = page.density, figure.numbered
+        name = drawing.title(f'Puzzle {number}', puzzle.board, puzzle.grade)
+        svg = drawing.picture(puzzle.board, drawing.pen(puzzle.game, figure.side, self._paper.print.strength), name)
+        line = density.number_line - CAPTION_TOP
+        lengths = {'height': page.height, 'width': figure.caption_width, 'caption': page.caption_height, 'line': line}
+        fonts = {'number_font': density.number, 'note_font': density.note, 'id_font': density.id, 'id_line': density.id_line}
+        return fill(
+            FIGURE,
+            picture=Markup(drawing.text_of(svg)),
+            number=number,
+            grade=puzzle.grade,
+            game=GAMES[puzzle.game],
+            size=puzzle.size,
+            code=self._code,
+            note=self._note(page, figure),
+            bold=BOLD if density.id < BOLD_BELOW else Markup(''),
+            id=joined(map(safe, layout.id_pieces(puzzle.id)), BREAK),
+            **{name: length(value) for name, value in {**lengths, **fonts}.items()},
+        )
+
+    def _note(self, page: Page, figure: Figure) -> Markup:
+        """The puzzle's own caption, where it has one."""
+        text = layout.note(figure.numbered.puzzle, figure.caption_width, page.density.note, page.notes)
+        if not text:
+            return Markup('')
+        return fill(NOTE, font=length(page.density.note), height=length(page.density.note_line * page.notes), lines=page.notes, text=text)

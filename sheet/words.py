@@ -1,0 +1,179 @@
+"""What the words of the command line ask for."""
+
+from __future__ import annotations
+
+import argparse
+import re
+import shlex
+from typing import Callable, List, NamedTuple, NoReturn, Optional, Sequence
+
+from board.board import GAMES
+from board.games import GRADES, SIZES
+from sheet.choice import MOST
+from sheet.fair import SEEDS
+from sheet.measures import PAPERS
+
+USAGE = """\
+usage: {me} GAME [--size W] [--grade GRADE] [--seed N] [--count N] [FORM]
+       {me} [GAME] --ids FILE [--count N] [FORM]
+       {me} --help | --version
+
+Makes a page in HTML with puzzles for print, and their answers. A browser shows
+and prints it. GAME is towers or unequal.
+
+Which puzzles:
+  --size W         3 to 9; several as 5-7 or 4,6; else 5
+  --grade GRADE    of towers easy, hard, extreme, unreasonable; of unequal
+                   trivial, easy, tricky, extreme, recursive, as far as the
+                   program makes them; several as easy,hard; else easy
+  --seed N         other puzzles for each number; else 1
+  --count N        how many, up to 200; else 12, or all of FILE
+  --ids FILE       the puzzles of a file, or of standard input where it is -:
+                   an ID or the name of a save on each line, then a caption
+
+FORM, how they are printed:
+  --per-page N     so many at most, up to 12; else 6
+  --answers WHERE  end, none or only; else end
+  --steps          tell how each answer goes on
+  --title TEXT     stands above
+  --paper PAPER    a4 or letter; else a4
+  --large          one on a page, for those who see badly
+  --output FILE    where the page goes, if not to standard output
+
+Exit status:
+  0  the page was written
+  1  a file or the program failed
+  2  the command line is refused
+  3  a puzzle or the list of them is refused; nothing was written
+"""
+
+#: What is asked for where nothing is said.
+SIZE, GRADE, SEED, COUNT, PER_PAGE, PAPER = [5], 'easy', 1, 12, 6, 'a4'
+MOST_PER_PAGE = 12
+
+#: Where answers are.
+ANSWERS = ('end', 'none', 'only')
+
+#: A number without anything around it.
+NUMBER = re.compile('0|[1-9][0-9]*')
+
+
+class Wrong(Exception):
+    """The words can't be read. The text says why."""
+
+
+class Form(NamedTuple):
+    """How a sheet is printed."""
+
+    per_page: int
+    answers: str
+    has_steps: bool
+    title: Optional[str]
+    paper: str
+    is_large: bool
+
+
+class Asked(NamedTuple):
+    game: Optional[str]
+    sizes: List[int]
+    #: The letters of grades.
+    letters: List[str]
+    seed: int
+    #: Nothing where all of a list are meant.
+    how_many: Optional[int]
+    #: The list of IDs.
+    ids: Optional[str]
+    form: Form
+    output: Optional[str]
+    #: The words that make the sheet again, and with its title, too.
+    again: str
+    titled: str
+
+
+class Parser(argparse.ArgumentParser):
+    """It raises what it complains of."""
+
+    def error(self, message: str) -> NoReturn:
+        raise Wrong(message)
+
+
+def read(words: Sequence[str]) -> Asked:
+    """Raises `Wrong`."""
+    found = _parser().parse_args(words)
+    if len(found.games) > 1 or not set(found.games) <= set(GAMES) or not (found.games or found.ids is not None):
+        raise Wrong(f'GAME is {" or ".join(GAMES)}')
+    found.game = found.games[0] if found.games else None
+    if found.ids is not None and any(value is not None for value in (found.size, found.grade, found.seed)):
+        raise Wrong('--ids goes without --size, --grade and --seed: the puzzles are there')
+    if found.steps and found.answers == 'none':
+        raise Wrong('--steps goes with answers')
+    letters: List[str] = []
+    if found.ids is None:
+        found.size, found.grade = found.size or SIZE, found.grade or GRADE
+        found.seed = SEED if found.seed is None else found.seed
+        found.count = found.count or COUNT
+        letters = _letters(found.game, found.grade)
+    form = Form(found.per_page, found.answers, found.steps, found.title, found.paper, found.large)
+    again = _again(found)
+    titled = f'{again} --title {shlex.quote(found.title)}' if found.title else again
+    return Asked(found.game, found.size or [], letters, found.seed or 0, found.count, found.ids, form, found.output, again, titled)
+
+
+def _parser() -> Parser:
+    parser = Parser(add_help=False, allow_abbrev=False)
+    parser.add_argument('games', nargs='*')
+    parser.add_argument('--size', type=_sizes)
+    parser.add_argument('--grade')
+    parser.add_argument('--seed', type=_number(0, SEEDS - 1))
+    parser.add_argument('--count', type=_number(1, MOST))
+    parser.add_argument('--ids')
+    parser.add_argument('--per-page', type=_number(1, MOST_PER_PAGE), default=PER_PAGE)
+    parser.add_argument('--answers', choices=ANSWERS, default=ANSWERS[0])
+    parser.add_argument('--steps', action='store_true')
+    parser.add_argument('--title')
+    parser.add_argument('--paper', choices=list(PAPERS), default=PAPER)
+    parser.add_argument('--large', action='store_true')
+    parser.add_argument('--output')
+    return parser
+
+
+def _number(least: int, most: int) -> Callable[[str], int]:
+    def number(text: str) -> int:
+        if not NUMBER.fullmatch(text) or not least <= int(text) <= most:
+            raise argparse.ArgumentTypeError(f'a number from {least} to {most}')
+        return int(text)
+
+    return number
+
+
+def _sizes(text: str) -> List[int]:
+    """Of `5`, `5-7`, `4,6`, or both."""
+    sizes: List[int] = []
+    for piece in text.split(','):
+        first, _, last = piece.partition('-')
+        ends = [int(word) for word in (first, last or first) if NUMBER.fullmatch(word)]
+        if len(ends) != 2 or not SIZES[0] <= ends[0] <= ends[1] <= SIZES[-1]:
+            raise argparse.ArgumentTypeError(f'{SIZES[0]} to {SIZES[-1]}, several as 5-7 or 4,6')
+        sizes += range(ends[0], ends[1] + 1)
+    return sizes
+
+
+def _letters(game: str, text: str) -> List[str]:
+    letters = {name: letter for letter, name in GRADES[game].items()}
+    unknown = [name for name in text.split(',') if name not in letters]
+    if unknown:
+        raise Wrong(f'argument --grade: {game} has the grades {", ".join(letters)}')
+    return [letters[name] for name in text.split(',')]
+
+
+def _again(found: argparse.Namespace) -> str:
+    """The words that make the same sheet, but for its title."""
+    given = [found.game] if found.game else []
+    for name in ('size', 'grade', 'seed', 'ids', 'count'):
+        value = getattr(found, name)
+        given += [f'--{name}', ','.join(map(str, value)) if isinstance(value, list) else str(value)] if value is not None else []
+    given += ['--per-page', str(found.per_page)] if found.per_page != PER_PAGE else []
+    given += ['--answers', found.answers] if found.answers != ANSWERS[0] else []
+    given += ['--paper', found.paper] if found.paper != PAPER else []
+    given += [f'--{name}' for name in ('steps', 'large') if getattr(found, name)]
+    return ' '.join(['puzzles-sheet', *map(shlex.quote, given)])

@@ -1,0 +1,109 @@
+"""A browser without a window: Chromium, told by its own pipe what to do."""
+
+from __future__ import annotations
+
+import base64
+import fcntl
+import json
+import os
+import select
+import shutil
+import subprocess
+import time
+from typing import Any, Mapping
+
+from tests.harness.room import Room
+from tests.harness.skip import Skip
+
+#: It asks nobody for anything, and takes what memory there is.
+WORDS = ['--headless', '--no-sandbox', '--disable-gpu', '--disable-dev-shm-usage', '--no-first-run', '--remote-debugging-pipe']
+
+#: The descriptors by which it is told something, and by which it answers.
+TOLD, ANSWERS = 3, 4
+
+#: Each message ends with this.
+END = b'\0'
+
+
+class Browser:
+    """One window. Where there is no browser the case is skipped."""
+
+    def __init__(self, room: Room, seconds: float = 60) -> None:
+        if not shutil.which('chromium'):
+            raise Skip('there is no chromium')
+        self._seconds = seconds
+        self._came, self._number = b'', 0
+        # Far from the numbers that they get in the browser.
+        theirs, ours = (tuple(fcntl.fcntl(fd, fcntl.F_DUPFD_CLOEXEC, 100) for fd in os.pipe()) for _ in range(2))
+        self._to, self._from = theirs[1], ours[0]
+
+        def begin() -> None:
+            os.dup2(theirs[0], TOLD)
+            os.dup2(ours[1], ANSWERS)
+
+        self._process = subprocess.Popen(
+            ['chromium', *WORDS, f'--user-data-dir={room.path}/profile'],
+            env={**os.environ, 'HOME': room.path},
+            pass_fds=(TOLD, ANSWERS),
+            preexec_fn=begin,
+            stdout=subprocess.DEVNULL,
+            stderr=subprocess.DEVNULL,
+            start_new_session=True,
+        )
+        window = self._ask('Target.createTarget', {}, {'url': 'about:blank'})['targetId']
+        attached = self._ask('Target.attachToTarget', {}, {'targetId': window, 'flatten': True})
+        self._session: Mapping[str, str] = {'sessionId': attached['sessionId']}
+        self.ask('Page.enable')
+
+    def __enter__(self) -> Browser:
+        return self
+
+    def __exit__(self, *_: object) -> None:
+        self._process.kill()
+        self._process.wait()
+
+    def show(self, page: str) -> None:
+        """Shows the page of a file, and waits until it is all there."""
+        self.ask('Page.navigate', url=f'file://{page}')
+        end = time.monotonic() + self._seconds
+        while self.value('document.URL + document.readyState') != f'file://{page}complete':
+            assert time.monotonic() < end, f'{page} is not shown'
+            time.sleep(0.01)
+
+    def printed(self) -> bytes:
+        """The page in PDF, on the paper that it names itself."""
+        return base64.b64decode(self.ask('Page.printToPDF', preferCSSPageSize=True, printBackground=False)['data'])
+
+    def value(self, script: str) -> Any:
+        """What an expression is worth in the page."""
+        found = self.ask('Runtime.evaluate', expression=script, returnByValue=True)
+        assert 'exceptionDetails' not in found, found
+        return found['result'].get('value')
+
+    def ask(self, method: str, **parameters: Any) -> Mapping[str, Any]:
+        """Has the window do something, by the names of Chromium's protocol."""
+        return self._ask(method, self._session, parameters)
+
+    def _ask(self, method: str, session: Mapping[str, str], parameters: Mapping[str, Any]) -> Mapping[str, Any]:
+        self._number += 1
+        message = json.dumps({'id': self._number, 'method': method, 'params': parameters, **session}).encode() + END
+        while message:
+            message = message[os.write(self._to, message) :]
+        while True:
+            answer = self._next()
+            if answer.get('id') == self._number:
+                assert 'error' not in answer, f'{method}: {answer["error"]}'
+                result: Mapping[str, Any] = answer['result']
+                return result
+
+    def _next(self) -> Mapping[str, Any]:
+        """The next message, which may tell an event."""
+        pieces = [self._came]
+        while END not in pieces[-1]:
+            assert select.select([self._from], [], [], self._seconds)[0], 'the browser is silent'
+            came = os.read(self._from, 1 << 20)
+            assert came, 'the browser has ended'
+            pieces.append(came)
+        first, _, self._came = b''.join(pieces).partition(END)
+        message: Mapping[str, Any] = json.loads(first)
+        return message

@@ -1,0 +1,141 @@
+"""Lists of IDs and save files: what is taken, and what is told of each line that isn't. Nothing is written then."""
+
+from __future__ import annotations
+
+import itertools
+from typing import Iterator, List, NamedTuple
+
+import pytest
+
+from tests.harness import Room, by_name
+from tests.harness.game import ID, save_text
+from tests.second_implementation.seeded import generate
+from tests.sheet.making import Maker, content, stored
+from tests.sheet.reading import pictures
+
+#: A small puzzle of each game; the same one turned over, and one with another solution; and three that can't be printed.
+TOWERS, TURNED, OTHER = '3:3//////3/////', '3://3///////3//', '3:///////////,3_2_1_2_1_3_1_3_2'
+UNEQUAL = '3:0,0L,0L,0U,0,0,0U,0,0,'
+SEVERAL, NONE, SHORT = '3:///////////', '3:1,1,0,0,0,0,0,0,0,', '3:1/2'
+
+FEW = "A description has four clues for each of the size, with '/' between, and all squares after a ','."
+SIZE = "An ID begins with the size, one digit from 3 to 9, as 5 in '5!7'."
+
+
+def seeded(game: str) -> str:
+    """The ID of the puzzle 3!7."""
+    return f'3:{generate(game, 3, 7).description()}'
+
+
+class Good(NamedTuple):
+    """A list, and the IDs of what is printed, without letters; what is told of it; and what stands in the page."""
+
+    name: str
+    list: bytes
+    ids: List[str]
+    told: str = ''
+    has: str = ''
+    words: List[str] = []
+
+
+GOOD = [
+    Good('one', TOWERS.encode(), [TOWERS]),
+    Good('either game', content([TOWERS, UNEQUAL]), [TOWERS, UNEQUAL]),
+    Good('CR and a mark of UTF-8', b'\xef\xbb\xbf' + f'{TOWERS}\r\n\r\n{UNEQUAL}\r\n'.encode(), [TOWERS, UNEQUAL]),
+    Good('a caption', f'{UNEQUAL}\t for   <Anna> &\n'.encode(), [UNEQUAL], has='>for &lt;Anna&gt; &amp;</p>'),
+    Good('letters that are none', UNEQUAL.encode() + b' caf\xe9 \x07\x1b[31m\n', [UNEQUAL], has='>caf\ufffd [31m</p>'),
+    Good('a seed of the game that is named', b'unequal 3!7\n', [seeded('unequal')]),
+    Good('a seed where the words name the game', b'3!7 seven', [seeded('towers')], words=['towers'], has='>seven</p>'),
+    Good('another spelling', b'3:///////////,3_2_1_2_1_3_1_3_2', [OTHER]),
+    Good('the same once more', content([TOWERS, TOWERS]), [TOWERS, TOWERS], 'line 2: it has the solution of line 1, perhaps turned over\n'),
+    Good('turned over', content([TOWERS, OTHER, TURNED]), [TOWERS, OTHER, TURNED], 'line 3: it has the solution of line 1, perhaps turned over\n'),
+    Good('two that differ', content([TOWERS, TURNED, OTHER, SEVERAL]), [TOWERS, OTHER], words=['--count', '2']),
+    Good('too few that differ', content([TOWERS, TURNED]), [TOWERS, TURNED], 'line 2: it has the solution of line 1, perhaps turned over\n', words=['--count', '9']),
+]
+
+
+@pytest.mark.parametrize('row', GOOD, ids=by_name)
+def test_good(maker: Maker, row: Good) -> None:
+    page = maker.page([*row.words, '--ids', '-', '--answers', 'none'], row.list, row.told)
+    assert [puzzle.id for puzzle in pictures(page)] == row.ids
+    assert row.has in page
+
+
+class Wrong(NamedTuple):
+    name: str
+    list: bytes
+    told: str
+
+
+WRONG = [
+    Wrong('several solutions', content([TOWERS] * 6 + [SEVERAL]), 'line 7: several solutions\n'),
+    Wrong('each line is told', content([SEVERAL, TOWERS, NONE, SHORT, 'x']), f'line 1: several solutions\nline 3: no solution\nline 4: {FEW}\nline 5: {SIZE}\n'),
+    Wrong('a seed that fits both', b'3!7', 'line 1: it fits both games: towers or unequal before it says which\n'),
+    Wrong('of the game that is named', f'towers {UNEQUAL}'.encode(), f'line 1: {FEW}\n'),
+    Wrong('a long line', b'3:' + b'/' * 5000, 'line 1: A line has 1,024 bytes at most.\n'),
+    Wrong('a line of zeros', b'3:\x00', "line 1: A description has one part for each square, with ',' between.\n"),
+    Wrong('a folder', b'/tmp', 'line 1: /tmp is a folder\n'),
+    Wrong('no save', b'/etc/passwd', "line 1: That is no save file of the collection: one begins with 'SAVEFILE:41:'.\n"),
+    Wrong('empty', b'', 'standard input has no puzzles\n'),
+    Wrong('empty lines', b'\n\r\n \n', 'standard input has no puzzles\n'),
+    Wrong('too many', content([TOWERS] * 201), 'There are 201 puzzles, and a sheet has 200 at most: --count 200 takes the first ones.\n'),
+    Wrong('letters for the terminal', b'\x1b[31m', f'line 1: {SIZE}\n'),
+]
+
+
+@pytest.mark.parametrize('row', WRONG, ids=by_name)
+def test_wrong(maker: Maker, room: Room, row: Wrong) -> None:
+    ended = maker.run(['--ids', '-', '--output', 'page.html'], row.list)
+    assert (ended.status, ended.output, ended.error.decode()) == (3, b'', row.told)
+    assert room.names() == []
+
+
+def test_saves(maker: Maker, room: Room) -> None:
+    """A save in the list, with a caption, in a place whose name has a blank; and as the list itself. Its puzzle is at the start."""
+    room.put('a game.sav', save_text(3))
+    room.put('game.sav', save_text(3))
+    room.put('damaged.sav', save_text(3)[:53])
+    room.put('third.sav', save_text(3).replace(b'GAME    :6:Towers', b'GAME    :5:Mines'))
+    assert [puzzle.id for puzzle in pictures(maker.page(['--ids', '-'], b'a game.sav\n'))] == [ID, ID]
+    assert 'of Anna</p>' in maker.page(['--ids', '-'], b'game.sav of Anna')
+    assert [sum(puzzle.numbers) for puzzle in pictures(maker.page(['--ids', 'game.sav']))] == [0, 18]
+    ended = maker.run(['--ids', '-'], b'damaged.sav\nthird.sav\n')
+    assert (ended.status, ended.output) == (3, b'')
+    assert ended.error.decode() == 'line 1: That save is damaged (Missing).\nline 2: That is a save of Mines, which is not played here.\n'
+
+
+def test_large(maker: Maker, room: Room) -> None:
+    """A list of 1 GB is not read to its end, nor is one that has none."""
+    room.put('large')
+    with open(f'{room.path}/large', 'wb') as file:
+        file.truncate(1 << 30)
+    for name, called in (('large', 'large'), ('/dev/zero', '/dev/zero')):
+        ended = maker.run(['--ids', name])
+        assert (ended.status, ended.error.decode()) == (3, f'{called} has more than 16,777,216 bytes\n')
+
+
+def test_unread(maker: Maker) -> None:
+    for name, why in (('lacks', 'No such file or directory'), ('.', 'Is a directory')):
+        ended = maker.run(['--ids', name])
+        assert (ended.status, ended.error.decode()) == (3, f"{name} can't be read ({why})\n")
+
+
+def test_of_a_bank(maker: Maker) -> None:
+    """A long list gives as many puzzles as were asked for, and no two with one solution."""
+    lines = stored('unequal', 6, 60)
+    page = maker.page(['--ids', '-', '--count', '24', '--answers', 'only'], content(lines))
+    answers = [picture.numbers for picture in pictures(page)]
+    assert len(answers) == 24
+    assert len({tuple(min(turned(answer))) for answer in answers}) == 24
+
+
+def turned(numbers: List[int]) -> Iterator[List[int]]:
+    """A square of Unequal in all its positions, with its numbers in reverse, too; by places, and not by rows."""
+    size = round(len(numbers) ** 0.5)
+    for is_turned, across, down, is_reversed in itertools.product([False, True], repeat=4):
+        found = []
+        for x, y in itertools.product(range(size), repeat=2):
+            column, row = (size - 1 - x if across else x), (size - 1 - y if down else y)
+            number = numbers[size * column + row if is_turned else size * row + column]
+            found.append(size + 1 - number if is_reversed else number)
+        yield found

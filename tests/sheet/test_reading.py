@@ -1,0 +1,90 @@
+"""What is drawn is the puzzle that its ID names, and its only answer: read back from the places of lines and digits."""
+
+from __future__ import annotations
+
+import re
+from typing import List, Sequence
+
+from board.board import Board
+from board.program import Program
+from sheet import drawing
+from tests.harness import Room, run
+from tests.sheet.making import Maker, content, listed
+from tests.sheet.reading import Picture, picture, pictures
+
+#: The ID in a caption, with marks where its lines may end.
+ID = re.compile(r'<code[^>]*>(\d.*?)</code>')
+
+
+def asked(program: str, room: Room, game: str, lines: Sequence[str]) -> List[str]:
+    """What the plain program answers."""
+    ended = run([program, game], room, input=content(lines))
+    assert ended.status == 0
+    return ended.output.decode().splitlines()
+
+
+def plain(id: str) -> str:
+    """An ID without its letter."""
+    return re.sub('^(.)d.:', r'\1:', id)
+
+
+def test_all(maker: Maker, program: str, room: Room) -> None:
+    """Of 200 puzzles of both games and all sizes each is drawn as it was given, and each answer is taken by the program."""
+    lines = listed()
+    ended = maker.run(['--ids', '-', '--title', 'All', '--count', '200'], content(lines))
+    assert ended.status == 0, ended.error
+    page = ended.output.decode()
+    ids = [id.replace('<wbr>', '') for id in ID.findall(page)]
+    drawn = pictures(page)
+    puzzles, answers = drawn[:200], drawn[200:]
+    assert (len(ids), len(drawn)) == (200, 400)
+    assert [plain(id) for id in ids] == [puzzle.id for puzzle in puzzles]
+    assert [answer.id for answer in answers] == [puzzle.id for puzzle in puzzles]
+    for game in ('towers', 'unequal'):
+        expect_solved(program, room, game, lines, ids, answers)
+
+
+def expect_solved(program: str, room: Room, game: str, lines: Sequence[str], ids: Sequence[str], answers: Sequence[Picture]) -> None:
+    """The IDs are those of the lines, and the numbers that are drawn solve them."""
+    rows = [(line, id, answer) for line, id, answer in zip(lines, ids, answers) if answer.game == game]
+    typed = [f'new {line.rpartition(" ")[2]}\nid\nmove S{digits(answer)}\nlist 2' for line, _, answer in rows]
+    answered = asked(program, room, game, typed)
+    for at, (_, id, answer) in enumerate(rows):
+        assert answered[4 * at : 4 * at + 4] == ['ok', id, 'ok', digits(answer)]
+
+
+def digits(answer: Picture) -> str:
+    return ''.join(map(str, answer.numbers))
+
+
+def board_after(program: str, game: str, id: str, moves: Sequence[str]) -> Board:
+    run_of_it = Program(program, game, ['--id', id])
+    try:
+        for move in moves:
+            assert run_of_it.ask(f'move {move}').refused is None
+        board = run_of_it.ask('board').board
+        assert board is not None
+        return board
+    finally:
+        run_of_it.stop()
+
+
+def test_in_play(objects: str) -> None:
+    """A board in play: its numbers, its marks, what contradicts, what is done, and the squares of a hint."""
+    board = board_after(objects, 'towers', '3:3//////3/////,1h', ['R1,0,1', 'P2,2,1', 'P2,2,3', 'D0,-1'])
+    svg = drawing.picture(board, drawing.pen('towers', 1000), 'A board', [(2, 1), (2, 2)])
+    groups = [(group.get('class'), [(text.get('class'), text.text) for text in group]) for group in svg.iter('g') if group.get('font-size')]
+    assert groups == [(None, [('wrong', '1')]), (None, [('wrong', '1')]), (None, [('done', '3'), ('wrong', '3')]), ('marks', [(None, '1'), (None, '3')])]
+    hinted = [path.attrib['d'].count('M') for path in svg.iter('path') if path.get('class') == 'hint']
+    assert hinted == [2]
+    assert svg.findtext('title') == 'A board'
+    assert svg.findtext('desc') == 'Rows: 1 1 -; - - -; - - -. Clues above: 3 - -. Clues below: - - -. Clues left: 3 - -. Clues right: - - -. '
+
+
+def test_wrong_sign(objects: str) -> None:
+    """A sign that no numbers can meet any more is drawn apart from the others."""
+    board = board_after(objects, 'unequal', '3:0,0L,0L,0U,0,0,0U,0,0,', ['R0,0,3'])
+    svg = drawing.picture(board, drawing.pen('unequal', 1000), 'A board')
+    wrong = [path.attrib['d'].count('M') for path in svg.iter('path') if path.get('class') == 'wrong']
+    assert wrong == [2]
+    assert picture(svg).id == '3:0,0L,0L,0U,0,0,0U,0,0,'

@@ -1,0 +1,172 @@
+"""The words of the command line, where the page goes, and that nothing is left where that comes to nothing."""
+
+from __future__ import annotations
+
+import os
+import signal
+import time
+from typing import Callable, NamedTuple, Sequence
+
+import pytest
+
+from tests.harness import Folder, Room, by_name
+from tests.harness.game import ID
+from tests.harness.mounts import fill, small_disk
+from tests.harness.terminal import Terminal
+from tests.sheet.making import PATH, Maker, content
+
+TIP = "'puzzles-sheet --help' tells all words.\n"
+
+
+class Wrong(NamedTuple):
+    words: Sequence[str]
+    told: str
+
+    @property
+    def name(self) -> str:
+        return ' '.join(self.words)
+
+
+WRONG = [
+    Wrong([], 'GAME is towers or unequal'),
+    Wrong(['mines'], 'GAME is towers or unequal'),
+    Wrong(['towers', 'unequal'], 'GAME is towers or unequal'),
+    Wrong(['--ids', 'list', 'mines'], 'GAME is towers or unequal'),
+    Wrong(['towers', '--size', '2'], 'argument --size: 3 to 9, several as 5-7 or 4,6'),
+    Wrong(['towers', '--size', '7-5'], 'argument --size: 3 to 9, several as 5-7 or 4,6'),
+    Wrong(['towers', '--size', '5,'], 'argument --size: 3 to 9, several as 5-7 or 4,6'),
+    Wrong(['towers', '--grade', 'tricky'], 'argument --grade: towers has the grades easy, hard, extreme, unreasonable'),
+    Wrong(['unequal', '--grade', 'easy,,'], 'argument --grade: unequal has the grades trivial, easy, tricky, extreme, recursive'),
+    Wrong(['towers', '--seed=-1'], 'argument --seed: a number from 0 to 18446744073709551615'),
+    Wrong(['towers', '--seed', '007'], 'argument --seed: a number from 0 to 18446744073709551615'),
+    Wrong(['towers', '--seed', '18446744073709551616'], 'argument --seed: a number from 0 to 18446744073709551615'),
+    Wrong(['towers', '--count', '201'], 'argument --count: a number from 1 to 200'),
+    Wrong(['towers', '--per-page', '13'], 'argument --per-page: a number from 1 to 12'),
+    Wrong(['towers', '--paper', 'a5'], "argument --paper: invalid choice: 'a5' (choose from 'a4', 'letter')"),
+    Wrong(['towers', '--steps', '--answers', 'none'], '--steps goes with answers'),
+    Wrong(['--ids', 'list', '--seed', '1'], '--ids goes without --size, --grade and --seed: the puzzles are there'),
+    Wrong(['towers', '--tit', 'x'], 'unrecognized arguments: --tit x'),
+    Wrong(['towers', '--\x1b[31m'], 'unrecognized arguments: --?[31m'),
+]
+
+
+@pytest.mark.parametrize('row', WRONG, ids=by_name)
+def test_wrong(maker: Maker, row: Wrong) -> None:
+    """Nothing is made, and a line says why. How it lists choices depends on the Python."""
+    ended = maker.run(row.words)
+    assert (ended.status, ended.output) == (2, b'')
+    assert ended.error.decode().replace("'", '') == f'puzzles-sheet: {row.told}\n{TIP}'.replace("'", '')
+
+
+def test_help(maker: Maker) -> None:
+    for word in ('--help', '-h'):
+        ended = maker.run([word])
+        assert (ended.status, ended.error) == (0, b'')
+        assert ended.output.startswith(b'usage: puzzles-sheet GAME ')
+    assert maker.run(['--version']).output.startswith(b'puzzles ')
+
+
+LIST = content([ID])
+
+
+def test_output(maker: Maker, room: Room) -> None:
+    """A new file has the mode that others have, an old one keeps its own, and a link stays a link."""
+    room.put('old.html', b'old', 0o604)
+    room.link('link.html', 'old.html')
+    page = maker.page(['--ids', '-'], LIST)
+    for name in ('new.html', 'link.html'):
+        ended = maker.run(['--ids', '-', '--output', name], LIST, umask=0o027)
+        assert (ended.status, ended.output, ended.error) == (0, b'', b'')
+    assert (room.read('new.html'), room.mode('new.html')) == (page.encode(), 0o640)
+    assert (room.read('old.html'), room.mode('old.html'), room.link_text('link.html')) == (page.encode(), 0o604, 'old.html')
+    assert maker.run(['--ids', '-', '--output', '/dev/stdout'], LIST).output == page.encode()
+    assert room.names() == ['link.html', 'new.html', 'old.html']
+
+
+def test_unwritten(maker: Maker, room: Room) -> None:
+    """A folder, a folder that isn't there, a device that is full: told, and nothing is left."""
+    room.make_folder('folder').close()
+    for name, why in (('folder', 'Is a directory'), ('none/page', 'No such file or directory'), ('/dev/full', 'No space left on device')):
+        ended = maker.run(['--ids', '-', '--output', name], LIST)
+        assert (ended.status, ended.output, ended.error.decode()) == (1, b'', f'puzzles-sheet: {name}: {why}\n')
+    assert room.names() == ['folder']
+
+
+def test_full_disk(maker: Maker, room: Room) -> None:
+    """What was there is there as before."""
+    room.make_folder('disk').close()
+    with small_disk(f'{room.path}/disk', 1 << 16), Folder('disk', room) as disk:
+        disk.put('page.html', b'before')
+        fill(disk)
+        ended = maker.run(['--ids', '-', '--output', 'disk/page.html'], content([ID] * 9))
+        assert (ended.status, ended.error) == (1, b'puzzles-sheet: disk/page.html: No space left on device\n')
+        assert (disk.read('page.html'), disk.names()) == (b'before', ['filler', 'page.html'])
+
+
+def test_standard_output(maker: Maker, room: Room) -> None:
+    """One that is full, one that nobody reads any more, and none at all."""
+    with open('/dev/full', 'wb') as full:
+        ended = maker.run(['--ids', '-'], LIST, stdout=full.fileno())
+    assert (ended.status, ended.error) == (1, b'puzzles-sheet: standard output: No space left on device\n')
+    reading, writing = os.pipe()
+    os.close(reading)
+    ended = maker.run(['--ids', '-'], LIST, stdout=writing)
+    os.close(writing)
+    assert (ended.status, ended.error) == (1, b'puzzles-sheet: standard output: Broken pipe\n')
+    ended = maker.run(['--ids', '-'], LIST, closed=[1])
+    assert (ended.status, ended.error) == (1, b'puzzles-sheet: standard output: Bad file descriptor\n')
+
+
+def test_program(maker: Maker, room: Room) -> None:
+    """One that isn't there, that isn't the program, or that ends."""
+    for program, status, told in (
+        ('/no program', 1, b'puzzles-sheet: the program is not built yet: run make\n'),
+        ('/bin/cat', 1, b'puzzles-sheet: the program has ended: '),
+        ('/bin/false', 1, b'puzzles-sheet: the program has ended: status 1\n'),
+    ):
+        ended = maker.run(['--ids', '-', '--output', 'page.html'], LIST, env={'PUZZLES_JSON': program})
+        assert (ended.status, ended.output) == (status, b'') and ended.error.startswith(told), program
+    assert room.names() == []
+
+
+#: A program that never answers.
+SILENT = b'#!/bin/sh\nexec sleep 600\n'
+
+
+@pytest.mark.parametrize('number', [signal.SIGINT, signal.SIGTERM])
+def test_stopped(room: Room, number: signal.Signals) -> None:
+    """A command that is stopped leaves no file, and no program that runs."""
+    room.put('silent', SILENT, 0o755)
+    room.put('list', LIST)
+    env = {'PATH': os.environ['PATH'], 'PUZZLES_JSON': f'{room.path}/silent'}
+    with Terminal([PATH, '--ids', 'list', '--output', 'page.html'], env, cwd=room.path) as terminal:
+        assert eventually(lambda: any(map(is_silent, terminal.programs())))
+        (silent,) = terminal.programs()
+        # It is waited for from now on.
+        time.sleep(0.3)
+        terminal.signal(number)
+        assert terminal.status() == 128 + number
+    assert not os.path.exists(f'/proc/{silent}')
+    assert room.names() == ['list', 'silent']
+
+
+def is_silent(process: int) -> bool:
+    with open(f'/proc/{process}/comm', encoding='utf-8') as file:
+        return file.read() == 'sleep\n'
+
+
+def eventually(holds: Callable[[], object]) -> bool:
+    end = time.monotonic() + 20
+    while not holds() and time.monotonic() < end:
+        time.sleep(0.02)
+    return bool(holds())
+
+
+def test_progress(maker: Maker, objects: str, room: Room) -> None:
+    """It is told on a terminal alone, and gone at the end."""
+    room.put('list', content([f'towers 4!{seed}' for seed in range(12)]))
+    env = {'PATH': os.environ['PATH'], 'PUZZLES_JSON': objects}
+    with Terminal([PATH, '--ids', 'list', '--output', 'page.html'], env, cwd=room.path) as terminal:
+        assert terminal.status() == 0
+        assert '7 of 12' in terminal.shown
+        assert terminal.screen.text()[0] == ''
