@@ -5,7 +5,7 @@ from __future__ import annotations
 import textwrap
 from typing import Callable, List, Optional, Sequence
 
-from board.picture import Piece, Style
+from board.picture import Piece, Style, wrapped
 from board.screen import Screen
 
 #: The board under a question; called anew when the window has another size.
@@ -97,10 +97,12 @@ class Dialogues:
                 return None
 
     def _show(self, text: str, is_line: bool = False, at: Optional[int] = None) -> None:
-        """Text on the last lines, over the board."""
+        """Text right below the board and what stands beside it, or on the last lines, over the board."""
         height, columns = self._screen.size
-        lines = [text] if is_line else textwrap.wrap(text, columns - 2)
-        top = max(0, height - len(lines))
-        pieces = [piece for piece in self._background() if piece.line < top]
+        board = self._background()
+        lines = [text] if is_line else wrapped(text, columns - 2)
+        below = max((piece.line for piece in board), default=height) + 1
+        top = max(0, min(below, height - len(lines)))
+        pieces = [piece for piece in board if piece.line < top]
         pieces += [Piece(top + number, 1, line, Style.TITLE) for number, line in enumerate(lines)]
-        self._screen.paint(pieces, None if at is None else (height - 1, min(at, columns - 1)))
+        self._screen.paint(pieces, None if at is None else (top, min(at, columns - 1)))

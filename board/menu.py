@@ -2,13 +2,12 @@
 
 from __future__ import annotations
 
-import textwrap
 from typing import List, NamedTuple, Optional
 
 from board import games
 from board.board import GAMES
 from board.dialogues import Dialogues
-from board.picture import Piece, Style
+from board.picture import Piece, Style, wrapped
 from board.screen import Screen
 from board.state import State
 
@@ -101,7 +100,7 @@ class Menu:
                 column += len(text)
             line += 2
         for text in [self._note(), games.bank_trouble(self._game), 'Enter begins it; the present game is put away.', 'Arrows choose, any other key goes back.']:
-            for part in textwrap.wrap(text, columns - 2) or ['']:
+            for part in wrapped(text, columns - 2) or ['']:
                 pieces.append(Piece(line, 1, part))
                 line += 1
         return pieces

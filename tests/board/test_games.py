@@ -31,16 +31,16 @@ GAMES: List[BoardGame] = [
         ['towers', ID],
         [
             Look('', ['Towers 3x3', '0 of 9', 'move 0/0']),
-            Look('1', ['│   1   │', '1 of 9', 'move 1/1'], styles=[('1   │', {38}, {31})]),
-            Look('<right>p12', ['PENCIL', '│ 1 2   │', 'move 3/3']),
-            Look('1', ['│   2   │'], ['│ 1 2   │']),
-            Look('<enter>3', ['│   3   │', '2 of 9'], ['PENCIL']),
-            Look('u', ['│   2   │', 'move 4/5']),
-            Look('<ctrl-r>', ['│   3   │', 'move 5/5']),
-            Look('<ctrl-z><ctrl-z>', ['│ 1 2   │', 'move 3/5']),
-            Look('rr<delete>', ['1 of 9', 'move 6/6'], ['│   3   │']),
+            Look('1', ['│     1     │', '1 of 9', 'move 1/1'], styles=[('1     │', {38}, {31})]),
+            Look('<right>p12', ['PENCIL', '│ 1   2     │', 'move 3/3']),
+            Look('1', ['│     2     │'], ['│ 1   2     │']),
+            Look('<enter>3', ['│     3     │', '2 of 9'], ['PENCIL']),
+            Look('u', ['│     2     │', 'move 4/5']),
+            Look('<ctrl-r>', ['│     3     │', 'move 5/5']),
+            Look('<ctrl-z><ctrl-z>', ['│ 1   2     │', 'move 3/5']),
+            Look('rr<delete>', ['1 of 9', 'move 6/6'], ['│     3     │']),
             Look('0', ['There is nothing to clear.', 'move 6/6']),
-            Look('m', ['│ 1 2 3 │', 'move 7/7']),
+            Look('m', ['│ 1   2   3 │', 'move 7/7']),
             Look('<space>', ['move 8/8']),
             Look('R', ['Back at the start', '0 of 9']),
             Look('u', ['1 of 9', 'move 8/9']),
@@ -50,7 +50,7 @@ GAMES: List[BoardGame] = [
         'contradictions are red and have a sign',
         ['towers', GIVEN],
         [
-            Look('<right>1', ['│   1!  │   1!  │'], styles=[('1!', {1, 91}, set()), ('3   │', {1}, {91, 38})]),
+            Look('<right>1', ['│     1!    │     1!    │'], styles=[('1!', {1, 91}, set()), ('3     │', {1}, {91, 38})]),
             Look('u', hides=['1!']),
             Look('<left>2', ['was given with the puzzle']),
             Look('S', ['Fill in the solution? u takes it back. y/N']),
@@ -75,9 +75,9 @@ GAMES: List[BoardGame] = [
         'signs',
         ['unequal', '3:0,0L,0L,0U,0,0,0U,0,0,'],
         [
-            Look('', ['├───^───┼']),
-            Look('3', ['├───^!──┼']),
-            Look('u<right><right>2<left>2', ['2!  <!  2!'], styles=[('<!', {1, 91}, set())]),
+            Look('', ['├─────^─────┼']),
+            Look('3', ['├─────^!────┼']),
+            Look('u<right><right>2<left>2', ['2!    <!    2!'], styles=[('<!', {1, 91}, set())]),
             Look('d', ['marks a clue at the edge']),
         ],
     ),
@@ -127,14 +127,14 @@ GAMES: List[BoardGame] = [
     BoardGame(
         'no colours',
         ['towers', GIVEN],
-        [Look('<right>1', ['|   1!  |   1!  |', '+-------+'], ['│'], styles=[('1!', {1}, {31, 91})])],
+        [Look('<right>1', ['|     1!    |     1!    |', '+-----------+'], ['│'], styles=[('1!', {1}, {31, 91})])],
         term='vt100',
         locale='C',
     ),
     BoardGame(
         'eight colours',
         ['towers', GIVEN],
-        [Look('<right>1', ['│   1!  │   1!  │'], styles=[('1!', {1, 31}, {91})])],
+        [Look('<right>1', ['│     1!    │     1!    │'], styles=[('1!', {1, 31}, {91})])],
         term='xterm',
     ),
     BoardGame('a small window', ['towers', '5!7'], [Look('', ['Towers 5x5   0 of 22', '4  │     │'])], size=(20, 40)),
@@ -190,6 +190,7 @@ MORE = [
     BoardGame('refusals of Unequal', ['unequal', '3!7'], [Look(f':{line}<enter>', [sentence]) for line, sentence in UNEQUAL_REFUSALS]),
     BoardGame('no solution', ['towers', '3:3///3////////'], [Look('Sy', ['No solution exists for this puzzle'])]),
     BoardGame('several solutions', ['towers', '3:3///////////'], [Look('Sy', ['Multiple solutions exist for this puzzle'])]),
+    BoardGame('two lines of a message', ['towers', NINE['towers']], [Look('h', ['Here only one number is left', 'h again tells it.', '? keys'])]),
     BoardGame('a filled square', ['towers', ID], [Look('1p2', ['There is a number: 0 clears it, then set pencil marks.'])]),
 ]
 
@@ -197,6 +198,15 @@ MORE = [
 @pytest.mark.parametrize('game', [*GAMES, *MORE], ids=by_name)
 def test_game(front: BoardFront, game: BoardGame) -> None:
     front.play(game)
+
+
+def test_question(front: BoardFront) -> None:
+    """It stands right below a board that is small in its window."""
+    with front.window(['towers', ID], (60, 200)) as window:
+        window.look('S', ['y/N'])
+        assert window.screen.text()[27] == ' Fill in the solution? u takes it back. y/N'
+        window.look('x:', hides=['y/N'])
+        assert window.screen.text()[27] == ' :'
 
 
 @pytest.mark.parametrize(('game', 'id', 'most'), WHOLE)

@@ -28,19 +28,19 @@ ENDS: List[Tuple[str, Callable[[Terminal], None], int]] = [
 
 #: Sizes of a window, and what stands there then.
 SIZES = [
-    ((43, 132), '│   1   │'),
+    ((43, 132), '│       1       │'),
     ((17, 40), '│   1   │'),
     ((10, 30), 'needs a window of'),
-    ((24, 80), '│   1   │'),
+    ((24, 80), '│     1     │'),
     ((12, 36), '│   1   │'),
 ]
 
 #: Line and column of a click, the button, keys that are pressed then, and what is seen.
 CLICKS = [
-    (9, 16, 0, '2', '│   2   │'),
-    (2, 8, 0, 'd', '3·'),
-    (2, 8, 0, '<down>', '        3\n'.strip()),
-    (13, 10, 2, '1', 'PENCIL'),
+    (10, 21, 0, '2', '│     2     │'),
+    (0, 9, 0, 'd', '3·'),
+    (0, 9, 0, '<down>', '        3\n'.strip()),
+    (16, 9, 2, '1', 'PENCIL'),
 ]
 
 #: A shell with jobs: it says when the front has stopped, and how the terminal is then.
@@ -183,7 +183,7 @@ def test_full_disk(front: BoardFront, room: Room) -> None:
 def test_mouse(front: BoardFront, room: Room) -> None:
     """A click goes to a square or a clue; on the clue of the cursor it sets the done mark; the right button takes pencil marks."""
     with front.window(['towers', ID]) as window:
-        window.look('', ['move 0/0', '│       │'])
+        window.look('', ['move 0/0', '│           │'])
         for line, column, button, keys, text in CLICKS:
             window.click(line, column, button)
             window.look(keys, [text])
@@ -195,11 +195,11 @@ def test_unknown_keys(front: BoardFront, room: Room) -> None:
         window.look('', ['move 0/0'])
         window.send('\x1b[1;5C')
         window.look('', ['That key does nothing', 'move 0/0'])
-        window.look('3', ['1 of 9', 'move 1/1', '|   3   |'])
+        window.look('3', ['1 of 9', 'move 1/1', '|     3     |'])
         window.send('\x1b[3~')
         window.look('', ['0 of 9', 'move 2/2'])
         window.send('\x1b[C')
-        window.look('2', ['|   2   |'])
+        window.look('2', ['|     2     |'])
         window.send('\x1b[15~')
         window.look('', ['That key does nothing', 'move 3/3'])
 
