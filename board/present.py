@@ -2,8 +2,9 @@
 
 from __future__ import annotations
 
+import re
 import time
-from typing import Optional, Protocol
+from typing import Dict, Optional, Protocol
 
 from board import files, hints, texts
 from board.board import Board, Place, Reply
@@ -14,6 +15,10 @@ from board.texts import Ways
 #: Lines over which the program may take long; and how many seconds it may take over any other before a player can stop that, too.
 LONG = ('solve', 'completable', 'list ')
 PATIENCE = 3.0
+
+#: A line that puts a number in; and the name under which it is kept whether marks go with it, and the word for that.
+PUTS = re.compile('move R([0-9]),([0-9]),([1-9])')
+MARKS, GO, STAY = 'marks', 'go', 'stay'
 
 
 class Front(Protocol):
@@ -43,6 +48,8 @@ class PresentGame:
         self._hinted: Optional[Reply] = None
         #: How many hints the present game had.
         self.hints = 0
+        #: Positions after numbers whose marks went with them, and those before these numbers.
+        self._joined: Dict[int, int] = {}
 
     @property
     def has_game(self) -> bool:
@@ -67,16 +74,45 @@ class PresentGame:
     def play(self, line: str) -> Optional[Reply]:
         """Has the program do something, and keeps the game that comes of it. Nothing where that was refused."""
         self.message = ''
+        before, steps = self.board.session.position, self._steps(line)
         reply = self.ask(line)
         self._hinted = None
-        if reply is not None and not self.message:
+        if reply is None or (self.message and not reply.is_lost):
+            return None
+        if not reply.is_lost:
+            self._repeat(line, steps - 1)
+        self._look()
+        if line not in ('undo', 'redo') and self.board.session.position > before:
+            self._joined = {last: first for last, first in self._joined.items() if last <= before}
+            self._take_marks(line, before)
+        self._keep()
+        return None if reply.is_lost else reply
+
+    def toggle_marks(self) -> None:
+        """From here on marks go with a number, or no longer."""
+        word = STAY if self.state.chosen(MARKS) == GO else GO
+        self.state.choose(MARKS, word)
+        self.message = texts.MARKS_GO if word == GO else texts.MARKS_STAY
+
+    def _take_marks(self, line: str, before: int) -> None:
+        """Where a number was put in, its marks go in the same row and column if the player wants that: as moves, which are undone with it."""
+        match = PUTS.fullmatch(line)
+        if match is None or self.state.chosen(MARKS) != GO:
+            return
+        x, y, number = map(int, match.groups())
+        places = [place for place in (*self.board.row(y), *self.board.column(x)) if number in self.board.marks.get(place, ()) and place != (x, y)]
+        if places and all([self.ask(f'move P{x},{y},{number}') for x, y in places]):
             self._look()
-            self._keep()
-            return reply
-        if reply is not None and reply.is_lost:
-            self._look()
-            self._keep()
-        return None
+            self._joined[self.board.session.position] = before
+
+    def _steps(self, line: str) -> int:
+        """How many states back or forth this line goes: to before a number whose marks went with it, or to after them."""
+        position = self.board.session.position
+        if line == 'undo':
+            return position - self._joined.get(position, position - 1)
+        if line == 'redo':
+            return next((last - first for last, first in self._joined.items() if first == position), 1)
+        return 1
 
     def ask(self, line: str) -> Optional[Reply]:
         """The program's reply, with a sentence where it is a refusal; nothing where the program had to be started again."""
@@ -196,6 +232,7 @@ class PresentGame:
             self._program.stop()
         self._program = program
         self._hinted = None
+        self._joined = {}
         if program.first.board is None:
             raise Gone(texts.LOST if program.first.is_lost else f"it doesn't tell its board: {program.first.refused}")
         self._board = program.first.board
@@ -221,7 +258,7 @@ class PresentGame:
             return
         self._saved = ''.join(f'{line}\n' for line in reply.lines).encode('latin-1')
         try:
-            self.state.keep(self._saved)
+            self.message = f'{self.message} {self.state.keep(self._saved)}'.strip()
             self.trouble = ''
         except NotKept as reason:
             self.trouble = str(reason)

@@ -169,7 +169,7 @@ SAVES: List[Game] = [
             Step(['load FOLDER/a game.sav'], ['0 3 1 . . -', 'towers 2/3> ']),
             Step(['open'], ['0  ', 'Towers 3x3, 2 of 9']),
             Step(['open 0'], ['0 3 1 2 . -']),
-            Step(['load FOLDER/nothing.sav'], ['cannot read the file']),
+            Step(['load FOLDER/nothing.sav'], ["There is no file 'FOLDER/nothing.sav'."]),
             Step(['save FOLDER/nothing/game.sav'], ['cannot write the file', 'towers 3/3> ']),
         ],
         saved=save_text(2, 2),

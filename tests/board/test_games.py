@@ -2,13 +2,14 @@
 
 from __future__ import annotations
 
+import re
 from typing import List
 
 import pytest
 
 from board.games import stored
 from tests.board.front import BoardFront, BoardGame, solution, whole_game
-from tests.harness import by_name
+from tests.harness import Room, by_name
 from tests.harness.game import ID
 from tests.harness.terminal import Look
 
@@ -56,6 +57,24 @@ GAMES: List[BoardGame] = [
             Look('S', ['Fill in the solution? u takes it back. y/N']),
             Look('x', ['move 0/1'], ['y/N']),
             Look('Sy', ['Solved!', 'solved with help']),
+        ],
+    ),
+    BoardGame(
+        'marks that go with a number',
+        ['towers', ID],
+        [
+            Look('m1', ['│ 1   2   3 │ 1   2   3 │', 'move 2/2']),
+            Look('uM', ['the marks of a number go when it is put into their row or column', 'move 1/2']),
+            Look('1', ['│           │     2   3 │     2   3 │', 'move 6/6', '3  │     1     │']),
+            Look('u', ['│ 1   2   3 │ 1   2   3 │ 1   2   3 │', 'move 1/6']),
+            Look('r', ['│           │     2   3 │     2   3 │', 'move 6/6']),
+            Look('<right>2', ['│     1     │     2     │', 'move 10/10']),
+            Look('uu', ['move 1/10']),
+            Look('rr', ['move 10/10']),
+            Look('b', ['there is nothing to take back']),
+            Look('M', ['From now on marks stay']),
+            Look('<right>3', ['│     1     │     2     │     3     │', 'move 11/11']),
+            Look('u', ['move 10/11']),
         ],
     ),
     BoardGame(
@@ -119,6 +138,13 @@ GAMES: List[BoardGame] = [
             Look('x:sing<enter>', ['No such command: ? shows the keys.']),
             Look(':<escape>', ['move 0/0']),
             Look('x', ['That key does nothing']),
+            # A key that closes a page does its work on the board, unless it is one to close pages with.
+            Look('?', ['any key goes back']),
+            Look('n', ['A new game']),
+            Look('q?q', ['move 0/0']),
+            Look('??', ['move 0/0']),
+            Look('?<right>1', ['move 1/1']),
+            Look('?u', ['move 0/1']),
         ],
     ),
     BoardGame('Ctrl-C leaves', ['towers', ID], [Look('1', ['1 of 9'])], last='<ctrl-c>'),
@@ -198,6 +224,33 @@ MORE = [
 @pytest.mark.parametrize('game', [*GAMES, *MORE], ids=by_name)
 def test_game(front: BoardFront, game: BoardGame) -> None:
     front.play(game)
+
+
+def test_kept_choice(front: BoardFront, room: Room) -> None:
+    """That marks go is kept, and holds in lines, too; what is saved can be opened anywhere."""
+    with front.window(['towers', ID]) as window:
+        window.look('M', ['From now on'])
+        window.press('q')
+        assert window.status() == 0, 'the status'
+    with front.window(['--lines']) as window:
+        window.look('m<enter>', ['9 squares have other pencil marks'])
+        window.look('0 0 1<enter>', ['row 0, column 0 is 1; row 0 lacks 2 and 3; 4 other squares have other pencil marks'])
+        window.look('0 1<enter>', ['row 1, column 0 is empty, marked 2 and 3'])
+        window.look('undo<enter>', ['towers 2/7>'])
+        window.look('tidy<enter>', ['From now on marks stay'])
+        window.look('redo<enter>', ['towers 7/7>'])
+        window.press('q<enter>')
+        assert window.status() == 0, 'the status'
+    moves = [b'M', b'R0,0,1', b'P1,0,1', b'P2,0,1', b'P0,1,1', b'P0,2,1']
+    assert re.findall(rb'^MOVE    :.:(.*)$', room.read('state/puzzles/towers.sav') or b'', re.MULTILINE) == moves
+
+
+def test_no_color(front: BoardFront) -> None:
+    """With NO_COLOR the terminal is sent no colour."""
+    with front.window(['towers', GIVEN], env={**front.env(), 'NO_COLOR': '1'}) as window:
+        window.look('<right>1', ['1!'], styles=[('1!', {1}, {31, 91, 38})])
+        window.look('<right><down>p1', ['PENCIL'])
+        assert not re.search(rb'\x1b\[[0-9;]*\b[349][0-9]\b[0-9;]*m', window.came), 'a colour'
 
 
 def test_question(front: BoardFront) -> None:

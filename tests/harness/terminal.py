@@ -32,6 +32,7 @@ NAMED: Dict[str, str] = {
     'ctrl-r': '\x12',
     'ctrl-c': '\x03',
     'space': ' ',
+    'tab': '\t',
 }
 
 KEY = re.compile(r'<([a-z-]+)>|(.)', re.DOTALL)
