@@ -144,7 +144,8 @@ class PresentGame:
         if reply is None or reply.hint is None:
             return None
         if reply.hint.cell is None:
-            self.message = 'The board is full.' if self.board.is_full and reply.hint.kind == 'nothing' else texts.HINTS[reply.hint.kind]
+            is_full = self.board.is_full and reply.hint.kind == 'nothing'
+            self.message = (texts.SOLVED if self.board.is_solved else 'The board is full.') if is_full else texts.HINTS[reply.hint.kind]
             return None
         self._hinted = reply
         self.hints += 1
@@ -157,11 +158,11 @@ class PresentGame:
         reply = self.ask('completable')
         if reply is None or not reply.completable:
             return
-        self.message = texts.COMPLETABLE[reply.completable]
+        self.message = texts.SOLVED if self.board.is_solved else texts.COMPLETABLE[reply.completable]
         if reply.completable == 'none':
             moves = self._undone_until_completable()
             if moves:
-                self._repeat('redo', moves)
+                self._redo_all()
                 self.message = texts.since(moves, self.ways)
 
     def back(self) -> None:
@@ -183,22 +184,33 @@ class PresentGame:
 
     def _undone_until_completable(self) -> Optional[int]:
         """How many moves were undone; 0 where the numbers never could be completed, and nothing where that wasn't told: then the board is as it was."""
-        for moves in range(1, self.board.session.position):
-            reply = self.ask('undo') and self.ask('completable')
+        position, moves = self.board.session.position, 0
+        while position > 1:
+            before = self._joined.get(position, position - 1)
+            reply = self._repeat('undo', position - before) and self.ask('completable')
             if reply is None or reply.completable is None:
-                # The program may have been started again, with the game as it was kept.
-                if reply is not None:
-                    self._repeat('redo', moves)
+                self._redo_all()
                 return None
+            position, moves = before, moves + 1
             if reply.completable != 'none':
                 return moves
-        self._repeat('redo', self.board.session.position - 1)
+        self._redo_all()
         return 0
 
-    def _repeat(self, line: str, times: int) -> None:
+    def _redo_all(self) -> None:
+        """Redoes what was undone since the board was looked at; nothing, where the program was started again meanwhile."""
+        reply = self.ask('status')
+        if reply and reply.session:
+            self._repeat('redo', self.board.session.position - reply.session.position)
+
+    def _repeat(self, line: str, times: int) -> Optional[Reply]:
+        """The last reply; nothing where the program had to be started again."""
+        reply: Optional[Reply] = None
         for _ in range(times):
-            if self.ask(line) is None:
-                return
+            reply = self.ask(line)
+            if reply is None:
+                break
+        return reply
 
     # --- files ---
 

@@ -247,6 +247,7 @@ class State:
         if self._folder is None or files.read(self._choices_path()).is_closed:
             return
         choices = {**self._kept_choices(), **self._chosen}
+        self._make_folder()
         with contextlib.suppress(NotKept):
             _keep(self._choices_path(), ''.join(f'{name} {value}\n' for name, value in sorted(choices.items())).encode('latin-1'))
 
@@ -269,6 +270,7 @@ class State:
         if trouble:
             raise NotKept(trouble)
         if self._folder is not None:
+            self._make_folder()
             _keep(self._marks_path(game), ''.join(f'{id}\n' for id in sorted(ids)).encode('latin-1'))
 
     def played_trouble(self, game: str) -> str:

@@ -108,6 +108,7 @@ COMPLETABLE = {
     'several': 'These numbers can still be completed, in several ways.',
 }
 
+SOLVED = 'The board is solved.'
 CAN_BE_COMPLETED = 'These numbers can still be completed: there is nothing to take back.'
 NEVER = "Not even the board at the start can be completed: there is nothing to go back to."
 

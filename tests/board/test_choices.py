@@ -50,7 +50,7 @@ def test_words(front: BoardFront, room: Room) -> None:
             assert window.status() == 0, f'{words}: the status'
     with front.window([]) as window:
         window.look('n', ['[Towers]', '[7]', '[hard]', '50 puzzles, 49 of them new to you'])
-        window.look('<up><up><right>', ['[Unequal]', '[6]', '[tricky]'])
+        window.look('<up><up><right>', ['[Unequal]', '[6]', '[tricky]', '200 puzzles, 199 of them new to you'])
         window.look('q', ['Towers 5x5'], ['A new game'])
         window.press('q')
         window.status()

@@ -72,6 +72,12 @@ GAMES: List[BoardGame] = [
             Look('uu', ['move 1/10']),
             Look('rr', ['move 10/10']),
             Look('b', ['there is nothing to take back']),
+            # A number and the marks that went with it are one move to a player.
+            Look('<down><down>3', ['3 of 9', 'move 14/14']),
+            Look('c', ["These numbers can't be completed since the last move: b takes it back.", 'move 14/14']),
+            Look('b', ['One move back', 'move 10/14']),
+            Look('r', ['move 14/14']),
+            Look('u<up><up>', ['move 10/14']),
             Look('M', ['From now on marks stay']),
             Look('<right>3', ['│     1     │     2     │     3     │', 'move 11/11']),
             Look('u', ['move 10/11']),
@@ -108,6 +114,8 @@ GAMES: List[BoardGame] = [
             Look('2', ['Solved!', 'solved']),
             Look('3', ['was solved', 'Full, but not right yet'], ['Solved!']),
             Look('u', ['Solved!']),
+            Look('h', ['The board is solved.']),
+            Look('c', ['The board is solved.']),
         ],
     ),
     BoardGame(
