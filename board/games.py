@@ -133,4 +133,4 @@ def summary(path: str, saved: SavedGame, waiting: Waiting) -> str:
     grade = GRADES[game].get(board.session.letter, '')
     filled, empty = board.own
     state = ', solved' if board.is_solved else f', {filled} of {empty}'
-    return name + f'{GAMES[game]} {board.size}x{board.size} {grade}'.rstrip() + state + (', left as it is' if saved.home is Home.PRESENT else '')
+    return name + f'{GAMES[game]} {board.size}x{board.size} {grade}'.rstrip() + state + (', not put away' if saved.home is Home.PRESENT else '')

@@ -2,6 +2,7 @@
 
 from __future__ import annotations
 
+import os
 import re
 import time
 from typing import Dict, Optional, Protocol
@@ -219,6 +220,10 @@ class PresentGame:
         other = files.other_than_file(file)
         if other:
             self.message = f'{file} {other}: a game is saved to a file.'
+            return False
+        folder = os.path.dirname(file)
+        if folder and not os.path.isdir(folder):
+            self.message = f"There is no folder '{folder}'."
             return False
         try:
             complaint = save_to(self.path, self.game, self._saved, file, self.waiting(is_long=True))

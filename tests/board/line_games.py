@@ -170,7 +170,7 @@ SAVES: List[Game] = [
             Step(['open'], ['0  ', 'Towers 3x3, 2 of 9']),
             Step(['open 0'], ['0 3 1 2 . -']),
             Step(['load FOLDER/nothing.sav'], ["There is no file 'FOLDER/nothing.sav'."]),
-            Step(['save FOLDER/nothing/game.sav'], ['cannot write the file', 'towers 3/3> ']),
+            Step(['save FOLDER/nothing/game.sav'], ["There is no folder 'FOLDER/nothing'.", 'towers 3/3> ']),
         ],
         saved=save_text(2, 2),
     ),

@@ -75,7 +75,7 @@ def test_saved(front: BoardFront, room: Room) -> None:
         window.look('<right>3w<enter>', ['3 of 9', 'Saved in FOLDER/a game.sav'])
         assert room.read('a game.sav') == save_text(3), 'the save again'
         window.look('wFOLDER/notes.txt<enter>y', ['Saved in FOLDER/notes.txt'])
-        window.look('wFOLDER/nothing/game.sav<enter>', ['The program says'])
+        window.look('wFOLDER/nothing/game.sav<enter>', ["There is no folder 'FOLDER/nothing'."])
         window.press('q')
         window.status()
     with front.window([os.path.join(room.path, 'a game.sav')]) as window:
@@ -97,12 +97,12 @@ def test_listed(front: BoardFront, room: Room) -> None:
         assert window.status() == 0, 'the status'
     with front.window(['towers', ID]) as window:
         window.look('1', ['1 of 9'])
-        shows = ['Unequal 3x3, 1 of 7, left as it is', '1 a file ..', 'mine.sav: Towers 3x3, 3 of 9', 'other.sav: Keen, not played here', "bad.sav: save, can't be read"]
+        shows = ['Unequal 3x3, 1 of 7, not put away', '1 a file ..', 'mine.sav: Towers 3x3, 3 of 9', 'other.sav: Keen, not played here', "bad.sav: save, can't be read"]
         window.look('o', shows, ['notes.txt'])
         window.look('7m9x', shows)
         window.look('q', ['Towers 3x3', '1 of 9', 'move 1/1'])
         window.look('o0', ['Unequal 3x3', '1 of 7'])
-        window.look('o', ['0', 'Towers 3x3, 1 of 9, left as it is', 'mine.sav'])
+        window.look('o', ['0', 'Towers 3x3, 1 of 9, not put away', 'mine.sav'])
         window.look('<down><down><enter>', ['Towers 3x3', '3 of 9'], ['Go on'])
         window.look('<right>w', ['save as: mine.sav'])
         window.press('<escape>q')
