@@ -61,7 +61,9 @@ class Layout(NamedTuple):
         return line + self.deep // 2, column + self.wide // 2
 
     def place_at(self, line: int, column: int) -> Optional[Place]:
-        """The square there, or the place of a clue; nothing for other spots."""
+        """The square there, or the place of a clue; nothing for other spots, as the texts at the side."""
+        if not (self.left - 3 <= column <= self.right + 3 and self.top - 1 <= line <= self.bottom + 1):
+            return None
         x = (column - self.left - 1) // (self.wide + 1) if column > self.left else -1
         y = (line - self.top - 1) // (self.deep + 1) if line > self.top else -1
         x, y = min(x, self.size), min(y, self.size)

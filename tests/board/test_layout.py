@@ -2,10 +2,11 @@
 
 from __future__ import annotations
 
-from typing import List, NamedTuple, Tuple
+from typing import List, NamedTuple, Optional, Tuple
 
 import pytest
 
+from board.board import Place
 from board.games import stored
 from board.layout import fit
 from board.picture import KEYS_ASIDE, KEYS_BELOW, Look, picture
@@ -45,6 +46,26 @@ WINDOWS: List[Window] = [
     Window('unequal', 4, (20, 40), 1, (11, 1)),
     Window('unequal', 4, (22, 40), 3, (18, 1)),
 ]
+
+
+#: Line and column of a click on Towers 3x3 in 80x24, and the square or the clue that is meant.
+CLICKS = [
+    (2, 4, (0, 0)),
+    (10, 21, (1, 1)),
+    (0, 9, (0, -1)),
+    (20, 33, (2, 3)),
+    (4, 0, (-1, 0)),
+    (4, 42, (3, 0)),
+    (4, 45, None),
+    (18, 60, None),
+    (22, 9, None),
+]
+
+
+@pytest.mark.parametrize(('line', 'column', 'place'), CLICKS)
+def test_click(line: int, column: int, place: Optional[Place]) -> None:
+    layout = fit(3, True, 24, 80)
+    assert layout and layout.place_at(line, column) == place
 
 
 @pytest.mark.parametrize('window', WINDOWS, ids=by_name)
