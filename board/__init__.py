@@ -4,6 +4,7 @@ There is no rule of play here. What is wrong, what is full and what follows come
 line, and is painted. From below upwards:
 
 board        what the program tells of a game
+typed        numbers as they are typed
 files        reads, makes and locks files: regular ones alone
 saves        what the board itself sees in a save
 program      talks to the program

@@ -12,6 +12,7 @@ from board.games import GRADES, SEEDED_SIZES, SIZES
 from board.program import Waiting
 from board.speech import listed
 from board.state import State
+from board.typed import is_number
 
 #: Kinds that have no grade: the best of some seeds, and the seed that today's date is.
 SEEDED, TODAY = 'seeded', 'today'
@@ -49,7 +50,7 @@ class Choice(NamedTuple):
 def are_words(words: Sequence[str]) -> bool:
     """Whether these are all sizes, and grades of either game, or what stands for one."""
     kinds = {SEEDED, TODAY, *(grade for grades in GRADES.values() for grade in grades.values())}
-    return bool(words) and all(word.isdigit() or word.lower() in kinds for word in words)
+    return bool(words) and all(is_number(word) or word.lower() in kinds for word in words)
 
 
 def choice_of(words: Sequence[str], last: Choice) -> Choice:
@@ -57,8 +58,8 @@ def choice_of(words: Sequence[str], last: Choice) -> Choice:
     grades = list(GRADES[last.game].values())
     size, kind = '', ''
     for word in (word.lower() for word in words):
-        if word.isdigit():
-            size = word
+        if word.isdecimal():
+            size = word if is_number(word) else '0'
         elif word in (*grades, SEEDED, TODAY):
             kind = word
         else:
@@ -75,7 +76,7 @@ def choice_of(words: Sequence[str], last: Choice) -> Choice:
 def remembered(state: State, game: str) -> Optional[Choice]:
     """What was chosen last of a game."""
     size, _, kind = state.chosen(game).partition(' ')
-    is_known = size.isdigit() and int(size) in SIZES and kind in (SEEDED, *GRADES[game].values())
+    is_known = is_number(size) and int(size) in SIZES and kind in (SEEDED, *GRADES[game].values())
     return Choice(game, int(size), kind) if is_known else None
 
 

@@ -8,6 +8,7 @@ from typing import Callable, List, Optional, Sequence
 from board.file_names import completed
 from board.picture import Piece, Style, wrapped
 from board.screen import Key, Screen
+from board.typed import is_number
 
 #: The board under a question; called anew when the window has another size.
 Background = Callable[[], List[Piece]]
@@ -103,7 +104,7 @@ class Dialogues:
                 at = (at + (1 if name in ('down', 'j') else -1)) % len(rows)
             elif name in ('enter', ' '):
                 return at
-            elif name.isdigit() and len(name) == 1 and int(name) < len(rows):
+            elif is_number(name) and int(name) < len(rows):
                 return int(name)
             elif name == 'q' or name in LEAVING:
                 return None

@@ -30,7 +30,7 @@ def question(file: str) -> str:
 def names_after(text: str) -> List[str]:
     """What may come in place of a name that is being typed: names of files that begin so, folders with a `/`."""
     folder, begin = os.path.split(file_name(text))
-    names = sorted(name for name in files.names_in(folder or '.')[0] if name.startswith(begin) and name.startswith('.') <= begin.startswith('.'))
+    names = [name for name in sorted(files.names_in(folder or '.')[0]) if name.startswith(begin) and (begin or not name.startswith('.'))]
     head = text[: len(text) - len(begin)]
     return [head + name + ('/' if os.path.isdir(os.path.join(folder, name)) else '') for name in names]
 

@@ -17,6 +17,7 @@ from board.menu import Menu
 from board.state import Home, State
 from board.table import Table
 from board.texts import BY_KEYS
+from board.typed import is_number
 
 
 class FullScreen:
@@ -103,7 +104,7 @@ class FullScreen:
             self.table.message = ''
         if key in keys.STEPS:
             self._move(*keys.STEPS[key])
-        elif key.isdigit() and key != '0':
+        elif is_number(key) and key != '0':
             self._number(int(key))
         elif key in self._actions:
             self._actions[key]()
@@ -135,7 +136,7 @@ class FullScreen:
     def _page(self, title: str, lines: List[str]) -> None:
         """A page of text. The key that closes it does its work on the board, unless it is one to close pages with."""
         key = self._dialogues.page(title, lines)
-        if key.name not in keys.CLOSING and (key.name in self._actions or key.name in keys.STEPS or key.name.isdigit()):
+        if key.name not in keys.CLOSING and (key.name in self._actions or key.name in keys.STEPS or is_number(key.name)):
             self._screen.give_back(key)
 
     # --- the cursor ---

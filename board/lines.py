@@ -18,6 +18,7 @@ from board.prompt import Prompt
 from board.state import State
 from board.table import Table
 from board.texts import BY_LINES
+from board.typed import is_number
 
 NUMBER = r'(-?[0-9]+)'
 BETWEEN = '[ ,]+'
@@ -185,7 +186,7 @@ class LineMode:
 
     def _line(self, text: str, kind: str, sentence: Callable[[Board, int], str]) -> None:
         size = self._table.board.size
-        if text.isdigit() and int(text) < size:
+        if is_number(text) and int(text) < size:
             say(sentence(self._table.board, int(text)))
         else:
             say(f"'{kind} 0' tells what is there: a number from 0 to {size - 1}.")
@@ -220,7 +221,7 @@ class LineMode:
         words = [word for word in words if word.lower() not in GAMES]
         present = Choice(game, board.size, GRADES[game].get(board.session.letter, ''))
         try:
-            if all(word.isalnum() and (word.isdigit() or word.isalpha()) for word in words):
+            if all(word.isdecimal() or word.isalpha() for word in words):
                 choice = choice_of(words, remembered(self._table.state, game) or present)
             else:
                 choice = present._replace(id=words[-1])
@@ -257,7 +258,7 @@ class LineMode:
 
     def _open(self, text: str) -> None:
         saved = self._table.saved_games('')
-        if text.isdigit() and int(text) < len(saved):
+        if is_number(text) and int(text) < len(saved):
             if self._table.go_on_with(saved[int(text)]):
                 self._begun()
             return

@@ -13,6 +13,7 @@ from board.printable import printable
 from board.program import Gone
 from board.state import State
 from board.table import is_there
+from board.typed import is_number
 from board.version import ABOVE, about, told
 
 USAGE = """\
@@ -93,7 +94,7 @@ def read(words: List[str]) -> Optional[Words]:
     if any(word.startswith('-') for word in plain) or {'--lines', '--ids'} <= set(words):
         return None
     if '--ids' in words:
-        count = plain.pop() if sum(word.isdigit() for word in plain) > 1 and plain[-1].isdigit() else '1'
+        count = plain.pop() if sum(map(is_number, plain)) > 1 and is_number(plain[-1]) else '1'
         return Words(game, kind=plain, ids=int(count)) if int(count) > 0 and (are_words(plain) or not plain) else None
     asked = Words(game, is_lines='--lines' in words)
     if are_words(plain) and not (len(plain) == 1 and is_there(plain[0])):

@@ -11,6 +11,7 @@ from board.dialogues import LEAVING, Dialogues
 from board.picture import Piece, Style, wrapped
 from board.screen import Screen
 from board.state import State
+from board.typed import is_number
 
 BY_ID = 'ID'
 
@@ -37,7 +38,7 @@ class Menu:
                 self._line = (self._line + (1 if name in ('down', 'j') else -1)) % 3
             elif name in ('left', 'h', 'right', 'l', ' '):
                 self._change(-1 if name in ('left', 'h') else 1)
-            elif name.isdigit() and len(name) == 1 and int(name) in games.SIZES:
+            elif is_number(name) and int(name) in games.SIZES:
                 self._size = int(name)
                 self._keep_kind()
             elif name == 'enter':
@@ -76,7 +77,7 @@ class Menu:
         text = Dialogues(self._screen, self._pieces).read('ID, or a number as the seed:')
         if not text:
             return None
-        return Choice(self._game, self._size, id=f'{self._size}!{text}' if text.isdigit() else text)
+        return Choice(self._game, self._size, id=f'{self._size}!{text}' if text.isdecimal() else text)
 
     def _pieces(self) -> List[Piece]:
         sizes = [str(size) for size in games.SIZES]

@@ -146,6 +146,9 @@ GAMES: List[BoardGame] = [
             Look('x:sing<enter>', ['No such command: ? shows the keys.']),
             Look(':<escape>', ['move 0/0']),
             Look('x', ['That key does nothing']),
+            # A digit that is no number, as a French keyboard has one.
+            Look('²', ['That key does nothing']),
+            Look('n²q:new ²<enter>', ['An ID begins with the size']),
             # A key that closes a page does its work on the board, unless it is one to close pages with.
             Look('?', ['any key goes back']),
             Look('n', ['A new game']),
