@@ -49,7 +49,7 @@ class PresentGame:
         self._hinted: Optional[Reply] = None
         #: How many hints the present game had.
         self.hints = 0
-        #: Positions after numbers whose marks went with them, and those before these numbers.
+        #: Positions after numbers whose marks went with them, and those before these marks.
         self._joined: Dict[int, int] = {}
 
     @property
@@ -96,18 +96,18 @@ class PresentGame:
         self.message = texts.MARKS_GO if word == GO else texts.MARKS_STAY
 
     def _take_marks(self, line: str, before: int) -> None:
-        """Where a number was put in, its marks go in the same row and column if the player wants that: as moves, which are undone with it."""
+        """Where a number was put in, its marks go in the same row and column if the player wants that: by moves before it, so it is the first to be undone."""
         match = PUTS.fullmatch(line)
         if match is None or self.state.chosen(MARKS) != GO:
             return
         x, y, number = map(int, match.groups())
         places = [place for place in (*self.board.row(y), *self.board.column(x)) if number in self.board.marks.get(place, ()) and place != (x, y)]
-        if places and all([self.ask(f'move P{x},{y},{number}') for x, y in places]):
+        if places and all([self.ask(again) for again in ('undo', *(f'move P{x},{y},{number}' for x, y in places), line)]):
             self._look()
             self._joined[self.board.session.position] = before
 
     def _steps(self, line: str) -> int:
-        """How many states back or forth this line goes: to before a number whose marks went with it, or to after them."""
+        """How many states back or forth this line goes: to before the marks that went with a number, or to after it."""
         position = self.board.session.position
         if line == 'undo':
             return position - self._joined.get(position, position - 1)

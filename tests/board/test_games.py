@@ -252,7 +252,12 @@ def test_kept_choice(front: BoardFront, room: Room) -> None:
         window.look('redo<enter>', ['towers 7/7>'])
         window.press('q<enter>')
         assert window.status() == 0, 'the status'
-    moves = [b'M', b'R0,0,1', b'P1,0,1', b'P2,0,1', b'P0,1,1', b'P0,2,1']
+    with front.window([]) as window:
+        # What went together is known while the board runs; of a game that goes on the number is undone first.
+        window.look('u', ['0 of 9', 'move 5/6', '│     2   3 │'])
+        window.press('rq')
+        assert window.status() == 0, 'the status at the end'
+    moves = [b'M', b'P1,0,1', b'P2,0,1', b'P0,1,1', b'P0,2,1', b'R0,0,1']
     assert re.findall(rb'^MOVE    :.:(.*)$', room.read('state/puzzles/towers.sav') or b'', re.MULTILINE) == moves
 
 
