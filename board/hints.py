@@ -2,6 +2,8 @@
 
 from __future__ import annotations
 
+from board.typed import is_number
+
 
 def file_of(save: str) -> str:
     """The file beside a kept game."""
@@ -16,7 +18,7 @@ def content_of(count: int, id: str) -> bytes:
 def count_in(content: bytes, id: str) -> int:
     """How many hints that tells of the puzzle; none where it is of another one, or can't be read."""
     count, _, of = content.decode('latin-1').strip().partition(' ')
-    return int(count) if of == id and count.isdigit() and len(count) < 10 else 0
+    return int(count) if of == id and is_number(count) else 0
 
 
 def told(count: int) -> str:

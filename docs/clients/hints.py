@@ -5,11 +5,12 @@ from subprocess import PIPE, Popen
 from typing import Any
 
 program, game, id = sys.argv[1:]
-puzzles = Popen([program, game, '--id', id], stdin=PIPE, stdout=PIPE, bufsize=0)
+puzzles = Popen([program, game, '--id', id], stdin=PIPE, stdout=PIPE)
 
 def ask(line: str, key: str) -> Any:
     assert puzzles.stdin and puzzles.stdout
     puzzles.stdin.write(line.encode() + b'\n')
+    puzzles.stdin.flush()
     answer = json.loads(puzzles.stdout.readline() or sys.exit(1))
     return answer[key] if not (answer.get('lost') or answer['refused']) else sys.exit(str(answer))
 
