@@ -116,7 +116,8 @@ def picture(board: Board, with_pen: Pen, name: str, hinted: Collection[Place] = 
     SubElement(svg, 'title').text = name
     SubElement(svg, 'desc').text = ' '.join([*told(board), ''])
     if hinted:
-        SubElement(svg, 'path', {'class': 'hint', 'd': ''.join(square(places, place) for place in sorted(hinted))})
+        around = ''.join(square(places, place) for place in sorted(hinted))
+        SubElement(svg, 'path', {'class': 'hint', 'd': around, 'stroke-width': str(2 * with_pen.frame)})
     _add_grid(svg, places, with_pen)
     _add_signs(svg, board, places, with_pen)
     _add_numbers(svg, board, places, with_pen)

@@ -2,6 +2,7 @@
 
 from __future__ import annotations
 
+import itertools
 import re
 import textwrap
 from functools import lru_cache
@@ -148,9 +149,10 @@ class Plan:
         self._room = paper.room(games_of(some))
         self._width = (paper.width - measures.COLUMN_GAP * (density.columns - 1)) // density.columns
         self._height = (self._room - measures.ROW_GAP * (density.rows - 1)) // density.rows
-        note_width = self._width if density.columns > 1 else measures.WIDEST_CAPTION
+        # Of captions; where a page has one column they are as wide as it only if nothing else will do.
+        self._widths = [self._width] if density.columns > 1 else [measures.CAPTION_WIDTH, self._width]
         longest = max((width(each.puzzle.caption) for each in some), default=0)
-        self._notes = min(MOST_NOTES, -(-longest // letters(note_width, density.note)))
+        self._notes = min(MOST_NOTES, -(-longest // letters(self._widths[0], density.note)))
 
     def page(self) -> Optional[Page]:
         """Nothing where a square would be too small."""
@@ -175,9 +177,9 @@ class Plan:
     def _fit(self, game: str, size: int, least_height: int) -> Optional[Fit]:
         """The greatest square at which the picture, and the caption with the longest of the IDs, come into their place."""
         ids = [each.puzzle.id for each in self._some if (each.puzzle.game, each.puzzle.size) == (game, size)]
-        for side in range(self._density.most_side, measures.LEAST_SIDE[size] - 1, -5):
+        for width, side in itertools.product(self._widths, range(self._density.most_side, measures.LEAST_SIDE[size] - 1, -5)):
             full = drawing.extent(game, size, drawing.pen(game, side, self._strength))
-            caption_width = self._width if self._density.columns > 1 else max(full, min(self._width, measures.WIDEST_CAPTION))
+            caption_width = max(full, width)
             caption_height = max(least_height, *(self._caption_height(id, caption_width) for id in ids))
             if full <= self._width and full + caption_height <= self._height:
                 return Fit(side, full, caption_width, caption_height)

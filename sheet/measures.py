@@ -119,8 +119,8 @@ LARGE_DENSITIES = [Density(columns=1, rows=1, most_side=2600, number=847, note=4
 #: Below this font an ID is bold: a copier eats the strokes of small letters.
 BOLD_BELOW = 229
 
-#: A caption is no wider, where a page has one column; and so much of its first line is free above.
-WIDEST_CAPTION, CAPTION_TOP = 7000, 80
+#: A caption is as wide as that at least, where a page has one column; and so much of its first line is free above.
+CAPTION_WIDTH, CAPTION_TOP = 7000, 80
 
 
 def length(hundredths: int) -> str:

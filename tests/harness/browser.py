@@ -8,9 +8,10 @@ import json
 import os
 import select
 import shutil
+import signal
 import subprocess
 import time
-from typing import Any, Mapping
+from typing import Any, Mapping, Tuple
 
 from tests.harness.room import Room
 from tests.harness.skip import Skip
@@ -25,6 +26,15 @@ TOLD, ANSWERS = 3, 4
 END = b'\0'
 
 
+def pipe() -> Tuple[int, int]:
+    """Where one reads and where one writes, with numbers far from those that they get in the browser."""
+    ends = os.pipe()
+    reading, writing = (fcntl.fcntl(end, fcntl.F_DUPFD_CLOEXEC, 100) for end in ends)
+    for end in ends:
+        os.close(end)
+    return reading, writing
+
+
 class Browser:
     """One window. Where there is no browser the case is skipped."""
 
@@ -33,13 +43,12 @@ class Browser:
             raise Skip('there is no chromium')
         self._seconds = seconds
         self._came, self._number = b'', 0
-        # Far from the numbers that they get in the browser.
-        theirs, ours = (tuple(fcntl.fcntl(fd, fcntl.F_DUPFD_CLOEXEC, 100) for fd in os.pipe()) for _ in range(2))
-        self._to, self._from = theirs[1], ours[0]
+        told, self._to = pipe()
+        self._from, answers = pipe()
 
         def begin() -> None:
-            os.dup2(theirs[0], TOLD)
-            os.dup2(ours[1], ANSWERS)
+            os.dup2(told, TOLD)
+            os.dup2(answers, ANSWERS)
 
         self._process = subprocess.Popen(
             ['chromium', *WORDS, f'--user-data-dir={room.path}/profile'],
@@ -50,6 +59,8 @@ class Browser:
             stderr=subprocess.DEVNULL,
             start_new_session=True,
         )
+        os.close(told)
+        os.close(answers)
         window = self._ask('Target.createTarget', {}, {'url': 'about:blank'})['targetId']
         attached = self._ask('Target.attachToTarget', {}, {'targetId': window, 'flatten': True})
         self._session: Mapping[str, str] = {'sessionId': attached['sessionId']}
@@ -59,8 +70,11 @@ class Browser:
         return self
 
     def __exit__(self, *_: object) -> None:
-        self._process.kill()
+        # All that it has started, too.
+        os.killpg(self._process.pid, signal.SIGKILL)
         self._process.wait()
+        os.close(self._to)
+        os.close(self._from)
 
     def show(self, page: str) -> None:
         """Shows the page of a file, and waits until it is all there."""

@@ -42,14 +42,14 @@ def full() -> List[str]:
 
 
 def sheets(paper: str) -> Iterator[Sheet]:
-    """A page holds fewer puzzles where their squares would be too small: twelve of size 6 on Letter, nines on both."""
+    """A page holds fewer puzzles where their squares would be too small: of size 6 six on Letter; of size 9 four of Towers, and of Unequal two on A4."""
     is_a4 = paper == 'a4'
     yield Sheet(['--per-page', '12'], sixes(), 1 if is_a4 else 2, 1)
     yield Sheet(['--per-page', '9'], sixes('for Anna'), 2, 1)
     yield Sheet(['--per-page', '4'], sixes('for Anna and Bert, who have done all the others ' * 5), 3, 1)
     yield Sheet(['--per-page', '2'], sixes('for Anna')[4:9], 3, 1)
     yield Sheet(['--per-page', '1', '--answers', 'none'], sixes('for Anna')[5:7], 2, 0)
-    yield Sheet(['--per-page', '12'], nines(), 3 if is_a4 else 5, 1)
+    yield Sheet(['--per-page', '12'], [f'{id} for Anna' for id in nines()], 3 if is_a4 else 5, 1)
     yield Sheet(['--large'], [sixes()[0], sixes()[-1], *full()], 4, 1)
     yield Sheet(['--answers', 'only', '--per-page', '12'], nines(), 0, 1)
 
