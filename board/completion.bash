@@ -1,8 +1,8 @@
 # Bash completion of puzzles, puzzles-json, puzzles-play and puzzles-sheet: games, options that were not used yet, and files where there may be one.
 # shellcheck shell=bash
 
-# The words before the cursor and after it, without the values of options and what comes after '='.
-_puzzles_used() {
+# The words before the cursor and after it, without the values of these options and what comes after '='.
+_puzzles_used() { # OPTION..
     local at word is_value=
     for ((at = 1; at < ${#COMP_WORDS[@]}; at++)); do
         word=${COMP_WORDS[at]}
@@ -10,9 +10,7 @@ _puzzles_used() {
         if [[ $word == = ]]; then is_value=1; continue; fi
         if ((at != COMP_CWORD)) && [[ ! $is_value ]]; then printf ' %s ' "${word%%=*}"; fi
         is_value=
-        case $word in
-            --id | --load | --save | --size | --grade | --seed | --count | --ids | --per-page | --answers | --title | --paper | --output) is_value=1 ;;
-        esac
+        if [[ " $* " == *" $word "* ]]; then is_value=1; fi
     done
 }
 
@@ -28,7 +26,7 @@ _puzzles_offer_files() { # WORD-AT-CURSOR BEFORE-EACH
 
 _puzzles() {
     local word=${COMP_WORDS[COMP_CWORD]} before=${COMP_WORDS[COMP_CWORD - 1]} prefix='' used offered=()
-    used=$(_puzzles_used)
+    used=$(_puzzles_used --id --load --save)
     COMPREPLY=()
     if [[ $before == = ]]; then
         before=${COMP_WORDS[COMP_CWORD - 2]}
@@ -73,7 +71,7 @@ _puzzles_play() {
 
 _puzzles_sheet() {
     local word=${COMP_WORDS[COMP_CWORD]} before=${COMP_WORDS[COMP_CWORD - 1]} prefix='' used option offered=()
-    used=$(_puzzles_used)
+    used=$(_puzzles_used --size --grade --seed --count --ids --per-page --answers --title --paper --output)
     COMPREPLY=()
     if [[ $before == = ]]; then
         before=${COMP_WORDS[COMP_CWORD - 2]}

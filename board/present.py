@@ -102,7 +102,7 @@ class PresentGame:
             return
         x, y, number = map(int, match.groups())
         places = [place for place in (*self.board.row(y), *self.board.column(x)) if number in self.board.marks.get(place, ()) and place != (x, y)]
-        if places and all([self.ask(again) for again in ('undo', *(f'move P{x},{y},{number}' for x, y in places), line)]):
+        if places and all(self.ask(again) for again in ('undo', *(f'move P{x},{y},{number}' for x, y in places), line)):
             self._look()
             self._joined[self.board.session.position] = before
 

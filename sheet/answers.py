@@ -51,10 +51,14 @@ def sections(paper: Paper, puzzles: Sequence[Numbered], is_large: bool) -> Itera
     yield joined(placed)
 
 
+def _next_row(paper: Paper, left: Sequence[Numbered], is_large: bool) -> Row:
+    return next(row for row in _ways(paper, left, is_large) if row)
+
+
 def rows(paper: Paper, puzzles: Sequence[Numbered], is_large: bool) -> Iterator[Row]:
     left = list(puzzles)
     while left:
-        row = next(row for row in _ways(paper, left, is_large) if row)
+        row = _next_row(paper, left, is_large)
         del left[: len(row.some)]
         yield row
 

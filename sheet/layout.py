@@ -191,6 +191,10 @@ class Plan:
         return density.number_line + density.note_line * self._notes + density.id_line * of_id
 
 
+def _next_page(paper: Paper, densities: Sequence[Density], left: Sequence[Numbered]) -> Page:
+    return next(filter(None, (Plan(paper, density, left[: density.puzzles]).page() for density in densities)))
+
+
 def pages(paper: Paper, puzzles: Sequence[Numbered], per_page: int) -> Iterator[Page]:
     """No page is fuller than is asked for, or than is needed, and no square smaller than may be."""
     allowed = [density for density in paper.densities if density.puzzles <= per_page] or paper.densities[-1:]
@@ -198,6 +202,6 @@ def pages(paper: Paper, puzzles: Sequence[Numbered], per_page: int) -> Iterator[
     densities = allowed[allowed.index(enough[-1]) :] if enough else allowed
     left = list(puzzles)
     while left:
-        page = next(filter(None, (Plan(paper, density, left[: density.puzzles]).page() for density in densities)))
+        page = _next_page(paper, densities, left)
         yield page._replace(wanted=min(densities[0].puzzles, len(left)))
         del left[: len(page.figures)]

@@ -5,7 +5,7 @@ from __future__ import annotations
 import sys
 from typing import BinaryIO, List, NamedTuple, Optional
 
-from board import files, texts
+from board import files, saves, texts
 from board.board import GAMES
 from board.printable import printable
 from board.program import Gone, Refused, started_with
@@ -28,7 +28,7 @@ class Line(NamedTuple):
 def lines_of(file: str) -> List[Line]:
     """The lines of a list that say something. Raises `Unfit` where it can't be read, or says nothing."""
     content = _content(file)
-    if content.startswith(texts.SAVE_BEGINS):
+    if content.startswith(saves.BEGINS):
         return [Line(1, '', content)]
     # A list of another system may have a mark at its beginning, and CR at the ends of lines.
     lines = [Line(number, plain(text)) for number, text in enumerate(content.decode('utf-8-sig', 'replace').split('\n'), 1)]

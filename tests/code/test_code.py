@@ -56,7 +56,9 @@ def test_mypy() -> None:
 
 
 def test_pylint() -> None:
-    assert said(['pylint', f'--rcfile={SETTINGS / "pylintrc"}', '--score=n', *modules(), *scripts('python3')]) == ''
+    """The scripts by themselves, since the fronts of two packages begin alike."""
+    words = ['pylint', f'--rcfile={SETTINGS / "pylintrc"}', '--score=n']
+    assert said([*words, *modules()]) + said([*words, '--disable=duplicate-code', *scripts('python3')]) == ''
 
 
 def test_shellcheck() -> None:

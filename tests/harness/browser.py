@@ -14,7 +14,7 @@ import time
 from typing import Any, Mapping, Tuple
 
 from tests.harness.room import Room
-from tests.harness.skip import Skip
+from tests.harness.room import Skip
 
 #: It asks nobody for anything, and takes what memory there is.
 WORDS = ['--headless', '--no-sandbox', '--disable-gpu', '--disable-dev-shm-usage', '--no-first-run', '--remote-debugging-pipe']
