@@ -1,0 +1,5 @@
+pub mod Unseen
+pub mod Followed
+pub mod Tight
+pub mod Idle
+pub mod OpenGoals
