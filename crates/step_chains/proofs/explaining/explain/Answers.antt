@@ -22,9 +22,9 @@ returns-in-Some-2 g c =
     let Struck = g.P.Steps.struck_by c.args.p.now in
     let b = c.args.grid.now in (
       subst (λ (found : Option Chain). IfSome found (λ chain. IsExplained Struck c.args.grade b (steps_of chain.steps.items) chain.goal)) c.in-Some-2.is
-      c.in_ok-chain.ensures,
+          c.in_ok-chain.ensures,
       none_refuted Struck (g.met.P.Steps.struck_less c.args.p.now) c.args.grade b c.view_of-settled.result c.settle.new.candidates c.view_of-settled.ensures
-      c.settle.ensures c.if-has_nothing.ensures,
+          c.settle.ensures c.if-has_nothing.ensures,
     )
 
 pub plain_chain-requires-clause-shown : goal.plain_chain-requires-clause-shown
@@ -36,5 +36,5 @@ pub returns : goal.returns
 returns g c = (
   c.in_ok-chain-2.ensures,
   none_refuted (g.P.Steps.struck_by c.args.p.now) (g.met.P.Steps.struck_less c.args.p.now) c.args.grade c.args.grid.now c.view_of-settled.result
-  c.settle.new.candidates c.view_of-settled.ensures c.settle.ensures c.if-has_nothing.ensures,
+      c.settle.new.candidates c.view_of-settled.ensures c.settle.ensures c.if-has_nothing.ensures,
 )

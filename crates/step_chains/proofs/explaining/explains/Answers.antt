@@ -18,7 +18,7 @@ returns-then-not-shows_without g c =
     c.shows_without.ensures.shows in (
       λ e. absurd (false≢true e),
       λ e. absurd (both_ways c.shows_without.result c.if-not-shows_without.true (tested.1
-      (explained_shows Struck (g.met.P.Steps.struck_less c.args.p.now) c.args.grade c.args.grid.now view (steps_of steps) goal c.view_of-view.ensures e))),
+          (explained_shows Struck (g.met.P.Steps.struck_less c.args.p.now) c.args.grade c.args.grid.now view (steps_of steps) goal c.view_of-view.ensures e))),
     )
 
 pub returns : goal.returns

@@ -19,6 +19,8 @@ returns-then-shows_without g c =
 
 pub returns : goal.returns
 returns g c =
-    let steps = steps_of c.args.steps.now in
-    (λ e. tight_from_each (g.P.Steps.struck_by c.args.p.now) c.args.grade c.args.candidates.now steps c.args.goal
-    (λ place low. c.loop-place.invariant.1 place (omega (arith, low, c.loop-place-test.false, length-map c.args.steps.now step_value))), λ tight. refl)
+    let steps = steps_of c.args.steps.now in (
+      λ e. tight_from_each (g.P.Steps.struck_by c.args.p.now) c.args.grade c.args.candidates.now steps c.args.goal
+          (λ place low. c.loop-place.invariant.1 place (omega (arith, low, c.loop-place-test.false, length-map c.args.steps.now step_value))),
+      λ tight. refl,
+    )
