@@ -68,7 +68,8 @@ pub left_append : (c : CandidatesValue) (front back : List StepValue) → left_b
 left_append c [] back = refl
 left_append c (step ∷ front) back = left_append (without c step.strikes) front back
 
-chain_split : (Struck : CandidatesValue → Reason → ℕ → ℕ → Type 0) (c : CandidatesValue) (front back : List StepValue) → IsChain Struck c (front ++ back)
+-- a chain in two pieces
+pub chain_split : (Struck : CandidatesValue → Reason → ℕ → ℕ → Type 0) (c : CandidatesValue) (front back : List StepValue) → IsChain Struck c (front ++ back)
     → IsChain Struck c front × IsChain Struck (left_by c front) back
 chain_split Struck c [] back h = (tt, h)
 chain_split Struck c (step ∷ front) back h =

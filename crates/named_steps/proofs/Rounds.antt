@@ -38,7 +38,7 @@ past_easy_is Easy h = absurd (cc)
 past_easy_is Hard h = refl
 
 -- what is quiet kind by kind is settled
-settled_all : (p : Puzzle) (Struck : CandidatesValue → Reason → ℕ → ℕ → Type 0) → IsShared p Struck → (grade : Grade) (c : CandidatesValue) → c.size ≤ 9
+pub settled_all : (p : Puzzle) (Struck : CandidatesValue → Reason → ℕ → ℕ → Type 0) → IsShared p Struck → (grade : Grade) (c : CandidatesValue) → c.size ≤ 9
     → c.size ≡ p.size → AreGivensSettled p c → ((line : ℕ) → line < 2 * c.size → IsRestQuiet line c) → AreCluesSettled Struck grade c
     → (is_past_easy grade ≡ true → (line : ℕ) → line < 2 * c.size → IsGroupQuiet line c) → IsSettled Struck grade c
 settled_all p Struck s grade c small size givens rest clues groups (Given at) cell value has pair h =

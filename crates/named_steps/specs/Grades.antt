@@ -1,5 +1,5 @@
 -- Which reasons a grade has, and where they look.
-use Rattle.std.specs.Prelude.{Bool, true, false}
+use Rattle.std.specs.Prelude.{◌≡◌, ℕ, ◌*◌, ◌<◌, Bool, true, false}
 use Rattle.named_steps.specs.declared.reason.Reason.{Reason}
 use Rattle.named_steps.specs.declared.reason.Reason.TheVariants.{Given, Peer, Place, Bound, Stand, Clue, Sign, Set}
 use Rattle.named_steps.specs.declared.grade.Grade.{Grade}
@@ -50,3 +50,14 @@ is_of_clues (Stand place) = true
 is_of_clues (Clue place) = true
 is_of_clues (Sign from to) = true
 is_of_clues (Set line squares values) = false
+
+-- where a clue or a sign that strikes in the square stands: at one of the edge's places, or between a square of the grid and this one
+abbrev pub IsPlaced : ℕ → Reason → ℕ → Type 0
+IsPlaced w (Given at) cell = Unit {0}
+IsPlaced w (Peer by) cell = Unit {0}
+IsPlaced w (Place line index value) cell = Unit {0}
+IsPlaced w (Bound place) cell = place < 4 * w
+IsPlaced w (Stand place) cell = place < 4 * w
+IsPlaced w (Clue place) cell = place < 4 * w
+IsPlaced w (Sign from to) cell = (from < w * w) × (to ≡ cell)
+IsPlaced w (Set line squares values) cell = Unit {0}

@@ -3,3 +3,4 @@ pub mod Less
 pub mod Sound
 pub mod Cuts
 pub mod Shared
+pub mod Placed

@@ -80,8 +80,8 @@ pub(crate) fn by_place(
     }
 }
 
-// Whether a value is left in no place of a line but one.
-fn has_no_other_place(candidates: &Candidates, line: u8, value: u8, index: u8) -> bool
+/// Whether a value is left in no place of a line but one.
+pub(crate) fn has_no_other_place(candidates: &Candidates, line: u8, value: u8, index: u8) -> bool
     requires line { line < 2 * candidates.now.size }
     requires low { 1 ≤ value }
     requires high { value ≤ candidates.now.size }

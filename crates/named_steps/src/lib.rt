@@ -40,3 +40,4 @@ pub use reason::Reason;
 pub use settling::settle;
 pub use step_laws::laws;
 pub use steps::Steps;
+pub use striking::strike;

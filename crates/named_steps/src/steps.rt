@@ -6,7 +6,7 @@ ghost use Rattle.trail_solver.specs.Pairs.{IsPair};
 ghost use Rattle.trail_solver.specs.Candidates.{CandidatesValue, IsWithin};
 ghost use Rattle.trail_solver.specs.Puzzles.{Solves};
 ghost use Rattle.named_steps.specs.Left.{IsFewer};
-ghost use Rattle.named_steps.specs.Grades.{is_of_lines};
+ghost use Rattle.named_steps.specs.Grades.{IsPlaced, is_of_clues, is_of_lines};
 ghost use Rattle.named_steps.specs.Reasons.{IsByGiven, IsByLine};
 ghost use Rattle.named_steps.specs.Passes.{Passes, AreCluesSettled};
 ghost use Rattle.named_steps.specs.declared.reason.Reason.{Reason};
@@ -40,6 +40,10 @@ pub trait Steps: Rules {
 
     ghost line_struck: { (p : Self) (c : CandidatesValue) (reason : Reason) (cell value : ℕ) → is_of_lines reason ≡ true
         → IsByLine (Self.Rules.puzzle p).size c reason cell value ↔ struck_by p c reason cell value };
+
+    // A clue or a sign that strikes is the grid's.
+    ghost struck_placed: { (p : Self) (c : CandidatesValue) (reason : Reason) (cell value : ℕ) → Self.Rules.valid p
+        → is_of_clues reason ≡ true → struck_by p c reason cell value → IsPlaced (Self.Rules.puzzle p).size reason cell };
 
     // What is struck from candidates is struck from fewer.
     ghost struck_less: { (p : Self) (c d : CandidatesValue) (reason : Reason) (cell value : ℕ) → IsFewer c d

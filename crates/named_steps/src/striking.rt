@@ -9,7 +9,7 @@ use number_sets::NumberSet;
 use trail_solver::Candidates;
 
 /// Takes away those values of a set that are left of a square.
-pub(crate) fn strike(candidates: &mut Candidates, cell: usize, values: NumberSet)
+pub fn strike(candidates: &mut Candidates, cell: usize, values: NumberSet)
     requires { cell < candidates.old.size * candidates.old.size }
     ensures { Strikes candidates.old candidates.new cell values }
 {

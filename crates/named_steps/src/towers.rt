@@ -19,6 +19,7 @@ use trail_solver::{Candidates, Rules};
 impl Steps for Towers {
     ghost use Rattle.named_steps.specs.Reasons.{IsTowersStruckBy};
     ghost use Rattle.named_steps.specs.Laws.Shared as shared;
+    ghost use Rattle.named_steps.specs.Laws.Placed as placed;
     ghost use Rattle.named_steps.specs.Laws.Less as less;
     ghost use Rattle.named_steps.specs.Laws.Sound as sound;
     ghost use Rattle.named_steps.specs.Laws.Cuts as cuts;
@@ -55,6 +56,8 @@ impl Steps for Towers {
     ghost given_struck = { shared.towers_givens };
 
     ghost line_struck = { shared.towers_lines };
+
+    ghost struck_placed = { placed.towers_placed };
 
     ghost struck_less = { less.towers_less };
 

@@ -22,6 +22,7 @@ use trail_solver::{Candidates, Rules};
 impl Steps for Unequal {
     ghost use Rattle.named_steps.specs.Reasons.{IsUnequalStruckBy};
     ghost use Rattle.named_steps.specs.Laws.Shared as shared;
+    ghost use Rattle.named_steps.specs.Laws.Placed as placed;
     ghost use Rattle.named_steps.specs.Laws.Less as less;
     ghost use Rattle.named_steps.specs.Laws.Sound as sound;
     ghost use Rattle.named_steps.specs.Laws.Cuts as cuts;
@@ -59,6 +60,8 @@ impl Steps for Unequal {
     ghost given_struck = { shared.unequal_givens };
 
     ghost line_struck = { shared.unequal_lines };
+
+    ghost struck_placed = { placed.unequal_placed };
 
     ghost struck_less = { less.unequal_less };
 

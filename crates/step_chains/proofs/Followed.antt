@@ -1,0 +1,234 @@
+-- Chains that are followed step by step on candidates that stand for what they leave.
+use Rattle.std.proofs.Common.{◌≡◌, ◌↔◌, ℕ, zero, suc, ◌+◌, ◌-◌, ◌*◌, ◌^◌, ◌<◌, ◌≤◌, Bool, true, false, ◌&&◌, ◌==◌, List, [], ◌∷◌, ◌++◌, length, map, take, drop, inl, inr, refl, sym, ap, ◌∙◌, subst, arith, append-nil, append_assoc}
+use Rattle.std.specs.Bool.{IsTrue, OnTrue, OnFalse, MatchBool}
+use Rattle.std.specs.List.{remove}
+use Rattle.std.proofs.lemmas.List.{take-map, drop-map, map-append, take-append-drop, take_rest}
+use Rattle.std.proofs.lemmas.Bool.{both_ways, and_parts, and_from, cases_Bool, cases_lt, eq-eqb, eqb-true, false_from_ne_true, false≢true}
+use Rattle.number_sets.specs.Sets.{has_number, IsSubset}
+use Rattle.number_sets.proofs.Members.{has_number-above}
+use Rattle.trail_solver.specs.Pairs.{IsPair, has_pair, pairs_of}
+use Rattle.trail_solver.specs.Candidates.{CandidatesValue, IsEarlier, may_be}
+use Rattle.trail_solver.proofs.Earlier.{prefix-append, earlier_refl, earlier_trans}
+use Rattle.trail_solver.proofs.SetPairs.{has_pair-pairs_of}
+use Rattle.named_steps.specs.Left.{IsLeft, IsFewer, AreAlike, without}
+use Rattle.named_steps.specs.Grades.{has_reason}
+use Rattle.named_steps.specs.Chains.{StepValue, IsStep, IsChain, AreOfGrade, left_by, IsShown, Shows}
+use Rattle.named_steps.specs.Inner.Takes.{Strikes, Takes}
+use Rattle.named_steps.proofs.Antitone.{IsAntitone, was_left, still_left, step_less, chain_less, left_size, left_fewer, fewer_without, without_fewer}
+use Rattle.named_steps.proofs.Parts.{left_append, chain_split, chain_joined}
+use Rattle.named_steps.proofs.Shown.{shown_less}
+use Rattle.named_steps.proofs.Takes.{takes_struck, takes_map}
+use Rattle.named_steps.specs.declared.reason.Reason.{Reason}
+use Rattle.named_steps.specs.declared.grade.Grade.{Grade}
+use Rattle.named_steps.specs.declared.goal.Goal.{Goal}
+use Rattle.step_chains.specs.declared.chain.Step.{Step}
+use Rattle.step_chains.specs.ChainValues.{step_value, steps_of}
+use Rattle.step_chains.specs.Inner.Replays.{IsGradeStep, IsGradeChain, Leads}
+
+-- ---- one step
+
+-- the values are struck by the reason where they are among those that it strikes
+pub step_by_set : (Struck : CandidatesValue → Reason → ℕ → ℕ → Type 0) (c : CandidatesValue) (w : ℕ) (s : Step) (set : ℕ) → s.values < 2 ^ 16 → c.size ≡ w
+    → ((v : ℕ) → (has_number set v ≡ true) ↔ ((c.size ≡ w) × (IsPair c.size s.cell v × Struck c s.reason s.cell v)))
+    → IsSubset s.values set ↔ IsStep Struck c (step_value s)
+step_by_set Struck c w s set low size is = (
+  λ sub cell v has.
+      let both = and_parts (cell == s.cell) (has_number s.values v) (sym (has_pair-pairs_of s.cell s.values cell v low) ∙ has) in
+      let here : cell ≡ s.cell = eqb-true cell s.cell both.0 in
+      subst (λ (n : ℕ). IsPair c.size n v × Struck c s.reason n v) (sym here) ((is v).0 (sub v both.1)).1,
+  λ step v has.
+      let listed : has_pair (pairs_of s.cell s.values) s.cell v ≡ true =
+      has_pair-pairs_of s.cell s.values s.cell v low ∙ and_from (s.cell == s.cell) (has_number s.values v) (eq-eqb s.cell s.cell refl) has in
+      (is v).1 (size, step s.cell v listed),
+)
+
+-- what a step lists goes from its square
+pub takes_inside : (a b : CandidatesValue) (s : Step) → s.values < 2 ^ 16 → Strikes a b s.cell s.values
+    → Takes (λ cell v. has_pair (step_value s).strikes cell v ≡ true) a b
+takes_inside a b s low struck =
+    takes_map (λ cell v. (cell ≡ s.cell) × (has_number s.values v ≡ true)) (λ cell v. has_pair (step_value s).strikes cell v ≡ true) a b
+    (λ cell v h. has_pair-pairs_of s.cell s.values cell v low
+    ∙ and_from (cell == s.cell) (has_number s.values v) (eq-eqb cell s.cell h.0) h.1)
+    (λ cell v pair has.
+    let both = and_parts (cell == s.cell) (has_number s.values v) (sym (has_pair-pairs_of s.cell s.values cell v low) ∙ has) in
+    (eqb-true cell s.cell both.0, both.1))
+    (takes_struck a b s.cell s.values struck)
+
+-- and nothing goes where the grid has no such square
+pub takes_outside : (a : CandidatesValue) (s : Step) → s.values < 2 ^ 16 → (s.cell < a.size * a.size → ⊥)
+    → Takes (λ cell v. has_pair (step_value s).strikes cell v ≡ true) a a
+takes_outside a s low outside = record {
+  pairs = [];
+  size = refl;
+  trail = sym (append-nil a.trail);
+  each = λ cell v has. absurd (cc);
+  gone = λ cell v pair has.
+      let both = and_parts (cell == s.cell) (has_number s.values v) (sym (has_pair-pairs_of s.cell s.values cell v low) ∙ has) in
+      absurd (outside (subst (λ (n : ℕ). n < a.size * a.size) (eqb-true cell s.cell both.0) pair.inside));
+}
+
+-- ---- what is left then
+
+-- what was taken is what a step lists
+pub taken_alike : (c d e : CandidatesValue) (pairs : List (ℕ × ℕ)) → d.size ≡ c.size → AreAlike c d → Takes (λ cell v. has_pair pairs cell v ≡ true) d e
+    → AreAlike (without c pairs) e
+taken_alike c d e pairs size alike t = (
+  λ cell v left.
+      let in_d : IsLeft (record { size = d.size; trail = d.trail ++ t.pairs }) cell v =
+      record { pair = subst (λ (w : ℕ). IsPair w cell v) t.size left.pair; may = subst (λ (ps : List (ℕ × ℕ)). may_be (record { size = d.size; trail = ps }) cell v ≡ true) t.trail left.may } in
+      let was = was_left d t.pairs cell v in_d in
+      still_left c pairs cell v (alike.0 cell v was.0)
+      (false_from_ne_true (has_pair pairs cell v) (λ has. both_ways (may_be e cell v) (t.gone cell v was.0.pair has) left.may)),
+  λ cell v left.
+      let was = was_left c pairs cell v left in
+      let there = alike.1 cell v was.0 in
+      let now = still_left d t.pairs cell v there
+      (false_from_ne_true (has_pair t.pairs cell v) (λ has. both_ways (has_pair pairs cell v) was.1 (t.each cell v has).1)) in
+      record {
+        pair = subst (λ (w : ℕ). IsPair w cell v) (sym t.size) now.pair;
+        may = subst (λ (ps : List (ℕ × ℕ)). may_be (record { size = e.size; trail = ps }) cell v ≡ true) (sym t.trail) now.may;
+      },
+)
+
+pub taken_earlier : (Which : ℕ → ℕ → Type 0) (a b : CandidatesValue) → Takes Which a b → IsEarlier a b
+taken_earlier Which a b t = record {
+  size = t.size;
+  adds = subst (λ (ps : List (ℕ × ℕ)). Rattle.trail_solver.specs.Pairs.IsPrefix a.trail ps) (sym t.trail) (prefix-append a.trail t.pairs);
+}
+
+-- ---- steps one after another
+
+allowed_joined : (grade : Grade) (front back : List StepValue) → AreOfGrade grade front → AreOfGrade grade back → AreOfGrade grade (front ++ back)
+allowed_joined grade [] back first second = second
+allowed_joined grade (step ∷ front) back first second = (first.0, allowed_joined grade front back first.1 second)
+
+allowed_split : (grade : Grade) (front back : List StepValue) → AreOfGrade grade (front ++ back) → AreOfGrade grade front × AreOfGrade grade back
+allowed_split grade [] back h = (tt, h)
+allowed_split grade (step ∷ front) back h = let rest = allowed_split grade front back h.1 in ((h.0, rest.0), rest.1)
+
+pub leads_none : (Struck : CandidatesValue → Reason → ℕ → ℕ → Type 0) (grade : Grade) (c : CandidatesValue) → Leads Struck grade c [] c
+leads_none Struck grade c = record { chain = tt; allowed = tt; size = refl; alike = (λ cell v h. h, λ cell v h. h) }
+
+-- two chains, one after the other
+pub leads_joined : (Struck : CandidatesValue → Reason → ℕ → ℕ → Type 0) → IsAntitone Struck → (grade : Grade) (c d e : CandidatesValue)
+    (front back : List StepValue) → Leads Struck grade c front d → Leads Struck grade d back e → Leads Struck grade c (front ++ back) e
+leads_joined Struck less grade c d e front back first second =
+    let end = left_by c front in
+    let size : end.size ≡ d.size = left_size c front ∙ sym first.size in
+    let there = chain_less Struck less d end back (sym size) first.alike.1 second.chain in
+    let back_again = chain_less Struck less end d back size first.alike.0 there.0 in
+    record {
+      chain = chain_joined Struck c front back first.chain there.0;
+      allowed = allowed_joined grade front back first.allowed second.allowed;
+      size = second.size ∙ first.size;
+      alike = subst (λ x. AreAlike x e) (sym (left_append c front back)) (
+        λ cell v h. back_again.1 cell v (second.alike.0 cell v h),
+        λ cell v h. second.alike.1 cell v (there.1 cell v h),
+      );
+    }
+
+-- one step
+pub leads_one : (Struck : CandidatesValue → Reason → ℕ → ℕ → Type 0) (grade : Grade) (d e : CandidatesValue) (s : Step) → IsGradeStep Struck grade d (step_value s)
+    → Takes (λ cell v. has_pair (step_value s).strikes cell v ≡ true) d e → Leads Struck grade d (step_value s ∷ []) e
+leads_one Struck grade d e s step t = record {
+  chain = (step.1, tt);
+  allowed = (step.0, tt);
+  size = t.size;
+  alike = taken_alike d d e (step_value s).strikes refl (λ cell v h. h, λ cell v h. h) t;
+}
+
+-- where a piece of them is no chain, they are none
+pub front_breaks : (Struck : CandidatesValue → Reason → ℕ → ℕ → Type 0) (grade : Grade) (c : CandidatesValue) (front back : List StepValue)
+    → (IsGradeChain Struck grade c front → ⊥) → IsGradeChain Struck grade c (front ++ back) → ⊥
+front_breaks Struck grade c front back none h =
+    none ((chain_split Struck c front back h.0).0, (allowed_split grade front back h.1).0)
+
+pub back_breaks : (Struck : CandidatesValue → Reason → ℕ → ℕ → Type 0) → IsAntitone Struck → (grade : Grade) (c d : CandidatesValue) (front back : List StepValue)
+    → Leads Struck grade c front d → (IsGradeChain Struck grade d back → ⊥) → IsGradeChain Struck grade c (front ++ back) → ⊥
+back_breaks Struck less grade c d front back first none h =
+    let rest = (chain_split Struck c front back h.0).1 in
+    let size : (left_by c front).size ≡ d.size = left_size c front ∙ sym first.size in
+    none ((chain_less Struck less (left_by c front) d back size first.alike.0 rest).0, (allowed_split grade front back h.1).1)
+
+-- what they show is what they leave shows
+pub shows_where : (Struck : CandidatesValue → Reason → ℕ → ℕ → Type 0) (grade : Grade) (c d : CandidatesValue) (steps : List StepValue) (goal : Goal)
+    → Leads Struck grade c steps d → IsShown d goal ↔ Shows Struck grade c steps goal
+shows_where Struck grade c d steps goal h =
+    let size : (left_by c steps).size ≡ d.size = left_size c steps ∙ sym h.size in (
+      λ shown. record { chain = h.chain; allowed = h.allowed; shown = shown_less d (left_by c steps) goal (sym size) h.alike.1 shown },
+      λ shows. shown_less (left_by c steps) d goal size h.alike.0 shows.shown,
+    )
+
+-- the test of a step of the grade's
+pub step_tested : (Struck : CandidatesValue → Reason → ℕ → ℕ → Type 0) (grade : Grade) (c : CandidatesValue) (w : ℕ) (s : Step) (set : ℕ) (b : Bool)
+    → s.values < 2 ^ 16 → c.size ≡ w
+    → ((v : ℕ) → (has_number set v ≡ true) ↔ ((c.size ≡ w) × (IsPair c.size s.cell v × Struck c s.reason s.cell v)))
+    → MatchBool b (IsSubset s.values set) (IsSubset s.values set → ⊥) → has_reason grade s.reason ≡ true
+    → IsTrue b ↔ IsGradeStep Struck grade c (step_value s)
+step_tested Struck grade c w s set true low size is sub has = (λ e. (has, (step_by_set Struck c w s set low size is).0 sub), λ h. refl)
+step_tested Struck grade c w s set false low size is sub has = (
+  λ e. absurd (false≢true e),
+  λ h. absurd (sub ((step_by_set Struck c w s set low size is).1 h.1)),
+)
+
+-- ---- steps without one of them
+
+-- beyond the last step there is none that could go
+pub none_removed : (steps : List StepValue) (place : ℕ) → length steps ≤ place → remove steps place ≡ steps
+none_removed [] zero high = refl
+none_removed [] (suc place) high = refl
+none_removed (step ∷ steps) zero high = absurd (omega (arith, high))
+none_removed (step ∷ steps) (suc place) high = ap (λ xs. step ∷ xs) (none_removed steps place (omega (arith, high)))
+
+-- the steps before one and those behind it
+pub two_pieces : (steps : List Step) (place : ℕ)
+    → steps_of (take place steps) ++ steps_of (take (length steps - (place + 1)) (drop (place + 1) steps)) ≡ remove (steps_of steps) place
+two_pieces steps place =
+    let next : place + 1 ≡ suc place = omega arith in
+    let behind : steps_of (take (length steps - (place + 1)) (drop (place + 1) steps)) ≡ drop (suc place) (steps_of steps) =
+    ap steps_of (take_rest steps (place + 1)) ∙ ap (λ (n : ℕ). steps_of (drop n steps)) next ∙ sym (drop-map step_value (suc place) steps) in
+    (λ i. sym (take-map step_value place steps) i ++ behind i)
+
+-- where the second piece leads on, or breaks, all does
+pub both_lead : (Struck : CandidatesValue → Reason → ℕ → ℕ → Type 0) → IsAntitone Struck → (grade : Grade) (c d e : CandidatesValue)
+    (front back : List StepValue) (b : Bool) → Leads Struck grade c front d → OnTrue b (Leads Struck grade d back e) → OnTrue b (Leads Struck grade c (front ++ back) e)
+both_lead Struck less grade c d e front back true first second = leads_joined Struck less grade c d e front back first second
+both_lead Struck less grade c d e front back false first second = tt
+
+pub both_break : (Struck : CandidatesValue → Reason → ℕ → ℕ → Type 0) → IsAntitone Struck → (grade : Grade) (c d : CandidatesValue)
+    (front back : List StepValue) (b : Bool) → Leads Struck grade c front d → OnFalse b (IsGradeChain Struck grade d back → ⊥)
+    → OnFalse b (IsGradeChain Struck grade c (front ++ back) → ⊥)
+both_break Struck less grade c d front back true first second = tt
+both_break Struck less grade c d front back false first second = back_breaks Struck less grade c d front back first second
+
+-- the test of the goal after them
+pub shows_tested : (Struck : CandidatesValue → Reason → ℕ → ℕ → Type 0) (grade : Grade) (c d : CandidatesValue) (steps : List StepValue) (goal : Goal) (b : Bool)
+    → Leads Struck grade c steps d → IsTrue b ↔ IsShown d goal → IsTrue b ↔ Shows Struck grade c steps goal
+shows_tested Struck grade c d steps goal b h is =
+    let to = shows_where Struck grade c d steps goal h in
+    (λ e. to.0 (is.0 e), λ shows. is.1 (to.1 shows))
+
+-- ---- the loop over the steps
+
+-- one step more
+pub follows_on : (Struck : CandidatesValue → Reason → ℕ → ℕ → Type 0) → IsAntitone Struck → (grade : Grade) (c d e : CandidatesValue) (steps : List Step)
+    (i : ℕ) (s : Step) → take (i + 1) steps ≡ take i steps ++ s ∷ [] → Leads Struck grade c (steps_of (take i steps)) d
+    → IsGradeStep Struck grade d (step_value s) → Takes (λ cell v. has_pair (step_value s).strikes cell v ≡ true) d e
+    → Leads Struck grade c (steps_of (take (i + 1) steps)) e
+follows_on Struck less grade c d e steps i s more before step t =
+    let listed : steps_of (take (i + 1) steps) ≡ steps_of (take i steps) ++ step_value s ∷ [] =
+    ap steps_of more ∙ map-append step_value (take i steps) (s ∷ []) in
+    subst (λ xs. Leads Struck grade c xs e) (sym listed)
+    (leads_joined Struck less grade c d e (steps_of (take i steps)) (step_value s ∷ []) before (leads_one Struck grade d e s step t))
+
+-- a step that is none
+pub breaks_here : (Struck : CandidatesValue → Reason → ℕ → ℕ → Type 0) → IsAntitone Struck → (grade : Grade) (c d : CandidatesValue) (steps : List Step)
+    (i : ℕ) (s : Step) → take (i + 1) steps ≡ take i steps ++ s ∷ [] → Leads Struck grade c (steps_of (take i steps)) d
+    → (IsGradeStep Struck grade d (step_value s) → ⊥) → IsGradeChain Struck grade c (steps_of steps) → ⊥
+breaks_here Struck less grade c d steps i s more before none chain =
+    let parts : steps ≡ take i steps ++ s ∷ drop (i + 1) steps =
+    sym (take-append-drop (i + 1) steps) ∙ ap (λ xs. xs ++ drop (i + 1) steps) more ∙ append_assoc (take i steps) (s ∷ []) (drop (i + 1) steps) in
+    let listed : steps_of steps ≡ steps_of (take i steps) ++ step_value s ∷ steps_of (drop (i + 1) steps) =
+    ap steps_of parts ∙ map-append step_value (take i steps) (s ∷ drop (i + 1) steps) in
+    back_breaks Struck less grade c d (steps_of (take i steps)) (step_value s ∷ steps_of (drop (i + 1) steps)) before
+    (λ h. none (h.1.0, h.0.0)) (subst (λ xs. IsGradeChain Struck grade c xs) listed chain)

@@ -1,0 +1,185 @@
+-- Chains from which steps are left out, the last first.
+use Rattle.std.proofs.Common.{◌≡◌, ◌≢◌, ℕ, zero, suc, ◌+◌, ◌-◌, ◌<◌, ◌≤◌, List, [], ◌∷◌, ◌++◌, length, map, take, drop, refl, sym, ap, ◌∙◌, subst, arith, inl, inr, append_assoc, length-append}
+use Rattle.std.specs.List.{remove}
+use Rattle.std.proofs.lemmas.Bool.{cases_eq, cases_lt}
+use Rattle.std.proofs.Math.Seq.{take-append_seam, drop-append-add}
+use Rattle.std.proofs.lemmas.List.{take-map, drop-map, map-append, length-map}
+use Rattle.latin_board.specs.Squares.{GridValue, number_at}
+use Rattle.latin_board.specs.Lines.{ArePeers}
+use Rattle.trail_solver.specs.Pairs.{IsPair}
+use Rattle.trail_solver.specs.Candidates.{CandidatesValue, may_be}
+use Rattle.named_steps.specs.Left.{IsLeft, IsFewer, AreAlike, without}
+use Rattle.named_steps.specs.Chains.{StepValue, IsStep, IsChain, AreOfGrade, left_by, Shows, IsTight, IsView, IsExplained, IsGoalOf, goal_cell}
+use Rattle.named_steps.proofs.Antitone.{IsAntitone, chain_less, left_size, without_fewer}
+use Rattle.named_steps.proofs.Parts.{left_append, chain_split, chain_joined}
+use Rattle.named_steps.proofs.Shown.{shown_less}
+use Rattle.named_steps.specs.declared.reason.Reason.{Reason}
+use Rattle.named_steps.specs.declared.grade.Grade.{Grade}
+use Rattle.named_steps.specs.declared.goal.Goal.{Goal}
+use Rattle.step_chains.specs.declared.chain.Step.{Step}
+use Rattle.step_chains.specs.ChainValues.{step_value, steps_of}
+use Rattle.step_chains.specs.Inner.Tight.{IsTightFrom}
+
+-- ---- a list without one of its elements
+
+-- the element at the end of the front is the one that goes
+pub remove_at : {X : Type 0} (front back : List X) (x : X) → remove (front ++ x ∷ back) (length front) ≡ front ++ back
+remove_at front back x =
+    let next : suc (length front) ≡ length front + 1 = omega arith in
+    let here : drop (suc (length front)) (front ++ x ∷ back) ≡ back =
+    ap (λ (n : ℕ). drop n (front ++ x ∷ back)) next ∙ drop-append-add front (x ∷ back) 1 in
+    ap (λ xs. xs ++ drop (suc (length front)) (front ++ x ∷ back)) (take-append_seam front (x ∷ back)) ∙ ap (λ xs. front ++ xs) here
+
+-- each place of a list has a front, an element and a back
+pub parted : {X : Type 0} (xs : List X) (place : ℕ) → place < length xs
+    → (front : List X) × (x : X) × (back : List X) × (xs ≡ front ++ x ∷ back) × (length front ≡ place)
+parted [] place low = absurd (omega (arith, low))
+parted (x ∷ xs) zero low = ([], x, xs, refl, refl)
+parted (x ∷ xs) (suc place) low =
+    let rest = parted xs place (omega (arith, low)) in
+    (x ∷ rest.0, rest.1, rest.2, ap (λ ys. x ∷ ys) rest.3, omega (arith, rest.4))
+
+cons_parts : {X : Type 0} (x y : X) (xs ys : List X) → x ∷ xs ≡ y ∷ ys → (x ≡ y) × (xs ≡ ys)
+cons_parts x y xs ys same = (cc, cc)
+
+-- a longer front of the same list begins with the shorter one
+pub fronts_part : {X : Type 0} (short back long rest : List X) → short ++ back ≡ long ++ rest → length short ≤ length long
+    → (more : List X) × (long ≡ short ++ more) × (back ≡ more ++ rest)
+fronts_part [] back long rest same low = (long, refl, same)
+fronts_part (x ∷ short) back [] rest same low = absurd (omega (arith, low))
+fronts_part (x ∷ short) back (y ∷ long) rest same low =
+    let (head, tail) = cons_parts x y (short ++ back) (long ++ rest) same in
+    let h = fronts_part short back long rest tail (omega (arith, low)) in
+    (h.0, (λ i. sym head i ∷ h.1 i), h.2)
+
+-- steps without one are what is left of the list without it
+pub steps_removed : (steps : List Step) (place : ℕ) → steps_of (remove steps place) ≡ remove (steps_of steps) place
+steps_removed steps place =
+    map-append step_value (take place steps) (drop (suc place) steps)
+    ∙ (λ i. sym (take-map step_value place steps) i ++ sym (drop-map step_value (suc place) steps) i)
+
+-- ---- chains with a step more or less
+
+with_allowed : (grade : Grade) (front back rest : List StepValue) (step : StepValue) → AreOfGrade grade (front ++ step ∷ back) → AreOfGrade grade (front ++ rest)
+    → AreOfGrade grade (front ++ step ∷ rest)
+with_allowed grade [] back rest step whole part = (whole.0, part)
+with_allowed grade (first ∷ front) back rest step whole part = (whole.0, with_allowed grade front back rest step whole.1 part.1)
+
+-- where a step stands in a chain, what shows the goal without it and some later steps shows it with the step
+pub shows_with : (Struck : CandidatesValue → Reason → ℕ → ℕ → Type 0) → IsAntitone Struck → (grade : Grade) (c : CandidatesValue)
+    (front back rest : List StepValue) (step : StepValue) (goal : Goal) → Shows Struck grade c (front ++ step ∷ back) goal
+    → Shows Struck grade c (front ++ rest) goal → Shows Struck grade c (front ++ step ∷ rest) goal
+shows_with Struck less grade c front back rest step goal whole part =
+    let end = left_by c front in
+    let at = (chain_split Struck c front (step ∷ back) whole.chain).1.0 in
+    let after = chain_less Struck less end (without end step.strikes) rest refl (without_fewer end step.strikes)
+    (chain_split Struck c front rest part.chain).1 in
+    record {
+      chain = chain_joined Struck c front (step ∷ rest) (chain_split Struck c front rest part.chain).0 (at, after.0);
+      allowed = with_allowed grade front back rest step whole.allowed part.allowed;
+      shown = shown_less (left_by c (front ++ rest)) (left_by c (front ++ step ∷ rest)) goal
+          (left_size c (front ++ rest) ∙ sym (left_size c (front ++ step ∷ rest)))
+          (subst (λ x. IsFewer x (left_by c (front ++ step ∷ rest))) (sym (left_append c front rest))
+          (subst (λ x. IsFewer (left_by end rest) x) (sym (left_append c front (step ∷ rest))) after.1)) part.shown;
+    }
+
+-- of the goal a chain shows from candidates, it shows as much from others of which the same is left
+pub shows_alike : (Struck : CandidatesValue → Reason → ℕ → ℕ → Type 0) → IsAntitone Struck → (grade : Grade) (c d : CandidatesValue)
+    (steps : List StepValue) (goal : Goal) → c.size ≡ d.size → IsFewer c d → Shows Struck grade c steps goal → Shows Struck grade d steps goal
+shows_alike Struck less grade c d steps goal size fewer h =
+    let there = chain_less Struck less c d steps size fewer h.chain in
+    record {
+      chain = there.0;
+      allowed = h.allowed;
+      shown = shown_less (left_by c steps) (left_by d steps) goal (left_size c steps ∙ size ∙ sym (left_size d steps)) there.1 h.shown;
+    }
+
+-- ---- one pass from the last step to the first
+
+-- a step that can be left out goes, and what was tight behind it stays so
+pub tight_without : (Struck : CandidatesValue → Reason → ℕ → ℕ → Type 0) → IsAntitone Struck → (grade : Grade) (c : CandidatesValue)
+    (steps : List StepValue) (place : ℕ) (goal : Goal) → place < length steps → Shows Struck grade c steps goal
+    → IsTightFrom (place + 1) Struck grade c steps goal → IsTightFrom place Struck grade c (remove steps place) goal
+tight_without Struck less grade c steps place goal low whole tight = λ front back step is behind shows.
+    let at = parted steps place low in
+    let rest : remove steps place ≡ at.0 ++ at.2 =
+    (λ i. remove (at.3 i) (sym at.4 i)) ∙ remove_at at.0 at.2 at.1 in
+    let more = fronts_part at.0 at.2 front (step ∷ back) (sym rest ∙ is) (omega (arith, at.4, behind)) in
+    let with_it = shows_with Struck less grade c at.0 at.2 (more.0 ++ back) at.1 goal (subst (λ xs. Shows Struck grade c xs goal) at.3 whole)
+    (subst (λ xs. Shows Struck grade c xs goal) (ap (λ xs. xs ++ back) more.1 ∙ append_assoc at.0 more.0 back) shows) in
+    tight (at.0 ++ at.1 ∷ more.0) back step
+    (at.3 ∙ ap (λ xs. at.0 ++ at.1 ∷ xs) more.2 ∙ sym (append_assoc at.0 (at.1 ∷ more.0) (step ∷ back)))
+    (omega (arith, at.4, length-append at.0 (at.1 ∷ more.0)))
+    (subst (λ xs. Shows Struck grade c xs goal) (sym (append_assoc at.0 (at.1 ∷ more.0) back)) with_it)
+
+-- a step that can't be left out stays
+pub tight_with : (Struck : CandidatesValue → Reason → ℕ → ℕ → Type 0) (grade : Grade) (c : CandidatesValue)
+    (steps : List StepValue) (place : ℕ) (goal : Goal) → (Shows Struck grade c (remove steps place) goal → ⊥)
+    → IsTightFrom (place + 1) Struck grade c steps goal → IsTightFrom place Struck grade c steps goal
+tight_with Struck grade c steps place goal none tight = λ front back step is behind shows.
+    elim (cases_eq (length front) place) [
+      | inl here ↦
+          let rest : remove steps place ≡ front ++ back = (λ i. remove (is i) (sym here i)) ∙ remove_at front back step in
+          none (subst (λ xs. Shows Struck grade c xs goal) (sym rest) shows)
+      | inr other ↦ tight front back step is (omega (arith, behind, other)) shows
+    ]
+
+-- behind the last step nothing can be left out
+pub tight_end : (Struck : CandidatesValue → Reason → ℕ → ℕ → Type 0) (grade : Grade) (c : CandidatesValue) (steps : List StepValue) (place : ℕ) (goal : Goal)
+    → length steps ≤ place → IsTightFrom place Struck grade c steps goal
+tight_end Struck grade c steps place goal high = λ front back step is behind shows.
+    omega (arith, high, behind, ap length is, length-append front (step ∷ back))
+
+-- none can be left out where none from the first on can
+pub tight_all : (Struck : CandidatesValue → Reason → ℕ → ℕ → Type 0) (grade : Grade) (c : CandidatesValue) (steps : List StepValue) (goal : Goal)
+    → IsTightFrom 0 Struck grade c steps goal → IsTight Struck grade c steps goal
+tight_all Struck grade c steps goal tight = λ front back step is. tight front back step is (omega arith)
+
+-- in other words: where it isn't shown without any one of them
+pub tight_from_each : (Struck : CandidatesValue → Reason → ℕ → ℕ → Type 0) (grade : Grade) (c : CandidatesValue) (steps : List StepValue) (goal : Goal)
+    → ((place : ℕ) → place < length steps → Shows Struck grade c (remove steps place) goal → ⊥) → IsTight Struck grade c steps goal
+tight_from_each Struck grade c steps goal none = λ front back step is shows.
+    let rest : remove steps (length front) ≡ front ++ back = ap (λ xs. remove xs (length front)) is ∙ remove_at front back step in
+    none (length front) (omega (arith, ap length is, length-append front (step ∷ back))) (subst (λ xs. Shows Struck grade c xs goal) (sym rest) shows)
+
+pub each_from_tight : (Struck : CandidatesValue → Reason → ℕ → ℕ → Type 0) (grade : Grade) (c : CandidatesValue) (steps : List StepValue) (place : ℕ) (goal : Goal)
+    → IsTight Struck grade c steps goal → place < length steps → Shows Struck grade c (remove steps place) goal → ⊥
+each_from_tight Struck grade c steps place goal tight low shows =
+    let at = parted steps place low in
+    let rest : remove steps place ≡ at.0 ++ at.2 = (λ i. remove (at.3 i) (sym at.4 i)) ∙ remove_at at.0 at.2 at.1 in
+    tight at.0 at.2 at.1 at.3 (subst (λ xs. Shows Struck grade c xs goal) rest shows)
+
+-- ---- the loop that leaves steps out
+
+-- one is left out
+pub pass_goes : (Struck : CandidatesValue → Reason → ℕ → ℕ → Type 0) → IsAntitone Struck → (grade : Grade) (c d : CandidatesValue) (steps rest : List Step)
+    (place : ℕ) (goal : Goal) → d ≡ c → 0 < place → place ≤ length steps → Shows Struck grade c (steps_of steps) goal
+    → IsTightFrom place Struck grade c (steps_of steps) goal → rest ≡ remove steps (place - 1) → Shows Struck grade d (remove (steps_of steps) (place - 1)) goal
+    → (place - 1 ≤ length rest) × Shows Struck grade c (steps_of rest) goal × IsTightFrom (place - 1) Struck grade c (steps_of rest) goal
+pass_goes Struck less grade c d steps rest place goal same some low whole tight is part =
+    let at = parted steps (place - 1) (omega (arith, some, low)) in
+    let parts : rest ≡ at.0 ++ at.2 = is ∙ (λ i. remove (at.3 i) (sym at.4 i)) ∙ remove_at at.0 at.2 at.1 in
+    let listed : steps_of rest ≡ remove (steps_of steps) (place - 1) = ap steps_of is ∙ steps_removed steps (place - 1) in
+    let here : place - 1 < length (steps_of steps) = omega (arith, some, low, length-map steps step_value) in
+    let back_again : place ≡ place - 1 + 1 = omega (arith, some) in
+    let now : IsTightFrom (place - 1 + 1) Struck grade c (steps_of steps) goal =
+    subst (λ (n : ℕ). IsTightFrom n Struck grade c (steps_of steps) goal) back_again tight in (
+      omega (arith, at.4, ap length parts, length-append at.0 at.2),
+      subst (λ xs. Shows Struck grade c xs goal) (sym listed) (subst (λ x. Shows Struck grade x (remove (steps_of steps) (place - 1)) goal) same part),
+      subst (λ xs. IsTightFrom (place - 1) Struck grade c xs goal) (sym listed)
+          (tight_without Struck less grade c (steps_of steps) (place - 1) goal here whole now),
+    )
+
+-- one stays
+pub pass_stays : (Struck : CandidatesValue → Reason → ℕ → ℕ → Type 0) (grade : Grade) (c d : CandidatesValue) (steps : List Step)
+    (place : ℕ) (goal : Goal) → d ≡ c → 0 < place → place ≤ length steps → IsTightFrom place Struck grade c (steps_of steps) goal
+    → (Shows Struck grade d (remove (steps_of steps) (place - 1)) goal → ⊥)
+    → (place - 1 ≤ length steps) × IsTightFrom (place - 1) Struck grade c (steps_of steps) goal
+pass_stays Struck grade c d steps place goal same some low tight none =
+    let back_again : place ≡ place - 1 + 1 = omega (arith, some) in
+    let now : IsTightFrom (place - 1 + 1) Struck grade c (steps_of steps) goal =
+    subst (λ (n : ℕ). IsTightFrom n Struck grade c (steps_of steps) goal) back_again tight in (
+      omega (arith, low),
+      tight_with Struck grade c (steps_of steps) (place - 1) goal
+          (λ shows. none (subst (λ x. Shows Struck grade x (remove (steps_of steps) (place - 1)) goal) (sym same) shows)) now,
+    )

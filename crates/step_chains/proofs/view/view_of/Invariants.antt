@@ -1,0 +1,8 @@
+use Rattle.std.proofs.Common.{◌≡◌, ℕ, ◌<◌}
+use Rattle.named_steps.specs.Left.{all_of}
+use Rattle.named_steps.specs.Inner.Takes.{Takes}
+use Rattle.step_chains.specs.Inner.Views.{IsUnseen}
+use Rattle.step_chains.proofs.view.view_of.Given as goal
+
+abbrev pub invariant-loop-cell : goal.invariant-loop-cell
+invariant-loop-cell l = Takes (λ cell v. (j : ℕ) × (j < l.cell) × (cell ≡ j) × IsUnseen l.grid j v) (all_of l.grid.size) l.candidates

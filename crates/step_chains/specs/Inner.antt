@@ -1,0 +1,6 @@
+-- Words that the contracts of private functions alone use.
+pub mod Views
+pub mod Replays
+pub mod Tight
+pub mod Goals
+pub mod Quiet

@@ -1,0 +1,8 @@
+-- Chains of named steps, and what is explained by them. Each file is one subject, and has definitions alone.
+
+-- chains as lists of steps
+pub mod ChainValues
+-- what an answer explains
+pub mod Explanations
+-- words that the contracts of private functions alone use
+pub mod Inner

@@ -1,0 +1,33 @@
+//! Chains: steps one after another, and what they show.
+
+use named_steps::{Goal, Reason};
+use number_sets::NumberSet;
+
+/// A reason, and the values that it strikes in a square.
+#[derive(Clone, Copy, PartialEq, Eq, Debug)]
+pub struct Step {
+    pub reason: Reason,
+    pub cell: u8,
+    pub values: NumberSet,
+}
+
+impl Step {
+    /// Whether another step has the same reason. Steps one after another that have it are one look at a line, a sign or a clue.
+    pub fn is_same_look(&self, other: &Step) -> bool {
+        self.reason == other.reason
+    }
+}
+
+/// Steps one after another, and the number that they show.
+#[derive(Debug, Drop)]
+pub struct Chain {
+    pub steps: Vec<Step>,
+    pub goal: Goal,
+}
+
+/// Steps one after another, and the square that they leave nothing.
+#[derive(Debug, Drop)]
+pub struct Refutation {
+    pub steps: Vec<Step>,
+    pub cell: u8,
+}

@@ -1,0 +1,254 @@
+//! A first chain: rounds of steps, in which the dearer kinds wait for the cheaper ones.
+
+use crate::chain::Step;
+use crate::goals::shown_goal;
+use crate::needs::{left, squares_but, squares_from};
+use crate::next_steps::left_of;
+use crate::replays::{struck, take};
+use crate::view::view_of;
+use arrayvec::ArrayVec;
+use latin_board::{CELLS, Grid, OutOfMemory, line_cell};
+use named_steps::{Grade, Reason, Steps};
+use number_sets::NumberSet;
+use std::alloc::Global;
+use trail_solver::{Candidates, Rules};
+
+// Kinds of steps, the cheapest first. Rows and columns alone have no kind: what they strike in view shows a number.
+#[derive(Clone, Copy, Debug)]
+enum Kind {
+    Given,
+    Bound,
+    Sign,
+    Stand,
+    Clue,
+    Set,
+}
+
+const KINDS: [Kind; 6] = [
+    Kind::Given,
+    Kind::Bound,
+    Kind::Sign,
+    Kind::Stand,
+    Kind::Clue,
+    Kind::Set,
+];
+
+// No more rounds than pairs that can be struck.
+const ROUNDS: usize = 729;
+
+/// Steps of the grade's from what is in view of the grid, round after round, until a number of an empty square is shown or they
+/// strike nothing more.
+pub(crate) fn layered_steps<P: Steps>(
+    alloc: Global,
+    p: &P,
+    grid: &Grid,
+    grade: Grade,
+) -> Result<Rounds, OutOfMemory> {
+    let mut rounds = Rounds {
+        now: view_of(grid),
+        next: view_of(grid),
+        steps: Vec::new(alloc),
+    };
+    for last in 0..KINDS.len() {
+        rounds.go_on(p, grid, grade, last)?;
+    }
+    Ok(rounds)
+}
+
+/// Rounds of steps: the candidates at the beginning of a round, those that its steps leave, and all steps so far.
+#[derive(Drop)]
+pub(crate) struct Rounds {
+    pub(crate) now: Candidates,
+    next: Candidates,
+    pub(crate) steps: Vec<Step>,
+}
+
+impl Rounds {
+    // Rounds with the kinds up to one, while they strike anything and nothing is shown.
+    fn go_on<P: Steps>(
+        &mut self,
+        p: &P,
+        grid: &Grid,
+        grade: Grade,
+        last: usize,
+    ) -> Result<(), OutOfMemory> {
+        for _round in 0..ROUNDS {
+            if self.now.size() != grid.size() || shown_goal(&self.now, grid).is_some() {
+                return Ok(());
+            }
+            let before = self.steps.len();
+            self.round(p, grade, last)?;
+            if self.steps.len() == before {
+                return Ok(());
+            }
+        }
+        Ok(())
+    }
+
+    // One round with the kinds up to one; its steps all look at the same candidates.
+    fn round<P: Steps>(&mut self, p: &P, grade: Grade, last: usize) -> Result<(), OutOfMemory> {
+        let before = self.steps.len();
+        for kind in 0..KINDS.len() {
+            if kind <= last {
+                self.look(p, grade, KINDS[kind])?;
+            }
+        }
+        catch_up(&mut self.now, self.steps.as_slice(), before);
+        Ok(())
+    }
+
+    // The steps of one kind.
+    fn look<P: Steps>(&mut self, p: &P, grade: Grade, kind: Kind) -> Result<(), OutOfMemory> {
+        match kind {
+            Kind::Given => self.look_at_squares(p, grade),
+            Kind::Sign => self.look_at_signs(p, grade),
+            Kind::Set => self.look_at_lines(p, grade),
+            Kind::Bound | Kind::Stand | Kind::Clue => self.look_at_clues(p, grade, kind),
+        }
+    }
+
+    // The steps of the givens.
+    fn look_at_squares<P: Steps>(&mut self, p: &P, grade: Grade) -> Result<(), OutOfMemory> {
+        let width = self.now.size().get() as usize;
+        for cell in 0..width * width {
+            self.look_in(p, grade, &Reason::Given { cell }, cell)?;
+        }
+        Ok(())
+    }
+
+    // The steps of the signs.
+    fn look_at_signs<P: Steps>(&mut self, p: &P, grade: Grade) -> Result<(), OutOfMemory> {
+        let size = self.now.size();
+        for line in 0..2 * size.get() {
+            self.look_at_signs_on(p, grade, line)?;
+        }
+        Ok(())
+    }
+
+    // Those along one row or column.
+    fn look_at_signs_on<P: Steps>(
+        &mut self,
+        p: &P,
+        grade: Grade,
+        line: u8,
+    ) -> Result<(), OutOfMemory> {
+        let size = self.now.size();
+        for k in 0..size.get() - 1 {
+            if line < 2 * size.get() {
+                let from = line_cell(size, line, k);
+                let to = line_cell(size, line, k + 1);
+                self.look_in(p, grade, &Reason::Sign { from, to }, to)?;
+                self.look_in(p, grade, &Reason::Sign { from: to, to: from }, from)?;
+            }
+        }
+        Ok(())
+    }
+
+    // The steps of the clues at the edge.
+    fn look_at_clues<P: Steps>(
+        &mut self,
+        p: &P,
+        grade: Grade,
+        kind: Kind,
+    ) -> Result<(), OutOfMemory> {
+        let size = self.now.size();
+        for place in 0..4 * size.get() as usize {
+            let reason = match kind {
+                Kind::Bound => Reason::Bound { place },
+                Kind::Stand => Reason::Stand { place },
+                _ => Reason::Clue { place },
+            };
+            self.look_among(p, grade, &reason, squares_from(size, place))?;
+        }
+        Ok(())
+    }
+
+    // The steps of groups of squares.
+    fn look_at_lines<P: Steps>(&mut self, p: &P, grade: Grade) -> Result<(), OutOfMemory> {
+        let size = self.now.size();
+        for line in 0..2 * size.get() {
+            self.look_at_groups(p, grade, line)?;
+        }
+        Ok(())
+    }
+
+    // Those of one row or column.
+    fn look_at_groups<P: Steps>(
+        &mut self,
+        p: &P,
+        grade: Grade,
+        line: u8,
+    ) -> Result<(), OutOfMemory> {
+        let size = self.now.size();
+        let groups = NumberSet::up_to(size.get()).lowered().bits();
+        for group in 0..groups {
+            let squares = NumberSet::from_bits(group);
+            let values = left_on(&self.now, line, squares);
+            if values.len() == squares.len() {
+                let line = line as usize;
+                let reason = Reason::Set {
+                    line,
+                    squares,
+                    values,
+                };
+                self.look_among(p, grade, &reason, squares_but(size, line, usize::MAX))?;
+            }
+        }
+        Ok(())
+    }
+
+    // What a reason strikes in some squares.
+    fn look_among<P: Steps>(
+        &mut self,
+        p: &P,
+        grade: Grade,
+        reason: &Reason,
+        cells: ArrayVec<u8, 9>,
+    ) -> Result<(), OutOfMemory> {
+        for cell in cells {
+            self.look_in(p, grade, reason, cell as usize)?;
+        }
+        Ok(())
+    }
+
+    // What a reason strikes in one square.
+    fn look_in<P: Steps>(
+        &mut self,
+        p: &P,
+        grade: Grade,
+        reason: &Reason,
+        cell: usize,
+    ) -> Result<(), OutOfMemory> {
+        if cell >= CELLS || !grade.has(*reason) {
+            return Ok(());
+        }
+        let values = struck(p, &self.now, reason, cell).intersection(left(&self.next, cell));
+        if values.is_empty() {
+            return Ok(());
+        }
+        let step = Step {
+            reason: *reason,
+            cell: cell as u8,
+            values,
+        };
+        take(&mut self.next, &step);
+        self.steps.push(step)?;
+        Ok(())
+    }
+}
+
+// Takes away what the steps from a place on list.
+fn catch_up(candidates: &mut Candidates, steps: &[Step], from: usize) {
+    for place in from..steps.len() {
+        take(candidates, &steps[place]);
+    }
+}
+
+// What is left of some squares of a row or column; nothing where there is no such line.
+fn left_on(candidates: &Candidates, line: u8, squares: NumberSet) -> NumberSet {
+    if line < 2 * candidates.size().get() {
+        left_of(candidates, line, squares)
+    } else {
+        NumberSet::empty()
+    }
+}

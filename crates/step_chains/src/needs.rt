@@ -1,0 +1,153 @@
+//! Sets of values for squares: what is needed of a chain, and where reasons look.
+
+use arrayvec::ArrayVec;
+use clue_rules::view_cell;
+use latin_board::{CELLS, Size, line_cell};
+use named_steps::{Goal, Reason};
+use number_sets::NumberSet;
+use trail_solver::Candidates;
+
+/// A set of values for each square.
+#[derive(Clone, Copy, Debug)]
+pub(crate) struct Values {
+    sets: [NumberSet; CELLS],
+}
+
+impl Values {
+    /// No value in any square.
+    pub(crate) fn none() -> Values {
+        Values {
+            sets: [NumberSet::empty(); CELLS],
+        }
+    }
+
+    /// The values of a square; none where there is no such square.
+    pub(crate) fn of(&self, cell: usize) -> NumberSet {
+        if cell < CELLS {
+            self.sets[cell]
+        } else {
+            NumberSet::empty()
+        }
+    }
+
+    /// With these values of a square, too.
+    pub(crate) fn add(&mut self, cell: usize, values: NumberSet) {
+        if cell < CELLS {
+            self.sets[cell] = self.sets[cell].union(values);
+        }
+    }
+
+    /// Without these values of a square.
+    pub(crate) fn remove(&mut self, cell: usize, values: NumberSet) {
+        if cell < CELLS {
+            self.sets[cell] = self.sets[cell].difference(values);
+        }
+    }
+}
+
+/// What has to be struck from candidates so that they show the goal.
+pub(crate) fn needs_of(candidates: &Candidates, goal: Goal) -> Values {
+    match goal {
+        Goal::OnlyValue { cell, value } => needs_of_value(candidates, cell, value),
+        Goal::OnlyPlace { line, index, value } => needs_of_place(candidates, line, index, value),
+    }
+}
+
+fn needs_of_value(candidates: &Candidates, cell: usize, value: u8) -> Values {
+    let mut needs = Values::none();
+    needs.add(cell, left(candidates, cell).difference(single(value)));
+    needs
+}
+
+fn needs_of_place(candidates: &Candidates, line: usize, index: usize, value: u8) -> Values {
+    let mut needs = Values::none();
+    for cell in squares_but(candidates.size(), line, index) {
+        needs.add(
+            cell as usize,
+            left(candidates, cell as usize).intersection(single(value)),
+        );
+    }
+    needs
+}
+
+/// The set of one number, or of none where it is too great.
+fn single(value: u8) -> NumberSet {
+    if value < 16 {
+        NumberSet::one(value)
+    } else {
+        NumberSet::empty()
+    }
+}
+
+/// What is left of a square; nothing where there is no such square.
+pub(crate) fn left(candidates: &Candidates, cell: usize) -> NumberSet {
+    let width = candidates.size().get() as usize;
+    if cell < width * width {
+        candidates.values(cell)
+    } else {
+        NumberSet::empty()
+    }
+}
+
+/// The squares at whose candidates a reason looks.
+pub(crate) fn looked_at(size: Size, reason: &Reason) -> ArrayVec<u8, 9> {
+    match *reason {
+        Reason::Given { cell: _ } => ArrayVec::new(),
+        Reason::Peer { cell } => just(cell),
+        Reason::Place {
+            line,
+            index,
+            value: _,
+        } => squares_but(size, line, index),
+        Reason::Bound { place: _ } => ArrayVec::new(),
+        Reason::Stand { place } => squares_from(size, place),
+        Reason::Clue { place } => squares_from(size, place),
+        Reason::Sign { from, to: _ } => just(from),
+        Reason::Set {
+            line,
+            squares,
+            values: _,
+        } => squares_among(size, line, squares),
+    }
+}
+
+fn just(cell: usize) -> ArrayVec<u8, 9> {
+    let mut cells = ArrayVec::new();
+    if cell < CELLS {
+        cells.push(cell as u8);
+    }
+    cells
+}
+
+// The squares of a row or column but for one place.
+pub(crate) fn squares_but(size: Size, line: usize, index: usize) -> ArrayVec<u8, 9> {
+    let all = NumberSet::up_to(size.get()).lowered();
+    let one = if index < 16 {
+        NumberSet::one(index as u8)
+    } else {
+        NumberSet::empty()
+    };
+    squares_among(size, line, all.difference(one))
+}
+
+// Some squares of a row or column.
+fn squares_among(size: Size, line: usize, squares: NumberSet) -> ArrayVec<u8, 9> {
+    let mut cells = ArrayVec::new();
+    for k in 0..size.get() {
+        if line < 2 * size.get() as usize && squares.has(k) {
+            let _pushed = cells.try_push(line_cell(size, line as u8, k) as u8);
+        }
+    }
+    cells
+}
+
+// The squares from a place at the edge.
+pub(crate) fn squares_from(size: Size, place: usize) -> ArrayVec<u8, 9> {
+    let mut cells = ArrayVec::new();
+    for k in 0..size.get() as usize {
+        if place < 4 * size.get() as usize {
+            let _pushed = cells.try_push(view_cell(size, place as u8, k) as u8);
+        }
+    }
+    cells
+}

@@ -1,0 +1,231 @@
+//! What a goal needs of a long chain: a slice of it, with the strikes of a reason side by side.
+
+use crate::chain::Step;
+use crate::needs::{Values, left, looked_at, needs_of};
+use crate::replays::{struck, take};
+use arrayvec::ArrayVec;
+use latin_board::OutOfMemory;
+use named_steps::{Goal, Reason, Steps, strike};
+use number_sets::NumberSet;
+use std::alloc::Global;
+use trail_solver::{Candidates, Rules};
+
+/// The steps of a chain from the candidates on which the goal stands, in their order, each with the values that are used.
+pub(crate) fn slice<P: Steps>(
+    alloc: Global,
+    p: &P,
+    candidates: &mut Candidates,
+    steps: &[Step],
+    goal: Goal,
+) -> Result<Vec<Step>, OutOfMemory> {
+    let mut needs = needs_of(candidates, goal);
+    let mut gone = Values::none();
+    for step in steps {
+        gone.add(step.cell as usize, step.values);
+    }
+    let mut kept = Vec::new(alloc);
+    for i in 0..steps.len() {
+        let place = steps.len() - 1 - i;
+        let step = &steps[place];
+        let cell = step.cell as usize;
+        let values = step.values.intersection(needs.of(cell));
+        gone.remove(cell, step.values);
+        if !values.is_empty() {
+            needs.remove(cell, values);
+            let step = Step {
+                reason: step.reason,
+                cell: step.cell,
+                values,
+            };
+            let rest = few_premises(p, candidates, &steps[..place], &gone, &needs, &step);
+            for at in looked_at(candidates.size(), &step.reason) {
+                needs.add(at as usize, rest.of(at as usize));
+            }
+            kept.push(step)?;
+        }
+    }
+    kept.reverse();
+    Ok(kept)
+}
+
+// Few of the values that are gone before a step, of the squares where its reason looks, by which it still strikes its own: those of
+// the latest steps are left out first, and what is needed anyhow stays.
+fn few_premises<P: Steps>(
+    p: &P,
+    candidates: &mut Candidates,
+    before: &[Step],
+    gone: &Values,
+    needs: &Values,
+    step: &Step,
+) -> Values {
+    let cells = looked_at(candidates.size(), &step.reason);
+    let mut rest = *gone;
+    for i in 0..before.len() {
+        let made = &before[before.len() - 1 - i];
+        if cells.contains(&made.cell) {
+            leave_out(p, candidates, &cells, &mut rest, needs, step, made);
+        }
+    }
+    rest
+}
+
+// Leaves out what one step made, or else each of its values that can be left out.
+fn leave_out<P: Steps>(
+    p: &P,
+    candidates: &mut Candidates,
+    cells: &ArrayVec<u8, 9>,
+    rest: &mut Values,
+    needs: &Values,
+    step: &Step,
+    made: &Step,
+) {
+    let cell = made.cell as usize;
+    let spare = made.values.difference(needs.of(cell));
+    if spare.is_empty() || leave_out_values(p, candidates, cells, rest, step, cell, spare) {
+        return;
+    }
+    if spare.is_single() {
+        return;
+    }
+    for value in 1..10 {
+        if spare.has(value) {
+            leave_out_values(
+                p,
+                candidates,
+                cells,
+                rest,
+                step,
+                cell,
+                NumberSet::one(value),
+            );
+        }
+    }
+}
+
+// Leaves the values out, where the step still strikes what it strikes.
+fn leave_out_values<P: Steps>(
+    p: &P,
+    candidates: &mut Candidates,
+    cells: &ArrayVec<u8, 9>,
+    rest: &mut Values,
+    step: &Step,
+    cell: usize,
+    values: NumberSet,
+) -> bool {
+    rest.remove(cell, values);
+    if strikes_by(p, candidates, cells, rest, step) {
+        return true;
+    }
+    rest.add(cell, values);
+    false
+}
+
+// Whether a step strikes its values where these are gone of the squares at which its reason looks.
+fn strikes_by<P: Steps>(
+    p: &P,
+    candidates: &mut Candidates,
+    cells: &ArrayVec<u8, 9>,
+    gone: &Values,
+    step: &Step,
+) -> bool {
+    let mark = candidates.mark();
+    for cell in cells.as_slice() {
+        take(
+            candidates,
+            &Step {
+                reason: step.reason,
+                cell: *cell,
+                values: gone.of(*cell as usize),
+            },
+        );
+    }
+    let strikes = step
+        .values
+        .is_subset(struck(p, candidates, &step.reason, step.cell as usize));
+    if mark.len() <= candidates.trail_len() {
+        candidates.give_back(mark);
+    }
+    strikes
+}
+
+/// The chain in which each look has all that its reason is to strike anywhere, as far as it strikes it by then. Some values are
+/// listed twice.
+pub(crate) fn gathered<P: Steps>(
+    alloc: Global,
+    p: &P,
+    candidates: &mut Candidates,
+    steps: &[Step],
+) -> Result<Vec<Step>, OutOfMemory> {
+    let mark = candidates.mark();
+    let mut found = Vec::new(alloc);
+    for place in 0..steps.len() {
+        if place == 0 || !steps[place].is_same_look(&steps[place - 1]) {
+            gather(p, candidates, steps, &steps[place].reason, &mut found)?;
+        }
+    }
+    if mark.len() <= candidates.trail_len() {
+        candidates.give_back(mark);
+    }
+    Ok(found)
+}
+
+// All that a reason is to strike in the steps, as far as it strikes it.
+fn gather<P: Steps>(
+    p: &P,
+    candidates: &mut Candidates,
+    steps: &[Step],
+    reason: &Reason,
+    found: &mut Vec<Step>,
+) -> Result<(), OutOfMemory> {
+    let mut wanted = Values::none();
+    for step in steps {
+        if step.reason == *reason {
+            wanted.add(step.cell as usize, step.values);
+        }
+    }
+    for step in steps {
+        let cell = step.cell as usize;
+        let values = wanted
+            .of(cell)
+            .intersection(struck(p, candidates, reason, cell));
+        if step.reason == *reason && !values.is_empty() {
+            wanted.remove(cell, values);
+            let step = Step {
+                reason: *reason,
+                cell: step.cell,
+                values,
+            };
+            take(candidates, &step);
+            found.push(step)?;
+        }
+    }
+    Ok(())
+}
+
+/// The steps with each value where it is first struck alone.
+pub(crate) fn struck_once(
+    alloc: Global,
+    candidates: &mut Candidates,
+    steps: &[Step],
+) -> Result<Vec<Step>, OutOfMemory> {
+    let mark = candidates.mark();
+    let mut found = Vec::new(alloc);
+    for step in steps {
+        let values = step
+            .values
+            .intersection(left(candidates, step.cell as usize));
+        if !values.is_empty() {
+            let step = Step {
+                reason: step.reason,
+                cell: step.cell,
+                values,
+            };
+            take(candidates, &step);
+            found.push(step)?;
+        }
+    }
+    if mark.len() <= candidates.trail_len() {
+        candidates.give_back(mark);
+    }
+    Ok(found)
+}
