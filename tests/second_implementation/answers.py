@@ -4,6 +4,7 @@ from pathlib import Path
 from typing import Dict, Iterator, Tuple
 
 from tests.second_implementation.damage import KINDS
+from tests.second_implementation.fair import fair
 from tests.second_implementation.games import GAMES, Game
 from tests.second_implementation.saves import Session, load, save
 from tests.second_implementation.seeded import generate, square
@@ -39,6 +40,8 @@ def answers(request: str, data: Path) -> Iterator[str]:
         yield from damaged(argument, data)
     elif task == 'each':
         yield from each_damaged(argument, data)
+    elif task == 'fair':
+        yield f'{request} {fair_game(argument)}'
     else:
         size, seed = (int(word) for word in argument.split())
         yield f'{request} {seeded(task, size, seed)}'
@@ -106,3 +109,12 @@ def seeded(task: str, size: int, seed: int) -> str:
     if task == 'square':
         return ''.join(str(number) for number in square(size, seed))
     return f'{size}:{generate(task, size, seed).description()}'
+
+
+def fair_game(argument: str) -> str:
+    """The ID of a fair game, or the name of its refusal."""
+    game, size, letter, seed = argument.split()
+    try:
+        return f'{size}d{letter}:{fair(game, int(size), letter, int(seed)).description()}'
+    except Refused as refused:
+        return refused.name

@@ -33,7 +33,11 @@ def block(key: Sequence[int], counter: int) -> List[int]:
 
 def words_of(seed: int) -> Iterator[int]:
     """The words of a seed's stream. The key is the seed's 8 bytes, the greatest first, and 24 zero bytes."""
-    key_bytes = seed.to_bytes(8, 'big') + bytes(24)
+    return words_of_key(seed.to_bytes(8, 'big') + bytes(24))
+
+
+def words_of_key(key_bytes: bytes) -> Iterator[int]:
+    """The words of the stream of a key of 32 bytes."""
     key = [int.from_bytes(key_bytes[at:at + 4], 'little') for at in range(0, 32, 4)]
     counter = 0
     while True:

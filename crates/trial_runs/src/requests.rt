@@ -8,6 +8,7 @@
 //! | `each FILE` | the answer to each of these texts, for where a digest isn't the wanted one |
 //! | `square SIZE SEED` | the numbers of a seed's square |
 //! | `towers SIZE SEED`, `unequal SIZE SEED` | the ID of a seed's game |
+//! | `fair GAME SIZE LETTER SEED` | the ID of a seed's fair game, or the refusal's name |
 //!
 //! A line that begins with # comes back as it is. Files lie in data/, in a folder for each game: fresh-, solved- and played- ones were
 //! written by the usual program (bench/README.md), worked- ones by hand.
@@ -20,9 +21,11 @@
 
 mod answers;
 mod damage;
+mod fair;
 mod saves;
 mod seeded;
 
+use crate::requests::fair::fair_answer;
 use crate::requests::saves::{Detail, print_damaged, print_loaded};
 use crate::requests::seeded::seeded_answer;
 use clue_rules::{Game, Towers, Unequal};
@@ -69,6 +72,10 @@ fn answer(rt: &(impl Files + Print + AllocGlobal), line: &str) -> io::Result<()>
         Some(("damage", name)) => {
             println!(rt; "{line}")?;
             answer_file(rt, Request::Damage(Detail::Counts), name)
+        }
+        Some(("fair", words)) => {
+            let answer = fair_answer(rt.alloc(), words)?;
+            print_behind(rt, line, &answer)
         }
         _ => {
             let answer = seeded_answer(rt.alloc(), line)?;

@@ -30,8 +30,17 @@ fn game_text<P: Game>(alloc: Global, size: Size, seed: u64) -> io::Result<Vec<u8
         Ok(puzzle) => puzzle,
         Err(fault) => return Ok(fault.name().as_bytes().to_vec(alloc)?),
     };
+    id_text(alloc, &params, &puzzle)
+}
+
+/// The ID of a puzzle.
+pub(crate) fn id_text<P: Game>(
+    alloc: Global,
+    params: &Params,
+    puzzle: &P,
+) -> io::Result<Vec<u8>> {
     let mut text = Vec::new(alloc);
-    match add_id(alloc, &mut text, &params, &puzzle) {
+    match add_id(alloc, &mut text, params, puzzle) {
         Ok(()) => Ok(text),
         Err(error) => Err(error.into()),
     }

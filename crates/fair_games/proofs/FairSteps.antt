@@ -1,0 +1,161 @@
+-- Draws, one after the other, until one gives a game of the grade; and that there is just one such game.
+use Rattle.std.proofs.Common.{◌≡◌, ℕ, zero, suc, ◌+◌, ◌<◌, Bool, true, false, if◌then◌else◌, List, [], Option, Some, None, Result, Ok, Err, inl, inr, refl, sym, ◌∙◌, ap, subst, arith}
+use Rattle.std.proofs.lemmas.Bool.{both_ways, cases_eq, cases_order}
+use Rattle.latin_board.specs.Squares.{GridValue, latin_test}
+use Rattle.trail_solver.specs.Candidates.{CandidatesValue}
+use Rattle.trail_solver.specs.Puzzles.{Puzzle}
+use Rattle.trail_solver.specs.Solutions.{IsOnlySolution}
+use Rattle.trail_solver.specs.declared.rules.Rules.{Ghosts}
+use Rattle.rand_core.specs.Stream.{Stream}
+use Rattle.puzzle_gen.proofs.ItemLaws.{ItemLaws, cuts_of_full}
+use Rattle.named_steps.specs.Following.{Follows}
+use Rattle.named_steps.specs.Graded.{FollowsBy, IsGradeOf}
+use Rattle.named_steps.proofs.Followed.{follows_only}
+use Rattle.named_steps.specs.declared.reason.Reason.{Reason}
+use Rattle.named_steps.specs.declared.grade.Grade.{Grade}
+use Rattle.named_steps.specs.declared.grade.Grade.TheVariants.{Latin, Easy, Hard}
+use Rattle.puzzle_gen.specs.SeededSquares.{drawn_order, square_of}
+use Rattle.fair_games.specs.Squares.{drawn_rows, first_row, with_first}
+use Rattle.fair_games.proofs.RowSteps.{with_row_size}
+use Rattle.fair_games.specs.Draws.{drawn_game, stream_after, draw_at}
+use Rattle.fair_games.specs.Fair.{FailsBy, IsPrunedGame, IsOfGrade, IsPassedOver, IsFair, IsFairResult}
+use Rattle.fair_games.specs.declared.trial.Trial.{Trial}
+use Rattle.fair_games.specs.declared.fair_fault.FairFault.{FairFault}
+use Rattle.fair_games.specs.declared.fair_fault.FairFault.TheVariants.{NotOffered, NoneFound}
+use Rattle.fair_games.proofs.PrunedOnce.{pruned_once}
+use Rattle.fair_games.proofs.PruneSteps.{HasSteps, IsCutOf, cut_of}
+
+-- ---- draws
+
+pub next_left : (trial : Trial) (w items k : ℕ) (s now next : Stream) → now ≡ stream_after trial w items k s
+    → next ≡ (drawn_game trial w items now).1 → next ≡ stream_after trial w items (k + 1) s
+next_left trial w items k s now next so_far drew =
+    let more : suc k ≡ k + 1 = omega arith in
+    drew ∙ ap (λ (t : Stream). (drawn_game trial w items t).1) so_far ∙ ap (λ (n : ℕ). stream_after trial w items n s) more
+
+-- what is drawn now is the next draw
+drawn_now : (trial : Trial) (w items k : ℕ) (s now : Stream) → now ≡ stream_after trial w items k s
+    → (drawn_game trial w items now).0 ≡ draw_at trial w items s k
+drawn_now trial w items k s now so_far = ap (λ (t : Stream). (drawn_game trial w items t).0) so_far
+
+pub next_passed : {P : Type 0} (f : Ghosts P) (Struck : P → CandidatesValue → Reason → ℕ → ℕ → Type 0) (grade : Grade) (trial : Trial) (w items k : ℕ)
+    (s now : Stream) (p : P) → now ≡ stream_after trial w items k s → IsPrunedGame f Struck grade (drawn_game trial w items now).0 p
+    → (IsOfGrade f Struck grade p → ⊥) → ((n : ℕ) → n < k → IsPassedOver f Struck grade (draw_at trial w items s n))
+    → (n : ℕ) → n < k + 1 → IsPassedOver f Struck grade (draw_at trial w items s n)
+next_passed f Struck grade trial w items k s now p so_far pruned other before n below =
+    elim (cases_eq n k) [
+      | inl here ↦ subst (λ (m : ℕ). IsPassedOver f Struck grade (draw_at trial w items s m)) (sym here) (record {
+        puzzle = p;
+        pruned = subst (λ (d : GridValue × List ℕ). IsPrunedGame f Struck grade d p) (drawn_now trial w items k s now so_far) pruned;
+        other = other;
+      })
+      | inr apart ↦ before n (omega (arith, below, apart))
+    ]
+
+pub found_fair : {P : Type 0} (f : Ghosts P) (Struck : P → CandidatesValue → Reason → ℕ → ℕ → Type 0) (grade : Grade) (trial : Trial) (w items k : ℕ)
+    (s now : Stream) (p : P) → now ≡ stream_after trial w items k s → IsPrunedGame f Struck grade (drawn_game trial w items now).0 p
+    → IsOfGrade f Struck grade p → ((n : ℕ) → n < k → IsPassedOver f Struck grade (draw_at trial w items s n)) → k < 512
+    → IsFair f Struck grade (draw_at trial w items s) p
+found_fair f Struck grade trial w items k s now p so_far pruned graded before few = record {
+  draw = k;
+  few = few;
+  pruned = subst (λ (d : GridValue × List ℕ). IsPrunedGame f Struck grade d p) (drawn_now trial w items k s now so_far) pruned;
+  graded = graded;
+  earlier = before;
+}
+
+-- ---- there is just one
+
+-- a draw that gives a game of the grade isn't passed over
+not_passed : {P : Type 0} (f : Ghosts P) (Struck : P → CandidatesValue → Reason → ℕ → ℕ → Type 0) (grade : Grade) (draw : GridValue × List ℕ) (p : P)
+    → ItemLaws f → IsPrunedGame f Struck grade draw p → IsOfGrade f Struck grade p → IsPassedOver f Struck grade draw → ⊥
+not_passed f Struck grade draw p laws pruned graded passed =
+    let same = pruned_once f (FailsBy Struck grade draw.0) draw.0 draw.1 p passed.puzzle (cuts_of_full f draw.0 laws pruned.is_grid pruned.is_latin)
+    pruned passed.pruned in
+    passed.other (subst (IsOfGrade f Struck grade) same graded)
+
+fair_same : {P : Type 0} (f : Ghosts P) (Struck : P → CandidatesValue → Reason → ℕ → ℕ → Type 0) (grade : Grade) (draws : ℕ → GridValue × List ℕ) (p q : P)
+    → ItemLaws f → IsFair f Struck grade draws p → IsFair f Struck grade draws q → p ≡ q
+fair_same f Struck grade draws p q laws first second =
+    elim (cases_order first.draw second.draw) [
+      | inl here ↦
+          let draw = draws first.draw in
+          let other = subst (λ (n : ℕ). IsPrunedGame f Struck grade (draws n) q) (sym here) second.pruned in
+          pruned_once f (FailsBy Struck grade draw.0) draw.0 draw.1 p q (cuts_of_full f draw.0 laws first.pruned.is_grid first.pruned.is_latin) first.pruned other
+      | inr apart ↦ elim apart [
+        | inl before ↦ absurd (not_passed f Struck grade (draws first.draw) p laws first.pruned first.graded (second.earlier first.draw before))
+        | inr after ↦ absurd (not_passed f Struck grade (draws second.draw) q laws second.pruned second.graded (first.earlier second.draw after))
+      ]
+    ]
+
+-- two results of the same draws are the same
+pub fair_once : {P : Type 0} (f : Ghosts P) (Struck : P → CandidatesValue → Reason → ℕ → ℕ → Type 0) (grade : Grade) (offered : Bool)
+    (draws : ℕ → GridValue × List ℕ) (r s : Result P FairFault) → ItemLaws f → IsFairResult f Struck grade offered draws r
+    → IsFairResult f Struck grade offered draws s → r ≡ s
+fair_once f Struck grade offered draws (Ok p) (Ok q) laws first second = ap Ok (fair_same f Struck grade draws p q laws first.1 second.1)
+fair_once f Struck grade offered draws (Ok p) (Err NotOffered) laws first second = absurd (both_ways offered second first.0)
+fair_once f Struck grade offered draws (Ok p) (Err NoneFound) laws first second =
+    let fair = first.1 in
+    absurd (not_passed f Struck grade (draws fair.draw) p laws fair.pruned fair.graded (second.1 fair.draw fair.few))
+fair_once f Struck grade offered draws (Err NotOffered) (Ok q) laws first second = absurd (both_ways offered first second.0)
+fair_once f Struck grade offered draws (Err NotOffered) (Err NotOffered) laws first second = refl
+fair_once f Struck grade offered draws (Err NotOffered) (Err NoneFound) laws first second = absurd (both_ways offered first second.0)
+fair_once f Struck grade offered draws (Err NoneFound) (Ok q) laws first second =
+    let fair = second.1 in
+    absurd (not_passed f Struck grade (draws fair.draw) q laws fair.pruned fair.graded (first.1 fair.draw fair.few))
+fair_once f Struck grade offered draws (Err NoneFound) (Err NotOffered) laws first second = absurd (both_ways offered second first.0)
+fair_once f Struck grade offered draws (Err NoneFound) (Err NoneFound) laws first second = refl
+
+-- ---- what a fair game is
+
+graded_follows : (p : Puzzle) (Struck : CandidatesValue → Reason → ℕ → ℕ → Type 0) (grade : Grade) → IsGradeOf p Struck (Some grade) → FollowsBy p Struck grade
+graded_follows p Struck Latin graded = graded
+graded_follows p Struck Easy graded = graded.0
+graded_follows p Struck Hard graded = graded.0
+
+pub fair_puzzle : {P : Type 0} (f : Ghosts P) (Struck : P → CandidatesValue → Reason → ℕ → ℕ → Type 0) (grade : Grade) (draws : ℕ → GridValue × List ℕ) (p : P)
+    → ItemLaws f → (fair : IsFair f Struck grade draws p) → IsCutOf f (draws fair.draw).0 p
+fair_puzzle f Struck grade draws p laws fair =
+    cut_of f (draws fair.draw).0 p (f.has p) laws fair.pruned.is_grid fair.pruned.is_latin fair.pruned.is_cut
+
+-- its only solution follows by the grade
+pub fair_solved : {P : Type 0} (f : Ghosts P) (Struck : P → CandidatesValue → Reason → ℕ → ℕ → Type 0) → HasSteps f Struck → (grade : Grade)
+    (draws : ℕ → GridValue × List ℕ) (p : P) → IsFair f Struck grade draws p
+    → (g : GridValue) × (IsOnlySolution (f.puzzle p) g × Follows (Struck p) grade g)
+fair_solved f Struck steps grade draws p fair =
+    let (g, solution) = graded_follows (f.puzzle p) (Struck p) grade fair.graded in
+    let cut = fair_puzzle f Struck grade draws p steps.items fair in
+    (g, (follows_only (f.puzzle p) (Struck p) (steps.sound p cut.valid) grade g solution.follows solution.solves, solution.follows))
+
+-- ---- sizes
+
+row_size : (g : GridValue) (row : ℕ) (columns : List ℕ) (found : Option (List ℕ)) → (with_first g row columns found).size ≡ g.size
+row_size g row columns None = refl
+row_size g row columns (Some chosen) = with_row_size g row columns chosen g.size
+
+rows_size : (w n : ℕ) (s : Stream) → (drawn_rows w n s).0.size ≡ w
+rows_size w zero s = refl
+rows_size w (suc n) s =
+    let before = drawn_rows w n s in
+    let columns = drawn_order before.0.size before.1 in
+    let numbers = drawn_order before.0.size columns.1 in
+    row_size before.0 n columns.0 (first_row before.0 numbers.0 columns.0 []) ∙ rows_size w n s
+
+-- a draw's square has the width
+pub draw_size : (trial : Trial) (w items : ℕ) (s : Stream) (n : ℕ) → (draw_at trial w items s n).0.size ≡ w
+draw_size trial w items s n =
+    let before = stream_after trial w items n s in
+    let rows = drawn_rows w w before in
+    pick (latin_test rows.0) rows.0 (rows_size w w before)
+  where
+    pick : (b : Bool) (g : GridValue) → g.size ≡ w → (if b then g else square_of w 0).size ≡ w
+    pick true g e = e
+    pick false g e = refl
+
+-- ---- grades
+
+-- what is so of none of the grades is so of no grade
+pub no_grade : (Is : Grade → Type 0) → (Is Latin → ⊥) → (Is Easy → ⊥) → (Is Hard → ⊥) → (grade : Grade) → Is grade → ⊥
+no_grade Is latin easy hard Latin is = latin is
+no_grade Is latin easy hard Easy is = easy is
+no_grade Is latin easy hard Hard is = hard is

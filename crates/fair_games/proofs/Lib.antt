@@ -1,0 +1,9 @@
+pub mod PrunedItems
+pub mod PrunedOnce
+pub mod Bases
+pub mod Shuffles
+pub mod Trials
+pub mod RowSteps
+pub mod Copies
+pub mod PruneSteps
+pub mod FairSteps

@@ -1,0 +1,188 @@
+-- The steps of the pruning, for puzzles whose steps have names.
+use Rattle.std.proofs.Common.{◌≡◌, ℕ, ◌+◌, ◌*◌, ◌<◌, ◌≤◌, Bool, true, false, ◌&&◌, List, inl, inr, refl, sym, ◌∙◌, ap, subst, arith}
+use Rattle.std.proofs.lemmas.Bool.{cases_eq, cases_lt}
+use Rattle.latin_board.specs.Squares.{GridValue, IsGrid, IsLatin, number_at}
+use Rattle.trail_solver.specs.Candidates.{CandidatesValue, IsOnly}
+use Rattle.trail_solver.specs.Puzzles.{Solves}
+use Rattle.trail_solver.specs.declared.rules.Rules.{Ghosts}
+use Rattle.puzzle_gen.specs.Orders.{place_in}
+use Rattle.puzzle_gen.proofs.ItemLaws.{AreCuts, ItemLaws, cuts_of_full}
+use Rattle.named_steps.specs.Left.{AreAlike}
+use Rattle.named_steps.specs.Following.{IsClosure}
+use Rattle.named_steps.proofs.Antitone.{IsAntitone}
+use Rattle.named_steps.proofs.Kept.{IsSoundFor}
+use Rattle.named_steps.proofs.Followed.{follows_more}
+use Rattle.named_steps.specs.declared.reason.Reason.{Reason}
+use Rattle.named_steps.specs.declared.grade.Grade.{Grade}
+use Rattle.fair_games.specs.Fair.{FailsBy}
+use Rattle.fair_games.specs.Inner.PrunedTo.{outside, IsPrunedTo}
+use Rattle.fair_games.specs.Inner.Bases.{IsBase}
+use Rattle.fair_games.proofs.PrunedItems.{cut_again, kept_of_cut, outside_before, outside_within, outside_after, pruned_stays, pruned_goes}
+use Rattle.fair_games.proofs.Bases.{base_alike, base_more, base_settled, base_follows, follows_base}
+
+-- what a game owes of its items and of its steps
+pub record HasSteps {P : Type 0} (f : Ghosts P) (Struck : P → CandidatesValue → Reason → ℕ → ℕ → Type 0) : Type 0 where
+  pub items : ItemLaws f
+  pub less : (p : P) → IsAntitone (Struck p)
+  pub sound : (p : P) → f.valid p → IsSoundFor (f.puzzle p) (Struck p)
+  pub cut : (p : P) (keep : ℕ → Bool) (c : CandidatesValue) (reason : Reason) (cell value : ℕ)
+      → Struck (f.cut p keep) c reason cell value → Struck p c reason cell value
+
+-- what fails with some items fails with fewer
+pub fewer_fail : {P : Type 0} (f : Ghosts P) (Struck : P → CandidatesValue → Reason → ℕ → ℕ → Type 0) → HasSteps f Struck → (grade : Grade) (g : GridValue)
+    (r : P) (keep : ℕ → Bool) → FailsBy Struck grade g r → FailsBy Struck grade g (f.cut r keep)
+fewer_fail f Struck steps grade g r keep fails follows =
+    fails (follows_more (Struck (f.cut r keep)) (Struck r) (steps.cut r keep) grade g follows)
+
+-- what is cut from the full puzzle of a Latin square is a puzzle of its size that it solves
+pub record IsCutOf {P : Type 0} (f : Ghosts P) (g : GridValue) (p : P) : Type 0 where
+  pub valid : f.valid p
+  pub size : (f.puzzle p).size ≡ g.size
+  pub solves : Solves (f.puzzle p) g
+
+pub cut_of : {P : Type 0} (f : Ghosts P) (g : GridValue) (p : P) (keep : ℕ → Bool) → ItemLaws f → IsGrid g → IsLatin g
+    → p ≡ f.cut (f.full_of g) keep → IsCutOf f g p
+cut_of {P} f g p keep laws grid latin is_cut =
+    let full_valid = laws.full_valid g grid latin in
+    subst (IsCutOf f g) (sym is_cut) (record {
+      valid = laws.cut_valid (f.full_of g) keep full_valid;
+      size = laws.cut_size (f.full_of g) keep full_valid ∙ laws.full_size g grid latin;
+      solves = laws.cut_solved (f.full_of g) keep g full_valid (laws.full_solved g grid latin);
+    })
+
+-- the candidates of a base, copied and settled, are one of the puzzle without the items
+pub settled_base : {P : Type 0} (f : Ghosts P) (Struck : P → CandidatesValue → Reason → ℕ → ℕ → Type 0) → HasSteps f Struck → (grade : Grade)
+    (g : GridValue) (q : P) (base copy left : CandidatesValue) → IsCutOf f g q → IsBase (Struck q) grade g base → copy.size ≡ base.size
+    → AreAlike base copy → IsClosure (Struck q) grade copy left → IsBase (Struck q) grade g left
+settled_base f Struck steps grade g q base copy left cut is size alike closure =
+    base_settled (f.puzzle q) (Struck q) (steps.sound q cut.valid) (steps.less q) grade g copy left cut.solves
+    (base_alike (f.puzzle q) (Struck q) grade g base copy cut.solves is size alike) closure
+
+-- where the square's numbers alone are left, all those items go
+pub prune_goes : {P : Type 0} (f : Ghosts P) (Struck : P → CandidatesValue → Reason → ℕ → ℕ → Type 0) → HasSteps f Struck → (grade : Grade)
+    (g : GridValue) (order : List ℕ) (first last : ℕ) (p q : P) (left : CandidatesValue) → IsGrid g → IsLatin g → first ≤ last
+    → IsPrunedTo f (FailsBy Struck grade g) g order first p → q ≡ f.cut p (outside order first last) → IsBase (Struck q) grade g left
+    → ((cell : ℕ) → cell < left.size * left.size → IsOnly left cell (number_at g cell)) → IsPrunedTo f (FailsBy Struck grade g) g order last q
+prune_goes f Struck steps grade g order first last p q left grid latin ordered so_far gone base only =
+    pruned_goes f (FailsBy Struck grade g) g order first last p q (cuts_of_full f g steps.items grid latin) (fewer_fail f Struck steps grade g)
+    ordered so_far gone (λ fails. fails (base_follows (Struck q) grade g left base only))
+
+-- where something else is left, an item that is alone stays
+pub prune_stays : {P : Type 0} (f : Ghosts P) (Struck : P → CandidatesValue → Reason → ℕ → ℕ → Type 0) → HasSteps f Struck → (grade : Grade)
+    (g : GridValue) (order : List ℕ) (first last : ℕ) (p q : P) (base copy left : CandidatesValue) → IsGrid g → IsLatin g → first ≤ last → last < first + 2
+    → IsPrunedTo f (FailsBy Struck grade g) g order first p → q ≡ f.cut p (outside order first last) → IsCutOf f g q → IsBase (Struck q) grade g base
+    → copy.size ≡ base.size → AreAlike base copy → IsClosure (Struck q) grade copy left
+    → (((cell : ℕ) → cell < left.size * left.size → IsOnly left cell (number_at g cell)) → ⊥) → IsPrunedTo f (FailsBy Struck grade g) g order last p
+prune_stays {P} f Struck steps grade g order first last p q base copy left grid latin ordered small so_far gone cut is size alike closure other =
+    let Fails : P → Type 0 = FailsBy Struck grade g in
+    elim (cases_eq first last) [
+      | inl same ↦ subst (λ (k : ℕ). IsPrunedTo f Fails g order k p) same so_far
+      | inr apart ↦
+          let next : last ≡ first + 1 = omega (arith, ordered, small, apart) in
+          let fails : Fails (f.cut p (outside order first last)) = subst Fails gone (λ follows.
+          other (follows_base (f.puzzle q) (Struck q) (steps.sound q cut.valid) (steps.less q) grade g copy left cut.solves
+          (base_alike (f.puzzle q) (Struck q) grade g base copy cut.solves is size alike) closure follows)) in
+          subst (λ (k : ℕ). IsPrunedTo f Fails g order k p) (sym next)
+          (pruned_stays f Fails g order first p (cuts_of_full f g steps.items grid latin) so_far
+          (subst (λ (k : ℕ). Fails (f.cut p (outside order first k))) next fails))
+    ]
+
+-- the puzzle without all those items is a cut of that without the first half
+first_half : {P : Type 0} (f : Ghosts P) (Fails : P → Type 0) (g : GridValue) (order : List ℕ) (first middle last : ℕ) (p q : P) → AreCuts f g
+    → first ≤ middle → middle ≤ last → IsPrunedTo f Fails g order first p → q ≡ f.cut p (outside order first last)
+    → f.cut (f.cut p (outside order first middle)) (outside order middle last) ≡ q
+first_half {P} f Fails g order first middle last p q cuts low high so_far gone =
+    ap (λ (r : P). f.cut r (outside order middle last)) (cut_again f Fails g order first p (outside order first middle) cuts so_far)
+    ∙ cuts.again (λ j. f.has p j && outside order first middle j) (outside order middle last)
+    ∙ cuts.agrees (λ j. (f.has p j && outside order first middle j) && outside order middle last j) (λ j. f.has p j && outside order first last j)
+    (λ j small. elim (cases_lt (place_in j order) first) [
+      | inl before ↦ both (f.has p j) (outside order first middle j) (outside order middle last j) (outside order first last j)
+          (rw (
+            outside_before order first middle j before,
+            outside_before order middle last j (omega (arith, before, low)),
+            outside_before order first last j before,
+          ) refl)
+      | inr from ↦ elim (cases_lt (place_in j order) last) [
+        | inl within ↦ both (f.has p j) (outside order first middle j) (outside order middle last j) (outside order first last j)
+            (elim (cases_lt (place_in j order) middle) [
+              | inl early ↦ rw (outside_within order first middle j from early, outside_within order first last j from within) refl
+              | inr late ↦ rw (outside_after order first middle j late, outside_within order middle last j late within, outside_within order first last j from within) refl
+            ])
+        | inr after ↦ both (f.has p j) (outside order first middle j) (outside order middle last j) (outside order first last j)
+            (rw (outside_after order first middle j (omega (arith, after, high)), outside_after order middle last j after, outside_after order first last j after) refl)
+      ]
+    ])
+    ∙ sym (cut_again f Fails g order first p (outside order first last) cuts so_far) ∙ sym gone
+  where
+    both : (a b c d : Bool) → (b && c) ≡ d → ((a && b) && c) ≡ (a && d)
+    both true b c d e = e
+    both false b c d e = refl
+
+-- and of what was pruned by the first half, without the second
+second_half : {P : Type 0} (f : Ghosts P) (Fails : P → Type 0) (g : GridValue) (order : List ℕ) (first middle last : ℕ) (p q half : P) → AreCuts f g
+    → first ≤ middle → middle ≤ last → IsPrunedTo f Fails g order first p → q ≡ f.cut p (outside order first last)
+    → IsPrunedTo f Fails g order middle half
+    → ((j : ℕ) → j < f.items_of g.size → place_in j order < first → f.has half j ≡ f.has p j)
+    → f.cut (f.cut half (outside order middle last)) (outside order first middle) ≡ q
+second_half {P} f Fails g order first middle last p q half cuts low high so_far gone halved same =
+    let kept = kept_of_cut f Fails g order first last p q cuts so_far gone in
+    ap (λ (r : P). f.cut r (outside order first middle)) (cut_again f Fails g order middle half (outside order middle last) cuts halved)
+    ∙ cuts.again (λ j. f.has half j && outside order middle last j) (outside order first middle)
+    ∙ cuts.agrees (λ j. (f.has half j && outside order middle last j) && outside order first middle j) (f.has q)
+    (λ j small. elim (cases_lt (place_in j order) first) [
+      | inl before ↦
+          rw (outside_before order middle last j (omega (arith, before, low)), outside_before order first middle j before)
+          (trues (f.has half j) ∙ same j small before ∙ sym (kept.before j small before))
+      | inr from ↦ elim (cases_lt (place_in j order) last) [
+        | inl within ↦ elim (cases_lt (place_in j order) middle) [
+          | inl early ↦ rw (outside_within order first middle j from early)
+              (falses (f.has half j && outside order middle last j) ∙ sym (kept.within j small from within))
+          | inr late ↦ rw (outside_within order middle last j late within)
+              (none (f.has half j) (outside order first middle j) ∙ sym (kept.within j small from within))
+        ]
+        | inr after ↦
+            rw (outside_after order middle last j after, outside_after order first middle j (omega (arith, after, high)))
+            (trues (f.has half j) ∙ halved.untried j small (omega (arith, after, high))
+            ∙ sym (kept.after j small after ∙ so_far.untried j small (omega (arith, after, low, high))))
+      ]
+    ])
+    ∙ sym kept.is_cut
+  where
+    trues : (b : Bool) → ((b && true) && true) ≡ b
+    trues true = refl
+    trues false = refl
+
+    falses : (b : Bool) → (b && false) ≡ false
+    falses true = refl
+    falses false = refl
+
+    none : (a b : Bool) → ((a && false) && b) ≡ false
+    none true b = refl
+    none false b = refl
+
+cut_base : {P : Type 0} (f : Ghosts P) (Struck : P → CandidatesValue → Reason → ℕ → ℕ → Type 0) → HasSteps f Struck → (grade : Grade)
+    (g : GridValue) (r q : P) (keep : ℕ → Bool) (left : CandidatesValue) → f.cut r keep ≡ q → IsBase (Struck q) grade g left
+    → IsBase (Struck r) grade g left
+cut_base {P} f Struck steps grade g r q keep left is base =
+    base_more (Struck (f.cut r keep)) (Struck r) (steps.cut r keep) grade g left
+    (subst (λ (s : P). IsBase (Struck s) grade g left) (sym is) base)
+
+-- what is left is a base for the first half
+pub first_base : {P : Type 0} (f : Ghosts P) (Struck : P → CandidatesValue → Reason → ℕ → ℕ → Type 0) → HasSteps f Struck → (grade : Grade)
+    (g : GridValue) (order : List ℕ) (first middle last : ℕ) (p q : P) (left : CandidatesValue) → IsGrid g → IsLatin g → first ≤ middle → middle ≤ last
+    → IsPrunedTo f (FailsBy Struck grade g) g order first p → q ≡ f.cut p (outside order first last) → IsBase (Struck q) grade g left
+    → IsBase (Struck (f.cut p (outside order first middle))) grade g left
+first_base f Struck steps grade g order first middle last p q left grid latin low high so_far gone base =
+    cut_base f Struck steps grade g (f.cut p (outside order first middle)) q (outside order middle last) left
+    (first_half f (FailsBy Struck grade g) g order first middle last p q (cuts_of_full f g steps.items grid latin) low high so_far gone) base
+
+-- and for the second
+pub second_base : {P : Type 0} (f : Ghosts P) (Struck : P → CandidatesValue → Reason → ℕ → ℕ → Type 0) → HasSteps f Struck → (grade : Grade)
+    (g : GridValue) (order : List ℕ) (first middle last : ℕ) (p q half : P) (left : CandidatesValue) → IsGrid g → IsLatin g → first ≤ middle → middle ≤ last
+    → IsPrunedTo f (FailsBy Struck grade g) g order first p → q ≡ f.cut p (outside order first last)
+    → IsPrunedTo f (FailsBy Struck grade g) g order middle half
+    → ((j : ℕ) → j < f.items_of g.size → place_in j order < first → f.has half j ≡ f.has p j) → IsBase (Struck q) grade g left
+    → IsBase (Struck (f.cut half (outside order middle last))) grade g left
+second_base f Struck steps grade g order first middle last p q half left grid latin low high so_far gone halved same base =
+    cut_base f Struck steps grade g (f.cut half (outside order middle last)) q (outside order first middle) left
+    (second_half f (FailsBy Struck grade g) g order first middle last p q half (cuts_of_full f g steps.items grid latin) low high so_far gone halved same) base

@@ -1,0 +1,101 @@
+-- The first row that fits, number by number.
+use Rattle.std.proofs.Common.{◌≡◌, ℕ, zero, suc, ◌+◌, ◌-◌, ◌<◌, ◌≤◌, true, false, if◌then◌else◌, Option, Some, None, List, [], ◌∷◌, ◌++◌, length, length-append, take, drop, get_or, refl, sym, ◌∙◌, ap, arith}
+use Rattle.std.proofs.Math.Seq.{drop-cons, take-append_seam, take-length}
+use Rattle.std.proofs.Math.ListN.{drop_of_length-le}
+use Rattle.latin_board.specs.Squares.{GridValue}
+use Rattle.fair_games.specs.Squares.{first_of, first_row, is_free, or_else, with_row}
+
+-- what a number leads to in the first of the columns
+abbrev pub tries : GridValue → List ℕ → ℕ → List ℕ → List ℕ → ℕ → Option (List ℕ)
+tries g numbers column columns chosen n =
+    if is_free g column chosen n then first_row g numbers columns (chosen ++ n ∷ []) else None
+
+-- a number that leads to nothing is passed over
+pub passes_over : (try : ℕ → Option (List ℕ)) (numbers : List ℕ) (k : ℕ) → k < length numbers → try (get_or numbers k 0) ≡ None
+    → first_of try (drop k numbers) ≡ first_of try (drop (k + 1) numbers)
+passes_over try numbers k below nothing =
+    let next : suc k ≡ k + 1 = omega arith in
+    let split : drop k numbers ≡ get_or numbers k 0 ∷ drop (k + 1) numbers =
+    drop-cons numbers k 0 below ∙ ap (λ (j : ℕ). get_or numbers k 0 ∷ drop j numbers) next in
+    ap (first_of try) split ∙ ap (λ o. or_else o (first_of try (drop (k + 1) numbers))) nothing
+
+-- one that leads to something is taken
+pub takes_first : (try : ℕ → Option (List ℕ)) (numbers row : List ℕ) (k : ℕ) → k < length numbers → try (get_or numbers k 0) ≡ Some row
+    → first_of try (drop k numbers) ≡ Some row
+takes_first try numbers row k below found =
+    let next : suc k ≡ k + 1 = omega arith in
+    let split : drop k numbers ≡ get_or numbers k 0 ∷ drop (k + 1) numbers =
+    drop-cons numbers k 0 below ∙ ap (λ (j : ℕ). get_or numbers k 0 ∷ drop j numbers) next in
+    ap (first_of try) split ∙ ap (λ o. or_else o (first_of try (drop (k + 1) numbers))) found
+
+-- nothing is left to be tried
+pub tries_none : (try : ℕ → Option (List ℕ)) (numbers : List ℕ) (k : ℕ) → length numbers ≤ k → first_of try (drop k numbers) ≡ None
+tries_none try numbers k past = ap (first_of try) (drop_of_length-le numbers past)
+
+-- the columns but the first
+abbrev pub rest_of : List ℕ → List ℕ
+rest_of columns = take (length columns - 1) (drop 1 columns)
+
+take_all : (xs : List ℕ) (n : ℕ) → n ≡ length xs → take n xs ≡ xs
+take_all xs n e = ap (λ (k : ℕ). take k xs) e ∙ take-length xs
+
+-- the first of the columns takes a number
+pub row_begins : (g : GridValue) (numbers columns chosen : List ℕ) → 1 ≤ length columns
+    → first_row g numbers columns chosen ≡ first_of (tries g numbers (get_or columns 0 0) (rest_of columns) chosen) numbers
+row_begins g numbers [] chosen some = absurd (omega arith)
+row_begins g numbers (column ∷ columns) chosen some =
+    let count : length (column ∷ columns) - 1 ≡ length columns = omega arith in
+    ap (λ (cs : List ℕ). first_of (tries g numbers column cs chosen) numbers) (sym (take_all columns (length (column ∷ columns) - 1) count))
+
+-- a free number leads to what the columns after it have
+tries_free : (g : GridValue) (numbers : List ℕ) (column : ℕ) (columns chosen : List ℕ) (n : ℕ) → is_free g column chosen n ≡ true
+    → tries g numbers column columns chosen n ≡ first_row g numbers columns (chosen ++ n ∷ [])
+tries_free g numbers column columns chosen n free = rw free refl
+
+tries_taken : (g : GridValue) (numbers : List ℕ) (column : ℕ) (columns chosen : List ℕ) (n : ℕ) → is_free g column chosen n ≡ false
+    → tries g numbers column columns chosen n ≡ None
+tries_taken g numbers column columns chosen n taken = rw taken refl
+
+-- what was chosen, with a number more, and what leads from there
+pub row_found : (g : GridValue) (numbers columns chosen more row : List ℕ) (k : ℕ) → 1 ≤ length columns → k < length numbers
+    → first_of (tries g numbers (get_or columns 0 0) (rest_of columns) chosen) numbers
+    ≡ first_of (tries g numbers (get_or columns 0 0) (rest_of columns) chosen) (drop k numbers)
+    → is_free g (get_or columns 0 0) chosen (get_or numbers k 0) ≡ true → more ≡ chosen ++ get_or numbers k 0 ∷ []
+    → first_row g numbers (rest_of columns) more ≡ Some row → first_row g numbers columns chosen ≡ Some row
+row_found g numbers columns chosen more row k some below so_far free made found =
+    let n = get_or numbers k 0 in
+    row_begins g numbers columns chosen some ∙ so_far
+    ∙ takes_first (tries g numbers (get_or columns 0 0) (rest_of columns) chosen) numbers row k below
+    (tries_free g numbers (get_or columns 0 0) (rest_of columns) chosen n free
+    ∙ ap (first_row g numbers (rest_of columns)) (sym made) ∙ found)
+
+-- a number is passed over that isn't free
+pub passes_taken : (g : GridValue) (numbers columns chosen : List ℕ) (k : ℕ) → k < length numbers
+    → is_free g (get_or columns 0 0) chosen (get_or numbers k 0) ≡ false
+    → first_of (tries g numbers (get_or columns 0 0) (rest_of columns) chosen) (drop k numbers)
+    ≡ first_of (tries g numbers (get_or columns 0 0) (rest_of columns) chosen) (drop (k + 1) numbers)
+passes_taken g numbers columns chosen k below taken =
+    passes_over (tries g numbers (get_or columns 0 0) (rest_of columns) chosen) numbers k below
+    (tries_taken g numbers (get_or columns 0 0) (rest_of columns) chosen (get_or numbers k 0) taken)
+
+-- and one that leads nowhere
+pub passes_free : (g : GridValue) (numbers columns chosen more : List ℕ) (k : ℕ) → k < length numbers
+    → is_free g (get_or columns 0 0) chosen (get_or numbers k 0) ≡ true → more ≡ chosen ++ get_or numbers k 0 ∷ []
+    → first_row g numbers (rest_of columns) more ≡ None
+    → first_of (tries g numbers (get_or columns 0 0) (rest_of columns) chosen) (drop k numbers)
+    ≡ first_of (tries g numbers (get_or columns 0 0) (rest_of columns) chosen) (drop (k + 1) numbers)
+passes_free g numbers columns chosen more k below free made none =
+    passes_over (tries g numbers (get_or columns 0 0) (rest_of columns) chosen) numbers k below
+    (tries_free g numbers (get_or columns 0 0) (rest_of columns) chosen (get_or numbers k 0) free
+    ∙ ap (first_row g numbers (rest_of columns)) (sym made) ∙ none)
+
+-- a list without the number that was put behind it
+pub without_last : (xs ys : List ℕ) (x : ℕ) → ys ≡ xs ++ x ∷ [] → take (length ys - 1) ys ≡ xs
+without_last xs ys x made =
+    let count : length ys - 1 ≡ length xs = let l = ap length made ∙ length-append xs (x ∷ []) in omega (arith, l) in
+    ap (λ (n : ℕ). take n ys) count ∙ ap (take (length xs)) made ∙ take-append_seam xs (x ∷ [])
+
+-- a row more leaves the size as it was
+pub with_row_size : (g : GridValue) (row : ℕ) (columns chosen : List ℕ) (k : ℕ) → (with_row g row columns chosen k).size ≡ g.size
+with_row_size g row columns chosen zero = refl
+with_row_size g row columns chosen (suc k) = refl

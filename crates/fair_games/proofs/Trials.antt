@@ -1,0 +1,159 @@
+-- Orders of some items, put together of orders of the givens and of the marks.
+use Rattle.std.proofs.Common.{◌≡◌, ℕ, zero, suc, ◌+◌, ◌/◌, ◌<◌, ◌≤◌, ◌==◌, List, [], ◌∷◌, ◌++◌, length, map, take, drop, slice_index, IsPermutation, inl, inr, refl, sym, ◌∙◌, ap, subst, arith, append-nil, append_assoc, length-append}
+use Rattle.std.proofs.Math.ListN.{get_or-append}
+use Rattle.std.proofs.lemmas.List.{take-append-drop, map-append}
+use Rattle.std.specs.List.{range_with_len}
+use Rattle.std.proofs.lemmas.Bool.{cases_Bool, eqb-true}
+use Rattle.std.proofs.lemmas.List.Sorted.{IsPermutation-append_comm, IsPermutation-append, IsPermutation-append_right, IsPermutation-map, IsPermutation-trans}
+use Rattle.puzzle_gen.specs.Orders.{place_in, IsOrder}
+use Rattle.puzzle_gen.proofs.OrderPlaces.{order_of_permutation, range_more}
+use Rattle.fair_games.specs.Pruned.{IsTrial}
+use Rattle.rand_core.specs.Stream.{Stream}
+use Rattle.puzzle_gen.specs.SeededSquares.{drawn_order}
+use Rattle.fair_games.specs.Draws.{drawn_trial, in_turn}
+use Rattle.fair_games.specs.declared.trial.Trial.{Trial}
+use Rattle.fair_games.specs.declared.trial.Trial.TheVariants.{GivensAlone, GivensFirst, HalfFirst}
+
+-- ---- the beginning of an order
+
+-- a number's place is that in the list where it is there
+place_front : (i : ℕ) (xs ys : List ℕ) → place_in i xs < length xs → place_in i (xs ++ ys) ≡ place_in i xs
+place_front i [] ys inside = absurd (omega arith)
+place_front i (x ∷ xs) ys inside = elim (cases_Bool (i == x)) [
+  | inl here ↦ rw here refl
+  | inr other ↦
+      let place : place_in i (x ∷ xs) ≡ suc (place_in i xs) = rw other refl in
+      rw other (ap suc (place_front i xs ys (omega (arith, inside, place))))
+]
+
+-- where its place in front of more is one of the list's, it is there
+place_back : (i : ℕ) (xs ys : List ℕ) → place_in i (xs ++ ys) < length xs → place_in i xs < length xs
+place_back i [] ys inside = absurd (omega arith)
+place_back i (x ∷ xs) ys inside = elim (cases_Bool (i == x)) [
+  | inl here ↦ rw here (omega arith)
+  | inr other ↦
+      let place : place_in i (x ∷ (xs ++ ys)) ≡ suc (place_in i (xs ++ ys)) = rw other refl in
+      let within : place_in i xs < length xs = place_back i xs ys (omega (arith, inside, place)) in
+      rw other (omega (arith, within))
+]
+
+index_front : (xs ys : List ℕ) (k : ℕ) → k < length xs → slice_index (xs ++ ys) k ≡ slice_index xs k
+index_front xs ys k inside = get_or-append xs ys 0 k inside
+
+-- a number stands at its place
+stands_there : (i : ℕ) (xs : List ℕ) → place_in i xs < length xs → slice_index xs (place_in i xs) ≡ i
+stands_there i [] inside = absurd (omega arith)
+stands_there i (x ∷ xs) inside = elim (cases_Bool (i == x)) [
+  | inl here ↦ rw here (sym (eqb-true i x here))
+  | inr other ↦
+      let place : place_in i (x ∷ xs) ≡ suc (place_in i xs) = rw other refl in
+      rw other (stands_there i xs (omega (arith, inside, place)))
+]
+
+-- the beginning of an order of all items is one of some
+pub trial_front : (n : ℕ) (xs ys : List ℕ) → IsOrder n (xs ++ ys) → IsTrial n xs
+trial_front n xs ys order =
+    let short : length xs ≤ n = omega (arith, order.count, length-append xs ys) in
+    record {
+      items = λ k inside. subst (λ (i : ℕ). i < n) (index_front xs ys k inside) (order.items k (omega (arith, inside, short)));
+      places = λ k inside.
+          let same = index_front xs ys k inside in
+          let there : place_in (slice_index xs k) (xs ++ ys) ≡ k =
+          subst (λ (i : ℕ). place_in i (xs ++ ys) ≡ k) same (order.places k (omega (arith, inside, short))) in
+          sym (place_front (slice_index xs k) xs ys (place_back (slice_index xs k) xs ys (omega (arith, there, inside)))) ∙ there;
+      back = λ i inside. stands_there i xs inside;
+    }
+
+-- ---- all items
+
+map_zero : (xs : List ℕ) → map (λ i. 0 + i) xs ≡ xs
+map_zero [] = refl
+map_zero (x ∷ xs) =
+    let e : 0 + x ≡ x = omega arith in ap (λ (y : ℕ). y ∷ map (λ i. 0 + i) xs) e ∙ ap (λ (ys : List ℕ). x ∷ ys) (map_zero xs)
+
+-- the first numbers, and then more of them
+range_both : (m n : ℕ) → range_with_len 0 (m + n) ≡ range_with_len 0 m ++ map (λ i. m + i) (range_with_len 0 n)
+range_both m zero =
+    let e : m + 0 ≡ m = omega arith in ap (range_with_len 0) e ∙ sym (append-nil (range_with_len 0 m))
+range_both m (suc n) =
+    let f : ℕ → ℕ = λ i. m + i in
+    let e : m + suc n ≡ (m + n) + 1 = omega arith in
+    let more : suc n ≡ n + 1 = omega arith in
+    let end : map f (range_with_len 0 (suc n)) ≡ map f (range_with_len 0 n) ++ (m + n) ∷ [] =
+    ap (λ (k : ℕ). map f (range_with_len 0 k)) more ∙ ap (map f) (range_more n) ∙ map-append f (range_with_len 0 n) (n ∷ []) in
+    ap (range_with_len 0) e ∙ range_more (m + n) ∙ ap (λ (xs : List ℕ). xs ++ (m + n) ∷ []) (range_both m n)
+    ∙ append_assoc (range_with_len 0 m) (map f (range_with_len 0 n)) ((m + n) ∷ [])
+    ∙ ap (λ (xs : List ℕ). range_with_len 0 m ++ xs) (sym end)
+
+-- the items that aren't tried
+abbrev left_out : Trial → List ℕ → List ℕ
+left_out GivensAlone signs = signs
+left_out GivensFirst signs = []
+left_out HalfFirst signs = []
+
+moved : (trial : Trial) (m n : ℕ) (signs givens : List ℕ) → IsPermutation (range_with_len 0 m) signs → IsPermutation (range_with_len 0 n) givens
+    → IsPermutation (range_with_len 0 (m + n)) (in_turn trial m signs givens ++ left_out trial signs)
+moved trial m n signs givens first second = turn trial
+  where
+    further : List ℕ
+    further = map (λ i. m + i) givens
+
+    all : IsPermutation (range_with_len 0 (m + n)) (signs ++ further)
+    all = subst (λ (xs : List ℕ). IsPermutation xs (signs ++ further)) (sym (range_both m n))
+        (IsPermutation-append (range_with_len 0 m) signs (map (λ i. m + i) (range_with_len 0 n)) further first
+        (IsPermutation-map (λ i. m + i) (range_with_len 0 n) givens second))
+
+    turned : IsPermutation (range_with_len 0 (m + n)) (further ++ signs)
+    turned = IsPermutation-trans (range_with_len 0 (m + n)) (signs ++ further) (further ++ signs) all (IsPermutation-append_comm signs further)
+
+    half : ℕ
+    half = m / 2
+
+    halves : IsPermutation (range_with_len 0 (m + n)) ((take half signs ++ further) ++ drop half signs)
+    halves = subst (IsPermutation (range_with_len 0 (m + n))) (sym (append_assoc (take half signs) further (drop half signs)))
+        (IsPermutation-trans (range_with_len 0 (m + n)) (signs ++ further) (take half signs ++ (further ++ drop half signs)) all
+        (subst (λ (xs : List ℕ). IsPermutation xs (take half signs ++ (further ++ drop half signs)))
+        (sym (append_assoc (take half signs) (drop half signs) further) ∙ ap (λ (xs : List ℕ). xs ++ further) (take-append-drop half signs))
+        (IsPermutation-append_right (take half signs) (drop half signs ++ further) (further ++ drop half signs)
+        (IsPermutation-append_comm (drop half signs) further))))
+
+    turn : (t : Trial) → IsPermutation (range_with_len 0 (m + n)) (in_turn t m signs givens ++ left_out t signs)
+    turn GivensAlone = turned
+    turn GivensFirst = subst (IsPermutation (range_with_len 0 (m + n))) (sym (append-nil (further ++ signs))) turned
+    turn HalfFirst = subst (IsPermutation (range_with_len 0 (m + n))) (sym (append-nil ((take half signs ++ further) ++ drop half signs))) halves
+
+-- what is put together is an order of some items
+pub trial_in_turn : (trial : Trial) (m n : ℕ) (signs givens : List ℕ) → IsPermutation (range_with_len 0 m) signs
+    → IsPermutation (range_with_len 0 n) givens → IsTrial (m + n) (in_turn trial m signs givens)
+trial_in_turn trial m n signs givens first second =
+    trial_front (m + n) (in_turn trial m signs givens) (left_out trial signs)
+    (order_of_permutation (m + n) (in_turn trial m signs givens ++ left_out trial signs) (moved trial m n signs givens first second))
+
+-- ---- lists that are put together one after the other
+
+pub put_two : (a b c first second : List ℕ) → a ≡ [] → b ≡ a ++ first → c ≡ b ++ map (λ i. 0 + i) second → c ≡ first ++ second
+put_two a b c first second none one two =
+    two ∙ ap (λ (xs : List ℕ). xs ++ map (λ i. 0 + i) second) (one ∙ ap (λ (xs : List ℕ). xs ++ first) none)
+    ∙ ap (λ (xs : List ℕ). first ++ xs) (map_zero second)
+
+pub put_three : (a b c d first second third : List ℕ) → a ≡ [] → b ≡ a ++ map (λ i. 0 + i) first → c ≡ b ++ second → d ≡ c ++ map (λ i. 0 + i) third
+    → d ≡ first ++ second ++ third
+put_three a b c d first second third none one two three =
+    three ∙ ap (λ (xs : List ℕ). xs ++ map (λ i. 0 + i) third)
+    (two ∙ ap (λ (xs : List ℕ). xs ++ second) (one ∙ ap (λ (xs : List ℕ). xs ++ map (λ i. 0 + i) first) none ∙ map_zero first))
+    ∙ ap (λ (xs : List ℕ). (first ++ second) ++ xs) (map_zero third)
+
+-- what is put together of lists that are the two orders
+pub turn_made : (trial : Trial) (m : ℕ) (lent_signs lent_givens signs givens order : List ℕ) → length signs ≡ m → lent_signs ≡ signs
+    → lent_givens ≡ givens → order ≡ in_turn trial (length lent_signs) lent_signs lent_givens → order ≡ in_turn trial m signs givens
+turn_made trial m lent_signs lent_givens signs givens order count first second put =
+    put ∙ ap (λ (xs : List ℕ). in_turn trial (length xs) xs lent_givens) first ∙ ap (λ (xs : List ℕ). in_turn trial (length signs) signs xs) second
+    ∙ ap (λ (n : ℕ). in_turn trial n signs givens) count
+
+-- and the stream that is left
+pub turn_drawn : (trial : Trial) (m n : ℕ) (s middle end : Stream) (signs givens order : List ℕ) → (givens, middle) ≡ drawn_order n s
+    → (signs, end) ≡ drawn_order m middle → order ≡ in_turn trial m signs givens → (order, end) ≡ drawn_trial trial m n s
+turn_drawn trial m n s middle end signs givens order first second put =
+    ap (λ (xs : List ℕ). (xs, end)) put
+    ∙ ap (λ (p : List ℕ × Stream). (in_turn trial m p.0 givens, p.1)) second
+    ∙ ap (λ (p : List ℕ × Stream). (in_turn trial m (drawn_order m p.1).0 p.0, (drawn_order m p.1).1)) first

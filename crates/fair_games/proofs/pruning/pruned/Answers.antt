@@ -1,0 +1,23 @@
+use Rattle.std.proofs.Common.{sym, ◌∙◌, subst}
+use Rattle.puzzle_gen.proofs.ItemLaws.{laws_of, cuts_of_full}
+use Rattle.fair_games.specs.Fair.{FailsBy}
+use Rattle.fair_games.specs.Inner.PrunedTo.{IsPrunedTo}
+use Rattle.fair_games.proofs.Bases.{base_all}
+use Rattle.fair_games.proofs.PrunedItems.{pruned_none, pruned_all}
+use Rattle.fair_games.proofs.pruning.pruned.Goals as goal
+
+pub prune-requires-clause-pruned : goal.prune-requires-clause-pruned
+prune-requires-clause-pruned g c =
+    let square = c.args.grid.now in
+    let cuts = cuts_of_full g.P.Rules square (laws_of g.met.P.Rules) c.size.ensures.valid c.requires.latin in
+    subst (λ p. IsPrunedTo g.P.Rules (FailsBy g.P.Steps.struck_by c.args.grade square) square c.args.order.now 0 p) (sym c.full.ensures)
+    (pruned_none g.P.Rules (FailsBy g.P.Steps.struck_by c.args.grade square) square c.args.order.now cuts)
+
+pub prune-requires-clause-base : goal.prune-requires-clause-base
+prune-requires-clause-base g c =
+    base_all _ c.args.grade c.args.grid.now c.all-all.result (c.all-all.ensures.size ∙ c.size.ensures.value) c.all-all.ensures.trail
+
+pub returns : goal.returns
+returns g c =
+    pruned_all g.P.Rules (FailsBy g.P.Steps.struck_by c.args.grade c.args.grid.now) c.args.grid.now c.args.order.now c.prune.result c.size.ensures.valid
+    c.requires.latin c.requires.trial c.prune.ensures.pruned

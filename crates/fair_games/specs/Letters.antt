@@ -1,0 +1,28 @@
+-- The letters of the grades, and the orders of trial.
+use Rattle.std.specs.Prelude.{ℕ, Option, Some, None}
+use Rattle.named_steps.specs.declared.grade.Grade.{Grade}
+use Rattle.named_steps.specs.declared.grade.Grade.TheVariants.{Latin, Easy, Hard}
+use Rattle.fair_games.specs.declared.trial.Trial.{Trial}
+use Rattle.fair_games.specs.declared.trial.Trial.TheVariants.{GivensAlone, GivensFirst, HalfFirst}
+
+-- of Towers: e and h
+abbrev pub towers_letter : Grade → Option ℕ
+towers_letter Latin = None
+towers_letter Easy = Some 101
+towers_letter Hard = Some 104
+
+-- of Unequal: t, e and k
+abbrev pub unequal_letter : Grade → Option ℕ
+unequal_letter Latin = Some 116
+unequal_letter Easy = Some 101
+unequal_letter Hard = Some 107
+
+-- an easy Towers keeps all its clues; a hard one has its givens tried before its clues
+abbrev pub towers_trial : Grade → Trial
+towers_trial Latin = GivensAlone
+towers_trial Easy = GivensAlone
+towers_trial Hard = GivensFirst
+
+-- of Unequal half of the signs are tried, then the givens, then the other signs
+abbrev pub unequal_trial : Grade → Trial
+unequal_trial grade = HalfFirst

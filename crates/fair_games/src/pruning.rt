@@ -1,0 +1,120 @@
+//! The removal of items: each is tried once, and goes where the rest still follows by the grade.
+
+ghost use Rattle.std.specs.Prelude.{◌≡◌, ◌↔◌, ℕ, ◌+◌, ◌*◌, ◌<◌, ◌≤◌, length, IsTrue};
+ghost use Rattle.latin_board.specs.Squares.{IsLatin, number_at};
+ghost use Rattle.trail_solver.specs.Candidates.{IsOnly};
+ghost use Rattle.puzzle_gen.specs.Orders.{place_in};
+ghost use Rattle.named_steps.specs.Left.{AreAlike};
+ghost use Rattle.fair_games.specs.Pruned.{IsTrial, IsPrunedBy};
+ghost use Rattle.fair_games.specs.Fair.{FailsBy};
+ghost use Rattle.fair_games.specs.Inner.PrunedTo.{outside, IsPrunedTo};
+ghost use Rattle.fair_games.specs.Inner.Bases.{IsBase};
+
+use latin_board::Grid;
+use named_steps::{Grade, Steps, settle};
+use number_sets::NumberSet;
+use trail_solver::{Candidates, Rules};
+
+/// The pruned puzzle of a Latin square, where the items are tried in this order.
+pub(crate) fn pruned<P: Steps>(grid: &Grid, order: &[u8], grade: Grade) -> P
+    requires latin { IsLatin grid.now }
+    requires trial { IsTrial (P.items_of grid.now.size) order.now }
+    ensures { IsPrunedBy ⟦<P as Rules>⟧ (FailsBy P.struck_by grade grid.now) grid.now order.now result }
+{
+    let all = Candidates::all(grid.size());
+    prune(P::full(grid), grid, order, 0, order.len(), grade, &all)
+}
+
+// Tries the items from one place of the order up to another: all of them together, and where the rest doesn't follow without
+// them, one half after the other. From the candidates the steps of the rest lead on as from all.
+fn prune<P: Steps>(
+    puzzle: P,
+    grid: &Grid,
+    order: &[u8],
+    first: usize,
+    last: usize,
+    grade: Grade,
+    base: &Candidates,
+) -> P
+    requires latin { IsLatin grid.now }
+    requires trial { IsTrial (P.items_of grid.now.size) order.now }
+    requires ordered { first ≤ last }
+    requires inside { last ≤ length order.now }
+    requires pruned { IsPrunedTo ⟦<P as Rules>⟧ (FailsBy P.struck_by grade grid.now) grid.now order.now first puzzle }
+    requires base { IsBase (P.struck_by (P.cut puzzle (outside order.now first last))) grade grid.now base.now }
+    ensures pruned { IsPrunedTo ⟦<P as Rules>⟧ (FailsBy P.struck_by grade grid.now) grid.now order.now last result }
+    ensures earlier { (i : ℕ) → i < P.items_of grid.now.size → place_in i order.now < first → P.has result i ≡ P.has puzzle i }
+{
+    let _size = grid.size();
+    let fewer = without(puzzle, order, first, last);
+    let mut left = copy_of(base);
+    settle(&fewer, grade, &mut left);
+    if are_numbers(&left, grid) {
+        return fewer;
+    }
+    if last - first < 2 {
+        return puzzle;
+    }
+    let middle = middle_of(first, last);
+    let half = prune(puzzle, grid, order, first, middle, grade, &left);
+    prune(half, grid, order, middle, last, grade, &left)
+}
+
+// A place between two others.
+fn middle_of(first: usize, last: usize) -> usize
+    requires { first + 2 ≤ last }
+    ensures after { first < result }
+    ensures before { result < last }
+{
+    first + (last - first) / 2
+}
+
+// The puzzle without the items from one place of the order up to another.
+fn without<P: Steps>(puzzle: P, order: &[u8], first: usize, last: usize) -> P
+    requires trial { IsTrial (P.items_of (P.puzzle puzzle).size) order.now }
+    requires inside { last ≤ length order.now }
+    requires ordered { first ≤ last }
+    ensures { result ≡ P.cut puzzle (outside order.now first last) }
+{
+    let _valid = puzzle.size();
+    let mut fewer = puzzle;
+    for k in first..last {
+        let _size = fewer.size();
+        fewer.drop_item(order[k] as usize);
+    }
+    fewer
+}
+
+// Candidates of which the same is left.
+fn copy_of(candidates: &Candidates) -> Candidates
+    ensures size { result.size ≡ candidates.now.size }
+    ensures alike { AreAlike candidates.now result }
+{
+    let size = candidates.size();
+    let width = size.get() as usize;
+    let all = NumberSet::up_to(size.get());
+    let mut copy = Candidates::all(size);
+    for cell in 0..width * width {
+        let _size = copy.size();
+        copy.remove_all(cell, all.difference(candidates.values(cell)));
+    }
+    copy
+}
+
+// Whether nothing but a grid's numbers is left.
+fn are_numbers(candidates: &Candidates, grid: &Grid) -> bool
+    requires { candidates.now.size ≡ grid.now.size }
+    ensures { IsTrue result ↔ ((cell : ℕ) → cell < candidates.now.size * candidates.now.size → IsOnly candidates.now cell (number_at grid.now cell)) }
+{
+    let width = candidates.size().get() as usize;
+    let _size = grid.size();
+    for cell in 0..width * width {
+        let Some(number) = candidates.only(cell) else {
+            return false;
+        };
+        if number != grid.get(cell) {
+            return false;
+        }
+    }
+    true
+}
