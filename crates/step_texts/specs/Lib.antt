@@ -1,0 +1,3 @@
+-- How grades are named, and which steps are told together.
+pub mod Letters
+pub mod Looks
