@@ -9,6 +9,8 @@ from tests.harness import Ended, Room, run
 from tests.objects.boards import Texts, board_of, numbers_of, puzzle_of
 from tests.objects.reading import OWN_LINES, Answered, lines_with_reply, read_answers, shortened, without_own
 from tests.objects.solutions import wrong_completable, wrong_hint
+from tests.objects.steps import MOST_CLOSED, wrong_steps
+from tests.second_implementation.steps import grade_of
 
 
 #: The views that are asked for after each line, and those of the board after some.
@@ -111,6 +113,9 @@ def wrong_group(game: str, group: Sequence[Answered]) -> Iterator[str]:
         if answer.line == b'hint':
             hint = answer.found['hint']
             yield from wrong_hint(puzzle, numbers, hint if isinstance(hint, dict) else {})
+            yield from wrong_steps(puzzle, numbers, hint if isinstance(hint, dict) else {})
+        if answer.line == b'grade' and puzzle.size <= MOST_CLOSED and answer.found['grade'] != grade_of(puzzle):
+            yield f"the grade is {answer.found['grade']}, not {grade_of(puzzle)}"
 
 
 def session_of(game: str, status: Answered, id: Answered) -> Optional[Dict[str, object]]:

@@ -34,6 +34,13 @@ def text(place: str, value: object) -> Iterator[str]:
         yield f'{place} is {value!r}'
 
 
+def short(place: str, value: object) -> Iterator[str]:
+    """A line of a sentence: ASCII, and at most 100 characters."""
+    yield from text(place, value)
+    if isinstance(value, str) and (len(value) > 100 or not value.isascii()):
+        yield f'{place} is {value!r}'
+
+
 def list_of(inner: Check) -> Check:
     def check(place: str, value: object) -> Iterator[str]:
         if not isinstance(value, list):
@@ -74,6 +81,8 @@ digit = whole(0, 9)
 STATUSES = ('playing', 'solved', 'helped')
 COUNTS = ('none', 'one', 'several')
 KINDS = ('follows', 'nothing', 'contradiction')
+REASONS = ('given', 'peer', 'place', 'bound', 'stand', 'clue', 'sign', 'set')
+GRADES = ('t', 'e', 'h', 'k')
 
 #: The keys of the objects within an object.
 SESSION: Dict[str, Check] = {
@@ -96,10 +105,29 @@ BOARD: Dict[str, Check] = {
     'signs': list_of(members(SIGN)),
     'size': whole(3, 9),
 }
+STRIKE: Dict[str, Check] = {'cell': cell, 'numbers': list_of(whole(1, 9))}
+STEP: Dict[str, Check] = {
+    'cells': or_null(list_of(cell)),
+    'clue': or_null(whole(1, 9)),
+    'greater': or_null(cell),
+    'less': or_null(cell),
+    'line': or_null(whole(0, 17)),
+    'numbers': or_null(list_of(whole(1, 9))),
+    'reason': one_of(*REASONS),
+    'strikes': list_of(members(STRIKE)),
+    'text': list_of(short),
+    'x': or_null(whole(-1, 9)),
+    'y': or_null(whole(-1, 9)),
+}
 HINT: Dict[str, Check] = {
+    'by': one_of(None, 'value', 'line'),
     'cell': or_null(cell),
+    'grade': one_of(None, *GRADES),
     'kind': one_of(*KINDS),
+    'line': or_null(whole(0, 17)),
     'number': or_null(whole(1, 9)),
+    'steps': list_of(members(STEP)),
+    'text': list_of(short),
 }
 
 #: What each object has that answers a line.
@@ -109,6 +137,7 @@ COMMON: Dict[str, Check] = {'refused': or_null(text), 'reply': list_of(text), 's
 ANSWERS: Dict[str, Check] = {
     'board': members(BOARD),
     'completable': one_of(*COUNTS),
+    'grade': one_of(None, *GRADES),
     'hint': members(HINT),
 }
 LOST: Dict[str, Check] = {'lost': one_of('OutOfMemory')}
@@ -116,7 +145,7 @@ LOST: Dict[str, Check] = {'lost': one_of('OutOfMemory')}
 
 def names() -> List[str]:
     """All keys that there are."""
-    tables = (COMMON, ANSWERS, SESSION, BOARD, CLUE, SIGN, HINT, LOST)
+    tables = (COMMON, ANSWERS, SESSION, BOARD, CLUE, SIGN, HINT, STEP, STRIKE, LOST)
     return sorted({key for table in tables for key in table})
 
 

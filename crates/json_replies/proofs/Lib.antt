@@ -1,6 +1,8 @@
 pub mod ReplyLines
 pub mod ObjectTexts
 pub mod Spellings
+pub mod HintSpellings
+pub mod ToldHints
 pub mod ToldReplies
 pub mod Listed
 pub mod WholeReplies

@@ -6,6 +6,7 @@ use Rattle.latin_board.specs.Squares.{GridValue}
 use Rattle.trail_solver.specs.declared.answer.Answer.{Answer}
 use Rattle.trail_solver.specs.declared.answer.Answer.TheVariants.{None as NoSolution, One, Several}
 use Rattle.trail_solver.specs.Candidates.{CandidatesValue}
+use Rattle.trail_solver.specs.Puzzles.{Puzzle}
 use Rattle.trail_solver.specs.Completions.{Completes}
 use Rattle.trail_solver.specs.Answers.{Fits}
 use Rattle.play_midend.specs.Histories.{History}
@@ -71,6 +72,11 @@ answer_data NoSolution = string (codes "none")
 answer_data (One g) = string (codes "one")
 answer_data (Several g h) = string (codes "several")
 
+-- a hint of a grid is told in this answer
+abbrev pub IsHintAnswer : Puzzle → (Grade → List ℕ) → (CandidatesValue → ℕ → ℕ → Type 0) → (CandidatesValue → Reason → ℕ → ℕ → Type 0) → (ℕ → ℕ)
+    → (ℕ → ℕ → Bool) → GridValue → Data → Type 0
+IsHintAnswer p letter Strikes Struck clue is_over g answer = (told : ToldHint) × IsTold p Strikes Struck g told × IsHintValue p.size letter clue is_over told answer
+
 -- what is told of a session to one of these lines
 abbrev pub IsAnswer : {P : Type 0} → GameFacts P → BoardFacts P → History P → FurtherLine → Data → Type 0
 IsAnswer f b h Board answer =
@@ -79,8 +85,8 @@ IsAnswer f b h Board answer =
 IsAnswer f b h Completable answer =
     (found : Answer) × Fits (Completes (f.rules.puzzle h.puzzle) (grid_of (shown_board f h))) found × (answer ≡ answer_data found)
 IsAnswer f b h AskHint answer =
-    (told : ToldHint) × IsTold (f.rules.puzzle h.puzzle) (b.strikes h.puzzle) (b.struck_by h.puzzle) (grid_of (shown_board f h)) told
-    × IsHintValue (f.rules.puzzle h.puzzle).size b.letter (b.edge_clue h.puzzle) (b.says_greater h.puzzle) told answer
+    IsHintAnswer (f.rules.puzzle h.puzzle) b.letter (b.strikes h.puzzle) (b.struck_by h.puzzle) (b.edge_clue h.puzzle) (b.says_greater h.puzzle)
+    (grid_of (shown_board f h)) answer
 IsAnswer f b h AskGrade answer =
     (grade : Option Grade) × IsGradeOf (f.rules.puzzle h.puzzle) (b.struck_by h.puzzle) grade × (answer ≡ grade_data b.letter grade)
 

@@ -8,7 +8,7 @@ use Rattle.named_steps.specs.declared.grade.Grade.{Grade}
 use Rattle.board_checks.specs.declared.hints.Hint.{Hint}
 use Rattle.board_checks.specs.declared.hints.Hint.TheVariants.{Follows, Nothing, Contradiction}
 use Rattle.step_chains.specs.declared.chain.Chain.{Chain}
-use Rattle.step_texts.specs.Looks.{AreShort}
+use Rattle.step_texts.specs.Lines.{AreShort}
 use Rattle.json_replies.specs.declared.told_hint.ToldHint.{ToldHint}
 use Rattle.json_replies.specs.declared.told_hint.ToldHint.TheVariants.{Explained, Deduced}
 use Rattle.json_replies.specs.Counts.{count_data}
@@ -17,13 +17,13 @@ use Rattle.json_replies.specs.Steps.{ToldLook, AreTold, looks_data}
 
 -- the object of a hint
 abbrev pub hint_data : Data → Data → Data → List ℕ → Data → Data → Data → Data → Data
-hint_data by cell grade kind line number steps text = object
+hint_data by cell grade kind line value steps text = object
     (member (codes "by") by
     (member (codes "cell") cell
     (member (codes "grade") grade
     (member (codes "kind") (string kind)
     (member (codes "line") line
-    (member (codes "number") number
+    (member (codes "number") value
     (member (codes "steps") steps
     (member (codes "text") text
     no_members))))))))

@@ -10,7 +10,8 @@ use Rattle.latin_board.specs.Lines.{line_cell}
 use Rattle.named_steps.specs.declared.reason.Reason.{Reason}
 use Rattle.named_steps.specs.declared.reason.Reason.TheVariants.{Given, Peer, Place, Bound, Stand, Clue, Sign, Set}
 use Rattle.step_chains.specs.declared.chain.Step.{Step}
-use Rattle.step_texts.specs.Looks.{IsLook, AreShort}
+use Rattle.step_texts.specs.Lines.{AreShort}
+use Rattle.step_texts.specs.Looks.{IsLook}
 use Rattle.json_replies.specs.declared.step_value.Ends.{Ends}
 use Rattle.json_replies.specs.Boards.{listed, when, mark_set_data}
 use Rattle.json_replies.specs.Counts.{count_data}
@@ -106,9 +107,11 @@ one_data n = array (items_of (count_data n ∷ []))
 abbrev pub place_data : ℕ → ℕ → ℕ → Data
 place_data w line index = if nat_lt line (2 * w) && nat_lt index w then one_data (line_cell w line index) else null
 
+abbrev pub line_cells_data : ℕ → ℕ → ℕ → Data
+line_cells_data w line places = listed (λ k. when (has_number places k) (count_data (line_cell w line k))) (range_with_len 0 w)
+
 abbrev pub squares_data : ℕ → ℕ → ℕ → Data
-squares_data w line places =
-    if nat_lt line (2 * w) then listed (λ k. when (has_number places k) (count_data (line_cell w line k))) (range_with_len 0 w) else null
+squares_data w line places = if nat_lt line (2 * w) then line_cells_data w line places else null
 
 abbrev pub cells_data : ℕ → Reason → Data
 cells_data w (Given cell) = one_data cell

@@ -26,16 +26,21 @@ NoneBelow Struck Latin g = Unit {0}
 NoneBelow Struck Easy g = NothingIsShown Struck Latin g
 NoneBelow Struck Hard g = NothingIsShown Struck Latin g × NothingIsShown Struck Easy g
 
--- where the hint is what the deductions give: no steps show a number, or the numbers are contradicted
+-- its steps explain the number, those of no lesser grade show one, and those of all don't refute the grid's numbers
+abbrev pub IsLeast : (CandidatesValue → Reason → ℕ → ℕ → Type 0) → GridValue → ToldHint → Type 0
+IsLeast Struck g (Explained grade chain) =
+    IsExplained Struck grade g (steps_of chain.steps.items) chain.goal × NoneBelow Struck grade g × (IsRefutedGrid Struck Hard g → ⊥)
+IsLeast Struck g (Deduced hint) = ⊥
+
+-- where no steps show a number, it is what the deductions give; or the numbers are contradicted
 abbrev pub IsPlain : Puzzle → (CandidatesValue → ℕ → ℕ → Type 0) → (CandidatesValue → Reason → ℕ → ℕ → Type 0) → GridValue → Hint → Type 0
 IsPlain p Strikes Struck g (Follows cell value) = IsDeduced p Strikes g (Follows cell value) × NothingIsShown Struck Hard g
 IsPlain p Strikes Struck g Nothing = IsDeduced p Strikes g Nothing × NothingIsShown Struck Hard g
 IsPlain p Strikes Struck g Contradiction = Unit {0}
 
--- how it is come by: its steps explain the number, those of no lesser grade do, and those of all don't refute the numbers
+-- how the hint is come by
 abbrev pub IsReached : Puzzle → (CandidatesValue → ℕ → ℕ → Type 0) → (CandidatesValue → Reason → ℕ → ℕ → Type 0) → GridValue → ToldHint → Type 0
-IsReached p Strikes Struck g (Explained grade chain) =
-    IsExplained Struck grade g (steps_of chain.steps.items) chain.goal × NoneBelow Struck grade g × (IsRefutedGrid Struck Hard g → ⊥)
+IsReached p Strikes Struck g (Explained grade chain) = IsLeast Struck g (Explained grade chain)
 IsReached p Strikes Struck g (Deduced hint) = IsPlain p Strikes Struck g hint
 
 -- what it says is so of each solution that keeps the numbers; it is come by so; and where all values but one are struck from an empty

@@ -2,7 +2,7 @@
 
 ghost use Rattle.std.specs.Prelude.{◌≡◌, Some, IfOk};
 ghost use Rattle.serde_json.specs.View.{view};
-ghost use Rattle.json_replies.specs.FurtherLines.{IsAnswer, IsFurtherLine, answer_data};
+ghost use Rattle.json_replies.specs.FurtherLines.{IsAnswer, IsFurtherLine, IsHintAnswer, answer_data};
 
 use crate::board::board_value;
 use crate::further_line::FurtherLine;
@@ -12,7 +12,7 @@ use crate::session::game_value;
 use crate::shown::{ShownFacts, Shows};
 use crate::told_hint::told_hint;
 use board_checks::errors;
-use latin_board::OutOfMemory;
+use latin_board::{Grid, OutOfMemory};
 use named_steps::grade_of;
 use play_midend::Session;
 use puzzle_cli::Facts;
@@ -53,10 +53,7 @@ fn answer_value<P: Shows>(
             Ok(board_value(alloc, puzzle, board, &errors, clues, signs)?)
         }
         FurtherLine::Completable => Ok(count_value(alloc, completion(puzzle, board.grid()))?),
-        FurtherLine::Hint => {
-            let told = told_hint(alloc, puzzle, board.grid())?;
-            Ok(hint_value(alloc, puzzle, board.grid(), &told)?)
-        }
+        FurtherLine::Hint => hint_answer(alloc, puzzle, board.grid()),
         FurtherLine::Grade => Ok(grade_value::<P>(alloc, grade_of(puzzle))?),
     }
 }
@@ -71,4 +68,14 @@ fn count_value(alloc: Global, found: Answer) -> Result<Value, AllocError>
         Answer::Several(_, _) => "several",
     };
     Value::try_from_str(alloc, word)
+}
+
+// The hint of a grid of the puzzle's size.
+fn hint_answer<P: Shows>(alloc: Global, puzzle: &P, grid: &Grid) -> Result<Value, OutOfMemory>
+    requires { grid.now.size ≡ (P.puzzle puzzle.now).size }
+    ensures { IfOk result (λ value. IsHintAnswer (P.puzzle puzzle.now) P.grade_letter (P.strikes puzzle.now)
+        (P.struck_by puzzle.now) (P.edge_clue_of puzzle.now) (P.says_greater_of puzzle.now) grid.now (view value)) }
+{
+    let told = told_hint(alloc, puzzle, grid)?;
+    Ok(hint_value(alloc, puzzle, grid, &told)?)
 }

@@ -1,11 +1,12 @@
 //! A look of a chain as an object: where it looks, what it strikes, and its sentence.
 
-ghost use Rattle.std.specs.Prelude.{◌≡◌, ◌*◌, ◌<◌, ◌≤◌, ℕ, map, IfOk, IfSome, List};
+ghost use Rattle.std.specs.Prelude.{◌≡◌, ◌*◌, ◌<◌, ℕ, IfOk, IfSome};
+ghost use Rattle.step_texts.specs.Lines.{line_texts};
 ghost use Rattle.serde_json.specs.View.{view};
 ghost use Rattle.number_sets.specs.Sets.{has_number};
 ghost use Rattle.json_replies.specs.Texts.{list_data, text_data};
 ghost use Rattle.json_replies.specs.Boards.{mark_set_data};
-ghost use Rattle.json_replies.specs.Steps.{edge_at, edge_of, ends_at, ends_of, x_data, y_data, clue_data, greater_data, less_data, line_data, one_data, place_data, squares_data, cells_data, numbers_data, reason_word, strike_data, step_data};
+ghost use Rattle.json_replies.specs.Steps.{edge_at, edge_of, ends_at, ends_of, x_data, y_data, clue_data, greater_data, less_data, line_data, one_data, place_data, line_cells_data, squares_data, cells_data, numbers_data, reason_word, strike_data, step_data};
 
 use crate::lists::{number_set_value, push_value, push_when};
 use crate::text::lines_value;
@@ -34,7 +35,7 @@ pub(crate) fn step_value<P: StepNames>(
     text: &[Line],
 ) -> Result<Value, AllocError>
     ensures { IfOk result (λ value. view value ≡ step_data (P.Rules.puzzle p.now).size (P.edge_clue_of p.now)
-        (P.says_greater_of p.now) reason steps.now (map (λ line. line.items) text.now)) }
+        (P.says_greater_of p.now) reason steps.now (line_texts text.now)) }
 {
     let size = p.size();
     let edge = edge_of(size, reason);
@@ -329,9 +330,22 @@ fn squares_value(
     if line >= 2 * size.get() as usize {
         return Ok(Value::from(()));
     }
+    line_cells_value(alloc, size, line as u8, places)
+}
+
+// The squares at some places of a line of the grid.
+fn line_cells_value(
+    alloc: Global,
+    size: Size,
+    line: u8,
+    places: NumberSet,
+) -> Result<Value, AllocError>
+    requires { line < 2 * size }
+    ensures { IfOk result (λ value. view value ≡ line_cells_data size line places) }
+{
     let mut list = Vec::new(alloc);
     for place in 0..size.get() {
-        let cell = line_cell(size, line as u8, place);
+        let cell = line_cell(size, line, place);
         push_when(&mut list, places.has(place), cell)?;
     }
     Ok(Value::from(list))

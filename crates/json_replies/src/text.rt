@@ -1,7 +1,8 @@
 //! Texts of JSON: bytes as characters.
 
-ghost use Rattle.std.specs.Prelude.{◌≡◌, map, IfOk, string_bytes};
+ghost use Rattle.std.specs.Prelude.{◌≡◌, IfOk, string_bytes};
 ghost use Rattle.serde_json.specs.View.{view};
+ghost use Rattle.step_texts.specs.Lines.{line_texts};
 ghost use Rattle.json_replies.specs.Texts.{latin_text, list_data, text_data};
 
 use crate::lists::push_value;
@@ -30,7 +31,7 @@ pub(crate) fn text_value(alloc: Global, bytes: &[u8]) -> Result<Value, AllocErro
 
 /// Lines, each as a text.
 pub(crate) fn lines_value(alloc: Global, lines: &[Line]) -> Result<Value, AllocError>
-    ensures { IfOk result (λ value. view value ≡ list_data text_data (map (λ line. line.items) lines.now)) }
+    ensures { IfOk result (λ value. view value ≡ list_data text_data (line_texts lines.now)) }
 {
     let mut list = Vec::new(alloc);
     for line in lines {

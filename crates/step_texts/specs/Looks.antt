@@ -17,7 +17,3 @@ pub record IsLook (reason : Reason) (look rest : List Step) : Type 0 where
   pub some : 1 ≤ length look
   pub one : AllFor reason look
   pub ends : BeginsOtherwise reason rest
-
--- no line is longer than a hundred characters
-abbrev pub AreShort : List (List ℕ) → Type 0
-AreShort lines = All (λ line. length line ≤ 100) lines

@@ -1,6 +1,6 @@
 //! The text of a chain.
-ghost use Rattle.std.specs.Prelude.{map, IfOk};
-ghost use Rattle.step_texts.specs.Looks.{AreShort};
+ghost use Rattle.std.specs.Prelude.{IfOk};
+ghost use Rattle.step_texts.specs.Lines.{AreShort, line_texts};
 
 use crate::looks::{first_look, strike_all};
 use crate::sentences::{say_goal, say_look};
@@ -20,7 +20,7 @@ pub fn look_lines<P: StepNames>(
     reason: Reason,
     look: &[Step],
 ) -> Result<Vec<Line>, AllocError>
-    ensures { IfOk result (λ lines. AreShort (map (λ line. line.items) lines.items)) }
+    ensures { IfOk result (λ lines. AreShort (line_texts lines.items)) }
 {
     let mut text = Writing::new(alloc);
     say_look(&mut text, p, candidates, reason, look)?;
@@ -35,7 +35,7 @@ pub fn chain_lines<P: StepNames>(
     grid: &Grid,
     chain: &Chain,
 ) -> Result<Vec<Line>, AllocError>
-    ensures { IfOk result (λ lines. AreShort (map (λ line. line.items) lines.items)) }
+    ensures { IfOk result (λ lines. AreShort (line_texts lines.items)) }
 {
     let mut text = Writing::new(alloc);
     say_looks(&mut text, p, view_of(grid), chain.steps.as_slice())?;

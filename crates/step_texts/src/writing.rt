@@ -1,7 +1,6 @@
 //! Text that is cut into lines as it is written.
 
-ghost use Rattle.std.specs.Prelude.{map};
-ghost use Rattle.step_texts.specs.Looks.{AreShort};
+ghost use Rattle.step_texts.specs.Lines.{AreShort, line_texts};
 
 use arrayvec::ArrayVec;
 use std::alloc::{AllocError, Global};
@@ -22,7 +21,7 @@ pub(crate) struct Writing {
     lines: Vec<Line>,
     line: Line,
     word: ArrayVec<u8, WORD>,
-    ghost short: { AreShort (map (λ line. line.items) lines.items) },
+    ghost short: { AreShort (line_texts lines.items) },
 }
 
 impl Writing {
@@ -59,7 +58,7 @@ impl Writing {
 
     /// The lines that were written.
     pub(crate) fn into_lines(self) -> Vec<Line>
-        ensures { AreShort (map (λ line. line.items) result.items) }
+        ensures { AreShort (line_texts result.items) }
     {
         self.lines
     }

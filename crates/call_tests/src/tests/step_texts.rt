@@ -3,9 +3,9 @@
 use super::rows::{Row, check};
 use super::worked::{Described, grid_of, puzzle};
 use clue_rules::{Game, Towers, Unequal};
+use latin_board::Grid;
 use named_steps::{Goal, Reason};
 use number_sets::NumberSet;
-use latin_board::Grid;
 use std::alloc::{AllocError, Global};
 use step_chains::{Chain, Step};
 use step_texts::{Line, StepNames, chain_lines};
@@ -126,7 +126,11 @@ fn chains_are_said(rt: HostRuntime) {
                 Worked(Why::Bound(23), &[(35, "45")]),
                 Worked(Why::Clue(5), &[(23, "5")]),
             ],
-            Goal::OnlyPlace { line: 11, index: 1, value: 5 },
+            Goal::OnlyPlace {
+                line: 11,
+                index: 1,
+                value: 5,
+            },
             &[
                 "1. Clue 3 above column 6, by itself: r1c6 is not 5.",
                 "2. Clue 4 right of row 1, by itself: r1c6 is not 4.",
@@ -137,7 +141,9 @@ fn chains_are_said(rt: HostRuntime) {
             ],
         ),
         Said(
-            Described::Unequal("2,0,0,4D,0D,0,0,1,0,0,0D,0,0,0,0,0D,0L,0D,0,3,0L,0,0,0D,0,0,0,0,0,0,0,0,0U,0,0U,0L,"),
+            Described::Unequal(
+                "2,0,0,4D,0D,0,0,1,0,0,0D,0,0,0,0,0D,0L,0D,0,3,0L,0,0,0D,0,0,0,0,0,0,0,0,0U,0,0U,0L,",
+            ),
             6,
             "200400010000000000030000000000000000",
             &[
