@@ -5,10 +5,13 @@ line, and is painted. From below upwards:
 
 board        what the program tells of a game
 files        reads, makes and locks files: regular ones alone
+saves        what the board itself sees in a save
 program      talks to the program
-state        where games are kept
+state        where games are kept, and what was chosen last
 games        the stored puzzles, and seeds worth playing
 texts        a sentence for each refusal
+speech       a board in sentences
+choices      which new game: size, grade, seed or ID
 present      the present game, and what can be done with it
 table        how a game begins, and what becomes of the one before
 layout       where on a screen the squares, clues and texts are
@@ -17,9 +20,8 @@ screen       a terminal by `curses`: paints pieces, reads keys
 dialogues    pages, questions and lists over the board
 keys         which key does what
 menu         the menu of new games
-fullscreen  the board: keys in, pictures out
+fullscreen   the board: keys in, pictures out
 file_names   names of files, as they are typed
-speech       a board in sentences
 prompt       a line typed at a prompt
 lines        the line mode
 manual       the keys and the rules, in a few lines

@@ -59,6 +59,12 @@ class Board(NamedTuple):
         """In reading order."""
         return [(x, y) for y in range(self.size) for x in range(self.size)]
 
+    def row(self, y: int) -> List[Place]:
+        return [(x, y) for x in range(self.size)]
+
+    def column(self, x: int) -> List[Place]:
+        return [(x, y) for y in range(self.size)]
+
     @property
     def is_full(self) -> bool:
         return len(self.numbers) == self.size * self.size

@@ -48,11 +48,19 @@ _puzzles() {
 }
 
 _puzzles_play() {
-    local word=${COMP_WORDS[COMP_CWORD]} used offered=()
+    local word=${COMP_WORDS[COMP_CWORD]} used kind kinds=() offered=()
     used=$(_puzzles_used)
     COMPREPLY=()
-    [[ $used == *' towers '* || $used == *' unequal '* ]] || offered+=(towers unequal)
-    [[ $used == *' --lines '* ]] || offered+=(--lines)
+    case $used in
+        *' towers '*) kinds=(easy hard extreme unreasonable seeded today) ;;
+        *' unequal '*) kinds=(trivial easy tricky extreme recursive seeded today) ;;
+        *) offered+=(towers unequal) ;;
+    esac
+    for kind in "${kinds[@]}"; do
+        if [[ $used == *" $kind "* ]]; then kinds=(); fi
+    done
+    offered+=("${kinds[@]}")
+    [[ $used == *' --lines '* || $used == *' --ids '* ]] || offered+=(--lines --ids)
     [[ $used == *' --help '* || $used == *' -h '* ]] || offered+=(--help)
     [[ $used == *' --version '* || $used == *' -V '* ]] || offered+=(--version)
     _puzzles_offer "$word" "${offered[@]}"

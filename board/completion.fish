@@ -33,6 +33,10 @@ end
 
 complete -c puzzles-play -e
 complete -c puzzles-play -n __puzzles_no_game -a 'towers unequal' -d 'the game'
-complete -c puzzles-play -n '__puzzles_unused lines' -l lines -d 'play by lines of text'
+complete -c puzzles-play -n '__fish_seen_subcommand_from towers' -a 'easy hard extreme unreasonable' -d 'the grade of a new game'
+complete -c puzzles-play -n '__fish_seen_subcommand_from unequal' -a 'trivial easy tricky extreme recursive' -d 'the grade of a new game'
+complete -c puzzles-play -n '__fish_seen_subcommand_from towers unequal' -a 'seeded today' -d 'a new game from a seed'
+complete -c puzzles-play -n '__puzzles_unused lines ids' -l lines -d 'play by lines of text'
+complete -c puzzles-play -n '__puzzles_unused lines ids' -l ids -d 'print the IDs of new games'
 complete -c puzzles-play -n '__puzzles_unused help h' -s h -l help -d 'show a help text'
 complete -c puzzles-play -n '__puzzles_unused version V' -s V -l version -d 'show the version'

@@ -5,14 +5,21 @@ _puzzles_game_or_file() {
     _alternative 'games:game:(towers unequal)' 'files:save file:_files'
 }
 
+_puzzles_kind_or_file() {
+    local -A grades=(towers 'easy hard extreme unreasonable' unequal 'trivial easy tricky extreme recursive')
+    local game=${words[(r)towers|unequal]}
+    _alternative "kinds:size or grade:(3 4 5 6 7 8 9 ${grades[$game]} seeded today)" 'files:save file:_files'
+}
+
 case $service in
     puzzles-play)
         _arguments -S \
-            '--lines[play by lines of text]' \
+            '(--ids)--lines[play by lines of text]' \
+            '(--lines)--ids[print the IDs of new games]' \
             '(- *)'{-h,--help}'[show a help text]' \
             '(- *)'{-V,--version}'[show the version]' \
             '1:game or save file:_puzzles_game_or_file' \
-            '2:ID or save file:_files' ;;
+            '*:ID, size or grade, or save file:_puzzles_kind_or_file' ;;
     *)
         _arguments -S \
             '(--id --load)--id=[begin with the puzzle of this game ID]:ID:' \

@@ -5,11 +5,16 @@ from __future__ import annotations
 import textwrap
 from typing import Callable, List, Optional, Sequence
 
-from board.picture import Piece, Style
-from board.screen import Screen
+from board.file_names import completed
+from board.picture import Piece, Style, wrapped
+from board.screen import Key, Screen
 
 #: The board under a question; called anew when the window has another size.
 Background = Callable[[], List[Piece]]
+
+#: Keys that leave a question, and the most lines of names that complete what is typed.
+LEAVING = ('escape', '\x03', '\x07')
+MOST_LINES = 5
 
 SCROLLING = {'down': 1, 'j': 1, 'enter': 1, 'up': -1, 'k': -1, ' ': 0, 'page down': 0, 'page up': 0}
 
@@ -24,38 +29,43 @@ class Dialogues:
     def confirm(self, question: str) -> bool:
         """Whether it was answered by y. Any other key is a no."""
         while True:
-            self._show(f'{question} y/N')
+            self._ask(f'{question} y/N')
             key = self._screen.key()
             if key.name != 'resize':
                 return key.name in ('y', 'Y')
 
     def tell(self, text: str) -> None:
         """A sentence, while something goes on."""
-        self._show(text)
+        self._ask(text)
 
-    def read(self, prompt: str, text: str = '') -> Optional[str]:
-        """A line of text, where there is one that another replaces; nothing where Escape or Ctrl-C took it back."""
+    def read(self, prompt: str, text: str = '', is_file: bool = False) -> Optional[str]:
+        """A line of text, where there is one that another replaces; nothing where Escape or Ctrl-C took it back. Tab completes the name of a file."""
         is_untouched = True
+        names: List[str] = []
         while True:
             columns = self._screen.size[1]
             room = max(8, columns - len(prompt) - 3)
             shown = text[-room:]
-            self._show(f'{prompt} {shown}', is_line=True, at=len(prompt) + 2 + len(shown))
+            self._show([*names, f'{prompt} {shown}'], at=len(prompt) + 2 + len(shown))
             name = self._screen.key().name
+            names = []
             if name == 'enter':
                 return text.strip()
-            if name in ('escape', '\x03', '\x07'):
+            if name in LEAVING:
                 return None
             if name in ('backspace', 'delete'):
                 text = text[:-1]
             elif name == '\x15':
                 text = ''
+            elif name == '\t' and is_file:
+                text, found = completed(text)
+                names = wrapped('  '.join(found), columns - 2)[:MOST_LINES]
             elif len(name) == 1 and name.isprintable():
                 text = name if is_untouched else text + name
             is_untouched = is_untouched and name == 'resize'
 
-    def page(self, title: str, lines: Sequence[str]) -> None:
-        """Shows lines over the whole screen until a key is pressed; arrows and the space bar go through those that don't fit."""
+    def page(self, title: str, lines: Sequence[str]) -> Key:
+        """Shows lines over the whole screen until a key is pressed, which is given; arrows and the space bar go through those that don't fit."""
         top = 0
         while True:
             height, columns = self._screen.size
@@ -68,21 +78,23 @@ class Dialogues:
             foot = f'lines {top + 1}-{top + room} of {len(wrapped)}, any other key: back' if last else 'any key goes back'
             pieces.append(Piece(height - 1, 1, foot, Style.GRID))
             self._screen.paint(pieces)
-            name = self._screen.key().name
+            key = self._screen.key()
+            name = key.name
             if name in SCROLLING and last and not (name in (' ', 'enter') and top == last):
                 step = SCROLLING[name] or (-room if name == 'page up' else room)
                 top = min(max(0, top + step), last)
             elif name != 'resize':
-                return
+                return key
 
     def choose(self, title: str, rows: Sequence[str]) -> Optional[int]:
-        """Which of the rows; nothing where another key than those that move and choose was pressed."""
+        """Which of the rows; nothing where it was left. What does nothing here is no key for the board either."""
         at = 0
         while True:
             height = self._screen.size[0]
-            first = max(0, at - max(1, height - 4) + 1)
-            pieces = [Piece(0, 1, title, Style.TITLE)]
-            for line, row in enumerate(rows[first : first + height - 3], 2):
+            room = max(1, height - 5)
+            first = max(0, at - room + 1)
+            pieces = [Piece(0, 1, title, Style.TITLE), Piece(height - 1, 1, 'arrows and Enter, or a number, choose; Escape or q goes back', Style.GRID)]
+            for line, row in enumerate(rows[first : first + room], 2):
                 number = first + line - 2
                 pieces.append(Piece(line, 1, f'{number if number < 10 else " "} {row}', is_cursor=number == at))
             self._screen.paint(pieces)
@@ -93,14 +105,18 @@ class Dialogues:
                 return at
             elif name.isdigit() and len(name) == 1 and int(name) < len(rows):
                 return int(name)
-            elif name != 'resize':
+            elif name == 'q' or name in LEAVING:
                 return None
 
-    def _show(self, text: str, is_line: bool = False, at: Optional[int] = None) -> None:
-        """Text on the last lines, over the board."""
+    def _show(self, lines: Sequence[str], at: Optional[int] = None) -> None:
+        """Lines right below the board and what stands beside it, or over its last ones; where the terminal's own cursor is in the last of them."""
         height, columns = self._screen.size
-        lines = [text] if is_line else textwrap.wrap(text, columns - 2)
-        top = max(0, height - len(lines))
-        pieces = [piece for piece in self._background() if piece.line < top]
+        board = self._background()
+        below = max((piece.line for piece in board), default=height) + 1
+        top = max(0, min(below, height - len(lines)))
+        pieces = [piece for piece in board if piece.line < top]
         pieces += [Piece(top + number, 1, line, Style.TITLE) for number, line in enumerate(lines)]
-        self._screen.paint(pieces, None if at is None else (height - 1, min(at, columns - 1)))
+        self._screen.paint(pieces, None if at is None else (top + len(lines) - 1, min(at, columns - 1)))
+
+    def _ask(self, text: str) -> None:
+        self._show(wrapped(text, self._screen.size[1] - 2))

@@ -3,9 +3,9 @@
 from __future__ import annotations
 
 import os
+from typing import List, Tuple
 
-from board import files
-from board.texts import SAVE_BEGINS
+from board import files, saves
 
 
 def file_name(text: str) -> str:
@@ -21,7 +21,30 @@ def question(file: str) -> str:
         return ''
     found = files.read(file)
     if found.kind in (files.Kind.READ, files.Kind.TOO_LARGE):
-        what = '' if found.content.startswith(SAVE_BEGINS) else ', and is no save'
+        what = '' if found.content.startswith(saves.BEGINS) else ', and is no save'
     else:
         what = ", and can't be read"
     return f'{file} is there{what}. Write over it?'
+
+
+def names_after(text: str) -> List[str]:
+    """What may come in place of a name that is being typed: names of files that begin so, folders with a `/`."""
+    folder, begin = os.path.split(file_name(text))
+    names = sorted(name for name in files.names_in(folder or '.')[0] if name.startswith(begin) and name.startswith('.') <= begin.startswith('.'))
+    head = text[: len(text) - len(begin)]
+    return [head + name + ('/' if os.path.isdir(os.path.join(folder, name)) else '') for name in names]
+
+
+def completed(text: str) -> Tuple[str, List[str]]:
+    """The name with all that those have in common that may come, and these names where there are several."""
+    names = names_after(text)
+    if not names:
+        return text, []
+    return os.path.commonprefix(names), [os.path.basename(name.rstrip('/')) + name[len(name.rstrip('/')) :] for name in names] if len(names) > 1 else []
+
+
+def offered(game: str, size: int, grade: str) -> str:
+    """A name for a save that no file has."""
+    name = f'{game}-{size}{"-" if grade else ""}{grade}'
+    names = (f'{name}{f"-{at}" if at > 1 else ""}.sav' for at in range(1, 1000))
+    return next((name for name in names if not os.path.lexists(name)), '')

@@ -11,7 +11,7 @@ import os
 import pwd
 import stat
 from enum import Enum
-from typing import List, NamedTuple, Optional, Tuple
+from typing import Iterator, List, NamedTuple, Optional, Tuple
 
 #: The bytes that a save may have, as the program has it.
 MOST_BYTES = 16_777_216
@@ -66,13 +66,8 @@ class NoFile(OSError):
 def read(path: str, most: int = MOST_BYTES) -> Found:
     """What is in a regular file, of so many bytes at most."""
     try:
-        expect_file(os.stat(path))
-        descriptor = os.open(path, READING)
-        try:
-            expect_file(os.fstat(descriptor))
+        with _opened(path) as descriptor:
             content = _content(descriptor, most + 1)
-        finally:
-            os.close(descriptor)
     except (FileNotFoundError, NotADirectoryError):
         return Found(Kind.OTHER, why=DANGLING) if os.path.islink(path) else Found(Kind.ABSENT)
     except NoFile as other:
@@ -82,6 +77,15 @@ def read(path: str, most: int = MOST_BYTES) -> Found:
     if len(content) > most:
         return Found(Kind.TOO_LARGE, why=f'has more than {most:,} bytes')
     return Found(Kind.READ, content)
+
+
+def begins(path: str, content: bytes) -> bool:
+    """Whether a regular file begins with these bytes."""
+    try:
+        with _opened(path) as descriptor:
+            return _content(descriptor, len(content)) == content
+    except (OSError, ValueError):
+        return False
 
 
 def expect_file(found: os.stat_result) -> None:
@@ -169,6 +173,18 @@ def names_in(folder: str) -> Tuple[List[str], str]:
 def why(error: Exception) -> str:
     """The reason of a failure, in words."""
     return str(error.strerror or error) if isinstance(error, OSError) else str(error)
+
+
+@contextlib.contextmanager
+def _opened(path: str) -> Iterator[int]:
+    """A regular file, open for reading. Raises `OSError`, or `ValueError` where no file can have that name."""
+    expect_file(os.stat(path))
+    descriptor = os.open(path, READING)
+    try:
+        expect_file(os.fstat(descriptor))
+        yield descriptor
+    finally:
+        os.close(descriptor)
 
 
 def _content(descriptor: int, most: int) -> bytes:

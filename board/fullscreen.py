@@ -2,20 +2,21 @@
 
 from __future__ import annotations
 
-import time
+import os
 from typing import Callable, Dict, List, Optional
 
-from board import games, keys, manual, menu
+from board import keys, manual
 from board.board import GAMES, Place
+from board.choices import Choice
 from board.dialogues import Dialogues
-from board.file_names import file_name, question
+from board.file_names import file_name, offered, question
 from board.layout import Layout, fit
 from board.picture import Look, Piece, grade, has_room, name, picture, too_small
-from board.program import Gone, Stopped
 from board.screen import Key, Screen
-from board.state import State
+from board.menu import Menu
+from board.state import Home, State
 from board.table import Table
-from board.texts import BY_KEYS, STOPPED
+from board.texts import BY_KEYS
 
 
 class FullScreen:
@@ -37,6 +38,7 @@ class FullScreen:
             'backspace': self._clear,
             'delete': self._clear,
             'm': self._all_marks,
+            'M': self._marks_go,
             'u': self._undo,
             '\x1a': self._undo,
             'r': self._redo,
@@ -78,9 +80,13 @@ class FullScreen:
 
     # --- the run ---
 
-    def begin(self, game: str, what: str) -> str:
-        """Goes on with a game, or begins that of an ID or a file. Gives the sentence where that is refused."""
-        return self.table.start(game, what)
+    def begin(self, game: str, what: str, choice: Optional[Choice]) -> str:
+        """Goes on with a game, or begins that of an ID or a file, or a new one. Gives the sentence where that is refused."""
+        if choice:
+            self._begin(choice)
+        else:
+            self.table.start(game, what)
+        return '' if self.table.has_game else self.table.message
 
     def run(self) -> None:
         """Until the player leaves."""
@@ -122,9 +128,15 @@ class FullScreen:
     def _draw(self) -> None:
         layout, look = self._layout(), self._look()
         if layout and look.message and not has_room(look.message, self.table.board, layout, look):
-            self._dialogues.page(name(self.table.board), [look.message])
+            self._page(name(self.table.board), [look.message])
             self.table.message = ''
         self._screen.paint(self._pieces())
+
+    def _page(self, title: str, lines: List[str]) -> None:
+        """A page of text. The key that closes it does its work on the board, unless it is one to close pages with."""
+        key = self._dialogues.page(title, lines)
+        if key.name not in keys.CLOSING and (key.name in self._actions or key.name in keys.STEPS or key.name.isdigit()):
+            self._screen.give_back(key)
 
     # --- the cursor ---
 
@@ -194,6 +206,9 @@ class FullScreen:
     def _all_marks(self) -> None:
         self.table.play('move M')
 
+    def _marks_go(self) -> None:
+        self.table.toggle_marks()
+
     def _undo(self) -> None:
         self.table.play('undo')
 
@@ -235,12 +250,12 @@ class FullScreen:
         elif text in ('help', '?'):
             self._help()
         elif text.startswith('new '):
-            self._begin(menu.Choice(self.table.game, self.table.board.size, id=text[4:].strip()))
+            self._begin(Choice(self.table.game, self.table.board.size, id=text[4:].strip()))
         else:
             reply = self.table.play(text)
             lines = reply.lines if reply else []
             if len(lines) > 1 or (lines and len(lines[0]) > 60):
-                self._dialogues.page(text, lines)
+                self._page(text, lines)
             elif lines and lines != ['ok']:
                 self.table.message = lines[0]
 
@@ -248,30 +263,18 @@ class FullScreen:
 
     def _new(self) -> None:
         board = self.table.board
-        choice = menu.Menu(self._screen, self.table.state, self.table.game, board.size, board.session.letter).run()
+        choice = Menu(self._screen, self.table.state, Choice(self.table.game, board.size, grade(board))).run()
         if choice:
             self._begin(choice)
 
-    def _begin(self, choice: menu.Choice) -> None:
-        id = choice.id
-        said = ''
-        try:
-            if not id and choice.letter:
-                id = games.take(self.table.state, choice.game, choice.size, choice.letter) or ''
-                said = self.table.state.played_trouble(choice.game)
-            elif not id:
-                self._dialogues.tell('Looking for a seed ..')
-                id = games.seeded(self.table.path, choice.game, choice.size, self.table.waiting())
-                said = f'A seeded game; to play it again: n, by an ID, {id}'
-        except Gone as gone:
-            self.table.message = f'The program says: {gone}.'
-            return
-        except Stopped:
-            self.table.message = STOPPED
-            return
-        if self.table.begin(choice.game, id):
+    def _begin(self, choice: Choice) -> None:
+        if not choice.id and choice.is_seeded:
+            self._dialogues.tell('Looking for a seed ..')
+        id = self.table.begin_new(choice)
+        if id:
             self._at_start()
-            self.table.message = f'{self.table.message} {said}'.strip()
+            if choice.is_seeded:
+                self.table.message = f'{self.table.message} A seeded game; to play it again: n, by an ID, {id}'.strip()
 
     def _at_start(self) -> None:
         self._cursor = (0, 0)
@@ -279,23 +282,29 @@ class FullScreen:
         self._file = ''
 
     def _open(self) -> None:
-        old = self.table.state.old_games()
-        rows = [f'{time.strftime("%d %b %H:%M", time.localtime(game.when))} {games.summary(self.table.path, game, self.table.waiting())}' for game in old]
-        at = self._dialogues.choose('Go on with', [*rows, 'a file ..'])
+        saved = self.table.saved_games(os.path.dirname(self._file))
+        # A file that is to be named stands before those of the folder: its number is the same whatever lies there.
+        own = sum(game.home is not Home.FOLDER for game in saved)
+        rows = [self.table.told_of(game) for game in saved]
+        at = self._dialogues.choose('Go on with', [*rows[:own], 'a file ..', *rows[own:]])
         if at is None:
             self.table.message = self.table.state.old_trouble()
             return
-        if at < len(old):
-            done = self.table.open_old(old[at])
-        else:
-            file = file_name(self._dialogues.read('open the file:') or '')
+        if at == own:
+            file = file_name(self._dialogues.read('open the file:', is_file=True) or '')
             done = bool(file) and self.table.open(self.table.game, file)
+        else:
+            game = saved[at if at < own else at - 1]
+            file = game.path if game.home is Home.FOLDER else ''
+            done = self.table.go_on_with(game)
         if done:
             self._at_start()
-            self._file = file if at == len(old) else ''
+            self._file = file
 
     def _save_as(self) -> None:
-        file = file_name(self._dialogues.read('save as:', self._file) or '')
+        board = self.table.board
+        name_offered = self._file or offered(self.table.game, board.size, grade(board))
+        file = file_name(self._dialogues.read('save as:', name_offered, is_file=True) or '')
         if not file:
             return
         asked = '' if file == self._file else question(file)
@@ -308,10 +317,10 @@ class FullScreen:
     def _show_id(self) -> None:
         board = self.table.board
         lines = [board.session.id, '', 'To play it again: n, by an ID; or on the command line', '', f"puzzles-play {self.table.game} '{board.session.id}'"]
-        self._dialogues.page(f'The ID of this puzzle, {name(board)} {grade(board)}', lines)
+        self._page(f'The ID of this puzzle, {name(board)} {grade(board)}', lines)
 
     def _help(self) -> None:
-        self._dialogues.page('Keys', [*manual.KEYS, '', GAMES[self.table.game], *manual.RULES[self.table.game]])
+        self._page('Keys', [*manual.KEYS, '', GAMES[self.table.game], *manual.RULES[self.table.game]])
 
     # --- the screen, and the end ---
 

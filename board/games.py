@@ -2,6 +2,7 @@
 
 from __future__ import annotations
 
+import os
 import random
 from functools import lru_cache
 from pathlib import Path
@@ -10,7 +11,8 @@ from typing import Dict, List, Optional, Tuple
 from board import files
 from board.board import GAMES, Board
 from board.program import Gone, Program, Refused, Stopped, Waiting, started_with
-from board.state import NotKept, OldGame, State
+from board.saves import game_in
+from board.state import Home, NotKept, SavedGame, State
 
 #: The letters of difficulty, by the usual programs' words.
 GRADES: Dict[str, Dict[str, str]] = {
@@ -112,16 +114,23 @@ def follows(program: Program, id: str, waiting: Waiting) -> bool:
     return False
 
 
-def summary(path: str, old: OldGame, waiting: Waiting) -> str:
-    """What there is to say of one of the last ten games."""
+def summary(path: str, saved: SavedGame, waiting: Waiting) -> str:
+    """What there is to say of a game that can be gone on with."""
+    content = files.read(saved.path).content
+    named = game_in(content)
+    game = named.lower() if named else saved.game
+    name = f'{os.path.basename(saved.path)}: ' if saved.home is Home.FOLDER else ''
+    if named and game not in GAMES:
+        return f'{name}{named}, not played here'
     try:
-        program = started_with(path, old.game, files.read(old.path).content, waiting)
+        program = started_with(path, game, content, waiting)
     except (Refused, Gone, Stopped):
-        return f'{old.game}, can\'t be read'
+        return f"{name}{game}, can't be read"
     board = program.first.board
     program.stop()
     if board is None:
-        return old.game
-    grade = GRADES[old.game].get(board.session.letter, '')
+        return f'{name}{game}'
+    grade = GRADES[game].get(board.session.letter, '')
     filled, empty = board.own
-    return f'{GAMES[old.game]} {board.size}x{board.size} {grade}'.rstrip() + (', solved' if board.is_solved else f', {filled} of {empty}')
+    state = ', solved' if board.is_solved else f', {filled} of {empty}'
+    return name + f'{GAMES[game]} {board.size}x{board.size} {grade}'.rstrip() + state + (', not put away' if saved.home is Home.PRESENT else '')

@@ -21,3 +21,6 @@ STEPS: Dict[str, Tuple[int, int]] = {
 
 #: Keys that do their work where the board has no room, too.
 WITHOUT_BOARD = {'n', 'o', 'w', 'i', '?', 'T', 'Z', '\x0c', 'q', '\x03', 'resize'}
+
+#: Keys that close a page and do nothing else.
+CLOSING = {'enter', ' ', 'escape', 'q', '?', '\x03', 'mouse'}

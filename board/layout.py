@@ -9,7 +9,7 @@ from board.board import Place
 #: A screen has at least so many columns, for sentences.
 FEWEST_COLUMNS = 36
 
-#: The columns of the texts at the side.
+#: The columns of the texts at the side, with those between them and the board.
 SIDE_COLUMNS = 25
 
 
@@ -40,6 +40,11 @@ class Layout(NamedTuple):
         """The column of the right edge of the grid."""
         return self.left + self.size * (self.wide + 1)
 
+    @property
+    def below(self) -> int:
+        """The first line below the board and its clues."""
+        return self.bottom + (2 if self.has_clues else 1)
+
     def corner(self, place: Place) -> Tuple[int, int]:
         """The line and the column of the first character inside a square."""
         x, y = place
@@ -56,7 +61,9 @@ class Layout(NamedTuple):
         return line + self.deep // 2, column + self.wide // 2
 
     def place_at(self, line: int, column: int) -> Optional[Place]:
-        """The square there, or the place of a clue; nothing for other spots."""
+        """The square there, or the place of a clue; nothing for other spots, as the texts at the side."""
+        if not (self.left - 3 <= column <= self.right + 3 and self.top - 1 <= line <= self.bottom + 1):
+            return None
         x = (column - self.left - 1) // (self.wide + 1) if column > self.left else -1
         y = (line - self.top - 1) // (self.deep + 1) if line > self.top else -1
         x, y = min(x, self.size), min(y, self.size)
@@ -65,7 +72,7 @@ class Layout(NamedTuple):
 
 
 def fit(size: int, has_clues: bool, lines: int, columns: int) -> Optional[Layout]:
-    """How a board is drawn on a screen: with three lines a square where there is room, else with one; nothing where it is too small."""
+    """How a board is drawn on a screen: with seven, five or three lines a square where there is room, else with one; nothing where it is too small."""
     if columns < FEWEST_COLUMNS:
         return None
     return next(filter(None, (_tried(size, has_clues, lines, columns, *shape) for shape in _shapes())), None)
@@ -73,8 +80,8 @@ def fit(size: int, has_clues: bool, lines: int, columns: int) -> Optional[Layout
 
 def _shapes() -> Iterator[Tuple[int, int, bool]]:
     """Deep, wide, and whether the texts are at the side; the best first."""
-    for deep, wide in ((3, 7), (1, 7), (1, 5), (1, 3)):
-        for is_aside in (False, True):
+    for deep, wide in ((7, 15), (5, 11), (3, 7), (1, 7), (1, 5), (1, 3)):
+        for is_aside in (True, False):
             yield deep, wide, is_aside
 
 
@@ -86,11 +93,13 @@ def _tried(size: int, has_clues: bool, lines: int, columns: int, deep: int, wide
     if is_aside:
         if tall > lines or broad + SIDE_COLUMNS > columns:
             return None
-        return Layout(size, has_clues, deep, wide, around, left, broad + 1, lines, columns)
-    if tall + 3 > lines or broad > columns:
+        return Layout(size, has_clues, deep, wide, around, left, broad + 1 + around, lines, columns)
+    # The title above, and below a message and the line of keys; a message has three lines, or one where squares can't be smaller.
+    needed = tall + (5 if deep > 1 else 3)
+    if needed > lines or broad > columns:
         return None
     # Where there is a line to spare it is below the title.
-    top = 1 + around + (1 if tall + 4 <= lines else 0)
+    top = 1 + around + (1 if needed < lines else 0)
     spare = 1 if broad < columns else 0
     return Layout(size, has_clues, deep, wide, top, left + spare, None, lines, columns)
 

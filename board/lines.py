@@ -6,18 +6,18 @@ import re
 import shutil
 import sys
 import textwrap
-import time
-from typing import Callable, Dict, List, Tuple
+from typing import Callable, Dict, List, Optional, Tuple
 
-from board import games, hints, manual, speech
+from board import hints, manual, speech
 from board.board import GAMES, Board
+from board.choices import Choice, Unknown, choice_of, remembered
 from board.file_names import file_name, question
-from board.program import Gone, Stopped
+from board.games import GRADES
 from board.printable import printable
 from board.prompt import Prompt
 from board.state import State
 from board.table import Table
-from board.texts import BY_LINES, STOPPED
+from board.texts import BY_LINES
 
 NUMBER = r'(-?[0-9]+)'
 BETWEEN = '[ ,]+'
@@ -68,6 +68,7 @@ class LineMode:
             'clues': lambda _: say(*speech.clues(self._table.board)),
             'hint': self._hint,
             'check': self._check,
+            'tidy': lambda _: self._table.toggle_marks(),
             'back': self._back,
             'show': lambda _: self._show(),
             'status': lambda _: say(f'{self._table.board.session.status} {self._position()}'),
@@ -85,13 +86,15 @@ class LineMode:
 
     # --- the run ---
 
-    def run(self, game: str, what: str) -> int:
+    def run(self, game: str, what: str, choice: Optional[Choice] = None) -> int:
         """Until the player leaves; the status is 3 where the ID or the file is refused."""
-        refusal = self._table.start(game, what)
-        if refusal:
-            say(refusal)
+        if choice:
+            self._begin(choice)
+        elif self._table.start(game, what):
+            self._begun()
+        if not self._table.has_game:
+            say(self._table.message)
             return 3
-        self._begun()
         say(f'Type column, row and number, as 0 0 {self._table.board.size}; help lists the rest.')
         while not self._is_over:
             line = self._prompt.read(f'{self._table.game} {self._position()}> ')
@@ -214,51 +217,25 @@ class LineMode:
         board = self._table.board
         words = text.split()
         game = next((word.lower() for word in words if word.lower() in GAMES), self._table.game)
-        grades = {grade: letter for letter, grade in games.GRADES[game].items()}
-        size, letter = board.size, board.session.letter
-        is_seeded = False
-        for word in words:
-            if word.lower() in GAMES:
-                continue
-            if word.lower() in grades:
-                letter = grades[word.lower()]
-            elif word.lower() == 'seeded':
-                is_seeded = True
-            elif word.isdigit():
-                size = int(word)
-            elif word.isalpha():
-                say(f"{GAMES[game]} has no grade '{word}': {speech.listed(list(grades), 'or')}.")
-                return
-            else:
-                if self._table.begin(game, words[-1]):
-                    self._begun()
-                return
-        if size not in games.SIZES:
-            say('Sizes go from 3 to 9: one digit from 3 to 9.')
-            return
-        self._begin_chosen(game, size, letter, is_seeded)
-
-    def _begin_chosen(self, game: str, size: int, letter: str, is_seeded: bool) -> None:
-        there = games.letters(game, size)
+        words = [word for word in words if word.lower() not in GAMES]
+        present = Choice(game, board.size, GRADES[game].get(board.session.letter, ''))
         try:
-            if is_seeded and size in games.SEEDED_SIZES:
-                id = games.seeded(self._table.path, game, size, self._table.waiting())
+            if all(word.isalnum() and (word.isdigit() or word.isalpha()) for word in words):
+                choice = choice_of(words, remembered(self._table.state, game) or present)
             else:
-                id = games.take(self._table.state, game, size, letter if letter in there else ''.join(there[:1])) or f'{size}!7'
-        except Gone as gone:
-            say(f'The program says: {gone}.')
+                choice = present._replace(id=words[-1])
+        except Unknown as unknown:
+            say(str(unknown))
             return
-        except Stopped:
-            say(STOPPED)
-            return
-        if is_seeded and size not in games.SEEDED_SIZES:
-            say('Seeded games have the sizes 3 to 6; this one is of the stored puzzles.')
-        trouble = self._table.state.played_trouble(game)
-        if self._table.begin(game, id):
+        self._begin(choice)
+
+    def _begin(self, choice: Choice) -> None:
+        id = self._table.begin_new(choice)
+        if id:
             self._begun()
-            say('To play it again:')
-            say_whole(f'new {id}')
-            say(*filter(None, [trouble]))
+            if not choice.id:
+                say('To play it again:')
+                say_whole(f'new {id}')
 
     def _save(self, text: str) -> None:
         file = file_name(text)
@@ -279,15 +256,15 @@ class LineMode:
             self._begun()
 
     def _open(self, text: str) -> None:
-        old = self._table.state.old_games()
-        if text.isdigit() and int(text) < len(old):
-            if self._table.open_old(old[int(text)]):
+        saved = self._table.saved_games('')
+        if text.isdigit() and int(text) < len(saved):
+            if self._table.go_on_with(saved[int(text)]):
                 self._begun()
             return
-        for at, game in enumerate(old):
-            say(f'{at}  {time.strftime("%d %b %H:%M", time.localtime(game.when))}  {games.summary(self._table.path, game, self._table.waiting())}')
+        for at, game in enumerate(saved):
+            say(f'{at}  {self._table.told_of(game)}')
         trouble = self._table.state.old_trouble()
-        say("'open 0' goes on with number 0." if old else trouble or 'No game was put away yet.')
+        say("'open 0' goes on with number 0." if saved else trouble or 'No game was put away yet.')
 
     def _quit(self, _: str) -> None:
         trouble = self._table.trouble

@@ -5,9 +5,10 @@ from __future__ import annotations
 import io
 import os
 import sys
-from typing import List, NamedTuple, Optional
+from typing import List, NamedTuple, Optional, Sequence
 
 from board.board import GAMES
+from board.choices import Choice, Unknown, are_words, choice_of, ids, remembered
 from board.printable import printable
 from board.program import Gone
 from board.state import State
@@ -16,12 +17,19 @@ from board.version import ABOVE, about, told
 
 USAGE = """\
 usage: {me} [--lines] [GAME] [ID or FILE]
+       {me} [--lines] [GAME] [SIZE] [GRADE, seeded or today]
+       {me} --ids [GAME] [SIZE] [GRADE, seeded or today] [COUNT]
        {me} --help | --version
 
 GAME is towers or unequal. Without an ID or a save file the last game goes on,
 and a new one begins where there is none. ? shows the keys. With --lines, or
 where the terminal has no screen, games are played by lines of text, which
 'help' lists. For scripts and pipes use the program itself: puzzles GAME.
+
+A SIZE from 3 to 9 or a GRADE begins a new game: easy, hard, extreme and
+unreasonable in Towers, trivial, easy, tricky, extreme and recursive in
+Unequal; seeded makes one, and today is the one of the date, for everybody.
+--ids prints the IDs of such games, one a line, and plays none.
 """
 
 #: Words that ask for help.
@@ -32,8 +40,13 @@ class Words(NamedTuple):
     """What the command line asks for."""
 
     game: Optional[str]
-    what: str
-    is_lines: bool
+    #: An ID or a file.
+    what: str = ''
+    #: A size, a grade, and what else says of which kind a new game is to be.
+    kind: Sequence[str] = ()
+    is_lines: bool = False
+    #: How many IDs are to be printed, where some are.
+    ids: int = 0
 
 
 def main(words: List[str], here: str) -> int:
@@ -51,7 +64,7 @@ def main(words: List[str], here: str) -> int:
     if asked is None:
         print(USAGE.format(me=me) + tip(me, words), end='', file=sys.stderr)
         return 2
-    if not (sys.stdin.isatty() and sys.stdout.isatty()):
+    if not (asked.ids or (sys.stdin.isatty() and sys.stdout.isatty())):
         complain(f'{me}: the board is for a terminal; in a pipe use the program itself, puzzles {asked.game or "GAME"}')
         return 2
     path = program(here)
@@ -63,6 +76,9 @@ def main(words: List[str], here: str) -> int:
     except Gone as gone:
         complain(f'{me}: the program has ended: {gone}')
         return 1
+    except Unknown as unknown:
+        complain(f'{me}: {unknown}')
+        return 2
 
 
 def complain(text: str) -> None:
@@ -72,13 +88,19 @@ def complain(text: str) -> None:
 
 def read(words: List[str]) -> Optional[Words]:
     """What the words ask for; nothing where they can't be read. An empty word is none."""
-    plain = [word for word in words if word not in ('--lines', '')]
-    if any(word.startswith('-') for word in plain) or len(plain) > 2:
+    plain = [word for word in words if word not in ('--lines', '--ids', '')]
+    game = plain.pop(0) if plain and plain[0] in GAMES else None
+    if any(word.startswith('-') for word in plain) or {'--lines', '--ids'} <= set(words):
         return None
-    if plain and plain[0] not in GAMES:
-        # A file says itself which game it is of.
-        return Words(None, plain[0], '--lines' in words) if len(plain) == 1 and is_there(plain[0]) else None
-    return Words(plain[0] if plain else None, plain[1] if len(plain) > 1 else '', '--lines' in words)
+    if '--ids' in words:
+        count = plain.pop() if sum(word.isdigit() for word in plain) > 1 and plain[-1].isdigit() else '1'
+        return Words(game, kind=plain, ids=int(count)) if int(count) > 0 and (are_words(plain) or not plain) else None
+    asked = Words(game, is_lines='--lines' in words)
+    if are_words(plain) and not (len(plain) == 1 and is_there(plain[0])):
+        return asked._replace(kind=plain)
+    # A file says itself which game it is of.
+    is_read = not plain or (len(plain) == 1 and (game or is_there(plain[0])))
+    return asked._replace(what=''.join(plain)) if is_read else None
 
 
 def tip(me: str, words: List[str]) -> str:
@@ -102,18 +124,24 @@ def version(here: str) -> int:
 
 
 def play(path: str, asked: Words) -> int:
+    """Raises `Unknown` where there is no such game as the words say."""
     state = State(os.environ)
     game = asked.game or state.last(GAMES) or 'towers'
+    last = remembered(state, game) or Choice(game, 5, 'easy')
+    choice = choice_of(asked.kind, last) if asked.kind or asked.ids else None
+    if choice and asked.ids:
+        print('\n'.join(ids(path, choice, asked.ids)))
+        return 0
     if not asked.is_lines:
-        status = on_screen(path, state, game, asked)
+        status = on_screen(path, state, game, asked.what, choice)
         if status is not None:
             return status
     from board.lines import LineMode
 
-    return LineMode(path, state).run(game, asked.what)
+    return LineMode(path, state).run(game, asked.what, choice)
 
 
-def on_screen(path: str, state: State, game: str, asked: Words) -> Optional[int]:
+def on_screen(path: str, state: State, game: str, what: str, choice: Optional[Choice]) -> Optional[int]:
     """The board; nothing where it can't be shown, or the player goes on in lines of text."""
     try:
         from board.fullscreen import FullScreen
@@ -126,7 +154,7 @@ def on_screen(path: str, state: State, game: str, asked: Words) -> Optional[int]
         return None
     with screen:
         front = FullScreen(screen, path, state)
-        refusal = front.begin(game, asked.what)
+        refusal = front.begin(game, what, choice)
         if not refusal:
             front.run()
     if refusal:
@@ -134,7 +162,6 @@ def on_screen(path: str, state: State, game: str, asked: Words) -> Optional[int]
         return 3
     if not front.wants_lines:
         return 0
-    asked_what = ''
     from board.lines import LineMode
 
-    return LineMode(path, state).run(front.table.game, asked_what)
+    return LineMode(path, state).run(front.table.game, '')

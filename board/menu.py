@@ -2,39 +2,31 @@
 
 from __future__ import annotations
 
-import textwrap
-from typing import List, NamedTuple, Optional
+from typing import List, Optional
 
 from board import games
 from board.board import GAMES
-from board.dialogues import Dialogues
-from board.picture import Piece, Style
+from board.choices import SEEDED, Choice, remembered
+from board.dialogues import LEAVING, Dialogues
+from board.picture import Piece, Style, wrapped
 from board.screen import Screen
 from board.state import State
 
-SEEDED, BY_ID = 'seeded: no clue too many', 'by an ID or a seed'
+BY_ID = 'ID'
 
-
-class Choice(NamedTuple):
-    """A game, and which one: a letter of difficulty, an ID, or a seeded one that is worth playing."""
-
-    game: str
-    size: int
-    letter: str = ''
-    id: str = ''
+#: How the kinds without a grade are shown.
+TEXTS = {SEEDED: 'seeded: no clue too many', BY_ID: 'by an ID or a seed'}
 
 
 class Menu:
     """Up and down go through the three lines, left and right change what one says, Enter begins the game."""
 
-    def __init__(self, screen: Screen, state: State, game: str, size: int, letter: str) -> None:
+    def __init__(self, screen: Screen, state: State, present: Choice) -> None:
+        """What was chosen last of the present game is chosen at first; where nothing was, a game as this."""
         self._screen = screen
         self._state = state
         self._line = 2
-        self._game = game
-        self._size = size
-        self._kind = games.GRADES[game].get(letter, '')
-        self._kind = self._kind if self._kind in self._kinds() else self._kinds()[0]
+        self._take(remembered(state, present.game) or present)
 
     def run(self) -> Optional[Choice]:
         """What was chosen; nothing where another key went back."""
@@ -52,8 +44,12 @@ class Menu:
                 choice = self._choice()
                 if choice:
                     return choice
-            elif name != 'resize':
+            elif name == 'q' or name in LEAVING:
                 return None
+
+    def _take(self, choice: Choice) -> None:
+        self._game, self._size, self._kind = choice.game, choice.size, choice.kind
+        self._keep_kind()
 
     def _kinds(self) -> List[str]:
         grades = [games.GRADES[self._game][letter] for letter in games.letters(self._game, self._size)]
@@ -65,7 +61,8 @@ class Menu:
 
     def _change(self, step: int) -> None:
         if self._line == 0:
-            self._game = next(game for game in GAMES if game != self._game)
+            game = next(game for game in GAMES if game != self._game)
+            self._take(remembered(self._state, game) or Choice(game, self._size, self._kind))
         elif self._line == 1:
             self._size = (self._size - games.SIZES[0] + step) % len(games.SIZES) + games.SIZES[0]
         else:
@@ -73,12 +70,9 @@ class Menu:
             self._kind = kinds[(kinds.index(self._kind) + step) % len(kinds)]
         self._keep_kind()
 
-    def _letter(self) -> str:
-        return next((letter for letter, grade in games.GRADES[self._game].items() if grade == self._kind), '')
-
     def _choice(self) -> Optional[Choice]:
         if self._kind != BY_ID:
-            return Choice(self._game, self._size, self._letter())
+            return Choice(self._game, self._size, self._kind)
         text = Dialogues(self._screen, self._pieces).read('ID, or a number as the seed:')
         if not text:
             return None
@@ -86,7 +80,12 @@ class Menu:
 
     def _pieces(self) -> List[Piece]:
         sizes = [str(size) for size in games.SIZES]
-        rows = [('Game', list(GAMES.values()), GAMES[self._game]), ('Size', sizes, str(self._size)), ('Kind', self._kinds(), self._kind)]
+        kinds = [TEXTS.get(kind, kind) for kind in self._kinds()]
+        rows = [
+            ('Game', list(GAMES.values()), GAMES[self._game]),
+            ('Size', sizes, str(self._size)),
+            ('Kind', kinds, TEXTS.get(self._kind, self._kind)),
+        ]
         pieces = [Piece(0, 1, 'A new game', Style.TITLE)]
         line = 2
         columns = self._screen.size[1]
@@ -100,16 +99,17 @@ class Menu:
                 pieces.append(Piece(line, column, text, Style.GIVEN if value == chosen else Style.PLAIN, value == chosen and at == self._line))
                 column += len(text)
             line += 2
-        for text in [self._note(), games.bank_trouble(self._game), 'Enter begins it; the present game is put away.', 'Arrows choose, any other key goes back.']:
-            for part in textwrap.wrap(text, columns - 2) or ['']:
+        for text in [self._note(), games.bank_trouble(self._game), 'Enter begins it; the present game is put away.', 'Arrows choose, Escape or q goes back.']:
+            for part in wrapped(text, columns - 2) or ['']:
                 pieces.append(Piece(line, 1, part))
                 line += 1
         return pieces
 
     def _note(self) -> str:
-        letter = self._letter()
-        if letter:
-            new, all_ = games.left(self._state, self._game, self._size, letter)
-            trouble = self._state.played_trouble(self._game)
-            return trouble or f'{all_} puzzles, {new} of them new to you'
-        return 'the best of 100 seeds, without guessing' if self._kind == SEEDED else "5:.. or 5!7, or the number after the '!'"
+        if self._kind == BY_ID:
+            return "5:.. or 5!7, or the number after the '!'"
+        if self._kind == SEEDED:
+            return 'the best of 100 seeds, without guessing'
+        letter = Choice(self._game, self._size, self._kind).letter
+        new, all_ = games.left(self._state, self._game, self._size, letter)
+        return self._state.played_trouble(self._game) or f'{all_} puzzles, {new} of them new to you'

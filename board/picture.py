@@ -4,7 +4,7 @@ from __future__ import annotations
 
 import textwrap
 from enum import Enum
-from typing import Iterator, List, NamedTuple, Optional, Tuple
+from typing import Iterator, List, NamedTuple, Optional
 
 from board.board import GAMES, Board, Place
 from board.games import GRADES
@@ -57,6 +57,8 @@ KEYS_BELOW = [
     '1-9 number  p pencil  0 clear  u undo  r redo  h hint  n new  q quit  ? keys',
     'p pencil u undo h hint n new q quit ?',
 ]
+#: So many lines of a message have room at the side, where the window is tall enough.
+MESSAGE_LINES = 6
 KEYS_ASIDE = ['1-9 number  p pencil', '0 clear     m all marks', 'u undo      r redo', 'h hint      c check', 'n new       o open', '? all keys  q quit']
 
 
@@ -66,6 +68,11 @@ def picture(board: Board, layout: Layout, look: Look) -> List[Piece]:
     return pieces + list(_texts_below(board, layout, look) if layout.side is None else _texts_aside(board, layout, look, layout.side))
 
 
+def wrapped(text: str, columns: int) -> List[str]:
+    """The lines of a text that are no longer than that, broken between words."""
+    return textwrap.wrap(text, columns, break_on_hyphens=False)
+
+
 def too_small(board: Board, lines: int, columns: int) -> List[Piece]:
     """What is shown where the board has no room."""
     wide, tall = wanted(board.size, board.session.game == 'towers')
@@ -73,7 +80,7 @@ def too_small(board: Board, lines: int, columns: int) -> List[Piece]:
         f'{name(board)} needs a window of {wide} columns and {tall} lines, and this one has {columns} and {lines}. '
         'Make it larger; or T for lines of text, q to quit: the game is kept.'
     )
-    return [Piece(at, 0, line) for at, line in enumerate(textwrap.wrap(text, max(8, columns - 1))[:lines])]
+    return [Piece(at, 0, line) for at, line in enumerate(wrapped(text, max(8, columns - 1))[:lines])]
 
 
 def name(board: Board) -> str:
@@ -114,12 +121,27 @@ def _told_of(board: Board, look: Look, layout: Layout) -> str:
     return f'marks: {" ".join(map(str, marks))}' if marks and layout.deep == 1 else ''
 
 
-def has_room(text: str, board: Board, layout: Layout, look: Look) -> bool:
-    """Whether a message fits beside the board, or on the two lines below it."""
+class Room(NamedTuple):
+    """Where a message may stand: its first line and column, and how many lines and columns there are for it."""
+
+    line: int
+    column: int
+    lines: int
+    columns: int
+
+
+def room_of(board: Board, layout: Layout, look: Look) -> Room:
+    """At the side below the title; or right below the board, where the last line is the keys' unless there is one other alone."""
     if layout.side is None:
-        return len(textwrap.wrap(text, layout.columns - 2)) <= 2
-    begin, end = _side_lines(board, layout, look)
-    return len(textwrap.wrap(text, layout.columns - layout.side - 1)) <= end - begin
+        return Room(layout.below, 1, max(2, layout.lines - 1 - layout.below), layout.columns - 2)
+    line = len(_side_title(board, look)) + 2
+    return Room(line, layout.side, max(1, _keys_line(board, layout, look) - 1 - line), layout.columns - layout.side)
+
+
+def has_room(text: str, board: Board, layout: Layout, look: Look) -> bool:
+    """Whether a message fits where messages stand."""
+    room = room_of(board, layout, look)
+    return len(wrapped(text, room.columns)) <= room.lines
 
 
 def marks_text(marks: List[int], size: int, room: int) -> str:
@@ -159,9 +181,10 @@ def _squares(board: Board, layout: Layout, look: Look) -> Iterator[Piece]:
             yield Piece(*layout.centre(place), f'{number}!' if is_wrong else str(number), style, is_cursor)
             continue
         marks = board.marks.get(place, [])
-        if layout.deep == 3:
+        if layout.deep > 1:
+            down, across = (layout.deep - 1) // 2, (layout.wide - 3) // 2
             for mark in marks:
-                yield Piece(line + (mark - 1) // 3, column + 1 + 2 * ((mark - 1) % 3), str(mark), Style.MARKS, is_cursor)
+                yield Piece(line + (mark - 1) // 3 * down, column + 1 + (mark - 1) % 3 * across, str(mark), Style.MARKS, is_cursor)
         elif marks:
             indent = 1 if layout.wide > 3 else 0
             yield Piece(line, column + indent, marks_text(marks, board.size, layout.wide - indent), Style.MARKS, is_cursor)
@@ -189,29 +212,34 @@ def _clues(board: Board, layout: Layout, look: Look) -> Iterator[Piece]:
         yield Piece(*layout.centre(place), text, style, place == look.cursor)
 
 
+def _message(board: Board, layout: Layout, look: Look) -> List[Piece]:
+    room = room_of(board, layout, look)
+    lines = wrapped(told(board, look, layout), room.columns)[: room.lines]
+    return [Piece(room.line + at, room.column, text, Style.TITLE) for at, text in enumerate(lines)]
+
+
 def _texts_below(board: Board, layout: Layout, look: Look) -> Iterator[Piece]:
     between = f' {LINES[-1] if look.has_lines else "-"} '
     words = [name(board), grade(board), state(board), hints_told(look.hints), 'PENCIL' if look.is_pencil else '', between.join(counts(board))]
-    for gap in ('   ', '  ', ' '):
-        title = gap.join(word for word in words if word)
-        if len(title) < layout.columns:
-            break
-    yield Piece(0, 1, title, Style.TITLE)
-    lines = textwrap.wrap(told(board, look, layout), layout.columns - 2)[:2]
-    if len(lines) < 2:
-        yield Piece(layout.lines - 1, 1, next((keys for keys in KEYS_BELOW if len(keys) < layout.columns - 1), '? keys'), Style.GRID)
-    for at, text in enumerate(lines):
-        yield Piece(layout.lines - 2 + at, 1, text, Style.TITLE)
+    titles = [gap.join(filter(None, words)) for gap in ('   ', '  ', ' ')]
+    title = next((title for title in titles if len(title) < layout.columns), titles[-1])
+    keys = next((keys for keys in KEYS_BELOW if len(keys) < layout.columns - 1), '? keys')
+    message = _message(board, layout, look)
+    yield from message
+    if message and message[-1].line == layout.lines - 1:
+        # A message that needs the last line takes the place of the title, and not of the keys.
+        yield Piece(0, 1, keys, Style.GRID)
+    else:
+        yield Piece(0, 1, title, Style.TITLE)
+        yield Piece(layout.lines - 1, 1, keys, Style.GRID)
 
 
 def _texts_aside(board: Board, layout: Layout, look: Look, side: int) -> Iterator[Piece]:
-    for at, text in enumerate(_side_title(board, look)):
-        yield Piece(1 + at, side, text, Style.TITLE)
-    begin, end = _side_lines(board, layout, look)
-    for at, text in enumerate(textwrap.wrap(told(board, look, layout), layout.columns - side - 1)[: end - begin]):
-        yield Piece(begin + at, side, text, Style.TITLE)
-    for at, text in enumerate(KEYS_ASIDE):
-        yield Piece(layout.lines - len(KEYS_ASIDE) + at, side, text, Style.GRID)
+    for at, text in enumerate(_side_title(board, look), 1):
+        yield Piece(at, side, text, Style.TITLE)
+    yield from _message(board, layout, look)
+    for at, text in enumerate(KEYS_ASIDE, _keys_line(board, layout, look)):
+        yield Piece(at, side, text, Style.GRID)
 
 
 def _side_title(board: Board, look: Look) -> List[str]:
@@ -219,17 +247,7 @@ def _side_title(board: Board, look: Look) -> List[str]:
     return [word for word in words if word]
 
 
-def _side_lines(board: Board, layout: Layout, look: Look) -> Tuple[int, int]:
-    """The first line of the message at the side, and the one after its last."""
-    begin = len(_side_title(board, look)) + 2
-    return begin, max(begin + 1, layout.lines - len(KEYS_ASIDE) - 1)
-
-
-def text_of(pieces: List[Piece], lines: int, columns: int) -> List[str]:
-    """The pieces as they would be on a screen."""
-    screen = [[' '] * columns for _ in range(lines)]
-    for piece in pieces:
-        for at, character in enumerate(piece.text, piece.column):
-            if 0 <= piece.line < lines and 0 <= at < columns:
-                screen[piece.line][at] = character
-    return [''.join(line).rstrip() for line in screen]
+def _keys_line(board: Board, layout: Layout, look: Look) -> int:
+    """The first line of the keys at the side: they end with the board, but leave room for a message."""
+    last = len(_side_title(board, look)) + MESSAGE_LINES + len(KEYS_ASIDE) + 3
+    return min(layout.lines, max(layout.below, last)) - len(KEYS_ASIDE)

@@ -2,8 +2,10 @@
 
 from __future__ import annotations
 
+import os
+import re
 import time
-from typing import Optional, Protocol
+from typing import Dict, Optional, Protocol
 
 from board import files, hints, texts
 from board.board import Board, Place, Reply
@@ -14,6 +16,10 @@ from board.texts import Ways
 #: Lines over which the program may take long; and how many seconds it may take over any other before a player can stop that, too.
 LONG = ('solve', 'completable', 'list ')
 PATIENCE = 3.0
+
+#: A line that puts a number in; and the name under which it is kept whether marks go with it, and the word for that.
+PUTS = re.compile('move R([0-9]),([0-9]),([1-9])')
+MARKS, GO, STAY = 'marks', 'go', 'stay'
 
 
 class Front(Protocol):
@@ -43,6 +49,8 @@ class PresentGame:
         self._hinted: Optional[Reply] = None
         #: How many hints the present game had.
         self.hints = 0
+        #: Positions after numbers whose marks went with them, and those before these numbers.
+        self._joined: Dict[int, int] = {}
 
     @property
     def has_game(self) -> bool:
@@ -67,16 +75,45 @@ class PresentGame:
     def play(self, line: str) -> Optional[Reply]:
         """Has the program do something, and keeps the game that comes of it. Nothing where that was refused."""
         self.message = ''
+        before, steps = self.board.session.position, self._steps(line)
         reply = self.ask(line)
         self._hinted = None
-        if reply is not None and not self.message:
+        if reply is None or (self.message and not reply.is_lost):
+            return None
+        if not reply.is_lost:
+            self._repeat(line, steps - 1)
+        self._look()
+        if line not in ('undo', 'redo') and self.board.session.position > before:
+            self._joined = {last: first for last, first in self._joined.items() if last <= before}
+            self._take_marks(line, before)
+        self._keep()
+        return None if reply.is_lost else reply
+
+    def toggle_marks(self) -> None:
+        """From here on marks go with a number, or no longer."""
+        word = STAY if self.state.chosen(MARKS) == GO else GO
+        self.state.choose(MARKS, word)
+        self.message = texts.MARKS_GO if word == GO else texts.MARKS_STAY
+
+    def _take_marks(self, line: str, before: int) -> None:
+        """Where a number was put in, its marks go in the same row and column if the player wants that: as moves, which are undone with it."""
+        match = PUTS.fullmatch(line)
+        if match is None or self.state.chosen(MARKS) != GO:
+            return
+        x, y, number = map(int, match.groups())
+        places = [place for place in (*self.board.row(y), *self.board.column(x)) if number in self.board.marks.get(place, ()) and place != (x, y)]
+        if places and all([self.ask(f'move P{x},{y},{number}') for x, y in places]):
             self._look()
-            self._keep()
-            return reply
-        if reply is not None and reply.is_lost:
-            self._look()
-            self._keep()
-        return None
+            self._joined[self.board.session.position] = before
+
+    def _steps(self, line: str) -> int:
+        """How many states back or forth this line goes: to before a number whose marks went with it, or to after them."""
+        position = self.board.session.position
+        if line == 'undo':
+            return position - self._joined.get(position, position - 1)
+        if line == 'redo':
+            return next((last - first for last, first in self._joined.items() if first == position), 1)
+        return 1
 
     def ask(self, line: str) -> Optional[Reply]:
         """The program's reply, with a sentence where it is a refusal; nothing where the program had to be started again."""
@@ -108,7 +145,8 @@ class PresentGame:
         if reply is None or reply.hint is None:
             return None
         if reply.hint.cell is None:
-            self.message = 'The board is full.' if self.board.is_full and reply.hint.kind == 'nothing' else texts.HINTS[reply.hint.kind]
+            is_full = self.board.is_full and reply.hint.kind == 'nothing'
+            self.message = (texts.SOLVED if self.board.is_solved else 'The board is full.') if is_full else texts.HINTS[reply.hint.kind]
             return None
         self._hinted = reply
         self.hints += 1
@@ -121,11 +159,11 @@ class PresentGame:
         reply = self.ask('completable')
         if reply is None or not reply.completable:
             return
-        self.message = texts.COMPLETABLE[reply.completable]
+        self.message = texts.SOLVED if self.board.is_solved else texts.COMPLETABLE[reply.completable]
         if reply.completable == 'none':
             moves = self._undone_until_completable()
             if moves:
-                self._repeat('redo', moves)
+                self._redo_all()
                 self.message = texts.since(moves, self.ways)
 
     def back(self) -> None:
@@ -147,22 +185,33 @@ class PresentGame:
 
     def _undone_until_completable(self) -> Optional[int]:
         """How many moves were undone; 0 where the numbers never could be completed, and nothing where that wasn't told: then the board is as it was."""
-        for moves in range(1, self.board.session.position):
-            reply = self.ask('undo') and self.ask('completable')
+        position, moves = self.board.session.position, 0
+        while position > 1:
+            before = self._joined.get(position, position - 1)
+            reply = self._repeat('undo', position - before) and self.ask('completable')
             if reply is None or reply.completable is None:
-                # The program may have been started again, with the game as it was kept.
-                if reply is not None:
-                    self._repeat('redo', moves)
+                self._redo_all()
                 return None
+            position, moves = before, moves + 1
             if reply.completable != 'none':
                 return moves
-        self._repeat('redo', self.board.session.position - 1)
+        self._redo_all()
         return 0
 
-    def _repeat(self, line: str, times: int) -> None:
+    def _redo_all(self) -> None:
+        """Redoes what was undone since the board was looked at; nothing, where the program was started again meanwhile."""
+        reply = self.ask('status')
+        if reply and reply.session:
+            self._repeat('redo', self.board.session.position - reply.session.position)
+
+    def _repeat(self, line: str, times: int) -> Optional[Reply]:
+        """The last reply; nothing where the program had to be started again."""
+        reply: Optional[Reply] = None
         for _ in range(times):
-            if self.ask(line) is None:
-                return
+            reply = self.ask(line)
+            if reply is None:
+                break
+        return reply
 
     # --- files ---
 
@@ -171,6 +220,10 @@ class PresentGame:
         other = files.other_than_file(file)
         if other:
             self.message = f'{file} {other}: a game is saved to a file.'
+            return False
+        folder = os.path.dirname(file)
+        if folder and not os.path.isdir(folder):
+            self.message = f"There is no folder '{folder}'."
             return False
         try:
             complaint = save_to(self.path, self.game, self._saved, file, self.waiting(is_long=True))
@@ -196,6 +249,7 @@ class PresentGame:
             self._program.stop()
         self._program = program
         self._hinted = None
+        self._joined = {}
         if program.first.board is None:
             raise Gone(texts.LOST if program.first.is_lost else f"it doesn't tell its board: {program.first.refused}")
         self._board = program.first.board
@@ -221,7 +275,7 @@ class PresentGame:
             return
         self._saved = ''.join(f'{line}\n' for line in reply.lines).encode('latin-1')
         try:
-            self.state.keep(self._saved)
+            self.message = f'{self.message} {self.state.keep(self._saved)}'.strip()
             self.trouble = ''
         except NotKept as reason:
             self.trouble = str(reason)

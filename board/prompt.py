@@ -8,6 +8,7 @@ import signal
 import termios
 from typing import Optional
 
+from board.file_names import names_after
 from board.printable import printable
 
 try:
@@ -16,6 +17,9 @@ except ImportError:
     HAS_READLINE = False
 else:
     HAS_READLINE = True
+
+#: Commands after which comes the name of a file.
+FILE_COMMANDS = ('load', 'save')
 
 #: No key interrupts.
 NO_KEY = b'\0'
@@ -35,7 +39,9 @@ class Prompt:
             signal.signal(number, self._ended)
         if HAS_READLINE:
             readline.parse_and_bind('"\\C-c": kill-whole-line')
-            readline.parse_and_bind('tab: self-insert')
+            readline.parse_and_bind('tab: complete')
+            readline.set_completer(self._completion)
+            readline.set_completer_delims(' ')
 
     def read(self, text: str) -> Optional[str]:
         """A line; nothing at the end of the input."""
@@ -62,6 +68,14 @@ class Prompt:
         """The terminal is as it was at first."""
         with contextlib.suppress(termios.error):
             termios.tcsetattr(0, termios.TCSADRAIN, self._terminal)
+
+    def _completion(self, _: str, at: int) -> Optional[str]:
+        """What may come, by number, in place of the last word of a file's name that is being typed."""
+        line = readline.get_line_buffer()[: readline.get_endidx()]
+        command, blank, name = line.partition(' ')
+        names = names_after(name) if blank and command.lower() in FILE_COMMANDS else []
+        typed = readline.get_begidx() - len(command) - 1
+        return names[at][typed:] if at < len(names) else None
 
     def _without_interrupt(self) -> None:
         mode = termios.tcgetattr(0)

@@ -195,6 +195,10 @@ class Screen:
                 raise SystemExit(128 + signal.SIGHUP)
         return self._keys.popleft()
 
+    def give_back(self, key: Key) -> None:
+        """It is the next one again."""
+        self._keys.appendleft(key)
+
     def has_key(self, is_taken: bool) -> bool:
         """Whether a key was pressed; it is taken away, or left for `key`. Raises as that."""
         self._fill(0)
@@ -235,13 +239,14 @@ class Screen:
         return Key('mouse', line, column, 3 if buttons & curses.BUTTON3_PRESSED else 1)
 
     def _begin_colours(self) -> None:
-        try:
-            curses.start_color()
+        is_coloured = False
+        # Without colours the terminal is sent none, not even its own.
+        if not os.environ.get('NO_COLOR'):
             with contextlib.suppress(curses.error):
-                curses.use_default_colors()
-            is_coloured = curses.has_colors() and not os.environ.get('NO_COLOR')
-        except curses.error:
-            is_coloured = False
+                curses.start_color()
+                with contextlib.suppress(curses.error):
+                    curses.use_default_colors()
+                is_coloured = curses.has_colors()
         if not is_coloured:
             self._attributes[Style.MARKS] = curses.A_UNDERLINE
             return

@@ -18,11 +18,11 @@ def at(place: Place) -> str:
 
 
 def row(board: Board, y: int) -> str:
-    return _line(board, f'row {y}', [(x, y) for x in range(board.size)], [(-1, y, 'left'), (board.size, y, 'right')])
+    return _line(board, f'row {y}', board.row(y), [(-1, y, 'left'), (board.size, y, 'right')])
 
 
 def column(board: Board, x: int) -> str:
-    return _line(board, f'column {x}', [(x, y) for y in range(board.size)], [(x, -1, 'upper'), (x, board.size, 'lower')])
+    return _line(board, f'column {x}', board.column(x), [(x, -1, 'upper'), (x, board.size, 'lower')])
 
 
 def square(board: Board, place: Place) -> str:
@@ -69,7 +69,9 @@ def change(before: Board, after: Board) -> str:
     marks = [place for place in after.squares if before.marks.get(place) != after.marks.get(place)]
     done = [place for place, clue in after.clues.items() if clue.is_done != before.clues[place].is_done]
     if len(numbers) == 1:
-        return f'{_content(after, numbers[0])}; {_lacks(after, "row", numbers[0])}'
+        others = len([place for place in marks if place not in numbers])
+        went = f'; {others} other square{"s have" if others > 1 else " has"} other pencil marks' if others else ''
+        return f'{_content(after, numbers[0])}; {_lacks(after, "row", numbers[0])}{went}'
     if numbers:
         return f'{len(numbers)} squares have other numbers'
     if len(marks) == 1:
@@ -91,8 +93,7 @@ def _content(board: Board, place: Place) -> str:
 def _lacks(board: Board, kind: str, place: Place) -> str:
     """The numbers that are nowhere in the row or the column of a square."""
     x, y = place
-    there = [(other, y) if kind == 'row' else (x, other) for other in range(board.size)]
-    numbers = [board.numbers.get(square) for square in there]
+    numbers = [board.numbers.get(square) for square in (board.row(y) if kind == 'row' else board.column(x))]
     lacking = [number for number in range(1, board.size + 1) if number not in numbers]
     return f'{kind} {y if kind == "row" else x} lacks {listed(lacking) or "nothing"}'
 

@@ -10,12 +10,13 @@ import contextlib
 import os
 import re
 import time
-from typing import Container, Iterable, List, Mapping, NamedTuple, Optional, Set
+from enum import Enum
+from typing import Container, Dict, Iterable, List, Mapping, NamedTuple, Optional, Set
 
-from board import files, hints
+from board import files, hints, saves
 
-#: How many games that were put away are kept.
-OLD_GAMES = 10
+#: How many games that were put away are kept; and how many saves in a folder are listed, of so many files that are looked at.
+OLD_GAMES, LISTED, LOOKED_AT = 10, 20, 500
 
 #: What the files of games are called that were put away: when, the number of several at a time, and the game.
 OLD_NAME = re.compile(r'(\d{8}-\d{6})-(\d{3,})-([a-z]+)\.sav')
@@ -24,19 +25,33 @@ OLD_NAME = re.compile(r'(\d{8}-\d{6})-(\d{3,})-([a-z]+)\.sav')
 WINDOWS = 20
 
 NO_FOLDER = 'neither XDG_STATE_HOME nor HOME names a folder'
+OTHER_WINDOW = 'Another window has the last game; this one is kept in {name}.'
 
 
 class NotKept(Exception):
     """What should be kept can't be. The text says why."""
 
 
-class OldGame(NamedTuple):
-    """A game that was put away."""
+class Home(Enum):
+    """Where a save lies that can be gone on with."""
+
+    PRESENT = 'where games are kept that no window has'
+    OLD = 'among the last ten'
+    FOLDER = 'in a folder of the player\'s'
+
+
+class SavedGame(NamedTuple):
+    """A game that can be gone on with."""
 
     path: str
-    game: str
+    home: Home
     #: Seconds, as the system counts them.
     when: float
+
+    @property
+    def game(self) -> str:
+        """Its game, by the name that the board gave the file; `save` of a file of the player's."""
+        return 'save' if self.home is Home.FOLDER else game_of(self.path)
 
 
 def folder_of(env: Mapping[str, str]) -> Optional[str]:
@@ -47,12 +62,21 @@ def folder_of(env: Mapping[str, str]) -> Optional[str]:
     return os.path.join(home, '.local', 'state', 'puzzles') if os.path.isabs(home) else None
 
 
+def game_of(path: str) -> str:
+    """The game of a file in the folder, by its name."""
+    return os.path.basename(path)[:-4].rstrip('-0123456789').rpartition('-')[2]
+
+
 class Slot:
     """The file of a present game. While this is there no other window takes it."""
 
     def __init__(self, path: str, lock: int) -> None:
         self.path = path
         self._lock = lock
+
+    @property
+    def game(self) -> str:
+        return game_of(self.path)
 
     def release(self) -> None:
         with contextlib.suppress(OSError):
@@ -71,6 +95,8 @@ class Shelf(NamedTuple):
     #: A sentence for each file that was passed over, since it can't be read; and why no file can be had, where none can.
     told: str = ''
     why: str = ''
+    #: Why nothing can be locked there.
+    fault: str = ''
 
     def release(self) -> None:
         if self.slot:
@@ -84,6 +110,7 @@ class State:
         self._folder = folder_of(env)
         #: Where the present game is kept.
         self.shelf = Shelf(None, None)
+        self._chosen: Dict[str, str] = {}
 
     # --- the present game ---
 
@@ -93,15 +120,16 @@ class State:
             return Shelf(None, None, why=NO_FOLDER)
         reason = self._make_folder()
         passed: List[str] = []
+        is_taken = False
         for path in [path for path in self._in_order(game) if path not in but]:
-            try:
-                shelf = _shelf(path)
-            except OSError as error:
-                reason = reason or files.why(error)
-                shelf = Shelf(None, None, why=f"can't be locked ({files.why(error)})")
+            shelf, is_there = _shelf(path), os.path.lexists(path)
             if shelf.slot:
-                return shelf._replace(told=_told(passed, f', and this game is kept in {os.path.basename(path)}'))
-            if shelf.why and os.path.lexists(path):
+                name = os.path.basename(path)
+                other = OTHER_WINDOW.format(name=name) if is_taken else ''
+                return shelf._replace(told=f'{_told(passed, name)} {other}'.strip())
+            reason = reason or shelf.fault
+            is_taken = is_taken or (is_there and not shelf.why)
+            if shelf.why and is_there:
                 passed.append(f'{path} {shelf.why}')
         why = f'nothing can be written to {self._folder} ({reason})' if reason else 'no file is left for one more game of this kind'
         return Shelf(None, None, told=_told(passed), why=why)
@@ -117,11 +145,21 @@ class State:
         found = {game: max(map(_changed, self._paths(game)), default=0.0) for game in games}
         return max(found, key=lambda game: found[game]) if any(found.values()) else None
 
-    def keep(self, content: bytes) -> None:
-        """Keeps the present game."""
-        if self.shelf.slot is None:
+    def keep(self, content: bytes) -> str:
+        """Keeps the present game; beside its file where something else has taken its place, and a sentence says so."""
+        slot, told = self.shelf.slot, ''
+        if slot is None:
             raise NotKept(self.shelf.why)
-        _keep(self.shelf.slot.path, content)
+        other = files.other_than_file(slot.path)
+        if other:
+            free = next((shelf for shelf in map(_shelf, self._free(slot.game)) if shelf.slot), None)
+            if free is None or free.slot is None:
+                raise NotKept(f'{slot.path} {other}')
+            told = _told([f'{slot.path} {other}'], os.path.basename(free.slot.path))
+            self.take(free)
+            slot = free.slot
+        _keep(slot.path, content)
+        return told
 
     def keep_hints(self, content: bytes) -> None:
         """Keeps how many hints the present game had, which is no harm where that can't be done."""
@@ -169,20 +207,57 @@ class State:
         for old in [old for old in self.old_games() if not files.read(old.path).is_closed][OLD_GAMES:]:
             self.forget(old)
 
-    def old_games(self) -> List[OldGame]:
+    def old_games(self) -> List[SavedGame]:
         """The games that were put away, the last one first."""
         names = sorted(filter(OLD_NAME.fullmatch, files.names_in(self._old_folder())[0]), reverse=True) if self._folder else []
-        paths = [os.path.join(self._old_folder(), name) for name in names]
-        return [OldGame(path, path[:-4].rpartition('-')[2], _changed(path)) for path in paths]
+        return [_saved(os.path.join(self._old_folder(), name), Home.OLD) for name in names]
+
+    def left_games(self, games: Iterable[str]) -> List[SavedGame]:
+        """The present games that no window has, the last one first."""
+        found: List[SavedGame] = []
+        for path in (path for game in games for path in self._there(game)):
+            shelf = _shelf(path)
+            if shelf.kept is not None:
+                found.append(_saved(path, Home.PRESENT))
+            shelf.release()
+        return sorted(found, key=lambda saved: saved.when, reverse=True)
+
+    def shelf_of(self, saved: SavedGame) -> Shelf:
+        """Where a present game is kept that no window has; without a slot where one has it now."""
+        return _shelf(saved.path)
 
     def old_trouble(self) -> str:
         """A sentence where the games that were put away can't be listed."""
         why = files.names_in(self._old_folder())[1] if self._folder else ''
         return f'{self._old_folder()} {why}.' if why else ''
 
-    def forget(self, old: OldGame) -> None:
+    def forget(self, old: SavedGame) -> None:
         """It is a present game again, or one too many."""
         _unlink(old.path)
+
+    # --- what was chosen last ---
+
+    def chosen(self, name: str) -> str:
+        """What the player chose under this name; nothing where nothing was, or it can't be read."""
+        return self._chosen.get(name, self._kept_choices().get(name, ''))
+
+    def choose(self, name: str, value: str) -> None:
+        """Chooses that; it is kept where it can be."""
+        self._chosen[name] = value
+        if self._folder is None or files.read(self._choices_path()).is_closed:
+            return
+        choices = {**self._kept_choices(), **self._chosen}
+        self._make_folder()
+        with contextlib.suppress(NotKept):
+            _keep(self._choices_path(), ''.join(f'{name} {value}\n' for name, value in sorted(choices.items())).encode('latin-1'))
+
+    def _kept_choices(self) -> Dict[str, str]:
+        content = files.read(self._choices_path()).content if self._folder else b''
+        pairs = (line.partition(' ') for line in content.decode('latin-1').splitlines())
+        return {name: value for name, _, value in pairs}
+
+    def _choices_path(self) -> str:
+        return os.path.join(self._folder or '', 'choices')
 
     # --- stored puzzles ---
 
@@ -195,6 +270,7 @@ class State:
         if trouble:
             raise NotKept(trouble)
         if self._folder is not None:
+            self._make_folder()
             _keep(self._marks_path(game), ''.join(f'{id}\n' for id in sorted(ids)).encode('latin-1'))
 
     def played_trouble(self, game: str) -> str:
@@ -221,9 +297,13 @@ class State:
 
     def _in_order(self, game: str) -> List[str]:
         """The files of present games: those that are there, the one that was changed last first, and then the others."""
-        paths = self._paths(game)
-        there = [path for path in paths if os.path.lexists(path)]
-        return sorted(there, key=_changed, reverse=True) + [path for path in paths if path not in there]
+        return self._there(game) + self._free(game)
+
+    def _there(self, game: str) -> List[str]:
+        return sorted(filter(os.path.lexists, self._paths(game)), key=_changed, reverse=True)
+
+    def _free(self, game: str) -> List[str]:
+        return [path for path in self._paths(game) if not os.path.lexists(path)]
 
     def _paths(self, game: str) -> List[str]:
         if self._folder is None:
@@ -232,8 +312,11 @@ class State:
 
 
 def _shelf(path: str) -> Shelf:
-    """That file, locked. Or why its game can't be read, or nothing where another window has it. Raises `OSError`."""
-    lock = files.lock(path[:-4] + '.lock')
+    """That file, locked. Or why it can't be had, or nothing where another window has it."""
+    try:
+        lock = files.lock(path[:-4] + '.lock')
+    except OSError as error:
+        return Shelf(None, None, why=f"can't be locked ({files.why(error)})", fault=files.why(error))
     if lock is None:
         return Shelf(None, None)
     found = files.read(path)
@@ -243,8 +326,9 @@ def _shelf(path: str) -> Shelf:
     return Shelf(Slot(path, lock), found.content if found.kind is files.Kind.READ else None, files.read(hints.file_of(path)).content)
 
 
-def _told(passed: List[str], then: str = '') -> str:
-    """The sentence on files that were passed over."""
+def _told(passed: List[str], name: str = '') -> str:
+    """The sentence on files that were passed over, and the name of the one that was had instead."""
+    then = f', and this game is kept in {name}' if name else ''
     return f"{'; '.join(passed)}: what can't be read stays as it is{then}." if passed else ''
 
 
@@ -253,6 +337,17 @@ def _unlink(path: str) -> None:
     for name in (path, hints.file_of(path)):
         with contextlib.suppress(OSError):
             os.unlink(name)
+
+
+def saves_in(folder: str) -> List[SavedGame]:
+    """The saves in a folder of the player's, the last one first."""
+    paths = [os.path.join(folder, name) for name in sorted(files.names_in(folder or '.')[0])[:LOOKED_AT]]
+    found = [_saved(path, Home.FOLDER) for path in paths if files.begins(path, saves.BEGINS)]
+    return sorted(found, key=lambda saved: saved.when, reverse=True)[:LISTED]
+
+
+def _saved(path: str, home: Home) -> SavedGame:
+    return SavedGame(path, home, _changed(path))
 
 
 def _keep(path: str, content: bytes) -> None:

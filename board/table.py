@@ -3,35 +3,35 @@
 from __future__ import annotations
 
 import os
+import time
 from functools import partial
-from typing import Callable, Optional, Tuple
+from typing import Callable, List, Optional, Tuple
 
-from board import files, games, hints, texts
+from board import choices, files, games, hints, saves, texts
 from board.board import GAMES
+from board.choices import Choice
 from board.present import PresentGame
 from board.program import Gone, Program, Refused, Stopped, started_with
-from board.state import NotKept, OldGame, Shelf
-
-#: The record of a save that counts its states; and how a save ends in which nothing was done.
-STATES, UNTOUCHED = b'NSTATES :', b'\nNSTATES :1:1\nSTATEPOS:1:1\n'
+from board.state import Home, NotKept, SavedGame, Shelf, saves_in
 
 
 class Table(PresentGame):
     """The present game, and those that follow it."""
 
-    def start(self, game: str, what: str) -> str:
-        """Goes on with a game, or begins that of an ID or a file. Gives the sentence where that is refused."""
+    def start(self, game: str, what: str) -> bool:
+        """Goes on with a game, or begins that of an ID or a file."""
         if not what:
             self.resume(game)
-            return ''
+            return True
         if is_there(what):
-            return '' if self.open(game, what) else self.message
-        if not may_be_id(what):
-            return f"There is no file '{what}', and no puzzle with that ID. {texts.of_id('NoDescription', game)}"
-        return '' if self.begin(game, what) else self.message
+            return self.open(game, what)
+        if may_be_id(what):
+            return self.begin(game, what)
+        self.message = f"There is no file '{what}', and no puzzle with that ID. {texts.of_id('NoDescription', game)}"
+        return False
 
     def resume(self, game: str) -> None:
-        """Goes on with the game that is kept; where there is none that can be read, with a small stored one."""
+        """Goes on with the game that is kept; where there is none that can be read, with a new one."""
         shelf, told = self.state.claim(game), ''
         try:
             if shelf.kept is not None:
@@ -51,17 +51,36 @@ class Table(PresentGame):
         """Begins the puzzle of an ID."""
         return self._begin(game, partial(Program, self.path, game, ['--id', id]), texts.of_id)
 
+    def begin_new(self, choice: Choice) -> str:
+        """Begins a new game, and remembers its size and kind. Gives its ID, by which it is played again; nothing where none has begun."""
+        told = ''
+        if choice.is_seeded and choice.size not in games.SEEDED_SIZES:
+            choice, told = choice._replace(kind=''), f'{choices.ONLY_SMALL}; this one is of the stored puzzles.'
+        self.message = ''
+        try:
+            id = choices.id_of(self.path, self.state, choice, self.waiting())
+        except Stopped:
+            self.message = texts.STOPPED
+            return ''
+        except Gone as gone:
+            self.message = f'The program says: {gone}.'
+            return ''
+        trouble = '' if choice.id or choice.is_seeded else self.state.played_trouble(choice.game)
+        if not self.begin(choice.game, id):
+            return ''
+        choices.remember(self.state, choice)
+        self.message = ' '.join(filter(None, [told, self.message, trouble]))
+        return id
+
     def open(self, game: str, file: str, of_hints: bytes = b'') -> bool:
         """Goes on with a saved game; where it is the other game's, with that. What is kept of its hints is told."""
         found = files.read(file)
-        if found.is_closed:
-            self.message = texts.of_save('TooLarge', game) if found.kind is files.Kind.TOO_LARGE else f'{file} {found.why}.'
+        if found.kind is not files.Kind.READ:
+            absent = f"There is no file '{file}'."
+            self.message = {files.Kind.TOO_LARGE: texts.of_save('TooLarge', game), files.Kind.ABSENT: absent}.get(found.kind, f'{file} {found.why}.')
             return False
         for word in [game, *(word for word in GAMES if word != game)]:
-            # Of a file that isn't there the program itself has a sentence.
-            is_absent = found.kind is files.Kind.ABSENT
-            start = partial(Program, self.path, word, ['--load', file]) if is_absent else partial(started_with, self.path, word, found.content)
-            if self._begin(word, start, texts.of_save, of_hints):
+            if self._begin(word, partial(started_with, self.path, word, found.content), texts.of_save, of_hints):
                 return True
             if self.message != texts.of_save('WrongGame', word):
                 return False
@@ -69,25 +88,57 @@ class Table(PresentGame):
         self.message = texts.of_foreign(found.content) or self.message
         return False
 
-    def open_old(self, old: OldGame) -> bool:
-        """Goes on with one of the last ten games."""
-        done = self.open(old.game, old.path, files.read(hints.file_of(old.path)).content)
+    def saved_games(self, folder: str) -> List[SavedGame]:
+        """What can be gone on with: present games that no window has, the last ten, and the saves in a folder."""
+        return [*self.state.left_games(GAMES), *self.state.old_games(), *saves_in(folder)]
+
+    def told_of(self, saved: SavedGame) -> str:
+        """A line on such a game."""
+        return f'{time.strftime("%d %b %H:%M", time.localtime(saved.when))}  {games.summary(self.path, saved, self.waiting())}'
+
+    def go_on_with(self, saved: SavedGame) -> bool:
+        """Goes on with one of these."""
+        if saved.home is Home.PRESENT:
+            return self._turn_to(saved)
+        if saved.home is Home.FOLDER:
+            return self.open(self.game, saved.path)
+        done = self.open(saved.game, saved.path, files.read(hints.file_of(saved.path)).content)
         if done and not self.trouble:
-            self.state.forget(old)
+            self.state.forget(saved)
         return done
 
-    def _begin(self, game: str, start: Callable[..., Program], sentence: Callable[[str, str], str], of_hints: bytes = b'') -> bool:
+    def _turn_to(self, saved: SavedGame) -> bool:
+        """The game before stays where it is kept, for the next time."""
+        if self.trouble and not self._put_away(self.game, self._saved, self._of_hints()):
+            return False
+        shelf = self.state.shelf_of(saved)
+        if shelf.kept is None:
+            self.message = f'{saved.path} {shelf.why or "is no longer there, or another window has it"}.'
+            shelf.release()
+            return False
+        program = self._started(partial(started_with, self.path, saved.game, shelf.kept), saved.game, texts.of_save)
+        if program is None:
+            shelf.release()
+            return False
+        self._take(program, shelf, shelf.hints)
+        return True
+
+    def _started(self, start: Callable[..., Program], game: str, sentence: Callable[[str, str], str]) -> Optional[Program]:
+        """The program with a game; nothing, and the sentence, where that comes to nothing."""
         self.message = ''
         try:
-            program = start(waiting=self.waiting())
+            return start(waiting=self.waiting())
         except Refused as refused:
             self.message = sentence(str(refused), game)
-            return False
         except Stopped:
             self.message = texts.STOPPED
-            return False
         except Gone as gone:
             self.message = f'The program says: {gone}.'
+        return None
+
+    def _begin(self, game: str, start: Callable[..., Program], sentence: Callable[[str, str], str], of_hints: bytes = b'') -> bool:
+        program = self._started(start, game, sentence)
+        if program is None:
             return False
         shelf = self._room_for(game)
         if shelf is None:
@@ -97,8 +148,8 @@ class Table(PresentGame):
         return True
 
     def _stored(self, game: str) -> Program:
-        """A small stored puzzle."""
-        id = games.take(self.state, game, 5, 'e') or '5!7'
+        """A new puzzle as the last one that was chosen; at first a small one."""
+        id = choices.id_of(self.path, self.state, choices.remembered(self.state, game) or Choice(game, 5, 'easy'), self.waiting())
         try:
             return Program(self.path, game, ['--id', id], waiting=self.waiting())
         except Refused as refused:
@@ -130,7 +181,7 @@ class Table(PresentGame):
 
     def _put_away(self, game: str, content: bytes, of_hints: bytes) -> bool:
         """False where that can't be done, and the game is to stay. A game in which nothing was done needn't be kept."""
-        if content.startswith(texts.SAVE_BEGINS) and content.count(STATES) == 1 and content.endswith(UNTOUCHED):
+        if saves.is_untouched(content):
             return True
         try:
             self.state.put_away(game, content, of_hints)

@@ -7,10 +7,7 @@ from typing import Dict, Mapping, NamedTuple
 
 from board.board import GAMES
 from board.games import GRADES
-
-#: How each save begins; and the record that names its game, up to the length of the name.
-SAVE_BEGINS = b'SAVEFILE:41:'
-GAME_RECORD = re.compile(rb'^GAME    :([0-9]{1,3}):', re.MULTILINE)
+from board.saves import game_in
 
 
 class Ways(NamedTuple):
@@ -111,8 +108,12 @@ COMPLETABLE = {
     'several': 'These numbers can still be completed, in several ways.',
 }
 
+SOLVED = 'The board is solved.'
 CAN_BE_COMPLETED = 'These numbers can still be completed: there is nothing to take back.'
 NEVER = "Not even the board at the start can be completed: there is nothing to go back to."
+
+MARKS_GO = 'From now on the marks of a number go when it is put into their row or column.'
+MARKS_STAY = 'From now on marks stay when a number is put in.'
 
 STOPPED = 'Stopped; nothing has changed.'
 LOST = 'There is no memory left: the program did that or refused it, and could not say which.'
@@ -152,8 +153,7 @@ def of_id(name: str, game: str) -> str:
 
 def of_foreign(content: bytes) -> str:
     """What there is to say of a save of a third game; nothing where it doesn't say of which."""
-    found = GAME_RECORD.search(content)
-    name = content[found.end() : found.end() + int(found[1])].decode('ascii', 'replace') if found else ''
+    name = game_in(content)
     return f'That is a save of {name}, which is not played here.' if name else ''
 
 

@@ -4,10 +4,11 @@ import sys
 from subprocess import PIPE, Popen
 
 program, game, id = sys.argv[1:]
-puzzles = Popen([program, game, '--id', id], stdin=PIPE, stdout=PIPE, bufsize=0)
+puzzles = Popen([program, game, '--id', id], stdin=PIPE, stdout=PIPE)
 
 def ask(line, key):
     puzzles.stdin.write(line.encode() + b'\n')
+    puzzles.stdin.flush()
     answer = json.loads(puzzles.stdout.readline() or sys.exit(1))
     return answer[key] if not (answer.get('lost') or answer['refused']) else sys.exit(str(answer))
 

@@ -42,7 +42,7 @@ def test_put_away(front: BoardFront, room: Room) -> None:
         window.look('o', ['Towers 3x3, 1 of 9', 'a file ..'])
         window.look('0', ['Towers 3x3', '1 of 9', 'move 1/1'])
         window.look('o', ['0 a file ..'])
-        window.press('xq')
+        window.press('qq')
         assert window.status() == 0, 'the status'
     assert room.read('state/puzzles/towers.sav') == save_text(1), 'it is the present one'
 
@@ -55,9 +55,9 @@ def test_seeded(front: BoardFront, room: Room) -> None:
         told = re.search(r'3!\d+', ' '.join(window.screen.text()))
         window.look('i', ['The ID of this puzzle', 'any key goes back'])
         first = window.screen.text()
-        window.press(f'xn<right>{"<right>" * 5}')
-        window.look('', ['[by an ID or a seed]'])
-        window.look(f'<enter>{told[0][2:] if told else ""}<enter>', ['Unequal 3x3   0 of'], ['A new game'])
+        window.look('xn', ['[seeded: no clue too many]'])
+        window.look('<right>', ['[by an ID or a seed]'])
+        window.look(f'<enter>{told[0][2:] if told else ""}<enter>', ['Unequal 3x3', '0 of'], ['A new game'])
         window.look('i', ['The ID of this puzzle', 'any key goes back'])
         assert window.screen.text() == first, 'the same puzzle'
 
@@ -75,12 +75,62 @@ def test_saved(front: BoardFront, room: Room) -> None:
         window.look('<right>3w<enter>', ['3 of 9', 'Saved in FOLDER/a game.sav'])
         assert room.read('a game.sav') == save_text(3), 'the save again'
         window.look('wFOLDER/notes.txt<enter>y', ['Saved in FOLDER/notes.txt'])
-        window.look('wFOLDER/nothing/game.sav<enter>', ['The program says'])
+        window.look('wFOLDER/nothing/game.sav<enter>', ["There is no folder 'FOLDER/nothing'."])
         window.press('q')
         window.status()
     with front.window([os.path.join(room.path, 'a game.sav')]) as window:
         window.look('', ['3 of 9', 'move 3/3'])
     assert [path for path in room.paths() if not path.startswith('state/')] == ['a game.sav', 'notes.txt'], 'what lies there'
+
+
+def test_listed(front: BoardFront, room: Room) -> None:
+    """The list has the other game's present play, the saves in the folder, and no key that goes on to the board."""
+    room.put('mine.sav', save_text(3))
+    room.put('other.sav', SAVE.replace(b'GAME    :6:Towers', b'GAME    :4:Keen'))
+    room.put('bad.sav', SAVE[:20])
+    for at, name in enumerate(('other.sav', 'bad.sav')):
+        os.utime(os.path.join(room.path, name), (1e9 - at, 1e9 - at))
+    room.put('notes.txt', b'not a save')
+    with front.window(['unequal', '3!7']) as window:
+        window.look('1', ['1 of 7'])
+        window.press('q')
+        assert window.status() == 0, 'the status'
+    with front.window(['towers', ID]) as window:
+        window.look('1', ['1 of 9'])
+        shows = ['Unequal 3x3, 1 of 7, not put away', '1 a file ..', 'mine.sav: Towers 3x3, 3 of 9', 'other.sav: Keen, not played here', "bad.sav: save, can't be read"]
+        window.look('o', shows, ['notes.txt'])
+        window.look('7m9x', shows)
+        window.look('q', ['Towers 3x3', '1 of 9', 'move 1/1'])
+        window.look('o0', ['Unequal 3x3', '1 of 7'])
+        window.look('o', ['0', 'Towers 3x3, 1 of 9, not put away', 'mine.sav'])
+        window.look('<down><down><enter>', ['Towers 3x3', '3 of 9'], ['Go on'])
+        window.look('<right>w', ['save as: mine.sav'])
+        window.press('<escape>q')
+        assert window.status() == 0, 'the status'
+
+
+def test_names(front: BoardFront, room: Room) -> None:
+    """Tab completes the name of a file, and `w` offers one that is free."""
+    os.mkdir(os.path.join(room.path, 'saves'))
+    for name in ('saves/one.sav', 'saves/one more.sav', 'towers-3.sav'):
+        room.put(name, SAVE)
+    with front.window(['towers', ID]) as window:
+        window.look('1', ['1 of 9'])
+        window.look('w', ['save as: towers-3-2.sav'])
+        window.look('<enter>', ['Saved in towers-3-2.sav'])
+        assert room.read('towers-3-2.sav') == save_text(1), 'the save'
+        window.look('o0sa<tab>', ['open the file: saves/'])
+        window.look('<tab>', ['one more.sav  one.sav', 'open the file: saves/one'])
+        window.look('.<tab><enter>', ['2 of 9'])
+        window.look('wsaves/<tab>', ['save as: saves/one'])
+        window.press('<escape>q')
+        assert window.status() == 0, 'the status'
+    with front.window(['--lines', 'towers', ID]) as window:
+        window.look('load sa<tab><tab>', ['load saves/one'])
+        window.look(' m<tab><enter>', ['load saves/one more.sav', 'towers 3/3>'])
+        window.look('x<tab><enter>', ['No such command'])
+        window.press('q<enter>')
+        assert window.status() == 0, 'the status of lines'
 
 
 def test_refused_saves(front: BoardFront, room: Room) -> None:
@@ -91,7 +141,7 @@ def test_refused_saves(front: BoardFront, room: Room) -> None:
             window.look('o0FOLDER/edited.sav<enter>', [sentence, '1 of 9'])
         room.put('edited.sav', b'\n' * 16_777_217)
         window.look('o0FOLDER/edited.sav<enter>', ['A save has 16,777,216 bytes at most.'])
-        window.look('o0FOLDER/no.sav<enter>', ['The program says'])
+        window.look('o0FOLDER/no.sav<enter>', ["There is no file 'FOLDER/no.sav'."])
         room.put('edited.sav', SAVE.replace(b'GAME    :6:Towers', b'GAME    :5:Chess'))
         window.look('o0FOLDER/edited.sav<enter>', ['That is a save of Chess, which is not played here.'])
 

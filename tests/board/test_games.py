@@ -2,13 +2,14 @@
 
 from __future__ import annotations
 
+import re
 from typing import List
 
 import pytest
 
 from board.games import stored
 from tests.board.front import BoardFront, BoardGame, solution, whole_game
-from tests.harness import by_name
+from tests.harness import Room, by_name
 from tests.harness.game import ID
 from tests.harness.terminal import Look
 
@@ -31,16 +32,16 @@ GAMES: List[BoardGame] = [
         ['towers', ID],
         [
             Look('', ['Towers 3x3', '0 of 9', 'move 0/0']),
-            Look('1', ['│   1   │', '1 of 9', 'move 1/1'], styles=[('1   │', {38}, {31})]),
-            Look('<right>p12', ['PENCIL', '│ 1 2   │', 'move 3/3']),
-            Look('1', ['│   2   │'], ['│ 1 2   │']),
-            Look('<enter>3', ['│   3   │', '2 of 9'], ['PENCIL']),
-            Look('u', ['│   2   │', 'move 4/5']),
-            Look('<ctrl-r>', ['│   3   │', 'move 5/5']),
-            Look('<ctrl-z><ctrl-z>', ['│ 1 2   │', 'move 3/5']),
-            Look('rr<delete>', ['1 of 9', 'move 6/6'], ['│   3   │']),
+            Look('1', ['│     1     │', '1 of 9', 'move 1/1'], styles=[('1     │', {38}, {31})]),
+            Look('<right>p12', ['PENCIL', '│ 1   2     │', 'move 3/3']),
+            Look('1', ['│     2     │'], ['│ 1   2     │']),
+            Look('<enter>3', ['│     3     │', '2 of 9'], ['PENCIL']),
+            Look('u', ['│     2     │', 'move 4/5']),
+            Look('<ctrl-r>', ['│     3     │', 'move 5/5']),
+            Look('<ctrl-z><ctrl-z>', ['│ 1   2     │', 'move 3/5']),
+            Look('rr<delete>', ['1 of 9', 'move 6/6'], ['│     3     │']),
             Look('0', ['There is nothing to clear.', 'move 6/6']),
-            Look('m', ['│ 1 2 3 │', 'move 7/7']),
+            Look('m', ['│ 1   2   3 │', 'move 7/7']),
             Look('<space>', ['move 8/8']),
             Look('R', ['Back at the start', '0 of 9']),
             Look('u', ['1 of 9', 'move 8/9']),
@@ -50,12 +51,36 @@ GAMES: List[BoardGame] = [
         'contradictions are red and have a sign',
         ['towers', GIVEN],
         [
-            Look('<right>1', ['│   1!  │   1!  │'], styles=[('1!', {1, 91}, set()), ('3   │', {1}, {91, 38})]),
+            Look('<right>1', ['│     1!    │     1!    │'], styles=[('1!', {1, 91}, set()), ('3     │', {1}, {91, 38})]),
             Look('u', hides=['1!']),
             Look('<left>2', ['was given with the puzzle']),
             Look('S', ['Fill in the solution? u takes it back. y/N']),
             Look('x', ['move 0/1'], ['y/N']),
             Look('Sy', ['Solved!', 'solved with help']),
+        ],
+    ),
+    BoardGame(
+        'marks that go with a number',
+        ['towers', ID],
+        [
+            Look('m1', ['│ 1   2   3 │ 1   2   3 │', 'move 2/2']),
+            Look('uM', ['the marks of a number go when it is put into their row or column', 'move 1/2']),
+            Look('1', ['│           │     2   3 │     2   3 │', 'move 6/6', '3  │     1     │']),
+            Look('u', ['│ 1   2   3 │ 1   2   3 │ 1   2   3 │', 'move 1/6']),
+            Look('r', ['│           │     2   3 │     2   3 │', 'move 6/6']),
+            Look('<right>2', ['│     1     │     2     │', 'move 10/10']),
+            Look('uu', ['move 1/10']),
+            Look('rr', ['move 10/10']),
+            Look('b', ['there is nothing to take back']),
+            # A number and the marks that went with it are one move to a player.
+            Look('<down><down>3', ['3 of 9', 'move 14/14']),
+            Look('c', ["These numbers can't be completed since the last move: b takes it back.", 'move 14/14']),
+            Look('b', ['One move back', 'move 10/14']),
+            Look('r', ['move 14/14']),
+            Look('u<up><up>', ['move 10/14']),
+            Look('M', ['From now on marks stay']),
+            Look('<right>3', ['│     1     │     2     │     3     │', 'move 11/11']),
+            Look('u', ['move 10/11']),
         ],
     ),
     BoardGame(
@@ -75,9 +100,9 @@ GAMES: List[BoardGame] = [
         'signs',
         ['unequal', '3:0,0L,0L,0U,0,0,0U,0,0,'],
         [
-            Look('', ['├───^───┼']),
-            Look('3', ['├───^!──┼']),
-            Look('u<right><right>2<left>2', ['2!  <!  2!'], styles=[('<!', {1, 91}, set())]),
+            Look('', ['├─────^─────┼']),
+            Look('3', ['├─────^!────┼']),
+            Look('u<right><right>2<left>2', ['2!    <!    2!'], styles=[('<!', {1, 91}, set())]),
             Look('d', ['marks a clue at the edge']),
         ],
     ),
@@ -89,6 +114,8 @@ GAMES: List[BoardGame] = [
             Look('2', ['Solved!', 'solved']),
             Look('3', ['was solved', 'Full, but not right yet'], ['Solved!']),
             Look('u', ['Solved!']),
+            Look('h', ['The board is solved.']),
+            Look('c', ['The board is solved.']),
         ],
     ),
     BoardGame(
@@ -119,6 +146,13 @@ GAMES: List[BoardGame] = [
             Look('x:sing<enter>', ['No such command: ? shows the keys.']),
             Look(':<escape>', ['move 0/0']),
             Look('x', ['That key does nothing']),
+            # A key that closes a page does its work on the board, unless it is one to close pages with.
+            Look('?', ['any key goes back']),
+            Look('n', ['A new game']),
+            Look('q?q', ['move 0/0']),
+            Look('??', ['move 0/0']),
+            Look('?<right>1', ['move 1/1']),
+            Look('?u', ['move 0/1']),
         ],
     ),
     BoardGame('Ctrl-C leaves', ['towers', ID], [Look('1', ['1 of 9'])], last='<ctrl-c>'),
@@ -127,14 +161,14 @@ GAMES: List[BoardGame] = [
     BoardGame(
         'no colours',
         ['towers', GIVEN],
-        [Look('<right>1', ['|   1!  |   1!  |', '+-------+'], ['│'], styles=[('1!', {1}, {31, 91})])],
+        [Look('<right>1', ['|     1!    |     1!    |', '+-----------+'], ['│'], styles=[('1!', {1}, {31, 91})])],
         term='vt100',
         locale='C',
     ),
     BoardGame(
         'eight colours',
         ['towers', GIVEN],
-        [Look('<right>1', ['│   1!  │   1!  │'], styles=[('1!', {1, 31}, {91})])],
+        [Look('<right>1', ['│     1!    │     1!    │'], styles=[('1!', {1, 31}, {91})])],
         term='xterm',
     ),
     BoardGame('a small window', ['towers', '5!7'], [Look('', ['Towers 5x5   0 of 22', '4  │     │'])], size=(20, 40)),
@@ -190,6 +224,7 @@ MORE = [
     BoardGame('refusals of Unequal', ['unequal', '3!7'], [Look(f':{line}<enter>', [sentence]) for line, sentence in UNEQUAL_REFUSALS]),
     BoardGame('no solution', ['towers', '3:3///3////////'], [Look('Sy', ['No solution exists for this puzzle'])]),
     BoardGame('several solutions', ['towers', '3:3///////////'], [Look('Sy', ['Multiple solutions exist for this puzzle'])]),
+    BoardGame('two lines of a message', ['towers', NINE['towers']], [Look('h', ['Here only one number is left', 'h again tells it.', '? keys'])]),
     BoardGame('a filled square', ['towers', ID], [Look('1p2', ['There is a number: 0 clears it, then set pencil marks.'])]),
 ]
 
@@ -197,6 +232,42 @@ MORE = [
 @pytest.mark.parametrize('game', [*GAMES, *MORE], ids=by_name)
 def test_game(front: BoardFront, game: BoardGame) -> None:
     front.play(game)
+
+
+def test_kept_choice(front: BoardFront, room: Room) -> None:
+    """That marks go is kept, and holds in lines, too; what is saved can be opened anywhere."""
+    with front.window(['towers', ID]) as window:
+        window.look('M', ['From now on'])
+        window.press('q')
+        assert window.status() == 0, 'the status'
+    with front.window(['--lines']) as window:
+        window.look('m<enter>', ['9 squares have other pencil marks'])
+        window.look('0 0 1<enter>', ['row 0, column 0 is 1; row 0 lacks 2 and 3; 4 other squares have other pencil marks'])
+        window.look('0 1<enter>', ['row 1, column 0 is empty, marked 2 and 3'])
+        window.look('undo<enter>', ['towers 2/7>'])
+        window.look('tidy<enter>', ['From now on marks stay'])
+        window.look('redo<enter>', ['towers 7/7>'])
+        window.press('q<enter>')
+        assert window.status() == 0, 'the status'
+    moves = [b'M', b'R0,0,1', b'P1,0,1', b'P2,0,1', b'P0,1,1', b'P0,2,1']
+    assert re.findall(rb'^MOVE    :.:(.*)$', room.read('state/puzzles/towers.sav') or b'', re.MULTILINE) == moves
+
+
+def test_no_color(front: BoardFront) -> None:
+    """With NO_COLOR the terminal is sent no colour."""
+    with front.window(['towers', GIVEN], env={**front.env(), 'NO_COLOR': '1'}) as window:
+        window.look('<right>1', ['1!'], styles=[('1!', {1}, {31, 91, 38})])
+        window.look('<right><down>p1', ['PENCIL'])
+        assert not re.search(rb'\x1b\[[0-9;]*\b[349][0-9]\b[0-9;]*m', window.came), 'a colour'
+
+
+def test_question(front: BoardFront) -> None:
+    """It stands right below a board that is small in its window."""
+    with front.window(['towers', ID], (60, 200)) as window:
+        window.look('S', ['y/N'])
+        assert window.screen.text()[27] == ' Fill in the solution? u takes it back. y/N'
+        window.look('x:', hides=['y/N'])
+        assert window.screen.text()[27] == ' :'
 
 
 @pytest.mark.parametrize(('game', 'id', 'most'), WHOLE)

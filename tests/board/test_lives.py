@@ -28,19 +28,19 @@ ENDS: List[Tuple[str, Callable[[Terminal], None], int]] = [
 
 #: Sizes of a window, and what stands there then.
 SIZES = [
-    ((43, 132), '│   1   │'),
+    ((43, 132), '│       1       │'),
     ((17, 40), '│   1   │'),
     ((10, 30), 'needs a window of'),
-    ((24, 80), '│   1   │'),
+    ((24, 80), '│     1     │'),
     ((12, 36), '│   1   │'),
 ]
 
 #: Line and column of a click, the button, keys that are pressed then, and what is seen.
 CLICKS = [
-    (9, 16, 0, '2', '│   2   │'),
-    (2, 8, 0, 'd', '3·'),
-    (2, 8, 0, '<down>', '        3\n'.strip()),
-    (13, 10, 2, '1', 'PENCIL'),
+    (10, 21, 0, '2', '│     2     │'),
+    (0, 9, 0, 'd', '3·'),
+    (0, 9, 0, '<down>', '        3\n'.strip()),
+    (16, 9, 2, '1', 'PENCIL'),
 ]
 
 #: A shell with jobs: it says when the front has stopped, and how the terminal is then.
@@ -95,8 +95,8 @@ def test_resized(front: BoardFront, room: Room) -> None:
         window.resize((10, 30))
         window.press('n')
         window.resize((24, 80))
-        window.look('', ['A new game', 'any other key goes back'])
-        window.look('x', ['2 of 9'])
+        window.look('', ['A new game', 'Escape or q goes back'])
+        window.look('m4q', ['2 of 9', 'move 2/2'])
 
 
 def test_stopped(front: BoardFront, room: Room) -> None:
@@ -138,7 +138,7 @@ def test_damaged(front: BoardFront, room: Room) -> None:
     with front.window(['towers'], (30, 100)) as window:
         window.look('', ["can't be read: That save is damaged (Missing)", 'Towers 5x5'])
         window.look('o', ["0 ", "towers, can't be read", 'a file ..'])
-        window.press('xq')
+        window.press('qq')
         window.status()
     old = [path for path in room.paths() if path.startswith('state/puzzles/old/')]
     assert [room.read(path) for path in old] == [save_text(2)[:150]], 'it is put away'
@@ -148,12 +148,29 @@ def test_two_windows(front: BoardFront, room: Room) -> None:
     with front.window(['towers', ID]) as first:
         first.look('1', ['1 of 9'])
         with front.window(['towers', ID]) as second:
-            second.look('1<right>2', ['2 of 9'])
+            second.look('', ['Another window has the last game; this one is kept in towers-2.sav.'])
+            second.look('1<right>2', ['2 of 9'], ['Another window'])
             second.press('q')
             second.status()
         first.press('q')
         first.status()
     assert [room.read(KEPT), room.read('state/puzzles/towers-2.sav')] == [save_text(1), save_text(2)], 'both games'
+
+
+def test_place_taken(front: BoardFront, room: Room) -> None:
+    """A folder or a pipe that takes the place of the kept file while one plays stays, and the game is kept beside it."""
+    with front.window(['towers', ID]) as window:
+        window.look('1', ['1 of 9'])
+        for at, make in enumerate((os.mkdir, os.mkfifo), 2):
+            kept = KEPT if at == 2 else f'state/puzzles/towers-{at - 1}.sav'
+            os.remove(os.path.join(room.path, kept))
+            make(os.path.join(room.path, kept))
+            window.look(f'<right>{at}', [f"what can't be read stays as it is, and this game is kept in towers-{at}.sav.", f'{at} of 9'])
+            assert room.read(f'state/puzzles/towers-{at}.sav') == save_text(at), 'what is kept'
+        window.press('q')
+        assert window.status() == 0, 'the status'
+    with front.window([]) as window:
+        window.look('', ['3 of 9'])
 
 
 def test_full_disk(front: BoardFront, room: Room) -> None:
@@ -183,7 +200,7 @@ def test_full_disk(front: BoardFront, room: Room) -> None:
 def test_mouse(front: BoardFront, room: Room) -> None:
     """A click goes to a square or a clue; on the clue of the cursor it sets the done mark; the right button takes pencil marks."""
     with front.window(['towers', ID]) as window:
-        window.look('', ['move 0/0', '│       │'])
+        window.look('', ['move 0/0', '│           │'])
         for line, column, button, keys, text in CLICKS:
             window.click(line, column, button)
             window.look(keys, [text])
@@ -195,11 +212,11 @@ def test_unknown_keys(front: BoardFront, room: Room) -> None:
         window.look('', ['move 0/0'])
         window.send('\x1b[1;5C')
         window.look('', ['That key does nothing', 'move 0/0'])
-        window.look('3', ['1 of 9', 'move 1/1', '|   3   |'])
+        window.look('3', ['1 of 9', 'move 1/1', '|     3     |'])
         window.send('\x1b[3~')
         window.look('', ['0 of 9', 'move 2/2'])
         window.send('\x1b[C')
-        window.look('2', ['|   2   |'])
+        window.look('2', ['|     2     |'])
         window.send('\x1b[15~')
         window.look('', ['That key does nothing', 'move 3/3'])
 
@@ -245,6 +262,15 @@ def test_words(front: BoardFront, room: Room) -> None:
         (['chess'], 2, b'usage: '),
         (['5!7'], 2, b"towers '5!7'?"),
         (['towers', ID, 'more'], 2, b'usage: '),
+        (['towers', '6', 'more'], 2, b'usage: '),
+        (['--ids', '--lines'], 2, b'usage: '),
+        (['--ids', ID], 2, b'usage: '),
+        (['--ids', 'towers', '6', 'easy', '0'], 2, b'usage: '),
+        (['--ids', 'towers', '6', 'tricky'], 2, b"Towers has no grade 'tricky': easy, hard, extreme or unreasonable."),
+        (['--ids', 'towers', '10'], 2, b'Sizes go from 3 to 9'),
+        (['--ids', 'unequal', '9', 'recursive'], 2, b'Of size 9 there are puzzles of the grades trivial, easy, tricky and extreme.'),
+        (['--ids', 'towers', '7', 'seeded'], 2, b'Seeded games have the sizes 3 to 6.'),
+        (['--ids', 'towers', '9', 'easy', '21'], 2, b'So many there are of them: 20.'),
         (['towers', ID], 2, b'the board is for a terminal; in a pipe use the program itself, puzzles towers'),
     ]:
         found = run([front.path, *line], room, env=front.env())

@@ -138,7 +138,7 @@ def test_no_old_folder(front: BoardFront, room: Room) -> None:
         window.look('1', ['1 of 9'])
         window.look('n<enter>', [f"The present game can't be put away (FOLDER/{FOLDER}/old is a named pipe). Lose it? y/N"])
         window.look('x', ['The present game stays.', '1 of 9'])
-        window.look('ox', [f'FOLDER/{FOLDER}/old is a named pipe.'])
+        window.look('oq', [f'FOLDER/{FOLDER}/old is a named pipe.'])
         window.press('q')
         assert window.status() == 0, 'the status'
     assert room.read(KEPT) == save_text(1), 'what is kept'
@@ -189,7 +189,7 @@ def test_no_bank(front: BoardFront, room: Room) -> None:
     with copied.window(['towers'], LOW) as window:
         window.look('', ['Towers 5x5'])
         window.look('n', ['[seeded: no clue too many]', f'{bank} is a named pipe.'])
-        window.press('xq')
+        window.press('qq')
         assert window.status() == 0, 'the status'
 
 
@@ -240,7 +240,7 @@ def test_closed_files(front: BoardFront, room: Room) -> None:
         window.look('o0FOLDER/game.sav<enter>', [f'FOLDER/game.sav {why}', '0 of 9'])
         window.look('wFOLDER/game.sav<enter>', ["game.sav is there, and can't be read. Write over it? y/N"])
         window.look('x', ['Nothing was saved.'])
-        window.look('ox', [f"FOLDER/{FOLDER}/old can't be read (Permission denied)."])
+        window.look('oq', [f"FOLDER/{FOLDER}/old can't be read (Permission denied)."])
         window.press('q')
         assert window.status() == 0, 'the status'
     with front.window(['--lines', os.path.join(room.path, 'game.sav')], LOW) as window:

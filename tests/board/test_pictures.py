@@ -42,6 +42,7 @@ ALL: List[Picture] = [
     *(Picture(game, size) for game in ('towers', 'unequal') for size in SIZES),
     *(Picture(game, size, (43, 132)) for game in ('towers', 'unequal') for size in (5, 9)),
     *(Picture(game, 5, (20, 40)) for game in ('towers', 'unequal')),
+    *(Picture(game, 9, (60, 200)) for game in ('towers', 'unequal')),
     *(Picture(game, 6, term='vt100', locale='C') for game in ('towers', 'unequal')),
 ]
 

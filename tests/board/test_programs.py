@@ -70,7 +70,7 @@ def test_long_work(front: BoardFront, room: Room) -> None:
         window.look('1', ['1 of 9'])
         window.look('c', ['The program is at work. Any key stops it.'])
         window.look('x', ['Stopped; nothing has changed.', '1 of 9'])
-        window.look('2', ['│   2   │', 'move 2/2'])
+        window.look('2', ['│     2     │', 'move 2/2'])
 
 
 def test_no_answer(front: BoardFront, room: Room) -> None:

@@ -32,13 +32,14 @@ NAMED: Dict[str, str] = {
     'ctrl-r': '\x12',
     'ctrl-c': '\x03',
     'space': ' ',
+    'tab': '\t',
 }
 
 KEY = re.compile(r'<([a-z-]+)>|(.)', re.DOTALL)
 
 
 class Look(NamedTuple):
-    """Keys that are pressed, and what is seen then and what isn't: texts that stand on one line, or across the whole lines below the board."""
+    """Keys that are pressed, and what is seen then and what isn't: texts that stand on one line, or across several."""
 
     keys: str
     shows: Sequence[str] = ()
@@ -200,6 +201,16 @@ class Terminal:
 
 
 def stands(screen: Screen, text: str) -> bool:
-    """Whether a text stands on the screen, perhaps broken into lines."""
+    """Whether a text stands on the screen: on one line, or broken into lines, whole ones or those at the side of a board."""
     lines = screen.text()
-    return any(text in line for line in lines) or text in ' '.join(' '.join(lines).split())
+    if any(text in line for line in lines) or text in ' '.join(' '.join(lines).split()):
+        return True
+    # The side is narrow, and may break long words.
+    return any(''.join(text.split()) in ''.join(part.split()) for part in sides(lines))
+
+
+def sides(lines: Sequence[str]) -> List[str]:
+    """What stands right of each column that is blank from top to bottom, after the board's own lines."""
+    edge = max(line.rfind(sign) for line in lines for sign in '│|') + 1
+    columns = [column for column in range(edge, max(map(len, lines))) if all(line[column : column + 1] in ('', ' ') for line in lines)]
+    return [''.join(line[column:] for line in lines) for column in columns]

@@ -41,10 +41,13 @@ LINES = [
     Line('a file called as a game', ['puzzles', '--save', 'towers', 't'], 'towers'),
     Line('puzzles-json', ['puzzles-json', 'u'], 'unequal'),
     Line('the options of puzzles-json', ['puzzles-json', 'towers', '--s'], '--save'),
-    Line('the board', ['puzzles-play', ''], 'towers unequal --lines --help --version old.sav'),
+    Line('the board', ['puzzles-play', ''], 'towers unequal --lines --ids --help --version old.sav'),
     Line('the board, a game', ['puzzles-play', 'u'], 'unequal'),
     Line('the board, a file', ['puzzles-play', '--lines', 'towers', 'o'], 'old.sav'),
     Line('the board, an option once', ['puzzles-play', '--lines', '-'], '--help --version'),
+    Line('the board, grades', ['puzzles-play', 'unequal', 't'], 'trivial tricky today'),
+    Line('the board, grades of the other game', ['puzzles-play', '--ids', 'towers', '6', ''], 'easy hard extreme unreasonable seeded today --help --version old.sav'),
+    Line('the board, a grade was named', ['puzzles-play', 'towers', 'hard', ''], '--lines --ids --help --version old.sav'),
 ]
 
 #: Completes the words after the first, which names the file of the completion, by the function that it gives the command.

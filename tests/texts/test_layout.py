@@ -12,7 +12,7 @@ README_LINES = 120
 
 #: What the board shows in README, of what it shows in its tests.
 PICTURES = ['towers-5-40x20', 'unequal-5-40x20']
-PICTURE_LINES = 14
+PICTURE_LINES = 13
 
 
 @pytest.mark.parametrize('document', [*documents(), 'CHANGELOG.md'])
