@@ -53,7 +53,12 @@ fn plain_value(alloc: Global, hint: Hint) -> Result<Value, AllocError>
 }
 
 // A kind, a square and a number, and nothing of steps.
-fn bare_value(alloc: Global, cell: Value, kind: &str, number: Value) -> Result<Value, AllocError>
+fn bare_value(
+    alloc: Global,
+    cell: Value,
+    kind: &'static str,
+    number: Value,
+) -> Result<Value, AllocError>
     ensures { IfOk result (λ value.
         view value ≡ bare_data (view cell) kind.now (view number)) }
 {
@@ -103,11 +108,11 @@ fn chain_value<P: StepNames>(
 
 // What an object of a hint has.
 #[derive(Drop)]
-struct Parts<'a> {
+struct Parts {
     by: Value,
     cell: Value,
     grade: Value,
-    kind: &'a str,
+    kind: &'static str,
     line: Value,
     number: Value,
     steps: Value,
