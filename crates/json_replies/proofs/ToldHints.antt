@@ -46,7 +46,8 @@ all_hard grade (step ∷ steps) allowed = (hard_has grade step.reason allowed.0,
 pub refuted_hard : (Struck : CandidatesValue → Reason → ℕ → ℕ → Type 0) (grade : Grade) (g : GridValue) → IsRefutedGrid Struck grade g
     → IsRefutedGrid Struck Hard g
 refuted_hard Struck grade g (view, of, by) = (
-  view, of,
+  view,
+  of,
   record { steps = by.steps; chain = by.chain; allowed = all_hard grade by.steps by.allowed; cell = by.cell; inside = by.inside; nothing = by.nothing },
 )
 

@@ -46,12 +46,7 @@ pub(crate) fn told_hint<P: Deduces + Steps>(
 }
 
 // What is explained by the least grade, where all steps explain a number and don't refute the grid's.
-fn least<P: Steps>(
-    alloc: Global,
-    p: &P,
-    grid: &Grid,
-    hard: Chain,
-) -> Result<ToldHint, OutOfMemory>
+fn least<P: Steps>(alloc: Global, p: &P, grid: &Grid, hard: Chain) -> Result<ToldHint, OutOfMemory>
     requires size { grid.now.size ≡ (P.puzzle p.now).size }
     requires holds { IsRefutedGrid (P.struck_by p.now) Hard grid.now → ⊥ }
     requires explained { IsExplained (P.struck_by p.now) Hard grid.now (steps_of hard.steps.items) hard.goal }
