@@ -1,8 +1,9 @@
 -- Reasons that strike nothing more, one by one, and a step that strikes something.
-use Rattle.std.proofs.Common.{◌≡◌, ◌↔◌, ℕ, ◌+◌, ◌*◌, ◌^◌, ◌<◌, ◌≤◌, true, false, ◌&&◌, ◌==◌, count_ones, refl, sym, ap, ◌∙◌, subst, arith, inl, inr}
-use Rattle.std.proofs.lemmas.Bool.{both_ways, and_parts, and_from, cases_eq, cases_Bool, eqb-true, eq-eqb, false_from_ne_true}
+use Rattle.std.proofs.Common.{◌≡◌, ◌↔◌, ℕ, ◌+◌, ◌*◌, ◌^◌, ◌<◌, ◌≤◌, true, false, ◌&&◌, ◌||◌, ◌==◌, count_ones, refl, sym, ap, ◌∙◌, subst, arith, inl, inr}
+use Rattle.std.specs.Prelude.{MatchOption, Option, Some, None}
+use Rattle.std.proofs.lemmas.Bool.{both_ways, and_parts, and_from, or_left, or_right, cases_eq, cases_lt, cases_Bool, eqb-true, eq-eqb, false_from_ne_true}
 use Rattle.number_sets.specs.Sets.{has_number, IsEmpty}
-use Rattle.number_sets.proofs.Members.{same_set}
+use Rattle.number_sets.proofs.Members.{same_set, has_number-above}
 use Rattle.latin_board.specs.Lines.{line_cell}
 use Rattle.trail_solver.specs.Pairs.{IsPair, has_pair, pairs_of}
 use Rattle.trail_solver.specs.Candidates.{CandidatesValue, IsSetOf, may_be}
@@ -27,11 +28,11 @@ all_next P k before here j low = elim (cases_eq j k) [
 
 -- what a reason strikes of what is left
 pub record IsStruckSet (Struck : CandidatesValue → Reason → ℕ → ℕ → Type 0) (c : CandidatesValue) (reason : Reason) (cell values : ℕ) : Type 0 where
-  struck : ℕ
-  left : ℕ
-  is_struck : (v : ℕ) → (has_number struck v ≡ true) ↔ (IsPair c.size cell v × Struck c reason cell v)
-  is_left : IsSetOf c cell left
-  both : (v : ℕ) → has_number values v ≡ (has_number struck v && has_number left v)
+  pub struck : ℕ
+  pub left : ℕ
+  pub is_struck : (v : ℕ) → (has_number struck v ≡ true) ↔ (IsPair c.size cell v × Struck c reason cell v)
+  pub is_left : IsSetOf c cell left
+  pub both : (v : ℕ) → has_number values v ≡ (has_number struck v && has_number left v)
 
 pub idle_none : (Struck : CandidatesValue → Reason → ℕ → ℕ → Type 0) (grade : Grade) (c : CandidatesValue) (reason : Reason) (cell values : ℕ)
     → IsStruckSet Struck c reason cell values → IsEmpty values → IsIdleIn Struck grade c reason cell
@@ -48,9 +49,12 @@ new_step Struck grade c reason cell values s small has h some is =
     ((h.is_struck v).0 parts.0, ((h.is_left v).0 parts.1).1) in
     let low = set_below c.size cell values small (λ v in_it. (members v in_it).0.0) in
     subst (λ x. IsNew Struck grade c x) (sym is) (record {
-      step = (has, λ at v listed.
-          let parts = and_parts (at == cell) (has_number values v) (sym (has_pair-pairs_of cell values at v low) ∙ listed) in
-          subst (λ (n : ℕ). IsPair c.size n v × Struck c reason n v) (sym (eqb-true at cell parts.0)) (members v parts.1).0);
+      step = (
+        has,
+        λ at v listed.
+            let parts = and_parts (at == cell) (has_number values v) (sym (has_pair-pairs_of cell values at v low) ∙ listed) in
+            subst (λ (n : ℕ). IsPair c.size n v × Struck c reason n v) (sym (eqb-true at cell parts.0)) (members v parts.1).0,
+      );
       left = λ v in_it. let m = members v in_it in (m.0.0, m.1);
       some = some;
     })
@@ -74,7 +78,7 @@ IsLeftOf c line squares values = (v : ℕ) → (has_number values v ≡ true)
 union_same : (c : CandidatesValue) (line squares values union : ℕ) → ((k : ℕ) → has_number squares k ≡ true → k < c.size) → IsLeftOf c line squares values
     → IsUnion c.size c line squares union → union ≡ values
 union_same c line squares values union inside is u = same_set union values (λ v. elim (cases_Bool (has_number union v)) [
-  | inl has ↦ let h = u.only v has in has ∙ sym ((is v).1 (h.0, inside h.0 h.1, h.1, h.2))
+  | inl has ↦ let h = u.only v has in has ∙ sym ((is v).1 (h.0, inside h.0 h.1, (h.1, h.2)))
   | inr lacks ↦
       lacks ∙ sym (false_from_ne_true (has_number values v) (λ has.
       let h = (is v).0 has in both_ways (has_number union v) lacks (u.all h.0 v h.2.0 h.2.1)))
@@ -91,3 +95,54 @@ pub group_idle : (Struck : CandidatesValue → Reason → ℕ → ℕ → Type 0
     → IsGroupIdle Struck grade c line squares
 group_idle Struck grade c line squares values inside is idle = λ union u same.
     subst (λ (set : ℕ). IsIdle Struck grade c (Set line squares set)) (sym (union_same c line squares values union inside is u)) idle
+
+-- the squares of a group are places of the line
+pub group_inside : (w squares : ℕ) → squares < 2 ^ w → (k : ℕ) → has_number squares k ≡ true → k < w
+group_inside w squares below k has = elim (cases_lt k w) [
+  | inl low ↦ low
+  | inr high ↦ absurd (both_ways (has_number squares k) (has_number-above squares w k below high) has)
+]
+
+-- the values that are left of one square more
+pub left_added : (c : CandidatesValue) (line squares k found set result : ℕ)
+    → ((v : ℕ) → (has_number found v ≡ true) ↔ ((j : ℕ) × (j < k) × ((has_number squares j ≡ true) × IsLeft c (line_cell c.size line j) v)))
+    → has_number squares k ≡ true → IsSetOf c (line_cell c.size line k) set → ((v : ℕ) → has_number result v ≡ (has_number found v || has_number set v))
+    → (v : ℕ) → (has_number result v ≡ true) ↔ ((j : ℕ) × (j < k + 1) × ((has_number squares j ≡ true) × IsLeft c (line_cell c.size line j) v))
+left_added c line squares k found set result before in_it here either = λ v. (
+  λ has. elim (cases_Bool (has_number found v)) [
+    | inl old ↦ let h = (before v).0 old in (h.0, omega (arith, h.1), h.2)
+    | inr lacks ↦
+        let new : has_number set v ≡ true = elim (cases_Bool (has_number set v)) [
+          | inl in_set ↦ in_set
+          | inr absent ↦ absurd (both_ways (has_number result v) (either v ∙ ap (λ b. b || has_number set v) lacks ∙ absent) has)
+        ] in
+        let h = (here v).0 new in
+        (k, omega arith, (in_it, record { pair = h.0; may = h.1 }))
+  ],
+  λ h. elim (cases_eq h.0 k) [
+    | inl same ↦
+        let left : IsLeft c (line_cell c.size line k) v = subst (λ (j : ℕ). IsLeft c (line_cell c.size line j) v) same h.2.1 in
+        either v ∙ or_right (has_number found v) (has_number set v) ((here v).1 (left.pair, left.may))
+    | inr other ↦ either v ∙ or_left (has_number found v) (has_number set v) ((before v).1 (h.0, omega (arith, h.1, other), h.2))
+  ],
+)
+
+-- a square that isn't of the group adds none
+pub left_skipped : (c : CandidatesValue) (line squares k found : ℕ)
+    → ((v : ℕ) → (has_number found v ≡ true) ↔ ((j : ℕ) × (j < k) × ((has_number squares j ≡ true) × IsLeft c (line_cell c.size line j) v)))
+    → has_number squares k ≡ false
+    → (v : ℕ) → (has_number found v ≡ true) ↔ ((j : ℕ) × (j < k + 1) × ((has_number squares j ≡ true) × IsLeft c (line_cell c.size line j) v))
+left_skipped c line squares k found before out = λ v. (
+  λ has. let h = (before v).0 has in (h.0, omega (arith, h.1), h.2),
+  λ h. elim (cases_eq h.0 k) [
+    | inl same ↦ absurd (both_ways (has_number squares h.0) (subst (λ (j : ℕ). has_number squares j ≡ false) (sym same) out) h.2.0)
+    | inr other ↦ (before v).1 (h.0, omega (arith, h.1, other), h.2)
+  ],
+)
+
+-- what is found by a group
+pub group_found : (Struck : CandidatesValue → Reason → ℕ → ℕ → Type 0) (grade : Grade) (c : CandidatesValue) (line squares values : ℕ) (found : Option Step)
+    → squares < 2 ^ c.size → IsLeftOf c line squares values → MatchOption found (IsIdle Struck grade c (Set line squares values)) (IsNew Struck grade c)
+    → MatchOption found (IsGroupIdle Struck grade c line squares) (IsNew Struck grade c)
+group_found Struck grade c line squares values None below is h = group_idle Struck grade c line squares values (group_inside c.size squares below) is h
+group_found Struck grade c line squares values (Some s) below is h = h

@@ -167,7 +167,7 @@ pass_goes Struck less grade c d steps rest place goal same some low whole tight 
       omega (arith, at.4, ap length parts, length-append at.0 at.2),
       subst (λ xs. Shows Struck grade c xs goal) (sym listed) (subst (λ x. Shows Struck grade x (remove (steps_of steps) (place - 1)) goal) same part),
       subst (λ xs. IsTightFrom (place - 1) Struck grade c xs goal) (sym listed)
-      (tight_without Struck less grade c (steps_of steps) (place - 1) goal here whole now),
+          (tight_without Struck less grade c (steps_of steps) (place - 1) goal here whole now),
     )
 
 -- one stays
@@ -181,5 +181,5 @@ pass_stays Struck grade c d steps place goal same some low tight none =
     subst (λ (n : ℕ). IsTightFrom n Struck grade c (steps_of steps) goal) back_again tight in (
       omega (arith, low),
       tight_with Struck grade c (steps_of steps) (place - 1) goal
-      (λ shows. none (subst (λ x. Shows Struck grade x (remove (steps_of steps) (place - 1)) goal) (sym same) shows)) now,
+          (λ shows. none (subst (λ x. Shows Struck grade x (remove (steps_of steps) (place - 1)) goal) (sym same) shows)) now,
     )

@@ -1,7 +1,13 @@
 //! Hints that explain: a chain of steps to the next number.
+ghost use Rattle.std.specs.Prelude.{◌≡◌, ◌↔◌, ℕ, ◌*◌, ◌<◌, IsTrue, IfOk};
+ghost use Rattle.std.specs.Bool.{MatchBool};
+ghost use Rattle.named_steps.specs.Chains.{IsExplained, IsGoalOf, IsTight};
+ghost use Rattle.step_chains.specs.ChainValues.{steps_of};
+ghost use Rattle.step_chains.specs.Explanations.{Explains};
+ghost use Rattle.step_chains.specs.Inner.Goals.{IsOpen, IsShownByAll, HasSome, LacksSome};
 
 use crate::chain::{Chain, Refutation, Step};
-use crate::goals::shown_goal;
+use crate::goals::{is_open, shown_goal};
 use crate::next_steps::all_steps;
 use crate::replays::shows_without;
 use crate::shortest::short_chain;
@@ -30,7 +36,10 @@ pub fn explain<P: Steps>(
     p: &P,
     grid: &Grid,
     grade: Grade,
-) -> Result<Explained, OutOfMemory> {
+) -> Result<Explained, OutOfMemory>
+    requires { grid.now.size ≡ (P.puzzle p.now).size }
+    ensures { IfOk result (Explains (P.struck_by p.now) grade grid.now) }
+{
     let mut settled = view_of(grid);
     settle(p, grade, &mut settled);
     if has_nothing(&settled) {
@@ -53,14 +62,21 @@ fn plain_chain<P: Steps>(
     grid: &Grid,
     grade: Grade,
     goal: Goal,
-) -> Result<Chain, OutOfMemory> {
+) -> Result<Chain, OutOfMemory>
+    requires size { grid.now.size ≡ (P.puzzle p.now).size }
+    requires open { IsOpen grid.now goal }
+    requires shown { IsShownByAll (P.struck_by p.now) grade grid.now goal }
+    ensures { IfOk result (λ chain. IsExplained (P.struck_by p.now) grade grid.now (steps_of chain.steps.items) chain.goal) }
+{
     let mut steps = all_steps(alloc, p, grade, &mut view_of(grid))?;
     tighten(p, grade, &mut view_of(grid), &mut steps, goal);
     Ok(Chain { steps, goal })
 }
 
 // Whether some square is left nothing.
-fn has_nothing(candidates: &Candidates) -> bool {
+fn has_nothing(candidates: &Candidates) -> bool
+    ensures { MatchBool result (LacksSome candidates.now) (HasSome candidates.now) }
+{
     let width = candidates.size().get() as usize;
     for cell in 0..width * width {
         if candidates.values(cell).is_empty() {
@@ -71,16 +87,21 @@ fn has_nothing(candidates: &Candidates) -> bool {
 }
 
 /// Whether a chain explains a number of a grid by the steps of a grade. The grid has the puzzle's size.
-pub fn explains<P: Steps>(p: &P, grid: &Grid, grade: Grade, chain: &Chain) -> bool {
+pub fn explains<P: Steps>(p: &P, grid: &Grid, grade: Grade, chain: &Chain) -> bool
+    requires { grid.now.size ≡ (P.puzzle p.now).size }
+    ensures { IsTrue result
+        ↔ IsExplained (P.struck_by p.now) grade grid.now (steps_of chain.now.steps.items) chain.now.goal }
+{
     let goal = chain.goal;
-    let size = grid.size();
-    if !goal.is_of(size) || grid.get(goal.cell(size)) != 0 {
+    if !is_open(grid, goal) {
         return false;
     }
     let mut view = view_of(grid);
     let steps = chain.steps.as_slice();
-    shows_without(p, grade, &mut view, steps, steps.len(), goal)
-        && is_tight(p, grade, &mut view, steps, goal)
+    if !shows_without(p, grade, &mut view, steps, steps.len(), goal) {
+        return false;
+    }
+    is_tight(p, grade, &mut view, steps, goal)
 }
 
 // Whether the goal isn't shown without any one of the steps.
@@ -90,7 +111,11 @@ fn is_tight<P: Steps>(
     candidates: &mut Candidates,
     steps: &[Step],
     goal: Goal,
-) -> bool {
+) -> bool
+    requires size { candidates.old.size ≡ (P.puzzle p.now).size }
+    requires goal { IsGoalOf candidates.old.size goal }
+    ensures { IsTrue result ↔ IsTight (P.struck_by p.now) grade candidates.old (steps_of steps.now) goal }
+{
     for place in 0..steps.len() {
         if shows_without(p, grade, candidates, steps, place, goal) {
             return false;

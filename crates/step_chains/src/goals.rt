@@ -1,12 +1,23 @@
 //! Numbers of empty squares that candidates show.
-ghost use Rattle.std.specs.Prelude.{◌≡◌, ℕ, ◌*◌, ◌<◌, MatchOption};
-ghost use Rattle.step_chains.specs.Inner.Goals.{IsOpenShown};
+ghost use Rattle.std.specs.Prelude.{◌≡◌, ◌↔◌, ℕ, ◌*◌, ◌<◌, IsTrue, MatchOption};
+ghost use Rattle.step_chains.specs.Inner.Goals.{IsOpen, IsOpenShown};
 ghost use Rattle.named_steps.specs.declared.goal.Goal.{Goal};
 ghost use Rattle.named_steps.specs.declared.goal.Goal.TheVariants.{OnlyValue, OnlyPlace};
 
 use latin_board::{Grid, line_cell};
 use named_steps::Goal;
 use trail_solver::Candidates;
+
+/// Whether a goal speaks of an empty square of the grid.
+pub(crate) fn is_open(grid: &Grid, goal: Goal) -> bool
+    ensures { IsTrue result ↔ IsOpen grid.now goal }
+{
+    let size = grid.size();
+    if !goal.is_of(size) {
+        return false;
+    }
+    grid.get(goal.cell(size)) == 0
+}
 
 /// The first number of an empty square of the grid that the candidates show, if they show any. The sizes are equal.
 pub(crate) fn shown_goal(candidates: &Candidates, grid: &Grid) -> Option<Goal>

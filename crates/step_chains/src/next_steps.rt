@@ -31,6 +31,8 @@ pub(crate) fn all_steps<P: Steps>(
     let mut steps = Vec::new(alloc);
     while let Some(step) = next_step(p, grade, candidates) {
         candidates.remove_all(step.cell as usize, step.values);
+        let _size = candidates.size();
+        let _len = candidates.trail_len();
         steps.push(step)?;
     }
     Ok(steps)
@@ -42,6 +44,8 @@ fn next_step<P: Steps>(p: &P, grade: Grade, candidates: &Candidates) -> Option<S
     ensures { MatchOption result (IsSettled (P.struck_by p.now) grade candidates.now)
         (IsNew (P.struck_by p.now) grade candidates.now) }
 {
+    let _valid = p.size();
+    let _size = candidates.size();
     if let Some(step) = step_by_squares(p, grade, candidates) {
         return Some(step);
     }
@@ -269,6 +273,7 @@ fn step_by_group<P: Steps>(
 ) -> Option<Step>
     requires size { candidates.now.size ≡ (P.puzzle p.now).size }
     requires line { line < 2 * candidates.now.size }
+    requires squares { squares < 2 ^ candidates.now.size }
     ensures { MatchOption result (IsGroupIdle (P.struck_by p.now) grade candidates.now line squares)
         (IsNew (P.struck_by p.now) grade candidates.now) }
 {

@@ -1,7 +1,11 @@
 //! The chain that costs least of those that the goals of a first chain need.
+ghost use Rattle.std.specs.Prelude.{◌≡◌, IfOk, IfSome};
+ghost use Rattle.std.specs.Bool.{OnTrue};
+ghost use Rattle.named_steps.specs.Chains.{IsExplained, IsTight, Shows};
+ghost use Rattle.step_chains.specs.ChainValues.{steps_of};
 
 use crate::chain::{Chain, Step};
-use crate::goals::{shown_in_place, shown_in_square};
+use crate::goals::{is_open, shown_in_place, shown_in_square};
 use crate::layers::{Rounds, layered_steps};
 use crate::replays::shows_without;
 use crate::slices::{gathered, slice, struck_once};
@@ -18,15 +22,22 @@ pub(crate) fn short_chain<P: Steps>(
     p: &P,
     grid: &Grid,
     grade: Grade,
-) -> Result<Option<Chain>, OutOfMemory> {
+) -> Result<Option<Chain>, OutOfMemory>
+    requires { grid.now.size ≡ (P.puzzle p.now).size }
+    ensures { IfOk result (λ found. IfSome found
+        (λ chain. IsExplained (P.struck_by p.now) grade grid.now (steps_of chain.steps.items) chain.goal)) }
+{
     let Some(mut chain) = least_chain(alloc, p, grid, grade)? else {
         return Ok(None);
     };
-    if shorten(p, grade, &mut view_of(grid), &mut chain.steps, chain.goal) {
-        Ok(Some(chain))
-    } else {
-        Ok(None)
+    if !is_open(grid, chain.goal) {
+        return Ok(None);
     }
+    let mut view = view_of(grid);
+    if !shorten(p, grade, &mut view, &mut chain.steps, chain.goal) {
+        return Ok(None);
+    }
+    Ok(Some(chain))
 }
 
 // Leaves out what can be left out, where the steps show the goal; and tells whether they do.
@@ -36,9 +47,14 @@ fn shorten<P: Steps>(
     candidates: &mut Candidates,
     steps: &mut Vec<Step>,
     goal: Goal,
-) -> bool {
+) -> bool
+    ensures same { candidates.new ≡ candidates.old }
+    ensures shows { OnTrue result (Shows (P.struck_by p.now) grade candidates.old (steps_of steps.new.items) goal) }
+    ensures tight { OnTrue result (IsTight (P.struck_by p.now) grade candidates.old (steps_of steps.new.items) goal) }
+{
     let all = steps.len();
-    if p.size() != candidates.size() || !goal.is_of(candidates.size()) {
+    let size = candidates.size();
+    if p.size() != size || !goal.is_of(size) {
         return false;
     }
     if !shows_without(p, grade, candidates, steps.as_slice(), all, goal) {

@@ -1,12 +1,32 @@
 -- Goals that candidates show in a grid.
-use Rattle.std.specs.Prelude.{◌≡◌, ℕ}
+use Rattle.std.specs.Prelude.{◌≡◌, ℕ, ◌*◌, ◌<◌}
 use Rattle.latin_board.specs.Squares.{GridValue, number_at}
 use Rattle.trail_solver.specs.Candidates.{CandidatesValue}
-use Rattle.named_steps.specs.Chains.{IsGoalOf, IsShown, goal_cell}
+use Rattle.named_steps.specs.Left.{IsLeft}
+use Rattle.named_steps.specs.Chains.{IsGoalOf, IsShown, IsView, goal_cell}
+use Rattle.named_steps.specs.Following.{IsClosure}
+use Rattle.named_steps.specs.declared.reason.Reason.{Reason}
+use Rattle.named_steps.specs.declared.grade.Grade.{Grade}
 use Rattle.named_steps.specs.declared.goal.Goal.{Goal}
 
--- the goal is a number of an empty square, and the candidates show it
+-- the goal speaks of an empty square of the grid
+abbrev pub IsOpen : GridValue → Goal → Type 0
+IsOpen g goal = IsGoalOf g.size goal × (number_at g (goal_cell g.size goal) ≡ 0)
+
+-- and the candidates show it
 pub record IsOpenShown (g : GridValue) (c : CandidatesValue) (goal : Goal) : Type 0 where
   pub goal_of : IsGoalOf g.size goal
   pub empty : number_at g (goal_cell g.size goal) ≡ 0
   pub shown : IsShown c goal
+
+-- all that the grade leaves of what is in view shows it
+abbrev pub IsShownByAll : (CandidatesValue → Reason → ℕ → ℕ → Type 0) → Grade → GridValue → Goal → Type 0
+IsShownByAll Struck grade g goal = (view d : CandidatesValue) → IsView g view → IsClosure Struck grade view d → IsShown d goal
+
+-- something is left of each square
+abbrev pub HasSome : CandidatesValue → Type 0
+HasSome c = (cell : ℕ) → cell < c.size * c.size → (value : ℕ) × IsLeft c cell value
+
+-- nothing is left of some square
+abbrev pub LacksSome : CandidatesValue → Type 0
+LacksSome c = (cell : ℕ) × (cell < c.size * c.size) × ((value : ℕ) → IsLeft c cell value → ⊥)

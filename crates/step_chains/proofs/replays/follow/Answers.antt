@@ -24,6 +24,6 @@ loop-step-preserved g c =
     let more : take (i + 1) steps ≡ take i steps ++ s ∷ [] =
     take_more steps i s c.loop-step-test.true ∙ ap (λ (x : Step). take i steps ++ x ∷ []) (sym c.step-item.is) in (
       follows_on (g.P.Steps.struck_by c.args.p.now) (g.met.P.Steps.struck_less c.args.p.now) c.args.grade c.args.candidates.now c.loop-step.candidates
-      c.follow_one.new.candidates steps i s more c.loop-step.invariant.0 (c.follow_one.ensures.is.0 c.if-not-follow_one.false) c.if-not-follow_one.ensures.takes,
+          c.follow_one.new.candidates steps i s more c.loop-step.invariant.0 (c.follow_one.ensures.is.0 c.if-not-follow_one.false) c.if-not-follow_one.ensures.takes,
       earlier_trans c.args.candidates.now c.loop-step.candidates c.follow_one.new.candidates c.loop-step.invariant.1 c.follow_one.ensures.earlier,
     )

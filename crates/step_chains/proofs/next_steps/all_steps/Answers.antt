@@ -1,0 +1,21 @@
+use Rattle.std.proofs.Common.{◌≡◌, ℕ, ◌-◌, ◌*◌, ◌<◌, ◌≤◌, length, sym, ap, ◌∙◌, arith}
+use Rattle.step_chains.proofs.Settled.{new_longer, new_leads}
+use Rattle.step_chains.proofs.next_steps.all_steps.Goals as goal
+
+pub loop-step-smaller : goal.loop-step-smaller
+loop-step-smaller g c =
+    let old = c.loop-step.candidates in
+    let new = c.remove_all.new.self in
+    let small : old.size ≤ 9 = omega (arith, c.size-size.ensures.valid.largest, c.remove_all.ensures.size) in
+    let longer : length old.trail < length new.trail =
+    new_longer (g.P.Steps.struck_by c.args.p.now) c.args.grade old new c.in-Some.step small c.in-Some.ensures c.remove_all.ensures.trail in
+    let cube : new.size * new.size * new.size ≡ old.size * old.size * old.size = ap (λ (n : ℕ). n * n * n) c.remove_all.ensures.size in
+    let bound : length new.trail ≤ new.size * new.size * new.size = omega (arith, c.trail_len-len.ensures.value, c.trail_len-len.ensures.bound) in
+    let less : new.size * new.size * new.size - length new.trail < old.size * old.size * old.size - length old.trail = omega (arith, longer, cube, bound) in
+    less
+
+pub loop-step-preserved : goal.loop-step-preserved
+loop-step-preserved g c =
+    new_leads (g.P.Steps.struck_by c.args.p.now) (g.met.P.Steps.struck_less c.args.p.now) c.args.grade c.args.candidates.now c.loop-step.candidates
+    c.remove_all.new.self c.loop-step.steps.items c.push.new.self.items c.in-Some.step c.loop-step.invariant c.in-Some.ensures c.remove_all.ensures.size
+    c.remove_all.ensures.trail c.in_ok-push.ensures.items
