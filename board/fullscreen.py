@@ -127,7 +127,8 @@ class FullScreen:
         return fit(board.size, board.session.game == 'towers', *self._screen.size)
 
     def _look(self) -> Look:
-        return Look(self._cursor, self._is_pencil, self.table.message, self.table.trouble, self._screen.has_lines, self.table.hints, self._shown, self.table.grade)
+        table = self.table
+        return Look(self._cursor, self._is_pencil, table.message, table.trouble, self._screen.has_lines, table.hints, self._shown, table.grade)
 
     def _pieces(self) -> List[Piece]:
         if not self.table.has_game:

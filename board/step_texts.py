@@ -101,7 +101,11 @@ def spoken_losses(step: Step) -> str:
     lost: Dict[Tuple[int, ...], List[Place]] = {}
     for strike in step.strikes:
         lost.setdefault(tuple(strike.numbers), []).append(strike.place)
-    return '; '.join(f'{listed([at(place) for place in places])} {"are" if len(places) > 1 else "is"} not {listed(numbers, "or")}' for numbers, places in lost.items())
+    losses: List[str] = []
+    for numbers, places in lost.items():
+        verb = 'are' if len(places) > 1 else 'is'
+        losses.append(f'{listed([at(place) for place in places])} {verb} not {listed(numbers, "or")}')
+    return '; '.join(losses)
 
 
 def spoken_goal(hint: Hint, place: Place, board: Board) -> str:

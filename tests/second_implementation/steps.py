@@ -118,11 +118,12 @@ def struck_by_clue(puzzle: Puzzle, left: Left, reason: Reason, cell: int) -> Fro
     squares = seen_squares(puzzle.size, reason.place)
     if not isinstance(puzzle, TowersPuzzle) or not puzzle.clues[reason.place] or cell not in squares:
         return frozenset()
+    clue = puzzle.clues[reason.place]
     may = [looked_at(reason.kind, puzzle.size, left[square]) for square in squares]
     at = squares.index(cell)
 
     def is_possible(number: int) -> bool:
-        return number in may[at] and can_show(puzzle.clues[reason.place], (*may[:at], frozenset([number]), *may[at + 1:]))
+        return number in may[at] and can_show(clue, (*may[:at], frozenset([number]), *may[at + 1:]))
 
     return frozenset(number for number in each(puzzle.size) if not is_possible(number))
 
