@@ -74,6 +74,12 @@ explained_tested Struck less grade g view now steps goal b is same empty_one sho
 pub all_steps : (steps : List Step) → remove (steps_of steps) (length steps) ≡ steps_of steps
 all_steps steps = none_removed (steps_of steps) (length steps) (omega (arith, length-map steps step_value))
 
+-- so a test without it is one of all
+pub shows_all : (Struck : CandidatesValue → Reason → ℕ → ℕ → Type 0) (grade : Grade) (c : CandidatesValue) (listed steps : List Step) (goal : Goal) (b : Bool)
+    → listed ≡ steps → IsTrue b ↔ Shows Struck grade c (remove (steps_of listed) (length listed)) goal → IsTrue b ↔ Shows Struck grade c (steps_of steps) goal
+shows_all Struck grade c listed steps goal b same h =
+    subst (λ xs. IsTrue b ↔ Shows Struck grade c xs goal) (all_steps listed ∙ ap steps_of same) h
+
 -- ---- what a grade leaves of a view
 
 -- what it doesn't show no chain shows
@@ -121,7 +127,7 @@ shown_by_all Struck less grade g view d goal is closed shown = λ other e other_
     let size : view.size ≡ other.size = is.size ∙ sym other_is.size in
     let there = chain_less Struck less view other closed.steps size (views_fewer g view other is other_is) closed.chain in
     let fewer = chain_settled Struck less grade other e closed.steps closed.allowed there.0 (closure_fewer Struck grade other e other_closed) other_closed.settled in
-    let all : IsFewer d e = λ cell v left. closed.left.0 cell v (there.1 cell v (fewer cell v left)) in
+    let all : IsFewer d e = λ cell v left. closed.left.1 cell v (there.1 cell v (fewer cell v left)) in
     shown_less d e goal (closed.size ∙ size ∙ sym other_closed.size) all shown
 
 -- all steps show what all that the grade leaves shows

@@ -7,7 +7,7 @@ use crate::next_steps::left_of;
 use crate::replays::{struck, take};
 use crate::view::view_of;
 use arrayvec::ArrayVec;
-use latin_board::{Grid, OutOfMemory, line_cell};
+use latin_board::{CELLS, Grid, OutOfMemory, line_cell};
 use named_steps::{Grade, Reason, Steps};
 use number_sets::NumberSet;
 use std::alloc::Global;
@@ -73,7 +73,7 @@ impl Rounds {
         last: usize,
     ) -> Result<(), OutOfMemory> {
         for _round in 0..ROUNDS {
-            if shown_goal(&self.now, grid).is_some() {
+            if self.now.size() != grid.size() || shown_goal(&self.now, grid).is_some() {
                 return Ok(());
             }
             let before = self.steps.len();
@@ -93,9 +93,7 @@ impl Rounds {
                 self.look(p, grade, KINDS[kind])?;
             }
         }
-        for step in &self.steps.as_slice()[before..] {
-            take(&mut self.now, step);
-        }
+        catch_up(&mut self.now, self.steps.as_slice(), before);
         Ok(())
     }
 
@@ -221,7 +219,7 @@ impl Rounds {
         reason: &Reason,
         cell: usize,
     ) -> Result<(), OutOfMemory> {
-        if !grade.has(*reason) {
+        if cell >= CELLS || !grade.has(*reason) {
             return Ok(());
         }
         let values = struck(p, &self.now, reason, cell).intersection(left(&self.next, cell));
@@ -236,6 +234,13 @@ impl Rounds {
         take(&mut self.next, &step);
         self.steps.push(step)?;
         Ok(())
+    }
+}
+
+// Takes away what the steps from a place on list.
+fn catch_up(candidates: &mut Candidates, steps: &[Step], from: usize) {
+    for place in from..steps.len() {
+        take(candidates, &steps[place]);
     }
 }
 

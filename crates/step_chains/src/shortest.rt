@@ -102,6 +102,9 @@ impl Least {
         rounds: &Rounds,
     ) -> Result<(), OutOfMemory> {
         let width = grid.size().get() as usize;
+        if rounds.now.size() != grid.size() {
+            return Ok(());
+        }
         for cell in 0..width * width {
             if let Some(goal) = shown_in_square(&rounds.now, grid, cell) {
                 self.try_goal(alloc, p, rounds, goal)?;
@@ -133,7 +136,11 @@ impl Least {
         rounds: &Rounds,
         line: u8,
     ) -> Result<(), OutOfMemory> {
-        for index in 0..grid.size().get() {
+        let size = grid.size();
+        if rounds.now.size() != size || line >= 2 * size.get() {
+            return Ok(());
+        }
+        for index in 0..size.get() {
             if let Some(goal) = shown_in_place(&rounds.now, grid, line, index) {
                 self.try_goal(alloc, p, rounds, goal)?;
             }
