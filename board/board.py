@@ -4,6 +4,8 @@ from __future__ import annotations
 
 from typing import Any, Dict, FrozenSet, List, Mapping, NamedTuple, Optional, Tuple
 
+from board.steps import Step, steps_of
+
 #: Column and row of a square, counted from 0; of a clue, with -1 or the size at the edge.
 Place = Tuple[int, int]
 
@@ -92,6 +94,17 @@ class Hint(NamedTuple):
     #: The square, counted in reading order from 0.
     cell: Optional[int]
     number: Optional[int]
+    #: The letter of the least grade that has the steps; nothing where no steps lead there.
+    grade: Optional[str] = None
+    #: The row or column in which the number has no other square, if that shows it.
+    line: Optional[int] = None
+    #: The steps as objects, and all of it in sentences, each cut into lines.
+    told: List[Mapping[str, Any]] = []
+    text: List[str] = []
+
+    def steps(self, size: int) -> List[Step]:
+        """The steps, on a board of this size."""
+        return steps_of(self.told, size)
 
     def square(self, size: int) -> Optional[Place]:
         """Of a board of this size."""
@@ -108,6 +121,8 @@ class Reply(NamedTuple):
     board: Optional[Board] = None
     completable: Optional[str] = None
     hint: Optional[Hint] = None
+    #: The letter of the puzzle's grade.
+    grade: Optional[str] = None
     #: The line was carried out or refused, and memory for the reply was lacking.
     is_lost: bool = False
 
@@ -118,8 +133,13 @@ def reply_of(data: Mapping[str, Any]) -> Reply:
         return Reply(str(data['lost']), [], None, is_lost=True)
     session = session_of(data['session']) if data['session'] else None
     board = board_of(data['board'], session) if session and data.get('board') else None
-    hint = Hint(data['hint']['kind'], data['hint']['cell'], data['hint']['number']) if data.get('hint') else None
-    return Reply(data['refused'], list(data['reply']), session, board, data.get('completable'), hint)
+    hint = hint_of(data['hint']) if data.get('hint') else None
+    return Reply(data['refused'], list(data['reply']), session, board, data.get('completable'), hint, data.get('grade'))
+
+
+def hint_of(data: Mapping[str, Any]) -> Hint:
+    """A hint; a program that tells no steps has none."""
+    return Hint(data['kind'], data['cell'], data['number'], data.get('grade'), data.get('line'), data.get('steps', []), data.get('text', []))
 
 
 def session_of(data: Mapping[str, Any]) -> Session:

@@ -11,10 +11,12 @@ from board.choices import Choice
 from board.dialogues import Dialogues
 from board.file_names import file_name, offered, question
 from board.layout import Layout, fit
+from board.lessons import Told
 from board.picture import Look, Piece, grade, has_room, name, picture, too_small
 from board.screen import Key, Screen
 from board.menu import Menu
 from board.state import Home, State
+from board.steps import Shown
 from board.table import Table
 from board.texts import BY_KEYS
 from board.typed import is_number
@@ -47,6 +49,7 @@ class FullScreen:
             'd': self._done_mark,
             'R': self._restart,
             'h': self._hint,
+            'H': self._why,
             'c': self._check,
             'b': self._back,
             'S': self._solve,
@@ -65,6 +68,9 @@ class FullScreen:
             'resize': self._nothing,
         }
         self._file = ''
+        self._shown = Shown()
+        #: Which step of a hint is shown, while the arrows walk along them.
+        self._step: Optional[int] = None
         self._is_over = False
         #: Whether the player goes on in lines of text.
         self.wants_lines = False
@@ -102,6 +108,12 @@ class FullScreen:
             return
         if key != 'resize':
             self.table.message = ''
+            self._shown = Shown()
+        if self._step is not None and key in keys.ALONG:
+            self._walk(self._step + keys.ALONG[key])
+            return
+        if key != 'resize':
+            self._step = None
         if key in keys.STEPS:
             self._move(*keys.STEPS[key])
         elif is_number(key) and key != '0':
@@ -116,7 +128,8 @@ class FullScreen:
         return fit(board.size, board.session.game == 'towers', *self._screen.size)
 
     def _look(self) -> Look:
-        return Look(self._cursor, self._is_pencil, self.table.message, self.table.trouble, self._screen.has_lines, self.table.hints)
+        table = self.table
+        return Look(self._cursor, self._is_pencil, table.message, table.trouble, self._screen.has_lines, table.hints, self._shown, table.grade)
 
     def _pieces(self) -> List[Piece]:
         if not self.table.has_game:
@@ -230,11 +243,31 @@ class FullScreen:
     # --- questions to the program ---
 
     def _hint(self) -> None:
-        place = self.table.hint()
-        if place is not None:
-            self._cursor = place
-            if not self.table.message:
-                self.table.message = 'Here only one number is left: the deductions rule out all others. h again tells it.'
+        told = self.table.hint()
+        if told is not None:
+            self._show(told)
+            self.table.message = told.text and f'{told.text} h again: more.'
+
+    def _show(self, told: Told) -> None:
+        """Points at what a part of a hint speaks of."""
+        self._cursor = told.place
+        self._shown = told.shown
+
+    def _why(self) -> None:
+        """All steps of a hint as a page; after that the arrows walk along them on the board."""
+        lesson = self.table.lesson()
+        if lesson:
+            self._page('Why', lesson.whole(self.table.board))
+            self._walk(0)
+
+    def _walk(self, at: int) -> None:
+        lesson = self.table.lesson()
+        self._step = None
+        if lesson:
+            self._step = at % lesson.length()
+            told = lesson.part(self._step, self.table.board)
+            self._show(told)
+            self.table.message = f'{told.text} {self._step + 1} of {lesson.length()}: arrows walk on.'
 
     def _check(self) -> None:
         self.table.check()

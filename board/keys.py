@@ -10,7 +10,6 @@ STEPS: Dict[str, Tuple[int, int]] = {
     'right': (1, 0),
     'up': (0, -1),
     'down': (0, 1),
-    'H': (-1, 0),
     'L': (1, 0),
     'K': (0, -1),
     'J': (0, 1),
@@ -18,6 +17,9 @@ STEPS: Dict[str, Tuple[int, int]] = {
     'k': (0, -1),
     'j': (0, 1),
 }
+
+#: Keys that walk along the steps of a hint.
+ALONG: Dict[str, int] = {'left': -1, 'up': -1, 'right': 1, 'down': 1}
 
 #: Keys that do their work where the board has no room, too.
 WITHOUT_BOARD = {'n', 'o', 'w', 'i', '?', 'T', 'Z', '\x0c', 'q', '\x03', 'resize'}

@@ -68,6 +68,7 @@ class LineMode:
             'column': lambda text: self._line(text, 'column', speech.column),
             'clues': lambda _: say(*speech.clues(self._table.board)),
             'hint': self._hint,
+            'why': self._why,
             'check': self._check,
             'tidy': lambda _: self._table.toggle_marks(),
             'back': self._back,
@@ -198,9 +199,20 @@ class LineMode:
         say(*manual.RULES[self._table.game])
 
     def _hint(self, _: str) -> None:
-        place = self._table.hint()
-        if place is not None and not self._table.message:
-            say(f"In {speech.at(place)} only one number is left: the deductions rule out all others. 'hint' again tells it.")
+        before = self._table.board
+        told = self._table.hint()
+        if told is None:
+            return
+        if told.spoken:
+            say(f"{told.spoken} 'hint' again tells more.")
+        else:
+            say(speech.change(before, self._table.board))
+            self._say_state(self._table.board, speech.faults(before))
+
+    def _why(self, _: str) -> None:
+        lesson = self._table.lesson()
+        if lesson:
+            say(*(lesson.part(at, self._table.board).spoken for at in range(lesson.length())))
 
     def _check(self, _: str) -> None:
         self._table.check()

@@ -5,14 +5,14 @@ from __future__ import annotations
 from typing import Dict, List
 
 KEYS: List[str] = [
-    'arrows or HJKL  move; Towers: onto the clues at the edge, too',
+    'arrows          move; Towers: onto the clues at the edge, too',
     '1 to 9          a number, or a pencil mark where PENCIL is shown',
     'Enter or p      numbers or pencil marks; d or Enter on a clue: done',
     'Space 0 Delete  clear the square;  m  all marks in all empty squares',
     'M marks go when their number is put into their row or column; or stay',
     'u Ctrl-Z undo   r Ctrl-R redo   R back to the start (u undoes that)',
-    'h hint: the square that follows, then its number;  S solve (asks)',
-    'c can these numbers be completed;  b undo until they can',
+    'h hint: where to look, then the step, then the number;  H all steps',
+    'c can these numbers be completed;  b undo until they can;  S solve',
     'n new game   o open: the other game, the last ten, a file   w save as',
     'i the ID   : a command of the program   Z to the shell, fg comes back',
     'T lines of text   q quit: the game is kept, and goes on next time',
@@ -52,7 +52,8 @@ LINES: List[str] = [
     '  x y                    what there is to say of a square',
     '  row y, column x        what is in a row or a column',
     '  clues                  the clues, or the signs',
-    '  hint                   a square that follows; once more: its number',
+    '  hint                   where to look; once more: the step, and at last the number',
+    '  why                    all steps to the next number',
     '  check, back            can these numbers be completed; undo until they can',
     '  tidy                   from now on, marks go when their number is put into',
     '                         their row or column; once more: they stay',

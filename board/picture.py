@@ -9,6 +9,7 @@ from typing import Iterator, List, NamedTuple, Optional
 from board.board import GAMES, Board, Place
 from board.games import GRADES
 from board.hints import told as hints_told
+from board.steps import Shown
 from board.layout import Layout, wanted
 
 
@@ -24,6 +25,7 @@ class Style(Enum):
     CLUE = 'clue'
     DONE = 'done'
     WRONG = 'wrong'
+    SHOWN = 'shown'
 
 
 class Piece(NamedTuple):
@@ -47,6 +49,10 @@ class Look(NamedTuple):
     has_lines: bool = True
     #: How many hints the game had.
     hints: int = 0
+    #: What a hint points at.
+    shown: Shown = Shown()
+    #: The letter of the puzzle's grade, by the program's own steps.
+    grade: str = ''
 
 
 #: The corners and crossings of the grid by rows, then the line across and the one down.
@@ -59,12 +65,12 @@ KEYS_BELOW = [
 ]
 #: So many lines of a message have room at the side, where the window is tall enough.
 MESSAGE_LINES = 6
-KEYS_ASIDE = ['1-9 number  p pencil', '0 clear     m all marks', 'u undo      r redo', 'h hint      c check', 'n new       o open', '? all keys  q quit']
+KEYS_ASIDE = ['1-9 number  p pencil', '0 clear     m all marks', 'u undo      r redo', 'h hint H why c check', 'n new       o open', '? all keys  q quit']
 
 
 def picture(board: Board, layout: Layout, look: Look) -> List[Piece]:
     """The whole screen."""
-    pieces = [*_grid(layout, look), *_squares(board, layout, look), *_signs(board, layout), *_clues(board, layout, look)]
+    pieces = [*_grid(layout, look), *_squares(board, layout, look), *_shown(board, layout, look), *_signs(board, layout), *_clues(board, layout, look)]
     return pieces + list(_texts_below(board, layout, look) if layout.side is None else _texts_aside(board, layout, look, layout.side))
 
 
@@ -89,6 +95,12 @@ def name(board: Board) -> str:
 
 def grade(board: Board) -> str:
     return GRADES[board.session.game].get(board.session.letter, '')
+
+
+def grades(board: Board, own: str) -> str:
+    """The grade that the ID has, and the one that the program finds, where that is another."""
+    found = GRADES[board.session.game].get(own, '')
+    return ', '.join(filter(None, [grade(board), f'{found} by our steps' if found != grade(board) and found else '']))
 
 
 def state(board: Board) -> str:
@@ -190,6 +202,13 @@ def _squares(board: Board, layout: Layout, look: Look) -> Iterator[Piece]:
             yield Piece(line, column + indent, marks_text(marks, board.size, layout.wide - indent), Style.MARKS, is_cursor)
 
 
+def _shown(board: Board, layout: Layout, look: Look) -> Iterator[Piece]:
+    """A sign in the corner of each square that a hint points at: - where a number is ruled out, * where that rests on."""
+    for place in board.squares:
+        if place in look.shown.struck or place in look.shown.rests_on:
+            yield Piece(*layout.corner(place), '-' if place in look.shown.struck else '*', Style.SHOWN, place == look.cursor)
+
+
 def _signs(board: Board, layout: Layout) -> Iterator[Piece]:
     for sign in board.signs:
         style = Style.WRONG if sign.is_wrong else Style.CLUE
@@ -207,8 +226,9 @@ def _signs(board: Board, layout: Layout) -> Iterator[Piece]:
 def _clues(board: Board, layout: Layout, look: Look) -> Iterator[Piece]:
     done = (LINES if look.has_lines else PLAIN_LINES)[-1]
     for place, clue in board.clues.items():
-        style = Style.WRONG if clue.is_wrong else Style.DONE if clue.is_done else Style.CLUE
-        text = f'{clue.number}{"!" if clue.is_wrong else done if clue.is_done else " "}'
+        is_shown = place in look.shown.rests_on
+        style = Style.WRONG if clue.is_wrong else Style.SHOWN if is_shown else Style.DONE if clue.is_done else Style.CLUE
+        text = f'{clue.number}{"!" if clue.is_wrong else "*" if is_shown else done if clue.is_done else " "}'
         yield Piece(*layout.centre(place), text, style, place == look.cursor)
 
 
@@ -220,7 +240,7 @@ def _message(board: Board, layout: Layout, look: Look) -> List[Piece]:
 
 def _texts_below(board: Board, layout: Layout, look: Look) -> Iterator[Piece]:
     between = f' {LINES[-1] if look.has_lines else "-"} '
-    words = [name(board), grade(board), state(board), hints_told(look.hints), 'PENCIL' if look.is_pencil else '', between.join(counts(board))]
+    words = [name(board), grades(board, look.grade), state(board), hints_told(look.hints), 'PENCIL' if look.is_pencil else '', between.join(counts(board))]
     titles = [gap.join(filter(None, words)) for gap in ('   ', '  ', ' ')]
     title = next((title for title in titles if len(title) < layout.columns), titles[-1])
     keys = next((keys for keys in KEYS_BELOW if len(keys) < layout.columns - 1), '? keys')
@@ -243,7 +263,7 @@ def _texts_aside(board: Board, layout: Layout, look: Look, side: int) -> Iterato
 
 
 def _side_title(board: Board, look: Look) -> List[str]:
-    words = [name(board), grade(board), *counts(board), state(board), hints_told(look.hints), 'PENCIL' if look.is_pencil else '']
+    words = [name(board), *grades(board, look.grade).split(', '), *counts(board), state(board), hints_told(look.hints), 'PENCIL' if look.is_pencil else '']
     return [word for word in words if word]
 
 

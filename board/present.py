@@ -8,7 +8,8 @@ import time
 from typing import Dict, Optional, Protocol
 
 from board import files, hints, texts
-from board.board import Board, Place, Reply
+from board.board import Board, Reply
+from board.lessons import Lesson, Told
 from board.program import Gone, Program, Refused, Stopped, Waiting, save_to, started_with
 from board.state import NotKept, Shelf, State
 from board.texts import Ways
@@ -46,7 +47,9 @@ class PresentGame:
         self._program: Optional[Program] = None
         self._board: Optional[Board] = None
         self._saved = b''
-        self._hinted: Optional[Reply] = None
+        self._lesson: Optional[Lesson] = None
+        #: The letter of the puzzle's grade, by the program's own steps; nothing where it has none.
+        self.grade = ''
         #: How many hints the present game had.
         self.hints = 0
         #: Positions after numbers whose marks went with them, and those before these marks.
@@ -77,7 +80,6 @@ class PresentGame:
         self.message = ''
         before, steps = self.board.session.position, self._steps(line)
         reply = self.ask(line)
-        self._hinted = None
         if reply is None or (self.message and not reply.is_lost):
             return None
         if not reply.is_lost:
@@ -134,24 +136,36 @@ class PresentGame:
             self.message = texts.of_line(line, reply.refused, self.game, self.board.size, self.ways)
         return reply
 
-    def hint(self) -> Optional[Place]:
-        """Where a number follows. Asked once more, the sentence tells the number."""
+    def hint(self) -> Optional[Told]:
+        """The next part of a hint. Nothing where there is none, or what it does is refused; a sentence says so then."""
+        lesson = self.lesson()
+        told = lesson.next(self.board) if lesson else None
+        if told is None:
+            self._lesson = None
+            return None
+        if not all(self.play(line) for line in told.lines):
+            return None
+        return told
+
+    def lesson(self) -> Optional[Lesson]:
+        """The hint of the board's numbers, as far as it was told. Nothing where none follows; a sentence says so then."""
         self.message = ''
-        again = self._hinted
-        if again is not None and again.hint and again.session == self.board.session:
-            self.message = f'It is a {again.hint.number}.'
-            return again.hint.square(self.board.size)
+        if self._lesson is None or not self._lesson.fits(self.board):
+            self._lesson = self._new_lesson()
+        return self._lesson
+
+    def _new_lesson(self) -> Optional[Lesson]:
         reply = self.ask('hint')
         if reply is None or reply.hint is None:
             return None
-        if reply.hint.cell is None:
+        place = reply.hint.square(self.board.size)
+        if place is None:
             is_full = self.board.is_full and reply.hint.kind == 'nothing'
             self.message = (texts.SOLVED if self.board.is_solved else 'The board is full.') if is_full else texts.HINTS[reply.hint.kind]
             return None
-        self._hinted = reply
         self.hints += 1
         self.state.keep_hints(self._of_hints())
-        return reply.hint.square(self.board.size)
+        return Lesson(reply.hint, place, self.board)
 
     def check(self) -> None:
         """Whether the numbers can still be completed."""
@@ -248,7 +262,7 @@ class PresentGame:
         if self._program:
             self._program.stop()
         self._program = program
-        self._hinted = None
+        self._lesson = None
         self._joined = {}
         if program.first.board is None:
             raise Gone(texts.LOST if program.first.is_lost else f"it doesn't tell its board: {program.first.refused}")
@@ -257,7 +271,16 @@ class PresentGame:
         self.state.take(shelf)
         self.hints = hints.count_in(of_hints, self.board.session.id)
         self.state.keep_hints(self._of_hints())
+        self.grade = self._told_grade()
         self._keep()
+
+    def _told_grade(self) -> str:
+        """The grade; nothing where there is none, or the program has no line that tells it."""
+        told = self.message
+        reply = self.ask('grade')
+        if reply is not None:
+            self.message = told
+        return (reply.grade if reply else None) or ''
 
     def _look(self) -> None:
         reply = self.ask('board')

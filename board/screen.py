@@ -37,7 +37,7 @@ CHARACTERS = {'\r': 'enter', '\n': 'enter', '\x7f': 'backspace', '\b': 'backspac
 SEQUENCES = {'[A': 'up', '[B': 'down', '[C': 'right', '[D': 'left', '[3~': 'delete', '[5~': 'page up', '[6~': 'page down'}
 
 #: Colours of 8, and of 256 where there are so many.
-COLOURS = {Style.WRONG: (curses.COLOR_RED, 9), Style.OWN: (curses.COLOR_GREEN, 34), Style.MARKS: (curses.COLOR_BLUE, 33)}
+COLOURS = {Style.WRONG: (curses.COLOR_RED, 9), Style.OWN: (curses.COLOR_GREEN, 34), Style.MARKS: (curses.COLOR_BLUE, 33), Style.SHOWN: (curses.COLOR_YELLOW, 178)}
 
 #: How a piece looks besides, and without colours.
 ATTRIBUTES = {
@@ -47,6 +47,7 @@ ATTRIBUTES = {
     Style.CLUE: curses.A_BOLD,
     Style.DONE: curses.A_DIM,
     Style.WRONG: curses.A_BOLD,
+    Style.SHOWN: curses.A_BOLD,
 }
 
 ENDING = (signal.SIGHUP, signal.SIGTERM, signal.SIGINT)

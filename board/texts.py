@@ -100,7 +100,7 @@ LINES: Dict[str, str] = {
 #: What there is to say of hints that name no square, and of the ways to complete the numbers.
 HINTS = {
     'nothing': 'No number follows by the deductions alone: try one, or mark what may be there.',
-    'contradiction': 'No solution keeps these numbers, by the deductions alone: undo some.',
+    'contradiction': 'These numbers contradict one another: undo some.',
 }
 COMPLETABLE = {
     'none': "These numbers can't be completed: undo some.",

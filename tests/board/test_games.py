@@ -139,7 +139,7 @@ GAMES: List[BoardGame] = [
         'pages',
         ['unequal', '4!7'],
         [
-            Look('?', ['arrows or HJKL', 'says which of them has the greater', 'any key goes back']),
+            Look('?', ['arrows          move', 'says which of them has the greater', 'any key goes back']),
             Look('xi', ['The ID of this puzzle', "puzzles-play unequal '4:"]),
             Look('x:list 3<enter>', ['move 0/0']),
             Look(':show<enter>', ['any key goes back']),

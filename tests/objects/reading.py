@@ -15,7 +15,7 @@ TEXT = re.compile(r'"(?:[^"\\]|\\.)*"')
 MOST_BYTES = 1024
 
 #: The lines that the plain program doesn't know.
-OWN_LINES = (b'board', b'completable', b'hint')
+OWN_LINES = (b'board', b'completable', b'hint', b'grade')
 
 
 class Unread(Exception):

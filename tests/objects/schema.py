@@ -8,15 +8,24 @@ def text(value: object) -> bool:
     return isinstance(value, str) and '\n' not in value and max(value, default='') <= '\xff'
 
 
+def short(value: object) -> bool:
+    """A line of a sentence: ASCII, and at most 100 characters."""
+    return isinstance(value, str) and text(value) and value.isascii() and len(value) <= 100
+
+
 BOOLEAN = (True, False)
 CELL = range(81)
 DIGIT = range(10)
 NUMBER = range(1, 10)
+LINE = range(18)
+PLACE = range(-1, 10)
 
 #: Texts that stand for one of a few things.
 STATUSES = ('playing', 'solved', 'helped')
 COUNTS = ('none', 'one', 'several')
 KINDS = ('follows', 'nothing', 'contradiction')
+REASONS = ('given', 'peer', 'place', 'bound', 'stand', 'clue', 'sign', 'set')
+GRADES = ('t', 'e', 'h', 'k')
 
 #: The keys of the objects within an object.
 SESSION: Dict[str, Any] = {
@@ -26,7 +35,7 @@ SESSION: Dict[str, Any] = {
     'states': range(1, 100_001),
     'status': STATUSES,
 }
-CLUE: Dict[str, Any] = {'clue': NUMBER, 'done': BOOLEAN, 'error': BOOLEAN, 'x': range(-1, 10), 'y': range(-1, 10)}
+CLUE: Dict[str, Any] = {'clue': NUMBER, 'done': BOOLEAN, 'error': BOOLEAN, 'x': PLACE, 'y': PLACE}
 SIGN: Dict[str, Any] = {'error': BOOLEAN, 'greater': CELL, 'less': CELL}
 BOARD: Dict[str, Any] = {
     'cheated': BOOLEAN,
@@ -39,17 +48,40 @@ BOARD: Dict[str, Any] = {
     'signs': [SIGN],
     'size': range(3, 10),
 }
-HINT: Dict[str, Any] = {'cell': (None, CELL), 'kind': KINDS, 'number': (None, NUMBER)}
+STRIKE: Dict[str, Any] = {'cell': CELL, 'numbers': [NUMBER]}
+STEP: Dict[str, Any] = {
+    'cells': (None, [CELL]),
+    'clue': (None, NUMBER),
+    'greater': (None, CELL),
+    'less': (None, CELL),
+    'line': (None, LINE),
+    'numbers': (None, [NUMBER]),
+    'reason': REASONS,
+    'strikes': [STRIKE],
+    'text': [short],
+    'x': (None, PLACE),
+    'y': (None, PLACE),
+}
+HINT: Dict[str, Any] = {
+    'by': (None, 'value', 'line'),
+    'cell': (None, CELL),
+    'grade': (None, *GRADES),
+    'kind': KINDS,
+    'line': (None, LINE),
+    'number': (None, NUMBER),
+    'steps': [STEP],
+    'text': [short],
+}
 
 #: What each object has that answers a line, and what besides, by the line that it answers.
 COMMON: Dict[str, Any] = {'refused': (None, text), 'reply': [text], 'session': (None, SESSION)}
-ANSWERS: Dict[str, Any] = {'board': BOARD, 'completable': COUNTS, 'hint': HINT}
+ANSWERS: Dict[str, Any] = {'board': BOARD, 'completable': COUNTS, 'grade': (None, *GRADES), 'hint': HINT}
 LOST: Dict[str, Any] = {'lost': 'OutOfMemory'}
 
 
 def names() -> Set[str]:
     """All keys that there are."""
-    return {key for table in (COMMON, ANSWERS, SESSION, BOARD, CLUE, SIGN, HINT, LOST) for key in table}
+    return {key for table in (COMMON, ANSWERS, SESSION, BOARD, CLUE, SIGN, HINT, STEP, STRIKE, LOST) for key in table}
 
 
 def unfit(place: str, value: object, shape: Any) -> Iterator[str]:

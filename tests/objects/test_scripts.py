@@ -31,7 +31,7 @@ BAD_IDS = [
 #: Lines that no random choice would meet soon.
 ODD: List[bytes] = [
     b'', b'\r', b'\r\r', b' ', b'undo ', b'undo x', b'Undo', b'move', b'move ', b'new', b'list', b'list 0', b'list 101', b'list 05',
-    b'board ', b'board x', b'BOARD', b'hint ', b'hint 1', b'completable x', b'{"line":"undo"}', b'"', b'\\', b'\x00', b'\x7f',
+    b'board ', b'board x', b'BOARD', b'hint ', b'hint 1', b'grade ', b'grade 1', b'completable x', b'{"line":"undo"}', b'"', b'\\', b'\x00', b'\x7f',
     b'\x1b[A', b'\xff\xfe', b'move R0,0,\xb2', b'new 3:\xc3\xa9', b'undo\x00', b'\xc3\xa9' * 300, b'x' * 1024, b'x' * 1025,
     b'x' * 1024 + b'\r', b'x' * 1023 + b'\r', b'y' * 5000, b'move R01,0,1', b'move H0,0,1', b'move F0,0,1', b'move S123',
     b'move D-0,1', b'quit ',
@@ -68,7 +68,7 @@ MOVE = st.one_of(
     st.tuples(st.sampled_from([-1, 0, 3, 4]), NUMBER).map(lambda xy: b'move D%d,%d' % xy),
     st.tuples(NUMBER, st.sampled_from([-1, 0, 3, 4])).map(lambda xy: b'move D%d,%d' % xy),
 )
-CALL = st.sampled_from([b'undo', b'undo', b'redo', b'redo', b'restart', b'solve', b'save', *BOARD, b'completable', b'hint', *(b'list %d' % most for most in range(7))])
+CALL = st.sampled_from([b'undo', b'undo', b'redo', b'redo', b'restart', b'solve', b'save', *BOARD, b'completable', b'hint', b'grade', *(b'list %d' % most for most in range(7))])
 BYTES = st.lists(st.one_of(st.sampled_from(CAREFUL), st.binary(min_size=1, max_size=1)), max_size=12).map(b''.join)
 
 
@@ -111,7 +111,7 @@ def scripts(draw: st.DrawFn) -> Script:
     typed = draw(st.lists(lines(game), min_size=4, max_size=14))
     if draw(st.integers(0, 9)) == 0:
         typed[:0] = [b'new 3:3//////3/////' if game == 'towers' else b'solve', *SOLVED]
-    some: List[List[bytes]] = [[], [], BOARD, [*BOARD, b'completable'], [*BOARD, b'hint'], [*BOARD, b'completable', b'hint']]
+    some: List[List[bytes]] = [[], [], BOARD, [*BOARD, b'completable'], [*BOARD, b'hint'], [*BOARD, b'completable', b'hint', b'grade']]
     groups = [[line, *SESSION, *draw(st.sampled_from(some))] for line in typed]
     return Script(game, words, save, groups, draw(st.sampled_from([[], [b''], [b'quit'], [b'quit', b'undo', b'board']])))
 

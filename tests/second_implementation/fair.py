@@ -7,7 +7,7 @@ from typing import Iterator, List, Optional, Sequence, Tuple
 from tests.second_implementation.puzzles import Numbers, Puzzle, is_latin
 from tests.second_implementation.refusal import Refused
 from tests.second_implementation.seeded import full_puzzle, square, without_item
-from tests.second_implementation.steps import EASY, HARD, LATIN, follows
+from tests.second_implementation.grades import EASY, HARD, LATIN, follows
 from tests.second_implementation.stream import shuffled, words_of_key
 
 #: The letters of each game's grades.

@@ -16,6 +16,7 @@ mod saving;
 mod seeded_games;
 mod sessions;
 mod sets_of_numbers;
+mod step_texts;
 mod texts;
 mod third_game;
 mod towers_lines;

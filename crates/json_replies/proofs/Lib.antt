@@ -1,6 +1,9 @@
 pub mod ReplyLines
 pub mod ObjectTexts
 pub mod Spellings
+pub mod HintSpellings
+pub mod ToldHints
+pub mod ToldLooks
 pub mod ToldReplies
 pub mod Listed
 pub mod WholeReplies

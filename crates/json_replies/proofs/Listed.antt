@@ -1,7 +1,7 @@
 -- Lists of values that grow at their end.
-use Rattle.std.proofs.Common.{◌≡◌, ℕ, ◌+◌, List, [], ◌∷◌, ◌++◌, map, ap, ◌∙◌, arith}
+use Rattle.std.proofs.Common.{◌≡◌, ℕ, ◌+◌, ◌<◌, List, [], ◌∷◌, ◌++◌, length, map, take, get_or, refl, sym, ap, ◌∙◌, arith}
 use Rattle.std.specs.List.{range_with_len, flat_map}
-use Rattle.std.proofs.lemmas.List.{map-append}
+use Rattle.std.proofs.lemmas.List.{map-append, take_more}
 use Rattle.serde_json.specs.Data.{Data}
 use Rattle.serde_json.specs.View.{view}
 use Rattle.serde_json.specs.declared.value.Value.{Value}
@@ -17,3 +17,15 @@ push_viewed items more v d grown is =
 pub one_more : (f : ℕ → List Data) (xs ys : List Data) (m n : ℕ) → n ≡ m + 1 → xs ≡ flat_map f (range_with_len 0 m)
     → ys ≡ xs ++ f m → ys ≡ flat_map f (range_with_len 0 n)
 one_more f xs ys m n next old more = flat_map_onto f [] xs ys 0 m n m next (omega arith) old more
+
+-- what f gives for one item more
+pub one_item_more : {A : Type 0} (f : A → Data) (items : List A) (i : ℕ) (item : A) (xs ys : List Data) → i < length items → item ≡ get_or items i item
+    → xs ≡ map f (take i items) → ys ≡ xs ++ f item ∷ [] → ys ≡ map f (take (i + 1) items)
+one_item_more {A} f items i item xs ys inside is old more =
+    let grown : take (i + 1) items ≡ take i items ++ item ∷ [] = take_more items i item inside ∙ ap (λ (a : A). take i items ++ a ∷ []) (sym is) in
+    more ∙ ap (λ ds. ds ++ f item ∷ []) old ∙ sym (map-append f (take i items) (item ∷ [])) ∙ sym (ap (map f) grown)
+
+-- one function after another
+pub map_twice : {A B C : Type 0} (g : B → C) (f : A → B) (items : List A) → map g (map f items) ≡ map (λ (a : A). g (f a)) items
+map_twice g f [] = refl
+map_twice g f (item ∷ items) = ap (λ cs. g (f item) ∷ cs) (map_twice g f items)

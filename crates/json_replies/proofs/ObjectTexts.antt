@@ -17,7 +17,7 @@ use Rattle.serde_json.specs.View.{items_of}
 use Rattle.serde_json.specs.Written.{outline, items_outline, members_outline, IsInOrder, comma_if, compact_text, items_text, members_text}
 use Rattle.serde_json.proofs.Texts.{tokens_from_order, print-outline}
 use Rattle.json_replies.specs.declared.further_line.FurtherLine.{FurtherLine}
-use Rattle.json_replies.specs.declared.further_line.FurtherLine.TheVariants.{Board, Completable, Hint}
+use Rattle.json_replies.specs.declared.further_line.FurtherLine.TheVariants.{Board, Completable, Hint, Grade}
 use Rattle.json_replies.specs.Texts.{text_data, lines_of, lines_data}
 use Rattle.json_replies.specs.FurtherLines.{further_key}
 use Rattle.json_replies.specs.Replies.{name_data, reply_members, reply_data}
@@ -186,6 +186,7 @@ put_answer : (which : FurtherLine) (answer game : Data)
 put_answer Board answer game = refl
 put_answer Completable answer game = refl
 put_answer Hint answer game = refl
+put_answer Grade answer game = refl
 
 -- the object of an answer, with the session behind it
 abbrev answer_data : FurtherLine → Data → Data → Data
@@ -212,14 +213,14 @@ reply_is_line refused reply session start line new fits empty opened whole plain
     (spelled_reply refused reply session fits).flat
     (ap (λ l. l ++ members_text false (reply_members refused reply session)) (opened ∙ ap (λ (l : List ℕ). l ++ 123 ∷ []) empty)) whole
 
-answer_flat : (which : FurtherLine) (answer session : Data) → Fits 3 answer → Fits 1 session → depth (answer_data which answer session) ≤ max_depth
+answer_flat : (which : FurtherLine) (answer session : Data) → Fits 6 answer → Fits 1 session → depth (answer_data which answer session) ≤ max_depth
 answer_flat which answer session told fits =
     let a = told.flat in
     let b = fits.flat in
     omega arith
 
 pub answer_is_line : (which : FurtherLine) (key : List ℕ) (answer session : Data) (start line one new : List ℕ) → key ≡ further_key which
-    → Fits 3 answer → Fits 1 session → start ≡ [] → line ≡ start ++ 123 ∷ [] → AddsMember false key answer line one → IsPlain answer
+    → Fits 6 answer → Fits 1 session → start ≡ [] → line ≡ start ++ 123 ∷ [] → AddsMember false key answer line one → IsPlain answer
     → new ≡ (one ++ members_text true (reply_members None [] session)) ++ 10 ∷ [] → IsPlain session
     → IsLineOf (object (member (further_key which) answer (reply_members None [] session))) new
 answer_is_line which key answer session start line one new keyed told fits empty opened add told_plain whole plain =

@@ -12,18 +12,17 @@ use Rattle.serde_json.specs.Data.{Data}
 use Rattle.serde_json.specs.Written.{has_float}
 use Rattle.play_midend.specs.Histories.{History}
 use Rattle.board_checks.specs.Errors.{ErrorsValue, has_repeated}
-use Rattle.board_checks.specs.declared.hints.Hint.{Hint}
-use Rattle.board_checks.specs.declared.hints.Hint.TheVariants.{Follows, Nothing, Contradiction}
 use Rattle.puzzle_cli.specs.GameFacts.{GameFacts}
 use Rattle.puzzle_cli.specs.SessionReplies.{shown_board}
 use Rattle.json_replies.specs.declared.further_line.FurtherLine.{FurtherLine}
-use Rattle.json_replies.specs.declared.further_line.FurtherLine.TheVariants.{Board, Completable, Hint as AskHint}
+use Rattle.json_replies.specs.declared.further_line.FurtherLine.TheVariants.{Board, Completable, Hint as AskHint, Grade as AskGrade}
 use Rattle.json_replies.specs.Counts.{count_data}
 use Rattle.json_replies.specs.ObjectLines.{Fits}
 use Rattle.json_replies.specs.Sessions.{session_data}
 use Rattle.json_replies.specs.Boards.{when, numbers_data, givens_data, mark_set_data, marks_data, repeats_data, board_data}
-use Rattle.json_replies.specs.FurtherLines.{BoardFacts, IsAnswer, answer_data, hint_data}
+use Rattle.json_replies.specs.FurtherLines.{BoardFacts, IsAnswer, answer_data}
 use Rattle.json_replies.specs.Laws.Spellings.{no_float_or, listed_fits, when_fits}
+use Rattle.json_replies.proofs.HintSpellings.{deeper, hint_value_fits, grade_fits}
 
 -- what is told of a session
 pub session_fits : {P : Type 0} (f : GameFacts P) (session : Option (History P)) → Fits 1 (session_data f session)
@@ -76,11 +75,6 @@ answer_fits NoSolution = record { whole = refl; flat = omega arith }
 answer_fits (One g) = record { whole = refl; flat = omega arith }
 answer_fits (Several g h) = record { whole = refl; flat = omega arith }
 
-hint_fits : (hint : Hint) → Fits 3 (hint_data hint)
-hint_fits (Follows cell value) = record { whole = refl; flat = omega arith }
-hint_fits Nothing = record { whole = refl; flat = omega arith }
-hint_fits Contradiction = record { whole = refl; flat = omega arith }
-
 -- the clues and signs fit
 pub record ListsFit {P : Type 0} (b : BoardFacts P) : Type 0 where
   pub clues : (p : P) (shown : BoardValue) (e : ErrorsValue) → Fits 2 (b.clues p shown e)
@@ -88,10 +82,13 @@ pub record ListsFit {P : Type 0} (b : BoardFacts P) : Type 0 where
 
 -- what is told in answer
 pub told_fits : {P : Type 0} (f : GameFacts P) (b : BoardFacts P) → ListsFit b → (h : History P) (which : FurtherLine) (answer : Data)
-    → IsAnswer f b h which answer → Fits 3 answer
+    → IsAnswer f b h which answer → Fits 6 answer
 told_fits f b fit h Board answer (e, are, is) =
     let shown = shown_board f h in
-    subst (Fits 3) (sym is) (board_fits (f.rules.puzzle h.puzzle) shown e (b.clues h.puzzle shown e) (b.signs h.puzzle shown e)
-    (fit.clues h.puzzle shown e) (fit.signs h.puzzle shown e))
-told_fits f b fit h Completable answer (found, fits, is) = subst (Fits 3) (sym is) (answer_fits found)
-told_fits f b fit h AskHint answer (hint, sound, deduced, strong, is) = subst (Fits 3) (sym is) (hint_fits hint)
+    let fits = board_fits (f.rules.puzzle h.puzzle) shown e (b.clues h.puzzle shown e) (b.signs h.puzzle shown e)
+    (fit.clues h.puzzle shown e) (fit.signs h.puzzle shown e) in
+    subst (Fits 6) (sym is) (deeper 3 6 _ fits (omega arith))
+told_fits f b fit h Completable answer (found, fits, is) = subst (Fits 6) (sym is) (deeper 3 6 _ (answer_fits found) (omega arith))
+told_fits f b fit h AskHint answer (told, so, value) =
+    hint_value_fits (f.rules.puzzle h.puzzle).size b.letter (b.edge_clue h.puzzle) (b.says_greater h.puzzle) told answer value
+told_fits f b fit h AskGrade answer (grade, least, is) = subst (Fits 6) (sym is) (deeper 0 6 _ (grade_fits b.letter grade) (omega arith))

@@ -13,7 +13,7 @@ use Rattle.puzzle_cli.specs.GameFacts.{GameFacts}
 use Rattle.puzzle_cli.specs.Replies.{plain_text, refusal_line}
 use Rattle.puzzle_cli.proofs.WholeReplies.{answers_are_whole}
 use Rattle.json_replies.specs.declared.further_line.FurtherLine.{FurtherLine}
-use Rattle.json_replies.specs.declared.further_line.FurtherLine.TheVariants.{Board, Completable, Hint}
+use Rattle.json_replies.specs.declared.further_line.FurtherLine.TheVariants.{Board, Completable, Hint, Grade}
 use Rattle.json_replies.specs.Texts.{latin_text, text_data, lines_of, lines_text}
 use Rattle.json_replies.specs.ObjectLines.{IsLineOf, lost_line}
 use Rattle.json_replies.specs.Sessions.{game_data, session_data}
@@ -118,17 +118,20 @@ abbrev first_letter : FurtherLine → ℕ
 first_letter Board = 98
 first_letter Completable = 99
 first_letter Hint = 104
+first_letter Grade = 103
 
 answer_begins : (which : FurtherLine) (answer : Data) (others : Members)
     → get_or (first_key (object (member (further_key which) answer others))) 0 0 ≡ first_letter which
 answer_begins Board answer others = refl
 answer_begins Completable answer others = refl
 answer_begins Hint answer others = refl
+answer_begins Grade answer others = refl
 
 other_letter : (which : FurtherLine) → first_letter which ≡ 108 → ⊥
 other_letter Board is = omega arith
 other_letter Completable is = omega arith
 other_letter Hint is = omega arith
+other_letter Grade is = omega arith
 
 r_is_no_l : (b : ℕ) → b ≡ 114 → b ≡ 108 → ⊥
 r_is_no_l b is other = omega arith

@@ -16,17 +16,16 @@ use Rattle.json_replies.specs.ObjectLines.{Fits, OrLost, IsLineOf}
 use Rattle.json_replies.specs.Sessions.{session_data}
 use Rattle.json_replies.specs.JsonReplies.{TellsOutcome, TellsLine, JsonReply}
 use Rattle.json_replies.specs.declared.further_line.FurtherLine.{FurtherLine}
-use Rattle.json_replies.specs.declared.further_line.FurtherLine.TheVariants.{Board, Completable, Hint as AskHint}
-use Rattle.std.specs.Prelude.{◌≢◌}
+use Rattle.json_replies.specs.declared.further_line.FurtherLine.TheVariants.{Board, Completable, Hint as AskHint, Grade as AskGrade}
 use Rattle.latin_board.specs.Squares.{GridValue}
 use Rattle.latin_board.specs.Boards.{BoardValue, grid_of}
 use Rattle.board_checks.specs.Errors.{ErrorsValue}
 use Rattle.json_replies.specs.Boards.{board_data}
-use Rattle.board_checks.specs.Hints.{IsSound, IsDeduced, IsForced}
-use Rattle.board_checks.specs.declared.hints.Hint.{Hint}
-use Rattle.board_checks.specs.declared.hints.Hint.TheVariants.{Nothing}
+use Rattle.named_steps.specs.Graded.{IsGradeOf}
+use Rattle.named_steps.specs.declared.grade.Grade.{Grade}
+use Rattle.json_replies.specs.HintObjects.{grade_data}
 use Rattle.puzzle_cli.specs.SessionReplies.{Outcome, shown_board}
-use Rattle.json_replies.specs.FurtherLines.{BoardFacts, AreErrors, further_at, further_key, further_words, IsFurtherLine, IsAnswer, hint_data}
+use Rattle.json_replies.specs.FurtherLines.{BoardFacts, AreErrors, further_at, further_key, further_words, IsFurtherLine, IsHintAnswer, IsAnswer}
 use Rattle.json_replies.proofs.Spellings.{session_fits}
 
 pub tells_nothing : {P : Type 0} (f : GameFacts P) (said : List ℕ) (last new : Option (History P)) (bytes : List ℕ)
@@ -52,7 +51,8 @@ key_of : (text : List ℕ) (which : FurtherLine) → IsEntry further_words text 
 key_of text which (inl (same, is)) = ap Some same ∙ ap (λ w. Some (further_key w)) (sym is)
 key_of text which (inr (_, inl (same, is))) = ap Some same ∙ ap (λ w. Some (further_key w)) (sym is)
 key_of text which (inr (_, inr (_, inl (same, is)))) = ap Some same ∙ ap (λ w. Some (further_key w)) (sym is)
-key_of text which (inr (_, inr (_, inr (_, none)))) = absurd none
+key_of text which (inr (_, inr (_, inr (_, inl (same, is))))) = ap Some same ∙ ap (λ w. Some (further_key w)) (sym is)
+key_of text which (inr (_, inr (_, inr (_, inr (_, none))))) = absurd none
 
 -- the lines beside the commands are no commands
 further_read : (which : FurtherLine) → read_at (Some (further_key which)) ≡ Err BadCommand
@@ -60,6 +60,7 @@ unfolding command_at
 further_read Board = refl
 further_read Completable = refl
 further_read AskHint = refl
+further_read AskGrade = refl
 
 no_command : (line : Line) (which : FurtherLine) → further_at line ≡ Some which → IsRead line (Err BadCommand)
 no_command None which is = cc
@@ -94,15 +95,23 @@ said_told f b old line said read bytes new is gives same told =
     outcome_told f b old line (Ok (said, new)) bytes new is gives refl (subst (λ s. TellsOutcome f (Ok (s, new)) new bytes) same told)
 
 -- the answer of a hint
-pub hint_told : {P : Type 0} (f : GameFacts P) (b : BoardFacts P) (h : History P) (puzzle : P) (g : GridValue) (hint : Hint) (which : FurtherLine) (answer : Data)
-    → which ≡ AskHint → puzzle ≡ h.puzzle → g ≡ grid_of (shown_board f h) → IsSound (f.rules.puzzle puzzle) g hint
-    → IsDeduced (f.rules.puzzle puzzle) (b.strikes puzzle) g hint
-    → ((cell : ℕ) → IsForced (b.strikes puzzle) g cell → hint ≢ Nothing) → answer ≡ hint_data hint → IsAnswer f b h which answer
-hint_told {P} f b h puzzle g hint which answer asked is shown sound deduced strong told =
-    let F : P → GridValue → Type 0 = λ x y. IsSound (f.rules.puzzle x) y hint × IsDeduced (f.rules.puzzle x) (b.strikes x) y hint
-    × ((cell : ℕ) → IsForced (b.strikes x) y cell → hint ≢ Nothing) in
-    let all : F h.puzzle (grid_of (shown_board f h)) = subst (F h.puzzle) shown (subst (λ x. F x g) is (sound, deduced, strong)) in
-    let (sound', deduced', strong') = all in subst (λ w. IsAnswer f b h w answer) (sym asked) (hint, sound', deduced', strong', told)
+pub hint_told : {P : Type 0} (f : GameFacts P) (b : BoardFacts P) (h : History P) (puzzle : P) (g : GridValue) (which : FurtherLine) (answer : Data)
+    → which ≡ AskHint → puzzle ≡ h.puzzle → g ≡ grid_of (shown_board f h)
+    → IsHintAnswer (f.rules.puzzle puzzle) b.letter (b.strikes puzzle) (b.struck_by puzzle) (b.edge_clue puzzle) (b.says_greater puzzle) g answer
+    → IsAnswer f b h which answer
+hint_told {P} f b h puzzle g which answer asked is shown told =
+    let F : P → GridValue → Type 0 = λ x y.
+    IsHintAnswer (f.rules.puzzle x) b.letter (b.strikes x) (b.struck_by x) (b.edge_clue x) (b.says_greater x) y answer in
+    let all : F h.puzzle (grid_of (shown_board f h)) = subst (F h.puzzle) shown (subst (λ x. F x g) is told) in
+    subst (λ w. IsAnswer f b h w answer) (sym asked) all
+
+-- the answer of the grade
+pub grade_told : {P : Type 0} (f : GameFacts P) (b : BoardFacts P) (h : History P) (puzzle : P) (grade : Option Grade) (which : FurtherLine) (answer : Data)
+    → which ≡ AskGrade → puzzle ≡ h.puzzle → IsGradeOf (f.rules.puzzle puzzle) (b.struck_by puzzle) grade → answer ≡ grade_data b.letter grade
+    → IsAnswer f b h which answer
+grade_told {P} f b h puzzle grade which answer asked is least told =
+    let all = subst (λ (x : P). IsGradeOf (f.rules.puzzle x) (b.struck_by x) grade) is least in
+    subst (λ w. IsAnswer f b h w answer) (sym asked) (grade, all, told)
 
 -- the answer of the board
 pub board_told : {P : Type 0} (f : GameFacts P) (b : BoardFacts P) (h : History P) (puzzle : P) (g : GridValue) (board : BoardValue) (e : ErrorsValue)

@@ -1,21 +1,22 @@
 -- The lines beside the commands, and what is told to each.
-use Rattle.std.specs.Prelude.{◌≡◌, ◌≢◌, ◌↔◌, ℕ, List, [], ◌∷◌, codes, IsTrue, Option, Some, None, Err}
-use Rattle.serde_json.specs.Data.{Data, null, string, object, no_members, member}
+use Rattle.std.specs.Prelude.{◌≡◌, ◌↔◌, ℕ, Bool, List, [], ◌∷◌, codes, IsTrue, Option, Some, None, Err}
+use Rattle.serde_json.specs.Data.{Data, string, object, member}
 use Rattle.latin_board.specs.Boards.{BoardValue, grid_of}
 use Rattle.latin_board.specs.Squares.{GridValue}
 use Rattle.trail_solver.specs.declared.answer.Answer.{Answer}
 use Rattle.trail_solver.specs.declared.answer.Answer.TheVariants.{None as NoSolution, One, Several}
 use Rattle.trail_solver.specs.Candidates.{CandidatesValue}
+use Rattle.trail_solver.specs.Puzzles.{Puzzle}
 use Rattle.trail_solver.specs.Completions.{Completes}
 use Rattle.trail_solver.specs.Answers.{Fits}
 use Rattle.play_midend.specs.Histories.{History}
 use Rattle.board_checks.specs.Demands.{Demand, IsRepeated}
 use Rattle.board_checks.specs.Spots.{IsBrokenAt}
 use Rattle.board_checks.specs.Errors.{ErrorsValue, has_repeated, has_broken}
-use Rattle.board_checks.specs.Hints.{IsSound, IsDeduced, IsForced}
 use Rattle.board_checks.specs.declared.spot.Spot.{Spot}
-use Rattle.board_checks.specs.declared.hints.Hint.{Hint}
-use Rattle.board_checks.specs.declared.hints.Hint.TheVariants.{Follows, Nothing, Contradiction}
+use Rattle.named_steps.specs.Graded.{IsGradeOf}
+use Rattle.named_steps.specs.declared.reason.Reason.{Reason}
+use Rattle.named_steps.specs.declared.grade.Grade.{Grade}
 use Rattle.puzzle_cli.specs.declared.command.line_fault.LineFault.TheVariants.{NoGame}
 use Rattle.puzzle_cli.specs.declared.reply.refusal.Refusal.TheVariants.{Line as OfLine}
 use Rattle.puzzle_cli.specs.Lines.{Line}
@@ -23,16 +24,18 @@ use Rattle.puzzle_cli.specs.GameFacts.{GameFacts}
 use Rattle.puzzle_cli.specs.Inner.CommandReading.{entry_at}
 use Rattle.puzzle_cli.specs.SessionReplies.{shown_board}
 use Rattle.json_replies.specs.declared.further_line.FurtherLine.{FurtherLine}
-use Rattle.json_replies.specs.declared.further_line.FurtherLine.TheVariants.{Board, Completable, Hint as AskHint}
+use Rattle.json_replies.specs.declared.further_line.FurtherLine.TheVariants.{Board, Completable, Hint as AskHint, Grade as AskGrade}
 use Rattle.json_replies.specs.Boards.{board_data}
-use Rattle.json_replies.specs.Counts.{count_data}
+use Rattle.json_replies.specs.declared.told_hint.ToldHint.{ToldHint}
+use Rattle.json_replies.specs.HintObjects.{IsHintValue, grade_data}
+use Rattle.json_replies.specs.ToldHints.{IsTold}
 use Rattle.json_replies.specs.ObjectLines.{IsLineOf}
 use Rattle.json_replies.specs.Replies.{reply_members, IsReplyLine}
 use Rattle.json_replies.specs.Sessions.{game_data}
 
 -- each of these lines by its word
 abbrev pub further_words : List (List ℕ × FurtherLine)
-further_words = (codes "board", Board) ∷ (codes "completable", Completable) ∷ (codes "hint", AskHint) ∷ []
+further_words = (codes "board", Board) ∷ (codes "completable", Completable) ∷ (codes "hint", AskHint) ∷ (codes "grade", AskGrade) ∷ []
 
 -- which of them a line is, if any
 abbrev pub further_at : Line → Option FurtherLine
@@ -44,13 +47,19 @@ abbrev pub further_key : FurtherLine → List ℕ
 further_key Board = codes "board"
 further_key Completable = codes "completable"
 further_key AskHint = codes "hint"
+further_key AskGrade = codes "grade"
 
--- what these answers know of a game: what it demands at which spots, what its deductions strike, its clues and signs as data
+-- what these answers know of a game: what it demands at which spots, what its deductions strike, its clues and signs as data; what its
+-- steps strike, the letters of its grades, the clue at a place of the edge, and which signs it has
 pub record BoardFacts (P : Type 0) : Type 1 where
   pub demand : P → Spot → Option Demand
   pub strikes : P → CandidatesValue → ℕ → ℕ → Type 0
   pub clues : P → BoardValue → ErrorsValue → Data
   pub signs : P → BoardValue → ErrorsValue → Data
+  pub struck_by : P → CandidatesValue → Reason → ℕ → ℕ → Type 0
+  pub letter : Grade → List ℕ
+  pub edge_clue : P → ℕ → ℕ
+  pub says_greater : P → ℕ → ℕ → Bool
 
 -- the errors are those of the grid: the squares that are repeated, and the spots whose demand is broken
 pub record AreErrors (demand : Spot → Option Demand) (g : GridValue) (e : ErrorsValue) : Type 0 where
@@ -63,15 +72,10 @@ answer_data NoSolution = string (codes "none")
 answer_data (One g) = string (codes "one")
 answer_data (Several g h) = string (codes "several")
 
--- a hint: its kind, and the square and the number where one follows
-abbrev pub kind_data : Data → List ℕ → Data → Data
-kind_data cell kind value = object (member (codes "cell") cell (member (codes "kind") (string kind) (member (codes "number") value no_members)))
-
--- a hint, as data
-abbrev pub hint_data : Hint → Data
-hint_data (Follows cell value) = kind_data (count_data cell) (codes "follows") (count_data value)
-hint_data Nothing = kind_data null (codes "nothing") null
-hint_data Contradiction = kind_data null (codes "contradiction") null
+-- a hint of a grid is told in this answer
+abbrev pub IsHintAnswer : Puzzle → (Grade → List ℕ) → (CandidatesValue → ℕ → ℕ → Type 0) → (CandidatesValue → Reason → ℕ → ℕ → Type 0) → (ℕ → ℕ)
+    → (ℕ → ℕ → Bool) → GridValue → Data → Type 0
+IsHintAnswer p letter Strikes Struck clue is_over g answer = (told : ToldHint) × IsTold p Strikes Struck g told × IsHintValue p.size letter clue is_over told answer
 
 -- what is told of a session to one of these lines
 abbrev pub IsAnswer : {P : Type 0} → GameFacts P → BoardFacts P → History P → FurtherLine → Data → Type 0
@@ -81,10 +85,10 @@ IsAnswer f b h Board answer =
 IsAnswer f b h Completable answer =
     (found : Answer) × Fits (Completes (f.rules.puzzle h.puzzle) (grid_of (shown_board f h))) found × (answer ≡ answer_data found)
 IsAnswer f b h AskHint answer =
-    (hint : Hint) × IsSound (f.rules.puzzle h.puzzle) (grid_of (shown_board f h)) hint
-    × IsDeduced (f.rules.puzzle h.puzzle) (b.strikes h.puzzle) (grid_of (shown_board f h)) hint
-    × ((cell : ℕ) → IsForced (b.strikes h.puzzle) (grid_of (shown_board f h)) cell → hint ≢ Nothing)
-    × (answer ≡ hint_data hint)
+    IsHintAnswer (f.rules.puzzle h.puzzle) b.letter (b.strikes h.puzzle) (b.struck_by h.puzzle) (b.edge_clue h.puzzle) (b.says_greater h.puzzle)
+    (grid_of (shown_board f h)) answer
+IsAnswer f b h AskGrade answer =
+    (grade : Option Grade) × IsGradeOf (f.rules.puzzle h.puzzle) (b.struck_by h.puzzle) grade × (answer ≡ grade_data b.letter grade)
 
 -- the line of the object: NoGame where there is no session, else the answer beside what each object has
 abbrev pub IsFurtherLine : {P : Type 0} → GameFacts P → BoardFacts P → FurtherLine → Option (History P) → List ℕ → Type 0

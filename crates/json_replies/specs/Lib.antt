@@ -1,5 +1,5 @@
 -- What is told as JSON. Bytes, lines and counts: Texts, Counts; an object's line: ObjectLines; the session that is left: Sessions; a reply:
--- Replies; the board, its clues and signs: Boards, ClueLists; the lines beside the commands: FurtherLines; what may be said to a
+-- Replies; the board, its clues and signs: Boards, ClueLists; a hint, with the steps that explain it: Steps, ToldHints, HintObjects; the lines beside the commands: FurtherLines; what may be said to a
 -- line: JsonReplies; its laws: ReplyLaws.
 pub mod Texts
 pub mod Counts
@@ -8,6 +8,9 @@ pub mod Sessions
 pub mod Replies
 pub mod Boards
 pub mod ClueLists
+pub mod Steps
+pub mod ToldHints
+pub mod HintObjects
 pub mod FurtherLines
 pub mod JsonReplies
 pub mod ReplyLaws

@@ -1,19 +1,22 @@
-//! The answers beside the commands: the board, how many solutions keep its numbers, a hint.
+//! The answers beside the commands: the board, how many solutions keep its numbers, a hint, the puzzle's grade.
 
 ghost use Rattle.std.specs.Prelude.{◌≡◌, Some, IfOk};
 ghost use Rattle.serde_json.specs.View.{view};
-ghost use Rattle.json_replies.specs.FurtherLines.{IsAnswer, IsFurtherLine, answer_data, kind_data, hint_data};
+ghost use Rattle.json_replies.specs.FurtherLines.{IsAnswer, IsFurtherLine, IsHintAnswer, answer_data};
 
 use crate::board::board_value;
 use crate::further_line::FurtherLine;
+use crate::hint_value::{grade_value, hint_value};
 use crate::object_line::answer_object;
 use crate::session::game_value;
 use crate::shown::{ShownFacts, Shows};
-use board_checks::{Hint, errors, find_hint};
-use latin_board::OutOfMemory;
+use crate::told_hint::told_hint;
+use board_checks::errors;
+use latin_board::{Grid, OutOfMemory};
+use named_steps::grade_of;
 use play_midend::Session;
 use puzzle_cli::Facts;
-use serde_json::{Map, Value, put};
+use serde_json::Value;
 use std::alloc::{AllocError, Global};
 use trail_solver::{Answer, completion};
 
@@ -36,7 +39,7 @@ fn answer_value<P: Shows>(
     alloc: Global,
     session: &Session<P>,
     which: FurtherLine,
-) -> Result<Value, AllocError>
+) -> Result<Value, OutOfMemory>
     ensures { IfOk result (λ answer. IsAnswer ⟦<P as Facts>⟧.facts
         ⟦<P as ShownFacts>⟧.board_facts session.now which (view answer)) }
 {
@@ -47,10 +50,11 @@ fn answer_value<P: Shows>(
             let errors = errors(puzzle, board.grid());
             let clues = puzzle.tell_clues(alloc, board, &errors)?;
             let signs = puzzle.tell_signs(alloc, board, &errors)?;
-            board_value(alloc, puzzle, board, &errors, clues, signs)
+            Ok(board_value(alloc, puzzle, board, &errors, clues, signs)?)
         }
-        FurtherLine::Completable => count_value(alloc, completion(puzzle, board.grid())),
-        FurtherLine::Hint => hint_value(alloc, find_hint(puzzle, board.grid())),
+        FurtherLine::Completable => Ok(count_value(alloc, completion(puzzle, board.grid()))?),
+        FurtherLine::Hint => hint_answer(alloc, puzzle, board.grid()),
+        FurtherLine::Grade => Ok(grade_value::<P>(alloc, grade_of(puzzle))?),
     }
 }
 
@@ -66,28 +70,12 @@ fn count_value(alloc: Global, found: Answer) -> Result<Value, AllocError>
     Value::try_from_str(alloc, word)
 }
 
-// A hint: its kind, and the square and the number where one follows.
-fn hint_value(alloc: Global, hint: Hint) -> Result<Value, AllocError>
-    ensures { IfOk result (λ value. view value ≡ hint_data hint) }
+// The hint of a grid of the puzzle's size.
+fn hint_answer<P: Shows>(alloc: Global, puzzle: &P, grid: &Grid) -> Result<Value, OutOfMemory>
+    requires { grid.now.size ≡ (P.puzzle puzzle.now).size }
+    ensures { IfOk result (λ value. IsHintAnswer (P.puzzle puzzle.now) P.grade_letter (P.strikes puzzle.now)
+        (P.struck_by puzzle.now) (P.edge_clue_of puzzle.now) (P.says_greater_of puzzle.now) grid.now (view value)) }
 {
-    match hint {
-        Hint::Follows { cell, value } => {
-            kind_value(alloc, Value::from(cell), "follows", Value::from(value))
-        }
-        Hint::Nothing => kind_value(alloc, Value::from(()), "nothing", Value::from(())),
-        Hint::Contradiction => {
-            kind_value(alloc, Value::from(()), "contradiction", Value::from(()))
-        }
-    }
-}
-
-fn kind_value(alloc: Global, cell: Value, kind: &str, number: Value) -> Result<Value, AllocError>
-    ensures { IfOk result (λ value.
-        view value ≡ kind_data (view cell) kind.now (view number)) }
-{
-    let mut hint = Map::new(alloc);
-    put(&mut hint, alloc, "number", number)?;
-    put(&mut hint, alloc, "kind", Value::try_from_str(alloc, kind)?)?;
-    put(&mut hint, alloc, "cell", cell)?;
-    Ok(Value::from(hint))
+    let told = told_hint(alloc, puzzle, grid)?;
+    Ok(hint_value(alloc, puzzle, grid, &told)?)
 }

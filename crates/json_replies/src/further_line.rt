@@ -13,6 +13,8 @@ pub(crate) enum FurtherLine {
     Completable,
     /// A number that follows from them.
     Hint,
+    /// By which steps the puzzle follows.
+    Grade,
 }
 
 impl FurtherLine {
@@ -24,6 +26,7 @@ impl FurtherLine {
             FurtherLine::Board => "board",
             FurtherLine::Completable => "completable",
             FurtherLine::Hint => "hint",
+            FurtherLine::Grade => "grade",
         }
     }
 }
@@ -39,6 +42,8 @@ pub(crate) fn read_further(line: Option<&[u8]>) -> Option<FurtherLine>
         Some(FurtherLine::Completable)
     } else if line == b"hint".as_slice() {
         Some(FurtherLine::Hint)
+    } else if line == b"grade".as_slice() {
+        Some(FurtherLine::Grade)
     } else {
         None
     }

@@ -15,10 +15,11 @@ use latin_board::Board;
 use puzzle_cli::Draw;
 use serde_json::Value;
 use std::alloc::{AllocError, Global};
+use step_texts::StepNames;
 use trail_solver::Rules;
 
 /// A game whose boards can be told.
-pub trait Shows: Draw + Demands + Deduces {
+pub trait Shows: Draw + Demands + Deduces + StepNames {
     // The clues that stand at the edges of a board, and the signs between its squares.
     ghost clues: { Self → BoardValue → ErrorsValue → Data };
 
@@ -123,5 +124,9 @@ impl<P: Shows> ShownFacts for P {
       strikes = P.strikes;
       clues = P.clues;
       signs = P.signs;
+      struck_by = P.struck_by;
+      letter = P.grade_letter;
+      edge_clue = P.edge_clue_of;
+      says_greater = P.says_greater_of;
     } };
 }

@@ -16,7 +16,8 @@ Commands, one a line:
 
   board        the board that is shown, its clues or signs, and where it breaks a rule
   completable  whether none, one or several solutions keep its numbers
-  hint         a number that follows from its numbers
+  hint         a number that follows from its numbers, and by which steps
+  grade        by which steps the puzzle follows, as a letter, or null
 
 Each reply is one object on one line:
   refused    null, or the refusal's name

@@ -13,10 +13,10 @@ returns-clause-one_reply g c = objects_tell_one_reply (facts_of g.P.Rules g.P.Ga
 
 pub returns-clause-not_lost : goal.returns-clause-not_lost
 returns-clause-not_lost g c =
-    let b : BoardFacts g.row.P.Denot = record { demand = g.P.Demands.demand; strikes = g.P.Deduces.strikes; clues = g.P.Shows.clues; signs = g.P.Shows.signs } in
+    let b : BoardFacts g.row.P.Denot = record { demand = g.P.Demands.demand; strikes = g.P.Deduces.strikes; clues = g.P.Shows.clues; signs = g.P.Shows.signs; struck_by = g.P.Steps.struck_by; letter = g.P.StepNames.grade_letter; edge_clue = g.P.StepNames.edge_clue_of; says_greater = g.P.StepNames.says_greater_of } in
     objects_are_not_lost (facts_of g.P.Rules g.P.Game g.P.Draw) b
 
 pub returns-clause-answers : goal.returns-clause-answers
 returns-clause-answers g c =
-    let b : BoardFacts g.row.P.Denot = record { demand = g.P.Demands.demand; strikes = g.P.Deduces.strikes; clues = g.P.Shows.clues; signs = g.P.Shows.signs } in
+    let b : BoardFacts g.row.P.Denot = record { demand = g.P.Demands.demand; strikes = g.P.Deduces.strikes; clues = g.P.Shows.clues; signs = g.P.Shows.signs; struck_by = g.P.Steps.struck_by; letter = g.P.StepNames.grade_letter; edge_clue = g.P.StepNames.edge_clue_of; says_greater = g.P.StepNames.says_greater_of } in
     answers_leave (facts_of g.P.Rules g.P.Game g.P.Draw) b

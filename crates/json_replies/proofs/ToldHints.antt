@@ -1,0 +1,97 @@
+-- Which hint is told.
+use Rattle.std.proofs.Common.{◌≡◌, ◌≢◌, ℕ, ◌*◌, ◌<◌, true, List, [], ◌∷◌, refl, sym, subst}
+use Rattle.latin_board.specs.Squares.{GridValue, number_at}
+use Rattle.latin_board.specs.Lines.{line_cell}
+use Rattle.latin_board.proofs.LatinLines.{line_cell_inside}
+use Rattle.trail_solver.specs.Pairs.{IsPair}
+use Rattle.trail_solver.specs.Candidates.{CandidatesValue}
+use Rattle.trail_solver.specs.Completions.{Completes}
+use Rattle.trail_solver.specs.Puzzles.{Puzzle}
+use Rattle.board_checks.specs.Hints.{FollowsAt, IsSound, IsDeduced, IsForced}
+use Rattle.board_checks.specs.declared.hints.Hint.{Hint}
+use Rattle.board_checks.specs.declared.hints.Hint.TheVariants.{Follows, Nothing, Contradiction}
+use Rattle.named_steps.specs.Chains.{StepValue, AreOfGrade, IsExplained, IsGoalOf, IsView, goal_cell, goal_value}
+use Rattle.named_steps.specs.Following.{IsRefuted}
+use Rattle.named_steps.specs.Grades.{has_reason}
+use Rattle.named_steps.specs.declared.goal.Goal.{Goal}
+use Rattle.named_steps.specs.declared.goal.Goal.TheVariants.{OnlyValue, OnlyPlace}
+use Rattle.named_steps.specs.declared.grade.Grade.{Grade}
+use Rattle.named_steps.specs.declared.grade.Grade.TheVariants.{Latin, Easy, Hard}
+use Rattle.named_steps.specs.declared.reason.Reason.{Reason}
+use Rattle.named_steps.specs.declared.reason.Reason.TheVariants.{Given, Peer, Place, Bound, Stand, Clue, Sign, Set}
+use Rattle.step_chains.specs.ChainValues.{steps_of}
+use Rattle.step_chains.specs.Explanations.{IsRefutedGrid, NothingIsShown}
+use Rattle.json_replies.specs.declared.told_hint.ToldHint.{ToldHint}
+use Rattle.json_replies.specs.declared.told_hint.ToldHint.TheVariants.{Explained, Deduced}
+use Rattle.json_replies.specs.ToldHints.{IsLeast, IsPlain, IsTold}
+
+-- ---- grades
+
+-- each grade's reasons are of the greatest
+hard_has : (grade : Grade) (reason : Reason) → has_reason grade reason ≡ true → has_reason Hard reason ≡ true
+hard_has grade (Given cell) has = refl
+hard_has grade (Peer cell) has = refl
+hard_has grade (Place line index value) has = refl
+hard_has grade (Bound place) has = refl
+hard_has grade (Stand place) has = refl
+hard_has grade (Clue place) has = refl
+hard_has grade (Sign from to) has = refl
+hard_has grade (Set line squares values) has = refl
+
+all_hard : (grade : Grade) (steps : List StepValue) → AreOfGrade grade steps → AreOfGrade Hard steps
+all_hard grade [] allowed = tt
+all_hard grade (step ∷ steps) allowed = (hard_has grade step.reason allowed.0, all_hard grade steps allowed.1)
+
+-- what a grade refutes all steps refute
+pub refuted_hard : (Struck : CandidatesValue → Reason → ℕ → ℕ → Type 0) (grade : Grade) (g : GridValue) → IsRefutedGrid Struck grade g
+    → IsRefutedGrid Struck Hard g
+refuted_hard Struck grade g (view, of, by) = (
+  view,
+  of,
+  record { steps = by.steps; chain = by.chain; allowed = all_hard grade by.steps by.allowed; cell = by.cell; inside = by.inside; nothing = by.nothing },
+)
+
+-- ---- what is told
+
+-- the numbers are contradicted
+pub told_refuted : (p : Puzzle) (Strikes : CandidatesValue → ℕ → ℕ → Type 0) (Struck : CandidatesValue → Reason → ℕ → ℕ → Type 0) (g : GridValue)
+    → ((h : GridValue) → Completes p g h → ⊥) → IsTold p Strikes Struck g (Deduced Contradiction)
+told_refuted p Strikes Struck g none = record { sound = none; reached = tt; strong = λ cell forced. cc }
+
+pub told_contradiction : (p : Puzzle) (Strikes : CandidatesValue → ℕ → ℕ → Type 0) (Struck : CandidatesValue → Reason → ℕ → ℕ → Type 0) (g : GridValue)
+    (hint : Hint) → hint ≡ Contradiction → IsSound p g hint → IsTold p Strikes Struck g (Deduced hint)
+told_contradiction p Strikes Struck g hint is sound =
+    subst (λ (h : Hint). IsTold p Strikes Struck g (Deduced h)) (sym is) (told_refuted p Strikes Struck g (subst (IsSound p g) is sound))
+
+plain : (p : Puzzle) (Strikes : CandidatesValue → ℕ → ℕ → Type 0) (Struck : CandidatesValue → Reason → ℕ → ℕ → Type 0) (g : GridValue) (hint : Hint)
+    → IsDeduced p Strikes g hint → NothingIsShown Struck Hard g → IsPlain p Strikes Struck g hint
+plain p Strikes Struck g (Follows cell value) deduced none = (deduced, none)
+plain p Strikes Struck g Nothing deduced none = (deduced, none)
+plain p Strikes Struck g Contradiction deduced none = tt
+
+-- no steps show a number
+pub told_plain : (p : Puzzle) (Strikes : CandidatesValue → ℕ → ℕ → Type 0) (Struck : CandidatesValue → Reason → ℕ → ℕ → Type 0) (g : GridValue) (hint : Hint)
+    → IsSound p g hint → IsDeduced p Strikes g hint → ((cell : ℕ) → IsForced Strikes g cell → hint ≢ Nothing) → NothingIsShown Struck Hard g
+    → IsTold p Strikes Struck g (Deduced hint)
+told_plain p Strikes Struck g hint sound deduced strong none =
+    record { sound = sound; reached = plain p Strikes Struck g hint deduced none; strong = strong }
+
+goal_pair : (w : ℕ) (goal : Goal) → IsGoalOf w goal → IsPair w (goal_cell w goal) (goal_value goal)
+goal_pair w (OnlyValue cell value) of = of
+goal_pair w (OnlyPlace line index value) (below, within, low, high) =
+    record { inside = line_cell_inside w line index below within; low = low; high = high }
+
+-- steps explain a number
+pub told_explained : (p : Puzzle) (Strikes : CandidatesValue → ℕ → ℕ → Type 0) (Struck : CandidatesValue → Reason → ℕ → ℕ → Type 0) (g : GridValue)
+    (told : ToldHint) → ((grade : Grade) (steps : List StepValue) (goal : Goal) (h : GridValue) → IsExplained Struck grade g steps goal → Completes p g h
+    → number_at h (goal_cell g.size goal) ≡ goal_value goal) → IsLeast Struck g told → IsTold p Strikes Struck g told
+told_explained p Strikes Struck g (Explained grade chain) right least = record {
+  sound = record {
+    pair = goal_pair g.size chain.goal (least.0).goal_of;
+    empty = (least.0).empty;
+    each = λ h completes. right grade (steps_of chain.steps.items) chain.goal h least.0 completes;
+  };
+  reached = least;
+  strong = λ cell forced. cc;
+}
+told_explained p Strikes Struck g (Deduced hint) right least = absurd least

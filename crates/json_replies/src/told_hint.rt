@@ -1,0 +1,90 @@
+//! Which hint is told: one that named steps explain, of the least grade, or what the deductions give.
+ghost use Rattle.std.specs.Prelude.{◌≡◌, ◌≢◌, IfOk, MatchOption};
+ghost use Rattle.named_steps.specs.Chains.{IsExplained};
+ghost use Rattle.named_steps.specs.declared.grade.Grade.TheVariants.{Hard};
+ghost use Rattle.step_chains.specs.ChainValues.{steps_of};
+ghost use Rattle.step_chains.specs.Explanations.{IsRefutedGrid, NothingIsShown};
+ghost use Rattle.json_replies.specs.ToldHints.{IsTold, IsLeast};
+
+use board_checks::{Deduces, Hint, find_hint};
+use latin_board::{Grid, OutOfMemory};
+use named_steps::{Grade, Steps, laws};
+use std::alloc::Global;
+use step_chains::{Chain, Explained, explain};
+use trail_solver::Rules;
+
+/// A hint as it is told.
+#[derive(Drop)]
+pub(crate) enum ToldHint {
+    /// A number, with the steps that show it.
+    Explained { grade: Grade, chain: Chain },
+    /// What the deductions give, without steps.
+    Deduced(Hint),
+}
+
+/// The hint of a grid: by the least grade whose steps lead to a number, unless the deductions or all steps refute the numbers; and
+/// where no steps lead to one, what the deductions give. `OutOfMemory` where a growth was refused.
+pub(crate) fn told_hint<P: Deduces + Steps>(
+    alloc: Global,
+    p: &P,
+    grid: &Grid,
+) -> Result<ToldHint, OutOfMemory>
+    requires { grid.now.size ≡ (P.Rules.puzzle p.now).size }
+    ensures { IfOk result (IsTold (P.Rules.puzzle p.now) (P.strikes p.now) (P.struck_by p.now) grid.now) }
+{
+    laws::<P>();
+    let _valid = p.size();
+    let deduced = find_hint(p, grid);
+    if deduced == Hint::Contradiction {
+        return Ok(ToldHint::Deduced(deduced));
+    }
+    match explain(alloc, p, grid, Grade::Hard)? {
+        Explained::Follows(chain) => least(alloc, p, grid, chain),
+        Explained::Nothing => Ok(ToldHint::Deduced(deduced)),
+        Explained::Contradiction(_) => Ok(ToldHint::Deduced(Hint::Contradiction)),
+    }
+}
+
+// What is explained by the least grade, where all steps explain a number and don't refute the grid's.
+fn least<P: Steps>(alloc: Global, p: &P, grid: &Grid, hard: Chain) -> Result<ToldHint, OutOfMemory>
+    requires size { grid.now.size ≡ (P.puzzle p.now).size }
+    requires holds { IsRefutedGrid (P.struck_by p.now) Hard grid.now → ⊥ }
+    requires explained { IsExplained (P.struck_by p.now) Hard grid.now (steps_of hard.steps.items) hard.goal }
+    ensures { IfOk result (IsLeast (P.struck_by p.now) grid.now) }
+{
+    if let Some(chain) = chain_by(alloc, p, grid, Grade::Latin)? {
+        return Ok(ToldHint::Explained {
+            grade: Grade::Latin,
+            chain,
+        });
+    }
+    if let Some(chain) = chain_by(alloc, p, grid, Grade::Easy)? {
+        return Ok(ToldHint::Explained {
+            grade: Grade::Easy,
+            chain,
+        });
+    }
+    Ok(ToldHint::Explained {
+        grade: Grade::Hard,
+        chain: hard,
+    })
+}
+
+// A chain of the grade that explains a number, if there is one, where all steps don't refute the grid's numbers.
+fn chain_by<P: Steps>(
+    alloc: Global,
+    p: &P,
+    grid: &Grid,
+    grade: Grade,
+) -> Result<Option<Chain>, OutOfMemory>
+    requires size { grid.now.size ≡ (P.puzzle p.now).size }
+    requires holds { IsRefutedGrid (P.struck_by p.now) Hard grid.now → ⊥ }
+    ensures { IfOk result (λ found. MatchOption found (NothingIsShown (P.struck_by p.now) grade grid.now)
+        (λ chain. IsExplained (P.struck_by p.now) grade grid.now (steps_of chain.steps.items) chain.goal)) }
+{
+    match explain(alloc, p, grid, grade)? {
+        Explained::Follows(chain) => Ok(Some(chain)),
+        Explained::Nothing => Ok(None),
+        Explained::Contradiction(_) => Ok(None),
+    }
+}

@@ -1,0 +1,19 @@
+-- Looks at the head of a list of steps.
+use Rattle.std.proofs.Common.{◌≡◌, ◌<◌, ◌≤◌, ◌+◌, ℕ, zero, suc, List, [], ◌∷◌, ◌++◌, take, drop, length, get_or, sym, subst, arith}
+use Rattle.std.proofs.lemmas.List.{take_more}
+use Rattle.std.proofs.lemmas.List.Elements.{All-push}
+use Rattle.named_steps.specs.declared.reason.Reason.{Reason}
+use Rattle.step_chains.specs.declared.chain.Step.{Step}
+use Rattle.step_texts.specs.Looks.{AllFor, BeginsOtherwise}
+
+-- one step more of the reason
+pub one_more : (reason : Reason) (steps : List Step) (at : ℕ) (step : Step) → at < length steps → step ≡ get_or steps at step → step.reason ≡ reason
+    → AllFor reason (take at steps) → AllFor reason (take (at + 1) steps)
+one_more reason steps at step inside is same all =
+    let grown = subst (λ (s : Step). take (at + 1) steps ≡ take at steps ++ s ∷ []) (sym is) (take_more steps at step inside) in
+    subst (AllFor reason) (sym grown) (All-push (λ (s : Step). s.reason ≡ reason) (take at steps) step all same)
+
+-- where the first step has the reason, the look has a step
+pub some_step : (reason : Reason) (first : Step) (rest : List Step) (n : ℕ) → first.reason ≡ reason → BeginsOtherwise reason (drop n (first ∷ rest)) → 1 ≤ n
+some_step reason first rest zero same ends = absurd (ends same)
+some_step reason first rest (suc n) same ends = omega arith

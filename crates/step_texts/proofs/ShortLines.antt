@@ -1,0 +1,20 @@
+-- Lines that are short.
+use Rattle.std.proofs.Common.{◌≡◌, ◌≤◌, ℕ, List, [], ◌∷◌, ◌++◌, length, Bool, true, false, if◌then◌else◌, sym, subst}
+use Rattle.std.proofs.lemmas.List.{map-append}
+use Rattle.std.proofs.lemmas.List.Elements.{All-push}
+use Rattle.arrayvec.specs.ArrayVec.{ArrayVec}
+use Rattle.step_texts.specs.Lines.{AreShort, line_items, line_texts}
+
+-- one more line at the end
+longer : (lines more : List (ArrayVec ℕ)) (line : ArrayVec ℕ) → more ≡ lines ++ line ∷ [] → length line.items ≤ 100 → AreShort (line_texts lines)
+    → AreShort (line_texts more)
+longer lines more line grown fits short =
+    subst (λ (ls : List (ArrayVec ℕ)). AreShort (line_texts ls)) (sym grown)
+    (subst AreShort (sym (map-append line_items lines (line ∷ [])))
+    (All-push (λ (l : List ℕ). length l ≤ 100) (line_texts lines) line.items short fits))
+
+-- that, if there was room
+pub one_more : (more_is : Bool) (lines more : List (ArrayVec ℕ)) (line : ArrayVec ℕ) → more ≡ (if more_is then lines ++ line ∷ [] else lines)
+    → length line.items ≤ 100 → AreShort (line_texts lines) → AreShort (line_texts more)
+one_more true lines more line grown fits short = longer lines more line grown fits short
+one_more false lines more line grown fits short = subst (λ (ls : List (ArrayVec ℕ)). AreShort (line_texts ls)) (sym grown) short

@@ -1,0 +1,256 @@
+//! The sentence of a step, and the one of what a chain shows.
+
+use crate::names::{
+    Joined, edge, first_square, line, line_square, line_squares, losses, numbers, square,
+};
+use crate::step_names::StepNames;
+use crate::writing::Writing;
+use latin_board::{Grid, Size};
+use named_steps::{Goal, Reason};
+use number_sets::NumberSet;
+use std::alloc::AllocError;
+use step_chains::{Step, view_of};
+use trail_solver::Candidates;
+
+/// Why steps of a reason strike, by the candidates before them, and what they strike.
+pub(crate) fn say_look<P: StepNames>(
+    text: &mut Writing,
+    p: &P,
+    candidates: &Candidates,
+    reason: Reason,
+    look: &[Step],
+) -> Result<(), AllocError> {
+    say_reason(text, p, candidates, reason)?;
+    text.say(": ")?;
+    losses(text, candidates.size(), look)
+}
+
+// Why they strike.
+fn say_reason<P: StepNames>(
+    text: &mut Writing,
+    p: &P,
+    candidates: &Candidates,
+    reason: Reason,
+) -> Result<(), AllocError> {
+    let size = candidates.size();
+    match reason {
+        Reason::Given { cell } => {
+            first_square(text, size, cell)?;
+            text.say(" is given")
+        }
+        Reason::Peer { cell } => {
+            first_square(text, size, cell)?;
+            text.say(" is ")?;
+            numbers(text, left_of(candidates, cell), Joined::Or)
+        }
+        Reason::Place { line, index, value } => say_place(text, size, line, index, value),
+        Reason::Bound { place } => say_bound(text, p, size, place),
+        Reason::Stand { place } => {
+            say_clue(text, p, size, place)?;
+            text.say(": with the numbers that stand in that line")
+        }
+        Reason::Clue { place } => {
+            say_clue(text, p, size, place)?;
+            text.say(": with the numbers that are left in that line")
+        }
+        Reason::Sign { from, to } => say_sign(text, p, candidates, from, to),
+        Reason::Set {
+            line,
+            squares,
+            values,
+        } => say_set(text, size, line, squares, values),
+    }
+}
+
+// That a value has one place in a line.
+fn say_place(
+    text: &mut Writing,
+    size: Size,
+    at: usize,
+    index: usize,
+    value: u8,
+) -> Result<(), AllocError> {
+    line(text, size, at, "Row ", "Column ")?;
+    text.say(" has its ")?;
+    text.number(value as usize)?;
+    text.say(" in ")?;
+    line_square(text, size, at, index)
+}
+
+// That some squares of a line share some values.
+fn say_set(
+    text: &mut Writing,
+    size: Size,
+    at: usize,
+    squares: NumberSet,
+    values: NumberSet,
+) -> Result<(), AllocError> {
+    line(text, size, at, "Row ", "Column ")?;
+    text.say(": ")?;
+    line_squares(text, size, at, squares)?;
+    text.say(" take ")?;
+    numbers(text, values, Joined::And)?;
+    text.say(" among them")
+}
+
+// A clue and where it stands.
+fn say_clue<P: StepNames>(
+    text: &mut Writing,
+    p: &P,
+    size: Size,
+    place: usize,
+) -> Result<(), AllocError> {
+    text.say("Clue ")?;
+    text.number(clue_at(p, place) as usize)?;
+    edge(text, size, place)
+}
+
+// What a clue says by itself.
+fn say_bound<P: StepNames>(
+    text: &mut Writing,
+    p: &P,
+    size: Size,
+    place: usize,
+) -> Result<(), AllocError> {
+    say_clue(text, p, size, place)?;
+    let clue = clue_at(p, place);
+    if clue == 1 {
+        text.say(": the nearest tower is the tallest")
+    } else if clue == size.get() {
+        text.say(": all towers are seen, so they rise")
+    } else {
+        text.say(", by itself")
+    }
+}
+
+// What a sign says by what is left of one of its ends.
+fn say_sign<P: StepNames>(
+    text: &mut Writing,
+    p: &P,
+    candidates: &Candidates,
+    from: usize,
+    to: usize,
+) -> Result<(), AllocError> {
+    let size = candidates.size();
+    let left = left_of(candidates, from);
+    first_square(text, size, to)?;
+    if is_greater(p, from, to) {
+        text.say(" is less than ")?;
+        square(text, size, from)?;
+        say_end(text, left, left.greatest(), size.get(), "at most ")
+    } else {
+        text.say(" is greater than ")?;
+        square(text, size, from)?;
+        say_end(text, left, left.least(), 1, "at least ")
+    }
+}
+
+// What is left of a sign's other end, where that says something.
+fn say_end(
+    text: &mut Writing,
+    left: NumberSet,
+    end: Option<u8>,
+    plain: u8,
+    words: &str,
+) -> Result<(), AllocError> {
+    let Some(end) = end else {
+        return Ok(());
+    };
+    if end == plain {
+        return Ok(());
+    }
+    text.say(", which is ")?;
+    if !left.is_single() {
+        text.say(words)?;
+    }
+    text.number(end as usize)
+}
+
+/// What a chain shows on a board, and why.
+pub(crate) fn say_goal(text: &mut Writing, grid: &Grid, goal: Goal) -> Result<(), AllocError> {
+    let size = grid.size();
+    text.say("So ")?;
+    match goal {
+        Goal::OnlyValue { cell, value } => {
+            square(text, size, cell)?;
+            say_is(text, value)?;
+            let view = view_of(grid);
+            say_gone(text, size, left_of(&view, cell), value)
+        }
+        Goal::OnlyPlace {
+            line: at,
+            index,
+            value,
+        } => {
+            line_square(text, size, at, index)?;
+            say_is(text, value)?;
+            text.say("no other square of ")?;
+            line(text, size, at, "row ", "column ")?;
+            text.say(" can be ")?;
+            text.number(value as usize)?;
+            text.say(".")
+        }
+    }
+}
+
+fn say_is(text: &mut Writing, value: u8) -> Result<(), AllocError> {
+    text.say(" is ")?;
+    text.number(value as usize)?;
+    text.say(": ")
+}
+
+// Where the other values have gone, of a square with these in view.
+fn say_gone(text: &mut Writing, size: Size, view: NumberSet, value: u8) -> Result<(), AllocError> {
+    let stood = NumberSet::up_to(size.get()).difference(view);
+    let struck = view.difference(one(value));
+    if !stood.is_empty() {
+        numbers(text, stood, Joined::And)?;
+        text.say(if stood.is_single() {
+            " stands"
+        } else {
+            " stand"
+        })?;
+        text.say(" in its row or column")?;
+    }
+    if !struck.is_empty() {
+        text.say(if stood.is_empty() { "" } else { ", " })?;
+        numbers(text, struck, Joined::And)?;
+        text.say(if struck.is_single() { " is" } else { " are" })?;
+        text.say(" ruled out above")?;
+    }
+    text.say(".")
+}
+
+// The set of one number below 16, or of none.
+fn one(value: u8) -> NumberSet {
+    if value < 16 {
+        NumberSet::one(value)
+    } else {
+        NumberSet::empty()
+    }
+}
+
+// What is left of a square of the grid; nothing of any other.
+fn left_of(candidates: &Candidates, cell: usize) -> NumberSet {
+    let width = candidates.size().get() as usize;
+    if cell < width * width {
+        candidates.values(cell)
+    } else {
+        NumberSet::empty()
+    }
+}
+
+// The clue at a place of the edge; 0 of any other.
+fn clue_at<P: StepNames>(p: &P, place: usize) -> u8 {
+    if place < 4 * p.size().get() as usize {
+        p.edge_clue(place as u8)
+    } else {
+        0
+    }
+}
+
+// Whether a sign says that the first of two squares has the greater number; not so of squares that the grid doesn't have.
+fn is_greater<P: StepNames>(p: &P, first: usize, second: usize) -> bool {
+    let width = p.size().get() as usize;
+    first < width * width && second < width * width && p.says_greater(first, second)
+}

@@ -1,0 +1,88 @@
+//! What a game adds for its steps to be told.
+ghost use Rattle.std.specs.Prelude.{◌≡◌, ◌*◌, ◌<◌, ℕ, Bool, List};
+ghost use Rattle.named_steps.specs.declared.grade.Grade.{Grade};
+
+use clue_rules::{Towers, Unequal};
+use named_steps::{Grade, Steps};
+
+/// A game whose steps can be told.
+pub trait StepNames: Steps {
+    // The letter that stands for a grade in IDs.
+    ghost grade_letter: { Grade → List ℕ };
+
+    // The clue at a place of the edge, 0 where there is none; whether a sign says that the first square has the greater number.
+    ghost edge_clue_of: { Self → ℕ → ℕ };
+
+    ghost says_greater_of: { Self → ℕ → ℕ → Bool };
+
+    /// The letter that stands for a grade in IDs: that of the next one, where a game has none for it.
+    fn letter(grade: Grade) -> &'static str
+        ensures { result.now ≡ grade_letter grade };
+
+    /// The clue at a place of the edge, 0 where there is none.
+    fn edge_clue(&self, place: u8) -> u8
+        requires { place < 4 * (Self.Rules.puzzle self.now).size }
+        ensures { result ≡ edge_clue_of self.now place };
+
+    /// Whether a sign says that the first of two squares of the grid has the greater number.
+    fn says_greater(&self, first: usize, second: usize) -> bool
+        requires first { first < (Self.Rules.puzzle self.now).size * (Self.Rules.puzzle self.now).size }
+        requires second { second < (Self.Rules.puzzle self.now).size * (Self.Rules.puzzle self.now).size }
+        ensures { result ≡ says_greater_of self.now first second };
+}
+
+impl StepNames for Towers {
+    ghost use Rattle.std.specs.Prelude.{false};
+    ghost use Rattle.clue_rules.specs.Towers.{clue_of};
+    ghost use Rattle.step_texts.specs.Letters.{towers_letter};
+
+    ghost grade_letter = { towers_letter };
+
+    ghost edge_clue_of = { clue_of };
+
+    ghost says_greater_of = { λ _ _ _. false };
+
+    fn letter(grade: Grade) -> &'static str {
+        match grade {
+            Grade::Latin => "e",
+            Grade::Easy => "e",
+            Grade::Hard => "h",
+        }
+    }
+
+    fn edge_clue(&self, place: u8) -> u8 {
+        self.clue(place)
+    }
+
+    fn says_greater(&self, _first: usize, _second: usize) -> bool {
+        false
+    }
+}
+
+impl StepNames for Unequal {
+    ghost use Rattle.std.specs.Prelude.{zero};
+    ghost use Rattle.clue_rules.specs.Unequal.{is_greater};
+    ghost use Rattle.step_texts.specs.Letters.{unequal_letter};
+
+    ghost grade_letter = { unequal_letter };
+
+    ghost edge_clue_of = { λ _ _. zero };
+
+    ghost says_greater_of = { is_greater };
+
+    fn letter(grade: Grade) -> &'static str {
+        match grade {
+            Grade::Latin => "t",
+            Grade::Easy => "e",
+            Grade::Hard => "k",
+        }
+    }
+
+    fn edge_clue(&self, _place: u8) -> u8 {
+        0
+    }
+
+    fn says_greater(&self, first: usize, second: usize) -> bool {
+        self.greater(first, second)
+    }
+}

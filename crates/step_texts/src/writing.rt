@@ -1,0 +1,104 @@
+//! Text that is cut into lines as it is written.
+
+ghost use Rattle.step_texts.specs.Lines.{AreShort, line_texts};
+
+use arrayvec::ArrayVec;
+use std::alloc::{AllocError, Global};
+use std::mem;
+
+/// How many characters a line has at most.
+pub const LINE: usize = 100;
+
+/// A line of text.
+pub type Line = ArrayVec<u8, LINE>;
+
+// A word that is longer than this is cut.
+const WORD: usize = 40;
+
+/// Text that is cut into lines at its spaces. The lines after the first of a sentence begin with three spaces.
+#[derive(Drop)]
+pub(crate) struct Writing {
+    lines: Vec<Line>,
+    line: Line,
+    word: ArrayVec<u8, WORD>,
+    ghost short: { AreShort (line_texts lines.items) },
+}
+
+impl Writing {
+    /// No text.
+    pub(crate) fn new(alloc: Global) -> Writing {
+        Writing {
+            lines: Vec::new(alloc),
+            line: ArrayVec::new(),
+            word: ArrayVec::new(),
+        }
+    }
+
+    /// Goes on with these characters.
+    pub(crate) fn say(&mut self, text: &str) -> Result<(), AllocError> {
+        for byte in text.as_bytes() {
+            self.byte(*byte)?;
+        }
+        Ok(())
+    }
+
+    /// Goes on with a number in decimal.
+    pub(crate) fn number(&mut self, n: usize) -> Result<(), AllocError> {
+        if n >= 10 {
+            self.number(n / 10)?;
+        }
+        self.byte(b'0' + (n % 10) as u8)
+    }
+
+    /// Ends the sentence.
+    pub(crate) fn end(&mut self) -> Result<(), AllocError> {
+        self.end_word()?;
+        self.end_line()
+    }
+
+    /// The lines that were written.
+    pub(crate) fn into_lines(self) -> Vec<Line>
+        ensures { AreShort (line_texts result.items) }
+    {
+        self.lines
+    }
+
+    fn byte(&mut self, byte: u8) -> Result<(), AllocError> {
+        if byte == b' ' {
+            return self.end_word();
+        }
+        if self.word.is_full() {
+            self.end_word()?;
+        }
+        let _fits = self.word.try_push(byte);
+        Ok(())
+    }
+
+    // Puts the word into the line, or into the next one where there is no room.
+    fn end_word(&mut self) -> Result<(), AllocError> {
+        if self.line.len() + 1 + self.word.len() > LINE {
+            self.end_line()?;
+            self.put(b"  ");
+        }
+        if !self.line.is_empty() {
+            self.put(b" ");
+        }
+        let word = mem::take(&mut self.word);
+        self.put(word.as_slice());
+        Ok(())
+    }
+
+    #[tactic(auto, using(crate::proofs::ShortLines::one_more))]
+    fn end_line(&mut self) -> Result<(), AllocError> {
+        let line = mem::take(&mut self.line);
+        let _fits = line.len();
+        self.lines.push(line)?;
+        Ok(())
+    }
+
+    fn put(&mut self, bytes: &[u8]) {
+        for byte in bytes {
+            let _fits = self.line.try_push(*byte);
+        }
+    }
+}
