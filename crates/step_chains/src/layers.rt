@@ -36,26 +36,6 @@ const KINDS: [Kind; 6] = [
 // No more rounds than pairs that can be struck.
 const ROUNDS: usize = 729;
 
-/// Steps of the grade's from what is in view of the grid, round after round, until a number of an empty square is shown or they
-/// strike nothing more.
-pub(crate) fn layered_steps<P: Steps>(
-    alloc: Global,
-    p: &P,
-    grid: &Grid,
-    grade: Grade,
-) -> Result<Rounds, OutOfMemory> {
-    let mut rounds = Rounds {
-        now: view_of(grid),
-        next: view_of(grid),
-        trial: view_of(grid),
-        steps: Vec::new(alloc),
-    };
-    for last in 0..KINDS.len() {
-        rounds.go_on(p, grid, grade, last)?;
-    }
-    Ok(rounds)
-}
-
 /// Rounds of steps: the candidates at the beginning of a round, those that its steps leave, and all steps so far.
 #[derive(Drop)]
 pub(crate) struct Rounds {
@@ -67,6 +47,31 @@ pub(crate) struct Rounds {
 }
 
 impl Rounds {
+    /// No round yet.
+    pub(crate) fn of(alloc: Global, grid: &Grid) -> Rounds {
+        Rounds {
+            now: view_of(grid),
+            next: view_of(grid),
+            trial: view_of(grid),
+            steps: Vec::new(alloc),
+        }
+    }
+
+    /// Steps of the grade's from what is in view of the grid, round after round, until a number of an empty square is shown or they
+    /// strike nothing more.
+    #[inline(never)]
+    pub(crate) fn go_through<P: Steps>(
+        &mut self,
+        p: &P,
+        grid: &Grid,
+        grade: Grade,
+    ) -> Result<(), OutOfMemory> {
+        for last in 0..KINDS.len() {
+            self.go_on(p, grid, grade, last)?;
+        }
+        Ok(())
+    }
+
     // Rounds with the kinds up to one, while they strike anything and nothing is shown.
     fn go_on<P: Steps>(
         &mut self,
