@@ -126,6 +126,7 @@ def test_names(front: BoardFront, room: Room) -> None:
         window.press('<escape>q')
         assert window.status() == 0, 'the status'
     with front.window(['--lines', 'towers', ID]) as window:
+        window.look('', ['towers 1/1>'])
         window.look('load sa<tab><tab>', ['load saves/one'])
         window.look(' m<tab><enter>', ['load saves/one more.sav', 'towers 3/3>'])
         window.look('x<tab><enter>', ['No such command'])

@@ -9,6 +9,7 @@ from typing import Callable, List, Tuple
 
 import pytest
 
+from board import manual
 from tests.harness.terminal import Terminal
 from tests.board.front import BoardFront
 from tests.harness import Room, run
@@ -276,3 +277,5 @@ def test_words(front: BoardFront, room: Room) -> None:
         found = run([front.path, *line], room, env=front.env())
         assert found.status == status, f'{line}: the status'
         assert text in found.output + found.error, found
+        assert max(map(len, found.output.splitlines()), default=0) < 80, f'{line}: a wide line'
+    assert max(map(len, [*manual.LINES, *manual.KEYS])) < 80, 'a wide line of help'
