@@ -31,8 +31,7 @@ def test_faces(front: BoardFront, room: Room) -> None:
         assert b'steered\x07' not in window.came, 'a refused word'
     with front.window(['towers'], (24, 132), env) as window:
         window.look('', ['stx?]0;steered?yte/puzzles/towers.sav is a named pipe'])
-        window.press('q')
-        assert window.status() == 0, 'the status'
+        window.leave('q')
         assert b'steered\x07' not in window.came, 'a folder'
     with front.window(['--lines', 'towers', ID], (24, 200), env) as window:
         window.look('', ['towers 1/1>'])
