@@ -241,8 +241,7 @@ def test_kept_choice(front: BoardFront, room: Room) -> None:
     """That marks go is kept, and holds in lines, too; what is saved can be opened anywhere."""
     with front.window(['towers', ID]) as window:
         window.look('M', ['From now on'])
-        window.press('q')
-        assert window.status() == 0, 'the status'
+        window.leave('q')
     with front.window(['--lines']) as window:
         window.look('m<enter>', ['9 squares have other pencil marks'])
         window.look('0 0 1<enter>', ['row 0, column 0 is 1; row 0 lacks 2 and 3; 4 other squares have other pencil marks'])
@@ -250,13 +249,11 @@ def test_kept_choice(front: BoardFront, room: Room) -> None:
         window.look('undo<enter>', ['towers 2/7>'])
         window.look('tidy<enter>', ['From now on marks stay'])
         window.look('redo<enter>', ['towers 7/7>'])
-        window.press('q<enter>')
-        assert window.status() == 0, 'the status'
+        window.leave('q<enter>')
     with front.window([]) as window:
         # What went together is known while the board runs; of a game that goes on the number is undone first.
         window.look('u', ['0 of 9', 'move 5/6', '│     2   3 │'])
-        window.press('rq')
-        assert window.status() == 0, 'the status at the end'
+        window.leave('rq')
     moves = [b'M', b'P1,0,1', b'P2,0,1', b'P0,1,1', b'P0,2,1', b'R0,0,1']
     assert re.findall(rb'^MOVE    :.:(.*)$', room.read('state/puzzles/towers.sav') or b'', re.MULTILINE) == moves
 
@@ -285,5 +282,4 @@ def test_whole_game(front: BoardFront, game: str, id: str, most: int) -> None:
         window.look('', ['move 0/0'])
         window.look(whole_game(*solution(front.program, game, id)), ['Solved!'])
         assert window.pressed <= most
-        window.press('q')
-        assert window.status() == 0
+        window.leave('q')
