@@ -1,15 +1,12 @@
 -- Chains from which steps are left out, the last first.
-use Rattle.std.proofs.Common.{◌≡◌, ◌≢◌, ℕ, zero, suc, ◌+◌, ◌-◌, ◌<◌, ◌≤◌, List, [], ◌∷◌, ◌++◌, length, map, take, drop, refl, sym, ap, ◌∙◌, subst, arith, inl, inr, append_assoc, length-append}
+use Rattle.std.proofs.Common.{◌≡◌, ℕ, zero, suc, ◌+◌, ◌-◌, ◌<◌, ◌≤◌, List, [], ◌∷◌, ◌++◌, length, take, drop, refl, sym, ap, ◌∙◌, subst, arith, inl, inr, append_assoc, length-append}
 use Rattle.std.specs.List.{remove}
-use Rattle.std.proofs.lemmas.Bool.{cases_eq, cases_lt}
+use Rattle.std.proofs.lemmas.Bool.{cases_eq}
 use Rattle.std.proofs.Math.Seq.{take-append_seam, drop-append-add}
 use Rattle.std.proofs.lemmas.List.{take-map, drop-map, map-append, length-map}
-use Rattle.latin_board.specs.Squares.{GridValue, number_at}
-use Rattle.latin_board.specs.Lines.{ArePeers}
-use Rattle.trail_solver.specs.Pairs.{IsPair}
-use Rattle.trail_solver.specs.Candidates.{CandidatesValue, may_be}
-use Rattle.named_steps.specs.Left.{IsLeft, IsFewer, AreAlike, without}
-use Rattle.named_steps.specs.Chains.{StepValue, IsStep, IsChain, AreOfGrade, left_by, Shows, IsTight, IsView, IsExplained, IsGoalOf, goal_cell}
+use Rattle.trail_solver.specs.Candidates.{CandidatesValue}
+use Rattle.named_steps.specs.Left.{IsFewer, without}
+use Rattle.named_steps.specs.Chains.{StepValue, AreOfGrade, left_by, Shows, IsTight}
 use Rattle.named_steps.proofs.Antitone.{IsAntitone, chain_less, left_size, without_fewer}
 use Rattle.named_steps.proofs.Parts.{left_append, chain_split, chain_joined}
 use Rattle.named_steps.proofs.Shown.{shown_less}
