@@ -104,22 +104,6 @@ none_refuted Struck less grade g view d is closed some r =
     let left = some refuted.cell inside in
     refuted.nothing left.0 (here.1 refuted.cell left.0 (fewer refuted.cell left.0 left.1))
 
--- where it leaves a square nothing its chain does
-pub refuted_by : (Struck : CandidatesValue → Reason → ℕ → ℕ → Type 0) (grade : Grade) (g : GridValue) (view d : CandidatesValue)
-    → IsView g view → IsClosure Struck grade view d → LacksSome d → IsRefutedGrid Struck grade g
-refuted_by Struck grade g view d is closed h = (
-  view,
-  is,
-  record {
-    steps = closed.steps;
-    chain = closed.chain;
-    allowed = closed.allowed;
-    cell = h.0;
-    inside = subst (λ (w : ℕ). h.0 < w * w) closed.size h.1;
-    nothing = λ value left. h.2 value (closed.left.1 h.0 value left);
-  },
-)
-
 -- what it shows all that the grade leaves shows
 pub shown_by_all : (Struck : CandidatesValue → Reason → ℕ → ℕ → Type 0) → IsAntitone Struck → (grade : Grade) (g : GridValue) (view d : CandidatesValue)
     (goal : Goal) → IsView g view → IsClosure Struck grade view d → IsShown d goal → IsShownByAll Struck grade g goal

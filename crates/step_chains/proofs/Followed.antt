@@ -89,12 +89,6 @@ taken_alike c d e pairs size alike t = (
       },
 )
 
-pub taken_earlier : (Which : ℕ → ℕ → Type 0) (a b : CandidatesValue) → Takes Which a b → IsEarlier a b
-taken_earlier Which a b t = record {
-  size = t.size;
-  adds = subst (λ (ps : List (ℕ × ℕ)). Rattle.trail_solver.specs.Pairs.IsPrefix a.trail ps) (sym t.trail) (prefix-append a.trail t.pairs);
-}
-
 -- ---- steps one after another
 
 allowed_joined : (grade : Grade) (front back : List StepValue) → AreOfGrade grade front → AreOfGrade grade back → AreOfGrade grade (front ++ back)
@@ -104,9 +98,6 @@ allowed_joined grade (step ∷ front) back first second = (first.0, allowed_join
 allowed_split : (grade : Grade) (front back : List StepValue) → AreOfGrade grade (front ++ back) → AreOfGrade grade front × AreOfGrade grade back
 allowed_split grade [] back h = (tt, h)
 allowed_split grade (step ∷ front) back h = let rest = allowed_split grade front back h.1 in ((h.0, rest.0), rest.1)
-
-pub leads_none : (Struck : CandidatesValue → Reason → ℕ → ℕ → Type 0) (grade : Grade) (c : CandidatesValue) → Leads Struck grade c [] c
-leads_none Struck grade c = record { chain = tt; allowed = tt; size = refl; alike = (λ cell v h. h, λ cell v h. h) }
 
 -- two chains, one after the other
 pub leads_joined : (Struck : CandidatesValue → Reason → ℕ → ℕ → Type 0) → IsAntitone Struck → (grade : Grade) (c d e : CandidatesValue)

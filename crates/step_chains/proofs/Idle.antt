@@ -33,12 +33,6 @@ pub record IsStruckSet (Struck : CandidatesValue → Reason → ℕ → ℕ → 
   pub is_left : IsSetOf c cell left
   pub both : (v : ℕ) → has_number values v ≡ (has_number struck v && has_number left v)
 
-pub idle_none : (Struck : CandidatesValue → Reason → ℕ → ℕ → Type 0) (grade : Grade) (c : CandidatesValue) (reason : Reason) (cell values : ℕ)
-    → IsStruckSet Struck c reason cell values → IsEmpty values → IsIdleIn Struck grade c reason cell
-idle_none Struck grade c reason cell values h none = λ v has pair struck. false_from_ne_true (may_be c cell v) (λ may.
-    both_ways (has_number values v) (none v)
-    (h.both v ∙ and_from (has_number h.struck v) (has_number h.left v) ((h.is_struck v).1 (pair, struck)) ((h.is_left v).1 (pair, may))))
-
 pub new_step : (Struck : CandidatesValue → Reason → ℕ → ℕ → Type 0) (grade : Grade) (c : CandidatesValue) (reason : Reason) (cell values : ℕ) (s : Step)
     → c.size ≤ 9 → has_reason grade reason ≡ true → IsStruckSet Struck c reason cell values → ((v : ℕ) × (has_number values v ≡ true))
     → s ≡ record { reason = reason; cell = cell; values = values } → IsNew Struck grade c s
@@ -57,16 +51,6 @@ new_step Struck grade c reason cell values s small has h some is =
       left = λ v in_it. let m = members v in_it in (m.0.0, m.1);
       some = some;
     })
-
--- a reason that the grade lacks
-pub idle_lacking : (Struck : CandidatesValue → Reason → ℕ → ℕ → Type 0) (grade : Grade) (c : CandidatesValue) (reason : Reason) (cell : ℕ)
-    → has_reason grade reason ≡ false → IsIdleIn Struck grade c reason cell
-idle_lacking Struck grade c reason cell lacks = λ v has pair struck. absurd (both_ways (has_reason grade reason) lacks has)
-
--- each square of the grid was looked at
-pub idle_all : (Struck : CandidatesValue → Reason → ℕ → ℕ → Type 0) (grade : Grade) (c : CandidatesValue) (reason : Reason)
-    → ((cell : ℕ) → cell < c.size * c.size → IsIdleIn Struck grade c reason cell) → IsIdle Struck grade c reason
-idle_all Struck grade c reason each = λ cell v has pair. each cell pair.inside v has pair
 
 -- the values that are left of a group, as a set
 abbrev pub IsLeftOf : CandidatesValue → ℕ → ℕ → ℕ → Type 0

@@ -121,17 +121,6 @@ tight_with Struck grade c steps place goal none tight = λ front back step is be
       | inr other ↦ tight front back step is (omega (arith, behind, other)) shows
     ]
 
--- behind the last step nothing can be left out
-pub tight_end : (Struck : CandidatesValue → Reason → ℕ → ℕ → Type 0) (grade : Grade) (c : CandidatesValue) (steps : List StepValue) (place : ℕ) (goal : Goal)
-    → length steps ≤ place → IsTightFrom place Struck grade c steps goal
-tight_end Struck grade c steps place goal high = λ front back step is behind shows.
-    omega (arith, high, behind, ap length is, length-append front (step ∷ back))
-
--- none can be left out where none from the first on can
-pub tight_all : (Struck : CandidatesValue → Reason → ℕ → ℕ → Type 0) (grade : Grade) (c : CandidatesValue) (steps : List StepValue) (goal : Goal)
-    → IsTightFrom 0 Struck grade c steps goal → IsTight Struck grade c steps goal
-tight_all Struck grade c steps goal tight = λ front back step is. tight front back step is (omega arith)
-
 -- in other words: where it isn't shown without any one of them
 pub tight_from_each : (Struck : CandidatesValue → Reason → ℕ → ℕ → Type 0) (grade : Grade) (c : CandidatesValue) (steps : List StepValue) (goal : Goal)
     → ((place : ℕ) → place < length steps → Shows Struck grade c (remove steps place) goal → ⊥) → IsTight Struck grade c steps goal
