@@ -115,6 +115,7 @@ graded_follows p Struck Latin graded = graded
 graded_follows p Struck Easy graded = graded.0
 graded_follows p Struck Hard graded = graded.0
 
+-- a fair game is a cut of its draw's square
 pub fair_puzzle : {P : Type 0} (f : Ghosts P) (Struck : P → CandidatesValue → Reason → ℕ → ℕ → Type 0) (grade : Grade) (draws : ℕ → GridValue × List ℕ) (p : P)
     → ItemLaws f → (fair : IsFair f Struck grade draws p) → IsCutOf f (draws fair.draw).0 p
 fair_puzzle f Struck grade draws p laws fair =

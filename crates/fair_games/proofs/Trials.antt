@@ -91,6 +91,7 @@ left_out GivensAlone signs = signs
 left_out GivensFirst signs = []
 left_out HalfFirst signs = []
 
+-- the items that a trial has, and those that it leaves out, are all items
 moved : (trial : Trial) (m n : ℕ) (signs givens : List ℕ) → IsPermutation (range_with_len 0 m) signs → IsPermutation (range_with_len 0 n) givens
     → IsPermutation (range_with_len 0 (m + n)) (in_turn trial m signs givens ++ left_out trial signs)
 moved trial m n signs givens first second = turn trial

@@ -6,6 +6,7 @@ use Rattle.fair_games.proofs.FairSteps.{game_needs, all_items, first_given}
 use Rattle.fair_games.proofs.games.draw_game.Goals as goal
 use Rattle.fair_games.proofs.games.draw_game.Given.{Over}
 
+-- the laws of the puzzle's steps
 steps_of : (g : Over) → HasSteps g.P.Rules g.P.Steps.struck_by
 steps_of g = record {
   items = laws_of g.met.P.Rules;

@@ -6,6 +6,7 @@ use Rattle.fair_games.proofs.FairSteps.{fair_once, fair_puzzle, fair_solved, dra
 use Rattle.fair_games.proofs.games.fair.Goals as goal
 use Rattle.fair_games.proofs.games.fair.Given.{Over}
 
+-- the laws of the puzzle's steps
 steps_of : (g : Over) → HasSteps g.P.Rules g.P.Steps.struck_by
 steps_of g = record {
   items = laws_of g.met.P.Rules;
