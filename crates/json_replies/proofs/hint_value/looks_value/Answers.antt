@@ -1,4 +1,5 @@
-use Rattle.std.proofs.Common.{◌≡◌, ℕ, ◌≤◌, List, ◌++◌, map, take, drop, length, sym, subst, ap, ap₂, ◌∙◌, arith, rules}
+use Rattle.std.proofs.Common.{◌≡◌, ℕ, ◌≤◌, List, [], ◌∷◌, ◌++◌, map, take, drop, length, None, refl, sym, subst, ap, ap₂, ◌∙◌, arith, rules}
+use Rattle.std.specs.Prelude.{slice_get}
 use Rattle.std.proofs.lemmas.Grind.{common_steps}
 use Rattle.std.proofs.lemmas.List.{take-append-drop}
 use Rattle.serde_json.specs.View.{view}
@@ -31,8 +32,13 @@ loop-first-preserved g c =
     (c.in_ok-step_value.ensures ∙ ap (λ t. step_data (g.P.Rules.puzzle p).size (g.P.StepNames.edge_clue_of p) (g.P.StepNames.says_greater_of p) reason look (line_texts t)) c.as_slice.ensures.value)
     c.in_ok-push_value.ensures c.loop-first.invariant
 
+-- where there is no first step there is none
+none_left : (steps : List Step) → slice_get steps 0 ≡ None → steps ≡ []
+none_left [] none = refl
+none_left (step ∷ steps) none = absurd (cc none)
+
 pub returns : goal.returns
 returns g c =
     let p = c.args.p.now in
     all_told (g.P.Rules.puzzle p).size (g.P.StepNames.edge_clue_of p) (g.P.StepNames.says_greater_of p) c.args.steps.now c.loop-first.rest.now
-    (map view c.loop-first.list.items) (view c.from.result) (search rules) c.from.ensures c.loop-first.invariant
+    (map view c.loop-first.list.items) (view c.from.result) (none_left c.loop-first.rest.now (cc (c.in_default.ensures.value, c.in_default.is, c.first.ensures.value))) c.from.ensures c.loop-first.invariant
