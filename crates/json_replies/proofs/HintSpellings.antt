@@ -1,5 +1,5 @@
 -- What is told of a hint has one text.
-use Rattle.std.proofs.Common.{◌≡◌, ℕ, ◌≤◌, ◌*◌, Bool, true, false, ◌&&◌, if◌then◌else◌, nat_lt, ℤ, pos, negsuc, List, [], ◌∷◌, codes, Option, Some, None, refl, sym, subst, arith}
+use Rattle.std.proofs.Common.{ℕ, ◌≤◌, ◌*◌, Bool, true, false, ◌&&◌, if◌then◌else◌, nat_lt, ℤ, pos, negsuc, List, codes, Option, Some, None, refl, sym, subst, arith}
 use Rattle.std.specs.List.{range_with_len}
 use Rattle.number_sets.specs.Sets.{has_number}
 use Rattle.latin_board.specs.Edges.{edge_xy}
@@ -23,7 +23,7 @@ use Rattle.json_replies.specs.Counts.{count_data}
 use Rattle.json_replies.specs.Texts.{text_data, list_data}
 use Rattle.json_replies.specs.Boards.{when, mark_set_data}
 use Rattle.json_replies.specs.ObjectLines.{Fits}
-use Rattle.json_replies.specs.Steps.{ToldLook, edge_of, ends_of, x_data, y_data, clue_data, greater_data, less_data, line_data, one_data, place_data, squares_data, cells_data, numbers_data, reason_word, strike_data, step_data, looks_data}
+use Rattle.json_replies.specs.Steps.{ToldLook, edge_of, ends_of, x_data, y_data, clue_data, greater_data, less_data, line_data, one_data, squares_data, cells_data, numbers_data, strike_data, step_data, looks_data}
 use Rattle.json_replies.specs.HintObjects.{hint_data, plain_data, by_word, goal_line_data, grade_data, IsHintValue}
 use Rattle.json_replies.specs.Laws.Spellings.{no_float_or, list_fits, listed_fits, when_fits, text_fits}
 

@@ -1,5 +1,5 @@
 -- The looks of a chain, told one after another.
-use Rattle.std.proofs.Common.{◌≡◌, ℕ, ◌≤◌, Bool, List, [], ◌∷◌, ◌++◌, length, map, refl, sym, ap, ◌∙◌, subst, append_assoc, append-nil}
+use Rattle.std.proofs.Common.{◌≡◌, ℕ, Bool, List, [], ◌∷◌, ◌++◌, map, sym, ap, ◌∙◌, append_assoc, append-nil}
 use Rattle.serde_json.specs.Data.{Data, array}
 use Rattle.serde_json.specs.View.{items_of}
 use Rattle.named_steps.specs.declared.reason.Reason.{Reason}
@@ -29,10 +29,12 @@ pub one_look_more : (w : ℕ) (clue : ℕ → ℕ) (is_over : ℕ → ℕ → Bo
 one_look_more w clue is_over steps rest look more reason text told next value parts is short of grown before later are =
     let D = look_data w clue is_over in
     let here : ToldLook = record { reason = reason; steps = look; text = text } in
-    let onward = before (here ∷ later) (more, parts, is, short, are) in
-    (onward.0, onward.1,
-    onward.2 ∙ sym (append_assoc told (D here ∷ []) (map D later)) ∙ ap (λ d. (told ++ d ∷ []) ++ map D later) (sym of)
-    ∙ ap (λ ds. ds ++ map D later) (sym grown))
+    let onward = before (here ∷ later) (more, parts, is, short, are) in (
+      onward.0,
+      onward.1,
+      onward.2 ∙ sym (append_assoc told (D here ∷ []) (map D later)) ∙ ap (λ d. (told ++ d ∷ []) ++ map D later) (sym of)
+          ∙ ap (λ ds. ds ++ map D later) (sym grown),
+    )
 
 pub all_told : (w : ℕ) (clue : ℕ → ℕ) (is_over : ℕ → ℕ → Bool) (steps rest : List Step) (told : List Data) (value : Data) → rest ≡ []
     → value ≡ array (items_of told) → GoesOn w clue is_over steps rest told

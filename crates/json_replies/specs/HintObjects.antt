@@ -1,5 +1,5 @@
 -- A hint as data: its kind, the square and the number, and where steps explain these, by what, and the steps with their sentences.
-use Rattle.std.specs.Prelude.{◌≡◌, ℕ, Bool, List, [], codes, Option, Some, None}
+use Rattle.std.specs.Prelude.{◌≡◌, ℕ, Bool, List, codes, Option, Some, None}
 use Rattle.serde_json.specs.Data.{Data, null, string, array, no_items, object, no_members, member}
 use Rattle.named_steps.specs.Chains.{goal_cell, goal_value, IsGoalOf}
 use Rattle.named_steps.specs.declared.goal.Goal.{Goal}

@@ -1,5 +1,5 @@
 -- Which hint is told of a grid: one that named steps explain, of the least grade, or what the deductions give.
-use Rattle.std.specs.Prelude.{◌≡◌, ◌≢◌, ℕ}
+use Rattle.std.specs.Prelude.{◌≢◌, ℕ}
 use Rattle.latin_board.specs.Squares.{GridValue}
 use Rattle.trail_solver.specs.Candidates.{CandidatesValue}
 use Rattle.trail_solver.specs.Puzzles.{Puzzle}

@@ -14,12 +14,12 @@ returns-in-Hint g c =
     c.puzzle-puzzle.result.now c.grid-in-Hint.result.now c.args.which (view v) c.in-Hint.is c.puzzle-puzzle.ensures
     (c.grid-in-Hint.ensures ∙ ap grid_of c.board-board.ensures.shown) told) c.hint_answer.ensures
 
-pub returns-in_ok-signs-in-Board : goal.returns-in_ok-signs-in-Board
-returns-in_ok-signs-in-Board g c =
+pub returns-in_ok-board_value-in-Board : goal.returns-in_ok-board_value-in-Board
+returns-in_ok-board_value-in-Board g c =
     let b : BoardFacts g.row.P.Denot = record { demand = g.P.Demands.demand; strikes = g.P.Deduces.strikes; clues = g.P.Shows.clues; signs = g.P.Shows.signs; struck_by = g.P.Steps.struck_by; letter = g.P.StepNames.grade_letter; edge_clue = g.P.StepNames.edge_clue_of; says_greater = g.P.StepNames.says_greater_of } in
     let found = c.errors-errors.ensures in
-    IfOk-weaker c.board_value.result _ _ (λ v told. board_told (facts_of g.P.Rules g.P.Game g.P.Draw) b c.args.session.now
+    board_told (facts_of g.P.Rules g.P.Game g.P.Draw) b c.args.session.now
     c.puzzle-puzzle.result.now c.grid.result.now c.board-board.result.now c.errors-errors.result c.args.which
-    (view c.in_ok-clues-in-Board.clues) (view c.in_ok-signs-in-Board.signs) (view v) c.in-Board.is c.puzzle-puzzle.ensures
+    (view c.in_ok-clues-in-Board.clues) (view c.in_ok-signs-in-Board.signs) (view c.in_ok-board_value-in-Board.field-0) c.in-Board.is c.puzzle-puzzle.ensures
     c.grid.ensures c.board-board.ensures.shown (record { repeated = found.repeated; broken = found.broken })
-    c.in_ok-clues-in-Board.ensures c.in_ok-signs-in-Board.ensures told) c.board_value.ensures
+    c.in_ok-clues-in-Board.ensures c.in_ok-signs-in-Board.ensures c.in_ok-board_value-in-Board.ensures
