@@ -19,7 +19,7 @@ use Rattle.step_chains.specs.declared.chain.Step.{Step}
 use Rattle.step_chains.specs.ChainValues.{step_value, steps_of}
 use Rattle.step_chains.specs.Explanations.{NothingIsShown, IsRefutedGrid}
 use Rattle.step_chains.specs.Inner.Replays.{Leads}
-use Rattle.step_chains.specs.Inner.Goals.{IsOpen, IsOpenShown, IsShownByAll, HasSome, LacksSome}
+use Rattle.step_chains.specs.Inner.Goals.{IsOpen, IsOpenShown, IsShownByAll, HasSome}
 use Rattle.step_chains.proofs.Followed.{none_removed, shows_where}
 use Rattle.step_chains.proofs.Tight.{shows_alike}
 

@@ -6,8 +6,7 @@ use Rattle.std.proofs.lemmas.List.{take-map, drop-map, map-append, take-append-d
 use Rattle.std.proofs.lemmas.Bool.{both_ways, and_parts, and_from, eq-eqb, eqb-true, false_from_ne_true, false≢true}
 use Rattle.number_sets.specs.Sets.{has_number, IsSubset}
 use Rattle.trail_solver.specs.Pairs.{IsPair, has_pair, pairs_of}
-use Rattle.trail_solver.specs.Candidates.{CandidatesValue, IsEarlier, may_be}
-use Rattle.trail_solver.proofs.Earlier.{prefix-append}
+use Rattle.trail_solver.specs.Candidates.{CandidatesValue, may_be}
 use Rattle.trail_solver.proofs.SetPairs.{has_pair-pairs_of}
 use Rattle.named_steps.specs.Left.{IsLeft, AreAlike, without}
 use Rattle.named_steps.specs.Grades.{has_reason}

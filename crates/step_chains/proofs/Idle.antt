@@ -1,8 +1,8 @@
 -- Reasons that strike nothing more, one by one, and a step that strikes something.
-use Rattle.std.proofs.Common.{◌≡◌, ◌↔◌, ℕ, ◌+◌, ◌*◌, ◌^◌, ◌<◌, ◌≤◌, true, false, ◌&&◌, ◌||◌, ◌==◌, count_ones, sym, ap, ◌∙◌, subst, arith, inl, inr}
+use Rattle.std.proofs.Common.{◌≡◌, ◌↔◌, ℕ, ◌+◌, ◌^◌, ◌<◌, ◌≤◌, true, false, ◌&&◌, ◌||◌, ◌==◌, count_ones, sym, ap, ◌∙◌, subst, arith, inl, inr}
 use Rattle.std.specs.Prelude.{MatchOption, Option, Some, None}
-use Rattle.std.proofs.lemmas.Bool.{both_ways, and_parts, and_from, or_left, or_right, cases_eq, cases_lt, cases_Bool, eqb-true, false_from_ne_true}
-use Rattle.number_sets.specs.Sets.{has_number, IsEmpty}
+use Rattle.std.proofs.lemmas.Bool.{both_ways, and_parts, or_left, or_right, cases_eq, cases_lt, cases_Bool, eqb-true, false_from_ne_true}
+use Rattle.number_sets.specs.Sets.{has_number}
 use Rattle.number_sets.proofs.Members.{same_set, has_number-above}
 use Rattle.latin_board.specs.Lines.{line_cell}
 use Rattle.trail_solver.specs.Pairs.{IsPair}
@@ -16,7 +16,7 @@ use Rattle.named_steps.specs.declared.reason.Reason.{Reason}
 use Rattle.named_steps.specs.declared.reason.Reason.TheVariants.{Set}
 use Rattle.named_steps.specs.declared.grade.Grade.{Grade}
 use Rattle.step_chains.specs.declared.chain.Step.{Step}
-use Rattle.step_chains.specs.Inner.Quiet.{IsNew, IsIdleIn, IsIdle, IsGroupIdle}
+use Rattle.step_chains.specs.Inner.Quiet.{IsNew, IsIdle, IsGroupIdle}
 
 -- all up to a number, and the next
 pub all_next : (P : ℕ → Type 0) (k : ℕ) → ((j : ℕ) → j < k → P j) → P k → (j : ℕ) → j < k + 1 → P j

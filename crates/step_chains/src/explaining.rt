@@ -1,9 +1,9 @@
 //! Hints that explain: a chain of steps to the next number.
-ghost use Rattle.std.specs.Prelude.{◌≡◌, ◌↔◌, ℕ, ◌*◌, ◌<◌, IsTrue, IfOk};
+ghost use Rattle.std.specs.Prelude.{◌≡◌, ◌↔◌, ℕ, ◌*◌, ◌<◌, IsTrue, IfOk, MatchResult};
 ghost use Rattle.std.specs.Bool.{MatchBool};
 ghost use Rattle.named_steps.specs.Chains.{IsExplained, IsGoalOf, IsTight};
 ghost use Rattle.step_chains.specs.ChainValues.{steps_of};
-ghost use Rattle.step_chains.specs.Explanations.{Explains};
+ghost use Rattle.step_chains.specs.Explanations.{Explains, IsRefutedGrid};
 ghost use Rattle.step_chains.specs.Inner.Goals.{IsOpen, IsShownByAll, HasSome, LacksSome};
 
 use crate::chain::{Chain, Refutation, Step};
@@ -41,19 +41,36 @@ pub fn explain<P: Steps>(
     requires { grid.now.size ≡ (P.puzzle p.now).size }
     ensures { IfOk result (Explains (P.struck_by p.now) grade grid.now) }
 {
-    let mut settled = view_of(grid);
-    settle(p, grade, &mut settled);
-    if has_nothing(&settled) {
-        return Ok(Explained::Contradiction(None));
-    }
-    let Some(goal) = shown_goal(&settled, grid) else {
-        return Ok(Explained::Nothing);
+    let goal = match first_goal(p, grid, grade) {
+        Ok(goal) => goal,
+        Err(told) => return Ok(told),
     };
     if let Some(chain) = short_chain(alloc, p, grid, grade)? {
         return Ok(Explained::Follows(chain));
     }
     let chain = plain_chain(alloc, p, grid, grade, goal)?;
     Ok(Explained::Follows(chain))
+}
+
+// The first number of an empty square that all steps of the grade's together show, or what is told where there is none. What they
+// leave is in this frame alone, so that it isn't on the stack while a chain is searched.
+#[inline(never)]
+fn first_goal<P: Steps>(p: &P, grid: &Grid, grade: Grade) -> Result<Goal, Explained>
+    requires { grid.now.size ≡ (P.puzzle p.now).size }
+    ensures { MatchResult result
+        (λ goal. IsOpen grid.now goal × IsShownByAll (P.struck_by p.now) grade grid.now goal
+        × (IsRefutedGrid (P.struck_by p.now) grade grid.now → ⊥))
+        (Explains (P.struck_by p.now) grade grid.now) }
+{
+    let mut settled = view_of(grid);
+    settle(p, grade, &mut settled);
+    if has_nothing(&settled) {
+        return Err(Explained::Contradiction(None));
+    }
+    match shown_goal(&settled, grid) {
+        Some(goal) => Ok(goal),
+        None => Err(Explained::Nothing),
+    }
 }
 
 // The chain of all steps of the grade's, without those that the goal can be shown without. All of them together show it.

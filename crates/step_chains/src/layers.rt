@@ -5,13 +5,12 @@ use crate::goals::shown_goal;
 use crate::needs::{Values, left, neighbours, single, squares_but, squares_from};
 use crate::next_steps::left_of;
 use crate::replays::{struck, take};
-use crate::view::view_of;
 use arrayvec::ArrayVec;
 use latin_board::{CELLS, Grid, OutOfMemory};
 use named_steps::{Grade, Reason, Steps};
 use number_sets::NumberSet;
 use std::alloc::Global;
-use trail_solver::{Candidates, Rules};
+use trail_solver::{Candidates, Mark, Rules};
 
 // Kinds of steps, the cheapest first. Rows and columns alone have no kind: what they strike in view shows a number.
 #[derive(Clone, Copy, Debug)]
@@ -36,24 +35,30 @@ const KINDS: [Kind; 6] = [
 // No more rounds than pairs that can be struck.
 const ROUNDS: usize = 729;
 
-/// Rounds of steps: the candidates at the beginning of a round, those that its steps leave, and all steps so far.
+/// Rounds of steps: the candidates at the beginning of a round, what its steps have struck by now, and all steps so far.
 #[derive(Drop)]
 pub(crate) struct Rounds {
     pub(crate) now: Candidates,
-    next: Candidates,
-    // as now, and for trials
-    trial: Candidates,
+    start: Mark,
+    gone: Values,
     pub(crate) steps: Vec<Step>,
 }
 
 impl Rounds {
-    /// No round yet.
-    pub(crate) fn of(alloc: Global, grid: &Grid) -> Rounds {
+    /// No round yet, from what is in view.
+    pub(crate) fn of(alloc: Global, view: Candidates) -> Rounds {
         Rounds {
-            now: view_of(grid),
-            next: view_of(grid),
-            trial: view_of(grid),
+            start: view.mark(),
+            now: view,
+            gone: Values::none(),
             steps: Vec::new(alloc),
+        }
+    }
+
+    /// Gives back what the steps struck, so that all in view is left again. The steps stay listed.
+    pub(crate) fn give_back(&mut self) {
+        if self.start.len() <= self.now.trail_len() {
+            self.now.give_back(self.start);
         }
     }
 
@@ -102,7 +107,7 @@ impl Rounds {
             }
         }
         catch_up(&mut self.now, self.steps.as_slice(), before);
-        catch_up(&mut self.trial, self.steps.as_slice(), before);
+        self.gone = Values::none();
         Ok(())
     }
 
@@ -187,26 +192,20 @@ impl Rounds {
 
     // What the squares lose by all clues together.
     fn lost_by_clues<P: Steps>(&mut self, p: &P, kind: Kind) -> Values {
-        let mut lost = Values::none();
-        if p.size() != self.trial.size() {
-            return lost;
+        if p.size() != self.now.size() {
+            return Values::none();
         }
-        let width = self.trial.size().get() as usize;
-        let mark = self.trial.mark();
+        let mark = self.now.mark();
         let grade = if matches!(kind, Kind::Clue) {
             Grade::Hard
         } else {
             Grade::Easy
         };
-        p.strike_by_clues(grade, &mut self.trial);
-        for cell in 0..width * width {
-            lost.add(
-                cell,
-                left(&self.now, cell).difference(left(&self.trial, cell)),
-            );
-        }
-        if mark.len() <= self.trial.trail_len() {
-            self.trial.give_back(mark);
+        let mut lost = Values::all_left(&self.now);
+        p.strike_by_clues(grade, &mut self.now);
+        lost.remove_left(&self.now);
+        if mark.len() <= self.now.trail_len() {
+            self.now.give_back(mark);
         }
         lost
     }
@@ -270,7 +269,9 @@ impl Rounds {
         if cell >= CELLS || !grade.has(*reason) {
             return Ok(());
         }
-        let values = struck(p, &self.now, reason, cell).intersection(left(&self.next, cell));
+        let values = struck(p, &self.now, reason, cell)
+            .intersection(left(&self.now, cell))
+            .difference(self.gone.of(cell));
         if values.is_empty() {
             return Ok(());
         }
@@ -279,7 +280,7 @@ impl Rounds {
             cell: cell as u8,
             values,
         };
-        take(&mut self.next, &step);
+        self.gone.add(cell, values);
         self.steps.push(step)?;
         Ok(())
     }

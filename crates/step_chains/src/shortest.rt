@@ -3,6 +3,7 @@ ghost use Rattle.std.specs.Prelude.{◌≡◌, IfOk, IfSome};
 ghost use Rattle.std.specs.Bool.{OnTrue};
 ghost use Rattle.named_steps.specs.Chains.{IsExplained, IsTight, Shows};
 ghost use Rattle.step_chains.specs.ChainValues.{steps_of};
+ghost use Rattle.step_chains.specs.Inner.Goals.{IsOpen};
 
 use crate::chain::{Chain, Step};
 use crate::goals::{is_open, shown_in_place, shown_in_square};
@@ -31,14 +32,28 @@ pub(crate) fn short_chain<P: Steps>(
     let Some(mut chain) = least_chain(alloc, p, grid, grade)? else {
         return Ok(None);
     };
-    if !is_open(grid, chain.goal) {
-        return Ok(None);
-    }
-    let mut view = view_of(grid);
-    if !shorten(p, grade, &mut view, &mut chain.steps, chain.goal) {
+    if !is_open(grid, chain.goal)
+        || !shorten_from_view(p, grid, grade, &mut chain.steps, chain.goal)
+    {
         return Ok(None);
     }
     Ok(Some(chain))
+}
+
+// The same as `shorten` from what is in view of the grid. The goal speaks of an empty square.
+#[inline(never)]
+fn shorten_from_view<P: Steps>(
+    p: &P,
+    grid: &Grid,
+    grade: Grade,
+    steps: &mut Vec<Step>,
+    goal: Goal,
+) -> bool
+    requires { IsOpen grid.now goal }
+    ensures { OnTrue result (IsExplained (P.struck_by p.now) grade grid.now (steps_of steps.new.items) goal) }
+{
+    let mut view = view_of(grid);
+    shorten(p, grade, &mut view, steps, goal)
 }
 
 // Leaves out what can be left out, where the steps show the goal; and tells whether they do.
@@ -74,102 +89,96 @@ fn least_chain<P: Steps>(
     grid: &Grid,
     grade: Grade,
 ) -> Result<Option<Chain>, OutOfMemory> {
-    let mut rounds = Rounds::of(alloc, grid);
+    let mut rounds = Rounds::of(alloc, view_of(grid));
     rounds.go_through(p, grid, grade)?;
+    let goals = goals_of(alloc, grid, &rounds.now)?;
+    rounds.give_back();
     let mut least = Least {
         grade,
-        view: view_of(grid),
         chain: None,
         cost: usize::MAX,
     };
-    least.try_squares(alloc, p, grid, &rounds)?;
-    least.try_lines(alloc, p, grid, &rounds)?;
+    for goal in goals.as_slice() {
+        least.try_goal(alloc, p, &mut rounds, *goal)?;
+    }
     Ok(least.chain)
+}
+
+// The numbers of empty squares that candidates show: first the only values of squares, and then the only places of rows and columns.
+#[inline(never)]
+fn goals_of(alloc: Global, grid: &Grid, candidates: &Candidates) -> Result<Vec<Goal>, OutOfMemory> {
+    let mut goals = Vec::new(alloc);
+    list_values(grid, candidates, &mut goals)?;
+    for line in 0..2 * grid.size().get() {
+        list_places(grid, candidates, line, &mut goals)?;
+    }
+    Ok(goals)
+}
+
+// Lists the only values of squares.
+fn list_values(
+    grid: &Grid,
+    candidates: &Candidates,
+    goals: &mut Vec<Goal>,
+) -> Result<(), OutOfMemory> {
+    let width = grid.size().get() as usize;
+    if candidates.size() != grid.size() {
+        return Ok(());
+    }
+    for cell in 0..width * width {
+        if let Some(goal) = shown_in_square(candidates, grid, cell) {
+            goals.push(goal)?;
+        }
+    }
+    Ok(())
+}
+
+// Lists the only places of one row or column.
+fn list_places(
+    grid: &Grid,
+    candidates: &Candidates,
+    line: u8,
+    goals: &mut Vec<Goal>,
+) -> Result<(), OutOfMemory> {
+    let size = grid.size();
+    if candidates.size() != size || line >= 2 * size.get() {
+        return Ok(());
+    }
+    for index in 0..size.get() {
+        if let Some(goal) = shown_in_place(candidates, grid, line, index) {
+            goals.push(goal)?;
+        }
+    }
+    Ok(())
 }
 
 // The chain that costs least so far.
 #[derive(Drop)]
 struct Least {
     grade: Grade,
-    view: Candidates,
     chain: Option<Chain>,
     cost: usize,
 }
 
 impl Least {
-    // Tries what is the only value of its square.
-    fn try_squares<P: Steps>(
-        &mut self,
-        alloc: Global,
-        p: &P,
-        grid: &Grid,
-        rounds: &Rounds,
-    ) -> Result<(), OutOfMemory> {
-        let width = grid.size().get() as usize;
-        if rounds.now.size() != grid.size() {
-            return Ok(());
-        }
-        for cell in 0..width * width {
-            if let Some(goal) = shown_in_square(&rounds.now, grid, cell) {
-                self.try_goal(alloc, p, rounds, goal)?;
-            }
-        }
-        Ok(())
-    }
-
-    // Tries what has no other place in a row or column.
-    fn try_lines<P: Steps>(
-        &mut self,
-        alloc: Global,
-        p: &P,
-        grid: &Grid,
-        rounds: &Rounds,
-    ) -> Result<(), OutOfMemory> {
-        for line in 0..2 * grid.size().get() {
-            self.try_line(alloc, p, grid, rounds, line)?;
-        }
-        Ok(())
-    }
-
-    // The same in one of them.
-    fn try_line<P: Steps>(
-        &mut self,
-        alloc: Global,
-        p: &P,
-        grid: &Grid,
-        rounds: &Rounds,
-        line: u8,
-    ) -> Result<(), OutOfMemory> {
-        let size = grid.size();
-        if rounds.now.size() != size || line >= 2 * size.get() {
-            return Ok(());
-        }
-        for index in 0..size.get() {
-            if let Some(goal) = shown_in_place(&rounds.now, grid, line, index) {
-                self.try_goal(alloc, p, rounds, goal)?;
-            }
-        }
-        Ok(())
-    }
-
     // Tries the chain that a goal needs.
     #[inline(never)]
     fn try_goal<P: Steps>(
         &mut self,
         alloc: Global,
         p: &P,
-        rounds: &Rounds,
+        rounds: &mut Rounds,
         goal: Goal,
     ) -> Result<(), OutOfMemory> {
         if self.cost == 0 {
             return Ok(());
         }
-        let needed = slice(alloc, p, &mut self.view, rounds.steps.as_slice(), goal)?;
-        let mut all = gathered(alloc, p, &mut self.view, needed.as_slice())?;
-        if !shorten(p, self.grade, &mut self.view, &mut all, goal) {
+        let needed = slice(alloc, p, &mut rounds.now, rounds.steps.as_slice(), goal)?;
+        let mut all = gathered(alloc, p, &mut rounds.now, needed.as_slice())?;
+        if !shorten(p, self.grade, &mut rounds.now, &mut all, goal) {
             return Ok(());
         }
-        let steps = struck_once(alloc, &mut self.view, all.as_slice())?;
+        let steps = struck_once(alloc, &mut rounds.now, all.as_slice())?;
         let cost = cost_of(steps.as_slice());
         if cost < self.cost {
             self.cost = cost;
