@@ -64,7 +64,7 @@ def step_of(puzzle: Puzzle, told: Object) -> Step:
         where['sign'] = (told['greater'], told['less'])
     if told['line'] is not None:
         where.update(line=told['line'], numbers=frozenset(told['numbers']))
-    strikes = [(strike['cell'], frozenset(strike['numbers'])) for strike in told['strikes']]
+    strikes = {strike['cell']: frozenset(strike['numbers']) for strike in told['strikes']}
     return Step(Reason(told['reason'], cells=tuple(told['cells'] or ()), **where), strikes)
 
 
@@ -78,9 +78,10 @@ def expect_chain(puzzle: Puzzle, numbers: Numbers, hint: Object, chain: Sequence
 
     assert shows(chain), numbers
     for at, step in enumerate(chain):
-        for strike in step.strikes:
-            less = step._replace(strikes=[other for other in step.strikes if other != strike])
-            assert not shows([*chain[:at], less, *chain[at + 1:]]), f'{strike} can be left out with {numbers}'
+        for cell, gone in step.strikes.items():
+            for number in gone:
+                less = step._replace(strikes={**step.strikes, cell: gone - {number}})
+                assert not shows([*chain[:at], less, *chain[at + 1:]]), f'{number} at {cell} can be left out with {numbers}'
     assert all(step.reason != following.reason for step, following in zip(chain, chain[1:]))
 
 
@@ -122,7 +123,7 @@ def line_name(size: int, line: int) -> str:
 def sentence_of(puzzle: Puzzle, left: Left, step: Step) -> str:
     why = why_of(puzzle, left, step)
     lost: Dict[FrozenSet[int], List[int]] = {}
-    for cell, numbers in step.strikes:
+    for cell, numbers in step.strikes.items():
         lost.setdefault(numbers, []).append(cell)
     parts = [
         f"{squares(puzzle.size, cells)} {'is' if len(cells) == 1 else 'are'} not {joined(sorted(numbers), 'or')}" for numbers, cells in lost.items()
@@ -158,7 +159,7 @@ def clue_why(puzzle: Puzzle, reason: Reason) -> str:
 
 def sign_why(size: int, left: Left, step: Step) -> str:
     greater, less = step.reason.sign
-    to = step.strikes[0][0]
+    to = next(iter(step.strikes))
     other = less if to == greater else greater
     word = 'greater' if to == greater else 'less'
     end = min(left[other]) if to == greater else max(left[other])
