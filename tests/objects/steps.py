@@ -48,11 +48,17 @@ def expect_grade(puzzle: Puzzle, numbers: Numbers, hint: Object) -> None:
 
 
 def expect_members(puzzle: Puzzle, letter: str, step: Object) -> None:
-    """The kind is one of the grade, the others are null, and the clue is the one at its place."""
-    kind = step['reason']
+    """The kind is one of the grade, the members of others are null, lists rise, and the clue is the one at its place."""
+    kind, strikes = step['reason'], step['strikes']
     assert KINDS[kind] <= letters_of(puzzle)[letter]
     assert {key for key, value in step.items() if value is not None} == MEMBERS[kind] | {'reason', 'strikes', 'text'}
+    assert all(rises(values or []) for values in (step['cells'], step['numbers'], *(strike['numbers'] for strike in strikes)))
+    assert strikes and len({strike['cell'] for strike in strikes}) == len(strikes)
     assert step['clue'] is None or isinstance(puzzle, TowersPuzzle) and puzzle.clues[edge_place(puzzle.size, step['x'], step['y'])] == step['clue']
+
+
+def rises(values: Sequence[int]) -> bool:
+    return all(value < following for value, following in zip(values, values[1:]))
 
 
 def step_of(puzzle: Puzzle, told: Object) -> Step:
@@ -78,10 +84,9 @@ def expect_chain(puzzle: Puzzle, numbers: Numbers, hint: Object, chain: Sequence
 
     assert shows(chain), numbers
     for at, step in enumerate(chain):
-        for cell, gone in step.strikes.items():
-            for number in gone:
-                less = step._replace(strikes={**step.strikes, cell: gone - {number}})
-                assert not shows([*chain[:at], less, *chain[at + 1:]]), f'{number} at {cell} can be left out with {numbers}'
+        for cell in step.strikes:
+            less = step._replace(strikes={other: gone for other, gone in step.strikes.items() if other != cell})
+            assert not shows([*chain[:at], less, *chain[at + 1:]]), f'the strike at {cell} can be left out with {numbers}'
     assert all(step.reason != following.reason for step, following in zip(chain, chain[1:]))
 
 
