@@ -10,7 +10,7 @@ from tests.harness import Ended, Room, run
 from tests.objects.boards import Texts, board_of, numbers_of, puzzle_of
 from tests.objects.reading import OWN_LINES, Answered, lines_with_reply, read_answers, shortened, without_own
 from tests.objects.solutions import expect_completable, expect_hint
-from tests.objects.steps import MOST_CLOSED, expect_steps
+from tests.objects.steps import expect_steps
 from tests.second_implementation.grades import grade_of
 
 #: The views that are asked for after each line, and those of the board after some.
@@ -96,7 +96,7 @@ def expect_group(game: str, group: Sequence[Answered]) -> None:
         if answer.line == b'hint':
             expect_hint(puzzle, numbers, answer.found['hint'])
             expect_steps(puzzle, numbers, answer.found['hint'])
-        if answer.line == b'grade' and puzzle.size <= MOST_CLOSED:
+        if answer.line == b'grade':
             assert answer.found['grade'] == grade_of(puzzle)
 
 

@@ -9,9 +9,6 @@ from tests.second_implementation.puzzles import Numbers, Puzzle
 from tests.second_implementation.steps import Left, Reason, Step, after, each, in_view, is_shown
 from tests.second_implementation.towers import TowersPuzzle, edge_place
 
-#: The greatest size at which the steps of a whole grade are taken.
-MOST_CLOSED = 9
-
 #: How many characters a line of text has at most.
 WIDTH = 100
 
@@ -24,8 +21,7 @@ MEMBERS = {
 
 def expect_steps(puzzle: Puzzle, numbers: Numbers, hint: Object) -> None:
     """What a hint says of its steps is so."""
-    if puzzle.size <= MOST_CLOSED:
-        expect_grade(puzzle, numbers, hint)
+    expect_grade(puzzle, numbers, hint)
     if hint['grade'] is None:
         assert (hint['by'], hint['line'], hint['steps'], hint['text']) == (None, None, [], [])
         return

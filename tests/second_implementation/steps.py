@@ -84,7 +84,7 @@ def struck_by_clue(puzzle: Puzzle, left: Left, reason: Reason) -> Dict[int, Froz
     if not isinstance(puzzle, TowersPuzzle) or not puzzle.clues[reason.place]:
         return {}
     squares = seen_squares(puzzle.size, reason.place)
-    may = tuple([looked_at(reason.kind, puzzle.size, left[square]) for square in squares])
+    may = tuple(looked_at(reason.kind, puzzle.size, left[square]) for square in squares)
     return {square: each(puzzle.size) - numbers for square, numbers in zip(squares, in_fillings(puzzle.clues[reason.place], may))}
 
 
