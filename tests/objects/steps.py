@@ -71,7 +71,7 @@ def step_of(puzzle: Puzzle, told: Object) -> Step:
 
 
 def expect_chain(puzzle: Puzzle, numbers: Numbers, hint: Object, chain: Sequence[Step]) -> None:
-    """The steps lead to the number, and do so without none of their strikes."""
+    """The steps lead to the number, and without any one of their strikes they do not."""
     view = in_view(puzzle.size, numbers)
 
     def shows(steps: Sequence[Step]) -> bool:
