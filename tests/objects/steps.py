@@ -49,7 +49,7 @@ def expect_members(puzzle: Puzzle, letter: str, step: Object) -> None:
     assert KINDS[kind] <= letters_of(puzzle)[letter]
     assert {key for key, value in step.items() if value is not None} == MEMBERS[kind] | {'reason', 'strikes', 'text'}
     assert all(rises(values or []) for values in (step['cells'], step['numbers'], *(strike['numbers'] for strike in strikes)))
-    assert strikes and len({strike['cell'] for strike in strikes}) == len(strikes)
+    assert strikes and len({strike['cell'] for strike in strikes}) == len(strikes) <= (1 if kind == 'sign' else puzzle.size ** 2)
     assert step['clue'] is None or isinstance(puzzle, TowersPuzzle) and puzzle.clues[edge_place(puzzle.size, step['x'], step['y'])] == step['clue']
 
 
@@ -83,7 +83,12 @@ def expect_chain(puzzle: Puzzle, numbers: Numbers, hint: Object, chain: Sequence
         for cell in step.strikes:
             less = step._replace(strikes={other: gone for other, gone in step.strikes.items() if other != cell})
             assert not shows([*chain[:at], less, *chain[at + 1:]]), f'the strike at {cell} can be left out with {numbers}'
-    assert all(step.reason != following.reason for step, following in zip(chain, chain[1:]))
+    assert all(look_of(step) != look_of(following) for step, following in zip(chain, chain[1:]))
+
+
+def look_of(step: Step) -> object:
+    """What is told as one step: a reason, or one end of a sign."""
+    return step.reason, list(step.strikes) if step.reason.kind == 'sign' else None
 
 
 # ---- the sentences
