@@ -44,12 +44,13 @@ def expect_grade(puzzle: Puzzle, numbers: Numbers, hint: Object) -> None:
 
 
 def expect_members(puzzle: Puzzle, letter: str, step: Object) -> None:
-    """The kind is one of the grade, the members of others are null, lists rise, and the clue is the one at its place."""
+    """The kind is one of the grade, the members of others are null, lists rise, a sign strikes at one end, and the clue is the one at its place."""
     kind, strikes = step['reason'], step['strikes']
     assert KINDS[kind] <= letters_of(puzzle)[letter]
     assert {key for key, value in step.items() if value is not None} == MEMBERS[kind] | {'reason', 'strikes', 'text'}
     assert all(rises(values or []) for values in (step['cells'], step['numbers'], *(strike['numbers'] for strike in strikes)))
-    assert strikes and len({strike['cell'] for strike in strikes}) == len(strikes) <= (1 if kind == 'sign' else puzzle.size ** 2)
+    assert strikes and len({strike['cell'] for strike in strikes}) == len(strikes)
+    assert kind != 'sign' or len(strikes) == 1
     assert step['clue'] is None or isinstance(puzzle, TowersPuzzle) and puzzle.clues[edge_place(puzzle.size, step['x'], step['y'])] == step['clue']
 
 
