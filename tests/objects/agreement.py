@@ -10,9 +10,8 @@ from tests.harness import Ended, Room, run
 from tests.objects.boards import Texts, board_of, numbers_of, puzzle_of
 from tests.objects.reading import OWN_LINES, Answered, lines_with_reply, read_answers, shortened, without_own
 from tests.objects.solutions import expect_completable, expect_hint
-from tests.objects.steps import MOST_CLOSED, wrong_steps
-from tests.second_implementation.steps import grade_of
-
+from tests.objects.steps import expect_steps
+from tests.second_implementation.grades import grade_of
 
 #: The views that are asked for after each line, and those of the board after some.
 SESSION = [b'status', b'id']
@@ -96,8 +95,8 @@ def expect_group(game: str, group: Sequence[Answered]) -> None:
             expect_completable(puzzle, numbers, answer.found['completable'])
         if answer.line == b'hint':
             expect_hint(puzzle, numbers, answer.found['hint'])
-            assert list(wrong_steps(puzzle, numbers, answer.found['hint'])) == []
-        if answer.line == b'grade' and puzzle.size <= MOST_CLOSED:
+            expect_steps(puzzle, numbers, answer.found['hint'])
+        if answer.line == b'grade':
             assert answer.found['grade'] == grade_of(puzzle)
 
 

@@ -1,12 +1,11 @@
 """A board as it has to be told: from the plain program's texts, and from the puzzle of its ID as tests/second_implementation reads it."""
 
-from functools import lru_cache
-from typing import Dict, FrozenSet, List, NamedTuple, Sequence, Set, Tuple
+from typing import Dict, List, NamedTuple, Sequence, Set
 
 from tests.objects.reading import Object
 from tests.second_implementation.games import GAMES
 from tests.second_implementation.puzzles import Numbers, Puzzle
-from tests.second_implementation.towers import TowersPuzzle, edge_line
+from tests.second_implementation.towers import TowersPuzzle, edge_line, in_fillings
 from tests.second_implementation.unequal import UnequalPuzzle
 
 
@@ -84,27 +83,10 @@ def clues_of(puzzle: Puzzle, numbers: Numbers, done: Sequence[str]) -> List[Obje
         side, at = divmod(place, size)
         x, y = [(at, -1), (at, size), (-1, at), (size, at)][side]
         if clue:
-            has_error = not can_be_seen(clue, tuple(edge_line(size, numbers, place)))
+            may = tuple(frozenset([found] if found else range(1, size + 1)) for found in edge_line(size, numbers, place))
+            has_error = not any(in_fillings(clue, may))
             told.append({'clue': clue, 'done': f'{x},{y}' in done, 'error': has_error, 'x': x, 'y': y})
     return told
-
-
-@lru_cache(maxsize=None)
-def can_be_seen(clue: int, line: Tuple[int, ...]) -> bool:
-    """Whether some filling of a line shows so many towers: all are tried, as the numbers used so far and the towers seen.
-
-    The tallest one that was used hides what is lower, in whatever order they stand.
-    """
-    ways: Set[Tuple[FrozenSet[int], int]] = {(frozenset(), 0)}
-    for found in line:
-        choices = [found] if found else range(1, len(line) + 1)
-        ways = {
-            (used | {height}, seen + (height > max(used, default=0)))
-            for used, seen in ways
-            for height in choices
-            if height not in used
-        }
-    return any(seen == clue for _, seen in ways)
 
 
 def signs_of(puzzle: Puzzle, numbers: Numbers) -> List[Object]:

@@ -1,125 +1,109 @@
 """The steps of a hint: they are a chain by the second implementation, none can be left out, and their sentences say what they have."""
 
-from __future__ import annotations
-
 import textwrap
-from typing import Dict, FrozenSet, Iterator, List, Optional, Sequence, Tuple, cast
+from typing import Any, Dict, FrozenSet, List, Sequence
 
 from tests.objects.reading import Object
+from tests.second_implementation.grades import KINDS, leads_on, letters_of
 from tests.second_implementation.puzzles import Numbers, Puzzle
-from tests.second_implementation.steps import KINDS, Left, Reason, Step, after, each, game_of, in_view, is_shown, leads_on
+from tests.second_implementation.steps import Left, Reason, Step, after, each, in_view, is_shown
 from tests.second_implementation.towers import TowersPuzzle, edge_place
-
-#: The greatest size at which the steps of a whole grade are taken.
-MOST_CLOSED = 4
 
 #: How many characters a line of text has at most.
 WIDTH = 100
 
+#: The members of a step that say something of its kind.
+OF_CLUE, OF_SQUARE, OF_LINE = {'x', 'y', 'clue'}, {'cells'}, {'line', 'cells', 'numbers'}
+MEMBERS = {
+    'given': OF_SQUARE, 'peer': OF_SQUARE, 'place': OF_LINE, 'bound': OF_CLUE, 'stand': OF_CLUE, 'clue': OF_CLUE, 'sign': {'greater', 'less'}, 'set': OF_LINE,
+}
 
-def wrong_steps(puzzle: Puzzle, numbers: Numbers, hint: Object) -> Iterator[str]:
-    """What is wrong with the steps of a hint, and with what is said of them."""
-    cell, number, grade, line = (cast(Optional[int], hint['cell']), cast(Optional[int], hint['number']), hint['grade'], hint['line'])
-    steps = cast(List[Object], hint['steps'])
-    if puzzle.size <= MOST_CLOSED:
-        yield from wrong_grade(puzzle, numbers, hint)
-    if grade is None:
-        if hint['by'] is not None or line is not None or steps or hint['text']:
-            yield f'{hint} has no grade, and steps'
+
+def expect_steps(puzzle: Puzzle, numbers: Numbers, hint: Object) -> None:
+    """What a hint says of its steps is so."""
+    expect_grade(puzzle, numbers, hint)
+    if hint['grade'] is None:
+        assert (hint['by'], hint['line'], hint['steps'], hint['text']) == (None, None, [], [])
         return
-    if cell is None or number is None or (hint['by'] == 'line') != isinstance(line, int):
-        yield f'{hint} shows no number'
+    assert (hint['kind'], hint['by']) == ('follows', 'value' if hint['line'] is None else 'line')
+    for step in hint['steps']:
+        expect_members(puzzle, hint['grade'], step)
+    chain = [step_of(puzzle, step) for step in hint['steps']]
+    expect_chain(puzzle, numbers, hint, chain)
+    expect_text(puzzle, numbers, hint, chain)
+
+
+def expect_grade(puzzle: Puzzle, numbers: Numbers, hint: Object) -> None:
+    """It is the least that leads on. Where all steps leave a square nothing, that is a contradiction; one may be found otherwise, too."""
+    letters = letters_of(puzzle)
+    if hint['kind'] == 'contradiction':
+        assert hint['grade'] is None
         return
-    chain = [step_of(puzzle, step) for step in steps]
-    place = cast(Optional[int], line)
-    yield from wrong_chain(puzzle, numbers, chain, cell, number, place)
-    if not all(step.reason.kind in KINDS[game_of(puzzle)][str(grade)] for step in chain):
-        yield f'{hint} has a step that its grade lacks'
-    yield from wrong_clues(puzzle, steps)
-    yield from wrong_text(puzzle, numbers, hint, chain)
+    assert leads_on(puzzle, numbers, max(letters.values())) is not None, numbers
+    assert hint['grade'] == next((letter for letter, grade in letters.items() if leads_on(puzzle, numbers, grade)), None), numbers
 
 
-def wrong_grade(puzzle: Puzzle, numbers: Numbers, hint: Object) -> Iterator[str]:
-    """The grade is the least that leads on; there is none where none does, or where all steps leave a square nothing."""
-    letters = list(KINDS[game_of(puzzle)])
-    if leads_on(puzzle, numbers, letters[-1]) is None:
-        if hint['kind'] != 'contradiction':
-            yield f'{hint}: the steps leave a square of {numbers} nothing'
-    elif hint['kind'] != 'contradiction':
-        wanted = next((letter for letter in letters if leads_on(puzzle, numbers, letter)), None)
-        if hint['grade'] != wanted:
-            yield f'{hint}: the grade is {wanted} with {numbers}'
+def expect_members(puzzle: Puzzle, letter: str, step: Object) -> None:
+    """The kind is one of the grade, the members of others are null, lists rise, a sign strikes at one end, and the clue is the one at its place."""
+    kind, strikes = step['reason'], step['strikes']
+    assert KINDS[kind] <= letters_of(puzzle)[letter]
+    assert {key for key, value in step.items() if value is not None} == MEMBERS[kind] | {'reason', 'strikes', 'text'}
+    assert all(rises(values or []) for values in (step['cells'], step['numbers'], *(strike['numbers'] for strike in strikes)))
+    assert strikes and len({strike['cell'] for strike in strikes}) == len(strikes)
+    assert kind != 'sign' or len(strikes) == 1
+    assert step['clue'] is None or isinstance(puzzle, TowersPuzzle) and puzzle.clues[edge_place(puzzle.size, step['x'], step['y'])] == step['clue']
+
+
+def rises(values: Sequence[int]) -> bool:
+    return all(value < following for value, following in zip(values, values[1:]))
 
 
 def step_of(puzzle: Puzzle, told: Object) -> Step:
     """A step as it is told."""
-    kind, x, y = str(told['reason']), told['x'], told['y']
-    place = edge_place(puzzle.size, x, y) if isinstance(x, int) and isinstance(y, int) else -1
-    sign = (told['greater'], told['less']) if kind == 'sign' else (-1, -1)
-    line = told['line'] if isinstance(told['line'], int) else -1
-    cells = tuple(cast(List[int], told['cells'] or []))
-    numbers = frozenset(cast(List[int], told['numbers'] or []))
-    strikes = [(cast(int, strike['cell']), frozenset(cast(List[int], strike['numbers']))) for strike in cast(List[Object], told['strikes'])]
-    return Step(Reason(kind, place, cast(Tuple[int, int], sign), line, cells, numbers), tuple(strikes))
+    where: Dict[str, Any] = {}
+    if told['clue'] is not None:
+        where['place'] = edge_place(puzzle.size, told['x'], told['y'])
+    if told['greater'] is not None:
+        where['sign'] = (told['greater'], told['less'])
+    if told['line'] is not None:
+        where.update(line=told['line'], numbers=frozenset(told['numbers']))
+    strikes = {strike['cell']: frozenset(strike['numbers']) for strike in told['strikes']}
+    return Step(Reason(told['reason'], cells=tuple(told['cells'] or ()), **where), strikes)
 
 
-def wrong_chain(puzzle: Puzzle, numbers: Numbers, chain: Sequence[Step], cell: int, number: int, line: Optional[int]) -> Iterator[str]:
-    """The steps lead to the number, and do so without none of their strikes."""
+def expect_chain(puzzle: Puzzle, numbers: Numbers, hint: Object, chain: Sequence[Step]) -> None:
+    """The steps lead to the number, and without any one of their strikes they do not."""
     view = in_view(puzzle.size, numbers)
 
     def shows(steps: Sequence[Step]) -> bool:
         left = after(puzzle, view, steps)
-        return left is not None and is_shown(puzzle, left, cell, number, line)
+        return left is not None and is_shown(puzzle, left, hint['cell'], hint['number'], hint['line'])
 
-    if not shows(chain):
-        yield f'{chain} does not show {number} at {cell} with {numbers}'
+    assert shows(chain), numbers
     for at, step in enumerate(chain):
-        for strike in step.strikes:
-            rest = tuple(other for other in step.strikes if other != strike)
-            if shows([*chain[:at], Step(step.reason, rest), *chain[at + 1:]]):
-                yield f'{strike} of {step} can be left out of {chain} with {numbers}'
-        if at and is_same_look(chain[at - 1], step):
-            yield f'{step} has the reason of the one before it'
+        for cell in step.strikes:
+            less = step._replace(strikes={other: gone for other, gone in step.strikes.items() if other != cell})
+            assert not shows([*chain[:at], less, *chain[at + 1:]]), f'the strike at {cell} can be left out with {numbers}'
+    assert all(look_of(step) != look_of(following) for step, following in zip(chain, chain[1:]))
 
 
-def is_same_look(one: Step, other: Step) -> bool:
-    """Whether two steps have the same reason; by a sign each of its ends is looked at by itself."""
-    is_sign = one.reason.kind == 'sign'
-    return one.reason == other.reason and not (is_sign and one.strikes[0][0] != other.strikes[0][0])
-
-
-def wrong_clues(puzzle: Puzzle, steps: Sequence[Object]) -> Iterator[str]:
-    """The clue of a step is the one at its place, and members that say nothing of its kind are null."""
-    has: Dict[str, FrozenSet[str]] = {
-        **dict.fromkeys(('bound', 'stand', 'clue'), frozenset(['x', 'y', 'clue'])),
-        'sign': frozenset(['greater', 'less']), 'set': frozenset(['line', 'cells', 'numbers']),
-        'place': frozenset(['line', 'cells', 'numbers']), 'given': frozenset(['cells']), 'peer': frozenset(['cells']),
-    }
-    for step in steps:
-        told = {key for key in ('x', 'y', 'clue', 'greater', 'less', 'line', 'cells', 'numbers') if step[key] is not None}
-        if told != has[str(step['reason'])]:
-            yield f'{step} has {sorted(told)}'
-        if isinstance(puzzle, TowersPuzzle) and step['clue'] is not None:
-            place = edge_place(puzzle.size, cast(int, step['x']), cast(int, step['y']))
-            if puzzle.clues[place] != step['clue']:
-                yield f'{step} has another clue than the puzzle'
+def look_of(step: Step) -> object:
+    """What is told as one step: a reason, or one end of a sign."""
+    return step.reason, list(step.strikes) if step.reason.kind == 'sign' else None
 
 
 # ---- the sentences
 
 
-def wrong_text(puzzle: Puzzle, numbers: Numbers, hint: Object, chain: Sequence[Step]) -> Iterator[str]:
-    left = in_view(puzzle.size, numbers)
+def expect_text(puzzle: Puzzle, numbers: Numbers, hint: Object, chain: Sequence[Step]) -> None:
+    left = view = in_view(puzzle.size, numbers)
     whole: List[str] = []
-    for at, (step, told) in enumerate(zip(chain, cast(List[Object], hint['steps']))):
+    for at, (step, told) in enumerate(zip(chain, hint['steps'])):
         sentence = sentence_of(puzzle, left, step)
-        if told['text'] != cut(sentence):
-            yield f"{told['text']} is said, not {cut(sentence)}"
+        assert told['text'] == cut(sentence)
         whole += cut(f'{at + 1}. {sentence}')
         left = after(puzzle, left, [step]) or left
-    whole += cut(conclusion(puzzle, in_view(puzzle.size, numbers), hint))
-    if hint['text'] != whole:
-        yield f"{hint['text']} is said, not {whole}"
+    assert hint['text'] == [*whole, *cut(conclusion(puzzle, view, hint))]
 
 
 def cut(sentence: str) -> List[str]:
@@ -135,19 +119,21 @@ def joined(words: Sequence[object], last: str) -> str:
     return texts[0] if len(texts) == 1 else f"{', '.join(texts[:-1])} {last} {texts[-1]}"
 
 
+def squares(size: int, cells: Sequence[int]) -> str:
+    return joined([square(size, cell) for cell in cells], 'and')
+
+
 def line_name(size: int, line: int) -> str:
     return f'row {line + 1}' if line < size else f'column {line - size + 1}'
 
 
 def sentence_of(puzzle: Puzzle, left: Left, step: Step) -> str:
     why = why_of(puzzle, left, step)
-    size = puzzle.size
     lost: Dict[FrozenSet[int], List[int]] = {}
-    for cell, numbers in step.strikes:
+    for cell, numbers in step.strikes.items():
         lost.setdefault(numbers, []).append(cell)
     parts = [
-        f"{joined([square(size, cell) for cell in cells], 'and')} {'is' if len(cells) == 1 else 'are'} not {joined(sorted(numbers), 'or')}"
-        for numbers, cells in lost.items()
+        f"{squares(puzzle.size, cells)} {'is' if len(cells) == 1 else 'are'} not {joined(sorted(numbers), 'or')}" for numbers, cells in lost.items()
     ]
     return f"{why[0].upper()}{why[1:]}: {'; '.join(parts)}."
 
@@ -158,10 +144,9 @@ def why_of(puzzle: Puzzle, left: Left, step: Step) -> str:
         return clue_why(puzzle, reason)
     if reason.kind == 'sign':
         return sign_why(size, left, step)
+    at = squares(size, reason.cells)
     if reason.kind == 'set':
-        cells, numbers = joined([square(size, cell) for cell in reason.cells], 'and'), joined(sorted(reason.numbers), 'and')
-        return f'{line_name(size, reason.line)}: {cells} take {numbers} among them'
-    at = square(size, reason.cells[0])
+        return f"{line_name(size, reason.line)}: {at} take {joined(sorted(reason.numbers), 'and')} among them"
     if reason.kind == 'place':
         return f'{line_name(size, reason.line)} has its {min(reason.numbers)} in {at}'
     return f'{at} is given' if reason.kind == 'given' else f'{at} is {min(left[reason.cells[0]])}'
@@ -181,7 +166,7 @@ def clue_why(puzzle: Puzzle, reason: Reason) -> str:
 
 def sign_why(size: int, left: Left, step: Step) -> str:
     greater, less = step.reason.sign
-    to = step.strikes[0][0]
+    to = next(iter(step.strikes))
     other = less if to == greater else greater
     word = 'greater' if to == greater else 'less'
     end = min(left[other]) if to == greater else max(left[other])
@@ -193,8 +178,8 @@ def sign_why(size: int, left: Left, step: Step) -> str:
 
 
 def conclusion(puzzle: Puzzle, view: Left, hint: Object) -> str:
-    size, cell, number, line = puzzle.size, cast(int, hint['cell']), cast(int, hint['number']), hint['line']
-    if isinstance(line, int):
+    size, cell, number, line = puzzle.size, hint['cell'], hint['number'], hint['line']
+    if line is not None:
         return f'So {square(size, cell)} is {number}: no other square of {line_name(size, line)} can be {number}.'
     stood, gone = sorted(each(size) - view[cell]), sorted(view[cell] - {number})
     parts = [f"{joined(stood, 'and')} {'stands' if len(stood) == 1 else 'stand'} in its row or column"] if stood else []

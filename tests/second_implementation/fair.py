@@ -4,19 +4,17 @@ from __future__ import annotations
 
 from typing import Iterator, List, Optional, Sequence, Tuple
 
+from tests.second_implementation.grades import HARD, LATIN, LETTERS, follows
 from tests.second_implementation.puzzles import Numbers, Puzzle, is_latin
-from tests.second_implementation.refusal import Refused
 from tests.second_implementation.seeded import full_puzzle, square, without_item
-from tests.second_implementation.grades import EASY, HARD, LATIN, follows
 from tests.second_implementation.stream import shuffled, words_of_key
-
-#: The letters of each game's grades.
-LETTERS = {'towers': {'e': EASY, 'h': HARD}, 'unequal': {'t': LATIN, 'e': EASY, 'k': HARD}}
+from tests.second_implementation.words import Refused
 
 DRAWS = 512
 
 
-def grade_of(game: str, size: int, letter: str) -> int:
+def offered(game: str, size: int, letter: str) -> int:
+    """The grade of a letter."""
     grade = LETTERS[game].get(letter)
     if grade is None or (grade == HARD and size == 3):
         raise Refused('NotOffered')
@@ -25,7 +23,7 @@ def grade_of(game: str, size: int, letter: str) -> int:
 
 def fair(game: str, size: int, letter: str, seed: int) -> Puzzle:
     """The puzzle of the first draw that doesn't follow by the grade below."""
-    grade = grade_of(game, size, letter)
+    grade = offered(game, size, letter)
     words = words_of_key(seed.to_bytes(8, 'big') + bytes([size, ord(letter), ord(game[0].upper())]) + bytes(21))
     for _ in range(DRAWS):
         puzzle = drawn_puzzle(game, size, grade, words)

@@ -1,145 +1,109 @@
-"""What the reasons of a grade leave of a puzzle (docs/RULES.md, section 9). Sets of numbers are bits: number n is bit n - 1."""
+"""Grades: what their reasons leave of a puzzle, when none strikes anything more (docs/RULES.md, section 9)."""
 
 from __future__ import annotations
 
 from functools import lru_cache
 from itertools import combinations
-from typing import Dict, Iterator, List, Sequence, Tuple
+from typing import Dict, FrozenSet, Iterable, Iterator, List, Optional
 
-from tests.second_implementation.puzzles import Puzzle
+from tests.second_implementation.puzzles import Numbers, Puzzle
+from tests.second_implementation.solving import cells_of
+from tests.second_implementation.steps import NONE, Left, Reason, each, in_view, struck
 from tests.second_implementation.towers import TowersPuzzle
 from tests.second_implementation.unequal import UnequalPuzzle
 
 LATIN, EASY, HARD = range(3)
 
-#: What is left of each square.
-Left = List[int]
+#: The grades of each game, the least first, by their letters.
+LETTERS: Dict[str, Dict[str, int]] = {'towers': {'e': EASY, 'h': HARD}, 'unequal': {'t': LATIN, 'e': EASY, 'k': HARD}}
+
+#: The kinds of reasons, each with the least grade that has it.
+KINDS = {
+    'given': LATIN, 'peer': LATIN, 'place': LATIN,
+    'bound': EASY, 'stand': EASY, 'sign': EASY,
+    'clue': HARD, 'set': HARD,
+}
 
 
-@lru_cache(None)
-def lines_of(size: int) -> Tuple[Tuple[int, ...], ...]:
-    """The cells of each row and of each column."""
-    rows = tuple(tuple(y * size + x for x in range(size)) for y in range(size))
-    return rows + tuple(zip(*rows))
+def letters_of(puzzle: Puzzle) -> Dict[str, int]:
+    return LETTERS['towers' if isinstance(puzzle, TowersPuzzle) else 'unequal']
 
 
-def view_of(size: int, place: int) -> Tuple[int, ...]:
-    """The cells of the line that the clue of an edge place sees."""
-    side, at = divmod(place, size)
-    line = lines_of(size)[at + (size if side < 2 else 0)]
-    return line[::-1] if side in (1, 3) else line
+def latin_reasons(puzzle: Puzzle, left: Left) -> Iterator[Reason]:
+    """Those that strike. What is in view has the givens."""
+    size = puzzle.size
+    for cell, numbers in enumerate(left):
+        if len(numbers) == 1:
+            yield Reason('peer', cells=(cell,))
+    for line in range(2 * size):
+        squares = cells_of(size, line)
+        for number in each(size):
+            # A number without a square has any of them left alone.
+            cells = [cell for cell in squares if number in left[cell]] or squares[:1]
+            if len(cells) == 1 and left[cells[0]] != {number}:
+                yield Reason('place', line=line, cells=tuple(cells), numbers=frozenset([number]))
 
 
-def is_one(numbers: int) -> bool:
-    return numbers != 0 and numbers & (numbers - 1) == 0
+def clue_reasons(puzzle: Puzzle, kind: str) -> Iterator[Reason]:
+    if isinstance(puzzle, TowersPuzzle):
+        yield from (Reason(kind, place=place) for place, clue in enumerate(puzzle.clues) if clue)
 
 
-def each_number(numbers: int) -> Iterator[int]:
-    while numbers:
-        lowest = numbers & -numbers
-        yield lowest
-        numbers ^= lowest
+def easy_reasons(puzzle: Puzzle, left: Left) -> Iterator[Reason]:
+    """All but `bound`, which strikes nothing that `stand` doesn't."""
+    if isinstance(puzzle, UnequalPuzzle):
+        yield from (Reason('sign', sign=sign) for sign in puzzle.signs)
+    yield from clue_reasons(puzzle, 'stand')
 
 
-@lru_cache(1 << 16)
-def in_fillings(clue: int, may: Tuple[int, ...]) -> Tuple[int, ...]:
-    """The numbers that each square has in some filling of a line that shows the clue, by what may stand in the squares."""
-    found = [0] * len(may)
-    known: Dict[Tuple[int, int, int], bool] = {}
-
-    def fills(at: int, used: int, seen: int) -> bool:
-        """Whether the squares from a place on can be filled, and all numbers that they have in these ways are found."""
-        if at == len(may):
-            return seen == clue
-        state = (at, used, seen)
-        if state not in known:
-            good = 0
-            for number in each_number(may[at] & ~used):
-                if fills(at + 1, used | number, seen + (number > used)):
-                    good |= number
-            found[at] |= good
-            known[state] = good != 0
-        return known[state]
-
-    fills(0, 0, 0)
-    return tuple(found)
+def hard_reasons(puzzle: Puzzle, left: Left) -> Iterator[Reason]:
+    """The sets are those of squares of which several numbers are left: the number of a single one has been struck elsewhere."""
+    yield from clue_reasons(puzzle, 'clue')
+    for line in range(2 * puzzle.size):
+        several = [cell for cell in cells_of(puzzle.size, line) if len(left[cell]) > 1]
+        for count in range(2, len(several)):
+            for cells in combinations([cell for cell in several if len(left[cell]) <= count], count):
+                numbers = NONE.union(*[left[cell] for cell in cells])
+                if len(numbers) == count:
+                    yield Reason('set', line=line, cells=cells, numbers=numbers)
 
 
-class Marks:
-    """What is left of a puzzle's squares, and what reasons strike."""
+REASONS = [latin_reasons, easy_reasons, hard_reasons]
 
-    def __init__(self, puzzle: Puzzle) -> None:
-        self.puzzle = puzzle
-        self.size = puzzle.size
-        self.all = (1 << puzzle.size) - 1
-        self.left: Left = [1 << given - 1 if given else self.all for given in puzzle.givens]
 
-    def keep(self, cell: int, numbers: int) -> bool:
-        """Strikes all other numbers in a square, and tells whether that was any."""
-        struck = self.left[cell] & ~numbers
-        self.left[cell] &= numbers
-        return struck != 0
+def strike(puzzle: Puzzle, left: List[FrozenSet[int]], reasons: Iterable[Reason]) -> bool:
+    """Takes away what the reasons strike, and tells whether that was any."""
+    any_struck = False
+    for reason in reasons:
+        for cell, numbers in struck(puzzle, left, reason).items():
+            if not numbers.isdisjoint(left[cell]):
+                left[cell] -= numbers
+                any_struck = True
+    return any_struck
 
-    def peers_and_places(self) -> bool:
-        moved = False
-        for line in lines_of(self.size):
-            for cell in line:
-                if is_one(self.left[cell]):
-                    moved |= any([self.keep(other, self.all & ~self.left[cell]) for other in line if other != cell])
-            for number in each_number(self.all):
-                cells = [cell for cell in line if self.left[cell] & number]
-                if len(cells) == 1:
-                    moved |= self.keep(cells[0], number)
-        return moved
 
-    def clues(self, grade: int) -> bool:
-        assert isinstance(self.puzzle, TowersPuzzle)
-        moved = False
-        for place, clue in enumerate(self.puzzle.clues):
-            if clue:
-                view = view_of(self.size, place)
-                may = tuple(self.left[cell] if grade == HARD or is_one(self.left[cell]) else self.all for cell in view)
-                moved |= any([self.keep(cell, numbers) for cell, numbers in zip(view, in_fillings(clue, may))])
-        return moved
-
-    def signs(self) -> bool:
-        assert isinstance(self.puzzle, UnequalPuzzle)
-        moved = False
-        for greater, lesser in self.puzzle.signs:
-            least = self.left[greater].bit_length()
-            moved |= self.keep(lesser, (1 << max(least - 1, 0)) - 1)
-            lowest = self.left[lesser] & -self.left[lesser]
-            moved |= self.keep(greater, self.all & ~(2 * lowest - 1))
-        return moved
-
-    def sets(self) -> bool:
-        return any([self.sets_of(line) for line in lines_of(self.size)])
-
-    def sets_of(self, line: Sequence[int]) -> bool:
-        moved = False
-        open_cells = [cell for cell in line if not is_one(self.left[cell])]
-        for count in range(2, len(open_cells)):
-            for cells in combinations(open_cells, count):
-                numbers = 0
-                for cell in cells:
-                    numbers |= self.left[cell]
-                if bin(numbers).count('1') == count:
-                    moved |= any([self.keep(cell, self.all & ~numbers) for cell in line if cell not in cells])
-        return moved
-
-    def settle(self, grade: int) -> None:
-        """Strikes all that the reasons of a grade strike, until they strike nothing more."""
-        while True:
-            if self.peers_and_places():
-                continue
-            if grade >= EASY and (self.clues(grade) if isinstance(self.puzzle, TowersPuzzle) else self.signs()):
-                continue
-            if grade < HARD or not self.sets():
-                return
+def left_by(puzzle: Puzzle, numbers: Numbers, grade: int) -> Left:
+    """What a grade leaves of a board. Where it leaves a square nothing, that is all that counts."""
+    left = list(in_view(puzzle.size, numbers))
+    while all(left) and any(strike(puzzle, left, reasons(puzzle, left)) for reasons in REASONS[:grade + 1]):
+        pass
+    return left
 
 
 def follows(puzzle: Puzzle, grade: int) -> bool:
-    """Whether a puzzle that has a solution follows by a grade: one number is left of each square."""
-    marks = Marks(puzzle)
-    marks.settle(grade)
-    return all(is_one(numbers) for numbers in marks.left)
+    """Whether the numbers of a solution are all that a grade leaves."""
+    left = left_by(puzzle, puzzle.givens, grade)
+    return all(len(numbers) == 1 for numbers in left) and puzzle.solved_by(tuple(min(numbers) for numbers in left))
+
+
+@lru_cache(maxsize=4096)
+def grade_of(puzzle: Puzzle) -> Optional[str]:
+    """The letter of the least grade by which a puzzle follows."""
+    return next((letter for letter, grade in letters_of(puzzle).items() if follows(puzzle, grade)), None)
+
+
+@lru_cache(maxsize=4096)
+def leads_on(puzzle: Puzzle, numbers: Numbers, grade: int) -> Optional[bool]:
+    """Whether a grade leaves one number of an empty square; nothing where it leaves a square nothing."""
+    left = left_by(puzzle, numbers, grade)
+    return any(len(values) == 1 and not number for values, number in zip(left, numbers)) if all(left) else None

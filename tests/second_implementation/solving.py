@@ -24,7 +24,8 @@ def lines_for(size: int, asked: Asked) -> Lines:
     ]
 
 
-def cells_of(size: int, line: int) -> List[int]:
+@lru_cache(maxsize=None)
+def cells_of(size: int, line: int) -> Sequence[int]:
     """The cells of a line: the rows come first, then the columns."""
     return [line * size + at if line < size else at * size + line - size for at in range(size)]
 

@@ -1,26 +1,19 @@
-"""Named steps: what each strikes, chains of them, and the grades of puzzles (docs/JSON.md, hint)."""
+"""Named steps: what each strikes, by what is left after the steps before it (docs/JSON.md, hint; docs/RULES.md, section 9)."""
 
 from __future__ import annotations
 
 from functools import lru_cache
-from itertools import combinations
-from typing import Dict, FrozenSet, Iterator, List, NamedTuple, Optional, Sequence, Set, Tuple
+from typing import Dict, FrozenSet, NamedTuple, Optional, Sequence, Tuple
 
 from tests.second_implementation.puzzles import Numbers, Puzzle
 from tests.second_implementation.solving import cells_of
-from tests.second_implementation.towers import TowersPuzzle, edge_line
-from tests.second_implementation.unequal import UnequalPuzzle
+from tests.second_implementation.towers import TowersPuzzle, edge_line, in_fillings
+from tests.second_implementation.unequal import Sign, UnequalPuzzle
 
 #: What is left of each square, in reading order.
-Left = Tuple[FrozenSet[int], ...]
+Left = Sequence[FrozenSet[int]]
 
-#: The kinds of steps by the letters of grades, each with those before it.
-KINDS: Dict[str, Dict[str, Tuple[str, ...]]] = {
-    'Towers': {'e': ('given', 'peer', 'place', 'bound', 'stand'), 'h': ('given', 'peer', 'place', 'bound', 'stand', 'clue', 'set')},
-    'Unequal': {
-        't': ('given', 'peer', 'place'), 'e': ('given', 'peer', 'place', 'sign'), 'k': ('given', 'peer', 'place', 'sign', 'set'),
-    },
-}
+NONE: FrozenSet[int] = frozenset()
 
 
 class Reason(NamedTuple):
@@ -30,28 +23,26 @@ class Reason(NamedTuple):
     #: The edge place of a clue.
     place: int = -1
     #: The greater and the lesser square of a sign.
-    sign: Tuple[int, int] = (-1, -1)
+    sign: Sign = (-1, -1)
     line: int = -1
     cells: Tuple[int, ...] = ()
-    numbers: FrozenSet[int] = frozenset()
+    numbers: FrozenSet[int] = NONE
 
 
 class Step(NamedTuple):
-    """A reason, and what it strikes in some squares."""
+    """A reason, and what is struck by it, by the square."""
 
     reason: Reason
-    strikes: Tuple[Tuple[int, FrozenSet[int]], ...]
+    strikes: Dict[int, FrozenSet[int]]
 
 
-def game_of(puzzle: Puzzle) -> str:
-    return 'Towers' if isinstance(puzzle, TowersPuzzle) else 'Unequal'
-
-
+@lru_cache(maxsize=None)
 def each(size: int) -> FrozenSet[int]:
     return frozenset(range(1, size + 1))
 
 
-def peers(size: int, cell: int) -> List[int]:
+@lru_cache(maxsize=None)
+def peers(size: int, cell: int) -> Sequence[int]:
     """The other squares of its row and its column."""
     y, x = divmod(cell, size)
     return [other for other in range(size * size) if other != cell and (other // size == y or other % size == x)]
@@ -59,29 +50,42 @@ def peers(size: int, cell: int) -> List[int]:
 
 def in_view(size: int, numbers: Numbers) -> Left:
     """A filled square has its number, an empty one what doesn't stand in its row or column."""
-    return tuple(
+    return [
         frozenset([number]) if number else each(size) - {numbers[peer] for peer in peers(size, cell)}
         for cell, number in enumerate(numbers)
-    )
+    ]
 
 
-@lru_cache(maxsize=1 << 16)
-def can_show(clue: int, line: Tuple[FrozenSet[int], ...]) -> bool:
-    """Whether the squares of a line, each with one of its numbers and none twice, can show so many towers."""
-    ways: Set[Tuple[FrozenSet[int], int]] = {(frozenset(), 0)}
-    for choices in line:
-        ways = {
-            (used | {height}, seen + (height > max(used, default=0)))
-            for used, seen in ways
-            for height in choices
-            if height not in used
-        }
-    return any(seen == clue for _, seen in ways)
-
-
-def seen_squares(size: int, place: int) -> List[int]:
+@lru_cache(maxsize=None)
+def seen_squares(size: int, place: int) -> Sequence[int]:
     """The squares of the line that a clue sees, the nearest first."""
     return edge_line(size, range(size * size), place)
+
+
+def struck(puzzle: Puzzle, left: Left, reason: Reason) -> Dict[int, FrozenSet[int]]:
+    """All that a reason strikes, left or not, by the square."""
+    size, kind = puzzle.size, reason.kind
+    if kind == 'sign':
+        return struck_by_sign(puzzle, left, reason.sign)
+    if kind in ('bound', 'stand', 'clue'):
+        return struck_by_clue(puzzle, left, reason)
+    if kind == 'set':
+        return struck_by_set(size, left, reason)
+    cell, = reason.cells
+    if kind == 'given':
+        return {cell: each(size) - {puzzle.givens[cell]}} if puzzle.givens[cell] else {}
+    if kind == 'peer':
+        return dict.fromkeys(peers(size, cell), left[cell]) if len(left[cell]) == 1 else {}
+    number, = reason.numbers
+    return {cell: each(size) - {number}} if is_left_alone(size, left, cell, number, reason.line) else {}
+
+
+def struck_by_clue(puzzle: Puzzle, left: Left, reason: Reason) -> Dict[int, FrozenSet[int]]:
+    if not isinstance(puzzle, TowersPuzzle) or not puzzle.clues[reason.place]:
+        return {}
+    squares = seen_squares(puzzle.size, reason.place)
+    may = tuple(looked_at(reason.kind, puzzle.size, left[square]) for square in squares)
+    return {square: each(puzzle.size) - numbers for square, numbers in zip(squares, in_fillings(puzzle.clues[reason.place], may))}
 
 
 def looked_at(kind: str, size: int, left: FrozenSet[int]) -> FrozenSet[int]:
@@ -91,124 +95,40 @@ def looked_at(kind: str, size: int, left: FrozenSet[int]) -> FrozenSet[int]:
     return each(size)
 
 
-def struck(puzzle: Puzzle, left: Left, reason: Reason, cell: int) -> FrozenSet[int]:
-    """All that a reason strikes in a square, left or not."""
-    size, kind = puzzle.size, reason.kind
-    if kind == 'given':
-        given = puzzle.givens[cell]
-        return each(size) - {given} if given and reason.cells == (cell,) else frozenset()
-    if kind == 'peer':
-        seen = left[reason.cells[0]]
-        return seen if len(seen) == 1 and cell in peers(size, reason.cells[0]) else frozenset()
-    if kind == 'place':
-        others = [left[other] for other in cells_of(size, reason.line) if other != cell]
-        is_only = reason.cells == (cell,) and not any(reason.numbers & other for other in others)
-        return each(size) - reason.numbers if is_only else frozenset()
-    if kind in ('bound', 'stand', 'clue'):
-        return struck_by_clue(puzzle, left, reason, cell)
-    if kind == 'sign':
-        return struck_by_sign(puzzle, left, reason, cell)
-    shared = frozenset().union(*(left[other] for other in reason.cells))
-    is_group = len(reason.numbers) == len(reason.cells) and shared <= reason.numbers
-    is_elsewhere = cell in cells_of(size, reason.line) and cell not in reason.cells
-    return reason.numbers if is_group and is_elsewhere else frozenset()
+def struck_by_sign(puzzle: Puzzle, left: Left, sign: Sign) -> Dict[int, FrozenSet[int]]:
+    """Where an end has nothing left, no number goes with it."""
+    if not isinstance(puzzle, UnequalPuzzle) or sign not in puzzle.signs:
+        return {}
+    greater, less = sign
+    return {
+        less: frozenset(range(max(left[greater], default=1), puzzle.size + 1)),
+        greater: frozenset(range(1, min(left[less], default=puzzle.size) + 1)),
+    }
 
 
-def struck_by_clue(puzzle: Puzzle, left: Left, reason: Reason, cell: int) -> FrozenSet[int]:
-    squares = seen_squares(puzzle.size, reason.place)
-    if not isinstance(puzzle, TowersPuzzle) or not puzzle.clues[reason.place] or cell not in squares:
-        return frozenset()
-    clue = puzzle.clues[reason.place]
-    may = [looked_at(reason.kind, puzzle.size, left[square]) for square in squares]
-    at = squares.index(cell)
-
-    def is_possible(number: int) -> bool:
-        return number in may[at] and can_show(clue, (*may[:at], frozenset([number]), *may[at + 1:]))
-
-    return frozenset(number for number in each(puzzle.size) if not is_possible(number))
+def struck_by_set(size: int, left: Left, reason: Reason) -> Dict[int, FrozenSet[int]]:
+    cells, numbers, squares = set(reason.cells), reason.numbers, cells_of(size, reason.line)
+    if len(cells) != len(numbers) or not cells.issubset(squares) or not all(left[cell] <= numbers for cell in cells):
+        return {}
+    return {cell: numbers for cell in squares if cell not in cells}
 
 
-def struck_by_sign(puzzle: Puzzle, left: Left, reason: Reason, cell: int) -> FrozenSet[int]:
-    greater, less = reason.sign
-    if not isinstance(puzzle, UnequalPuzzle) or reason.sign not in puzzle.signs or cell not in reason.sign:
-        return frozenset()
-    if cell == greater:
-        return frozenset(number for number in each(puzzle.size) if number <= min(left[less], default=puzzle.size))
-    return frozenset(number for number in each(puzzle.size) if number >= max(left[greater], default=1))
-
-
-def without(left: Left, cell: int, numbers: FrozenSet[int]) -> Left:
-    return (*left[:cell], left[cell] - numbers, *left[cell + 1:])
+def is_left_alone(size: int, left: Left, cell: int, number: int, line: int) -> bool:
+    """Whether no other square of a line has the number left."""
+    squares = cells_of(size, line)
+    return cell in squares and not any(number in left[other] for other in squares if other != cell)
 
 
 def after(puzzle: Puzzle, left: Left, steps: Sequence[Step]) -> Optional[Left]:
     """What is left after the steps, or nothing where one of them strikes more than its reason does."""
     for step in steps:
-        next_left = left
-        for cell, numbers in step.strikes:
-            if not numbers <= struck(puzzle, left, step.reason, cell):
-                return None
-            next_left = without(next_left, cell, numbers)
-        left = next_left
+        may = struck(puzzle, left, step.reason)
+        if not all(numbers <= may.get(cell, NONE) for cell, numbers in step.strikes.items()):
+            return None
+        left = [numbers - step.strikes.get(cell, NONE) for cell, numbers in enumerate(left)]
     return left
 
 
 def is_shown(puzzle: Puzzle, left: Left, cell: int, number: int, line: Optional[int]) -> bool:
     """Whether nothing else is left of the square; or in the line, if there is one, no other square for the number."""
-    if line is None:
-        return left[cell] <= {number}
-    squares = cells_of(puzzle.size, line)
-    return cell in squares and all(number not in left[other] for other in squares if other != cell)
-
-
-# ---- what the steps of a grade lead to, for small puzzles
-
-
-def reasons(puzzle: Puzzle, left: Left, kinds: Sequence[str]) -> Iterator[Reason]:
-    """The reasons of these kinds, but for groups that share more numbers than they are."""
-    size = puzzle.size
-    for cell in range(size * size):
-        yield from (Reason(kind, cells=(cell,)) for kind in ('given', 'peer'))
-    for line in range(2 * size):
-        squares = cells_of(size, line)
-        for cell in squares:
-            yield from (Reason('place', line=line, cells=(cell,), numbers=frozenset([number])) for number in each(size))
-        for count in range(1, size) if 'set' in kinds else ():
-            for group in combinations(squares, count):
-                yield Reason('set', line=line, cells=group, numbers=frozenset().union(*(left[cell] for cell in group)))
-    if isinstance(puzzle, TowersPuzzle):
-        for place in range(4 * size):
-            yield from (Reason(kind, place=place) for kind in ('bound', 'stand', 'clue') if kind in kinds)
-    if isinstance(puzzle, UnequalPuzzle) and 'sign' in kinds:
-        yield from (Reason('sign', sign=sign) for sign in puzzle.signs)
-
-
-def closure(puzzle: Puzzle, left: Left, kinds: Sequence[str]) -> Left:
-    """What is left when no reason of these kinds strikes anything more."""
-    while True:
-        before = left
-        for reason in reasons(puzzle, left, kinds):
-            for cell in range(puzzle.size ** 2):
-                left = without(left, cell, struck(puzzle, left, reason, cell))
-        if left == before:
-            return left
-
-
-@lru_cache(maxsize=4096)
-def grade_of(puzzle: Puzzle) -> Optional[str]:
-    """The letter of the least grade by which a puzzle follows."""
-    size = puzzle.size
-    for letter, kinds in KINDS[game_of(puzzle)].items():
-        left = closure(puzzle, (each(size),) * (size * size), kinds)
-        if all(len(values) == 1 for values in left):
-            return letter if puzzle.solved_by(tuple(number for values in left for number in values)) else None
-    return None
-
-
-@lru_cache(maxsize=4096)
-def leads_on(puzzle: Puzzle, numbers: Numbers, letter: str) -> Optional[bool]:
-    """Whether the steps of a grade show a number of an empty square; nothing where they leave a square nothing."""
-    left = closure(puzzle, in_view(puzzle.size, numbers), KINDS[game_of(puzzle)][letter])
-    if not all(left):
-        return None
-    return any(len(values) == 1 and not number for values, number in zip(left, numbers))
+    return left[cell] <= {number} if line is None else is_left_alone(puzzle.size, left, cell, number, line)

@@ -2,7 +2,8 @@
 
 import re
 from dataclasses import dataclass
-from typing import List, Sequence, Tuple
+from functools import lru_cache
+from typing import Dict, FrozenSet, List, Sequence, Set, Tuple
 
 from tests.second_implementation.puzzles import Numbers, Puzzle, column, row
 from tests.second_implementation.words import Refused, one_digit
@@ -27,6 +28,28 @@ def edge_place(size: int, x: int, y: int) -> int:
         if is_there and 0 <= at < size:
             return side * size + at
     return -1
+
+
+@lru_cache(maxsize=1 << 16)
+def in_fillings(clue: int, may: Tuple[FrozenSet[int], ...]) -> Tuple[FrozenSet[int], ...]:
+    """The numbers that each square has in some filling of a line that shows a clue, by what may stand in the squares, the nearest first. A filling
+    has no number twice."""
+    found: List[Set[int]] = [set() for _ in may]
+    known: Dict[Tuple[int, int, int], bool] = {}
+
+    def fills(at: int, used: int, shown: int) -> bool:
+        """Whether the squares from a place on can be filled, where the bits of the used numbers are set; and what they have then is found."""
+        if at == len(may):
+            return shown == clue
+        state = (at, used, shown)
+        if state not in known:
+            ways = [height for height in may[at] if not used >> height & 1 and fills(at + 1, used | 1 << height, shown + (1 << height > used))]
+            found[at].update(ways)
+            known[state] = bool(ways)
+        return known[state]
+
+    fills(0, 0, 0)
+    return tuple(map(frozenset, found))
 
 
 @dataclass(frozen=True)
