@@ -8,21 +8,22 @@ from typing import Iterator, List, NamedTuple, Sequence
 from sheet.layout import Numbered, Paper, lines
 from sheet.markup import Markup, fill, joined
 from sheet.measures import length
-from sheet.steps import Step
+from sheet.steps import Move
 
 #: Between two columns, and below a block.
 COLUMN_GAP, GAP = 600, 150
 
 BLOCK = Template('<div class="steps" style="left:$left;top:$top;width:$width;height:$height">$content</div>\n')
 HEAD = Template('<p><b>$number</b> $grade</p>')
-STEP = Template('<p><b>$label.</b> $text</p>')
+MOVE = Template('<p><b>$label.</b> $text</p>')
+SENTENCE = Template('<p>$text</p>')
 
 
 class Explained(NamedTuple):
     """A puzzle, and how its answer goes on."""
 
     numbered: Numbered
-    steps: List[Step]
+    moves: List[Move]
 
 
 class Piece(NamedTuple):
@@ -53,13 +54,14 @@ def sections(paper: Paper, every: Sequence[Explained]) -> Iterator[Markup]:
 
 
 def _pieces(explained: Explained, width: int, font: int) -> Iterator[Piece]:
-    """A piece for each step; the first one has the puzzle's number above."""
+    """A piece for each sentence; the first one has the puzzle's number above, and that of each move the move's."""
     puzzle = explained.numbered.puzzle
     head = fill(HEAD, number=explained.numbered.number, grade=puzzle.grade)
-    for step in explained.steps:
-        label = f'Step {step.number}{", the hardest" if step.is_hardest else ""}'
-        content = joined([head, fill(STEP, label=label, text=step.text)])
-        yield Piece(content, lines(f'{label}. {step.text}', width, font) + (1 if head else 0))
+    for move in explained.moves:
+        label = f'Move {move.number}{", the hardest" if move.is_hardest else ""}'
+        first, *others = move.sentences
+        yield Piece(joined([head, fill(MOVE, label=label, text=first)]), lines(f'{label}. {first}', width, font) + (1 if head else 0))
+        yield from (Piece(fill(SENTENCE, text=text), lines(text, width, font)) for text in others)
         head = Markup('')
 
 

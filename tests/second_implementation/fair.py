@@ -5,10 +5,10 @@ from __future__ import annotations
 from typing import Iterator, List, Optional, Sequence, Tuple
 
 from tests.second_implementation.puzzles import Numbers, Puzzle, is_latin
-from tests.second_implementation.refusal import Refused
 from tests.second_implementation.seeded import full_puzzle, square, without_item
 from tests.second_implementation.grades import EASY, HARD, LATIN, follows
 from tests.second_implementation.stream import shuffled, words_of_key
+from tests.second_implementation.words import Refused
 
 #: The letters of each game's grades.
 LETTERS = {'towers': {'e': EASY, 'h': HARD}, 'unequal': {'t': LATIN, 'e': EASY, 'k': HARD}}
