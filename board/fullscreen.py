@@ -3,6 +3,7 @@
 from __future__ import annotations
 
 import os
+from functools import partial
 from typing import Callable, Dict, List, Optional
 
 from board import keys, manual
@@ -32,26 +33,27 @@ class FullScreen:
         self._cursor: Place = (0, 0)
         self._is_pencil = False
         self._key = Key('')
+        play = self.table.play
         #: What each key does, but those of `keys`.
-        self._actions: Dict[str, Callable[[], None]] = {
+        self._actions: Dict[str, Callable[[], object]] = {
             'enter': self._enter,
             'p': self._pencil,
             ' ': self._clear,
             '0': self._clear,
             'backspace': self._clear,
             'delete': self._clear,
-            'm': self._all_marks,
-            'M': self._marks_go,
-            'u': self._undo,
-            '\x1a': self._undo,
-            'r': self._redo,
-            '\x12': self._redo,
+            'm': partial(play, 'move M'),
+            'M': self.table.toggle_marks,
+            'u': partial(play, 'undo'),
+            '\x1a': partial(play, 'undo'),
+            'r': partial(play, 'redo'),
+            '\x12': partial(play, 'redo'),
             'd': self._done_mark,
             'R': self._restart,
             'h': self._hint,
             'H': self._why,
-            'c': self._check,
-            'b': self._back,
+            'c': self.table.check,
+            'b': self.table.back,
             'S': self._solve,
             'n': self._new,
             'o': self._open,
@@ -60,12 +62,12 @@ class FullScreen:
             '?': self._help,
             ':': self._command,
             'T': self._lines,
-            'Z': self._suspend,
-            '\x0c': self._redraw,
+            'Z': screen.suspend,
+            '\x0c': screen.redraw,
             'mouse': self._mouse,
             'q': self._quit,
             '\x03': self._quit,
-            'resize': self._nothing,
+            'resize': lambda: None,
         }
         self._file = ''
         self._shown = Shown()
@@ -217,18 +219,6 @@ class FullScreen:
         else:
             self.table.message = 'd marks a clue at the edge as done: go there first.'
 
-    def _all_marks(self) -> None:
-        self.table.play('move M')
-
-    def _marks_go(self) -> None:
-        self.table.toggle_marks()
-
-    def _undo(self) -> None:
-        self.table.play('undo')
-
-    def _redo(self) -> None:
-        self.table.play('redo')
-
     def _restart(self) -> None:
         if self.table.play('restart'):
             self.table.message = 'Back at the start; u takes that back.'
@@ -268,12 +258,6 @@ class FullScreen:
             told = lesson.part(self._step, self.table.board)
             self._show(told)
             self.table.message = f'{told.text} {self._step + 1} of {lesson.length()}: arrows walk on.'
-
-    def _check(self) -> None:
-        self.table.check()
-
-    def _back(self) -> None:
-        self.table.back()
 
     def _command(self) -> None:
         text = self._dialogues.read(':')
@@ -361,15 +345,6 @@ class FullScreen:
     def _lines(self) -> None:
         if self._may_leave():
             self.wants_lines = self._is_over = True
-
-    def _suspend(self) -> None:
-        self._screen.suspend()
-
-    def _redraw(self) -> None:
-        self._screen.redraw()
-
-    def _nothing(self) -> None:
-        pass
 
     def _quit(self) -> None:
         self._is_over = self._may_leave()

@@ -341,7 +341,8 @@ def _unlink(path: str) -> None:
 
 def saves_in(folder: str) -> List[SavedGame]:
     """The saves in a folder of the player's, the last one first."""
-    paths = [os.path.join(folder, name) for name in sorted(files.names_in(folder or '.')[0])[:LOOKED_AT]]
+    names = [name for name in sorted(files.names_in(folder or '.')[0]) if not name.startswith('.')][:LOOKED_AT]
+    paths = [os.path.join(folder, name) for name in names]
     found = [_saved(path, Home.FOLDER) for path in paths if files.begins(path, saves.BEGINS)]
     return sorted(found, key=lambda saved: saved.when, reverse=True)[:LISTED]
 

@@ -81,14 +81,12 @@ def beside(front: BoardFront, room: Room, face: Face, why: str) -> None:
         told = f"FOLDER/{KEPT} {why}: what can't be read stays as it is, and this game is kept in towers-2.sav."
         window.look('', [told])
         window.look(face.back + face.marks, [face.shows])
-        window.press(face.leave)
-        assert window.status() == 0, 'the status'
+        window.leave(face.leave)
     assert known(room, KEPT) == before, 'what was there'
     assert b'MOVE    :1:M\n' in (room.read(BESIDE) or b''), room.paths()
     with front.window([*face.words], LOW) as window:
         window.look('', [face.shows])
-        window.press(face.leave)
-        assert window.status() == 0, 'the status of the next start'
+        window.leave(face.leave)
     assert known(room, KEPT) == before, 'what was there at the end'
     assert left_files(room) == [], 'no other file'
 
@@ -113,8 +111,7 @@ def test_damaged(front: BoardFront, room: Room) -> None:
                 told = f"FOLDER/{KEPT} can't be read, nor put away (FOLDER/{FOLDER}/old is a named pipe), and stays as it is: That save is damaged (Missing)."
                 window.look('', [told])
             window.look(face.back, ['Towers 5x5' if face is SCREEN else 'towers 1/1>'])
-            window.press(face.leave)
-            assert window.status() == 0, f'{face.name}: the status'
+            window.leave(face.leave)
         assert room.read(KEPT) == save_text(2)[:150], f'{face.name}: what was there'
         assert (room.read(BESIDE) or b'').startswith(b'SAVEFILE'), room.paths()
 
@@ -126,8 +123,7 @@ def test_damaged_in_lines(front: BoardFront, room: Room) -> None:
     with front.window(['--lines', 'towers'], LOW) as window:
         told = "The game that was kept is put away, as it can't be read: That is no save file of the collection: one begins with 'SAVEFILE:41:'."
         window.look('', [told, 'towers 1/1>'])
-        window.press('q<enter>')
-        assert window.status() == 0, 'the status'
+        window.leave('q<enter>')
     old = [path for path in room.paths() if path.startswith(f'{FOLDER}/old/')]
     assert [room.read(path) for path in old] == [b'no save\n'], 'it is put away'
 
@@ -141,8 +137,7 @@ def test_new_file(front: BoardFront, room: Room) -> None:
     room.link(f'{FOLDER}/towers.lock', os.path.join(room.path, 'made.txt'))
     with front.window(['towers']) as window:
         window.look('m', ['move 1/1'])
-        window.press('q')
-        assert window.status() == 0, 'the status'
+        window.leave('q')
     assert room.read('notes.txt') == b'notes\n', 'what the link leads to'
     assert [path for path in room.paths() if not path.startswith('state/')] == ['notes.txt'], 'nothing else is made'
     assert b'MOVE    :1:M\n' in (room.read(BESIDE) or b''), room.paths()
@@ -158,8 +153,7 @@ def test_lock(front: BoardFront, room: Room) -> None:
         with front.window(['--lines'], LOW, env) as window:
             told = f"FOLDER/{at}/puzzles/towers.sav can't be locked ({why}): what can't be read stays as it is, and this game is kept in towers-2.sav."
             window.look('', [told, 'towers 1/1>'])
-            window.press('q<enter>')
-            assert window.status() == 0, f'{why}: the status'
+            window.leave('q<enter>')
         assert room.read(f'{at}/puzzles/towers.sav') == save_text(2), f'{why}: the kept game'
 
 
@@ -174,14 +168,12 @@ def test_other_game(front: BoardFront, room: Room) -> None:
         window.look('1', ['1 of 9'])
         window.look('n<up><up><right><enter>', [told])
         window.look('x', ['Unequal 3x3'], ['named pipe'])
-        window.press('q')
-        assert window.status() == 0, 'the status'
+        window.leave('q')
     assert known(room, path) == before, 'what was there'
     with front.window(['--lines', 'towers', ID], LOW) as window:
         os.utime(os.path.join(room.path, path), (2e9, 2e9))
         window.look('new unequal 4<enter>', [told, 'new 4d'])
-        window.press('q<enter>')
-        assert window.status() == 0, 'in lines: the status'
+        window.leave('q<enter>')
 
 
 def test_no_text(front: BoardFront, room: Room) -> None:
@@ -193,8 +185,7 @@ def test_no_text(front: BoardFront, room: Room) -> None:
     for face in (SCREEN, LINES):
         with front.window([*face.words, 'towers', ID], LOW, {**front.env(), 'XDG_STATE_HOME': folder}) as window:
             window.look('', ["towers.sav is a named pipe: what can't be read stays as it is"])
-            window.press(face.leave)
-            assert window.status() == 0, f'{face.name}: the status'
+            window.leave(face.leave)
 
 
 def test_third_game(front: BoardFront, room: Room) -> None:
@@ -209,8 +200,7 @@ def test_third_game(front: BoardFront, room: Room) -> None:
         window.look('', ['Towers 3x3', '0 of 9'])
         window.look('n<up><up><right><enter>', ['is a named pipe). Lose it? y/N'])
         window.look('x', ['The present game stays.', 'Towers 3x3'])
-        window.press('q')
-        assert window.status() == 0, 'the status'
+        window.leave('q')
     assert [room.read(path) for path, _ in kept] == [content for _, content in kept], 'what is kept'
 
 

@@ -46,8 +46,7 @@ def test_words(front: BoardFront, room: Room) -> None:
     ]:
         with front.window(words) as window:
             window.look('', shows)
-            window.press('q')
-            assert window.status() == 0, f'{words}: the status'
+            window.leave('q')
     with front.window([]) as window:
         window.look('n', ['[Towers]', '[7]', '[hard]', '50 puzzles, 49 of them new to you'])
         window.look('<up><up><right>', ['[Unequal]', '[6]', '[tricky]', '200 puzzles, 199 of them new to you'])
@@ -58,8 +57,7 @@ def test_words(front: BoardFront, room: Room) -> None:
         room.remove(path)
     with front.window(['unequal']) as window:
         window.look('', ['Unequal 6x6', 'tricky', 'A new game; ? shows the keys.'])
-        window.press('q')
-        assert window.status() == 0, 'the status of a start without a kept game'
+        window.leave('q')
 
 
 def test_words_in_lines(front: BoardFront, room: Room) -> None:
@@ -70,8 +68,7 @@ def test_words_in_lines(front: BoardFront, room: Room) -> None:
         window.look('new today<enter>', [f'new 5!{time.strftime("%Y%m%d")}'])
         window.look('new 9 recursive<enter>', ['Of size 9 there are puzzles of the grades trivial, easy, tricky and extreme.'])
         window.look('new 9<enter>', ['new 9dt:'])
-        window.press('q<enter>')
-        assert window.status() == 0, 'the status'
+        window.leave('q<enter>')
     with front.window(['unequal', '9', 'hard'], (24, 120)) as window:
         window.look('', ["Unequal has no grade 'hard': trivial, easy, tricky, extreme or recursive."])
         assert window.status() == 2, 'the status of a grade of the other game'
@@ -97,6 +94,5 @@ def test_no_place_for_choices(front: BoardFront, room: Room) -> None:
         window.look('M', ['From now on the marks of a number go'])
         window.look('M', ['From now on marks stay'])
         window.look('n', ['[4]', '[hard]'])
-        window.press('qq')
-        assert window.status() == 0, 'the status'
+        window.leave('qq')
     assert os.listdir(os.path.join(room.path, 'state', 'puzzles', 'choices')) == [], 'what was there'

@@ -42,8 +42,7 @@ def test_put_away(front: BoardFront, room: Room) -> None:
         window.look('o', ['Towers 3x3, 1 of 9', 'a file ..'])
         window.look('0', ['Towers 3x3', '1 of 9', 'move 1/1'])
         window.look('o', ['0 a file ..'])
-        window.press('qq')
-        assert window.status() == 0, 'the status'
+        window.leave('qq')
     assert room.read('state/puzzles/towers.sav') == save_text(1), 'it is the present one'
 
 
@@ -93,8 +92,7 @@ def test_listed(front: BoardFront, room: Room) -> None:
     room.put('notes.txt', b'not a save')
     with front.window(['unequal', '3!7']) as window:
         window.look('1', ['1 of 7'])
-        window.press('q')
-        assert window.status() == 0, 'the status'
+        window.leave('q')
     with front.window(['towers', ID]) as window:
         window.look('1', ['1 of 9'])
         shows = ['Unequal 3x3, 1 of 7, not put away', '1 a file ..', 'mine.sav: Towers 3x3, 3 of 9', 'other.sav: Keen, not played here', "bad.sav: save, can't be read"]
@@ -105,8 +103,7 @@ def test_listed(front: BoardFront, room: Room) -> None:
         window.look('o', ['0', 'Towers 3x3, 1 of 9, not put away', 'mine.sav'])
         window.look('<down><down><enter>', ['Towers 3x3', '3 of 9'], ['Go on'])
         window.look('<right>w', ['save as: mine.sav'])
-        window.press('<escape>q')
-        assert window.status() == 0, 'the status'
+        window.leave('<escape>q')
 
 
 def test_names(front: BoardFront, room: Room) -> None:
@@ -123,14 +120,13 @@ def test_names(front: BoardFront, room: Room) -> None:
         window.look('<tab>', ['one more.sav  one.sav', 'open the file: saves/one'])
         window.look('.<tab><enter>', ['2 of 9'])
         window.look('wsaves/<tab>', ['save as: saves/one'])
-        window.press('<escape>q')
-        assert window.status() == 0, 'the status'
+        window.leave('<escape>q')
     with front.window(['--lines', 'towers', ID]) as window:
+        window.look('', ['towers 1/1>'])
         window.look('load sa<tab><tab>', ['load saves/one'])
         window.look(' m<tab><enter>', ['load saves/one more.sav', 'towers 3/3>'])
         window.look('x<tab><enter>', ['No such command'])
-        window.press('q<enter>')
-        assert window.status() == 0, 'the status of lines'
+        window.leave('q<enter>')
 
 
 def test_refused_saves(front: BoardFront, room: Room) -> None:

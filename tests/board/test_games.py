@@ -122,15 +122,20 @@ GAMES: List[BoardGame] = [
         'hints',
         ['towers', ID],
         [
-            Look('h', ['Here only one number is left']),
-            Look('h', ['It is a ']),
+            Look('H', ['Why', '1. Clue 3 above column 1: all towers are seen, so they rise: r1c1 is not 2 or 3.', 'So r1c1 is 1: 2 and 3 are ruled out above.']),
+            Look('<right>', ['So r1c1 is 1: 2 and 3 are ruled out above.', '2 of 2: arrows walk on.']),
+            Look('<left>', ['r1c1 is not 2 or 3.', '1 of 2: arrows walk on.']),
+            Look('h', ['Look at the clue 3 above column 1. h again: more.']),
+            Look('h', ['Clue 3 above column 1: all towers are seen, so they rise: r1c1 is not 2 or 3.']),
+            Look('h', ['So r1c1 is 1: 2 and 3 are ruled out above.']),
+            Look('h', ['1 of 9']),
             Look('c', ['These numbers can still be completed, in one way.']),
-            Look('<down><down><right><right>3', ['1 of 9']),
+            Look('<down><down><right><right>3', ['2 of 9']),
             Look('c', ["These numbers can't be completed since the last move: b takes it back."]),
-            Look('h', ['No solution keeps these numbers']),
+            Look('h', ['These numbers contradict one another']),
             Look('b', ['One move back, where the numbers could be completed', '1 hint']),
             Look('b', ['These numbers can still be completed: there is nothing to take back.']),
-            Look('r', ['1 of 9']),
+            Look('r', ['2 of 9']),
             Look(':new 3:///////////<enter>c', ['in several ways']),
             Look('h', ['No number follows by the deductions alone']),
         ],
@@ -227,7 +232,7 @@ MORE = [
     BoardGame('refusals of Unequal', ['unequal', '3!7'], [Look(f':{line}<enter>', [sentence]) for line, sentence in UNEQUAL_REFUSALS]),
     BoardGame('no solution', ['towers', '3:3///3////////'], [Look('Sy', ['No solution exists for this puzzle'])]),
     BoardGame('several solutions', ['towers', '3:3///////////'], [Look('Sy', ['Multiple solutions exist for this puzzle'])]),
-    BoardGame('two lines of a message', ['towers', NINE['towers']], [Look('h', ['Here only one number is left', 'h again tells it.', '? keys'])]),
+    BoardGame('two lines of a message', ['towers', NINE['towers']], [Look('hhh', ['So r4c1 is 7: 1, 2, 3, 4, 5 and 6 stand in its row or column', 'h again: more.', '? keys'])]),
     BoardGame('a filled square', ['towers', ID], [Look('1p2', ['There is a number: 0 clears it, then set pencil marks.'])]),
 ]
 
@@ -241,8 +246,7 @@ def test_kept_choice(front: BoardFront, room: Room) -> None:
     """That marks go is kept, and holds in lines, too; what is saved can be opened anywhere."""
     with front.window(['towers', ID]) as window:
         window.look('M', ['From now on'])
-        window.press('q')
-        assert window.status() == 0, 'the status'
+        window.leave('q')
     with front.window(['--lines']) as window:
         window.look('m<enter>', ['9 squares have other pencil marks'])
         window.look('0 0 1<enter>', ['row 0, column 0 is 1; row 0 lacks 2 and 3; 4 other squares have other pencil marks'])
@@ -250,13 +254,11 @@ def test_kept_choice(front: BoardFront, room: Room) -> None:
         window.look('undo<enter>', ['towers 2/7>'])
         window.look('tidy<enter>', ['From now on marks stay'])
         window.look('redo<enter>', ['towers 7/7>'])
-        window.press('q<enter>')
-        assert window.status() == 0, 'the status'
+        window.leave('q<enter>')
     with front.window([]) as window:
         # What went together is known while the board runs; of a game that goes on the number is undone first.
         window.look('u', ['0 of 9', 'move 5/6', '│     2   3 │'])
-        window.press('rq')
-        assert window.status() == 0, 'the status at the end'
+        window.leave('rq')
     moves = [b'M', b'P1,0,1', b'P2,0,1', b'P0,1,1', b'P0,2,1', b'R0,0,1']
     assert re.findall(rb'^MOVE    :.:(.*)$', room.read('state/puzzles/towers.sav') or b'', re.MULTILINE) == moves
 
@@ -285,5 +287,4 @@ def test_whole_game(front: BoardFront, game: str, id: str, most: int) -> None:
         window.look('', ['move 0/0'])
         window.look(whole_game(*solution(front.program, game, id)), ['Solved!'])
         assert window.pressed <= most
-        window.press('q')
-        assert window.status() == 0
+        window.leave('q')

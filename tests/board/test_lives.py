@@ -9,6 +9,7 @@ from typing import Callable, List, Tuple
 
 import pytest
 
+from board import manual
 from tests.harness.terminal import Terminal
 from tests.board.front import BoardFront
 from tests.harness import Room, run
@@ -118,8 +119,7 @@ def test_without_home(front: BoardFront, room: Room) -> None:
         window.look('x', ['1 of 9'], ['y/N'])
         window.look('n<enter>', ["The present game can't be put away", 'Lose it? y/N'])
         window.look('x', ['The present game stays.', '1 of 9'])
-        window.press('qy')
-        assert window.status() == 0, 'the status'
+        window.leave('qy')
 
 
 def test_no_folder(front: BoardFront, room: Room) -> None:
@@ -127,8 +127,7 @@ def test_no_folder(front: BoardFront, room: Room) -> None:
     room.put('state', b'')
     with front.window(['towers', ID]) as window:
         window.look('1', ['The game is not kept: nothing can be written to', '1 of 9'])
-        window.press('qy')
-        assert window.status() == 0, 'the status'
+        window.leave('qy')
 
 
 def test_damaged(front: BoardFront, room: Room) -> None:
@@ -167,8 +166,7 @@ def test_place_taken(front: BoardFront, room: Room) -> None:
             make(os.path.join(room.path, kept))
             window.look(f'<right>{at}', [f"what can't be read stays as it is, and this game is kept in towers-{at}.sav.", f'{at} of 9'])
             assert room.read(f'state/puzzles/towers-{at}.sav') == save_text(at), 'what is kept'
-        window.press('q')
-        assert window.status() == 0, 'the status'
+        window.leave('q')
     with front.window([]) as window:
         window.look('', ['3 of 9'])
 
@@ -185,14 +183,12 @@ def test_full_disk(front: BoardFront, room: Room) -> None:
             window.look('q', ['Quit and lose it? y/N'])
             disk.remove('filler')
             window.look('x<right>3', ['3 of 9'], ['not kept'])
-            window.press('q')
-            assert window.status() == 0, 'the status'
+            window.leave('q')
         assert disk.read('puzzles/towers.sav') == save_text(3), 'what is kept then'
         fill(disk)
         with front.window(['towers', '5!7']) as window:
             window.look('', ["The present game can't be put away (No space left on device). Lose it? y/N"])
-            window.press('n')
-            assert window.status() == 3, 'the status of another game'
+            window.leave('n', 3)
         assert disk.read('puzzles/towers.sav') == save_text(3), 'what is kept at the end'
         assert left_files(disk) == [], 'no new file is left'
 
@@ -276,3 +272,5 @@ def test_words(front: BoardFront, room: Room) -> None:
         found = run([front.path, *line], room, env=front.env())
         assert found.status == status, f'{line}: the status'
         assert text in found.output + found.error, found
+        assert max(map(len, found.output.splitlines()), default=0) < 80, f'{line}: a wide line'
+    assert max(map(len, [*manual.LINES, *manual.KEYS])) < 80, 'a wide line of help'

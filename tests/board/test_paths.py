@@ -37,8 +37,7 @@ def test_no_folder(front: BoardFront, room: Room, make: Callable[[str], None], w
             told = f'The game is not kept: nothing can be written to FOLDER/{FOLDER} ({why}).'
             window.look('', [told])
             window.look(face.leave, ['Quit and lose it? y/N'])
-            window.press('y' if face is SCREEN else 'y<enter>')
-            assert window.status() == 0, f'{face.name}: the status'
+            window.leave('y' if face is SCREEN else 'y<enter>')
     assert known(room, FOLDER) == before, 'what was there'
 
 
@@ -49,8 +48,7 @@ def test_linked_folder(front: BoardFront, room: Room) -> None:
     room.link(FOLDER, '../elsewhere')
     with front.window(['towers', ID]) as window:
         window.look('1', ['1 of 9'], ['not kept'])
-        window.press('q')
-        assert window.status() == 0, 'the status'
+        window.leave('q')
     assert room.read('elsewhere/towers.sav') == save_text(1), 'what is kept'
 
 
@@ -65,8 +63,7 @@ def test_vanished(front: BoardFront, room: Room) -> None:
         window.look('<right>3', ['3 of 9', 'The game is not kept: No such file or directory.'])
         window.look('wFOLDER/game.sav<enter>', ['Saved in FOLDER/game.sav'])
         window.look('q', ['Quit and lose it? y/N'])
-        window.press('y')
-        assert window.status() == 0, 'the status'
+        window.leave('y')
     assert room.read('game.sav') == save_text(3), 'the save'
 
 
@@ -120,13 +117,11 @@ def test_old_games(front: BoardFront, room: Room) -> None:
     with front.window(['towers', ID], LOW) as window:
         window.look('o', ["towers, can't be read", '1 a file ..'])
         window.look('0', [f'FOLDER/{old} is a named pipe.', '0 of 9'])
-        window.press('q')
-        assert window.status() == 0, 'the status'
+        window.leave('q')
     with front.window(['--lines', 'towers'], LOW) as window:
         window.look('open<enter>', ["towers, can't be read", "'open 0' goes on with number 0."])
         window.look('open 0<enter>', [f'FOLDER/{old} is a named pipe.'])
-        window.press('q<enter>')
-        assert window.status() == 0, 'in lines: the status'
+        window.leave('q<enter>')
     assert known(room, old) == before, 'what was there'
 
 
@@ -139,13 +134,11 @@ def test_no_old_folder(front: BoardFront, room: Room) -> None:
         window.look('n<enter>', [f"The present game can't be put away (FOLDER/{FOLDER}/old is a named pipe). Lose it? y/N"])
         window.look('x', ['The present game stays.', '1 of 9'])
         window.look('oq', [f'FOLDER/{FOLDER}/old is a named pipe.'])
-        window.press('q')
-        assert window.status() == 0, 'the status'
+        window.leave('q')
     assert room.read(KEPT) == save_text(1), 'what is kept'
     with front.window(['--lines'], LOW) as window:
         window.look('open<enter>', [f'FOLDER/{FOLDER}/old is a named pipe.'])
-        window.press('q<enter>')
-        assert window.status() == 0, 'in lines: the status'
+        window.leave('q<enter>')
 
 
 def test_marks(front: BoardFront, room: Room) -> None:
@@ -158,12 +151,10 @@ def test_marks(front: BoardFront, room: Room) -> None:
     with front.window(['towers', ID], LOW) as window:
         window.look('n', ['A new game', told])
         window.look('<enter>', [told, '0 of '])
-        window.press('q')
-        assert window.status() == 0, 'the status'
+        window.leave('q')
     with front.window(['--lines', 'towers', ID], LOW) as window:
         window.look('new 4<enter>', ['new 4d', told])
-        window.press('q<enter>')
-        assert window.status() == 0, 'in lines: the status'
+        window.leave('q<enter>')
     assert known(room, path) == before, 'what was there'
     assert left_files(room) == [], 'no other file'
 
@@ -189,8 +180,7 @@ def test_no_bank(front: BoardFront, room: Room) -> None:
     with copied.window(['towers'], LOW) as window:
         window.look('', ['Towers 5x5'])
         window.look('n', ['[seeded: no clue too many]', f'{bank} is a named pipe.'])
-        window.press('qq')
-        assert window.status() == 0, 'the status'
+        window.leave('qq')
 
 
 def test_closed_folder(front: BoardFront, room: Room) -> None:
@@ -206,8 +196,7 @@ def test_closed_folder(front: BoardFront, room: Room) -> None:
                 told = f'The game is not kept: nothing can be written to FOLDER/{FOLDER} (Permission denied).'
                 window.look('', [told])
                 window.look(face.leave, ['Quit and lose it? y/N'])
-                window.press('y' if face is SCREEN else 'y<enter>')
-                assert window.status() == 0, f'{oct(mode)}, {face.name}: the status'
+                window.leave('y' if face is SCREEN else 'y<enter>')
         assert os.listdir(os.path.join(room.path, FOLDER)) == [], f'{oct(mode)}: what was there'
         os.rmdir(os.path.join(room.path, FOLDER))
 
@@ -223,8 +212,7 @@ def test_closed_kept(front: BoardFront, room: Room) -> None:
     with front.window([], LOW) as window:
         window.look('', ['2 of 9', 'The game is not kept: Permission denied.'])
         window.look('u', ['1 of 9'])
-        window.press('qy')
-        assert window.status() == 0, 'the status'
+        window.leave('qy')
     assert room.read(KEPT) == save_text(2), 'what is kept'
 
 
@@ -241,8 +229,7 @@ def test_closed_files(front: BoardFront, room: Room) -> None:
         window.look('wFOLDER/game.sav<enter>', ["game.sav is there, and can't be read. Write over it? y/N"])
         window.look('x', ['Nothing was saved.'])
         window.look('oq', [f"FOLDER/{FOLDER}/old can't be read (Permission denied)."])
-        window.press('q')
-        assert window.status() == 0, 'the status'
+        window.leave('q')
     with front.window(['--lines', os.path.join(room.path, 'game.sav')], LOW) as window:
         window.look('', [f'FOLDER/game.sav {why}'])
         assert window.status() == 3, 'in lines: the status'

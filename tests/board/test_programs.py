@@ -59,8 +59,7 @@ def test_program_killed(front: BoardFront, room: Room) -> None:
             os.kill(pid, signal.SIGKILL)
         window.look('<right>2', ['The program had ended (signal 9); the game goes on as it was. Try that again.', '1 of 9'])
         window.look('2', ['2 of 9', 'move 2/2'])
-        window.press('q')
-        assert window.status() == 0, 'the status'
+        window.leave('q')
     assert room.read(KEPT) == save_text(2), 'what is kept'
 
 
@@ -138,8 +137,7 @@ def test_no_memory(front: BoardFront, room: Room) -> None:
         window.look('1', ['1 of 9'])
         window.look('<right>2', ['There is no memory left: the program did that or refused it, and could not say which.', '2 of 9'])
         window.look('<right>3', ['There is no memory left for that; nothing has changed.', '2 of 9'])
-        window.press('q')
-        assert window.status() == 0, 'the status'
+        window.leave('q')
     assert room.read(KEPT) == save_text(2), 'what is kept'
 
 

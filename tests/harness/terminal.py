@@ -184,6 +184,11 @@ class Terminal:
             time.sleep(0.01)
         return -int(self._child.signalstatus) if self._child.signalstatus else int(self._child.exitstatus)
 
+    def leave(self, keys: str, status: int = 0) -> None:
+        """Presses the keys that end the program, which has to end with this status."""
+        self.press(keys)
+        assert self.status() == status, f'the status after {keys!r}'
+
     def programs(self) -> List[int]:
         """The processes that the program has started."""
         with open(f'/proc/{self.pid}/task/{self.pid}/children', encoding='ascii') as file:

@@ -31,6 +31,7 @@ pub enum Explained {
 
 /// The next number of a grid by the steps of a grade, with the steps that show it; `OutOfMemory` where a growth was refused. The
 /// grid has the puzzle's size.
+#[inline(never)]
 pub fn explain<P: Steps>(
     alloc: Global,
     p: &P,
@@ -56,6 +57,7 @@ pub fn explain<P: Steps>(
 }
 
 // The chain of all steps of the grade's, without those that the goal can be shown without. All of them together show it.
+#[inline(never)]
 fn plain_chain<P: Steps>(
     alloc: Global,
     p: &P,
@@ -87,6 +89,7 @@ fn has_nothing(candidates: &Candidates) -> bool
 }
 
 /// Whether a chain explains a number of a grid by the steps of a grade. The grid has the puzzle's size.
+#[inline(never)]
 pub fn explains<P: Steps>(p: &P, grid: &Grid, grade: Grade, chain: &Chain) -> bool
     requires { grid.now.size ≡ (P.puzzle p.now).size }
     ensures { IsTrue result

@@ -2,12 +2,12 @@
 
 use crate::chain::Step;
 use crate::goals::shown_goal;
-use crate::needs::{left, squares_but, squares_from};
+use crate::needs::{Values, left, neighbours, single, squares_but, squares_from};
 use crate::next_steps::left_of;
 use crate::replays::{struck, take};
 use crate::view::view_of;
 use arrayvec::ArrayVec;
-use latin_board::{CELLS, Grid, OutOfMemory, line_cell};
+use latin_board::{CELLS, Grid, OutOfMemory};
 use named_steps::{Grade, Reason, Steps};
 use number_sets::NumberSet;
 use std::alloc::Global;
@@ -36,34 +36,42 @@ const KINDS: [Kind; 6] = [
 // No more rounds than pairs that can be struck.
 const ROUNDS: usize = 729;
 
-/// Steps of the grade's from what is in view of the grid, round after round, until a number of an empty square is shown or they
-/// strike nothing more.
-pub(crate) fn layered_steps<P: Steps>(
-    alloc: Global,
-    p: &P,
-    grid: &Grid,
-    grade: Grade,
-) -> Result<Rounds, OutOfMemory> {
-    let mut rounds = Rounds {
-        now: view_of(grid),
-        next: view_of(grid),
-        steps: Vec::new(alloc),
-    };
-    for last in 0..KINDS.len() {
-        rounds.go_on(p, grid, grade, last)?;
-    }
-    Ok(rounds)
-}
-
 /// Rounds of steps: the candidates at the beginning of a round, those that its steps leave, and all steps so far.
 #[derive(Drop)]
 pub(crate) struct Rounds {
     pub(crate) now: Candidates,
     next: Candidates,
+    // as now, and for trials
+    trial: Candidates,
     pub(crate) steps: Vec<Step>,
 }
 
 impl Rounds {
+    /// No round yet.
+    pub(crate) fn of(alloc: Global, grid: &Grid) -> Rounds {
+        Rounds {
+            now: view_of(grid),
+            next: view_of(grid),
+            trial: view_of(grid),
+            steps: Vec::new(alloc),
+        }
+    }
+
+    /// Steps of the grade's from what is in view of the grid, round after round, until a number of an empty square is shown or they
+    /// strike nothing more.
+    #[inline(never)]
+    pub(crate) fn go_through<P: Steps>(
+        &mut self,
+        p: &P,
+        grid: &Grid,
+        grade: Grade,
+    ) -> Result<(), OutOfMemory> {
+        for last in 0..KINDS.len() {
+            self.go_on(p, grid, grade, last)?;
+        }
+        Ok(())
+    }
+
     // Rounds with the kinds up to one, while they strike anything and nothing is shown.
     fn go_on<P: Steps>(
         &mut self,
@@ -94,6 +102,7 @@ impl Rounds {
             }
         }
         catch_up(&mut self.now, self.steps.as_slice(), before);
+        catch_up(&mut self.trial, self.steps.as_slice(), before);
         Ok(())
     }
 
@@ -116,35 +125,43 @@ impl Rounds {
         Ok(())
     }
 
-    // The steps of the signs.
+    // The steps of the signs: first those at the lesser ends, which strike the greatest number there.
     fn look_at_signs<P: Steps>(&mut self, p: &P, grade: Grade) -> Result<(), OutOfMemory> {
-        let size = self.now.size();
-        for line in 0..2 * size.get() {
-            self.look_at_signs_on(p, grade, line)?;
+        let width = self.now.size().get() as usize;
+        for cell in 0..width * width {
+            self.look_around(p, grade, cell, true)?;
+        }
+        for cell in 0..width * width {
+            self.look_around(p, grade, cell, false)?;
         }
         Ok(())
     }
 
-    // Those along one row or column.
-    fn look_at_signs_on<P: Steps>(
+    // Those between a square and its neighbours, at the lesser ends, where the square has the greater, or at the greater ones.
+    fn look_around<P: Steps>(
         &mut self,
         p: &P,
         grade: Grade,
-        line: u8,
+        greater: usize,
+        at_lesser: bool,
     ) -> Result<(), OutOfMemory> {
-        let size = self.now.size();
-        for k in 0..size.get() - 1 {
-            if line < 2 * size.get() {
-                let from = line_cell(size, line, k);
-                let to = line_cell(size, line, k + 1);
-                self.look_in(p, grade, &Reason::Sign { from, to }, to)?;
-                self.look_in(p, grade, &Reason::Sign { from: to, to: from }, from)?;
+        for cell in neighbours(self.now.size(), greater) {
+            let lesser = cell as usize;
+            let (from, to) = if at_lesser {
+                (greater, lesser)
+            } else {
+                (lesser, greater)
+            };
+            let reason = Reason::Sign { from, to };
+            let greatest = single(self.now.size().get());
+            if greatest.is_subset(struck(p, &self.now, &reason, to)) == at_lesser {
+                self.look_in(p, grade, &reason, to)?;
             }
         }
         Ok(())
     }
 
-    // The steps of the clues at the edge.
+    // The steps of the clues at the edge. All clues together show in which squares there are any.
     fn look_at_clues<P: Steps>(
         &mut self,
         p: &P,
@@ -152,15 +169,46 @@ impl Rounds {
         kind: Kind,
     ) -> Result<(), OutOfMemory> {
         let size = self.now.size();
+        let lost = self.lost_by_clues(p, kind);
         for place in 0..4 * size.get() as usize {
             let reason = match kind {
                 Kind::Bound => Reason::Bound { place },
                 Kind::Stand => Reason::Stand { place },
                 _ => Reason::Clue { place },
             };
-            self.look_among(p, grade, &reason, squares_from(size, place))?;
+            for cell in squares_from(size, place) {
+                if !lost.of(cell as usize).is_empty() {
+                    self.look_in(p, grade, &reason, cell as usize)?;
+                }
+            }
         }
         Ok(())
+    }
+
+    // What the squares lose by all clues together.
+    fn lost_by_clues<P: Steps>(&mut self, p: &P, kind: Kind) -> Values {
+        let mut lost = Values::none();
+        if p.size() != self.trial.size() {
+            return lost;
+        }
+        let width = self.trial.size().get() as usize;
+        let mark = self.trial.mark();
+        let grade = if matches!(kind, Kind::Clue) {
+            Grade::Hard
+        } else {
+            Grade::Easy
+        };
+        p.strike_by_clues(grade, &mut self.trial);
+        for cell in 0..width * width {
+            lost.add(
+                cell,
+                left(&self.now, cell).difference(left(&self.trial, cell)),
+            );
+        }
+        if mark.len() <= self.trial.trail_len() {
+            self.trial.give_back(mark);
+        }
+        lost
     }
 
     // The steps of groups of squares.

@@ -71,7 +71,7 @@ fn needs_of_place(candidates: &Candidates, line: usize, index: usize, value: u8)
 }
 
 /// The set of one number, or of none where it is too great.
-fn single(value: u8) -> NumberSet {
+pub(crate) fn single(value: u8) -> NumberSet {
     if value < 16 {
         NumberSet::one(value)
     } else {
@@ -148,6 +148,28 @@ pub(crate) fn squares_from(size: Size, place: usize) -> ArrayVec<u8, 9> {
         if place < 4 * size.get() as usize {
             let _pushed = cells.try_push(view_cell(size, place as u8, k) as u8);
         }
+    }
+    cells
+}
+
+/// The squares beside a square, above, to the left, to the right and below.
+pub(crate) fn neighbours(size: Size, cell: usize) -> ArrayVec<u8, 9> {
+    let width = size.get() as usize;
+    let mut cells = ArrayVec::new();
+    if cell >= width * width {
+        return cells;
+    }
+    if cell >= width {
+        cells.push((cell - width) as u8);
+    }
+    if cell % width != 0 {
+        cells.push((cell - 1) as u8);
+    }
+    if cell % width + 1 != width {
+        cells.push((cell + 1) as u8);
+    }
+    if cell + width < width * width {
+        cells.push((cell + width) as u8);
     }
     cells
 }

@@ -6,7 +6,7 @@ ghost use Rattle.step_chains.specs.ChainValues.{steps_of};
 
 use crate::chain::{Chain, Step};
 use crate::goals::{is_open, shown_in_place, shown_in_square};
-use crate::layers::{Rounds, layered_steps};
+use crate::layers::Rounds;
 use crate::replays::shows_without;
 use crate::slices::{gathered, slice, struck_once};
 use crate::tightening::tighten;
@@ -17,6 +17,7 @@ use std::alloc::Global;
 use trail_solver::{Candidates, Rules};
 
 /// A chain that explains a number of an empty square by the steps of the grade, and rather a short one, if it is found.
+#[inline(never)]
 pub(crate) fn short_chain<P: Steps>(
     alloc: Global,
     p: &P,
@@ -41,6 +42,7 @@ pub(crate) fn short_chain<P: Steps>(
 }
 
 // Leaves out what can be left out, where the steps show the goal; and tells whether they do.
+#[inline(never)]
 fn shorten<P: Steps>(
     p: &P,
     grade: Grade,
@@ -65,13 +67,15 @@ fn shorten<P: Steps>(
 }
 
 // The chain that costs least of those that the goals of the first rounds need.
+#[inline(never)]
 fn least_chain<P: Steps>(
     alloc: Global,
     p: &P,
     grid: &Grid,
     grade: Grade,
 ) -> Result<Option<Chain>, OutOfMemory> {
-    let rounds = layered_steps(alloc, p, grid, grade)?;
+    let mut rounds = Rounds::of(alloc, grid);
+    rounds.go_through(p, grid, grade)?;
     let mut least = Least {
         grade,
         view: view_of(grid),
@@ -149,6 +153,7 @@ impl Least {
     }
 
     // Tries the chain that a goal needs.
+    #[inline(never)]
     fn try_goal<P: Steps>(
         &mut self,
         alloc: Global,

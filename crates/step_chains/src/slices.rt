@@ -11,6 +11,7 @@ use std::alloc::Global;
 use trail_solver::{Candidates, Rules};
 
 /// The steps of a chain from the candidates on which the goal stands, in their order, each with the values that are used.
+#[inline(never)]
 pub(crate) fn slice<P: Steps>(
     alloc: Global,
     p: &P,
@@ -50,6 +51,7 @@ pub(crate) fn slice<P: Steps>(
 
 // Few of the values that are gone before a step, of the squares where its reason looks, by which it still strikes its own: those of
 // the latest steps are left out first, and what is needed anyhow stays.
+#[inline(never)]
 fn few_premises<P: Steps>(
     p: &P,
     candidates: &mut Candidates,
@@ -150,6 +152,7 @@ fn strikes_by<P: Steps>(
 
 /// The chain in which each look has all that its reason is to strike anywhere, as far as it strikes it by then. Some values are
 /// listed twice.
+#[inline(never)]
 pub(crate) fn gathered<P: Steps>(
     alloc: Global,
     p: &P,

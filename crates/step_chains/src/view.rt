@@ -12,6 +12,7 @@ use number_sets::NumberSet;
 use trail_solver::Candidates;
 
 /// The candidates in view of a grid: a filled square has its number, and an empty one what doesn't stand in its row or column.
+#[inline(never)]
 pub fn view_of(grid: &Grid) -> Candidates
     ensures { IsView grid.now result }
 {
