@@ -13,6 +13,9 @@ from sheet.steps import Move
 #: Between two columns, and below a block.
 COLUMN_GAP, GAP = 600, 150
 
+#: How the sentences name squares.
+SQUARES = 'r2c3 is the square in row 2 from the top and column 3 from the left.'
+
 BLOCK = Template('<div class="steps" style="left:$left;top:$top;width:$width;height:$height">$content</div>\n')
 HEAD = Template('<p><b>$number</b> $grade</p>')
 MOVE = Template('<p><b>$label.</b> $text</p>')
@@ -40,7 +43,7 @@ def sections(paper: Paper, every: Sequence[Explained]) -> Iterator[Markup]:
     room = paper.height - paper.print.head - paper.print.foot
     placed: List[Markup] = []
     column, used = 0, 0
-    for piece in (piece for explained in every for piece in _blocks(_pieces(explained, width, font), room // (font * 5 // 4) - 1)):
+    for piece in _all_blocks(every, width, font, room // (font * 5 // 4) - 1):
         height = piece.lines * font * 5 // 4 + GAP
         if used + height > room:
             column, used = column + 1, 0
@@ -51,6 +54,12 @@ def sections(paper: Paper, every: Sequence[Explained]) -> Iterator[Markup]:
         placed.append(fill(BLOCK, content=piece.content, **{name: length(value) for name, value in place.items()}))
         used += height
     yield joined(placed)
+
+
+def _all_blocks(every: Sequence[Explained], width: int, font: int, most: int) -> Iterator[Piece]:
+    yield Piece(fill(SENTENCE, text=SQUARES), lines(SQUARES, width, font))
+    for explained in every:
+        yield from _blocks(_pieces(explained, width, font), most)
 
 
 def _pieces(explained: Explained, width: int, font: int) -> Iterator[Piece]:

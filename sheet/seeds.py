@@ -4,7 +4,7 @@ from __future__ import annotations
 
 from typing import Dict, Iterator, List, NamedTuple, Sequence
 
-from board.board import GAMES
+from board.board import GAMES, Reply
 from board.games import GRADES
 from sheet.puzzles import Programs, Puzzle, Unfit, proved
 
@@ -17,8 +17,9 @@ TRIES = 1000
 #: The letters of the grades by whose steps the program finds that puzzles follow.
 LETTERS = {'towers': 'eh', 'unequal': 'tek'}
 
-#: What there is to say where the program makes no puzzle of a seed, by the name of the refusal.
+#: What there is to say where the program makes no puzzle of a seed, by the name of its refusal.
 REFUSED = {'SizeTooLarge': '{game} of size {size} is not made from seeds: --ids prints puzzles that there are.'}
+OTHERWISE = 'The program refuses that: {name}.'
 NONE_FOUND = 'No {grade} puzzle of {game} of size {size} was found with the {tries:,} seeds up to {seed}.'
 
 
@@ -51,25 +52,26 @@ class Seeds:
     def check(self, every: Sequence[Kind]) -> None:
         """Raises `Unfit` where one of the sizes is not made."""
         for kind in every:
-            self._begin(kind, self._next)
+            self._ask(kind, f'new {kind.size}!{self._next}')
 
     def puzzles(self, kind: Kind) -> Iterator[Puzzle]:
         """One after the other. Raises `Unfit` where none is found any more."""
         seed, tries = self._next, 0
         while tries < TRIES:
             seed, self._next = self._next, (self._next + 1) % SEEDS
-            self._begin(kind, seed)
+            self._ask(kind, f'new {kind.size}!{seed}')
             tries += 1
-            if self._programs.ask(kind.game, 'grade').grade == kind.letter:
+            if self._ask(kind, 'grade').grade == kind.letter:
                 yield proved(self._programs, kind.game)
                 tries = 0
         raise Unfit(NONE_FOUND.format(tries=tries, seed=seed, **_words(kind)))
 
-    def _begin(self, kind: Kind, seed: int) -> None:
-        """The game of a seed; this is the one place that asks for it."""
-        refused = self._programs.ask(kind.game, f'new {kind.size}!{seed}').refused
-        if refused is not None:
-            raise Unfit(REFUSED.get(refused, 'The program refuses that: {name}.').format(name=refused, **_words(kind)))
+    def _ask(self, kind: Kind, line: str) -> Reply:
+        """The reply to a line. Raises `Unfit` where it is refused."""
+        reply = self._programs.ask(kind.game, line)
+        if reply.refused is not None:
+            raise Unfit(REFUSED.get(reply.refused, OTHERWISE).format(name=reply.refused, **_words(kind)))
+        return reply
 
 
 def _words(kind: Kind) -> Dict[str, object]:
