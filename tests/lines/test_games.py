@@ -56,7 +56,10 @@ CLOSED = Run(
     holds={'old.sav': b'old'},
 )
 GONE = Run('the reader of the output has gone', ['towers', '--id', ID], ONE_MOVE, status=1, error=b'cannot write the output\n')
-AT_A_TERMINAL = Run('a terminal: nothing is said of the program', ['towers', '--id', ID])
+#: What is told once, before the first line, where lines are typed.
+TOLD = b'puzzles --help has the lines that can be typed; puzzles-play is the board\n'
+
+AT_A_TERMINAL = Run('a terminal', ['towers', '--id', ID], error=TOLD)
 NO_ERROR = Run('standard error is closed', ['towers', '--id', ''], status=3)
 
 

@@ -78,8 +78,14 @@ def wrong_chain(puzzle: Puzzle, numbers: Numbers, chain: Sequence[Step], cell: i
             rest = tuple(other for other in step.strikes if other != strike)
             if shows([*chain[:at], Step(step.reason, rest), *chain[at + 1:]]):
                 yield f'{strike} of {step} can be left out of {chain} with {numbers}'
-        if at and chain[at - 1].reason == step.reason:
+        if at and is_same_look(chain[at - 1], step):
             yield f'{step} has the reason of the one before it'
+
+
+def is_same_look(one: Step, other: Step) -> bool:
+    """Whether two steps have the same reason; by a sign each of its ends is looked at by itself."""
+    is_sign = one.reason.kind == 'sign'
+    return one.reason == other.reason and not (is_sign and one.strikes[0][0] != other.strikes[0][0])
 
 
 def wrong_clues(puzzle: Puzzle, steps: Sequence[Object]) -> Iterator[str]:

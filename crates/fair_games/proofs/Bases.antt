@@ -78,6 +78,7 @@ chain_both Struck c [] second h k = (k, refl)
 chain_both Struck c (step ∷ first) second h k =
     let rest = chain_both Struck (without c step.strikes) first second h.1 k in ((h.0, rest.0), rest.1)
 
+-- what a grade leaves of a base is one
 pub base_settled : (p : Puzzle) (Struck : CandidatesValue → Reason → ℕ → ℕ → Type 0) → IsSoundFor p Struck → IsAntitone Struck → (grade : Grade)
     (g : GridValue) (c d : CandidatesValue) → Solves p g → IsBase Struck grade g c → IsClosure Struck grade c d → IsBase Struck grade g d
 base_settled p Struck sound less grade g c d s base h =

@@ -14,24 +14,6 @@ pub record IsCopied (c : CandidatesValue) (cells : ℕ) (copy : CandidatesValue)
   pub done : (cell v : ℕ) → cell < cells → IsPair c.size cell v → may_be copy cell v ≡ may_be c cell v
   pub open_ : (cell v : ℕ) → cells ≤ cell → IsPair c.size cell v → may_be copy cell v ≡ true
 
-pub copied_none : (c copy : CandidatesValue) → copy.size ≡ c.size → copy.trail ≡ [] → IsCopied c 0 copy
-copied_none c copy size none = record {
-  size = size;
-  done = λ cell v below pair. absurd (omega arith);
-  open_ = λ cell v from pair. ap (λ (ps : List (ℕ × ℕ)). not (has_pair ps cell v)) none;
-}
-
-pub copied_all : (c copy : CandidatesValue) (cells : ℕ) → c.size * c.size ≤ cells → IsCopied c cells copy → AreAlike c copy
-copied_all c copy cells whole h = (
-  λ cell v left.
-      let pair : IsPair c.size cell v = subst (λ (w : ℕ). IsPair w cell v) h.size left.pair in
-      record { pair = pair; may = sym (h.done cell v (omega (arith, pair.inside, whole)) pair) ∙ left.may },
-  λ cell v left. record {
-    pair = subst (λ (w : ℕ). IsPair w cell v) (sym h.size) left.pair;
-    may = h.done cell v (omega (arith, left.pair.inside, whole)) left.pair ∙ left.may;
-  },
-)
-
 may_next : (copy next : CandidatesValue) (cell set at v : ℕ) → set < 2 ^ 16 → next.trail ≡ copy.trail ++ pairs_of cell set
     → may_be next at v ≡ not (has_pair copy.trail at v || (eqb at cell && has_number set v))
 may_next copy next cell set at v small trail =

@@ -1,5 +1,5 @@
 -- Draws, one after the other, until one gives a game of the grade; and that there is just one such game.
-use Rattle.std.proofs.Common.{◌≡◌, ℕ, zero, suc, ◌+◌, ◌<◌, Bool, true, false, if◌then◌else◌, List, [], Option, Some, None, Result, Ok, Err, inl, inr, refl, sym, ◌∙◌, ap, subst, arith}
+use Rattle.std.proofs.Common.{◌≡◌, ℕ, zero, suc, ◌+◌, ◌<◌, Bool, true, false, if◌then◌else◌, List, [], Option, Some, None, Result, Ok, Err, inl, inr, refl, sym, ◌∙◌, ap, subst, arith, ◌-◌, ◌*◌, ◌≤◌, ◌&&◌}
 use Rattle.std.proofs.lemmas.Bool.{both_ways, cases_eq, cases_order}
 use Rattle.latin_board.specs.Squares.{GridValue, latin_test}
 use Rattle.trail_solver.specs.Candidates.{CandidatesValue}
@@ -18,12 +18,14 @@ use Rattle.puzzle_gen.specs.SeededSquares.{drawn_order, square_of}
 use Rattle.fair_games.specs.Squares.{drawn_rows, first_row, with_first}
 use Rattle.fair_games.proofs.RowSteps.{with_row_size}
 use Rattle.fair_games.specs.Draws.{drawn_game, stream_after, draw_at}
-use Rattle.fair_games.specs.Fair.{FailsBy, IsPrunedGame, IsOfGrade, IsPassedOver, IsFair, IsFairResult}
+use Rattle.fair_games.specs.Fair.{FailsBy, IsPrunedGame, IsOfGrade, IsPassedOver, IsFair, IsFairResult, NeedsItems}
+use Rattle.fair_games.specs.Pruned.{IsTried, IsPrunedBy}
 use Rattle.fair_games.specs.declared.trial.Trial.{Trial}
+use Rattle.fair_games.specs.declared.trial.Trial.TheVariants.{GivensAlone}
 use Rattle.fair_games.specs.declared.fair_fault.FairFault.{FairFault}
 use Rattle.fair_games.specs.declared.fair_fault.FairFault.TheVariants.{NotOffered, NoneFound}
-use Rattle.fair_games.proofs.PrunedOnce.{pruned_once}
-use Rattle.fair_games.proofs.PruneSteps.{HasSteps, IsCutOf, cut_of}
+use Rattle.fair_games.proofs.PrunedOnce.{needed_by, pruned_once}
+use Rattle.fair_games.proofs.PruneSteps.{HasSteps, IsCutOf, cut_of, fewer_fail}
 
 -- ---- draws
 
@@ -113,6 +115,7 @@ graded_follows p Struck Latin graded = graded
 graded_follows p Struck Easy graded = graded.0
 graded_follows p Struck Hard graded = graded.0
 
+-- a fair game is a cut of its draw's square
 pub fair_puzzle : {P : Type 0} (f : Ghosts P) (Struck : P → CandidatesValue → Reason → ℕ → ℕ → Type 0) (grade : Grade) (draws : ℕ → GridValue × List ℕ) (p : P)
     → ItemLaws f → (fair : IsFair f Struck grade draws p) → IsCutOf f (draws fair.draw).0 p
 fair_puzzle f Struck grade draws p laws fair =
@@ -159,3 +162,26 @@ pub no_grade : (Is : Grade → Type 0) → (Is Latin → ⊥) → (Is Easy → �
 no_grade Is latin easy hard Latin is = latin is
 no_grade Is latin easy hard Easy is = easy is
 no_grade Is latin easy hard Hard is = hard is
+
+-- ---- the items that are needed
+
+pub game_needs : {P : Type 0} (f : Ghosts P) (Struck : P → CandidatesValue → Reason → ℕ → ℕ → Type 0) → HasSteps f Struck → (grade : Grade)
+    (trial : Trial) (w : ℕ) (g : GridValue) (order : List ℕ) (p : P) → g.size ≡ w → IsPrunedBy f (FailsBy Struck grade g) g order p
+    → ((i : ℕ) → i < f.items_of w → (trial ≡ GivensAlone → f.items_of w - w * w ≤ i) → IsTried i order)
+    → NeedsItems f Struck grade trial w p
+game_needs {P} f Struck steps grade trial w g order p size pruned tried = λ keep i below there low lost follows.
+    let cuts = cuts_of_full f g steps.items pruned.is_grid pruned.is_latin in
+    let small : i < f.items_of g.size = subst (λ (n : ℕ). i < f.items_of n) (sym size) below in
+    let fails = needed_by f (FailsBy Struck grade g) g order p cuts (fewer_fail f Struck steps grade g) pruned keep i small there (tried i below low) lost in
+    let is_cut : f.cut p keep ≡ f.cut (f.full_of g) (λ j. f.has p j && keep j) =
+    ap (λ (q : P). f.cut q keep) pruned.is_cut ∙ cuts.again (f.has p) keep in
+    let cut = cut_of f g (f.cut p keep) (λ j. f.has p j && keep j) steps.items pruned.is_grid pruned.is_latin is_cut in
+    let (h, solution) = follows in
+    let only = follows_only (f.puzzle (f.cut p keep)) (Struck (f.cut p keep)) (steps.sound (f.cut p keep) cut.valid) grade h solution.follows solution.solves in
+    fails (subst (λ (s : GridValue). Follows (Struck (f.cut p keep)) grade s) (sym (only.only g cut.solves)) solution.follows)
+
+pub all_items : (count items cells squares i : ℕ) → count ≡ items → cells ≡ squares → squares ≤ items → i < items → i < count - cells + cells
+all_items count items cells squares i same also some below = omega (arith, same, also, some, below)
+
+pub first_given : (count items cells squares i : ℕ) → count ≡ items → cells ≡ squares → items - squares ≤ i → count - cells ≤ i
+first_given count items cells squares i same also from = omega (arith, same, also, from)

@@ -40,6 +40,7 @@ pub record IsCutOf {P : Type 0} (f : Ghosts P) (g : GridValue) (p : P) : Type 0 
   pub size : (f.puzzle p).size ≡ g.size
   pub solves : Solves (f.puzzle p) g
 
+-- a cut of a Latin square's full puzzle is a puzzle that the square solves
 pub cut_of : {P : Type 0} (f : Ghosts P) (g : GridValue) (p : P) (keep : ℕ → Bool) → ItemLaws f → IsGrid g → IsLatin g
     → p ≡ f.cut (f.full_of g) keep → IsCutOf f g p
 cut_of {P} f g p keep laws grid latin is_cut =

@@ -27,9 +27,11 @@ or_true false = refl
 
 -- ---- the items that are left when one is tried
 
+-- an item that was tried before stays as it is kept
 pub rest_before : (order : List ℕ) (keep : ℕ → Bool) (i j : ℕ) → place_in j order < place_in i order → rest order keep i j ≡ keep j
 rest_before order keep i j before = rw (lt-ltb (place_in j order) (place_in i order) before) refl
 
+-- and one that is tried later is there
 pub rest_after : (order : List ℕ) (keep : ℕ → Bool) (i j : ℕ) → place_in i order < place_in j order → rest order keep i j ≡ true
 rest_after order keep i j after =
     rw (le-ltb (place_in j order) (place_in i order) (omega arith), lt-ltb (place_in i order) (place_in j order) after) refl
@@ -49,12 +51,15 @@ rest_agrees order a b i j same =
 
 -- ---- the items outside of some places
 
+-- an item before the places is outside
 pub outside_before : (order : List ℕ) (first last j : ℕ) → place_in j order < first → outside order first last j ≡ true
 outside_before order first last j before = rw (lt-ltb (place_in j order) first before) refl
 
+-- one within is not
 pub outside_within : (order : List ℕ) (first last j : ℕ) → first ≤ place_in j order → place_in j order < last → outside order first last j ≡ false
 outside_within order first last j low high = rw (le-ltb (place_in j order) first low, lt-ltb (place_in j order) last high) refl
 
+-- and one after them is
 pub outside_after : (order : List ℕ) (first last j : ℕ) → last ≤ place_in j order → outside order first last j ≡ true
 outside_after order first last j after = rw (le-ltb (place_in j order) last after) (or_true _)
 
@@ -165,6 +170,7 @@ pub record AreKept {P : Type 0} (f : Ghosts P) (g : GridValue) (order : List ℕ
   pub within : (j : ℕ) → j < f.items_of g.size → first ≤ place_in j order → place_in j order < last → f.has q j ≡ false
   pub after : (j : ℕ) → j < f.items_of g.size → last ≤ place_in j order → f.has q j ≡ f.has p j
 
+-- what is kept where all items of some places go
 pub kept_of_cut : {P : Type 0} (f : Ghosts P) (Fails : P → Type 0) (g : GridValue) (order : List ℕ) (first last : ℕ) (p q : P) → AreCuts f g
     → IsPrunedTo f Fails g order first p → q ≡ f.cut p (outside order first last) → AreKept f g order first last p q
 kept_of_cut {P} f Fails g order first last p q cuts so_far gone =

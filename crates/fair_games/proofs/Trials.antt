@@ -1,13 +1,13 @@
 -- Orders of some items, put together of orders of the givens and of the marks.
-use Rattle.std.proofs.Common.{◌≡◌, ℕ, zero, suc, ◌+◌, ◌/◌, ◌<◌, ◌≤◌, ◌==◌, List, [], ◌∷◌, ◌++◌, length, map, take, drop, slice_index, IsPermutation, inl, inr, refl, sym, ◌∙◌, ap, subst, arith, append-nil, append_assoc, length-append}
+use Rattle.std.proofs.Common.{◌≡◌, ℕ, zero, suc, ◌+◌, ◌-◌, ◌/◌, ◌<◌, ◌≤◌, ◌==◌, List, [], ◌∷◌, ◌++◌, length, map, take, drop, slice_index, IsPermutation, inl, inr, refl, sym, ◌∙◌, ap, subst, arith, append-nil, append_assoc, length-append, eq-eqb}
 use Rattle.std.proofs.Math.ListN.{get_or-append}
-use Rattle.std.proofs.lemmas.List.{take-append-drop, map-append}
+use Rattle.std.proofs.lemmas.List.{take-append-drop, length-map, map-append}
 use Rattle.std.specs.List.{range_with_len}
-use Rattle.std.proofs.lemmas.Bool.{cases_Bool, eqb-true}
+use Rattle.std.proofs.lemmas.Bool.{cases_Bool, cases_eq, eqb-true, ne_eqb}
 use Rattle.std.proofs.lemmas.List.Sorted.{IsPermutation-append_comm, IsPermutation-append, IsPermutation-append_right, IsPermutation-map, IsPermutation-trans}
 use Rattle.puzzle_gen.specs.Orders.{place_in, IsOrder}
 use Rattle.puzzle_gen.proofs.OrderPlaces.{order_of_permutation, range_more}
-use Rattle.fair_games.specs.Pruned.{IsTrial}
+use Rattle.fair_games.specs.Pruned.{IsTrial, IsTried}
 use Rattle.rand_core.specs.Stream.{Stream}
 use Rattle.puzzle_gen.specs.SeededSquares.{drawn_order}
 use Rattle.fair_games.specs.Draws.{drawn_trial, in_turn}
@@ -91,6 +91,7 @@ left_out GivensAlone signs = signs
 left_out GivensFirst signs = []
 left_out HalfFirst signs = []
 
+-- the items that a trial has, and those that it leaves out, are all items
 moved : (trial : Trial) (m n : ℕ) (signs givens : List ℕ) → IsPermutation (range_with_len 0 m) signs → IsPermutation (range_with_len 0 n) givens
     → IsPermutation (range_with_len 0 (m + n)) (in_turn trial m signs givens ++ left_out trial signs)
 moved trial m n signs givens first second = turn trial
@@ -157,3 +158,37 @@ turn_drawn trial m n s middle end signs givens order first second put =
     ap (λ (xs : List ℕ). (xs, end)) put
     ∙ ap (λ (p : List ℕ × Stream). (in_turn trial m p.0 givens, p.1)) second
     ∙ ap (λ (p : List ℕ × Stream). (in_turn trial m (drawn_order m p.1).0 p.0, (drawn_order m p.1).1)) first
+
+-- ---- which items are tried
+
+place_further : (m j : ℕ) (xs : List ℕ) → place_in (m + j) (map (λ i. m + i) xs) ≡ place_in j xs
+place_further m j [] = refl
+place_further m j (x ∷ xs) = elim (cases_eq j x) [
+  | inl same ↦ rw (eq-eqb j x same, eq-eqb (m + j) (m + x) (ap (λ (i : ℕ). m + i) same)) refl
+  | inr apart ↦
+      rw (ne_eqb j x apart, ne_eqb (m + j) (m + x) (λ same. apart (omega (arith, same)))) (ap suc (place_further m j xs))
+]
+
+tried_whole : (trial : Trial) (m n : ℕ) (signs givens : List ℕ) → IsPermutation (range_with_len 0 m) signs
+    → IsPermutation (range_with_len 0 n) givens → (i : ℕ) → i < m + n → left_out trial signs ≡ [] → IsTried i (in_turn trial m signs givens)
+tried_whole trial m n signs givens first second i below none =
+    let xs = in_turn trial m signs givens in
+    let order = order_of_permutation (m + n) (xs ++ left_out trial signs) (moved trial m n signs givens first second) in
+    let count : length xs ≡ m + n =
+    ap length (sym (append-nil xs) ∙ ap (λ (ys : List ℕ). xs ++ ys) (sym none)) ∙ order.count in
+    place_back i xs (left_out trial signs) (omega (arith, order.inside i below, count))
+
+-- each given is tried, and each mark but where the givens alone are
+pub tried_in_turn : (trial : Trial) (m n : ℕ) (signs givens : List ℕ) → IsPermutation (range_with_len 0 m) signs
+    → IsPermutation (range_with_len 0 n) givens → (i : ℕ) → i < m + n → (trial ≡ GivensAlone → m ≤ i) → IsTried i (in_turn trial m signs givens)
+tried_in_turn GivensAlone m n signs givens first second i below low =
+    let from : m ≤ i = low refl in
+    let order = order_of_permutation n givens second in
+    let place : place_in i (map (λ j. m + j) givens) ≡ place_in (i - m) givens =
+    subst (λ (k : ℕ). place_in k (map (λ j. m + j) givens) ≡ place_in (i - m) givens) (back m i from) (place_further m (i - m) givens) in
+    omega (arith, place, order.inside (i - m) (omega (arith, below, from)), order.count, length-map givens (λ j. m + j))
+  where
+    back : (a b : ℕ) → a ≤ b → a + (b - a) ≡ b
+    back a b h = omega (arith, h)
+tried_in_turn GivensFirst m n signs givens first second i below low = tried_whole GivensFirst m n signs givens first second i below refl
+tried_in_turn HalfFirst m n signs givens first second i below low = tried_whole HalfFirst m n signs givens first second i below refl

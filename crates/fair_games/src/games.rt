@@ -1,6 +1,6 @@
 //! Fair games: drawn until one is of the grade.
 
-ghost use Rattle.std.specs.Prelude.{◌≡◌, ◌≢◌, ℕ, ◌<◌, ◌↔◌, Result, IfOk, IsTrue, MatchOption, Some};
+ghost use Rattle.std.specs.Prelude.{◌≡◌, ◌≢◌, ℕ, ◌<◌, ◌↔◌, Result, IfOk, IfSome, IsTrue, MatchOption, Some};
 ghost use Rattle.latin_board.specs.Squares.{GridValue};
 ghost use Rattle.trail_solver.specs.Solutions.{IsOnlySolution};
 ghost use Rattle.named_steps.specs.Following.{Follows};
@@ -9,7 +9,7 @@ ghost use Rattle.fair_games.specs.declared.fair_fault.FairFault.{FairFault};
 ghost use Rattle.fair_games.specs.Squares.{fair_stream};
 ghost use Rattle.fair_games.specs.Draws.{drawn_game, draw_at};
 ghost use Rattle.fair_games.specs.Offers.{is_offered, letter_code};
-ghost use Rattle.fair_games.specs.Fair.{IsPrunedGame, IsOfGrade, IsPassedOver, IsFair, IsFairResult, most_draws};
+ghost use Rattle.fair_games.specs.Fair.{IsPrunedGame, IsOfGrade, IsPassedOver, IsFair, IsFairResult, NeedsItems, most_draws};
 
 use crate::draws::{draw_trial, rng_of};
 use crate::fair_fault::FairFault;
@@ -84,6 +84,7 @@ pub fn fair<P: FairGame>(size: Size, grade: Grade, seed: u64) -> Result<P, FairF
     // A chain of the grade's steps leads from all pairs to its only solution.
     ensures solved { IfOk result (λ p. (g : GridValue) × (IsOnlySolution (P.puzzle p) g × Follows (P.struck_by p) grade g)) }
     ensures graded { IfOk result (λ p. IsOfGrade ⟦<P as Rules>⟧ P.struck_by grade p) }
+    ensures needed { IfOk result (NeedsItems ⟦<P as Rules>⟧ P.struck_by grade (P.trial_of grade) size) }
 {
     if !is_offered::<P>(size, grade) {
         return Err(FairFault::NotOffered);
@@ -96,7 +97,8 @@ pub fn fair<P: FairGame>(size: Size, grade: Grade, seed: u64) -> Result<P, FairF
 
 // The puzzle of the first draw of a seed that gives one of the grade.
 fn seeded<P: FairGame>(size: Size, grade: Grade, seed: u64) -> Option<P>
-    ensures { MatchOption result
+    ensures needed { IfSome result (NeedsItems ⟦<P as Rules>⟧ P.struck_by grade (P.trial_of grade) size) }
+    ensures fair { MatchOption result
         ((n : ℕ) → n < most_draws → IsPassedOver ⟦<P as Rules>⟧ P.struck_by grade
         (draw_at (P.trial_of grade) size (P.items_of size) (fair_stream size (letter_code (P.letter_of grade)) P.initial_code seed) n))
         (IsFair ⟦<P as Rules>⟧ P.struck_by grade
@@ -118,7 +120,8 @@ fn letter_byte<P: FairGame>(grade: Grade) -> u8
 
 // The puzzle of the first draw that gives one of the grade.
 fn find_game<P: FairGame, R: Rng>(rng: &mut R, size: Size, grade: Grade) -> Option<P>
-    ensures { MatchOption result
+    ensures needed { IfSome result (NeedsItems ⟦<P as Rules>⟧ P.struck_by grade (P.trial_of grade) size) }
+    ensures fair { MatchOption result
         ((n : ℕ) → n < most_draws → IsPassedOver ⟦<P as Rules>⟧ P.struck_by grade (draw_at (P.trial_of grade) size (P.items_of size) (R.stream rng.old) n))
         (IsFair ⟦<P as Rules>⟧ P.struck_by grade (draw_at (P.trial_of grade) size (P.items_of size) (R.stream rng.old))) }
 {
@@ -134,6 +137,7 @@ fn find_game<P: FairGame, R: Rng>(rng: &mut R, size: Size, grade: Grade) -> Opti
 // Draws a square and an order, and prunes by the grade.
 fn draw_game<P: FairGame, R: Rng>(rng: &mut R, size: Size, grade: Grade) -> P
     ensures pruned { IsPrunedGame ⟦<P as Rules>⟧ P.struck_by grade (drawn_game (P.trial_of grade) size (P.items_of size) (R.stream rng.old)).0 result }
+    ensures needed { NeedsItems ⟦<P as Rules>⟧ P.struck_by grade (P.trial_of grade) size result }
     ensures left { R.stream rng.new ≡ (drawn_game (P.trial_of grade) size (P.items_of size) (R.stream rng.old)).1 }
 {
     let width = size.get() as usize;

@@ -56,7 +56,7 @@ refuted_hard Struck grade g (view, of, by) = (
 -- the numbers are contradicted
 pub told_refuted : (p : Puzzle) (Strikes : CandidatesValue → ℕ → ℕ → Type 0) (Struck : CandidatesValue → Reason → ℕ → ℕ → Type 0) (g : GridValue)
     → ((h : GridValue) → Completes p g h → ⊥) → IsTold p Strikes Struck g (Deduced Contradiction)
-told_refuted p Strikes Struck g none = record { sound = none; reached = tt; strong = λ cell forced. cc }
+told_refuted p Strikes Struck g none = record { sound = none; reached = tt; strong = λ cell forced same. cc same }
 
 pub told_contradiction : (p : Puzzle) (Strikes : CandidatesValue → ℕ → ℕ → Type 0) (Struck : CandidatesValue → Reason → ℕ → ℕ → Type 0) (g : GridValue)
     (hint : Hint) → hint ≡ Contradiction → IsSound p g hint → IsTold p Strikes Struck g (Deduced hint)
@@ -92,6 +92,6 @@ told_explained p Strikes Struck g (Explained grade chain) right least = record {
     each = λ h completes. right grade (steps_of chain.steps.items) chain.goal h least.0 completes;
   };
   reached = least;
-  strong = λ cell forced. cc;
+  strong = λ cell forced same. cc same;
 }
 told_explained p Strikes Struck g (Deduced hint) right least = absurd least

@@ -24,6 +24,7 @@ use Rattle.named_steps.specs.declared.goal.Goal.TheVariants.{OnlyValue}
 within_all : (w : ℕ) (g : GridValue) → IsWithin (all_of w) g
 within_all w g = record { each = λ cell inside. refl }
 
+-- a solution that follows is the only one
 pub follows_only : (p : Puzzle) (Struck : CandidatesValue → Reason → ℕ → ℕ → Type 0) → IsSoundFor p Struck → (grade : Grade) (g : GridValue)
     → Follows Struck grade g → Solves p g → IsOnlySolution p g
 follows_only p Struck sound grade g f s = record {
@@ -91,6 +92,7 @@ chain_more Less More more c (step ∷ steps) h = (
   chain_more Less More more (without c step.strikes) steps h.1,
 )
 
+-- what follows by some strikes follows by more
 pub follows_more : (Less More : CandidatesValue → Reason → ℕ → ℕ → Type 0)
     → ((c : CandidatesValue) (reason : Reason) (cell value : ℕ) → Less c reason cell value → More c reason cell value)
     → (grade : Grade) (g : GridValue) → Follows Less grade g → Follows More grade g

@@ -71,6 +71,7 @@ range_below n = λ k d inside.
     let at = get_or-range_with_len 0 n k d (omega arith) in
     omega (arith, at)
 
+-- what has the numbers below n, each once, is an order of them
 pub order_of_permutation : (n : ℕ) (xs : List ℕ) → IsPermutation (range_with_len 0 n) xs → IsOrder n xs
 order_of_permutation n xs same =
     let count : length xs ≡ n = length_permutation (range_with_len 0 n) xs same ∙ length-range_with_len 0 n in

@@ -3,7 +3,8 @@
 //! Each line of standard input is answered on standard output: by lines of text, or, where the program is called `puzzles-json`, by
 //! one JSON object on one line ([`program_name`]). The words of the process, the file to load, the first session, the run from standard
 //! input to standard output, the file to save to, in this order ([`whole_game`]). The first fault ends the program with its status and
-//! its line on standard error; help goes to standard output ([`ending`]).
+//! its line on standard error; help goes to standard output ([`ending`]). Who types lines at a terminal is told there first which
+//! there are.
 #![tactic(auto)]
 
 mod ending;
@@ -19,12 +20,14 @@ use crate::system_files::SystemFiles;
 use crate::whole_game::program;
 use puzzle_io::{FromRead, ToWrite};
 use std::io;
+use std::io::IsTerminal;
 use std::process::ExitCode;
 
 fn main(rt: HostRuntime) -> ExitCode {
     ExitCode::from(program(
         &rt,
         rt.alloc(),
+        rt.stdin().is_terminal(),
         &ProcessWords { rt: &rt },
         &mut SystemFiles { rt: &rt },
         &mut FromRead::new(rt.reader()),

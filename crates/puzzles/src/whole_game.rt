@@ -17,13 +17,17 @@ use puzzle_cli::{Facts, Fault, Format, GameFiles, PUZZLES, Plain, ProgramTexts, 
 use puzzle_io::{Sink, Source};
 use std::alloc::Global;
 
+/// What is told of the lines and of the board to who types lines.
+const GREETING: &str = "puzzles --help has the lines that can be typed; puzzles-play is the board";
+
 /// Reads the words, plays the game that they name, in the format of the name that the program is called by, as
 /// [`play`](puzzle_cli::play) does, from the source to the sink and over the files, and gives the status that says how it ended.
 ///
-/// Neither stream has failed before.
+/// Neither stream has failed before. Where lines of text are typed at a terminal, it tells on standard error beforehand which those are.
 pub(crate) fn program<T: Print + Eprint, A: Words, F: GameFiles, R: Source, W: Sink>(
     rt: &T,
     alloc: Global,
+    is_typed: bool,
     words: &A,
     files: &mut F,
     source: &mut R,
@@ -49,10 +53,21 @@ pub(crate) fn program<T: Print + Eprint, A: Words, F: GameFiles, R: Source, W: S
     };
     match program_name(&words) {
         ProgramName::Puzzles => {
-            program_in::<Plain, T, F, R, W>(rt, alloc, &PUZZLES, &words, files, source, sink)
+            program_in::<Plain, T, F, R, W>(
+                rt, alloc, is_typed, &PUZZLES, &words, files, source, sink,
+            )
         }
         ProgramName::PuzzlesJson => {
-            program_in::<Json, T, F, R, W>(rt, alloc, &PUZZLES_JSON, &words, files, source, sink)
+            program_in::<Json, T, F, R, W>(
+                rt,
+                alloc,
+                false,
+                &PUZZLES_JSON,
+                &words,
+                files,
+                source,
+                sink,
+            )
         }
     }
 }
@@ -67,6 +82,7 @@ fn program_in<
 >(
     rt: &T,
     alloc: Global,
+    is_typed: bool,
     texts: &ProgramTexts,
     words: &[String],
     files: &mut F,
@@ -81,14 +97,16 @@ fn program_in<
         (IsGameIn ⟦<Unequal as Facts>⟧.facts ⟦<N as Format<Unequal>>⟧.reply F.reads F.writes R.Source W.Sink old new args fault)))
         result }
 {
-    let ended = play_words::<N, F, R, W>(alloc, texts, words, files, source, sink);
+    let ended = play_words::<N, T, F, R, W>(rt, alloc, is_typed, texts, words, files, source, sink);
     status_of(rt, ended)
 }
 
 // Reads the words and plays the game.
 #[tactic(auto, using(crate::proofs::WholeGames::of_args))]
-fn play_words<N: Format<Towers> + Format<Unequal>, F: GameFiles, R: Source, W: Sink>(
+fn play_words<N: Format<Towers> + Format<Unequal>, T: Eprint, F: GameFiles, R: Source, W: Sink>(
+    rt: &T,
     alloc: Global,
+    is_typed: bool,
     texts: &ProgramTexts,
     words: &[String],
     files: &mut F,
@@ -104,7 +122,17 @@ fn play_words<N: Format<Towers> + Format<Unequal>, F: GameFiles, R: Source, W: S
         (result_err result) }
 {
     match args(alloc, texts, words) {
-        Ok(args) => play::<N, F, R, W>(alloc, &args, files, source, sink),
+        Ok(args) => {
+            greet(rt, is_typed);
+            play::<N, F, R, W>(alloc, &args, files, source, sink)
+        }
         Err(fault) => Err(Fault::Words(fault)),
+    }
+}
+
+// Tells who types lines what there is. Where standard error fails, nothing is left to say.
+fn greet(rt: &impl Eprint, is_typed: bool) {
+    if is_typed {
+        let _ = eprintln!(rt; "{GREETING}");
     }
 }

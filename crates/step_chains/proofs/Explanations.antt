@@ -1,16 +1,16 @@
 -- What is explained from one view of a grid is so from another, and what a closure of it says.
-use Rattle.std.proofs.Common.{◌≡◌, ◌≢◌, ◌↔◌, ℕ, ◌+◌, ◌*◌, ◌<◌, ◌≤◌, Bool, true, false, List, length, refl, sym, ap, ◌∙◌, subst, arith, inl, inr}
+use Rattle.std.proofs.Common.{◌≡◌, ◌↔◌, ℕ, ◌*◌, ◌<◌, Bool, List, length, sym, ap, ◌∙◌, subst, arith, inl, inr}
 use Rattle.std.specs.Bool.{IsTrue}
 use Rattle.std.specs.List.{remove}
 use Rattle.std.proofs.lemmas.Bool.{cases_eq}
 use Rattle.std.proofs.lemmas.List.{length-map}
 use Rattle.latin_board.specs.Squares.{GridValue, number_at}
 use Rattle.trail_solver.specs.Pairs.{IsPair}
-use Rattle.trail_solver.specs.Candidates.{CandidatesValue, may_be}
-use Rattle.named_steps.specs.Left.{IsLeft, IsFewer, AreAlike}
-use Rattle.named_steps.specs.Chains.{StepValue, IsChain, AreOfGrade, left_by, Shows, IsShown, IsTight, IsView, IsExplained, IsGoalOf, goal_cell}
-use Rattle.named_steps.specs.Following.{IsSettled, IsClosure, IsRefuted}
-use Rattle.named_steps.proofs.Antitone.{IsAntitone, chain_less, chain_settled, closure_fewer, closures_alike, left_size}
+use Rattle.trail_solver.specs.Candidates.{CandidatesValue}
+use Rattle.named_steps.specs.Left.{IsFewer}
+use Rattle.named_steps.specs.Chains.{StepValue, Shows, IsShown, IsTight, IsView, IsExplained}
+use Rattle.named_steps.specs.Following.{IsSettled, IsClosure}
+use Rattle.named_steps.proofs.Antitone.{IsAntitone, chain_less, chain_settled, closure_fewer}
 use Rattle.named_steps.proofs.Shown.{closure_shows, shown_less}
 use Rattle.named_steps.specs.declared.reason.Reason.{Reason}
 use Rattle.named_steps.specs.declared.grade.Grade.{Grade}
@@ -103,22 +103,6 @@ none_refuted Struck less grade g view d is closed some r =
     let inside : refuted.cell < d.size * d.size = subst (λ (w : ℕ). refuted.cell < w * w) (size ∙ sym closed.size) refuted.inside in
     let left = some refuted.cell inside in
     refuted.nothing left.0 (here.1 refuted.cell left.0 (fewer refuted.cell left.0 left.1))
-
--- where it leaves a square nothing its chain does
-pub refuted_by : (Struck : CandidatesValue → Reason → ℕ → ℕ → Type 0) (grade : Grade) (g : GridValue) (view d : CandidatesValue)
-    → IsView g view → IsClosure Struck grade view d → LacksSome d → IsRefutedGrid Struck grade g
-refuted_by Struck grade g view d is closed h = (
-  view,
-  is,
-  record {
-    steps = closed.steps;
-    chain = closed.chain;
-    allowed = closed.allowed;
-    cell = h.0;
-    inside = subst (λ (w : ℕ). h.0 < w * w) closed.size h.1;
-    nothing = λ value left. h.2 value (closed.left.1 h.0 value left);
-  },
-)
 
 -- what it shows all that the grade leaves shows
 pub shown_by_all : (Struck : CandidatesValue → Reason → ℕ → ℕ → Type 0) → IsAntitone Struck → (grade : Grade) (g : GridValue) (view d : CandidatesValue)

@@ -1,20 +1,19 @@
 -- Chains that are followed step by step on candidates that stand for what they leave.
-use Rattle.std.proofs.Common.{◌≡◌, ◌↔◌, ℕ, zero, suc, ◌+◌, ◌-◌, ◌*◌, ◌^◌, ◌<◌, ◌≤◌, Bool, true, false, ◌&&◌, ◌==◌, List, [], ◌∷◌, ◌++◌, length, map, take, drop, inl, inr, refl, sym, ap, ◌∙◌, subst, arith, append-nil, append_assoc}
+use Rattle.std.proofs.Common.{◌≡◌, ◌↔◌, ℕ, zero, suc, ◌+◌, ◌-◌, ◌*◌, ◌^◌, ◌<◌, ◌≤◌, Bool, true, false, ◌==◌, List, [], ◌∷◌, ◌++◌, length, take, drop, refl, sym, ap, ◌∙◌, subst, arith, append-nil, append_assoc}
 use Rattle.std.specs.Bool.{IsTrue, OnTrue, OnFalse, MatchBool}
 use Rattle.std.specs.List.{remove}
 use Rattle.std.proofs.lemmas.List.{take-map, drop-map, map-append, take-append-drop, take_rest}
-use Rattle.std.proofs.lemmas.Bool.{both_ways, and_parts, and_from, cases_Bool, cases_lt, eq-eqb, eqb-true, false_from_ne_true, false≢true}
+use Rattle.std.proofs.lemmas.Bool.{both_ways, and_parts, and_from, eq-eqb, eqb-true, false_from_ne_true, false≢true}
 use Rattle.number_sets.specs.Sets.{has_number, IsSubset}
-use Rattle.number_sets.proofs.Members.{has_number-above}
 use Rattle.trail_solver.specs.Pairs.{IsPair, has_pair, pairs_of}
 use Rattle.trail_solver.specs.Candidates.{CandidatesValue, IsEarlier, may_be}
-use Rattle.trail_solver.proofs.Earlier.{prefix-append, earlier_refl, earlier_trans}
+use Rattle.trail_solver.proofs.Earlier.{prefix-append}
 use Rattle.trail_solver.proofs.SetPairs.{has_pair-pairs_of}
-use Rattle.named_steps.specs.Left.{IsLeft, IsFewer, AreAlike, without}
+use Rattle.named_steps.specs.Left.{IsLeft, AreAlike, without}
 use Rattle.named_steps.specs.Grades.{has_reason}
-use Rattle.named_steps.specs.Chains.{StepValue, IsStep, IsChain, AreOfGrade, left_by, IsShown, Shows}
+use Rattle.named_steps.specs.Chains.{StepValue, IsStep, AreOfGrade, left_by, IsShown, Shows}
 use Rattle.named_steps.specs.Inner.Takes.{Strikes, Takes}
-use Rattle.named_steps.proofs.Antitone.{IsAntitone, was_left, still_left, step_less, chain_less, left_size, left_fewer, fewer_without, without_fewer}
+use Rattle.named_steps.proofs.Antitone.{IsAntitone, was_left, still_left, chain_less, left_size}
 use Rattle.named_steps.proofs.Parts.{left_append, chain_split, chain_joined}
 use Rattle.named_steps.proofs.Shown.{shown_less}
 use Rattle.named_steps.proofs.Takes.{takes_struck, takes_map}
@@ -90,12 +89,6 @@ taken_alike c d e pairs size alike t = (
       },
 )
 
-pub taken_earlier : (Which : ℕ → ℕ → Type 0) (a b : CandidatesValue) → Takes Which a b → IsEarlier a b
-taken_earlier Which a b t = record {
-  size = t.size;
-  adds = subst (λ (ps : List (ℕ × ℕ)). Rattle.trail_solver.specs.Pairs.IsPrefix a.trail ps) (sym t.trail) (prefix-append a.trail t.pairs);
-}
-
 -- ---- steps one after another
 
 allowed_joined : (grade : Grade) (front back : List StepValue) → AreOfGrade grade front → AreOfGrade grade back → AreOfGrade grade (front ++ back)
@@ -105,9 +98,6 @@ allowed_joined grade (step ∷ front) back first second = (first.0, allowed_join
 allowed_split : (grade : Grade) (front back : List StepValue) → AreOfGrade grade (front ++ back) → AreOfGrade grade front × AreOfGrade grade back
 allowed_split grade [] back h = (tt, h)
 allowed_split grade (step ∷ front) back h = let rest = allowed_split grade front back h.1 in ((h.0, rest.0), rest.1)
-
-pub leads_none : (Struck : CandidatesValue → Reason → ℕ → ℕ → Type 0) (grade : Grade) (c : CandidatesValue) → Leads Struck grade c [] c
-leads_none Struck grade c = record { chain = tt; allowed = tt; size = refl; alike = (λ cell v h. h, λ cell v h. h) }
 
 -- two chains, one after the other
 pub leads_joined : (Struck : CandidatesValue → Reason → ℕ → ℕ → Type 0) → IsAntitone Struck → (grade : Grade) (c d e : CandidatesValue)

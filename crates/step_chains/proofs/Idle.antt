@@ -1,11 +1,11 @@
 -- Reasons that strike nothing more, one by one, and a step that strikes something.
-use Rattle.std.proofs.Common.{◌≡◌, ◌↔◌, ℕ, ◌+◌, ◌*◌, ◌^◌, ◌<◌, ◌≤◌, true, false, ◌&&◌, ◌||◌, ◌==◌, count_ones, refl, sym, ap, ◌∙◌, subst, arith, inl, inr}
+use Rattle.std.proofs.Common.{◌≡◌, ◌↔◌, ℕ, ◌+◌, ◌*◌, ◌^◌, ◌<◌, ◌≤◌, true, false, ◌&&◌, ◌||◌, ◌==◌, count_ones, sym, ap, ◌∙◌, subst, arith, inl, inr}
 use Rattle.std.specs.Prelude.{MatchOption, Option, Some, None}
-use Rattle.std.proofs.lemmas.Bool.{both_ways, and_parts, and_from, or_left, or_right, cases_eq, cases_lt, cases_Bool, eqb-true, eq-eqb, false_from_ne_true}
+use Rattle.std.proofs.lemmas.Bool.{both_ways, and_parts, and_from, or_left, or_right, cases_eq, cases_lt, cases_Bool, eqb-true, false_from_ne_true}
 use Rattle.number_sets.specs.Sets.{has_number, IsEmpty}
 use Rattle.number_sets.proofs.Members.{same_set, has_number-above}
 use Rattle.latin_board.specs.Lines.{line_cell}
-use Rattle.trail_solver.specs.Pairs.{IsPair, has_pair, pairs_of}
+use Rattle.trail_solver.specs.Pairs.{IsPair}
 use Rattle.trail_solver.specs.Candidates.{CandidatesValue, IsSetOf, may_be}
 use Rattle.trail_solver.proofs.Removals.{set_below}
 use Rattle.trail_solver.proofs.SetPairs.{has_pair-pairs_of}
@@ -16,7 +16,6 @@ use Rattle.named_steps.specs.declared.reason.Reason.{Reason}
 use Rattle.named_steps.specs.declared.reason.Reason.TheVariants.{Set}
 use Rattle.named_steps.specs.declared.grade.Grade.{Grade}
 use Rattle.step_chains.specs.declared.chain.Step.{Step}
-use Rattle.step_chains.specs.ChainValues.{step_value}
 use Rattle.step_chains.specs.Inner.Quiet.{IsNew, IsIdleIn, IsIdle, IsGroupIdle}
 
 -- all up to a number, and the next
@@ -33,12 +32,6 @@ pub record IsStruckSet (Struck : CandidatesValue → Reason → ℕ → ℕ → 
   pub is_struck : (v : ℕ) → (has_number struck v ≡ true) ↔ (IsPair c.size cell v × Struck c reason cell v)
   pub is_left : IsSetOf c cell left
   pub both : (v : ℕ) → has_number values v ≡ (has_number struck v && has_number left v)
-
-pub idle_none : (Struck : CandidatesValue → Reason → ℕ → ℕ → Type 0) (grade : Grade) (c : CandidatesValue) (reason : Reason) (cell values : ℕ)
-    → IsStruckSet Struck c reason cell values → IsEmpty values → IsIdleIn Struck grade c reason cell
-idle_none Struck grade c reason cell values h none = λ v has pair struck. false_from_ne_true (may_be c cell v) (λ may.
-    both_ways (has_number values v) (none v)
-    (h.both v ∙ and_from (has_number h.struck v) (has_number h.left v) ((h.is_struck v).1 (pair, struck)) ((h.is_left v).1 (pair, may))))
 
 pub new_step : (Struck : CandidatesValue → Reason → ℕ → ℕ → Type 0) (grade : Grade) (c : CandidatesValue) (reason : Reason) (cell values : ℕ) (s : Step)
     → c.size ≤ 9 → has_reason grade reason ≡ true → IsStruckSet Struck c reason cell values → ((v : ℕ) × (has_number values v ≡ true))
@@ -58,16 +51,6 @@ new_step Struck grade c reason cell values s small has h some is =
       left = λ v in_it. let m = members v in_it in (m.0.0, m.1);
       some = some;
     })
-
--- a reason that the grade lacks
-pub idle_lacking : (Struck : CandidatesValue → Reason → ℕ → ℕ → Type 0) (grade : Grade) (c : CandidatesValue) (reason : Reason) (cell : ℕ)
-    → has_reason grade reason ≡ false → IsIdleIn Struck grade c reason cell
-idle_lacking Struck grade c reason cell lacks = λ v has pair struck. absurd (both_ways (has_reason grade reason) lacks has)
-
--- each square of the grid was looked at
-pub idle_all : (Struck : CandidatesValue → Reason → ℕ → ℕ → Type 0) (grade : Grade) (c : CandidatesValue) (reason : Reason)
-    → ((cell : ℕ) → cell < c.size * c.size → IsIdleIn Struck grade c reason cell) → IsIdle Struck grade c reason
-idle_all Struck grade c reason each = λ cell v has pair. each cell pair.inside v has pair
 
 -- the values that are left of a group, as a set
 abbrev pub IsLeftOf : CandidatesValue → ℕ → ℕ → ℕ → Type 0

@@ -1,5 +1,5 @@
 -- Where the reasons that were looked at strike nothing more, the grade is settled.
-use Rattle.std.proofs.Common.{◌≡◌, ◌≢◌, ◌↔◌, ℕ, ◌+◌, ◌-◌, ◌*◌, ◌^◌, ◌<◌, ◌≤◌, true, false, List, [], ◌∷◌, ◌++◌, length, refl, sym, ap, ◌∙◌, subst, arith, inl, inr, length-append}
+use Rattle.std.proofs.Common.{◌≡◌, ℕ, ◌*◌, ◌^◌, ◌<◌, ◌≤◌, true, false, List, [], ◌∷◌, ◌++◌, length, refl, sym, ap, ◌∙◌, subst, arith, inl, inr, length-append}
 use Rattle.std.specs.Prelude.{MatchOption, Option, Some, None}
 use Rattle.std.proofs.lemmas.Bool.{and_from, eq-eqb}
 use Rattle.std.proofs.lemmas.List.{map-append}
@@ -12,13 +12,12 @@ use Rattle.trail_solver.specs.Candidates.{CandidatesValue, may_be}
 use Rattle.trail_solver.specs.Puzzles.{Puzzle}
 use Rattle.trail_solver.proofs.Removals.{set_below}
 use Rattle.trail_solver.proofs.SetPairs.{has_pair-pairs_of}
-use Rattle.named_steps.specs.Left.{IsLeft, without}
-use Rattle.named_steps.specs.Grades.{has_reason, IsPlaced, is_of_clues, is_past_easy}
-use Rattle.named_steps.specs.Reasons.{IsByPeer, IsByPlace, IsBySet, IsByLine}
+use Rattle.named_steps.specs.Left.{without}
+use Rattle.named_steps.specs.Grades.{IsPlaced, is_of_clues, is_past_easy}
+use Rattle.named_steps.specs.Reasons.{IsByPeer, IsByPlace, IsBySet}
 use Rattle.named_steps.specs.Passes.{AreCluesSettled, AreGivensSettled}
 use Rattle.named_steps.specs.Following.{IsSettled}
-use Rattle.named_steps.specs.Chains.{StepValue, left_by}
-use Rattle.named_steps.specs.Inner.LineStrikes.{IsByRest, IsRestQuiet, IsByGroup, IsGroupQuiet}
+use Rattle.named_steps.specs.Inner.LineStrikes.{IsRestQuiet, IsGroupQuiet}
 use Rattle.named_steps.proofs.Antitone.{IsAntitone}
 use Rattle.named_steps.proofs.Rounds.{IsShared, settled_all}
 use Rattle.named_steps.specs.declared.reason.Reason.{Reason}

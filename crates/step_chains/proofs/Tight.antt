@@ -1,15 +1,12 @@
 -- Chains from which steps are left out, the last first.
-use Rattle.std.proofs.Common.{◌≡◌, ◌≢◌, ℕ, zero, suc, ◌+◌, ◌-◌, ◌<◌, ◌≤◌, List, [], ◌∷◌, ◌++◌, length, map, take, drop, refl, sym, ap, ◌∙◌, subst, arith, inl, inr, append_assoc, length-append}
+use Rattle.std.proofs.Common.{◌≡◌, ℕ, zero, suc, ◌+◌, ◌-◌, ◌<◌, ◌≤◌, List, [], ◌∷◌, ◌++◌, length, take, drop, refl, sym, ap, ◌∙◌, subst, arith, inl, inr, append_assoc, length-append}
 use Rattle.std.specs.List.{remove}
-use Rattle.std.proofs.lemmas.Bool.{cases_eq, cases_lt}
+use Rattle.std.proofs.lemmas.Bool.{cases_eq}
 use Rattle.std.proofs.Math.Seq.{take-append_seam, drop-append-add}
 use Rattle.std.proofs.lemmas.List.{take-map, drop-map, map-append, length-map}
-use Rattle.latin_board.specs.Squares.{GridValue, number_at}
-use Rattle.latin_board.specs.Lines.{ArePeers}
-use Rattle.trail_solver.specs.Pairs.{IsPair}
-use Rattle.trail_solver.specs.Candidates.{CandidatesValue, may_be}
-use Rattle.named_steps.specs.Left.{IsLeft, IsFewer, AreAlike, without}
-use Rattle.named_steps.specs.Chains.{StepValue, IsStep, IsChain, AreOfGrade, left_by, Shows, IsTight, IsView, IsExplained, IsGoalOf, goal_cell}
+use Rattle.trail_solver.specs.Candidates.{CandidatesValue}
+use Rattle.named_steps.specs.Left.{IsFewer, without}
+use Rattle.named_steps.specs.Chains.{StepValue, AreOfGrade, left_by, Shows, IsTight}
 use Rattle.named_steps.proofs.Antitone.{IsAntitone, chain_less, left_size, without_fewer}
 use Rattle.named_steps.proofs.Parts.{left_append, chain_split, chain_joined}
 use Rattle.named_steps.proofs.Shown.{shown_less}
@@ -123,17 +120,6 @@ tight_with Struck grade c steps place goal none tight = λ front back step is be
           none (subst (λ xs. Shows Struck grade c xs goal) (sym rest) shows)
       | inr other ↦ tight front back step is (omega (arith, behind, other)) shows
     ]
-
--- behind the last step nothing can be left out
-pub tight_end : (Struck : CandidatesValue → Reason → ℕ → ℕ → Type 0) (grade : Grade) (c : CandidatesValue) (steps : List StepValue) (place : ℕ) (goal : Goal)
-    → length steps ≤ place → IsTightFrom place Struck grade c steps goal
-tight_end Struck grade c steps place goal high = λ front back step is behind shows.
-    omega (arith, high, behind, ap length is, length-append front (step ∷ back))
-
--- none can be left out where none from the first on can
-pub tight_all : (Struck : CandidatesValue → Reason → ℕ → ℕ → Type 0) (grade : Grade) (c : CandidatesValue) (steps : List StepValue) (goal : Goal)
-    → IsTightFrom 0 Struck grade c steps goal → IsTight Struck grade c steps goal
-tight_all Struck grade c steps goal tight = λ front back step is. tight front back step is (omega arith)
 
 -- in other words: where it isn't shown without any one of them
 pub tight_from_each : (Struck : CandidatesValue → Reason → ℕ → ℕ → Type 0) (grade : Grade) (c : CandidatesValue) (steps : List StepValue) (goal : Goal)

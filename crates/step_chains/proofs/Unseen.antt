@@ -1,13 +1,12 @@
 -- What isn't in view of a square, as sets of numbers.
-use Rattle.std.proofs.Common.{◌≡◌, ◌≢◌, ◌↔◌, ℕ, ◌+◌, ◌*◌, ◌/◌, ◌%◌, ◌<◌, ◌≤◌, true, nat_le, ◌&&◌, ◌||◌, ◌==◌, not, inl, inr, ◌⊎◌, refl, sym, ap, ◌∙◌, subst, arith}
+use Rattle.std.proofs.Common.{◌≡◌, ◌≢◌, ◌↔◌, ℕ, ◌+◌, ◌*◌, ◌/◌, ◌%◌, ◌<◌, ◌≤◌, true, nat_le, ◌&&◌, ◌||◌, ◌==◌, not, inl, inr, ◌⊎◌, sym, ap, ◌∙◌, subst, arith}
 use Rattle.std.proofs.lemmas.Bool.{both_ways, and_parts, and_from, or_left, or_right, cases_eq, cases_Bool, not_from_false, eq-eqb, ne_eqb, eqb-true, le-leb}
 use Rattle.std.proofs.lemmas.Nat.{div_below, mod_below}
 use Rattle.number_sets.specs.Sets.{has_number}
 use Rattle.latin_board.specs.Squares.{GridValue, number_at}
 use Rattle.latin_board.specs.Lines.{line_cell, ArePeers}
-use Rattle.latin_board.proofs.LatinLines.{some_width, line_cell_of_row, line_cell_inside}
+use Rattle.latin_board.proofs.LatinLines.{some_width, line_cell_of_row}
 use Rattle.latin_board.proofs.PeerLines.{line_cell_of_column, line_peers}
-use Rattle.trail_solver.specs.Pairs.{IsPair}
 use Rattle.trail_solver.specs.Candidates.{CandidatesValue}
 use Rattle.named_steps.specs.Left.{all_of}
 use Rattle.named_steps.specs.Inner.Takes.{Strikes, Takes}

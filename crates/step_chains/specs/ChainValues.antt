@@ -1,5 +1,5 @@
 -- The steps of a chain, as what is struck by each.
-use Rattle.std.specs.Prelude.{◌≡◌, ℕ, ◌*◌, ◌<◌, List, map}
+use Rattle.std.specs.Prelude.{ℕ, ◌*◌, ◌<◌, List, map}
 use Rattle.trail_solver.specs.Pairs.{pairs_of}
 use Rattle.trail_solver.specs.Candidates.{CandidatesValue}
 use Rattle.named_steps.specs.Left.{IsLeft}

@@ -1,13 +1,12 @@
 -- Steps that strike something more, and reasons that strike nothing more.
-use Rattle.std.specs.Prelude.{◌≡◌, ℕ, ◌*◌, ◌^◌, ◌<◌, ◌≤◌, true, false, count_ones}
+use Rattle.std.specs.Prelude.{◌≡◌, ℕ, ◌≤◌, true, false, count_ones}
 use Rattle.number_sets.specs.Sets.{has_number}
-use Rattle.latin_board.specs.Lines.{line_cell}
 use Rattle.trail_solver.specs.Pairs.{IsPair}
 use Rattle.trail_solver.specs.Candidates.{CandidatesValue, AreCandidates, may_be}
 use Rattle.named_steps.specs.Grades.{has_reason}
 use Rattle.named_steps.specs.Inner.LineStrikes.{IsUnion}
 use Rattle.named_steps.specs.declared.reason.Reason.{Reason}
-use Rattle.named_steps.specs.declared.reason.Reason.TheVariants.{Given, Peer, Place, Bound, Stand, Clue, Sign, Set}
+use Rattle.named_steps.specs.declared.reason.Reason.TheVariants.{Given, Peer, Place, Bound, Stand, Clue, Set}
 use Rattle.named_steps.specs.declared.grade.Grade.{Grade}
 use Rattle.step_chains.specs.declared.chain.Step.{Step}
 use Rattle.step_chains.specs.ChainValues.{step_value}

@@ -2,8 +2,8 @@ use Rattle.std.proofs.lemmas.Bool.{both_ways}
 use Rattle.fair_games.proofs.FairSteps.{found_fair, next_left, next_passed}
 use Rattle.fair_games.proofs.games.find_game.Goals as goal
 
-pub returns-then-is_of_grade : goal.returns-then-is_of_grade
-returns-then-is_of_grade g c =
+pub returns-then-is_of_grade-clause-fair : goal.returns-then-is_of_grade-clause-fair
+returns-then-is_of_grade-clause-fair g c =
     let size = c.args.size in
     found_fair g.P.Rules g.P.Steps.struck_by c.args.grade (g.P.FairGame.trial_of c.args.grade) size (g.P.Rules.items_of size) c.loop-draw._draw
     (g.R.Rng.stream c.args.rng.now) (g.R.Rng.stream c.loop-draw.rng) c.draw_game-puzzle.result c.loop-draw.invariant.0 c.draw_game-puzzle.ensures.pruned

@@ -7,8 +7,8 @@ use Rattle.fair_games.specs.Offers.{letter_code}
 use Rattle.fair_games.specs.Fair.{IsPassedOver, IsFair, most_draws}
 use Rattle.fair_games.proofs.games.seeded.Goals as goal
 
-pub returns : goal.returns
-returns g c =
+pub returns-clause-fair : goal.returns-clause-fair
+returns-clause-fair g c =
     let size = c.args.size in
     let grade = c.args.grade in
     let drawn = c.rng_of-rng.ensures ∙ ap (λ (letter : ℕ). of_seed (fair_key size letter c.initial.result c.args.seed)) c.letter_byte.ensures
@@ -17,4 +17,4 @@ returns g c =
     ((n : ℕ) → n < most_draws → IsPassedOver g.P.Rules g.P.Steps.struck_by grade
     (draw_at (g.P.FairGame.trial_of grade) size (g.P.Rules.items_of size) (stream_of (steps_u32 (next_word 10)) r) n))
     (IsFair g.P.Rules g.P.Steps.struck_by grade
-    (draw_at (g.P.FairGame.trial_of grade) size (g.P.Rules.items_of size) (stream_of (steps_u32 (next_word 10)) r)))) drawn c.find_game.ensures
+    (draw_at (g.P.FairGame.trial_of grade) size (g.P.Rules.items_of size) (stream_of (steps_u32 (next_word 10)) r)))) drawn c.find_game.ensures.fair

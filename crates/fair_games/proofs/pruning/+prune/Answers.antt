@@ -9,6 +9,7 @@ use Rattle.fair_games.proofs.PruneSteps.{HasSteps, cut_of, settled_base, prune_g
 use Rattle.fair_games.proofs.pruning.+prune.Goals as goal
 use Rattle.fair_games.proofs.pruning.+prune.Given.{Over}
 
+-- the laws of the puzzle's steps
 steps_of : (g : Over) → HasSteps g.P.Rules g.P.Steps.struck_by
 steps_of g = record {
   items = laws_of g.met.P.Rules;

@@ -1,11 +1,10 @@
-use Rattle.std.proofs.Common.{◌≡◌, ◌↔◌, List, length, sym, ◌∙◌, subst}
+use Rattle.std.proofs.Common.{◌↔◌, List, subst}
 use Rattle.std.specs.Bool.{IsTrue}
 use Rattle.std.proofs.lemmas.Bool.{both_ways, false≢true}
-use Rattle.std.specs.List.{remove}
-use Rattle.named_steps.specs.Chains.{Shows, IsTight}
+use Rattle.named_steps.specs.Chains.{IsTight}
 use Rattle.step_chains.specs.declared.chain.Step.{Step}
 use Rattle.step_chains.specs.ChainValues.{steps_of}
-use Rattle.step_chains.proofs.Explanations.{all_steps, explained_shows, explained_tested, shows_all}
+use Rattle.step_chains.proofs.Explanations.{explained_shows, explained_tested, shows_all}
 use Rattle.step_chains.proofs.explaining.explains.Goals as goal
 
 pub returns-then-not-shows_without : goal.returns-then-not-shows_without

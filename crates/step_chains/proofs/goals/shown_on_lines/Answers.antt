@@ -1,6 +1,5 @@
-use Rattle.std.proofs.Common.{◌≡◌, ℕ, ◌+◌, ◌*◌, ◌<◌, ◌≤◌, true, false, sym, ap, ◌∙◌, subst, arith}
-use Rattle.std.proofs.lemmas.Bool.{both_ways}
-use Rattle.named_steps.specs.declared.goal.Goal.TheVariants.{OnlyValue, OnlyPlace}
+use Rattle.std.proofs.Common.{ℕ, arith}
+use Rattle.named_steps.specs.declared.goal.Goal.TheVariants.{OnlyPlace}
 use Rattle.step_chains.specs.Inner.Goals.{IsOpenShown}
 use Rattle.step_chains.proofs.OpenGoals.{none_next}
 use Rattle.step_chains.proofs.goals.shown_on_lines.Goals as goal

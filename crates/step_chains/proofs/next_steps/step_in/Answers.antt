@@ -1,4 +1,4 @@
-use Rattle.std.proofs.Common.{refl, sym, arith}
+use Rattle.std.proofs.Common.{refl, sym}
 use Rattle.step_chains.proofs.Idle.{new_step}
 use Rattle.step_chains.proofs.next_steps.step_in.Goals as goal
 

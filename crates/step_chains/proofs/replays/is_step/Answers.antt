@@ -1,5 +1,5 @@
-use Rattle.std.proofs.Common.{◌≡◌, ℕ, ◌^◌, ◌<◌, true, ◌∙◌, sym, subst, arith}
-use Rattle.step_chains.proofs.Followed.{step_by_set, step_tested}
+use Rattle.std.proofs.Common.{ℕ, ◌^◌, ◌<◌, sym, subst, arith}
+use Rattle.step_chains.proofs.Followed.{step_tested}
 use Rattle.step_chains.proofs.replays.is_step.Goals as goal
 
 pub returns : goal.returns

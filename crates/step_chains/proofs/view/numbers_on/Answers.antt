@@ -1,5 +1,5 @@
 use Rattle.step_chains.proofs.Unseen.{number_added}
-use Rattle.std.proofs.Common.{ap, sym, ◌∙◌}
+use Rattle.std.proofs.Common.{ap, ◌∙◌}
 use Rattle.latin_board.specs.Squares.{number_at}
 use Rattle.latin_board.specs.Lines.{line_cell}
 use Rattle.step_chains.proofs.view.numbers_on.Goals as goal

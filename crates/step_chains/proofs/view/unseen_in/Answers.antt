@@ -1,4 +1,4 @@
-use Rattle.std.proofs.Common.{◌≡◌, ℕ, ◌+◌, ◌/◌, ◌%◌, ap, sym, ◌∙◌, subst, arith}
+use Rattle.std.proofs.Common.{◌≡◌, ℕ, ◌+◌, ◌/◌, ◌%◌, ap, ◌∙◌, arith}
 use Rattle.latin_board.specs.Squares.{number_at}
 use Rattle.step_chains.proofs.Unseen.{unseen_empty}
 use Rattle.step_chains.proofs.view.unseen_in.Goals as goal

@@ -1,4 +1,3 @@
-use Rattle.std.proofs.Common.{◌∙◌}
 use Rattle.step_chains.proofs.Unseen.{unseen_gone}
 use Rattle.step_chains.proofs.view.view_of.Goals as goal
 

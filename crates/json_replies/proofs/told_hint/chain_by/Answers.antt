@@ -1,0 +1,10 @@
+use Rattle.std.proofs.Common.{subst}
+use Rattle.step_chains.specs.Explanations.{Explains}
+use Rattle.json_replies.proofs.ToldHints.{refuted_hard}
+use Rattle.json_replies.proofs.told_hint.chain_by.Goals as goal
+
+pub returns : goal.returns
+returns g c =
+    let Struck = g.P.Steps.struck_by c.args.p.now in
+    let told = subst (Explains Struck c.args.grade c.args.grid.now) c.in-Contradiction.is c.in_ok-chain.ensures in
+    absurd (c.requires.holds (refuted_hard Struck c.args.grade c.args.grid.now told.0))
