@@ -82,7 +82,7 @@ _puzzles_sheet() {
     fi
     case $before in
         --ids | --output) _puzzles_offer_files "$word" "$prefix"; return ;;
-        --grade) _puzzles_offer "$word" trivial easy tricky hard extreme unreasonable recursive; return ;;
+        --grade) _puzzles_offer "$word" trivial easy tricky hard; return ;;
         --per-page) _puzzles_offer "$word" 1 2 4 6 12; return ;;
         --answers) _puzzles_offer "$word" end none only; return ;;
         --paper) _puzzles_offer "$word" a4 letter; return ;;

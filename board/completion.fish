@@ -47,8 +47,8 @@ complete -c puzzles-play -n '__puzzles_unused version V' -s V -l version -d 'sho
 complete -c puzzles-sheet -e
 complete -c puzzles-sheet -f
 complete -c puzzles-sheet -n __puzzles_no_game -a 'towers unequal' -d 'the game'
-complete -c puzzles-sheet -n '__puzzles_unused size' -l size -x -a '3 4 5 6 7 8 9' -d 'the sizes of the puzzles'
-complete -c puzzles-sheet -n '__puzzles_unused grade' -l grade -x -a 'trivial easy tricky hard extreme unreasonable recursive' -d 'their grades'
+complete -c puzzles-sheet -n '__puzzles_unused size' -l size -x -a '3 4 5 6' -d 'the sizes of the puzzles'
+complete -c puzzles-sheet -n '__puzzles_unused grade' -l grade -x -a 'trivial easy tricky hard' -d 'their grades'
 complete -c puzzles-sheet -n '__puzzles_unused seed' -l seed -x -d 'other puzzles for each number'
 complete -c puzzles-sheet -n '__puzzles_unused count' -l count -x -d 'how many there are'
 complete -c puzzles-sheet -n '__puzzles_unused ids' -l ids -r -F -d 'the puzzles of a list'

@@ -22,8 +22,8 @@ case $service in
             '*:ID, size or grade, or save file:_puzzles_kind_or_file' ;;
     puzzles-sheet)
         _arguments -S \
-            '--size=[the sizes of the puzzles]:size, as 5-7:' \
-            '--grade=[their grades]:grade:(trivial easy tricky hard extreme unreasonable recursive)' \
+            '--size=[the sizes of the puzzles]:size, as 4-6:' \
+            '--grade=[their grades]:grade:(trivial easy tricky hard)' \
             '--seed=[other puzzles for each number]:number:' \
             '--count=[how many there are]:number:' \
             '--ids=[the puzzles of a list]:list of IDs:_files' \

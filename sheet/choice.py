@@ -4,13 +4,16 @@ from __future__ import annotations
 
 from typing import Callable, Dict, Iterator, List, NamedTuple, Optional, Sequence, Set, Tuple
 
-from sheet.fair import TRIES, Kind, Seeds
 from sheet.likeness import Form, form
 from sheet.lists import Line, puzzle_of
 from sheet.puzzles import Programs, Puzzle, Unfit
+from sheet.seeds import Kind, Seeds
 
 #: A sheet has no more puzzles, and of a list no more lines are told that are wrong.
 MOST = 200
+
+#: After so many puzzles of seeds in a row whose solution is on the sheet the first of them that isn't there itself is taken.
+ALIKE = 60
 
 #: Called with the number of puzzles that there are, as one more is there.
 Progress = Callable[[int], None]
@@ -44,11 +47,11 @@ class Seeded:
         self._exhausted: Set[Kind] = set()
 
     def add(self, kind: Kind) -> None:
-        """The next puzzle with a new solution; after many seeds without one the first that is new at all, or none. Raises `Unfit`."""
+        """The next puzzle with a new solution; after many without one the first that is new at all, or none. Raises `Unfit`."""
         spare: Optional[Puzzle] = None
         if kind in self._exhausted:
             return
-        for _, puzzle in zip(range(TRIES), self._seeds.puzzles(kind)):
+        for _, puzzle in zip(range(ALIKE), self._seeds.puzzles(kind)):
             if form(puzzle.answer) not in self._forms:
                 self._forms.add(form(puzzle.answer))
                 self.puzzles.append(puzzle)
@@ -66,7 +69,8 @@ class Seeded:
 
 
 def of_seeds(seeds: Seeds, wanted: Sequence[Kind], progress: Progress) -> Choice:
-    """One of each kind, in this order. Raises `Unfit` where none of a kind are made."""
+    """One of each kind, in this order. Raises `Unfit` where none of a kind are made, or none is found."""
+    seeds.check(wanted)
     found = Seeded(seeds)
     for kind in wanted:
         found.add(kind)
@@ -74,9 +78,9 @@ def of_seeds(seeds: Seeds, wanted: Sequence[Kind], progress: Progress) -> Choice
     told: List[str] = []
     count = len(found.puzzles)
     if found.alike:
-        told.append(f'{found.alike} of the {count} puzzles have the solution of an earlier one, perhaps turned over: {TRIES} seeds gave no new one')
+        told.append(f'{found.alike} of the {count} puzzles have the solution of an earlier one, perhaps turned over: {ALIKE} in a row had no new one')
     if count < len(wanted):
-        told.append(f'there are {count} puzzles, not {len(wanted)}: {TRIES} seeds gave none that is not there already')
+        told.append(f'there are {count} puzzles, not {len(wanted)}: {ALIKE} in a row were there already')
     return Choice(found.puzzles, told)
 
 

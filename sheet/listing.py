@@ -8,21 +8,25 @@ from typing import Iterator, List, NamedTuple, Sequence
 from sheet.layout import Numbered, Paper, lines
 from sheet.markup import Markup, fill, joined
 from sheet.measures import length
-from sheet.steps import Step
+from sheet.steps import Move
 
 #: Between two columns, and below a block.
 COLUMN_GAP, GAP = 600, 150
 
+#: How the sentences name squares.
+SQUARES = 'r2c3 is the square in row 2 from the top and column 3 from the left.'
+
 BLOCK = Template('<div class="steps" style="left:$left;top:$top;width:$width;height:$height">$content</div>\n')
 HEAD = Template('<p><b>$number</b> $grade</p>')
-STEP = Template('<p><b>$label.</b> $text</p>')
+MOVE = Template('<p><b>$label.</b> $text</p>')
+SENTENCE = Template('<p>$text</p>')
 
 
 class Explained(NamedTuple):
     """A puzzle, and how its answer goes on."""
 
     numbered: Numbered
-    steps: List[Step]
+    moves: List[Move]
 
 
 class Piece(NamedTuple):
@@ -39,7 +43,7 @@ def sections(paper: Paper, every: Sequence[Explained]) -> Iterator[Markup]:
     room = paper.height - paper.print.head - paper.print.foot
     placed: List[Markup] = []
     column, used = 0, 0
-    for piece in (piece for explained in every for piece in _blocks(_pieces(explained, width, font), room // (font * 5 // 4) - 1)):
+    for piece in _all_blocks(every, width, font, room // (font * 5 // 4) - 1):
         height = piece.lines * font * 5 // 4 + GAP
         if used + height > room:
             column, used = column + 1, 0
@@ -52,14 +56,21 @@ def sections(paper: Paper, every: Sequence[Explained]) -> Iterator[Markup]:
     yield joined(placed)
 
 
+def _all_blocks(every: Sequence[Explained], width: int, font: int, most: int) -> Iterator[Piece]:
+    yield Piece(fill(SENTENCE, text=SQUARES), lines(SQUARES, width, font))
+    for explained in every:
+        yield from _blocks(_pieces(explained, width, font), most)
+
+
 def _pieces(explained: Explained, width: int, font: int) -> Iterator[Piece]:
-    """A piece for each step; the first one has the puzzle's number above."""
+    """A piece for each sentence; the first one has the puzzle's number above, and that of each move the move's."""
     puzzle = explained.numbered.puzzle
     head = fill(HEAD, number=explained.numbered.number, grade=puzzle.grade)
-    for step in explained.steps:
-        label = f'Step {step.number}{", the hardest" if step.is_hardest else ""}'
-        content = joined([head, fill(STEP, label=label, text=step.text)])
-        yield Piece(content, lines(f'{label}. {step.text}', width, font) + (1 if head else 0))
+    for move in explained.moves:
+        label = f'Move {move.number}{", the hardest" if move.is_hardest else ""}'
+        first, *others = move.sentences
+        yield Piece(joined([head, fill(MOVE, label=label, text=first)]), lines(f'{label}. {first}', width, font) + (1 if head else 0))
+        yield from (Piece(fill(SENTENCE, text=text), lines(text, width, font)) for text in others)
         head = Markup('')
 
 

@@ -10,7 +10,7 @@ from typing import Iterable, List, NoReturn
 from board import files
 from board.main import HELP, complain, program, version
 from board.program import Gone
-from sheet import choice, fair, lists, steps
+from sheet import choice, lists, seeds, steps
 from sheet.choice import Choice, WrongLines
 from sheet.pages import Sheet
 from sheet.puzzles import Programs, Unfit
@@ -89,8 +89,8 @@ def chosen_by(programs: Programs, asked: Asked, progress: Progress) -> Choice:
         return choice.of_list(programs, lines, asked.game, asked.how_many, progress)
     assert asked.game and asked.how_many, 'without a list both are asked for'
     progress.count = asked.how_many
-    wanted = fair.shared(fair.kinds(asked.game, asked.sizes, asked.letters), asked.how_many)
-    return choice.of_seeds(fair.Seeds(programs, asked.seed), wanted, progress)
+    wanted = seeds.shared(seeds.kinds(asked.game, asked.sizes, asked.letters), asked.how_many)
+    return choice.of_seeds(seeds.Seeds(programs, asked.seed), wanted, progress)
 
 
 class Progress:

@@ -14,7 +14,7 @@ from sheet.listing import Explained
 from sheet.markup import Markup, fill, joined, plain, safe, shortened
 from sheet.measures import BOLD_BELOW, CAPTION_TOP, length
 from sheet.puzzles import Puzzle
-from sheet.steps import Step
+from sheet.steps import Move
 from sheet.style import style
 from sheet.words import Asked
 
@@ -59,11 +59,11 @@ class Section(NamedTuple):
 class Sheet:
     """Some puzzles, and how they are printed."""
 
-    def __init__(self, puzzles: Sequence[Puzzle], asked: Asked, explained: Sequence[List[Step]] = ()) -> None:
+    def __init__(self, puzzles: Sequence[Puzzle], asked: Asked, explained: Sequence[List[Move]] = ()) -> None:
         self._form = asked.form
         self._paper = Paper(asked.form.paper, asked.form.is_large)
         self._puzzles = [Numbered(number, puzzle) for number, puzzle in enumerate(puzzles, 1)]
-        self._explained = [Explained(numbered, steps) for numbered, steps in zip(self._puzzles, explained)]
+        self._explained = [Explained(numbered, moves) for numbered, moves in zip(self._puzzles, explained)]
         self._title = plain(asked.form.title or '') or ' and '.join(GAMES[game] for game in layout.games_of(self._puzzles))
         #: By this who has cut out a puzzle finds its answer.
         self._code = hashlib.sha256('\n'.join(puzzle.id for puzzle in puzzles).encode()).hexdigest()[:4].upper()

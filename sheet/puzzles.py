@@ -2,7 +2,7 @@
 
 from __future__ import annotations
 
-from typing import Any, Dict, Mapping, NamedTuple
+from typing import Dict, NamedTuple
 
 from board.board import Board, Reply
 from board.games import GRADES
@@ -63,10 +63,6 @@ class Programs:
             raise Gone('there is no memory left')
         return reply
 
-    def object(self, game: str, line: str) -> Mapping[str, Any]:
-        """All that the program tells then."""
-        return self._program(game).object(line)
-
     def board(self, game: str) -> Board:
         """The board of the game that has begun."""
         board = self.ask(game, 'board').board
@@ -86,14 +82,10 @@ def proved(programs: Programs, game: str, caption: str = '') -> Puzzle:
     ways = programs.ask(game, 'completable').completable
     if ways != 'one':
         raise Unfit(NOT_ONE.get(str(ways), 'it is not known how many solutions there are'))
-    letter = _letter(programs, game) or board.session.letter
+    # The grade by whose steps it follows, as the program finds; where it finds none, the one that the ID claims.
+    letter = programs.ask(game, 'grade').grade or board.session.letter
     programs.ask(game, 'solve')
     answer = programs.board(game)
     if not answer.is_solved or answer.session.id != board.session.id:
         raise Gone('it has shown one solution, and tells none')
     return Puzzle(board, answer, letter, caption)
-
-
-def _letter(programs: Programs, game: str) -> str:
-    """Of the grade by whose steps the puzzle follows, as the program finds; nothing where it finds none, or tells of no grades."""
-    return programs.object(game, 'grade').get('grade') or ''

@@ -61,6 +61,7 @@ ROUNDS = [
     Make('make play, a game that is not there', ['make', 'play', 'GAME=chess'], 2, ['GAME is towers or unequal']),
     Make('make play, a game with an apostrophe', ['make', 'play', "GAME=it's"], 2, ['GAME is towers or unequal']),
     Make('make play, an ID with an apostrophe', ['make', 'play', "ID=it's"], 2, ['refused: BadSize']),
+    Make('make sheet, of seeds', ['make', 'sheet'], says=['build/sheet.html is there']),
     Make('make sheet, of a save', ['make', 'sheet', 'IDS=../a.sav', 'WORDS=--large'], says=['build/sheet.html is there']),
     Make('make sheet, a list that is not there', ['make', 'sheet', "IDS=it's"], 2, ["it's can't be read"]),
     Make('make play, from elsewhere', ['make', '-C', '..', 'play', f'ID={ID}'], says=['3:3'], input=b'id\n', cwd='man'),

@@ -18,13 +18,6 @@ pub one_more : (f : ℕ → List Data) (xs ys : List Data) (m n : ℕ) → n ≡
     → ys ≡ xs ++ f m → ys ≡ flat_map f (range_with_len 0 n)
 one_more f xs ys m n next old more = flat_map_onto f [] xs ys 0 m n m next (omega arith) old more
 
--- what f gives for one item more
-pub one_item_more : {A : Type 0} (f : A → Data) (items : List A) (i : ℕ) (item : A) (xs ys : List Data) → i < length items → item ≡ get_or items i item
-    → xs ≡ map f (take i items) → ys ≡ xs ++ f item ∷ [] → ys ≡ map f (take (i + 1) items)
-one_item_more {A} f items i item xs ys inside is old more =
-    let grown : take (i + 1) items ≡ take i items ++ item ∷ [] = take_more items i item inside ∙ ap (λ (a : A). take i items ++ a ∷ []) (sym is) in
-    more ∙ ap (λ ds. ds ++ f item ∷ []) old ∙ sym (map-append f (take i items) (item ∷ [])) ∙ sym (ap (map f) grown)
-
 -- one function after another
 pub map_twice : {A B C : Type 0} (g : B → C) (f : A → B) (items : List A) → map g (map f items) ≡ map (λ (a : A). g (f a)) items
 map_twice g f [] = refl

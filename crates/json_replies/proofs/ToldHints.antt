@@ -56,24 +56,6 @@ pub told_refuted : (p : Puzzle) (Strikes : CandidatesValue → ℕ → ℕ → T
     → ((h : GridValue) → Completes p g h → ⊥) → IsTold p Strikes Struck g (Deduced Contradiction)
 told_refuted p Strikes Struck g none = record { sound = none; reached = tt; strong = λ cell forced same. cc same }
 
-pub told_contradiction : (p : Puzzle) (Strikes : CandidatesValue → ℕ → ℕ → Type 0) (Struck : CandidatesValue → Reason → ℕ → ℕ → Type 0) (g : GridValue)
-    (hint : Hint) → hint ≡ Contradiction → IsSound p g hint → IsTold p Strikes Struck g (Deduced hint)
-told_contradiction p Strikes Struck g hint is sound =
-    subst (λ (h : Hint). IsTold p Strikes Struck g (Deduced h)) (sym is) (told_refuted p Strikes Struck g (subst (IsSound p g) is sound))
-
-plain : (p : Puzzle) (Strikes : CandidatesValue → ℕ → ℕ → Type 0) (Struck : CandidatesValue → Reason → ℕ → ℕ → Type 0) (g : GridValue) (hint : Hint)
-    → IsDeduced p Strikes g hint → NothingIsShown Struck Hard g → IsPlain p Strikes Struck g hint
-plain p Strikes Struck g (Follows cell value) deduced none = (deduced, none)
-plain p Strikes Struck g Nothing deduced none = (deduced, none)
-plain p Strikes Struck g Contradiction deduced none = tt
-
--- no steps show a number
-pub told_plain : (p : Puzzle) (Strikes : CandidatesValue → ℕ → ℕ → Type 0) (Struck : CandidatesValue → Reason → ℕ → ℕ → Type 0) (g : GridValue) (hint : Hint)
-    → IsSound p g hint → IsDeduced p Strikes g hint → ((cell : ℕ) → IsForced Strikes g cell → hint ≢ Nothing) → NothingIsShown Struck Hard g
-    → IsTold p Strikes Struck g (Deduced hint)
-told_plain p Strikes Struck g hint sound deduced strong none =
-    record { sound = sound; reached = plain p Strikes Struck g hint deduced none; strong = strong }
-
 goal_pair : (w : ℕ) (goal : Goal) → IsGoalOf w goal → IsPair w (goal_cell w goal) (goal_value goal)
 goal_pair w (OnlyValue cell value) of = of
 goal_pair w (OnlyPlace line index value) (below, within, low, high) =

@@ -18,10 +18,6 @@ GoesOn w clue is_over steps rest told =
     (later : List ToldLook) → AreTold rest later
     → (all : List ToldLook) × AreTold steps all × (map (look_data w clue is_over) all ≡ told ++ map (look_data w clue is_over) later)
 
-pub none_told : (w : ℕ) (clue : ℕ → ℕ) (is_over : ℕ → ℕ → Bool) (steps : List Step) (told : List Data) → told ≡ [] → GoesOn w clue is_over steps steps told
-none_told w clue is_over steps told none later are =
-    (later, are, ap (λ ds. ds ++ map (look_data w clue is_over) later) (sym none))
-
 pub one_look_more : (w : ℕ) (clue : ℕ → ℕ) (is_over : ℕ → ℕ → Bool) (steps rest look more : List Step) (reason : Reason) (text : List (List ℕ))
     (told next : List Data) (value : Data) → rest ≡ look ++ more → IsLook reason look more → AreShort text
     → value ≡ step_data w clue is_over reason look text → next ≡ told ++ value ∷ [] → GoesOn w clue is_over steps rest told

@@ -105,14 +105,6 @@ hint_told {P} f b h puzzle g which answer asked is shown told =
     let all : F h.puzzle (grid_of (shown_board f h)) = subst (F h.puzzle) shown (subst (λ x. F x g) is told) in
     subst (λ w. IsAnswer f b h w answer) (sym asked) all
 
--- the answer of the grade
-pub grade_told : {P : Type 0} (f : GameFacts P) (b : BoardFacts P) (h : History P) (puzzle : P) (grade : Option Grade) (which : FurtherLine) (answer : Data)
-    → which ≡ AskGrade → puzzle ≡ h.puzzle → IsGradeOf (f.rules.puzzle puzzle) (b.struck_by puzzle) grade → answer ≡ grade_data b.letter grade
-    → IsAnswer f b h which answer
-grade_told {P} f b h puzzle grade which answer asked is least told =
-    let all = subst (λ (x : P). IsGradeOf (f.rules.puzzle x) (b.struck_by x) grade) is least in
-    subst (λ w. IsAnswer f b h w answer) (sym asked) (grade, all, told)
-
 -- the answer of the board
 pub board_told : {P : Type 0} (f : GameFacts P) (b : BoardFacts P) (h : History P) (puzzle : P) (g : GridValue) (board : BoardValue) (e : ErrorsValue)
     (which : FurtherLine) (clues signs answer : Data) → which ≡ Board → puzzle ≡ h.puzzle → g ≡ grid_of board → board ≡ shown_board f h

@@ -50,6 +50,7 @@ abbrev pub x_data : ℕ → Option ℕ → Data
 x_data w None = null
 x_data w (Some place) = number (of_integer (edge_xy w place).0)
 
+-- and the other coordinate
 abbrev pub y_data : ℕ → Option ℕ → Data
 y_data w None = null
 y_data w (Some place) = number (of_integer (edge_xy w place).1)
@@ -79,16 +80,19 @@ ends_of w is_over (Clue place) = None
 ends_of w is_over (Sign from to) = ends_at w is_over from to
 ends_of w is_over (Set line squares values) = None
 
+-- the greater square of a sign
 abbrev pub greater_data : Option Ends → Data
 greater_data None = null
 greater_data (Some ends) = count_data ends.greater
 
+-- and the lesser one
 abbrev pub less_data : Option Ends → Data
 less_data None = null
 less_data (Some ends) = count_data ends.less
 
 -- ---- the row or column, the squares and the numbers of a reason
 
+-- the row or column
 abbrev pub line_data : Reason → Data
 line_data (Given cell) = null
 line_data (Peer cell) = null
@@ -107,12 +111,15 @@ one_data n = array (items_of (count_data n ∷ []))
 abbrev pub place_data : ℕ → ℕ → ℕ → Data
 place_data w line index = if nat_lt line (2 * w) && nat_lt index w then one_data (line_cell w line index) else null
 
+-- the squares at some places of a line
 abbrev pub line_cells_data : ℕ → ℕ → ℕ → Data
 line_cells_data w line places = listed (λ k. when (has_number places k) (count_data (line_cell w line k))) (range_with_len 0 w)
 
+-- the same where the grid has the line
 abbrev pub squares_data : ℕ → ℕ → ℕ → Data
 squares_data w line places = if nat_lt line (2 * w) then line_cells_data w line places else null
 
+-- the squares of a reason
 abbrev pub cells_data : ℕ → Reason → Data
 cells_data w (Given cell) = one_data cell
 cells_data w (Peer cell) = one_data cell
@@ -123,6 +130,7 @@ cells_data w (Clue place) = null
 cells_data w (Sign from to) = null
 cells_data w (Set line squares values) = squares_data w line squares
 
+-- and its numbers
 abbrev pub numbers_data : Reason → Data
 numbers_data (Given cell) = null
 numbers_data (Peer cell) = null

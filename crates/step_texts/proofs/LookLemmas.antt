@@ -12,8 +12,3 @@ pub one_more : (reason : Reason) (steps : List Step) (at : ℕ) (step : Step) �
 one_more reason steps at step inside is same all =
     let grown = subst (λ (s : Step). take (at + 1) steps ≡ take at steps ++ s ∷ []) (sym is) (take_more steps at step inside) in
     subst (AllFor reason) (sym grown) (All-push (λ (s : Step). s.reason ≡ reason) (take at steps) step all same)
-
--- where the first step has the reason, the look has a step
-pub some_step : (reason : Reason) (first : Step) (rest : List Step) (n : ℕ) → first.reason ≡ reason → BeginsOtherwise reason (drop n (first ∷ rest)) → 1 ≤ n
-some_step reason first rest zero same ends = absurd (ends same)
-some_step reason first rest (suc n) same ends = omega arith

@@ -43,6 +43,7 @@ list_fits n f each xs =
     let flat = items_flat n f each xs in
     record { whole = items_whole n f each xs; flat = omega arith }
 
+-- a text is a single value
 pub text_fits : (bytes : List ℕ) → Fits 0 (text_data bytes)
 text_fits bytes = record { whole = refl; flat = omega arith }
 

@@ -8,12 +8,7 @@ use std::alloc::Global;
 use std::io;
 
 /// The ID of the seed's game, or the name of the refusal.
-fn fair_text<P: FairGame>(
-    alloc: Global,
-    size: Size,
-    letter: u8,
-    seed: u64,
-) -> io::Result<Vec<u8>> {
+fn fair_text<P: FairGame>(alloc: Global, size: Size, letter: u8, seed: u64) -> io::Result<Vec<u8>> {
     let Some(grade) = grade_of_letter::<P>(letter) else {
         return Ok(FairFault::NotOffered.name().as_bytes().to_vec(alloc)?);
     };
@@ -27,14 +22,19 @@ fn fair_text<P: FairGame>(
 /// The answer to a game, a size, a letter and a seed; a question mark where nothing is asked.
 pub(crate) fn fair_answer(alloc: Global, line: &str) -> io::Result<Vec<u8>> {
     let mut words = line.split(' ');
-    let (Some(game), Some(width), Some(letter), Some(seed)) =
-        (words.next(), words.next(), words.next(), words.next())
-    else {
+    let (Some(game), Some(width), Some(letter), Some(seed)) = (
+        words.next(),
+        words.next(),
+        words.next(),
+        words.next(),
+    ) else {
         return Ok(b"?".to_vec(alloc)?);
     };
-    let (Ok(width), [letter], Ok(seed)) =
-        (width.parse::<u8>(), letter.as_bytes(), seed.parse::<u64>())
-    else {
+    let (Ok(width), [letter], Ok(seed)) = (
+        width.parse::<u8>(),
+        letter.as_bytes(),
+        seed.parse::<u64>(),
+    ) else {
         return Ok(b"?".to_vec(alloc)?);
     };
     match (game, Size::new(width)) {

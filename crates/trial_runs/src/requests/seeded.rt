@@ -34,11 +34,7 @@ fn game_text<P: Game>(alloc: Global, size: Size, seed: u64) -> io::Result<Vec<u8
 }
 
 /// The ID of a puzzle.
-pub(crate) fn id_text<P: Game>(
-    alloc: Global,
-    params: &Params,
-    puzzle: &P,
-) -> io::Result<Vec<u8>> {
+pub(crate) fn id_text<P: Game>(alloc: Global, params: &Params, puzzle: &P) -> io::Result<Vec<u8>> {
     let mut text = Vec::new(alloc);
     match add_id(alloc, &mut text, params, puzzle) {
         Ok(()) => Ok(text),
