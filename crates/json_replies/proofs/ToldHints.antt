@@ -1,14 +1,12 @@
 -- Which hint is told.
-use Rattle.std.proofs.Common.{◌≡◌, ◌≢◌, ℕ, true, List, [], ◌∷◌, refl, sym, subst}
+use Rattle.std.proofs.Common.{◌≡◌, ℕ, true, List, [], ◌∷◌, refl}
 use Rattle.latin_board.specs.Squares.{GridValue, number_at}
 use Rattle.latin_board.proofs.LatinLines.{line_cell_inside}
 use Rattle.trail_solver.specs.Pairs.{IsPair}
 use Rattle.trail_solver.specs.Candidates.{CandidatesValue}
 use Rattle.trail_solver.specs.Completions.{Completes}
 use Rattle.trail_solver.specs.Puzzles.{Puzzle}
-use Rattle.board_checks.specs.Hints.{IsSound, IsDeduced, IsForced}
-use Rattle.board_checks.specs.declared.hints.Hint.{Hint}
-use Rattle.board_checks.specs.declared.hints.Hint.TheVariants.{Follows, Nothing, Contradiction}
+use Rattle.board_checks.specs.declared.hints.Hint.TheVariants.{Contradiction}
 use Rattle.named_steps.specs.Chains.{StepValue, AreOfGrade, IsExplained, IsGoalOf, goal_cell, goal_value}
 use Rattle.named_steps.specs.Grades.{has_reason}
 use Rattle.named_steps.specs.declared.goal.Goal.{Goal}
@@ -18,10 +16,10 @@ use Rattle.named_steps.specs.declared.grade.Grade.TheVariants.{Hard}
 use Rattle.named_steps.specs.declared.reason.Reason.{Reason}
 use Rattle.named_steps.specs.declared.reason.Reason.TheVariants.{Given, Peer, Place, Bound, Stand, Clue, Sign, Set}
 use Rattle.step_chains.specs.ChainValues.{steps_of}
-use Rattle.step_chains.specs.Explanations.{IsRefutedGrid, NothingIsShown}
+use Rattle.step_chains.specs.Explanations.{IsRefutedGrid}
 use Rattle.json_replies.specs.declared.told_hint.ToldHint.{ToldHint}
 use Rattle.json_replies.specs.declared.told_hint.ToldHint.TheVariants.{Explained, Deduced}
-use Rattle.json_replies.specs.ToldHints.{IsLeast, IsPlain, IsTold}
+use Rattle.json_replies.specs.ToldHints.{IsLeast, IsTold}
 
 -- ---- grades
 

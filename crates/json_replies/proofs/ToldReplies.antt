@@ -21,9 +21,6 @@ use Rattle.latin_board.specs.Squares.{GridValue}
 use Rattle.latin_board.specs.Boards.{BoardValue, grid_of}
 use Rattle.board_checks.specs.Errors.{ErrorsValue}
 use Rattle.json_replies.specs.Boards.{board_data}
-use Rattle.named_steps.specs.Graded.{IsGradeOf}
-use Rattle.named_steps.specs.declared.grade.Grade.{Grade}
-use Rattle.json_replies.specs.HintObjects.{grade_data}
 use Rattle.puzzle_cli.specs.SessionReplies.{Outcome, shown_board}
 use Rattle.json_replies.specs.FurtherLines.{BoardFacts, AreErrors, further_at, further_key, further_words, IsFurtherLine, IsHintAnswer, IsAnswer}
 use Rattle.json_replies.proofs.Spellings.{session_fits}

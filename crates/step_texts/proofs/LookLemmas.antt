@@ -1,10 +1,10 @@
 -- Looks at the head of a list of steps.
-use Rattle.std.proofs.Common.{◌≡◌, ◌<◌, ◌≤◌, ◌+◌, ℕ, zero, suc, List, [], ◌∷◌, ◌++◌, take, drop, length, get_or, sym, subst, arith}
+use Rattle.std.proofs.Common.{◌≡◌, ◌<◌, ◌+◌, ℕ, List, [], ◌∷◌, ◌++◌, take, length, get_or, sym, subst}
 use Rattle.std.proofs.lemmas.List.{take_more}
 use Rattle.std.proofs.lemmas.List.Elements.{All-push}
 use Rattle.named_steps.specs.declared.reason.Reason.{Reason}
 use Rattle.step_chains.specs.declared.chain.Step.{Step}
-use Rattle.step_texts.specs.Looks.{AllFor, BeginsOtherwise}
+use Rattle.step_texts.specs.Looks.{AllFor}
 
 -- one step more of the reason
 pub one_more : (reason : Reason) (steps : List Step) (at : ℕ) (step : Step) → at < length steps → step ≡ get_or steps at step → step.reason ≡ reason

@@ -1,4 +1,4 @@
-use Rattle.std.proofs.Common.{rules, sym}
+use Rattle.std.proofs.Common.{rules}
 use Rattle.step_texts.proofs.LookLemmas.{one_more}
 use Rattle.step_texts.proofs.looks.first_look.Goals as goal
 
