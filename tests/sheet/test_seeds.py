@@ -13,8 +13,7 @@ from board.games import GRADES
 from board.program import Program
 from board.steps import sentences
 from tests.harness import Room, by_name, run
-from tests.second_implementation.fair import LETTERS
-from tests.second_implementation.grades import follows
+from tests.second_implementation.grades import LETTERS, follows
 from tests.sheet.making import Maker, content
 from tests.sheet.reading import Picture, pictures
 
