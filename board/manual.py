@@ -52,7 +52,7 @@ LINES: List[str] = [
     '  x y                    what there is to say of a square',
     '  row y, column x        what is in a row or a column',
     '  clues                  the clues, or the signs',
-    '  hint                   where to look; once more: the step, and at last the number',
+    '  hint                   where to look; once more: the step; then the number',
     '  why                    all steps to the next number',
     '  check, back            can these numbers be completed; undo until they can',
     '  tidy                   from now on, marks go when their number is put into',

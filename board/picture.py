@@ -65,7 +65,7 @@ KEYS_BELOW = [
 ]
 #: So many lines of a message have room at the side, where the window is tall enough.
 MESSAGE_LINES = 6
-KEYS_ASIDE = ['1-9 number  p pencil', '0 clear     m all marks', 'u undo      r redo', 'h hint H why c check', 'n new       o open', '? all keys  q quit']
+KEYS_ASIDE = ['1-9 number  p pencil', '0 clear     m all marks', 'u undo      r redo', 'h hint      H why', 'c check     n new', '? all keys  q quit']
 
 
 def picture(board: Board, layout: Layout, look: Look) -> List[Piece]:
