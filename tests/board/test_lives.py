@@ -104,7 +104,7 @@ def test_stopped(front: BoardFront, room: Room) -> None:
     """Z stops the front, with the terminal as it was, and it comes back."""
     with Terminal(['bash', '-c', STOPS, front.path, ID], front.env(), cwd=room.path, size=(24, 80)) as window:
         window.look('1', ['1 of 9'])
-        window.look('Z', ['STOPPED modes=3'], ['1 of 9'])
+        window.look('Z', ['STOPPED modes=3'])
         window.look('<enter>', ['1 of 9'], ['STOPPED'])
         window.look('<right>2', ['2 of 9'])
         window.look('q', ['OVER'])
