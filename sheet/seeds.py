@@ -20,7 +20,7 @@ LETTERS = {'towers': 'eh', 'unequal': 'tek'}
 #: What there is to say where the program makes no puzzle of a seed, by the name of its refusal.
 REFUSED = {'SizeTooLarge': '{game} of size {size} is not made from seeds: --ids prints puzzles that there are.'}
 OTHERWISE = 'The program refuses that: {name}.'
-NONE_FOUND = 'No {grade} puzzle of {game} of size {size} was found with the {tries:,} seeds up to {seed}.'
+NONE_FOUND = 'No {grade} puzzle of {game} of size {size} was found with the {tries:,} seeds from {first} to {last}.'
 
 
 class Kind(NamedTuple):
@@ -64,7 +64,7 @@ class Seeds:
             if self._ask(kind, 'grade').grade == kind.letter:
                 yield proved(self._programs, kind.game)
                 tries = 0
-        raise Unfit(NONE_FOUND.format(tries=tries, seed=seed, **_words(kind)))
+        raise Unfit(NONE_FOUND.format(tries=tries, first=(seed - tries + 1) % SEEDS, last=seed, **_words(kind)))
 
     def _ask(self, kind: Kind, line: str) -> Reply:
         """The reply to a line. Raises `Unfit` where it is refused."""

@@ -18,12 +18,13 @@ PAPERS = {'a4': (595, 842), 'letter': (612, 792)}
 
 
 class Sheet(NamedTuple):
-    """The words, and how many pages the puzzles and the answers take."""
+    """The words, and how many pages the puzzles, the answers and the steps take."""
 
     words: Sequence[str]
     puzzles: Sequence[str]
     pages: int
     answers: int
+    steps: int = 0
 
 
 def sixes(caption: str = '') -> List[str]:
@@ -52,6 +53,8 @@ def sheets(paper: str) -> Iterator[Sheet]:
     yield Sheet(['--per-page', '12'], [f'{id} for Anna' for id in nines()], 3 if is_a4 else 5, 1)
     yield Sheet(['--large'], [sixes()[0], sixes()[-1], *full()], 4, 1)
     yield Sheet(['--answers', 'only', '--per-page', '12'], nines(), 0, 1)
+    yield Sheet(['--answers', 'only', '--steps'], nines(), 0, 1, 2)
+    yield Sheet(['--answers', 'only', '--steps', '--large'], nines()[2:6], 0, 1 if is_a4 else 2, 4 if is_a4 else 5)
 
 
 @pytest.mark.parametrize('paper', PAPERS)
@@ -65,7 +68,8 @@ def expect_sheet(browser: Browser, room: Room, maker: Maker, sheet: Sheet, paper
     ended = maker.run(['--ids', '-', '--paper', paper, *sheet.words], content(sheet.puzzles))
     assert ended.status == 0, ended.error
     found = printed(browser, room, ended.output.decode())
-    total = sheet.pages + sheet.answers
+    answers = sheet.pages + sheet.answers
+    total = answers + sheet.steps
     assert [len(found.texts), len(found.sticks_out)] == [total, total], sheet.words
     assert (round(found.paper[0]), round(found.paper[1])) == PAPERS[paper]
     assert not any(map(any, found.sticks_out)), sheet.words
@@ -74,7 +78,8 @@ def expect_sheet(browser: Browser, room: Room, maker: Maker, sheet: Sheet, paper
     assert code
     for number in range(1, total + 1):
         assert all(number in found.pages_with(text) for text in (f'Sheet{code[1]}', f'{number}/{total}', 'puzzles-sheet--ids-'))
-    assert found.pages_with('Answers:') == list(range(sheet.pages + 1, total + 1))
+    assert found.pages_with('Answers:') == list(range(sheet.pages + 1, answers + 1))
+    assert found.pages_with('Steps:') == list(range(answers + 1, total + 1))
     for number, line in enumerate(sheet.puzzles, 1):
         # The ID is whole, and stands on one page, with the number of the puzzle.
         pages = found.pages_with(line.split()[0])

@@ -125,10 +125,10 @@ class Refused(NamedTuple):
 REFUSED = [
     Refused(['towers', '--size', '7'], 'Towers of size 7 is not made from seeds: --ids prints puzzles that there are.\n'),
     Refused(['unequal', '--size', '4-9', '--count', '200'], 'Unequal of size 7 is not made from seeds: --ids prints puzzles that there are.\n'),
-    Refused(['towers', '--size', '3', '--grade', 'hard'], 'No hard puzzle of Towers of size 3 was found with the 1,000 seeds up to 1000.\n'),
+    Refused(['towers', '--size', '3', '--grade', 'hard'], 'No hard puzzle of Towers of size 3 was found with the 1,000 seeds from 1 to 1000.\n'),
     Refused(
         ['unequal', '--size', '3', '--grade', 'easy,tricky', '--count', '2', '--seed', '7'],
-        'No tricky puzzle of Unequal of size 3 was found with the 1,000 seeds up to 1009.\n',
+        'No tricky puzzle of Unequal of size 3 was found with the 1,000 seeds from 10 to 1009.\n',
     ),
 ]
 
