@@ -36,7 +36,7 @@ struct Said(
 fn set_of(digits: &str) -> NumberSet {
     let mut set = NumberSet::empty();
     for digit in digits.as_bytes() {
-        set = set.union(NumberSet::one((*digit - b'0') & 15));
+        set = set.union(NumberSet::one(digit.saturating_sub(b'0') & 15));
     }
     set
 }
