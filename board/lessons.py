@@ -56,7 +56,7 @@ class Lesson:
         if stage.part is Part.GOAL:
             text = sentences(hint.text)[-1] if hint.text else f'It is a {hint.number}.'
             return Told(self.place, shown, text, step_texts.spoken_goal(hint, self.place, board) if hint.text else text)
-        return Told(self.place, shown, step_texts.look_at_square(hint, self.place, board.size), step_texts.spoken_look_at_square(hint, self.place, board))
+        return Told(self.place, shown, step_texts.look_at_square(hint, board.size), step_texts.spoken_look_at_square(hint, self.place, board))
 
     def _of_step(self, part: Part, step: Step, board: Board) -> Told:
         rests_on = step.rests_on(board.size)
@@ -82,4 +82,4 @@ class Lesson:
 
     def whole(self, board: Board) -> List[str]:
         """All sentences, the steps numbered."""
-        return sentences(self.hint.text) or [step_texts.look_at_square(self.hint, self.place, board.size), f'It is a {self.hint.number}.']
+        return sentences(self.hint.text) or [step_texts.look_at_square(self.hint, board.size), f'It is a {self.hint.number}.']

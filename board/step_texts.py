@@ -44,12 +44,12 @@ def look_at(step: Step, size: int) -> str:
     return f'Look at {", ".join(map(name, step.cells))}.'
 
 
-def look_at_square(hint: Hint, place: Place, size: int) -> str:
-    """Where to look where no step is needed."""
+def look_at_square(hint: Hint, size: int, where: str = 'Here', first: int = 1) -> str:
+    """Where to look where no step is needed; the first row or column is called so."""
     if hint.line is not None:
-        return f'Look at {line_name(hint.line, size)}: a number has one square left there.'
+        return f'Look at {line_name(hint.line, size, first)}: a number has one square left there.'
     why = 'the others stand in its row or column' if hint.grade else 'the deductions rule out all others'
-    return f'Here only one number is left: {why}.'
+    return f'{where} only one number is left: {why}.'
 
 
 # ---- the line mode
@@ -68,10 +68,7 @@ def spoken_look(step: Step, board: Board) -> str:
 
 def spoken_look_at_square(hint: Hint, place: Place, board: Board) -> str:
     """Where to look where no step is needed."""
-    if hint.line is not None:
-        return f'Look at {line_name(hint.line, board.size, 0)}: a number has one square left there.'
-    why = 'the others stand in its row or column' if hint.grade else 'the deductions rule out all others'
-    return f'In {at(place)} only one number is left: {why}.'
+    return look_at_square(hint, board.size, f'In {at(place)}', 0)
 
 
 def spoken_step(step: Step, board: Board) -> str:
