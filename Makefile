@@ -7,14 +7,14 @@
 # make build      proves and builds both programs from the sources here, crates side by side, and leaves them as build/puzzles and build/puzzles-json; where
 #                 nothing has changed it says nothing
 # make programs   does that, and stores them in programs/linux-amd64 with their record, as far as they aren't there yet
-# make test       all that tries the programs from outside: commands, saves, objects, the board, installing, texts, scripts, and what reads the types and
-#                 the style of our own scripts; SKIPS_ALLOWED=1 lets it pass where something can't be tried
+# make test       all that tries the programs from outside: commands, saves, objects, the board, installing, texts, scripts; SKIPS_ALLOWED=1 lets it
+#                 pass where something can't be tried
 # make gate       every proof from nothing, wrong bodies, tests, stored runs, the programs from outside and under fire, and whether those in the tree are
 #                 the same bytes; SKIPS_ALLOWED=1 as above
 # make test-faults a part of it: memory, reads and writes that fail in turn
 # make test-saving a part of it: how the program saves, wherever the file lies and whoever shares it
 # make test-json  a part of it: the objects that puzzles-json writes
-# make test-tools parts of it: the board, installing, the texts for users, the scripts in another place, and how they are written
+# make test-tools parts of it: the board, installing, the texts for users, the scripts in another place; and of the gate: how they are written
 # make test-reference what saves and seeds are answered, by a second implementation
 # make test-twins  the twins of the wrong bodies, which mean what the right bodies mean, are proved; CRATES=.. for some crates
 # make test-bodies all wrong bodies are refused and all twins proved, tried together, of which the gate tries three to six of each crate; CRATES=.. for some crates;
