@@ -6,7 +6,7 @@ ghost use Rattle.named_steps.specs.Left.{IsLeft, HasNoOther};
 ghost use Rattle.named_steps.specs.Reasons.{IsByLine};
 ghost use Rattle.named_steps.specs.Passes.{Passes};
 ghost use Rattle.named_steps.specs.Inner.Takes.{Takes};
-ghost use Rattle.named_steps.specs.Inner.LineStrikes.{IsByRest, AreRestRow, IsRestQuiet};
+ghost use Rattle.named_steps.specs.Inner.LineStrikes.{IsByRest, AreRestRow, IsRestQuiet, AreLineSets};
 ghost use Rattle.named_steps.specs.declared.grade.Grade.TheVariants.{Latin};
 
 use crate::latin_strikes::alone_values;
@@ -122,4 +122,17 @@ fn but_one(all: NumberSet, some: NumberSet) -> NumberSet
     let low = all.difference(NumberSet::one(least));
     let high = all.difference(NumberSet::one(greatest));
     low.union(high)
+}
+
+/// What is left of each square of a line, as sets.
+pub(crate) fn line_sets(candidates: &Candidates, line: u8) -> [NumberSet; 9]
+    requires { line < 2 * candidates.now.size }
+    ensures { AreLineSets candidates.now line candidates.now.size result }
+{
+    let size = candidates.size();
+    let mut sets = [NumberSet::empty(); 9];
+    for k in 0..size.get() {
+        sets[k as usize] = candidates.values(line_cell(size, line, k));
+    }
+    sets
 }
