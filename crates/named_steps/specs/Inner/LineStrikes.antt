@@ -27,6 +27,12 @@ pub record AreLineSets (c : CandidatesValue) (line n : ℕ) (sets : List ℕ) : 
   pub count : length sets ≡ 9
   pub each : (k : ℕ) → k < n → IsSetOf c (line_cell c.size line k) (slice_index sets k)
 
+-- the first n sets are of the values but for which nothing is left of the line's squares
+pub record AreAloneSets (c : CandidatesValue) (line n : ℕ) (sets : List ℕ) : Type 0 where
+  pub count : length sets ≡ 9
+  pub each : (k v : ℕ) → k < n
+      → (has_number (slice_index sets k) v ≡ true) ↔ (IsPair c.size (line_cell c.size line k) v × HasNoOther c (line_cell c.size line k) v)
+
 -- the values that are left of some of a line's squares
 pub record IsUnion (w : ℕ) (c : CandidatesValue) (line squares union : ℕ) : Type 0 where
   pub all : (k v : ℕ) → has_number squares k ≡ true → IsLeft c (line_cell w line k) v → has_number union v ≡ true
