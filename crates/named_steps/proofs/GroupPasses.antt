@@ -282,6 +282,8 @@ pub group_pass : (line : ℕ) (sets : List ℕ) (several : ℕ) (a b : Candidate
     → ((k : ℕ) → (has_number several k ≡ true) ↔ ((k < a.size) × (1 < count_ones (slice_index sets k))))
     → Takes (IsBySets a.size line sets several 0) a b → Passes (IsByLine a.size) Hard (IsGroupQuiet line) a b
 group_pass line sets several a b line_is are of_several t =
+    let low : (squares k : ℕ) → squares < 2 ^ a.size → has_number squares k ≡ true → k < a.size = λ squares k below has.
+    below_from_number squares a.size k below has in
     passes_taken (IsByLine a.size) (line_less a.size) Hard (IsGroupQuiet line) (IsBySets a.size line sets several 0) a b t
     (λ cell v pair h. group_reason a line sets several cell v line_is are (λ k has. ((of_several k).0 has).0) h)
     (λ gone cell v pair h. gone cell v pair (record {
@@ -289,19 +291,19 @@ group_pass line sets several a b line_is are of_several t =
       has = λ k has. absurd (both_ways (has_number 0 k) (has_number-none k) has);
       within = λ k has.
           let s = h.several k has in
-          let set = are.each k s.0 in
+          let set = are.each k (low h.squares k h.below has) in
           inr ((of_several k).1 (
-            s.0,
-            several_counted (slice_index sets k) s.1.0 s.1.1 s.1.2 ((set s.1.0).1 (s.1.3.pair, s.1.3.may)) ((set s.1.1).1 (s.1.4.pair, s.1.4.may)),
+            low h.squares k h.below has,
+            several_counted (slice_index sets k) s.0 s.1 s.2 ((set s.0).1 (s.3.pair, s.3.may)) ((set s.1).1 (s.4.pair, s.4.may)),
           ));
       union = h.union;
       is = record {
         all = λ k v has in_set.
-            let left = (are.each k (h.several k has).0 v).0 in_set in
+            let left = (are.each k (low h.squares k h.below has) v).0 in_set in
             h.is.all k v has (record { pair = left.0; may = left.1 });
         only = λ v has.
             let k = h.is.only v has in
-            (k.0, k.1, (are.each k.0 (h.several k.0 k.1).0 v).1 (k.2.pair, k.2.may));
+            (k.0, k.1, (are.each k.0 (low h.squares k.0 h.below k.1) v).1 (k.2.pair, k.2.may));
       };
       same = h.same;
       index = h.index;

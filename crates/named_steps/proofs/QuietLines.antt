@@ -3,7 +3,7 @@ use Rattle.std.proofs.Common.{◌≡◌, ◌≢◌, ◌↔◌, ℕ, zero, suc, �
 use Rattle.std.proofs.lemmas.Bool.{both_ways, and_parts, and_from, or_left, or_right, cases_eq, cases_lt, cases_Bool, false_from_ne_true, lt-ltb, ltb-true}
 use Rattle.std.proofs.lemmas.Nat.{zero_from_ones}
 use Rattle.number_sets.specs.Sets.{has_number, IsSubset}
-use Rattle.number_sets.proofs.Members.{has_number-none, has_number-or}
+use Rattle.number_sets.proofs.Members.{has_number-none, has_number-or, below_from_numbers}
 use Rattle.number_sets.proofs.OneMore.{IsAdded, added_with, added_lacks, added_has, added_other, added_ones}
 use Rattle.latin_board.specs.Lines.{line_cell}
 use Rattle.latin_board.proofs.LatinLines.{line_cell_inside, peers_on_line}
@@ -310,13 +310,12 @@ none_left (suc n) c line squares union small line_is rest groups count inside u 
                 ])
           ]
       | inr several ↦
-          let each : (k : ℕ) → has_number squares k ≡ true → (k < c.size) × HasSeveral c (line_cell c.size line k) =
-          λ k has. (inside k has, several k (inside k has) has) in
+          let each : (k : ℕ) → has_number squares k ≡ true → HasSeveral c (line_cell c.size line k) = λ k has. several k (inside k has) has in
           elim (cases_lt (count_ones union) (count_ones squares)) [
             | inl few ↦
                 let k = some_counted squares n count (λ j has. omega (arith, inside j has, small)) in
                 let r = rest_of c line squares union k.0 small line_is inside u k.1 in
-                let x = (each k.0 k.1).1 in
+                let x = each k.0 k.1 in
                 let less = within_counts r.part union r.low r.sub in
                 none_left n c line r.fewer r.part small line_is rest groups (omega (arith, count, r.ones)) r.inside r.is (omega (arith, few, less, r.ones))
                 k.0 x.0 (inside k.0 k.1) (added_lacks r.added) x.3 (elim (cases_lt (count_ones r.part) (count_ones r.fewer)) [
@@ -327,6 +326,7 @@ none_left (suc n) c line squares union small line_is rest groups count inside u 
             | inr enough ↦ elim which [
               | inl has ↦ both_ways (may_be c (line_cell c.size line index) v) (groups (line_cell c.size line index) v left.pair (record {
                 squares = squares;
+                below = below_from_numbers squares c.size (λ j far. false_from_ne_true (has_number squares j) (λ there. omega (arith, inside j there, far)));
                 several = each;
                 union = union;
                 is = u;

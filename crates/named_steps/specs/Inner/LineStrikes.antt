@@ -1,5 +1,5 @@
 -- What the squares of a row or column strike in one another.
-use Rattle.std.specs.Prelude.{◌≡◌, ◌≢◌, ◌↔◌, ℕ, ◌<◌, ◌≤◌, ◌⊎◌, true, false, List, length, slice_index, count_ones}
+use Rattle.std.specs.Prelude.{◌≡◌, ◌≢◌, ◌↔◌, ℕ, ◌<◌, ◌≤◌, ◌^◌, ◌⊎◌, true, false, List, length, slice_index, count_ones}
 use Rattle.number_sets.specs.Sets.{has_number, IsSubset}
 use Rattle.latin_board.specs.Lines.{line_cell}
 use Rattle.trail_solver.specs.Pairs.{IsPair}
@@ -46,7 +46,8 @@ HasSeveral c cell = (u : ℕ) × (v : ℕ) × (u ≢ v) × IsLeft c cell u × Is
 -- as they are; and the value is one of these
 pub record IsByGroup (c : CandidatesValue) (line cell value : ℕ) : Type 0 where
   pub squares : ℕ
-  pub several : (k : ℕ) → has_number squares k ≡ true → (k < c.size) × HasSeveral c (line_cell c.size line k)
+  pub below : squares < 2 ^ c.size
+  pub several : (k : ℕ) → has_number squares k ≡ true → HasSeveral c (line_cell c.size line k)
   pub union : ℕ
   pub is : IsUnion c.size c line squares union
   pub same : count_ones union ≡ count_ones squares
