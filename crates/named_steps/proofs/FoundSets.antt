@@ -1,8 +1,9 @@
 -- Sets that are found together square by square, and rows of sets that are written square by square.
-use Rattle.std.proofs.Common.{◌≡◌, ◌≢◌, ◌↔◌, ℕ, ◌+◌, ◌<◌, true, not, inl, inr, ◌&&◌, ◌||◌, List, length, set, slice_index, sym, ap, ◌∙◌, subst, arith}
-use Rattle.std.proofs.lemmas.Bool.{both_ways, cases_eq, cases_lt, cases_Bool, and_parts, and_from, or_left, or_right, not_from_false}
+use Rattle.std.proofs.Common.{◌≡◌, ◌≢◌, ◌↔◌, ℕ, ◌+◌, ◌*◌, ◌<◌, ◌≤◌, ◌⊎◌, true, not, nat_le, inl, inr, ◌&&◌, ◌||◌, List, length, set, slice_index, sym, ap, ◌∙◌, subst, arith}
+use Rattle.std.proofs.lemmas.Bool.{both_ways, cases_eq, cases_lt, cases_Bool, and_parts, and_from, or_left, or_right, not_from_false, le-leb}
 use Rattle.std.proofs.lemmas.List.{get_or-set_same, get_or-set_other}
-use Rattle.number_sets.specs.Sets.{has_number}
+use Rattle.number_sets.specs.Sets.{has_number, IsShared, IsSubset}
+use Rattle.named_steps.specs.Inner.OtherSets.{AreSeen, AreStill}
 
 -- one square's set more
 pub found_next : (P : ℕ → ℕ → Type 0) (k found more next : ℕ) → ((v : ℕ) → (has_number found v ≡ true) ↔ ((j : ℕ) × (j < k) × P j v))
@@ -48,6 +49,35 @@ twice_next P k once twice more again next once_is twice_is more_is again_is next
     | inr other ↦ or_left (has_number twice v) (has_number again v) ((twice_is v).1 (h.0, h.1, h.2, omega (arith, h.3, other), h.4, h.5))
   ]),
 )
+
+-- what some sets have twice, and what is the only number of one
+pub still_sets : (sets : List ℕ) (w once twice lone placed all : ℕ) → AreSeen sets w once twice lone
+    → ((k : ℕ) → k < w → (v : ℕ) × (has_number (slice_index sets k) v ≡ true)) → (IsShared lone twice → ⊥) → IsSubset all placed
+    → ((k : ℕ) → has_number all k ≡ (nat_le 1 k && nat_le k w)) → ((n : ℕ) → has_number placed n ≡ (has_number lone n || has_number twice n))
+    → AreStill sets w
+still_sets sets w once twice lone placed all seen some disjoint sub all_is placed_is = record {
+  some = some;
+  apart = λ j k v first second other single has.
+      let there = (seen.single v).1 (j, first, single) in
+      disjoint (
+        v,
+        there,
+        (seen.several v).1 (elim (cases_lt j k) [
+          | inl before ↦ (j, k, before, second, single.has, has)
+          | inr from ↦ (k, j, omega (arith, from, other), first, has, single.has)
+        ]),
+      );
+  placed = λ v low high.
+      let in_all : has_number all v ≡ true = all_is v ∙ and_from (nat_le 1 v) (nat_le v w) (le-leb 1 v low) (le-leb v w high) in
+      let has = sub v in_all in
+      elim (cases_Bool (has_number lone v)) [
+        | inl only ↦ inl ((seen.single v).0 only)
+        | inr lacks ↦ inr ((seen.several v).0 (elim (cases_Bool (has_number twice v)) [
+          | inl is ↦ is
+          | inr absent ↦ absurd (both_ways (has_number placed v) (placed_is v ∙ ap (λ b. b || has_number twice v) lacks ∙ absent) has)
+        ]))
+      ];
+}
 
 -- what the other sets have: what is there twice, and what is there and not in this one
 pub others_have : (P : ℕ → ℕ → Type 0) (w index once twice own alone result : ℕ) → index < w

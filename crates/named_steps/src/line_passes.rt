@@ -10,7 +10,7 @@ ghost use Rattle.named_steps.specs.Inner.LineStrikes.{AreRestRow, IsRestQuiet, A
 ghost use Rattle.named_steps.specs.declared.grade.Grade.TheVariants.{Latin};
 
 use crate::latin_strikes::alone_values;
-use crate::other_sets::others;
+use crate::other_sets::{are_still, others};
 use crate::striking::strike;
 use latin_board::line_cell;
 use number_sets::NumberSet;
@@ -32,7 +32,11 @@ fn strike_line(candidates: &mut Candidates, line: u8)
     requires { line < 2 * candidates.old.size }
     ensures { Passes (IsByLine candidates.old.size) Latin (IsRestQuiet line) candidates.old candidates.new }
 {
-    let row = rest_row(candidates, line);
+    let sets = line_sets(candidates, line);
+    if are_still(&sets, candidates.size().get()) {
+        return;
+    }
+    let row = rest_row(candidates, line, &sets);
     strike_row(candidates, line, &row);
 }
 
@@ -49,13 +53,14 @@ fn strike_row(candidates: &mut Candidates, line: u8, row: &[NumberSet; 9])
 }
 
 // What the other squares of a line strike in each of them.
-fn rest_row(candidates: &Candidates, line: u8) -> [NumberSet; 9]
-    requires { line < 2 * candidates.now.size }
+fn rest_row(candidates: &Candidates, line: u8, sets: &[NumberSet; 9]) -> [NumberSet; 9]
+    requires line { line < 2 * candidates.now.size }
+    requires sets { AreLineSets candidates.now line candidates.now.size sets.now }
     ensures { AreRestRow candidates.now line candidates.now.size result }
 {
     let width = candidates.size().get();
     let all = NumberSet::up_to(width);
-    let left = others(&line_sets(candidates, line), width);
+    let left = others(sets, width);
     let lone = others(&alone_sets(candidates, line), width);
     let mut row = [NumberSet::empty(); 9];
     for k in 0..width {

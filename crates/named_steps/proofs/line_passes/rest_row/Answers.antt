@@ -18,7 +18,7 @@ loop-k-preserved c =
     let small : k < 9 = omega (arith, low, c.size.ensures.valid.largest) in
     let left = c.others-left.result in
     let lone = c.others-lone.result in
-    let left_is : AreOthers c.line_sets.result now.size now.size left = subst (λ (n : ℕ). AreOthers c.line_sets.result n n left) width c.others-left.ensures in
+    let left_is : AreOthers c.args.sets.now now.size now.size left = subst (λ (n : ℕ). AreOthers c.args.sets.now n n left) width c.others-left.ensures in
     let lone_is : AreOthers c.alone_sets.result now.size now.size lone = subst (λ (n : ℕ). AreOthers c.alone_sets.result n n lone) width c.others-lone.ensures in
     let left_k = get_or_default_zero left k c.index-left-k.result (omega (arith, small, left_is.count)) in
     let lone_k = get_or_default_zero lone k c.index-lone-k.result (omega (arith, small, lone_is.count)) in
@@ -28,9 +28,9 @@ loop-k-preserved c =
     let P : ℕ → ℕ → Type 0 = λ j set. (v : ℕ) → (has_number set v ≡ true) ↔ ((1 ≤ v) × (v ≤ now.size) × IsByRest now line j v) in
     let here : P k c.union.result = λ v.
     rest_struck now line k c.up_to-all.result (slice_index left k) c.difference-lacking.result (slice_index lone k) c.but_one.result c.union.result v
-    (subst Members width c.up_to-all.ensures.members) (left_elsewhere now line k c.line_sets.result left c.line_sets.ensures left_is low)
+    (subst Members width c.up_to-all.ensures.members) (left_elsewhere now line k c.args.sets.now left c.requires.sets left_is low)
     (subst Lacks left_k c.difference-lacking.ensures)
-    (lone_elsewhere now line k c.alone_sets.result lone c.requires c.alone_sets.ensures lone_is low) c.but_one.ensures
+    (lone_elsewhere now line k c.alone_sets.result lone c.requires.line c.alone_sets.ensures lone_is low) c.but_one.ensures
     (subst Either lone_k c.union.ensures.members) in
     record {
       count = length-set c.loop-k.row k c.union.result ∙ c.loop-k.invariant.count;
