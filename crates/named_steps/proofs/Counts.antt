@@ -1,10 +1,10 @@
 -- How many numbers sets have.
-use Rattle.std.proofs.Common.{◌≡◌, ◌≢◌, ℕ, zero, suc, ◌+◌, ◌-◌, ◌^◌, ◌⊎◌, ◌<◌, ◌≤◌, true, false, count_ones, inl, inr, refl, sym, ◌∙◌, subst, arith}
+use Rattle.std.proofs.Common.{◌≡◌, ◌≢◌, ℕ, zero, suc, ◌+◌, ◌-◌, ◌^◌, ◌⊎◌, ◌<◌, ◌≤◌, true, false, count_ones, inl, inr, sym, ◌∙◌, subst, arith}
 use Rattle.std.proofs.lemmas.Bool.{both_ways, cases_eq, cases_Bool, false_from_ne_true}
 use Rattle.std.proofs.lemmas.Nat.{ones_le_self, zero_from_ones}
 use Rattle.number_sets.specs.Sets.{has_number, IsSubset}
 use Rattle.number_sets.proofs.Members.{has_number-none, below_from_numbers, power_most, some_number}
-use Rattle.number_sets.proofs.OneMore.{IsAdded, added_without, added_lacks, added_has, added_other, added_ones}
+use Rattle.number_sets.proofs.OneMore.{IsAdded, added_without, added_lacks, added_other, added_ones}
 use Rattle.trail_solver.proofs.Pigeonholes.{pigeonhole}
 
 -- a set has no more numbers than one that has them all

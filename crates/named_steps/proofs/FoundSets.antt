@@ -1,5 +1,5 @@
 -- Sets that are found together square by square, and rows of sets that are written square by square.
-use Rattle.std.proofs.Common.{◌≡◌, ◌≢◌, ◌↔◌, ℕ, ◌+◌, ◌*◌, ◌<◌, ◌≤◌, ◌⊎◌, true, not, nat_le, inl, inr, ◌&&◌, ◌||◌, List, length, set, slice_index, sym, ap, ◌∙◌, subst, arith}
+use Rattle.std.proofs.Common.{◌≡◌, ◌≢◌, ◌↔◌, ℕ, ◌+◌, ◌<◌, true, not, nat_le, inl, inr, ◌&&◌, ◌||◌, List, length, set, slice_index, sym, ap, ◌∙◌, subst, arith}
 use Rattle.std.proofs.lemmas.Bool.{both_ways, cases_eq, cases_lt, cases_Bool, and_parts, and_from, or_left, or_right, not_from_false, le-leb}
 use Rattle.std.proofs.lemmas.List.{get_or-set_same, get_or-set_other}
 use Rattle.number_sets.specs.Sets.{has_number, IsShared, IsSubset}

@@ -1,5 +1,5 @@
 -- What groups of a line's squares strike, by the sets of what is left of these.
-use Rattle.std.proofs.Common.{Bool, ◌≡◌, ◌≢◌, ◌↔◌, ℕ, ◌+◌, ◌-◌, ◌*◌, ◌^◌, ◌⊎◌, ◌==◌, ◌<◌, ◌≤◌, true, false, not, ◌&&◌, ◌||◌, List, slice_index, count_ones, inl, inr, refl, sym, ap, ◌∙◌, subst, arith}
+use Rattle.std.proofs.Common.{Bool, ◌≡◌, ◌≢◌, ◌↔◌, ℕ, ◌+◌, ◌-◌, ◌*◌, ◌^◌, ◌⊎◌, ◌==◌, ◌<◌, true, false, not, ◌&&◌, ◌||◌, List, slice_index, count_ones, inl, inr, refl, sym, ap, ◌∙◌, subst, arith}
 use Rattle.std.proofs.lemmas.Bool.{both_ways, and_parts, and_from, or_left, or_right, cases_eq, cases_Bool, eq-eqb, eqb-true, not_from_false, false_from_ne_true}
 use Rattle.number_sets.specs.Sets.{has_number, IsSubset, IsEmpty}
 use Rattle.number_sets.proofs.Members.{has_number-none, below_from_number, same_set}
@@ -9,7 +9,7 @@ use Rattle.trail_solver.specs.Candidates.{CandidatesValue}
 use Rattle.named_steps.specs.Reasons.{IsByLine}
 use Rattle.named_steps.specs.Passes.{Passes}
 use Rattle.named_steps.specs.Inner.Takes.{Takes}
-use Rattle.named_steps.specs.Inner.LineStrikes.{AreLineSets, IsUnion, IsByGroup, IsGroupQuiet, IsUnionOf, IsBySets}
+use Rattle.named_steps.specs.Inner.LineStrikes.{AreLineSets, IsGroupQuiet, IsUnionOf, IsBySets}
 use Rattle.named_steps.proofs.Counts.{within_counts, one_less, several_counted, group_most}
 use Rattle.named_steps.proofs.LinePasses.{line_less}
 use Rattle.named_steps.proofs.Takes.{HasStruck, passes_taken, takes_both, takes_map, takes_none}
@@ -18,25 +18,7 @@ use Rattle.named_steps.specs.declared.grade.Grade.TheVariants.{Hard}
 
 -- ---- groups of some sets
 
--- the set of no numbers is of no sets
-pub none_united : (sets : List ℕ) → IsUnionOf sets 0 0
-none_united sets = record {
-  all = λ k v has in_set. absurd (both_ways (has_number 0 k) (has_number-none k) has);
-  only = λ v has. absurd (both_ways (has_number 0 v) (has_number-none v) has);
-}
-
--- two sets of the numbers of the same sets are the same
-same_union : (sets : List ℕ) (squares one other : ℕ) → IsUnionOf sets squares one → IsUnionOf sets squares other → one ≡ other
-same_union sets squares one other u w =
-    same_set one other (λ v. same_bool (has_number one v) (has_number other v)
-    (λ has. let k = u.only v has in w.all k.0 v k.1 k.2) (λ has. let k = w.only v has in u.all k.0 v k.1 k.2))
-  where
-    same_bool : (x y : Bool) → (x ≡ true → y ≡ true) → (y ≡ true → x ≡ true) → x ≡ y
-    same_bool true true f g = refl
-    same_bool true false f g = sym (f refl)
-    same_bool false true f g = g refl
-    same_bool false false f g = refl
-
+-- sets that are within one another are the same
 same_subsets : (a b : ℕ) → IsSubset a b → IsSubset b a → a ≡ b
 same_subsets a b f g = same_set a b (λ v. same_bool (has_number a v) (has_number b v) (f v) (g v))
   where
@@ -45,6 +27,11 @@ same_subsets a b f g = same_set a b (λ v. same_bool (has_number a v) (has_numbe
     same_bool true false f g = sym (f refl)
     same_bool false true f g = g refl
     same_bool false false f g = refl
+
+-- two sets of the numbers of the same sets are the same
+same_union : (sets : List ℕ) (squares one other : ℕ) → IsUnionOf sets squares one → IsUnionOf sets squares other → one ≡ other
+same_union sets squares one other u w =
+    same_subsets one other (λ v has. let k = u.only v has in w.all k.0 v k.1 k.2) (λ v has. let k = w.only v has in u.all k.0 v k.1 k.2)
 
 -- what either of two sets has
 either_has : (either one other v : ℕ) → ((n : ℕ) → has_number either n ≡ (has_number one n || has_number other n)) → has_number either v ≡ true

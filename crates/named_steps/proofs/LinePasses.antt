@@ -16,6 +16,7 @@ use Rattle.named_steps.specs.declared.reason.Reason.{Reason}
 use Rattle.named_steps.specs.declared.reason.Reason.TheVariants.{Given, Peer, Place, Bound, Stand, Clue, Sign, Set}
 use Rattle.named_steps.specs.declared.grade.Grade.TheVariants.{Latin}
 
+-- what rows and columns strike is struck from fewer candidates too
 pub line_less : (w : ℕ) → IsAntitone (IsByLine w)
 line_less w c d (Given at) cell value fewer h = absurd h
 line_less w c d (Peer by) cell value fewer h = peer_less w c d by cell value fewer h

@@ -1,5 +1,5 @@
 //! For each of some sets what the others have.
-ghost use Rattle.std.specs.Prelude.{◌≡◌, ◌↔◌, ℕ, ◌*◌, ◌<◌, ◌≤◌, true, slice_index};
+ghost use Rattle.std.specs.Prelude.{◌≡◌, ◌↔◌, ℕ, ◌<◌, ◌≤◌, true, slice_index};
 ghost use Rattle.std.specs.Bool.{OnTrue, OnFalse};
 ghost use Rattle.number_sets.specs.Sets.{has_number, IsSingle};
 ghost use Rattle.named_steps.specs.Inner.OtherSets.{AreOthers, AreSeen, AreStill};

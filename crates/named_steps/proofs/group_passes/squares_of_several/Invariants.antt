@@ -1,4 +1,4 @@
-use Rattle.std.proofs.Common.{◌≡◌, ◌↔◌, ℕ, ◌*◌, ◌<◌, true, slice_index, count_ones}
+use Rattle.std.proofs.Common.{◌≡◌, ◌↔◌, ℕ, ◌<◌, true, slice_index, count_ones}
 use Rattle.number_sets.specs.Sets.{has_number}
 use Rattle.named_steps.proofs.group_passes.squares_of_several.Given as goal
 

@@ -1,4 +1,4 @@
-use Rattle.std.proofs.Common.{◌≡◌, ◌↔◌, ℕ, ◌*◌, ◌<◌, true, slice_index, count_ones, ◌∙◌, subst}
+use Rattle.std.proofs.Common.{◌≡◌, ◌↔◌, ℕ, ◌<◌, true, slice_index, count_ones, ◌∙◌, subst}
 use Rattle.number_sets.specs.Sets.{has_number}
 use Rattle.named_steps.specs.Inner.LineStrikes.{IsBySets}
 use Rattle.named_steps.specs.Inner.Takes.{Takes}

@@ -1,4 +1,4 @@
-use Rattle.std.proofs.Common.{Bool, ℕ, true, false}
+use Rattle.std.proofs.Common.{Bool, true, false}
 use Rattle.std.specs.Bool.{OnTrue, MatchBool}
 use Rattle.number_sets.specs.Sets.{IsSubset}
 use Rattle.named_steps.specs.Inner.OtherSets.{AreStill}

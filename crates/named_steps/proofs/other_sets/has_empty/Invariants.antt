@@ -1,4 +1,4 @@
-use Rattle.std.proofs.Common.{◌≡◌, ℕ, ◌*◌, ◌<◌, true, slice_index}
+use Rattle.std.proofs.Common.{◌≡◌, ℕ, ◌<◌, true, slice_index}
 use Rattle.number_sets.specs.Sets.{has_number}
 use Rattle.named_steps.proofs.other_sets.has_empty.Given as goal
 
