@@ -10,11 +10,13 @@ pub mod GroupSets
 pub mod AloneSets
 pub mod SignSets
 pub mod Unions
+pub mod Counts
 pub mod GameSets
 pub mod RestSets
 pub mod QuietLines
 pub mod GivenPasses
 pub mod LinePasses
+pub mod GroupPasses
 pub mod ViewPasses
 pub mod SignPasses
 pub mod Rounds

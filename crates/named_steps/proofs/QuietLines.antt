@@ -1,18 +1,18 @@
 -- Where a pass over the rows and columns finds nothing, no reason of theirs strikes anything that is left.
-use Rattle.std.proofs.Common.{◌≡◌, ◌≢◌, ◌↔◌, ℕ, zero, suc, ◌+◌, ◌-◌, ◌*◌, ◌^◌, ◌<◌, ◌≤◌, true, false, nat_lt, Bool, ◌&&◌, ◌||◌, count_ones, bit_or, inl, inr, refl, sym, ap, ◌∙◌, subst, arith}
+use Rattle.std.proofs.Common.{◌≡◌, ◌≢◌, ◌↔◌, ℕ, zero, suc, ◌+◌, ◌-◌, ◌*◌, ◌^◌, ◌⊎◌, ◌<◌, ◌≤◌, true, false, nat_lt, Bool, ◌&&◌, ◌||◌, count_ones, bit_or, inl, inr, refl, sym, ap, ◌∙◌, subst, arith}
 use Rattle.std.proofs.lemmas.Bool.{both_ways, and_parts, and_from, or_left, or_right, cases_eq, cases_lt, cases_Bool, false_from_ne_true, lt-ltb, ltb-true}
+use Rattle.std.proofs.lemmas.Nat.{zero_from_ones}
 use Rattle.number_sets.specs.Sets.{has_number, IsSubset}
-use Rattle.number_sets.proofs.Members.{has_number-none, has_number-or, below_from_numbers, power_most, some_number}
-use Rattle.number_sets.proofs.OneMore.{IsAdded, added_with, added_without, added_lacks, added_has, added_other, added_ones}
+use Rattle.number_sets.proofs.Members.{has_number-none, has_number-or, below_from_numbers}
+use Rattle.number_sets.proofs.OneMore.{IsAdded, added_with, added_lacks, added_has, added_other, added_ones}
 use Rattle.latin_board.specs.Lines.{line_cell}
 use Rattle.latin_board.proofs.LatinLines.{line_cell_inside, peers_on_line}
 use Rattle.trail_solver.specs.Pairs.{IsPair}
 use Rattle.trail_solver.specs.Candidates.{CandidatesValue, may_be}
-use Rattle.trail_solver.proofs.Pigeonholes.{pigeonhole}
-use Rattle.std.proofs.lemmas.Nat.{ones_le_self}
 use Rattle.named_steps.specs.Left.{IsLeft, HasNoOther}
 use Rattle.named_steps.specs.Reasons.{IsByPeer, IsByPlace, IsBySet}
-use Rattle.named_steps.specs.Inner.LineStrikes.{IsRestQuiet, IsUnion, IsGroupQuiet}
+use Rattle.named_steps.specs.Inner.LineStrikes.{IsRestQuiet, IsUnion, HasSeveral, IsGroupQuiet}
+use Rattle.named_steps.proofs.Counts.{within_counts, some_counted, one_less, was_other}
 use Rattle.named_steps.proofs.Unions.{no_more}
 
 -- what isn't left is gone
@@ -157,60 +157,189 @@ below_sixteen : (c : CandidatesValue) (line squares union : ℕ) → c.size ≤ 
     → (v : ℕ) → has_number union v ≡ true → v < 16
 below_sixteen c line squares union small u v has = let left = (u.only v has).2 in omega (arith, left.pair.high, small)
 
-within_counts : (few many : ℕ) → ((v : ℕ) → has_number few v ≡ true → v < 16) → IsSubset few many → count_ones few ≤ count_ones many
-within_counts few many low sub = pigeonhole few many (λ i. i) (record { small = low; lands = sub; apart = λ i j first second e. e })
+-- at most one value is left of the square
+abbrev IsLone : CandidatesValue → ℕ → Type 0
+IsLone c cell = (u v : ℕ) → IsLeft c cell u → IsLeft c cell v → u ≡ v
 
-some_square : (squares n : ℕ) → count_ones squares ≡ suc n → ((k : ℕ) → has_number squares k ≡ true → k < 16)
-    → (k : ℕ) × (has_number squares k ≡ true)
-some_square squares n count small =
-    some_number squares (λ e. omega (arith, count, ones_le_self squares))
-    (below_from_numbers squares 16 (λ j far. false_from_ne_true (has_number squares j) (λ h. omega (arith, small j h))))
+-- of a square at most one value is left, or several are
+lone_or_several : (c : CandidatesValue) (cell : ℕ) → c.size ≤ 9 → cell < c.size * c.size → IsLone c cell ⊎ HasSeveral c cell
+lone_or_several c cell small inside =
+    let s = left_set c cell small inside in
+    let low : (v : ℕ) → has_number s.0 v ≡ true → v < 16 = λ v has. omega (arith, ((s.1 v).0 has).pair.high, small) in
+    elim (cases_eq (count_ones s.0) 0) [
+      | inl none ↦
+          let empty : s.0 ≡ 0 = zero_from_ones s.0 none in
+          inl (λ u v first second. absurd (both_ways (has_number s.0 u) (subst (λ (n : ℕ). has_number n u ≡ false) (sym empty) (has_number-none u)) ((s.1 u).1 first)))
+      | inr some ↦
+          let one : count_ones s.0 ≡ suc (count_ones s.0 - 1) = omega (arith, some) in
+          let u = some_counted s.0 (count_ones s.0 - 1) one low in
+          let a = one_less s.0 u.0 u.1 in
+          let fewer = s.0 - 2 ^ u.0 in
+          elim (cases_eq (count_ones fewer) 0) [
+            | inl none ↦
+                let empty : fewer ≡ 0 = zero_from_ones fewer none in
+                let only : (v : ℕ) → IsLeft c cell v → v ≡ u.0 = λ v left. elim (cases_eq v u.0) [
+                  | inl same ↦ same
+                  | inr other ↦ absurd (both_ways (has_number fewer v) (subst (λ (n : ℕ). has_number n v ≡ false) (sym empty) (has_number-none v))
+                      (sym (added_other a v other) ∙ (s.1 v).1 left))
+                ] in
+                inl (λ v w first second. only v first ∙ sym (only w second))
+            | inr more ↦
+                let two : count_ones fewer ≡ suc (count_ones fewer - 1) = omega (arith, more) in
+                let v = some_counted fewer (count_ones fewer - 1) two (λ j has. low j (was_other fewer u.0 s.0 j a has).1) in
+                let was = was_other fewer u.0 s.0 v.0 a v.1 in
+                inr (v.0, u.0, was.0, (s.1 v.0).0 was.1, (s.1 u.0).0 u.1)
+          ]
+    ]
 
--- where fewer values are left of some squares than they are, nothing is left of the line's other squares
-few_empty : (n : ℕ) (c : CandidatesValue) (line squares union : ℕ) → c.size ≤ 9 → line < 2 * c.size → IsRestQuiet line c → IsGroupQuiet line c
-    → count_ones squares ≡ n → ((k : ℕ) → has_number squares k ≡ true → k < c.size) → IsUnion c.size c line squares union
-    → count_ones union < count_ones squares → (index v : ℕ) → index < c.size → has_number squares index ≡ false
-    → IsLeft c (line_cell c.size line index) v → ⊥
-few_empty zero c line squares union small line_is rest groups count inside u few index v index_is outside left = omega (arith, count, few)
-few_empty (suc n) c line squares union small line_is rest groups count inside u few index v index_is outside left =
-    let k = some_square squares n count (λ j has. omega (arith, inside j has, small)) in
-    let fewer = squares - 2 ^ k.0 in
-    let a : IsAdded fewer k.0 squares = added_without fewer k.0 squares k.1 (omega (arith, power_most squares k.0 k.1)) in
-    let was : (j : ℕ) → has_number fewer j ≡ true → has_number squares j ≡ true = λ j has.
-    elim (cases_eq j k.0) [
-      | inl same ↦ absurd (both_ways (has_number fewer j) (subst (λ (i : ℕ). has_number fewer i ≡ false) (sym same) (added_lacks a)) has)
-      | inr other ↦ added_other a j other ∙ has
+-- of one of the first of some squares at most one value is left, or several are of each
+lone_among : (c : CandidatesValue) (line squares n : ℕ) → c.size ≤ 9 → line < 2 * c.size → n ≤ c.size
+    → ((k : ℕ) × (k < c.size) × (has_number squares k ≡ true) × IsLone c (line_cell c.size line k))
+    ⊎ ((k : ℕ) → k < n → has_number squares k ≡ true → HasSeveral c (line_cell c.size line k))
+lone_among c line squares zero small line_is fits = inr (λ k less has. absurd (omega (arith, less)))
+lone_among c line squares (suc n) small line_is fits =
+    let low : n < c.size = omega (arith, fits) in
+    elim (lone_among c line squares n small line_is (omega (arith, fits))) [
+      | inl found ↦ inl found
+      | inr several ↦ elim (lone_or_several c (line_cell c.size line n) small (line_cell_inside c.size line n line_is low)) [
+        | inl lone ↦ elim (cases_Bool (has_number squares n)) [
+          | inl in_it ↦ inl (n, low, in_it, lone)
+          | inr out ↦ inr (λ k less has. elim (cases_eq k n) [
+            | inl same ↦ absurd (both_ways (has_number squares k) (subst (λ (i : ℕ). has_number squares i ≡ false) (sym same) out) has)
+            | inr other ↦ several k (omega (arith, less, other)) has
+          ])
+        ]
+        | inr here ↦ inr (λ k less has. elim (cases_eq k n) [
+          | inl same ↦ subst (λ (i : ℕ). HasSeveral c (line_cell c.size line i)) (sym same) here
+          | inr other ↦ several k (omega (arith, less, other)) has
+        ])
+      ]
+    ]
+
+-- of no other square of a quiet line a value is left that is the only one of a square
+lone_quiet : (c : CandidatesValue) (line k index v : ℕ) → IsRestQuiet line c → k < c.size → index < c.size → index ≢ k
+    → HasNoOther c (line_cell c.size line k) v → IsLeft c (line_cell c.size line index) v → ⊥
+lone_quiet c line k index v rest k_is index_is apart alone left =
+    both_ways (may_be c (line_cell c.size line index) v)
+    (rest index v index_is left.pair (inl (k, k_is, λ e. apart (sym e), alone))) left.may
+
+-- a group without one of its squares, and the union of what is left of the others
+record IsRest (c : CandidatesValue) (line squares union k : ℕ) : Type 0 where
+  fewer : ℕ
+  added : IsAdded fewer k squares
+  inside : (j : ℕ) → has_number fewer j ≡ true → j < c.size
+  part : ℕ
+  is : IsUnion c.size c line fewer part
+  sub : IsSubset part union
+  low : (v : ℕ) → has_number part v ≡ true → v < 16
+  ones : count_ones squares ≡ count_ones fewer + 1
+
+rest_of : (c : CandidatesValue) (line squares union k : ℕ) → c.size ≤ 9 → line < 2 * c.size → ((j : ℕ) → has_number squares j ≡ true → j < c.size)
+    → IsUnion c.size c line squares union → has_number squares k ≡ true → IsRest c line squares union k
+rest_of c line squares union k small line_is inside u has =
+    let a = one_less squares k has in
+    let fewer = squares - 2 ^ k in
+    let in_line : (j : ℕ) → has_number fewer j ≡ true → j < c.size = λ j there. inside j (was_other fewer k squares j a there).1 in
+    let w = union_of_group c line fewer small line_is in_line in
+    record {
+      fewer = fewer;
+      added = a;
+      inside = in_line;
+      part = w.0;
+      is = w.1;
+      sub = λ x there. let j = w.1.only x there in u.all j.0 x (was_other fewer k squares j.0 a j.1).1 j.2;
+      low = below_sixteen c line fewer w.0 small w.1;
+      ones = added_ones a;
+    }
+
+-- what is left of a square of the group and of none of the others makes the union greater
+one_greater : (c : CandidatesValue) (line squares union k v : ℕ) (r : IsRest c line squares union k) → c.size ≤ 9 → IsUnion c.size c line squares union
+    → has_number union v ≡ true → has_number r.part v ≡ false → count_ones r.part + 1 ≤ count_ones union
+one_greater c line squares union k v r small u has lacks =
+    let more = r.part + 2 ^ v in
+    let a = added_with r.part v more lacks refl in
+    let low = below_sixteen c line squares union small u in
+    let sub : IsSubset more union = λ x there. elim (cases_eq x v) [
+      | inl same ↦ subst (λ (i : ℕ). has_number union i ≡ true) (sym same) has
+      | inr other ↦ r.sub x (sym (added_other a x other) ∙ there)
     ] in
-    let apart : index ≢ k.0 = λ same. both_ways (has_number squares index) outside (subst (λ (i : ℕ). has_number squares i ≡ true) (sym same) k.1) in
-    let inside' : (j : ℕ) → has_number fewer j ≡ true → j < c.size = λ j has. inside j (was j has) in
-    let w = union_of_group c line fewer small line_is inside' in
-    let part : IsSubset w.0 union = λ x has. let there = w.1.only x has in u.all there.0 x (was there.0 there.1) there.2 in
-    let part_count = within_counts w.0 union (below_sixteen c line fewer w.0 small w.1) part in
-    let ones = added_ones a in
-    elim (cases_lt (count_ones w.0) (count_ones fewer)) [
-      | inl less ↦ few_empty n c line fewer w.0 small line_is rest groups (omega (arith, count, ones)) inside' w.1 less index v index_is
-          (sym (added_other a index apart) ∙ outside) left
-      | inr more ↦
-          let tight : count_ones w.0 ≡ count_ones fewer = omega (arith, more, part_count, few, ones) in
-          let same : count_ones union ≡ count_ones w.0 = omega (arith, more, part_count, few, ones) in
-          let empty : (x : ℕ) → IsLeft c (line_cell c.size line k.0) x → ⊥ = λ x there.
-          let of_union : has_number union x ≡ true = u.all k.0 x k.1 there in
-          let low : x < 16 = below_sixteen c line squares union small u x of_union in
-          let of_part : has_number w.0 x ≡ true = no_more w.0 union x (below_sixteen c line fewer w.0 small w.1) part same low of_union in
-          both_ways (may_be c (line_cell c.size line k.0) x) (groups (line_cell c.size line k.0) x there.pair (record {
-            squares = fewer;
-            below = below_from_numbers fewer c.size (λ j far. false_from_ne_true (has_number fewer j) (λ has. omega (arith, inside' j has, far)));
-            union = w.0;
-            is = w.1;
-            same = tight;
-            index = k.0;
-            index_is = inside k.0 k.1;
-            outside = added_lacks a;
-            here = refl;
-            one = of_part;
-          })) there.may in
-          both_ways (may_be c (line_cell c.size line index) v)
-          (rest index v index_is left.pair (inl (k.0, inside k.0 k.1, λ e. apart (sym e), λ other there. absurd (empty other there)))) left.may
+    omega (arith, within_counts more union (λ x there. low x (sub x there)) sub, added_ones a)
+
+-- where no more values are left of some squares of a quiet line than they are, none of these is left elsewhere in the line; and nothing
+-- at all is where they are fewer
+none_left : (n : ℕ) (c : CandidatesValue) (line squares union : ℕ) → c.size ≤ 9 → line < 2 * c.size → IsRestQuiet line c → IsGroupQuiet line c
+    → count_ones squares ≡ n → ((k : ℕ) → has_number squares k ≡ true → k < c.size) → IsUnion c.size c line squares union
+    → count_ones union ≤ count_ones squares → (index v : ℕ) → index < c.size → has_number squares index ≡ false
+    → IsLeft c (line_cell c.size line index) v → (has_number union v ≡ true) ⊎ (count_ones union < count_ones squares) → ⊥
+none_left zero c line squares union small line_is rest groups count inside u most index v index_is outside left which = elim which [
+  | inl has ↦ let k = u.only v has in omega (arith, added_ones (one_less squares k.0 k.1), count)
+  | inr few ↦ omega (arith, count, few)
+]
+none_left (suc n) c line squares union small line_is rest groups count inside u most index v index_is outside left which =
+    elim (lone_among c line squares c.size small line_is (omega arith)) [
+      | inl k ↦
+          let r = rest_of c line squares union k.0 small line_is inside u k.2 in
+          let apart : index ≢ k.0 = λ same. both_ways (has_number squares index) outside (subst (λ (i : ℕ). has_number squares i ≡ true) (sym same) k.2) in
+          let some = left_set c (line_cell c.size line k.0) small (line_cell_inside c.size line k.0 line_is k.1) in
+          elim (cases_eq (count_ones some.0) 0) [
+            | inl none ↦
+                let empty : some.0 ≡ 0 = zero_from_ones some.0 none in
+                lone_quiet c line k.0 index v rest k.1 index_is apart
+                (λ other there. absurd (both_ways (has_number some.0 other)
+                (subst (λ (m : ℕ). has_number m other ≡ false) (sym empty) (has_number-none other)) ((some.1 other).1 there))) left
+            | inr counted ↦
+                let one : count_ones some.0 ≡ suc (count_ones some.0 - 1) = omega (arith, counted) in
+                let x = some_counted some.0 (count_ones some.0 - 1) one (λ j has. omega (arith, ((some.1 j).0 has).pair.high, small)) in
+                let here = (some.1 x.0).0 x.1 in
+                let alone : HasNoOther c (line_cell c.size line k.0) x.0 = λ other there. k.3 other x.0 there here in
+                let lacks : has_number r.part x.0 ≡ false = false_from_ne_true (has_number r.part x.0) (λ has.
+                let j = r.is.only x.0 has in
+                lone_quiet c line k.0 j.0 x.0 rest k.1 (r.inside j.0 j.1) (was_other r.fewer k.0 squares j.0 r.added j.1).0 alone j.2) in
+                let fewer = one_greater c line squares union k.0 x.0 r small u (u.all k.0 x.0 k.2 here) lacks in
+                none_left n c line r.fewer r.part small line_is rest groups (omega (arith, count, r.ones)) r.inside r.is (omega (arith, most, fewer, r.ones))
+                index v index_is (sym (added_other r.added index apart) ∙ outside) left (elim which [
+                  | inl has ↦
+                      let j = u.only v has in
+                      elim (cases_eq j.0 k.0) [
+                        | inl same ↦
+                            let there : IsLeft c (line_cell c.size line k.0) v = subst (λ (i : ℕ). IsLeft c (line_cell c.size line i) v) same j.2 in
+                            absurd (lone_quiet c line k.0 index v rest k.1 index_is apart (λ other o. k.3 other v o there) left)
+                        | inr other ↦ inl (r.is.all j.0 v (sym (added_other r.added j.0 other) ∙ j.1) j.2)
+                      ]
+                  | inr few ↦ inr (omega (arith, few, fewer, r.ones))
+                ])
+          ]
+      | inr several ↦
+          let each : (k : ℕ) → has_number squares k ≡ true → HasSeveral c (line_cell c.size line k) = λ k has. several k (inside k has) has in
+          elim (cases_lt (count_ones union) (count_ones squares)) [
+            | inl few ↦
+                let k = some_counted squares n count (λ j has. omega (arith, inside j has, small)) in
+                let r = rest_of c line squares union k.0 small line_is inside u k.1 in
+                let x = each k.0 k.1 in
+                let less = within_counts r.part union r.low r.sub in
+                none_left n c line r.fewer r.part small line_is rest groups (omega (arith, count, r.ones)) r.inside r.is (omega (arith, few, less, r.ones))
+                k.0 x.0 (inside k.0 k.1) (added_lacks r.added) x.3 (elim (cases_lt (count_ones r.part) (count_ones r.fewer)) [
+                  | inl fewer ↦ inr fewer
+                  | inr more ↦ inl (no_more r.part union x.0 r.low r.sub (omega (arith, more, less, few, r.ones))
+                      (omega (arith, x.3.pair.high, small)) (u.all k.0 x.0 k.1 x.3))
+                ])
+            | inr enough ↦ elim which [
+              | inl has ↦ both_ways (may_be c (line_cell c.size line index) v) (groups (line_cell c.size line index) v left.pair (record {
+                squares = squares;
+                below = below_from_numbers squares c.size (λ j far. false_from_ne_true (has_number squares j) (λ there. omega (arith, inside j there, far)));
+                several = each;
+                union = union;
+                is = u;
+                same = omega (arith, most, enough);
+                index = index;
+                index_is = index_is;
+                outside = outside;
+                here = refl;
+                one = has;
+              })) left.may
+              | inr few ↦ omega (arith, few, enough)
+            ]
+          ]
     ]
 
 pub set_quiet : (c : CandidatesValue) (line squares values cell v : ℕ) → c.size ≤ 9 → ((line : ℕ) → line < 2 * c.size → IsRestQuiet line c)
@@ -221,23 +350,10 @@ set_quiet c line squares values cell v small rest groups pair h =
     let part : IsSubset u.0 values = λ x has. let k = u.1.only x has in h.among k.0 x k.1 k.2 in
     let low = below_sixteen c line squares u.0 small u.1 in
     let count = within_counts u.0 values low part in
-    elim (cases_lt (count_ones u.0) (count_ones squares)) [
-      | inl few ↦
-          subst (λ (n : ℕ). may_be c n v ≡ false) (sym h.here)
-          (gone_from c (line_cell c.size line h.index) v there
-          (few_empty (count_ones squares) c line squares u.0 small h.line_is (rest line h.line_is) (groups line h.line_is) refl h.inside u.1 few h.index v h.index_is h.outside))
-      | inr enough ↦
-          let same : count_ones values ≡ count_ones u.0 = omega (arith, enough, count, h.same) in
-          groups line h.line_is cell v pair (record {
-            squares = squares;
-            below = below_from_numbers squares c.size (λ j far. false_from_ne_true (has_number squares j) (λ has. omega (arith, h.inside j has, far)));
-            union = u.0;
-            is = u.1;
-            same = omega (arith, same, h.same);
-            index = h.index;
-            index_is = h.index_is;
-            outside = h.outside;
-            here = h.here;
-            one = no_more u.0 values v low part same (omega (arith, pair.high, small)) h.one;
-          })
-    ]
+    subst (λ (n : ℕ). may_be c n v ≡ false) (sym h.here)
+    (gone_from c (line_cell c.size line h.index) v there (λ left.
+    none_left (count_ones squares) c line squares u.0 small h.line_is (rest line h.line_is) (groups line h.line_is) refl h.inside u.1
+    (omega (arith, count, h.same)) h.index v h.index_is h.outside left (elim (cases_lt (count_ones u.0) (count_ones squares)) [
+      | inl few ↦ inr few
+      | inr enough ↦ inl (no_more u.0 values v low part (omega (arith, enough, count, h.same)) (omega (arith, pair.high, small)) h.one)
+    ])))

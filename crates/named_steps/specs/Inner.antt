@@ -3,5 +3,6 @@ pub mod Groups
 pub mod Rows
 pub mod Takes
 pub mod LineStrikes
+pub mod OtherSets
 pub mod SignStrikes
 pub mod Fills

@@ -22,6 +22,7 @@ mod grade;
 mod group_passes;
 mod latin_strikes;
 mod line_passes;
+mod other_sets;
 mod reason;
 mod set_strikes;
 mod settling;

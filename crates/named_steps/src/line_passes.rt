@@ -6,10 +6,11 @@ ghost use Rattle.named_steps.specs.Left.{IsLeft, HasNoOther};
 ghost use Rattle.named_steps.specs.Reasons.{IsByLine};
 ghost use Rattle.named_steps.specs.Passes.{Passes};
 ghost use Rattle.named_steps.specs.Inner.Takes.{Takes};
-ghost use Rattle.named_steps.specs.Inner.LineStrikes.{IsByRest, AreRestRow, IsRestQuiet};
+ghost use Rattle.named_steps.specs.Inner.LineStrikes.{AreRestRow, IsRestQuiet, AreLineSets, AreAloneSets};
 ghost use Rattle.named_steps.specs.declared.grade.Grade.TheVariants.{Latin};
 
 use crate::latin_strikes::alone_values;
+use crate::other_sets::{are_still, others};
 use crate::striking::strike;
 use latin_board::line_cell;
 use number_sets::NumberSet;
@@ -31,7 +32,11 @@ fn strike_line(candidates: &mut Candidates, line: u8)
     requires { line < 2 * candidates.old.size }
     ensures { Passes (IsByLine candidates.old.size) Latin (IsRestQuiet line) candidates.old candidates.new }
 {
-    let row = rest_row(candidates, line);
+    let sets = line_sets(candidates, line);
+    if are_still(&sets, candidates.size().get()) {
+        return;
+    }
+    let row = rest_row(candidates, line, &sets);
     strike_row(candidates, line, &row);
 }
 
@@ -48,64 +53,34 @@ fn strike_row(candidates: &mut Candidates, line: u8, row: &[NumberSet; 9])
 }
 
 // What the other squares of a line strike in each of them.
-fn rest_row(candidates: &Candidates, line: u8) -> [NumberSet; 9]
-    requires { line < 2 * candidates.now.size }
+fn rest_row(candidates: &Candidates, line: u8, sets: &[NumberSet; 9]) -> [NumberSet; 9]
+    requires line { line < 2 * candidates.now.size }
+    requires sets { AreLineSets candidates.now line candidates.now.size sets.now }
     ensures { AreRestRow candidates.now line candidates.now.size result }
 {
+    let width = candidates.size().get();
+    let all = NumberSet::up_to(width);
+    let left = others(sets, width);
+    let lone = others(&alone_sets(candidates, line), width);
     let mut row = [NumberSet::empty(); 9];
-    for k in 0..candidates.size().get() {
-        row[k as usize] = rest_strikes(candidates, line, k);
+    for k in 0..width {
+        let lacking = all.difference(left[k as usize]);
+        row[k as usize] = lone[k as usize].union(but_one(all, lacking));
     }
     row
 }
 
-// What the other squares of a line strike in one.
-fn rest_strikes(candidates: &Candidates, line: u8, index: u8) -> NumberSet
-    requires line { line < 2 * candidates.now.size }
-    requires index { index < candidates.now.size }
-    ensures { (v : ℕ) → (has_number result v ≡ true)
-        ↔ ((1 ≤ v) × (v ≤ candidates.now.size) × IsByRest candidates.now line index v) }
-{
-    let all = NumberSet::up_to(candidates.size().get());
-    let left = left_elsewhere(candidates, line, index);
-    let lacking = all.difference(left);
-    let lone = lone_elsewhere(candidates, line, index);
-    let beside = but_one(all, lacking);
-    lone.union(beside)
-}
-
-// What is left of the other squares of a line.
-fn left_elsewhere(candidates: &Candidates, line: u8, index: u8) -> NumberSet
+// The values but for which nothing is left of each square of a line.
+fn alone_sets(candidates: &Candidates, line: u8) -> [NumberSet; 9]
     requires { line < 2 * candidates.now.size }
-    ensures { (v : ℕ) → (has_number result v ≡ true)
-        ↔ ((k : ℕ) × (k < candidates.now.size) × (k ≢ index) × IsLeft candidates.now (line_cell candidates.now.size line k) v) }
+    ensures { AreAloneSets candidates.now line candidates.now.size result }
 {
     let size = candidates.size();
-    let mut found = NumberSet::empty();
+    let mut sets = [NumberSet::empty(); 9];
     for k in 0..size.get() {
-        if k != index {
-            found = found.union(candidates.values(line_cell(size, line, k)));
-        }
+        sets[k as usize] = alone_values(candidates, line_cell(size, line, k));
     }
-    found
-}
-
-// The values but for which nothing is left of some other square of a line.
-fn lone_elsewhere(candidates: &Candidates, line: u8, index: u8) -> NumberSet
-    requires { line < 2 * candidates.now.size }
-    ensures { (v : ℕ) → (has_number result v ≡ true)
-        ↔ ((1 ≤ v) × (v ≤ candidates.now.size)
-        × ((k : ℕ) × (k < candidates.now.size)
-        × ((k ≢ index) × HasNoOther candidates.now (line_cell candidates.now.size line k) v))) }
-{
-    let size = candidates.size();
-    let mut found = NumberSet::empty();
-    for k in 0..size.get() {
-        if k != index {
-            found = found.union(alone_values(candidates, line_cell(size, line, k)));
-        }
-    }
-    found
+    sets
 }
 
 // The numbers of the first set beside some number of the second.
@@ -122,4 +97,17 @@ fn but_one(all: NumberSet, some: NumberSet) -> NumberSet
     let low = all.difference(NumberSet::one(least));
     let high = all.difference(NumberSet::one(greatest));
     low.union(high)
+}
+
+/// What is left of each square of a line, as sets.
+pub(crate) fn line_sets(candidates: &Candidates, line: u8) -> [NumberSet; 9]
+    requires { line < 2 * candidates.now.size }
+    ensures { AreLineSets candidates.now line candidates.now.size result }
+{
+    let size = candidates.size();
+    let mut sets = [NumberSet::empty(); 9];
+    for k in 0..size.get() {
+        sets[k as usize] = candidates.values(line_cell(size, line, k));
+    }
+    sets
 }

@@ -1,6 +1,6 @@
 -- What the squares of a row or column strike in one another.
 use Rattle.std.specs.Prelude.{◌≡◌, ◌≢◌, ◌↔◌, ℕ, ◌<◌, ◌≤◌, ◌^◌, ◌⊎◌, true, false, List, length, slice_index, count_ones}
-use Rattle.number_sets.specs.Sets.{has_number}
+use Rattle.number_sets.specs.Sets.{has_number, IsSubset}
 use Rattle.latin_board.specs.Lines.{line_cell}
 use Rattle.trail_solver.specs.Pairs.{IsPair}
 use Rattle.trail_solver.specs.Candidates.{CandidatesValue, IsSetOf, may_be}
@@ -27,16 +27,27 @@ pub record AreLineSets (c : CandidatesValue) (line n : ℕ) (sets : List ℕ) : 
   pub count : length sets ≡ 9
   pub each : (k : ℕ) → k < n → IsSetOf c (line_cell c.size line k) (slice_index sets k)
 
+-- the first n sets are of the values but for which nothing is left of the line's squares
+pub record AreAloneSets (c : CandidatesValue) (line n : ℕ) (sets : List ℕ) : Type 0 where
+  pub count : length sets ≡ 9
+  pub each : (k v : ℕ) → k < n
+      → (has_number (slice_index sets k) v ≡ true) ↔ (IsPair c.size (line_cell c.size line k) v × HasNoOther c (line_cell c.size line k) v)
+
 -- the values that are left of some of a line's squares
 pub record IsUnion (w : ℕ) (c : CandidatesValue) (line squares union : ℕ) : Type 0 where
   pub all : (k v : ℕ) → has_number squares k ≡ true → IsLeft c (line_cell w line k) v → has_number union v ≡ true
   pub only : (v : ℕ) → has_number union v ≡ true → (k : ℕ) × (has_number squares k ≡ true) × IsLeft c (line_cell w line k) v
 
--- the square is another one of the line than those of a group below the limit that have as many values left as they are, and the
--- value is one of these
-pub record IsByGroup (c : CandidatesValue) (line limit cell value : ℕ) : Type 0 where
+-- two values are left of the square, or more
+abbrev pub HasSeveral : CandidatesValue → ℕ → Type 0
+HasSeveral c cell = (u : ℕ) × (v : ℕ) × (u ≢ v) × IsLeft c cell u × IsLeft c cell v
+
+-- the square is another one of the line than those of a group, of each of which several values are left, and of all together as many
+-- as they are; and the value is one of these
+pub record IsByGroup (c : CandidatesValue) (line cell value : ℕ) : Type 0 where
   pub squares : ℕ
-  pub below : squares < limit
+  pub below : squares < 2 ^ c.size
+  pub several : (k : ℕ) → has_number squares k ≡ true → HasSeveral c (line_cell c.size line k)
   pub union : ℕ
   pub is : IsUnion c.size c line squares union
   pub same : count_ones union ≡ count_ones squares
@@ -48,5 +59,24 @@ pub record IsByGroup (c : CandidatesValue) (line limit cell value : ℕ) : Type 
 
 -- none of that is left
 abbrev pub IsGroupQuiet : ℕ → CandidatesValue → Type 0
-IsGroupQuiet line c =
-    (cell value : ℕ) → IsPair c.size cell value → IsByGroup c line (2 ^ c.size) cell value → may_be c cell value ≡ false
+IsGroupQuiet line c = (cell value : ℕ) → IsPair c.size cell value → IsByGroup c line cell value → may_be c cell value ≡ false
+
+-- the numbers of the sets at some places
+pub record IsUnionOf (sets : List ℕ) (squares union : ℕ) : Type 0 where
+  pub all : (k v : ℕ) → has_number squares k ≡ true → has_number (slice_index sets k) v ≡ true → has_number union v ≡ true
+  pub only : (v : ℕ) → has_number union v ≡ true → (k : ℕ) × (has_number squares k ≡ true) × (has_number (slice_index sets k) v ≡ true)
+
+-- the square is another one of the line than those of a group, whose sets have as many numbers together as they are, and the value
+-- is one of these; in the group are the squares, and beside them some of the further ones
+pub record IsBySets (w line : ℕ) (sets : List ℕ) (further squares cell value : ℕ) : Type 0 where
+  pub group : ℕ
+  pub has : IsSubset squares group
+  pub within : (k : ℕ) → has_number group k ≡ true → (has_number squares k ≡ true) ⊎ (has_number further k ≡ true)
+  pub union : ℕ
+  pub is : IsUnionOf sets group union
+  pub same : count_ones union ≡ count_ones group
+  pub index : ℕ
+  pub index_is : index < w
+  pub outside : has_number group index ≡ false
+  pub here : cell ≡ line_cell w line index
+  pub one : has_number union value ≡ true

@@ -1,9 +1,0 @@
-use Rattle.std.proofs.Common.{◌≡◌, ◌≢◌, ◌↔◌, ℕ, ◌<◌, true}
-use Rattle.number_sets.specs.Sets.{has_number}
-use Rattle.latin_board.specs.Lines.{line_cell}
-use Rattle.named_steps.specs.Left.{IsLeft}
-use Rattle.named_steps.proofs.line_passes.left_elsewhere.Given as goal
-
-abbrev pub invariant-loop-k : goal.invariant-loop-k
-invariant-loop-k l =
-    (v : ℕ) → (has_number l.found v ≡ true) ↔ ((j : ℕ) × (j < l.k) × (j ≢ l.index) × IsLeft l.candidates (line_cell l.candidates.size l.line j) v)
