@@ -77,6 +77,7 @@ follows_higher Struck lower higher has g f = record {
   alone = f.alone;
 }
 
+-- what follows by a grade follows by the next
 pub grades_nested : (Struck : CandidatesValue → Reason → ℕ → ℕ → Type 0) (g : GridValue)
     → (Follows Struck Latin g → Follows Struck Easy g) × (Follows Struck Easy g → Follows Struck Hard g)
 grades_nested Struck g = (follows_higher Struck Latin Easy easy_has g, follows_higher Struck Easy Hard hard_has g)
