@@ -53,10 +53,10 @@ words_taken : (size grade seed : List ℕ) (words : FairWords (List ℕ)) → wo
     → AreWords words (size ++ space ∷ (grade ++ space ∷ seed))
 words_taken size grade seed words read =
     let (tests, is) = cond_some (is_word size && is_word grade && is_word seed) _ words read in
-    let first = both_true (is_word size) _ tests in
-    let later = both_true (is_word grade) _ first.1 in
+    let all = both_true (is_word size && is_word grade) (is_word seed) tests in
+    let two = both_true (is_word size) (is_word grade) all.0 in
     subst (λ (w : FairWords (List ℕ)). AreWords w (size ++ space ∷ (grade ++ space ∷ seed))) is
-    (refl, word_taken size first.0, word_taken grade later.0, word_taken seed later.1)
+    (refl, word_taken size two.0, word_taken grade two.1, word_taken seed all.1)
 
 three_taken : (text : List ℕ) (words : FairWords (List ℕ)) → three_at text ≡ Some words → AreWords words text
 three_taken text words read =
@@ -81,7 +81,7 @@ line_taken (Some text) words read =
     let (rest, behind, three) = then_taken three_at (rest_behind (codes "fair ") text) words read in
     let (is, size, grade, seed) = three_taken rest words three in
     record {
-      line = ap Some (behind_taken (codes "fair ") text rest behind ∙ ap (λ l. codes "fair " ++ l) is);
+      spelled = ap Some (behind_taken (codes "fair ") text rest behind ∙ ap (λ l. codes "fair " ++ l) is);
       size = size;
       grade = grade;
       seed = seed;
@@ -90,7 +90,7 @@ line_taken (Some text) words read =
 pub line_again : (line : Line) (words : FairWords (List ℕ)) → IsFairLine words line → fair_at line ≡ Some words
 line_again line words is =
     let rest = words.size ++ space ∷ (words.grade ++ space ∷ words.seed) in
-    ap fair_at is.line ∙ three_again rest words (refl, is.size, is.grade, is.seed)
+    ap fair_at is.spelled ∙ three_again rest words (refl, is.size, is.grade, is.seed)
 
 -- what is read is a line's words
 pub fair_taken : {X : Type 0} (view : FairWords X → FairWords (List ℕ)) (line : Line) (read : Option (FairWords X))

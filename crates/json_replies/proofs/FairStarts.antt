@@ -88,6 +88,6 @@ module _ {P : Type 0} (f : GameFacts P) (b : BoardFacts P) (steps : HasSteps f.r
 
   pub fair_lines_begin : FairLinesBegin f b
   fair_lines_begin old new line words bytes is reply =
-      let none : further_at line ≡ None = ap further_at is.line in
+      let none : further_at line ≡ None = ap further_at is.spelled in
       let (answer, gives, leaves, told) = subst (λ w. TellsLine f b old line w bytes new) none reply.told in
       line_begins old new line words answer is gives leaves

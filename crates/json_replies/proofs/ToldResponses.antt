@@ -1,5 +1,5 @@
 -- What is said to a line by what comes of it.
-use Rattle.std.proofs.Common.{◌≡◌, ℕ, Bool, false, true, List, [], codes, ◌++◌, ◌∷◌, Option, Some, None, Result, Ok, Err, refl, sym, ap, subst, ◌∙◌, inl, inr}
+use Rattle.std.proofs.Common.{◌≡◌, ℕ, Bool, false, List, [], Option, Some, None, Result, Ok, Err, IfOk, IfErr, OnErr, refl, sym, ap, subst, ◌∙◌, inl, inr}
 use Rattle.play_midend.specs.Histories.{History}
 use Rattle.clue_rules.specs.declared.params.Params.{Params}
 use Rattle.puzzle_cli.specs.declared.line.machine.Response.{Response}
@@ -11,7 +11,7 @@ use Rattle.puzzle_cli.specs.Lines.{Line, ReplyRule}
 use Rattle.puzzle_cli.specs.Commands.{is_quit}
 use Rattle.puzzle_cli.specs.GameFacts.{GameFacts}
 use Rattle.puzzle_cli.specs.Machines.{IsResponse}
-use Rattle.puzzle_cli.specs.Replies.{LineGives, left}
+use Rattle.puzzle_cli.specs.Replies.{LineGives, left, refusal_line}
 use Rattle.puzzle_cli.specs.RunLaws.{described_line}
 use Rattle.puzzle_cli.specs.SessionReplies.{Outcome}
 use Rattle.puzzle_cli.specs.Texts.{text_bytes}
@@ -21,13 +21,28 @@ use Rattle.json_replies.specs.FairLines.{IsFairLine}
 use Rattle.json_replies.specs.FairReplies.{AskFor, AreRefused, FairGives}
 use Rattle.json_replies.specs.FurtherLines.{BoardFacts, further_at}
 use Rattle.json_replies.specs.JsonReplies.{TellsOutcome, TellsAnswer, TellsLine, JsonReply}
-use Rattle.json_replies.specs.Replies.{Answer, left_by}
+use Rattle.json_replies.specs.Replies.{Answer, left_by, reply_data}
+use Rattle.json_replies.specs.FairRefusals.{fair_refusal_name}
+use Rattle.json_replies.specs.ObjectLines.{IsLineOf, OrLost}
+use Rattle.json_replies.specs.Sessions.{session_data}
 use Rattle.json_replies.specs.Inner.ToldResponses.{TellsResponse, TellsFair}
 
 -- what `obey` owes of a line
 abbrev pub Obeys : {P : Type 0} → GameFacts P → Option (History P) → Line → Option (History P) → Result Response Refusal → Type 0
 Obeys f old line new (Ok answer) = IsResponse (λ before read said after. LineGives f before read (Ok (said, after))) is_quit old line answer new
 Obeys f old line new (Err refusal) = (new ≡ old) × (is_quit line ≡ false) × LineGives f old line (Err refusal)
+
+pub obeyed : {P : Type 0} (f : GameFacts P) (old new : Option (History P)) (line : Line) (answer : Result Response Refusal)
+    → IfOk answer (λ response. IsResponse (λ before read said after. LineGives f before read (Ok (said, after))) is_quit old line response new)
+    → OnErr answer (new ≡ old) → OnErr answer (is_quit line ≡ false) → IfErr answer (λ refusal. LineGives f old line (Err refusal))
+    → Obeys f old line new answer
+obeyed f old new line (Ok response) ok err goes_on why = ok
+obeyed f old new line (Err refusal) ok err goes_on why = (err, goes_on, why)
+
+-- what is so is so where there is a refusal
+pub whenever : {A : Type 0} (answer : Result Response Refusal) → A → OnErr answer A
+whenever (Ok response) is = tt
+whenever (Err refusal) is = is
 
 -- the response that tells it, where a reply to the line, and what ends the run, are so
 pub responds : {P : Type 0} (f : GameFacts P) (old new : Option (History P)) (asked line : Line) (rule : ReplyRule (Option (History P)))
@@ -66,6 +81,17 @@ module _ {P : Type 0} (f : GameFacts P) (b : BoardFacts P) where
       → TellsOutcome f outcome new bytes → TellsFair f b old words bytes new
   game_told old new words params p outcome bytes asked gives leaves told = (Ok outcome, (params, p, asked, gives), leaves, told)
 
+  -- and so is a refusal of them
+  pub refused_told : (old : Option (History P)) (words : FairWords (List ℕ)) (refusal : FairRefusal) (name bytes : List ℕ)
+      → AreRefused f b words refusal → name ≡ fair_refusal_name refusal
+      → OrLost (IsLineOf (reply_data (Some name) (refusal_line name) (session_data f old))) bytes → TellsFair f b old words bytes old
+  refused_told old words refusal name bytes refused is told = (
+    Err refusal,
+    refused,
+    refl,
+    subst (λ (n : List ℕ). OrLost (IsLineOf (reply_data (Some n) (refusal_line n) (session_data f old))) bytes) is told,
+  )
+
   -- what comes of `fair` leaves what an answer to some line does
   some_leaves : (old new : Option (History P)) (words : FairWords (List ℕ)) (answer : Answer P) → FairGives f b old words answer
       → new ≡ left_by old answer → (asked : Line) × (outcome : Outcome P) × LineGives f old asked outcome × (new ≡ left old outcome)
@@ -74,10 +100,10 @@ module _ {P : Type 0} (f : GameFacts P) (b : BoardFacts P) where
 
   -- `fair` and words are none of the lines beside the commands
   not_further : (line : Line) (words : FairWords (List ℕ)) → IsFairLine words line → further_at line ≡ None
-  not_further line words is = ap further_at is.line
+  not_further line words is = ap further_at is.spelled
 
   not_quit : (line : Line) (words : FairWords (List ℕ)) → IsFairLine words line → is_quit line ≡ false
-  not_quit line words is = ap is_quit is.line
+  not_quit line words is = ap is_quit is.spelled
 
   fair_reply : (old new : Option (History P)) (line : Line) (words : FairWords (List ℕ)) (bytes : List ℕ) → IsFairLine words line
       → TellsFair f b old words bytes new → JsonReply f b old line bytes new

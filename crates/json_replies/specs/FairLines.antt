@@ -23,7 +23,7 @@ IsWord text = (text ≢ []) × Lacks space text
 
 -- the line is `fair` and these words, with one space between each
 pub record IsFairLine (words : FairWords (List ℕ)) (line : Line) : Type 0 where
-  pub line : line ≡ Some (codes "fair " ++ words.size ++ space ∷ (words.grade ++ space ∷ words.seed))
+  pub spelled : line ≡ Some (codes "fair " ++ words.size ++ space ∷ (words.grade ++ space ∷ words.seed))
   pub size : IsWord words.size
   pub grade : IsWord words.grade
   pub seed : IsWord words.seed

@@ -25,9 +25,9 @@ use trail_solver::Rules;
 /// Refused, in this order, as `BadSize`, `BadLetter`, `BadSeed`, `NoneFound`.
 pub(crate) fn fair_game<P: Shows>(words: FairWords<&[u8]>) -> Result<(Params, P), FairRefusal>
     ensures asked { IfOk result (λ game. AskFor ⟦<P as Facts>⟧.facts ⟦<P as ShownFacts>⟧.board_facts
-        (words_copied words) game.0 game.1) }
+        (words_copied words.entry) game.0 game.1) }
     ensures refused { IfErr result (AreRefused ⟦<P as Facts>⟧.facts ⟦<P as ShownFacts>⟧.board_facts
-        (words_copied words)) }
+        (words_copied words.entry)) }
     ensures params { IfOk result (λ game. IsParams P.letter_codes game.0) }
     ensures valid { IfOk result (λ game. P.valid game.1) }
     ensures size { IfOk result (λ game. game.0.size ≡ (P.puzzle game.1).size) }

@@ -52,7 +52,7 @@ impl FairRefusal {
 ///
 /// Refused, in this order, as `BadSize`, `BadLetter`, `BadSeed`.
 pub(crate) fn read_request<P: Shows>(words: FairWords<&[u8]>) -> Result<FairRequest, FairRefusal>
-    ensures { IsAsked P.letter_of (words_copied words) result }
+    ensures { IsAsked P.letter_of (words_copied words.entry) result }
 {
     let Some(size) = read_size(words.size) else {
         return Err(FairRefusal::BadSize);

@@ -19,7 +19,7 @@ pub(crate) struct FairWords<T> {
 }
 
 /// The words of a line that is `fair` and three words, with one space between each; `None` is a line that is too long.
-#[tactic(auto, using(crate::proofs::FairReading::fair_taken, crate::proofs::FairReading::fair_again))]
+#[tactic(auto, using(crate::proofs::FairReading::fair_again))]
 pub(crate) fn read_fair(line: Option<&[u8]>) -> Option<FairWords<&[u8]>>
     ensures found { IfSome result (λ words. IsFairLine (words_copied words) (option_copied line.entry)) }
     ensures only { (words : FairWords (List ℕ)) → IsFairLine words (option_copied line.entry)

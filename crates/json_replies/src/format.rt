@@ -59,7 +59,7 @@ fn fair_response<P: Shows>(
 ) -> Response
     ensures { IsResponse
         (λ old line bytes new. TellsFair ⟦<P as Facts>⟧.facts ⟦<P as ShownFacts>⟧.board_facts old
-        (words_copied words) bytes new) (λ _. false) session.old None result session.new }
+        (words_copied words.entry) bytes new) (λ _. false) session.old None result session.new }
 {
     match fair_game(words) {
         Ok((params, puzzle)) => {
@@ -82,7 +82,8 @@ fn told<P: Draw>(
         Ok(Response::Reply(said)) => {
             Response::Reply(said_object(alloc, session, said.as_bytes()))
         }
-        Ok(silent) => silent,
+        Ok(Response::Silence) => Response::Silence,
+        Ok(Response::Quit) => Response::Quit,
         Err(refusal) => Response::Reply(refused_object(alloc, session, refusal.name())),
     }
 }

@@ -40,7 +40,7 @@ impl<P: Draw> Format<P> for Plain {
 
     ghost reply = { Reply ⟦<P as Facts>⟧.facts };
 
-    ghost leaves_as_answers = { λ _ _ line _ said. (line, said.0, said.1, said.3) };
+    ghost leaves_as_answers = { λ _ _ line _ said. (line, (said.0, said.1, said.3)) };
 
     fn answer(alloc: Global, session: &mut Option<Session<P>>, line: Option<&[u8]>) -> Response {
         match obey(alloc, session, line) {
