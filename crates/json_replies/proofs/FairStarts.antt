@@ -1,5 +1,5 @@
 -- The session that a line `fair` begins.
-use Rattle.std.proofs.Common.{◌≡◌, ◌⊎◌, ℕ, List, Option, Some, Result, Ok, Err, IfSome, Contains, refl, sym, ap, subst, ◌∙◌, inl, inr}
+use Rattle.std.proofs.Common.{◌≡◌, ◌⊎◌, ℕ, List, Option, Some, None, Result, Ok, Err, IfSome, Contains, refl, sym, ap, subst, ◌∙◌, inl, inr}
 use Rattle.std.specs.Option.{IsSomeAnd}
 use Rattle.clue_rules.specs.declared.params.Params.{Params}
 use Rattle.clue_rules.specs.Parameters.{IsParams}
@@ -45,8 +45,8 @@ module _ {P : Type 0} (f : GameFacts P) (b : BoardFacts P) (steps : HasSteps f.r
   -- the session of a fair game
   fair_start : (r : FairRequest) (p : P) → IsFairGame f b r (Ok p) → IsFairStart f b r (new_game (fair_params b r) p)
   fair_start r p game =
-      let (solution, only, follows) = fair_solved f.rules b.struck_by steps r.grade _ p game.1 in
-      record { fair = game; start = refl; solution = solution; only = only; follows = follows; graded = (game.1).graded }
+      let (solution, solved) = fair_solved f.rules b.struck_by steps r.grade _ p game.1 in
+      record { fair = game; start = refl; solution = solution; only = solved.0; follows = solved.1; graded = (game.1).graded }
 
   -- what `new` with its ID gives
   new_gives : (old : Option (History P)) (words : FairWords (List ℕ)) (r : FairRequest) (p : P) (outcome : Outcome P)

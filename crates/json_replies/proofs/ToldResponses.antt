@@ -10,6 +10,7 @@ use Rattle.puzzle_cli.specs.declared.reply.refusal.Refusal.TheVariants.{Line as 
 use Rattle.puzzle_cli.specs.Lines.{Line, ReplyRule}
 use Rattle.puzzle_cli.specs.Commands.{is_quit}
 use Rattle.puzzle_cli.specs.GameFacts.{GameFacts}
+use Rattle.puzzle_cli.specs.Formats.{Leaves}
 use Rattle.puzzle_cli.specs.Machines.{IsResponse}
 use Rattle.puzzle_cli.specs.Replies.{LineGives, left, refusal_line}
 use Rattle.puzzle_cli.specs.RunLaws.{described_line}
@@ -55,7 +56,7 @@ responds f old new asked line rule quit (Ok (Reply said)) (Reply text) same tell
 responds f old new asked line rule quit (Ok Silence) Silence same tells obeys told = (sym same ∙ obeys.0, tells (Ok ([], new)) [] obeys.1 refl refl)
 responds f old new asked line rule quit (Ok Quit) Quit same tells obeys told = (sym same ∙ obeys.0, obeys.1)
 responds f old new asked line rule quit (Err refusal) (Reply text) same tells obeys told =
-    (sym same ∙ obeys.1.0, tells (Err refusal) (text_bytes text) obeys.1.1 obeys.0 told)
+    (sym same ∙ obeys.1, tells (Err refusal) (text_bytes text) obeys.2 obeys.0 told)
 responds f old new asked line rule quit (Ok (Reply said)) Silence same tells obeys told = absurd told
 responds f old new asked line rule quit (Ok (Reply said)) Quit same tells obeys told = absurd told
 responds f old new asked line rule quit (Ok Silence) (Reply text) same tells obeys told = absurd told
@@ -94,8 +95,8 @@ module _ {P : Type 0} (f : GameFacts P) (b : BoardFacts P) where
 
   -- what comes of `fair` leaves what an answer to some line does
   some_leaves : (old new : Option (History P)) (words : FairWords (List ℕ)) (answer : Answer P) → FairGives f b old words answer
-      → new ≡ left_by old answer → (asked : Line) × (outcome : Outcome P) × LineGives f old asked outcome × (new ≡ left old outcome)
-  some_leaves old new words (Ok outcome) (params, p, asked, gives) leaves = (described_line f params p, outcome, gives, leaves)
+      → new ≡ left_by old answer → (asked : Line) × Leaves f old asked new
+  some_leaves old new words (Ok outcome) (params, p, asked, gives) leaves = (described_line f params p, (outcome, gives, leaves))
   some_leaves old new words (Err refusal) gives leaves = (None, (Err (OfLine LongLine), (Err LongLine, refl, inl refl), leaves))
 
   -- `fair` and words are none of the lines beside the commands

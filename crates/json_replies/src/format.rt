@@ -38,15 +38,15 @@ impl<P: Shows> Format<P> for Json {
     ghost leaves_as_answers = { λ old new line bytes said. said.leaves };
 
     fn answer(alloc: Global, session: &mut Option<Session<P>>, line: Option<&[u8]>) -> Response {
-        if let Some(which) = read_further(line) {
-            return Response::Reply(further_object(alloc, session, which));
-        }
-        match read_fair(line) {
-            Some(words) => fair_response(alloc, session, words),
-            None => {
-                let answer = obey(alloc, session, line);
-                told(alloc, session, answer)
-            }
+        match read_further(line) {
+            Some(which) => Response::Reply(further_object(alloc, session, which)),
+            None => match read_fair(line) {
+                Some(words) => fair_response(alloc, session, words),
+                None => {
+                    let answer = obey(alloc, session, line);
+                    told(alloc, session, answer)
+                }
+            },
         }
     }
 }
