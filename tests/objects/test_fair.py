@@ -1,7 +1,5 @@
 """The line `fair`: it begins the game that `new` begins with its ID, whose grade it has, and is refused by name, in order."""
 
-import json
-from itertools import product
 from typing import Any, Dict, List, NamedTuple, Sequence
 
 import pytest

@@ -70,8 +70,16 @@ three_taken text words read =
 three_again : (text : List ℕ) (words : FairWords (List ℕ)) → AreWords words text → three_at text ≡ Some words
 three_again text words (is, size, grade, seed) =
     let rest = words.grade ++ space ∷ words.seed in
-    rw (is, behind_at space words.size rest size.1, before_at space words.size rest size.1, behind_at space words.grade words.seed grade.1,
-      before_at space words.grade words.seed grade.1, word_again words.size size, word_again words.grade grade, word_again words.seed seed) refl
+    rw (
+      is,
+      behind_at space words.size rest size.1,
+      before_at space words.size rest size.1,
+      behind_at space words.grade words.seed grade.1,
+      before_at space words.grade words.seed grade.1,
+      word_again words.size size,
+      word_again words.grade grade,
+      word_again words.seed seed,
+    ) refl
 
 -- ---- lines
 

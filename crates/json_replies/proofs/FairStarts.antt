@@ -56,7 +56,7 @@ module _ {P : Type 0} (f : GameFacts P) (b : BoardFacts P) (steps : HasSteps f.r
       let cut = fair_puzzle f.rules b.struck_by r.grade _ p steps.items game.1 in
       let size : (f.rules.puzzle p).size ≡ r.size = cut.size ∙ draw_size (b.trial r.grade) r.size (f.rules.items_of r.size) _ (game.1).draw in
       (described_lines_begin f steps.items ids canonical old (fair_params b r) p (asked_params f.letters b.fair_letter letters words r asked) cut.valid
-          (sym size)).others outcome gives
+      (sym size)).others outcome gives
 
   -- the session is left, or begun
   abbrev Begins : Option (History P) → FairWords (List ℕ) → Option (History P) → Type 0

@@ -115,11 +115,7 @@ fn said_object<P: Draw>(alloc: Global, session: &Option<Session<P>>, said: &[u8]
 }
 
 // The object of a refusal of this name.
-fn refused_object<P: Draw>(
-    alloc: Global,
-    session: &Option<Session<P>>,
-    name: &'static str,
-) -> Text
+fn refused_object<P: Draw>(alloc: Global, session: &Option<Session<P>>, name: &'static str) -> Text
     requires { length name.now ≤ 16 }
     ensures { OrLost (IsLineOf (reply_data (Some name.now) (refusal_line name.now)
         (session_data ⟦<P as Facts>⟧.facts session.now))) (text_bytes result) }

@@ -32,8 +32,8 @@ returns-in-Some-read_fair g c =
     fair_told (facts g) (boards g) c.args.session.now c.fair_response.new.session (option_copied c.args.line) (words_copied c.in-Some-read_fair.words)
     c.fair_response.result c.in-Some-read_fair.ensures.found c.fair_response.ensures
 
-pub returns-in-None : goal.returns-in-None
-returns-in-None g c =
+pub returns-in-None-read_fair : goal.returns-in-None-read_fair
+returns-in-None-read_fair g c =
     let f = facts g in
     let b = boards g in
     let old = c.args.session.now in
