@@ -30,7 +30,7 @@ REFUSED = [
 #: Lines that begin so, and are no commands.
 OTHER = [
     'fair', 'fair ', 'fair 4', 'fair 4 e', 'fair 4 e ', 'fair 4 e 7 ', 'fair 4 e 7 8', 'fair  4 e 7', 'fair 4  e 7', 'fair 4 e  7', ' fair 4 e 7', 'Fair 4 e 7',
-    'fair\t4 e 7', 'fair,4 e 7', 'fair4 e 7', 'fairly 4 e 7', 'fair 4 e', 'new fair 4 e 7 ',
+    'fair\t4 e 7', 'fair,4 e 7', 'fair4 e 7', 'fairly 4 e 7', 'new fair 4 e 7 ',
 ]
 
 #: A game that goes on: moves, back and forth, what is told of it, and another game.

@@ -32,7 +32,8 @@ BAD_IDS = [
 #: Lines that no random choice would meet soon.
 ODD: List[bytes] = [
     b'', b'\r', b'\r\r', b' ', b'undo ', b'undo x', b'Undo', b'move', b'move ', b'new', b'list', b'list 0', b'list 101', b'list 05',
-    b'fair', b'fair ', b'fair 3 e', b'fair 3 e 7 ', b'fair 3  e 7', b'fair 3 e 7 8', b'fair\t3 e 7', b'Fair 3 e 7', b'board ', b'board x', b'BOARD', b'hint ', b'hint 1', b'grade ', b'grade 1', b'completable x', b'{"line":"undo"}', b'"', b'\\', b'\x00', b'\x7f',
+    b'fair', b'fair ', b'fair 3 e', b'fair 3 e 7 ', b'fair 3  e 7', b'fair 3 e 7 8', b'fair\t3 e 7', b'Fair 3 e 7',
+    b'board ', b'board x', b'BOARD', b'hint ', b'hint 1', b'grade ', b'grade 1', b'completable x', b'{"line":"undo"}', b'"', b'\\', b'\x00', b'\x7f',
     b'\x1b[A', b'\xff\xfe', b'move R0,0,\xb2', b'new 3:\xc3\xa9', b'undo\x00', b'\xc3\xa9' * 300, b'x' * 1024, b'x' * 1025,
     b'x' * 1024 + b'\r', b'x' * 1023 + b'\r', b'y' * 5000, b'move R01,0,1', b'move H0,0,1', b'move F0,0,1', b'move S123',
     b'move D-0,1', b'quit ',

@@ -10,12 +10,13 @@ use Rattle.trail_solver.proofs.FilledGrids.{solution_pair}
 use Rattle.board_checks.specs.declared.hints.Hint.TheVariants.{Follows as Found, Nothing, Contradiction}
 use Rattle.named_steps.specs.Chains.{IsView}
 use Rattle.named_steps.specs.Following.{Follows}
+use Rattle.named_steps.specs.StepLaws.{GradesAreNested}
 use Rattle.named_steps.specs.declared.goal.Goal.TheVariants.{OnlyValue}
 use Rattle.named_steps.specs.declared.grade.Grade.{Grade}
 use Rattle.named_steps.specs.declared.grade.Grade.TheVariants.{Latin, Easy, Hard}
 use Rattle.named_steps.specs.declared.reason.Reason.{Reason}
 use Rattle.named_steps.proofs.Antitone.{IsAntitone}
-use Rattle.named_steps.proofs.Followed.{grades_nested, boards_lead, boards_refuted}
+use Rattle.named_steps.proofs.Followed.{boards_lead, boards_refuted}
 use Rattle.step_chains.specs.Explanations.{NothingIsShown, IsRefutedGrid}
 use Rattle.puzzle_cli.specs.GameFacts.{GameFacts}
 use Rattle.json_replies.specs.declared.told_hint.ToldHint.{ToldHint}
@@ -25,12 +26,13 @@ use Rattle.json_replies.specs.FurtherLines.{BoardFacts}
 use Rattle.json_replies.specs.ToldHints.{hint_of, NoneBelow, IsTold}
 
 module _ (p : Puzzle) (Strikes : CandidatesValue → ℕ → ℕ → Type 0) (Struck : CandidatesValue → Reason → ℕ → ℕ → Type 0) (less : IsAntitone Struck)
+    (nested : (h : GridValue) → (Follows Struck Latin h → Follows Struck Easy h) × (Follows Struck Easy h → Follows Struck Hard h))
     (s g : GridValue) (view : CandidatesValue) (cell : ℕ) (solves : Solves p s) (size : g.size ≡ s.size) (in_view : IsView g view)
     (inside : cell < g.size * g.size) (empty : number_at g cell ≡ 0) where
   -- by all steps, too
   by_all : (grade : Grade) → Follows Struck grade s → Follows Struck Hard s
-  by_all Latin follows = (grades_nested Struck s).1 ((grades_nested Struck s).0 follows)
-  by_all Easy follows = (grades_nested Struck s).1 follows
+  by_all Latin follows = (nested s).1 ((nested s).0 follows)
+  by_all Easy follows = (nested s).1 follows
   by_all Hard follows = follows
 
   -- some number is shown
@@ -80,9 +82,10 @@ module _ (p : Puzzle) (Strikes : CandidatesValue → ℕ → ℕ → Type 0) (St
   wrong_hint grade (Deduced Nothing) follows is wrong so = absurd (leads Hard (by_all grade follows) is.reached.1)
   wrong_hint grade (Deduced Contradiction) follows is wrong so = refl
 
-pub hints_lead_on : {P : Type 0} (f : GameFacts P) (b : BoardFacts P) → ((p : P) → IsAntitone (b.struck_by p)) → HintsLeadOn f b
-hints_lead_on f b less p grade s g view cell told solves follows size in_view inside empty is =
+pub hints_lead_on : {P : Type 0} (f : GameFacts P) (b : BoardFacts P) → ((p : P) → IsAntitone (b.struck_by p)) → GradesAreNested b.struck_by
+    → HintsLeadOn f b
+hints_lead_on f b less nested p grade s g view cell told solves follows size in_view inside empty is =
     let puzzle = f.rules.puzzle p in (
-      right_hint puzzle (b.strikes p) (b.struck_by p) (less p) s g view cell solves size in_view inside empty grade told follows is,
-      wrong_hint puzzle (b.strikes p) (b.struck_by p) (less p) s g view cell solves size in_view inside empty grade told follows is,
+      right_hint puzzle (b.strikes p) (b.struck_by p) (less p) (nested p) s g view cell solves size in_view inside empty grade told follows is,
+      wrong_hint puzzle (b.strikes p) (b.struck_by p) (less p) (nested p) s g view cell solves size in_view inside empty grade told follows is,
     )

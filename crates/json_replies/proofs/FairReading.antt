@@ -95,6 +95,7 @@ line_taken (Some text) words read =
       seed = seed;
     }
 
+-- a line's words are those that are read
 pub line_again : (line : Line) (words : FairWords (List ℕ)) → IsFairLine words line → fair_at line ≡ Some words
 line_again line words is =
     let rest = words.size ++ space ∷ (words.grade ++ space ∷ words.seed) in

@@ -33,6 +33,7 @@ abbrev pub Obeys : {P : Type 0} → GameFacts P → Option (History P) → Line 
 Obeys f old line new (Ok answer) = IsResponse (λ before read said after. LineGives f before read (Ok (said, after))) is_quit old line answer new
 Obeys f old line new (Err refusal) = (new ≡ old) × (is_quit line ≡ false) × LineGives f old line (Err refusal)
 
+-- and so it does, by its clauses
 pub obeyed : {P : Type 0} (f : GameFacts P) (old new : Option (History P)) (line : Line) (answer : Result Response Refusal)
     → IfOk answer (λ response. IsResponse (λ before read said after. LineGives f before read (Ok (said, after))) is_quit old line response new)
     → OnErr answer (new ≡ old) → OnErr answer (is_quit line ≡ false) → IfErr answer (λ refusal. LineGives f old line (Err refusal))

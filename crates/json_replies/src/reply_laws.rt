@@ -22,4 +22,6 @@ pub fn laws<P: Shows>()
     ensures answers { AnswersLeave ⟦<P as Facts>⟧.facts ⟦<P as ShownFacts>⟧.board_facts }
     ensures fair { FairLinesBegin ⟦<P as Facts>⟧.facts ⟦<P as ShownFacts>⟧.board_facts }
     ensures hints { HintsLeadOn ⟦<P as Facts>⟧.facts ⟦<P as ShownFacts>⟧.board_facts }
-{}
+{
+    named_steps::laws::<P>();
+}

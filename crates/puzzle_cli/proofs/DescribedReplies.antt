@@ -37,6 +37,7 @@ module _ {P : Type 0} (f : GameFacts P) (canonical : AreCanonical f) (params : P
   described_may_lack old =
       (Ok (Some (New (params_text params ++ colon ∷ f.desc_of puzzle))), line_read, inr ((new_game params puzzle, id_begins), refl))
 
+-- with ample memory it begins that game, and has no other answer
 pub described_lines_begin : {P : Type 0} (f : GameFacts P) → ItemLaws f.rules → IdsAreReadOnce f → AreCanonical f → DescribedLinesBegin f
 described_lines_begin f laws ids canonical old params puzzle letters valid size =
     let ample = begins f canonical params puzzle letters valid size old in

@@ -54,4 +54,4 @@ pub returns-clause-fair : goal.returns-clause-fair
 returns-clause-fair g c = fair_lines_begin (facts g) (boards g) (steps g) (ids g) g.met.P.Game.desc_canonical g.met.P.Shows.fair_letters
 
 pub returns-clause-hints : goal.returns-clause-hints
-returns-clause-hints g c = hints_lead_on (facts g) (boards g) g.met.P.Steps.struck_less
+returns-clause-hints g c = hints_lead_on (facts g) (boards g) g.met.P.Steps.struck_less c.laws.ensures.nested
