@@ -28,8 +28,8 @@ class RefusingObjects(Refusing):
 
     def __init__(self, rounds: Rounds, game: Game) -> None:
         super().__init__(rounds, game)
-        self.commands = game.commands
-        self.owed = [line.decode() for line in OWN_LINES if line in self.commands]
+        self.commands = [*game.commands, b'fair 3 e 7', b'status']
+        self.owed = [*(line.decode() for line in OWN_LINES if line in self.commands), 'fair']
 
     def typed(self, commands: Sequence[bytes]) -> bytes:
         return b''.join(command + b'\n' for command in commands)

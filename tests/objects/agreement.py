@@ -8,7 +8,7 @@ import pytest
 from tests.conftest import Programs
 from tests.harness import Ended, Room, run
 from tests.objects.boards import Texts, board_of, numbers_of, puzzle_of
-from tests.objects.reading import OWN_LINES, Answered, lines_with_reply, read_answers, shortened, without_own
+from tests.objects.reading import Answered, as_plain, lines_with_reply, read_answers, shortened
 from tests.objects.solutions import expect_completable, expect_hint
 from tests.objects.steps import expect_steps
 from tests.second_implementation.grades import grade_of
@@ -41,8 +41,8 @@ class Pair(NamedTuple):
     plain: str
 
     def run(self, words: Sequence[str], input: bytes, save: bytes = b'') -> Tuple['Left', 'Left']:
-        """Runs each in a room of its own, the plain one without the lines that it doesn't know."""
-        kept = b'\n'.join(without_own(input.split(b'\n')))
+        """Runs each in a room of its own, the plain one without the lines that it doesn't know, and with `new` for `fair`."""
+        kept = b'\n'.join(as_plain(words[0], input.split(b'\n')))
         return left(self.objects, words, input, save), left(self.plain, words, kept, save)
 
 
@@ -75,7 +75,7 @@ def expect_agreement(pair: Pair, one: Script) -> None:
 
 def expect_alike(found: Left, plain: Left, answers: Sequence[Answered]) -> None:
     """A run is the plain one, told otherwise."""
-    assert b''.join(answer.reply for answer in answers if answer.line not in OWN_LINES) == plain.ended.output
+    assert b''.join(answer.reply for answer in answers if not answer.is_own) == plain.ended.output
     assert found.ended._replace(output=b'') == plain.ended._replace(output=b'')
     assert found.saved == plain.saved
 

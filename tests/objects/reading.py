@@ -5,6 +5,7 @@ import re
 from typing import Any, Dict, List, NamedTuple, Sequence, Tuple
 
 from tests.objects.schema import LOST, unfit, wrong_object
+from tests.second_implementation.fair_lines import fair_words, plain_lines
 
 Object = Dict[str, Any]
 
@@ -13,6 +14,9 @@ TEXT = re.compile(r'"(?:[^"\\]|\\.)*"')
 
 #: A line that may be as long as this is read; one with more bytes is refused.
 MOST_BYTES = 1024
+
+#: The line that begins a fair game; the plain program knows only the game that it begins.
+FAIR = b'fair'
 
 #: The lines that the plain program doesn't know.
 OWN_LINES = (b'board', b'completable', b'hint', b'grade')
@@ -61,6 +65,11 @@ class Answered(NamedTuple):
         return 'lost' in self.found
 
     @property
+    def is_own(self) -> bool:
+        """Whether the plain program has no line for it."""
+        return self.line in OWN_LINES or is_fair(self.line) and self.found['refused'] is not None
+
+    @property
     def reply(self) -> bytes:
         """The bytes of the plain program's reply."""
         return b''.join(text.encode('latin-1') + b'\n' for text in self.found['reply'])
@@ -82,6 +91,20 @@ def lines_with_reply(script: bytes) -> List[bytes]:
 def without_own(lines: Sequence[bytes]) -> List[bytes]:
     """The lines without those that the plain program doesn't know."""
     return [line for line in lines if line.rstrip(b'\r') not in OWN_LINES]
+
+
+def is_fair(line: bytes) -> bool:
+    """Whether a line, without one CR at its end, asks for a fair game."""
+    return len(line) <= MOST_BYTES and fair_words(line) is not None
+
+
+def as_plain(game: str, lines: Sequence[bytes]) -> List[bytes]:
+    """The same, with the line `new` in place of each that begins a fair game."""
+    plain: List[bytes] = []
+    for line in without_own(lines):
+        read = line[:-1] if line.endswith(b'\r') else line
+        plain += plain_lines(game, read) if is_fair(read) else [line]
+    return plain
 
 
 def read_answers(script: bytes, output: bytes, may_lose: bool = False) -> List[Answered]:

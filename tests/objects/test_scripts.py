@@ -10,6 +10,7 @@ from hypothesis import strategies as st
 from tests.harness.builds import TOP
 from tests.objects.agreement import BOARD, SESSION, Pair, Script, expect_agreement
 from tests.second_implementation.games import GAMES
+from tests.second_implementation.grades import LETTERS
 from tests.second_implementation.saves import COLLECTION, written
 
 #: IDs of sizes 3 and 4, some with one solution, several or none, with givens or without.
@@ -31,10 +32,20 @@ BAD_IDS = [
 #: Lines that no random choice would meet soon.
 ODD: List[bytes] = [
     b'', b'\r', b'\r\r', b' ', b'undo ', b'undo x', b'Undo', b'move', b'move ', b'new', b'list', b'list 0', b'list 101', b'list 05',
+    b'fair', b'fair ', b'fair 3 e', b'fair 3 e 7 ', b'fair 3  e 7', b'fair 3 e 7 8', b'fair\t3 e 7', b'Fair 3 e 7',
     b'board ', b'board x', b'BOARD', b'hint ', b'hint 1', b'grade ', b'grade 1', b'completable x', b'{"line":"undo"}', b'"', b'\\', b'\x00', b'\x7f',
     b'\x1b[A', b'\xff\xfe', b'move R0,0,\xb2', b'new 3:\xc3\xa9', b'undo\x00', b'\xc3\xa9' * 300, b'x' * 1024, b'x' * 1025,
     b'x' * 1024 + b'\r', b'x' * 1023 + b'\r', b'y' * 5000, b'move R01,0,1', b'move H0,0,1', b'move F0,0,1', b'move S123',
     b'move D-0,1', b'quit ',
+]
+
+#: Lines for fair games, some of which are refused.
+FAIR: Dict[str, List[str]] = {
+    game: [f'{size} {letter} {seed}' for size in (3, 4) for letter in letters for seed in (0, 7, 20261126)] for game, letters in LETTERS.items()
+}
+BAD_FAIR = [
+    '2 e 7', '10 e 7', '03 e 7', 'e e 7', '3 h 7', '3 k 7', '4 x 7', '4 E 7', '4 ee 7', '9 e 07', '9 e -1', '9 e 18446744073709551616', '0 0 x',
+    '4 0 x', '4 e \xb2',
 ]
 
 #: The numbers of the only solution of `3:3//////3/////`.
@@ -74,7 +85,8 @@ BYTES = st.lists(st.one_of(st.sampled_from(CAREFUL), st.binary(min_size=1, max_s
 
 def lines(game: str) -> st.SearchStrategy[bytes]:
     new = st.sampled_from([*SMALL[game], *BAD_IDS]).map(lambda id: b'new ' + id.encode('latin-1'))
-    line = st.one_of(MOVE, MOVE, MOVE, CALL, CALL, new, st.sampled_from(ODD))
+    fair = st.sampled_from([*FAIR[game], *BAD_FAIR]).map(lambda words: b'fair ' + words.encode('latin-1'))
+    line = st.one_of(MOVE, MOVE, MOVE, CALL, CALL, new, fair, st.sampled_from(ODD))
     one_in_twenty = st.integers(0, 19).map(lambda number: b'\r' * (number == 0))
     return st.tuples(line, one_in_twenty).map(b''.join)
 

@@ -2,7 +2,7 @@
 
 from tests.harness import Room, run
 from tests.objects import schema
-from tests.objects.reading import OWN_LINES
+from tests.objects.reading import FAIR, OWN_LINES
 from tests.texts.parts import found, part, read
 from tests.texts.test_users import KINDS, said
 
@@ -12,7 +12,7 @@ def test_members() -> None:
 
 
 def test_lines() -> None:
-    assert not {line.decode() for line in OWN_LINES} - set(found(r'^### (\w+)', read('docs/JSON.md')))
+    assert not {line.decode() for line in (*OWN_LINES, FAIR)} - set(found(r'^### (\w+)', read('docs/JSON.md')))
 
 
 def test_manual() -> None:
@@ -30,5 +30,5 @@ def test_help(program: str, objects: str, room: Room) -> None:
     plain, own = (dict(zip(KINDS, said('help', text))) for text in told)
     for kind in ('options', 'statuses'):
         assert set(own[kind]) == set(plain[kind]) != set(), kind
-    wanted = [*(line.decode() for line in OWN_LINES), *schema.COMMON]
+    wanted = [*(line.decode() for line in (*OWN_LINES, FAIR)), *schema.COMMON]
     assert not set(wanted) - set(found(r'^  ([a-z]+) ', told[1]))

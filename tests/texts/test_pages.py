@@ -8,7 +8,7 @@ import pytest
 
 from tests.harness import Room, by_name, run
 from tests.objects import schema
-from tests.objects.reading import OWN_LINES
+from tests.objects.reading import FAIR, OWN_LINES
 from tests.texts import sources
 from tests.texts.parts import ROOT, found, part, read
 from tests.texts.test_completions import play_options, sheet_options
@@ -79,7 +79,7 @@ def test_records() -> None:
 def test_objects() -> None:
     page = read('man/puzzles-json.6')
     assert set(named_options(page)) == set(wanted()[1]) != set(), 'options'
-    assert not {line.decode() for line in OWN_LINES} - set(found(r'^\.It Cm (\w+)', page)), 'lines'
+    assert not {line.decode() for line in (*OWN_LINES, FAIR)} - set(found(r'^\.It Cm (\w+)', page)), 'lines'
     assert not schema.names() - set(re.findall(r'\w+', page)), 'members'
 
 

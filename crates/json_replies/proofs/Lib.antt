@@ -5,7 +5,11 @@ pub mod HintSpellings
 pub mod ToldHints
 pub mod ToldLooks
 pub mod ToldReplies
+pub mod FairReading
+pub mod ToldResponses
 pub mod Listed
 pub mod WholeReplies
 pub mod ToldOnce
 pub mod AnswersLeave
+pub mod FairStarts
+pub mod FairHints

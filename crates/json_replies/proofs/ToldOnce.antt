@@ -1,5 +1,5 @@
 -- One line of an object tells one reply.
-use Rattle.std.proofs.Common.{◌≡◌, ℕ, List, [], ◌∷◌, get_or, map, codes, Option, Some, None, refl, sym, ap, ap₂, ◌∙◌, arith}
+use Rattle.std.proofs.Common.{◌≡◌, ℕ, List, [], ◌∷◌, get_or, map, codes, ◌++◌, Option, Some, None, Ok, Err, refl, sym, ap, ap₂, ◌∙◌, inl, inr, append_assoc, arith}
 use Rattle.std.proofs.lemmas.List.{append_cancel_right}
 use Rattle.std.proofs.lemmas.Str.{encodes_same}
 use Rattle.byte_text.specs.Bytes.{line_feed}
@@ -10,14 +10,19 @@ use Rattle.serde_json.specs.Written.{compact_text}
 use Rattle.serde_json.proofs.OnLiterals.{serde_json_on_literals}
 use Rattle.play_midend.specs.Histories.{History}
 use Rattle.puzzle_cli.specs.GameFacts.{GameFacts}
-use Rattle.puzzle_cli.specs.Replies.{plain_text, refusal_line}
+use Rattle.puzzle_cli.specs.Lines.{Line}
+use Rattle.puzzle_cli.specs.Replies.{refusal_line}
+use Rattle.puzzle_cli.specs.RunLaws.{PicturesAreWholeLines, described_line}
+use Rattle.puzzle_cli.specs.WholeLines.{AreWholeLines}
 use Rattle.puzzle_cli.proofs.WholeReplies.{answers_are_whole}
 use Rattle.json_replies.specs.declared.further_line.FurtherLine.{FurtherLine}
 use Rattle.json_replies.specs.declared.further_line.FurtherLine.TheVariants.{Board, Completable, Hint, Grade}
 use Rattle.json_replies.specs.Texts.{latin_text, text_data, lines_of, lines_text}
 use Rattle.json_replies.specs.ObjectLines.{IsLineOf, lost_line}
 use Rattle.json_replies.specs.Sessions.{game_data, session_data}
-use Rattle.json_replies.specs.Replies.{name_data, reply_members, reply_data, refused_name}
+use Rattle.json_replies.specs.Replies.{Answer, answer_name, answer_text, name_data, reply_members, reply_data}
+use Rattle.json_replies.specs.FairRefusals.{fair_refusal_name}
+use Rattle.json_replies.specs.JsonReplies.{AnswerGives}
 use Rattle.json_replies.specs.FurtherLines.{BoardFacts, further_key, IsFurtherLine}
 use Rattle.json_replies.specs.ReplyLaws.{ObjectsTellOneReply, ObjectsAreNotLost}
 use Rattle.json_replies.proofs.WholeReplies.{lines_are_the_reply}
@@ -75,16 +80,27 @@ names_same None (Some b) is = absurd (cc is)
 names_same (Some a) None is = absurd (cc is)
 names_same (Some a) (Some b) is = let texts : latin_text a ≡ latin_text b = cc is in ap Some (encodes_same a b texts)
 
-pub objects_tell_one_reply : {P : Type 0} (f : GameFacts P) → ObjectsTellOneReply f
-objects_tell_one_reply f drawn old before line earlier one other new last bytes gives answers tells says =
-    let said = plain_text one in
-    let told = plain_text other in
+-- what is said is whole lines
+refusal_whole : (name : List ℕ) → AreWholeLines (refusal_line name)
+refusal_whole name = inr (codes "refused: " ++ name, sym (append_assoc (codes "refused: ") name (line_feed ∷ [])))
+
+answer_whole : {P : Type 0} (f : GameFacts P) (b : BoardFacts P) → PicturesAreWholeLines f.drawing → (old : Option (History P)) (line : Line)
+    (answer : Answer P) → AnswerGives f b old line answer → AreWholeLines (answer_text answer)
+answer_whole f b drawn old line (Ok outcome) (inl (words, is, (params, p, asked, gives))) =
+    answers_are_whole f drawn old (described_line f params p) outcome gives
+answer_whole f b drawn old line (Ok outcome) (inr (other, gives)) = answers_are_whole f drawn old line outcome gives
+answer_whole f b drawn old line (Err refusal) gives = refusal_whole (fair_refusal_name refusal)
+
+pub objects_tell_one_reply : {P : Type 0} (f : GameFacts P) (b : BoardFacts P) → ObjectsTellOneReply f b
+objects_tell_one_reply f b drawn old before line earlier one other new last bytes gives answers tells says =
+    let said = answer_text one in
+    let told = answer_text other in
     let is = one_object _ _ bytes tells says in
     let lines : lines_of said ≡ lines_of told =
     lines_same _ _ (sym (texts_told (lines_of said)) ∙ ap (λ d. texts_of (second d)) is ∙ texts_told (lines_of told)) in (
-      sym (lines_are_the_reply said (answers_are_whole f drawn old line one gives)) ∙ ap lines_text lines
-          ∙ lines_are_the_reply told (answers_are_whole f drawn before earlier other answers),
-      names_same (refused_name one) (refused_name other) (ap first is),
+      sym (lines_are_the_reply said (answer_whole f b drawn old line one gives)) ∙ ap lines_text lines
+          ∙ lines_are_the_reply told (answer_whole f b drawn before earlier other answers),
+      names_same (answer_name one) (answer_name other) (ap first is),
       ap third is,
     )
 
@@ -151,6 +167,6 @@ further_not_lost f b which (Some h) bytes (answer, is, line) lost =
 
 pub objects_are_not_lost : {P : Type 0} (f : GameFacts P) (b : BoardFacts P) → ObjectsAreNotLost f b
 objects_are_not_lost f b = record {
-  replies = λ outcome new bytes told. reply_not_lost (refused_name outcome) (plain_text outcome) (session_data f new) bytes told;
+  replies = λ answer new bytes told. reply_not_lost (answer_name answer) (answer_text answer) (session_data f new) bytes told;
   answers = further_not_lost f b;
 }

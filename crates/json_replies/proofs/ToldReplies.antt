@@ -72,24 +72,9 @@ no_quit line which is = goes_on line (Err BadCommand) (no_command line which is)
 pub further_told : {P : Type 0} (f : GameFacts P) (b : BoardFacts P) (old : Option (History P)) (line : Line) (which : FurtherLine) (bytes : List ℕ)
     → further_at line ≡ Some which → OrLost (IsFurtherLine f b which old) bytes → JsonReply f b old line bytes old
 further_told f b old line which bytes is told = record {
-  leaves = (Err (OfLine BadCommand), (Err BadCommand, no_command line which is, inl refl), refl);
+  leaves = (line, (Err (OfLine BadCommand), (Err BadCommand, no_command line which is, inl refl), refl));
   told = subst (λ w. TellsLine f b old line w bytes old) (sym is) (refl, told);
 }
-
--- the object of a reply tells its outcome
-pub outcome_told : {P : Type 0} (f : GameFacts P) (b : BoardFacts P) (old : Option (History P)) (line : Line) (outcome : Outcome P)
-    (bytes : List ℕ) (new : Option (History P)) → further_at line ≡ None → LineGives f old line outcome → new ≡ left old outcome
-    → TellsOutcome f outcome new bytes → JsonReply f b old line bytes new
-outcome_told f b old line outcome bytes new is gives leaves told = record {
-  leaves = (outcome, gives, leaves);
-  told = subst (λ w. TellsLine f b old line w bytes new) (sym is) (outcome, gives, leaves, told);
-}
-
-pub said_told : {P : Type 0} (f : GameFacts P) (b : BoardFacts P) (old : Option (History P)) (line : Line) (said read bytes : List ℕ)
-    (new : Option (History P)) → further_at line ≡ None → LineGives f old line (Ok (said, new)) → read ≡ said
-    → TellsOutcome f (Ok (read, new)) new bytes → JsonReply f b old line bytes new
-said_told f b old line said read bytes new is gives same told =
-    outcome_told f b old line (Ok (said, new)) bytes new is gives refl (subst (λ s. TellsOutcome f (Ok (s, new)) new bytes) same told)
 
 -- the answer of a hint
 pub hint_told : {P : Type 0} (f : GameFacts P) (b : BoardFacts P) (h : History P) (puzzle : P) (g : GridValue) (which : FurtherLine) (answer : Data)

@@ -17,6 +17,7 @@ use Rattle.board_checks.specs.declared.spot.Spot.{Spot}
 use Rattle.named_steps.specs.Graded.{IsGradeOf}
 use Rattle.named_steps.specs.declared.reason.Reason.{Reason}
 use Rattle.named_steps.specs.declared.grade.Grade.{Grade}
+use Rattle.fair_games.specs.declared.trial.Trial.{Trial}
 use Rattle.puzzle_cli.specs.declared.command.line_fault.LineFault.TheVariants.{NoGame}
 use Rattle.puzzle_cli.specs.declared.reply.refusal.Refusal.TheVariants.{Line as OfLine}
 use Rattle.puzzle_cli.specs.Lines.{Line}
@@ -50,7 +51,8 @@ further_key AskHint = codes "hint"
 further_key AskGrade = codes "grade"
 
 -- what these answers know of a game: what it demands at which spots, what its deductions strike, its clues and signs as data; what its
--- steps strike, the letters of its grades, the clue at a place of the edge, and which signs it has
+-- steps strike, the letters of its grades, the clue at a place of the edge, and which signs it has; and of its fair games the letters of
+-- their grades, the orders of trial, and the game's initial
 pub record BoardFacts (P : Type 0) : Type 1 where
   pub demand : P → Spot → Option Demand
   pub strikes : P → CandidatesValue → ℕ → ℕ → Type 0
@@ -60,6 +62,9 @@ pub record BoardFacts (P : Type 0) : Type 1 where
   pub letter : Grade → List ℕ
   pub edge_clue : P → ℕ → ℕ
   pub says_greater : P → ℕ → ℕ → Bool
+  pub fair_letter : Grade → Option ℕ
+  pub trial : Grade → Trial
+  pub initial : ℕ
 
 -- the errors are those of the grid: the squares that are repeated, and the spots whose demand is broken
 pub record AreErrors (demand : Spot → Option Demand) (g : GridValue) (e : ErrorsValue) : Type 0 where

@@ -1,2 +1,4 @@
 -- Words that the contracts of private functions alone use.
 pub mod ObjectTexts
+pub mod FairReading
+pub mod ToldResponses

@@ -1,11 +1,13 @@
 -- The object of a reply.
-use Rattle.std.specs.Prelude.{ℕ, List, codes, Option, Some, None, Ok, Err}
+use Rattle.std.specs.Prelude.{ℕ, List, codes, Option, Some, None, Result, Ok, Err}
 use Rattle.serde_json.specs.Data.{Data, null, object, Members, no_members, member}
 use Rattle.play_midend.specs.Histories.{History}
 use Rattle.puzzle_cli.specs.GameFacts.{GameFacts}
 use Rattle.puzzle_cli.specs.Refusals.{refusal_name}
 use Rattle.puzzle_cli.specs.SessionReplies.{Outcome}
-use Rattle.puzzle_cli.specs.Replies.{plain_text}
+use Rattle.puzzle_cli.specs.Replies.{plain_text, left, refusal_line}
+use Rattle.json_replies.specs.declared.fair_request.FairRefusal.{FairRefusal}
+use Rattle.json_replies.specs.FairRefusals.{fair_refusal_name}
 use Rattle.json_replies.specs.ObjectLines.{IsLineOf}
 use Rattle.json_replies.specs.Sessions.{session_data}
 use Rattle.json_replies.specs.Texts.{text_data, lines_data}
@@ -31,6 +33,29 @@ abbrev pub refused_name : {P : Type 0} → Outcome P → Option (List ℕ)
 refused_name (Ok said) = None
 refused_name (Err refusal) = Some (refusal_name refusal)
 
--- the line of the object of an outcome, and of the session that is left
+-- what answers a line: an outcome as the plain program has it, or why `fair` begins nothing
+abbrev pub Answer : Type 0 → Type 0
+Answer P = Result (Outcome P) FairRefusal
+
+-- the name of the refusal that an answer is, if it is one
+abbrev pub answer_name : {P : Type 0} → Answer P → Option (List ℕ)
+answer_name (Ok outcome) = refused_name outcome
+answer_name (Err refusal) = Some (fair_refusal_name refusal)
+
+-- its lines of text
+abbrev pub answer_text : {P : Type 0} → Answer P → List ℕ
+answer_text (Ok outcome) = plain_text outcome
+answer_text (Err refusal) = refusal_line (fair_refusal_name refusal)
+
+-- the session that is left: a refusal leaves the one before
+abbrev pub left_by : {P : Type 0} → Option (History P) → Answer P → Option (History P)
+left_by old (Ok outcome) = left old outcome
+left_by old (Err refusal) = old
+
+-- the line of the object of an answer, and of the session that is left
+abbrev pub IsAnswerLine : {P : Type 0} → GameFacts P → Answer P → Option (History P) → List ℕ → Type 0
+IsAnswerLine f answer new bytes = IsLineOf (reply_data (answer_name answer) (answer_text answer) (session_data f new)) bytes
+
+-- the same of an outcome
 abbrev pub IsReplyLine : {P : Type 0} → GameFacts P → Outcome P → Option (History P) → List ℕ → Type 0
-IsReplyLine f outcome new bytes = IsLineOf (reply_data (refused_name outcome) (plain_text outcome) (session_data f new)) bytes
+IsReplyLine f outcome new bytes = IsAnswerLine f (Ok outcome) new bytes

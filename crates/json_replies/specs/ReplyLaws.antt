@@ -3,34 +3,32 @@ use Rattle.std.specs.Prelude.{◌≡◌, ◌≢◌, ℕ, List, Option, Some}
 use Rattle.play_midend.specs.Histories.{History}
 use Rattle.puzzle_cli.specs.Lines.{Line}
 use Rattle.puzzle_cli.specs.GameFacts.{GameFacts}
-use Rattle.puzzle_cli.specs.SessionReplies.{Outcome}
-use Rattle.puzzle_cli.specs.Replies.{LineGives, plain_text}
 use Rattle.puzzle_cli.specs.WholeLines.{AreWholeLines}
 use Rattle.puzzle_cli.specs.RunLaws.{PicturesAreWholeLines}
 use Rattle.json_replies.specs.Texts.{lines_of, lines_text}
 use Rattle.json_replies.specs.ObjectLines.{lost_line, OrLost}
-use Rattle.json_replies.specs.Replies.{refused_name, IsReplyLine}
+use Rattle.json_replies.specs.Replies.{Answer, answer_name, answer_text, IsAnswerLine}
 use Rattle.json_replies.specs.Sessions.{session_data}
 use Rattle.json_replies.specs.declared.further_line.FurtherLine.{FurtherLine}
 use Rattle.json_replies.specs.FurtherLines.{BoardFacts, further_key, IsFurtherLine}
-use Rattle.json_replies.specs.JsonReplies.{JsonReply}
+use Rattle.json_replies.specs.JsonReplies.{AnswerGives, JsonReply}
 
 -- the lines that are told of a reply of whole lines, each with LF, are the reply
 abbrev pub LinesAreTheReply : Type 0
 LinesAreTheReply = (said : List ℕ) → AreWholeLines said → lines_text (lines_of said) ≡ said
 
 -- where pictures are whole lines, one line of an object tells one reply, one refusal or none, and one session, of all that answers any lines
--- of any sessions
-abbrev pub ObjectsTellOneReply : {P : Type 0} → GameFacts P → Type 0
-ObjectsTellOneReply {P} f =
+-- of any sessions but those beside the commands
+abbrev pub ObjectsTellOneReply : {P : Type 0} → GameFacts P → BoardFacts P → Type 0
+ObjectsTellOneReply {P} f b =
     PicturesAreWholeLines f.drawing
-    → (old before : Option (History P)) (line earlier : Line) (one other : Outcome P) (new last : Option (History P)) (bytes : List ℕ)
-    → LineGives f old line one → LineGives f before earlier other → IsReplyLine f one new bytes → IsReplyLine f other last bytes
-    → (plain_text one ≡ plain_text other) × (refused_name one ≡ refused_name other) × (session_data f new ≡ session_data f last)
+    → (old before : Option (History P)) (line earlier : Line) (one other : Answer P) (new last : Option (History P)) (bytes : List ℕ)
+    → AnswerGives f b old line one → AnswerGives f b before earlier other → IsAnswerLine f one new bytes → IsAnswerLine f other last bytes
+    → (answer_text one ≡ answer_text other) × (answer_name one ≡ answer_name other) × (session_data f new ≡ session_data f last)
 
 -- no object's line is the one that tells that an object was lost
 pub record ObjectsAreNotLost {P : Type 0} (f : GameFacts P) (b : BoardFacts P) : Type 0 where
-  pub replies : (outcome : Outcome P) (new : Option (History P)) (bytes : List ℕ) → IsReplyLine f outcome new bytes → bytes ≢ lost_line
+  pub replies : (answer : Answer P) (new : Option (History P)) (bytes : List ℕ) → IsAnswerLine f answer new bytes → bytes ≢ lost_line
   pub answers : (which : FurtherLine) (new : Option (History P)) (bytes : List ℕ) → IsFurtherLine f b which new bytes → bytes ≢ lost_line
 
 -- the lines beside the commands leave the session, and are answered from it

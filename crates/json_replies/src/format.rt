@@ -1,14 +1,20 @@
 //! The format of the program `puzzles-json`: each reply is one JSON object on one line.
 
-ghost use Rattle.std.specs.Prelude.{◌≡◌, Ok, Err, IfOk};
+ghost use Rattle.std.specs.Prelude.{◌≡◌, ◌≤◌, false, length, Some, None, Ok, IfOk};
 ghost use Rattle.std.specs.Option.{option_copied};
+ghost use Rattle.puzzle_cli.specs.Machines.{IsResponse};
+ghost use Rattle.puzzle_cli.specs.Replies.{refusal_line};
 ghost use Rattle.puzzle_cli.specs.Texts.{text_bytes};
+ghost use Rattle.json_replies.specs.FairLines.{words_copied};
 ghost use Rattle.json_replies.specs.FurtherLines.{IsFurtherLine};
+ghost use Rattle.json_replies.specs.Inner.ToldResponses.{TellsFair, TellsResponse};
 ghost use Rattle.json_replies.specs.JsonReplies.{JsonReply, TellsOutcome};
 ghost use Rattle.json_replies.specs.ObjectLines.{IsLineOf, OrLost, lost_line};
-ghost use Rattle.json_replies.specs.Replies.{IsReplyLine, reply_data};
+ghost use Rattle.json_replies.specs.Replies.{reply_data};
 ghost use Rattle.json_replies.specs.Sessions.{session_data};
 
+use crate::fair::{begin_described, fair_game};
+use crate::fair_words::{FairWords, read_fair};
 use crate::further::answer_line;
 use crate::further_line::{FurtherLine, read_further};
 use crate::object_line::reply_object;
@@ -20,7 +26,7 @@ use puzzle_cli::{Draw, Facts, Format, LineFault, Refusal, Response, Text, obey};
 use std::alloc::Global;
 
 /// Each reply is one JSON object on one line: the refusal or null, the lines that the plain program says, and the session that is left;
-/// or the answer to one of the lines beside the commands.
+/// or the answer to one of the lines beside the commands. `fair` and three words are answered as `new` with the ID of the fair game.
 ///
 /// Where the object can't be made for want of memory, the line is `{"lost":"OutOfMemory"}`, and the session is left as the plain
 /// program leaves it.
@@ -34,17 +40,51 @@ impl<P: Shows> Format<P> for Json {
     fn answer(alloc: Global, session: &mut Option<Session<P>>, line: Option<&[u8]>) -> Response {
         match read_further(line) {
             Some(which) => Response::Reply(further_object(alloc, session, which)),
-            None => match obey(alloc, session, line) {
-                Ok(response) => match response {
-                    Response::Reply(said) => {
-                        Response::Reply(said_object(alloc, session, said.as_bytes()))
-                    }
-                    Response::Silence => Response::Silence,
-                    Response::Quit => Response::Quit,
-                },
-                Err(refusal) => Response::Reply(refused_object(alloc, session, refusal)),
+            None => match read_fair(line) {
+                Some(words) => fair_response(alloc, session, words),
+                None => {
+                    let answer = obey(alloc, session, line);
+                    told(alloc, session, answer)
+                }
             },
         }
+    }
+}
+
+// The answer to `fair` and these words.
+fn fair_response<P: Shows>(
+    alloc: Global,
+    session: &mut Option<Session<P>>,
+    words: FairWords<&[u8]>,
+) -> Response
+    ensures { IsResponse
+        (λ old line bytes new. TellsFair ⟦<P as Facts>⟧.facts ⟦<P as ShownFacts>⟧.board_facts old
+        (words_copied words.entry) bytes new) (λ _. false) session.old None result session.new }
+{
+    match fair_game(words) {
+        Ok((params, puzzle)) => {
+            let answer = begin_described(alloc, session, params, &puzzle);
+            told(alloc, session, answer)
+        }
+        Err(refusal) => Response::Reply(refused_object(alloc, session, refusal.name())),
+    }
+}
+
+// The response that tells what `obey` answered, where this session is left.
+fn told<P: Draw>(
+    alloc: Global,
+    session: &Option<Session<P>>,
+    answer: Result<Response, Refusal>,
+) -> Response
+    ensures { TellsResponse ⟦<P as Facts>⟧.facts answer session.now result }
+{
+    match answer {
+        Ok(Response::Reply(said)) => {
+            Response::Reply(said_object(alloc, session, said.as_bytes()))
+        }
+        Ok(Response::Silence) => Response::Silence,
+        Ok(Response::Quit) => Response::Quit,
+        Err(refusal) => Response::Reply(refused_object(alloc, session, refusal.name())),
     }
 }
 
@@ -54,7 +94,7 @@ fn further_object<P: Shows>(alloc: Global, session: &Option<Session<P>>, which: 
         which session.now) (text_bytes result) }
 {
     let Some(shown) = session else {
-        return refused_object(alloc, session, Refusal::Line(LineFault::NoGame));
+        return refused_object(alloc, session, Refusal::Line(LineFault::NoGame).name());
     };
     match answer_line(alloc, shown, which) {
         Ok(line) => Text::Long(line),
@@ -74,12 +114,12 @@ fn said_object<P: Draw>(alloc: Global, session: &Option<Session<P>>, said: &[u8]
     object(alloc, session, None, said)
 }
 
-// The object of a refusal.
-fn refused_object<P: Draw>(alloc: Global, session: &Option<Session<P>>, refusal: Refusal) -> Text
-    ensures { OrLost (IsReplyLine ⟦<P as Facts>⟧.facts (Err refusal) session.now)
-        (text_bytes result) }
+// The object of a refusal of this name.
+fn refused_object<P: Draw>(alloc: Global, session: &Option<Session<P>>, name: &'static str) -> Text
+    requires { length name.now ≤ 16 }
+    ensures { OrLost (IsLineOf (reply_data (Some name.now) (refusal_line name.now)
+        (session_data ⟦<P as Facts>⟧.facts session.now))) (text_bytes result) }
 {
-    let name = refusal.name();
     let line = Text::refused(name);
     object(alloc, session, Some(name.as_bytes()), line.as_bytes())
 }

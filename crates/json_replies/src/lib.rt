@@ -5,6 +5,9 @@
 
 mod board;
 mod clue_lists;
+mod fair;
+mod fair_request;
+mod fair_words;
 mod format;
 mod further;
 mod further_line;

@@ -2,6 +2,7 @@
 //! would have to carry: they are the contract of a function that does nothing.
 
 ghost use Rattle.json_replies.specs.ReplyLaws.{LinesAreTheReply, ObjectsTellOneReply, ObjectsAreNotLost, AnswersLeave};
+ghost use Rattle.json_replies.specs.FairLaws.{FairLinesBegin, HintsLeadOn};
 
 use crate::shown::{ShownFacts, Shows};
 use puzzle_cli::Facts;
@@ -11,10 +12,16 @@ use puzzle_cli::Facts;
 /// The lines that are told of a reply of whole lines, each with LF, are the reply. Where a game's pictures are
 /// whole lines every plain reply is, so two that are told by the same bytes are the same, and what is told of the session that they
 /// leave is the same. No object's line is
-/// `{"lost":"OutOfMemory"}`. The lines `board`, `completable` and `hint` leave the session, and are answered from it.
+/// `{"lost":"OutOfMemory"}`. The lines `board`, `completable`, `hint` and `grade` leave the session, and are answered from it. `fair` and
+/// three words leave it, or begin that of the very puzzle that they ask for, which has one solution and is of the grade. In such a puzzle
+/// hints lead on while a square is empty: by that grade at most, or to a contradiction where a number is wrong.
 pub fn laws<P: Shows>()
     ensures lines { LinesAreTheReply }
-    ensures one_reply { ObjectsTellOneReply ⟦<P as Facts>⟧.facts }
+    ensures one_reply { ObjectsTellOneReply ⟦<P as Facts>⟧.facts ⟦<P as ShownFacts>⟧.board_facts }
     ensures not_lost { ObjectsAreNotLost ⟦<P as Facts>⟧.facts ⟦<P as ShownFacts>⟧.board_facts }
     ensures answers { AnswersLeave ⟦<P as Facts>⟧.facts ⟦<P as ShownFacts>⟧.board_facts }
-{}
+    ensures fair { FairLinesBegin ⟦<P as Facts>⟧.facts ⟦<P as ShownFacts>⟧.board_facts }
+    ensures hints { HintsLeadOn ⟦<P as Facts>⟧.facts ⟦<P as ShownFacts>⟧.board_facts }
+{
+    named_steps::laws::<P>();
+}

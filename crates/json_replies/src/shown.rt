@@ -1,4 +1,4 @@
-//! What a game adds to be told as JSON: the clues and signs of its boards.
+//! What a game adds to be told as JSON: the clues and signs of its boards, and laws of its letters.
 
 ghost use Rattle.std.specs.Prelude.{◌≡◌, IfOk};
 ghost use Rattle.latin_board.specs.Boards.{BoardValue};
@@ -6,11 +6,13 @@ ghost use Rattle.serde_json.specs.Data.{Data, array, no_items};
 ghost use Rattle.serde_json.specs.View.{view};
 ghost use Rattle.board_checks.specs.Errors.{ErrorsValue};
 ghost use Rattle.json_replies.specs.ObjectLines.{Fits};
+ghost use Rattle.json_replies.specs.FairLines.{AreFairLetters};
 ghost use Rattle.json_replies.specs.FurtherLines.{BoardFacts};
 
 use crate::clue_lists::{clues_value, signs_value};
 use board_checks::{BoardErrors, Deduces, Demands};
-use clue_rules::{Towers, Unequal};
+use clue_rules::{Game, Towers, Unequal};
+use fair_games::FairGame;
 use latin_board::Board;
 use puzzle_cli::Draw;
 use serde_json::Value;
@@ -19,7 +21,7 @@ use step_texts::StepNames;
 use trail_solver::Rules;
 
 /// A game whose boards can be told.
-pub trait Shows: Draw + Demands + Deduces + StepNames {
+pub trait Shows: Draw + Demands + Deduces + StepNames + FairGame {
     // The clues that stand at the edges of a board, and the signs between its squares.
     ghost clues: { Self → BoardValue → ErrorsValue → Data };
 
@@ -49,11 +51,15 @@ pub trait Shows: Draw + Demands + Deduces + StepNames {
     ghost clues_fit: { (p : Self) (b : BoardValue) (e : ErrorsValue) → Fits 2 (clues p b e) };
 
     ghost signs_fit: { (p : Self) (b : BoardValue) (e : ErrorsValue) → Fits 2 (signs p b e) };
+
+    // The letters of fair games are letters of the game, each of one grade.
+    ghost fair_letters: { AreFairLetters Self.letter_codes Self.letter_of };
 }
 
 impl Shows for Towers {
     ghost use Rattle.json_replies.specs.ClueLists.{clues_data};
     ghost use Rattle.json_replies.specs.Laws.Spellings.{clues_fit, none_fits};
+    ghost use Rattle.json_replies.specs.Laws.FairLetters.{towers_fair};
 
     ghost clues = { clues_data };
 
@@ -62,6 +68,8 @@ impl Shows for Towers {
     ghost clues_fit = { clues_fit };
 
     ghost signs_fit = { λ _ _ _. none_fits };
+
+    ghost fair_letters = { towers_fair };
 
     fn tell_clues(
         &self,
@@ -85,6 +93,7 @@ impl Shows for Towers {
 impl Shows for Unequal {
     ghost use Rattle.json_replies.specs.ClueLists.{signs_data};
     ghost use Rattle.json_replies.specs.Laws.Spellings.{signs_fit, none_fits};
+    ghost use Rattle.json_replies.specs.Laws.FairLetters.{unequal_fair};
 
     ghost clues = { λ _ _ _. array no_items };
 
@@ -93,6 +102,8 @@ impl Shows for Unequal {
     ghost clues_fit = { λ _ _ _. none_fits };
 
     ghost signs_fit = { λ p _ e. signs_fit p e };
+
+    ghost fair_letters = { unequal_fair };
 
     fn tell_clues(
         &self,
@@ -128,5 +139,8 @@ impl<P: Shows> ShownFacts for P {
       letter = P.grade_letter;
       edge_clue = P.edge_clue_of;
       says_greater = P.says_greater_of;
+      fair_letter = P.letter_of;
+      trial = P.trial_of;
+      initial = P.initial_code;
     } };
 }

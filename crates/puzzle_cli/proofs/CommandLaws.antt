@@ -47,12 +47,14 @@ map_taken : {A B : Type 0} (make : A → B) (o : Option A) (b : B) → option_ma
 map_taken make None b h = cc
 map_taken make (Some a) b h = let is : make a ≡ b = cc in (a, refl, is)
 
-then_taken : {A B : Type 0} (next : A → Option B) (o : Option A) (b : B) → option_and_then next o ≡ Some b
+-- of what comes next
+pub then_taken : {A B : Type 0} (next : A → Option B) (o : Option A) (b : B) → option_and_then next o ≡ Some b
     → (a : A) × (o ≡ Some a) × (next a ≡ Some b)
 then_taken next None b h = cc
 then_taken next (Some a) b h = (a, refl, h)
 
-behind_taken : (front line text : List ℕ) → rest_behind front line ≡ Some text → line ≡ front ++ text
+-- what stands behind a front stands there
+pub behind_taken : (front line text : List ℕ) → rest_behind front line ≡ Some text → line ≡ front ++ text
 behind_taken front line text h =
     elim (bytes_eq (take (length front) line) front) as (λ t. bytes_eq (take (length front) line) front ≡ t
     → cond t (Some (drop (length front) line)) None ≡ Some text → line ≡ front ++ text) [

@@ -14,7 +14,8 @@ use Rattle.puzzle_cli.proofs.RepliesOnce.{IdsAreReadOnce, outcome_once}
 use Rattle.puzzle_cli.proofs.CallReplies.{ample_or_none}
 
 module _ {P : Type 0} (f : GameFacts P) (laws : ItemLaws f.rules) (ids : IdsAreReadOnce f) where
-  given_once : (old new : Option (History P)) (line : Line) (text : List ℕ) → AmpleGives f old line (Ok (text, new))
+  -- the one answer with ample memory
+  pub given_once : (old new : Option (History P)) (line : Line) (text : List ℕ) → AmpleGives f old line (Ok (text, new))
       → (outcome : Outcome P) → LineGives f old line outcome → (outcome ≡ Ok (text, new)) ⊎ (outcome ≡ Err Memory)
   given_once old new line text ample outcome (read, is, gives) =
       elim (ample_or_none f old read outcome gives) [

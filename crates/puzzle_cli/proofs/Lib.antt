@@ -20,6 +20,7 @@ pub mod StorableReplies
 pub mod StorableRuns
 pub mod KnownReplies
 pub mod SaveReplies
+pub mod DescribedReplies
 pub mod SeededReplies
 pub mod LinesAnswered
 pub mod PlainReplies

@@ -15,8 +15,9 @@ module _ {P : Type 0} (f : GameFacts P) (laws : ItemLaws f.rules) (reply : Reply
   reply_storable : (old new : Option (History P)) (line : Line) (bytes : List ℕ) → IsNoneOrStorable f old → reply old line bytes new
       → IsNoneOrStorable f new
   reply_storable old new line bytes s said =
-      let (outcome, gives, left) = leaves old new line bytes said in
-      subst (λ (o : Option (History P)). IsNoneOrStorable f o) (sym left) (answers_stay_storable f laws old line outcome s gives)
+      let (asked, answers) = leaves old new line bytes said in
+      let (outcome, gives, left) = answers in
+      subst (λ (o : Option (History P)). IsNoneOrStorable f o) (sym left) (answers_stay_storable f laws old asked outcome s gives)
 
   -- and so can what replies in turn leave
   in_turn : (lines : List Line) (old new : Option (History P)) (written : List ℕ) → IsNoneOrStorable f old

@@ -1,4 +1,4 @@
--- What a format owes: its words are its own, and the session that is left is one that an answer to the line leaves.
+-- What a format owes: its words are its own, and the session that is left is one that an answer to some line leaves.
 use Rattle.std.specs.Prelude.{◌≡◌, ℕ, List, Option}
 use Rattle.play_midend.specs.Histories.{History}
 use Rattle.puzzle_cli.specs.Lines.{Line, ReplyRule}
@@ -10,7 +10,8 @@ use Rattle.puzzle_cli.specs.Replies.{LineGives, left}
 abbrev pub Leaves : {P : Type 0} → GameFacts P → Option (History P) → Line → Option (History P) → Type 0
 Leaves {P} f old line new = (outcome : Outcome P) × LineGives f old line outcome × (new ≡ left old outcome)
 
--- so does each reply of the rule
+-- each reply of the rule leaves what an answer to some line does: to the line itself, or to one that it stands for
 abbrev pub LeavesAsAnswers : {P : Type 0} → GameFacts P → ReplyRule (Option (History P)) → Type 0
 LeavesAsAnswers {P} f reply =
-    (old new : Option (History P)) (line : Line) (bytes : List ℕ) → reply old line bytes new → Leaves f old line new
+    (old new : Option (History P)) (line : Line) (bytes : List ℕ) → reply old line bytes new
+    → (asked : Line) × Leaves f old asked new

@@ -2,7 +2,7 @@
 use Rattle.std.specs.Prelude.{◌≡◌, ◌⊎◌, ℕ, ◌<◌, ◌≤◌, ◌^◌, true, IsTrue, codes, List, ◌∷◌, ◌++◌, length, Option, Some, None, Result, Ok, Err}
 use Rattle.std.specs.Fmt.{decimal}
 use Rattle.std.specs.Option.{IsSomeAnd}
-use Rattle.byte_text.specs.Bytes.{exclamation}
+use Rattle.byte_text.specs.Bytes.{colon, exclamation}
 use Rattle.latin_board.specs.Squares.{GridValue}
 use Rattle.latin_board.specs.Boards.{BoardValue}
 use Rattle.trail_solver.specs.Solutions.{HasSeveralSolutions, IsOnlySolution}
@@ -29,6 +29,7 @@ use Rattle.puzzle_cli.specs.UnequalPicture.{unequal_picture}
 use Rattle.puzzle_cli.specs.Lines.{Line}
 use Rattle.puzzle_cli.specs.Commands.{Reading, IsRead}
 use Rattle.puzzle_cli.specs.GameFacts.{GameFacts}
+use Rattle.puzzle_cli.specs.NewSessions.{new_game}
 use Rattle.puzzle_cli.specs.Starts.{FileBegins}
 use Rattle.puzzle_cli.specs.SolutionTexts.{move_line, grid_line}
 use Rattle.puzzle_cli.specs.SessionReplies.{Outcome, text_outcome, sentence_outcome, ok_line, shown_board, IsCallRead, call_sentence}
@@ -186,6 +187,18 @@ SaveLineLoadsBack {P} f =
     → (bytes : List ℕ) × IsTheAnswer f (Some h) (Some (codes "save")) bytes (Some h)
     × ((first : Result (History P) StartFault) → FileBegins f bytes first → IsLoadedBack h bytes first)
     × (length bytes ≤ MOST_BYTES → FileBegins f bytes (Ok h))
+
+-- ---- described games
+
+-- the line `new` with parameters and the written form of a puzzle's description
+abbrev pub described_line : {P : Type 0} → GameFacts P → Params → P → Line
+described_line f params puzzle = Some (codes "new " ++ params_text params ++ colon ∷ f.desc_of puzzle)
+
+-- it begins a new session of that puzzle, whatever session there is
+abbrev pub DescribedLinesBegin : {P : Type 0} → GameFacts P → Type 0
+DescribedLinesBegin {P} f =
+    (old : Option (History P)) (params : Params) (puzzle : P) → IsParams f.letters params → f.rules.valid puzzle
+    → params.size ≡ (f.rules.puzzle puzzle).size → IsTheAnswer f old (described_line f params puzzle) ok_line (Some (new_game params puzzle))
 
 -- ---- seeded games
 

@@ -19,7 +19,7 @@ use play_midend::Session;
 use std::alloc::Global;
 
 /// A format in which the lines of a game's session are answered. It says what it likes to a line, and ends the run at the same
-/// lines as any other; what it leaves of the session is what [`obey`](crate::obey) may leave.
+/// lines as any other; what it leaves of the session is what [`obey`](crate::obey) may leave, of that line or of one in its place.
 pub trait Format<P: Draw> {
     // What may be said to a line, no bytes where it has no reply: the session before, or none, the line, the bytes, the session after.
     ghost reply: { ReplyRule (Option (History P)) };
@@ -40,7 +40,7 @@ impl<P: Draw> Format<P> for Plain {
 
     ghost reply = { Reply ⟦<P as Facts>⟧.facts };
 
-    ghost leaves_as_answers = { λ _ _ _ _ said. (said.0, said.1, said.3) };
+    ghost leaves_as_answers = { λ _ _ line _ said. (line, (said.0, said.1, said.3)) };
 
     fn answer(alloc: Global, session: &mut Option<Session<P>>, line: Option<&[u8]>) -> Response {
         match obey(alloc, session, line) {

@@ -1,6 +1,6 @@
 //! The laws of what lines make of sessions. Each is of all lines and sessions, and so no clause of one call, which every caller would
 //! have to carry: they are the contract of a function that does nothing.
-ghost use Rattle.puzzle_cli.specs.RunLaws.{LinesAreReadOnce, RefusedLinesLeave, OtherRepliesAnswer, BothPicturesAreWholeLines, RepliesAreWholeLines, OutputIsOne, OutputIsThere, AnswersStayStorable, LinesAreCalls, OtherRequestsLeave, UndoLineTakesBack, RedoLineTakesUndoBack, SaveLineLoadsBack, SeededLinesHaveOne};
+ghost use Rattle.puzzle_cli.specs.RunLaws.{LinesAreReadOnce, RefusedLinesLeave, OtherRepliesAnswer, BothPicturesAreWholeLines, RepliesAreWholeLines, OutputIsOne, OutputIsThere, AnswersStayStorable, LinesAreCalls, OtherRequestsLeave, UndoLineTakesBack, RedoLineTakesUndoBack, SaveLineLoadsBack, DescribedLinesBegin, SeededLinesHaveOne};
 
 use crate::draw::Draw;
 use crate::reply::facts::Facts;
@@ -17,7 +17,7 @@ use crate::reply::facts::Facts;
 /// position, the puzzle, the parameters and the kept bytes. `undo` and then `redo` give back the whole session.
 ///
 /// What `save` answers of a session that can be stored begins that session again, as a file does; only want of memory, or more
-/// bytes than a save may have, refuse it. The puzzle of a game that `new` began from a seed has one solution, and several
+/// bytes than a save may have, refuse it. `new` with the written form of a puzzle begins a game of that puzzle. The puzzle of a game that `new` began from a seed has one solution, and several
 /// without any one of its items; `solve` answers that solution, and `list 2` has it alone.
 pub fn laws<P: Draw>()
     ensures read_once { LinesAreReadOnce }
@@ -33,5 +33,6 @@ pub fn laws<P: Draw>()
     ensures undone { UndoLineTakesBack ⟦<P as Facts>⟧.facts }
     ensures redone { RedoLineTakesUndoBack ⟦<P as Facts>⟧.facts }
     ensures loads_back { SaveLineLoadsBack ⟦<P as Facts>⟧.facts }
+    ensures described { DescribedLinesBegin ⟦<P as Facts>⟧.facts }
     ensures seeded { SeededLinesHaveOne ⟦<P as Facts>⟧.facts }
 {}

@@ -19,6 +19,9 @@ Commands, one a line:
   hint         a number that follows from its numbers, and by which steps
   grade        by which steps the puzzle follows, as a letter, or null
 
+  fair SIZE GRADE SEED  begins a game that follows by the steps of the grade; grades are
+                        e and h of Towers, t, e and k of Unequal, h and k from size 4 on
+
 Each reply is one object on one line:
   refused    null, or the refusal's name
   reply      the lines that puzzles answers

@@ -76,7 +76,7 @@ impl<P: Draw> Format<P> for Dots {
     ghost reply = { λ old line _ new.
         (said : List ℕ) × Reply ⟦<P as Facts>⟧.facts old line said new };
 
-    ghost leaves_as_answers = { λ _ _ _ _ told. (told.1.0, told.1.1, told.1.3) };
+    ghost leaves_as_answers = { λ _ _ line _ told. (line, (told.1.0, told.1.1, told.1.3)) };
 
     fn answer(alloc: Global, session: &mut Option<Session<P>>, line: Option<&[u8]>) -> Response {
         match <Plain as Format<P>>::answer(alloc, session, line) {

@@ -1,22 +1,57 @@
-use Rattle.puzzle_cli.specs.GameFacts.{facts_of}
+use Rattle.clue_rules.specs.GameIds.{describes_at}
+use Rattle.clue_rules.proofs.GameIdLemmas.{id_again, game_reads}
+use Rattle.puzzle_gen.proofs.ItemLaws.{laws_of}
+use Rattle.fair_games.proofs.PruneSteps.{HasSteps}
+use Rattle.puzzle_cli.specs.GameFacts.{GameFacts, facts_of}
+use Rattle.puzzle_cli.proofs.RepliesOnce.{IdsAreReadOnce, ids_once}
 use Rattle.json_replies.specs.FurtherLines.{BoardFacts}
 use Rattle.json_replies.proofs.WholeReplies.{lines_are_the_reply}
 use Rattle.json_replies.proofs.ToldOnce.{objects_tell_one_reply, objects_are_not_lost}
 use Rattle.json_replies.proofs.AnswersLeave.{answers_leave}
+use Rattle.json_replies.proofs.FairStarts.{fair_lines_begin}
+use Rattle.json_replies.proofs.FairHints.{hints_lead_on}
+use Rattle.json_replies.proofs.reply_laws.laws.Given.{Over}
 use Rattle.json_replies.proofs.reply_laws.laws.Goals as goal
+
+-- what a game says of itself
+abbrev facts : (g : Over) → GameFacts g.row.P.Denot
+facts g = facts_of g.P.Rules g.P.Game g.P.Draw
+
+-- what a game says of boards
+abbrev boards : (g : Over) → BoardFacts g.row.P.Denot
+boards g = record { demand = g.P.Demands.demand; strikes = g.P.Deduces.strikes; clues = g.P.Shows.clues; signs = g.P.Shows.signs; struck_by = g.P.Steps.struck_by; letter = g.P.StepNames.grade_letter; edge_clue = g.P.StepNames.edge_clue_of; says_greater = g.P.StepNames.says_greater_of; fair_letter = g.P.FairGame.letter_of; trial = g.P.FairGame.trial_of; initial = g.P.FairGame.initial_code }
+
+-- IDs are read in one way
+ids : (g : Over) → IdsAreReadOnce (facts g)
+ids g =
+    let f = facts g in
+    let reads = game_reads g.row.P.Denot f.rules.puzzle f.rules.valid f.describes f.desc_at g.met.P.Game.desc_taken g.met.P.Game.desc_again in
+    ids_once f (λ text id. id_again g.row.P.Denot f.letters f.has_adjacent f.desc_at
+    (describes_at f.rules.puzzle f.rules.valid f.describes) text id g.met.P.Game.plain_letters reads)
+
+-- the laws of the puzzle's steps
+steps : (g : Over) → HasSteps g.P.Rules g.P.Steps.struck_by
+steps g = record {
+  items = laws_of g.met.P.Rules;
+  less = g.met.P.Steps.struck_less;
+  sound = λ p valid d reason cell value h. g.met.P.Steps.struck_sound p d reason cell value h valid;
+  cut = g.met.P.Steps.struck_cut;
+}
 
 pub returns-clause-lines : goal.returns-clause-lines
 returns-clause-lines g c = lines_are_the_reply
 
 pub returns-clause-one_reply : goal.returns-clause-one_reply
-returns-clause-one_reply g c = objects_tell_one_reply (facts_of g.P.Rules g.P.Game g.P.Draw)
+returns-clause-one_reply g c = objects_tell_one_reply (facts g) (boards g)
 
 pub returns-clause-not_lost : goal.returns-clause-not_lost
-returns-clause-not_lost g c =
-    let b : BoardFacts g.row.P.Denot = record { demand = g.P.Demands.demand; strikes = g.P.Deduces.strikes; clues = g.P.Shows.clues; signs = g.P.Shows.signs; struck_by = g.P.Steps.struck_by; letter = g.P.StepNames.grade_letter; edge_clue = g.P.StepNames.edge_clue_of; says_greater = g.P.StepNames.says_greater_of } in
-    objects_are_not_lost (facts_of g.P.Rules g.P.Game g.P.Draw) b
+returns-clause-not_lost g c = objects_are_not_lost (facts g) (boards g)
 
 pub returns-clause-answers : goal.returns-clause-answers
-returns-clause-answers g c =
-    let b : BoardFacts g.row.P.Denot = record { demand = g.P.Demands.demand; strikes = g.P.Deduces.strikes; clues = g.P.Shows.clues; signs = g.P.Shows.signs; struck_by = g.P.Steps.struck_by; letter = g.P.StepNames.grade_letter; edge_clue = g.P.StepNames.edge_clue_of; says_greater = g.P.StepNames.says_greater_of } in
-    answers_leave (facts_of g.P.Rules g.P.Game g.P.Draw) b
+returns-clause-answers g c = answers_leave (facts g) (boards g)
+
+pub returns-clause-fair : goal.returns-clause-fair
+returns-clause-fair g c = fair_lines_begin (facts g) (boards g) (steps g) (ids g) g.met.P.Game.desc_canonical g.met.P.Shows.fair_letters
+
+pub returns-clause-hints : goal.returns-clause-hints
+returns-clause-hints g c = hints_lead_on (facts g) (boards g) g.met.P.Steps.struck_less c.laws.ensures.nested

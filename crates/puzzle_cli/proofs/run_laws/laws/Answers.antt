@@ -14,6 +14,7 @@ use Rattle.puzzle_cli.proofs.CallReplies.{lines_are_calls, other_requests_leave}
 use Rattle.puzzle_cli.proofs.UndoReplies.{undo_line_takes_back, redo_line_takes_undo_back}
 use Rattle.puzzle_cli.proofs.LinesAnswered.{output_is_there}
 use Rattle.puzzle_cli.proofs.SaveReplies.{save_line_loads_back}
+use Rattle.puzzle_cli.proofs.DescribedReplies.{described_lines_begin}
 use Rattle.puzzle_cli.proofs.SeededReplies.{seeded_lines_have_one}
 use Rattle.puzzle_cli.proofs.run_laws.laws.Given.{Over}
 use Rattle.puzzle_cli.proofs.run_laws.laws.Goals as goal
@@ -75,6 +76,10 @@ returns-clause-loads_back g c =
     let laws = g.met.P.Game in
     save_line_loads_back (facts_of g.P.Rules g.P.Game g.P.Draw) (laws_of g.met.P.Rules) (ids g)
     (game_owes g.P.Rules g.P.Game laws.desc_taken laws.desc_again laws.desc_canonical)
+
+pub returns-clause-described : goal.returns-clause-described
+returns-clause-described g c =
+    described_lines_begin (facts_of g.P.Rules g.P.Game g.P.Draw) (laws_of g.met.P.Rules) (ids g) g.met.P.Game.desc_canonical
 
 pub returns-clause-seeded : goal.returns-clause-seeded
 returns-clause-seeded g c = seeded_lines_have_one (facts_of g.P.Rules g.P.Game g.P.Draw) (laws_of g.met.P.Rules) (ids g)

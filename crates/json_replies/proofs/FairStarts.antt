@@ -1,0 +1,93 @@
+-- The session that a line `fair` begins.
+use Rattle.std.proofs.Common.{◌≡◌, ◌⊎◌, ℕ, List, Option, Some, None, Result, Ok, Err, IfSome, Contains, refl, sym, ap, subst, ◌∙◌, inl, inr}
+use Rattle.std.specs.Option.{IsSomeAnd}
+use Rattle.clue_rules.specs.declared.params.Params.{Params}
+use Rattle.clue_rules.specs.Parameters.{IsParams}
+use Rattle.play_midend.specs.Histories.{History}
+use Rattle.puzzle_gen.proofs.ItemLaws.{ItemLaws}
+use Rattle.named_steps.specs.declared.grade.Grade.{Grade}
+use Rattle.fair_games.proofs.PruneSteps.{HasSteps}
+use Rattle.fair_games.proofs.FairSteps.{fair_puzzle, fair_solved, draw_size}
+use Rattle.puzzle_cli.specs.declared.reply.refusal.Refusal.TheVariants.{Memory}
+use Rattle.puzzle_cli.specs.Lines.{Line}
+use Rattle.puzzle_cli.specs.GameFacts.{GameFacts}
+use Rattle.puzzle_cli.specs.NewSessions.{new_game}
+use Rattle.puzzle_cli.specs.SessionReplies.{Outcome, ok_line}
+use Rattle.puzzle_cli.specs.Replies.{LineGives, left}
+use Rattle.puzzle_cli.specs.RunLaws.{described_line}
+use Rattle.puzzle_cli.proofs.RepliesOnce.{IdsAreReadOnce}
+use Rattle.puzzle_cli.proofs.DescribedReplies.{AreCanonical, described_lines_begin}
+use Rattle.json_replies.specs.declared.fair_words.FairWords.{FairWords}
+use Rattle.json_replies.specs.declared.fair_request.FairRequest.{FairRequest}
+use Rattle.json_replies.specs.FairLines.{IsFairLine, IsSizeWord, IsAsked, AreFairLetters}
+use Rattle.json_replies.specs.FairReplies.{fair_params, IsFairGame, FairGives}
+use Rattle.json_replies.specs.FairLaws.{IsFairStart, FairLinesBegin}
+use Rattle.json_replies.specs.FurtherLines.{BoardFacts, further_at}
+use Rattle.json_replies.specs.JsonReplies.{AnswerGives, TellsLine, JsonReply}
+use Rattle.json_replies.specs.Replies.{Answer, left_by}
+use Rattle.json_replies.proofs.FairReading.{line_again}
+
+-- the letter of a grade is one of the game's
+known_letter : (letters : List ℕ) (own : Option ℕ) (code : ℕ) → own ≡ Some code → Contains letters code → IfSome own (Contains letters)
+known_letter letters own code is contains = subst (λ (o : Option ℕ). IfSome o (Contains letters)) (sym is) contains
+
+-- what is asked for has parameters of the game
+pub asked_params : (letters : List ℕ) (letter : Grade → Option ℕ) → AreFairLetters letters letter → (words : FairWords (List ℕ)) (r : FairRequest)
+    → IsAsked letter words (Ok r) → IsParams letters (record { size = r.size; letter = letter r.grade })
+asked_params letters letter own words r (size, (code, is, offered, word), seed) = record {
+  smallest = size.0;
+  largest = size.1;
+  letter = known_letter letters (letter r.grade) code is (own.known r.grade code is);
+}
+
+module _ {P : Type 0} (f : GameFacts P) (b : BoardFacts P) (steps : HasSteps f.rules b.struck_by) (ids : IdsAreReadOnce f) (canonical : AreCanonical f)
+    (letters : AreFairLetters f.letters b.fair_letter) where
+  -- the session of a fair game
+  fair_start : (r : FairRequest) (p : P) → IsFairGame f b r (Ok p) → IsFairStart f b r (new_game (fair_params b r) p)
+  fair_start r p game =
+      let (solution, solved) = fair_solved f.rules b.struck_by steps r.grade _ p game.1 in
+      record { fair = game; start = refl; solution = solution; only = solved.0; follows = solved.1; graded = (game.1).graded }
+
+  -- what `new` with its ID gives
+  new_gives : (old : Option (History P)) (words : FairWords (List ℕ)) (r : FairRequest) (p : P) (outcome : Outcome P)
+      → IsAsked b.fair_letter words (Ok r) → IsFairGame f b r (Ok p) → LineGives f old (described_line f (fair_params b r) p) outcome
+      → (outcome ≡ Ok (ok_line, Some (new_game (fair_params b r) p))) ⊎ (outcome ≡ Err Memory)
+  new_gives old words r p outcome asked game gives =
+      let cut = fair_puzzle f.rules b.struck_by r.grade _ p steps.items game.1 in
+      let size : (f.rules.puzzle p).size ≡ r.size = cut.size ∙ draw_size (b.trial r.grade) r.size (f.rules.items_of r.size) _ (game.1).draw in
+      (described_lines_begin f steps.items ids canonical old (fair_params b r) p (asked_params f.letters b.fair_letter letters words r asked) cut.valid
+      (sym size)).others outcome gives
+
+  -- the session is left, or begun
+  abbrev Begins : Option (History P) → FairWords (List ℕ) → Option (History P) → Type 0
+  Begins old words new = (new ≡ old) ⊎ ((r : FairRequest) × IsAsked b.fair_letter words (Ok r) × IsSomeAnd new (IsFairStart f b r))
+
+  outcome_begins : (old new : Option (History P)) (words : FairWords (List ℕ)) (r : FairRequest) (p : P) (outcome : Outcome P)
+      → IsAsked b.fair_letter words (Ok r) → IsFairGame f b r (Ok p)
+      → (outcome ≡ Ok (ok_line, Some (new_game (fair_params b r) p))) ⊎ (outcome ≡ Err Memory) → new ≡ left old outcome → Begins old words new
+  outcome_begins old new words r p outcome asked game (inl is) leaves =
+      let begun : new ≡ Some (new_game (fair_params b r) p) = leaves ∙ ap (left old) is in
+      inr (r, asked, subst (λ (o : Option (History P)). IsSomeAnd o (IsFairStart f b r)) (sym begun) (fair_start r p game))
+  outcome_begins old new words r p outcome asked game (inr is) leaves = inl (leaves ∙ ap (left old) is)
+
+  answer_begins : (old new : Option (History P)) (words : FairWords (List ℕ)) (answer : Answer P) → FairGives f b old words answer
+      → new ≡ left_by old answer → Begins old words new
+  answer_begins old new words (Ok outcome) (params, p, (r, asked, is, game), gives) leaves =
+      let same : LineGives f old (described_line f (fair_params b r) p) outcome =
+      subst (λ (q : Params). LineGives f old (described_line f q p) outcome) is gives in
+      outcome_begins old new words r p outcome asked game (new_gives old words r p outcome asked game same) leaves
+  answer_begins old new words (Err refusal) gives leaves = inl leaves
+
+  line_begins : (old new : Option (History P)) (line : Line) (words : FairWords (List ℕ)) (answer : Answer P) → IsFairLine words line
+      → AnswerGives f b old line answer → new ≡ left_by old answer → Begins old words new
+  line_begins old new line words answer is (inl (own, so, gives)) leaves =
+      let both : Some own ≡ Some words = sym (line_again line own so) ∙ line_again line words is in
+      let same : own ≡ words = cc both in
+      answer_begins old new words answer (subst (λ (w : FairWords (List ℕ)). FairGives f b old w answer) same gives) leaves
+  line_begins old new line words answer is (inr (other, gives)) leaves = absurd (other words is)
+
+  pub fair_lines_begin : FairLinesBegin f b
+  fair_lines_begin old new line words bytes is reply =
+      let none : further_at line ≡ None = ap further_at is.spelled in
+      let (answer, gives, leaves, told) = subst (λ w. TellsLine f b old line w bytes new) none reply.told in
+      line_begins old new line words answer is gives leaves

@@ -1,0 +1,124 @@
+-- What is said to a line by what comes of it.
+use Rattle.std.proofs.Common.{◌≡◌, ℕ, Bool, false, List, [], Option, Some, None, Result, Ok, Err, IfOk, IfErr, OnErr, refl, sym, ap, subst, ◌∙◌, inl, inr}
+use Rattle.play_midend.specs.Histories.{History}
+use Rattle.clue_rules.specs.declared.params.Params.{Params}
+use Rattle.puzzle_cli.specs.declared.line.machine.Response.{Response}
+use Rattle.puzzle_cli.specs.declared.line.machine.Response.TheVariants.{Reply, Silence, Quit}
+use Rattle.puzzle_cli.specs.declared.command.line_fault.LineFault.TheVariants.{LongLine}
+use Rattle.puzzle_cli.specs.declared.reply.refusal.Refusal.{Refusal}
+use Rattle.puzzle_cli.specs.declared.reply.refusal.Refusal.TheVariants.{Line as OfLine}
+use Rattle.puzzle_cli.specs.Lines.{Line, ReplyRule}
+use Rattle.puzzle_cli.specs.Commands.{is_quit}
+use Rattle.puzzle_cli.specs.GameFacts.{GameFacts}
+use Rattle.puzzle_cli.specs.Formats.{Leaves}
+use Rattle.puzzle_cli.specs.Machines.{IsResponse}
+use Rattle.puzzle_cli.specs.Replies.{LineGives, left, refusal_line}
+use Rattle.puzzle_cli.specs.RunLaws.{described_line}
+use Rattle.puzzle_cli.specs.SessionReplies.{Outcome}
+use Rattle.puzzle_cli.specs.Texts.{text_bytes}
+use Rattle.json_replies.specs.declared.fair_words.FairWords.{FairWords}
+use Rattle.json_replies.specs.declared.fair_request.FairRefusal.{FairRefusal}
+use Rattle.json_replies.specs.FairLines.{IsFairLine}
+use Rattle.json_replies.specs.FairReplies.{AskFor, AreRefused, FairGives}
+use Rattle.json_replies.specs.FurtherLines.{BoardFacts, further_at}
+use Rattle.json_replies.specs.JsonReplies.{TellsOutcome, TellsAnswer, TellsLine, JsonReply}
+use Rattle.json_replies.specs.Replies.{Answer, left_by, reply_data}
+use Rattle.json_replies.specs.FairRefusals.{fair_refusal_name}
+use Rattle.json_replies.specs.ObjectLines.{IsLineOf, OrLost}
+use Rattle.json_replies.specs.Sessions.{session_data}
+use Rattle.json_replies.specs.Inner.ToldResponses.{TellsResponse, TellsFair}
+
+-- what `obey` owes of a line
+abbrev pub Obeys : {P : Type 0} → GameFacts P → Option (History P) → Line → Option (History P) → Result Response Refusal → Type 0
+Obeys f old line new (Ok answer) = IsResponse (λ before read said after. LineGives f before read (Ok (said, after))) is_quit old line answer new
+Obeys f old line new (Err refusal) = (new ≡ old) × (is_quit line ≡ false) × LineGives f old line (Err refusal)
+
+-- and so it does, by its clauses
+pub obeyed : {P : Type 0} (f : GameFacts P) (old new : Option (History P)) (line : Line) (answer : Result Response Refusal)
+    → IfOk answer (λ response. IsResponse (λ before read said after. LineGives f before read (Ok (said, after))) is_quit old line response new)
+    → OnErr answer (new ≡ old) → OnErr answer (is_quit line ≡ false) → IfErr answer (λ refusal. LineGives f old line (Err refusal))
+    → Obeys f old line new answer
+obeyed f old new line (Ok response) ok err goes_on why = ok
+obeyed f old new line (Err refusal) ok err goes_on why = (err, goes_on, why)
+
+-- what is so is so where there is a refusal
+pub whenever : {A : Type 0} (answer : Result Response Refusal) → A → OnErr answer A
+whenever (Ok response) is = tt
+whenever (Err refusal) is = is
+
+-- the response that tells it, where a reply to the line, and what ends the run, are so
+pub responds : {P : Type 0} (f : GameFacts P) (old new : Option (History P)) (asked line : Line) (rule : ReplyRule (Option (History P)))
+    (quit : Line → Bool) (answer : Result Response Refusal) (result : Response) → is_quit asked ≡ quit line
+    → ((outcome : Outcome P) (bytes : List ℕ) → LineGives f old asked outcome → new ≡ left old outcome → TellsOutcome f outcome new bytes
+    → rule old line bytes new)
+    → Obeys f old asked new answer → TellsResponse f answer new result → IsResponse rule quit old line result new
+responds f old new asked line rule quit (Ok (Reply said)) (Reply text) same tells obeys told =
+    (sym same ∙ obeys.0, tells (Ok (text_bytes said, new)) (text_bytes text) obeys.1 refl told)
+responds f old new asked line rule quit (Ok Silence) Silence same tells obeys told = (sym same ∙ obeys.0, tells (Ok ([], new)) [] obeys.1 refl refl)
+responds f old new asked line rule quit (Ok Quit) Quit same tells obeys told = (sym same ∙ obeys.0, obeys.1)
+responds f old new asked line rule quit (Err refusal) (Reply text) same tells obeys told =
+    (sym same ∙ obeys.1, tells (Err refusal) (text_bytes text) obeys.2 obeys.0 told)
+responds f old new asked line rule quit (Ok (Reply said)) Silence same tells obeys told = absurd told
+responds f old new asked line rule quit (Ok (Reply said)) Quit same tells obeys told = absurd told
+responds f old new asked line rule quit (Ok Silence) (Reply text) same tells obeys told = absurd told
+responds f old new asked line rule quit (Ok Silence) Quit same tells obeys told = absurd told
+responds f old new asked line rule quit (Ok Quit) (Reply text) same tells obeys told = absurd told
+responds f old new asked line rule quit (Ok Quit) Silence same tells obeys told = absurd told
+responds f old new asked line rule quit (Err refusal) Silence same tells obeys told = absurd told
+responds f old new asked line rule quit (Err refusal) Quit same tells obeys told = absurd told
+
+module _ {P : Type 0} (f : GameFacts P) (b : BoardFacts P) where
+  -- what is told to a line that is no other kind
+  pub plain_told : (old new : Option (History P)) (line : Line) (outcome : Outcome P) (bytes : List ℕ) → further_at line ≡ None
+      → ((words : FairWords (List ℕ)) → IsFairLine words line → ⊥) → LineGives f old line outcome → new ≡ left old outcome
+      → TellsOutcome f outcome new bytes → JsonReply f b old line bytes new
+  plain_told old new line outcome bytes is other gives leaves told = record {
+    leaves = (line, (outcome, gives, leaves));
+    told = subst (λ w. TellsLine f b old line w bytes new) (sym is) (Ok outcome, inr (other, gives), leaves, told);
+  }
+
+  -- a game that the words ask for is told as `new` is
+  pub game_told : (old new : Option (History P)) (words : FairWords (List ℕ)) (params : Params) (p : P) (outcome : Outcome P) (bytes : List ℕ)
+      → AskFor f b words params p → LineGives f old (described_line f params p) outcome → new ≡ left old outcome
+      → TellsOutcome f outcome new bytes → TellsFair f b old words bytes new
+  game_told old new words params p outcome bytes asked gives leaves told = (Ok outcome, (params, p, asked, gives), leaves, told)
+
+  -- and so is a refusal of them
+  pub refused_told : (old : Option (History P)) (words : FairWords (List ℕ)) (refusal : FairRefusal) (name bytes : List ℕ)
+      → AreRefused f b words refusal → name ≡ fair_refusal_name refusal
+      → OrLost (IsLineOf (reply_data (Some name) (refusal_line name) (session_data f old))) bytes → TellsFair f b old words bytes old
+  refused_told old words refusal name bytes refused is told = (
+    Err refusal,
+    refused,
+    refl,
+    subst (λ (n : List ℕ). OrLost (IsLineOf (reply_data (Some n) (refusal_line n) (session_data f old))) bytes) is told,
+  )
+
+  -- what comes of `fair` leaves what an answer to some line does
+  some_leaves : (old new : Option (History P)) (words : FairWords (List ℕ)) (answer : Answer P) → FairGives f b old words answer
+      → new ≡ left_by old answer → (asked : Line) × Leaves f old asked new
+  some_leaves old new words (Ok outcome) (params, p, asked, gives) leaves = (described_line f params p, (outcome, gives, leaves))
+  some_leaves old new words (Err refusal) gives leaves = (None, (Err (OfLine LongLine), (Err LongLine, refl, inl refl), leaves))
+
+  -- `fair` and words are none of the lines beside the commands
+  not_further : (line : Line) (words : FairWords (List ℕ)) → IsFairLine words line → further_at line ≡ None
+  not_further line words is = ap further_at is.spelled
+
+  not_quit : (line : Line) (words : FairWords (List ℕ)) → IsFairLine words line → is_quit line ≡ false
+  not_quit line words is = ap is_quit is.spelled
+
+  fair_reply : (old new : Option (History P)) (line : Line) (words : FairWords (List ℕ)) (bytes : List ℕ) → IsFairLine words line
+      → TellsFair f b old words bytes new → JsonReply f b old line bytes new
+  fair_reply old new line words bytes is (answer, gives, leaves, told) = record {
+    leaves = some_leaves old new words answer gives leaves;
+    told = subst (λ w. TellsLine f b old line w bytes new) (sym (not_further line words is))
+        (answer, inl (words, is, gives), leaves, told);
+  }
+
+  -- so the response to the words is one to the line
+  pub fair_told : (old new : Option (History P)) (line : Line) (words : FairWords (List ℕ)) (result : Response) → IsFairLine words line
+      → IsResponse (λ before read bytes after. TellsFair f b before words bytes after) (λ read. false) old None result new
+      → IsResponse (JsonReply f b) is_quit old line result new
+  fair_told old new line words (Reply text) is said = (not_quit line words is, fair_reply old new line words (text_bytes text) is said.1)
+  fair_told old new line words Silence is said = (not_quit line words is, fair_reply old new line words [] is said.1)
+  fair_told old new line words Quit is said = absurd (cc (said.0))

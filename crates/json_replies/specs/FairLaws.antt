@@ -1,0 +1,70 @@
+-- Laws of fair games: which session a line `fair` begins, and that hints lead on in a puzzle that follows by a grade.
+use Rattle.std.specs.Prelude.{◌≡◌, ◌≢◌, ◌⊎◌, ℕ, ◌*◌, ◌<◌, ◌≤◌, List, Option, Ok}
+use Rattle.std.specs.Option.{IsSomeAnd}
+use Rattle.latin_board.specs.Squares.{GridValue, number_at}
+use Rattle.trail_solver.specs.Candidates.{CandidatesValue}
+use Rattle.trail_solver.specs.Puzzles.{Solves}
+use Rattle.trail_solver.specs.Solutions.{IsOnlySolution}
+use Rattle.play_midend.specs.Histories.{History}
+use Rattle.board_checks.specs.declared.hints.Hint.TheVariants.{Contradiction}
+use Rattle.named_steps.specs.Chains.{IsView}
+use Rattle.named_steps.specs.Following.{Follows}
+use Rattle.named_steps.specs.declared.grade.Grade.{Grade}
+use Rattle.named_steps.specs.declared.grade.Grade.TheVariants.{Latin, Easy, Hard}
+use Rattle.fair_games.specs.Fair.{IsOfGrade}
+use Rattle.puzzle_cli.specs.Lines.{Line}
+use Rattle.puzzle_cli.specs.GameFacts.{GameFacts}
+use Rattle.puzzle_cli.specs.NewSessions.{new_game}
+use Rattle.json_replies.specs.declared.fair_words.FairWords.{FairWords}
+use Rattle.json_replies.specs.declared.fair_request.FairRequest.{FairRequest}
+use Rattle.json_replies.specs.declared.told_hint.ToldHint.{ToldHint}
+use Rattle.json_replies.specs.declared.told_hint.ToldHint.TheVariants.{Explained, Deduced}
+use Rattle.json_replies.specs.FairLines.{IsFairLine, IsAsked}
+use Rattle.json_replies.specs.FairReplies.{fair_params, IsFairGame}
+use Rattle.json_replies.specs.FurtherLines.{BoardFacts}
+use Rattle.json_replies.specs.JsonReplies.{JsonReply}
+use Rattle.json_replies.specs.ToldHints.{hint_of, IsTold}
+
+-- a new session of the fair game of a request: its puzzle has one solution, which follows by the grade, and not by the one below
+pub record IsFairStart {P : Type 0} (f : GameFacts P) (b : BoardFacts P) (r : FairRequest) (h : History P) : Type 0 where
+  pub fair : IsFairGame f b r (Ok h.puzzle)
+  pub start : h ≡ new_game (fair_params b r) h.puzzle
+  pub solution : GridValue
+  pub only : IsOnlySolution (f.rules.puzzle h.puzzle) solution
+  pub follows : Follows (b.struck_by h.puzzle) r.grade solution
+  pub graded : IsOfGrade f.rules b.struck_by r.grade h.puzzle
+
+-- `fair` and three words leave the session, or begin that of the game that they ask for
+abbrev pub FairLinesBegin : {P : Type 0} → GameFacts P → BoardFacts P → Type 0
+FairLinesBegin {P} f b =
+    (old new : Option (History P)) (line : Line) (words : FairWords (List ℕ)) (bytes : List ℕ) → IsFairLine words line
+    → JsonReply f b old line bytes new
+    → (new ≡ old) ⊎ ((r : FairRequest) × IsAsked b.fair_letter words (Ok r) × IsSomeAnd new (IsFairStart f b r))
+
+-- ---- hints
+
+-- how many grades are below
+abbrev pub rank : Grade → ℕ
+rank Latin = 0
+rank Easy = 1
+rank Hard = 2
+
+-- the hint is a number that steps explain, of this grade at most
+abbrev pub IsExplainedBy : Grade → ToldHint → Type 0
+IsExplainedBy most (Explained grade chain) = rank grade ≤ rank most
+IsExplainedBy most (Deduced hint) = ⊥
+
+-- the square has a number in the grid, and another one than in the solution
+abbrev pub IsWrongAt : GridValue → GridValue → ℕ → Type 0
+IsWrongAt g s cell = (cell < g.size * g.size) × (number_at g cell ≢ 0) × (number_at g cell ≢ number_at s cell)
+
+-- Where a solution follows by a grade and the grid has an empty square, steps of that grade or of one below explain a number as long as no
+-- square is wrong, and else it is a contradiction.
+abbrev pub HintsLeadOn : {P : Type 0} → GameFacts P → BoardFacts P → Type 0
+HintsLeadOn {P} f b =
+    (p : P) (grade : Grade) (s g : GridValue) (view : CandidatesValue) (cell : ℕ) (told : ToldHint)
+    → Solves (f.rules.puzzle p) s → Follows (b.struck_by p) grade s
+    → g.size ≡ s.size → IsView g view → cell < g.size * g.size → number_at g cell ≡ 0
+    → IsTold (f.rules.puzzle p) (b.strikes p) (b.struck_by p) g told
+    → (((wrong : ℕ) → IsWrongAt g s wrong → ⊥) → IsExplainedBy grade told)
+    × ((wrong : ℕ) → IsWrongAt g s wrong → hint_of g.size told ≡ Contradiction)

@@ -1,0 +1,27 @@
+-- The response that tells what `obey` answered, and what is told to a line `fair`.
+use Rattle.std.specs.Prelude.{◌≡◌, ℕ, List, Option, Result, Ok, Err}
+use Rattle.play_midend.specs.Histories.{History}
+use Rattle.puzzle_cli.specs.declared.line.machine.Response.{Response}
+use Rattle.puzzle_cli.specs.declared.line.machine.Response.TheVariants.{Reply, Silence, Quit}
+use Rattle.puzzle_cli.specs.declared.reply.refusal.Refusal.{Refusal}
+use Rattle.puzzle_cli.specs.GameFacts.{GameFacts}
+use Rattle.puzzle_cli.specs.Texts.{text_bytes}
+use Rattle.json_replies.specs.ObjectLines.{OrLost}
+use Rattle.json_replies.specs.declared.fair_words.FairWords.{FairWords}
+use Rattle.json_replies.specs.Replies.{Answer, left_by, IsReplyLine}
+use Rattle.json_replies.specs.FurtherLines.{BoardFacts}
+use Rattle.json_replies.specs.FairReplies.{FairGives}
+use Rattle.json_replies.specs.JsonReplies.{TellsOutcome, TellsAnswer}
+
+-- the object of a reply or a refusal, where this session is left; the others as they are
+abbrev pub TellsResponse : {P : Type 0} → GameFacts P → Result Response Refusal → Option (History P) → Response → Type 0
+TellsResponse f (Ok (Reply said)) new (Reply text) = TellsOutcome f (Ok (text_bytes said, new)) new (text_bytes text)
+TellsResponse f (Ok Silence) new Silence = Unit {0}
+TellsResponse f (Ok Quit) new Quit = Unit {0}
+TellsResponse f (Err refusal) new (Reply text) = OrLost (IsReplyLine f (Err refusal) new) (text_bytes text)
+TellsResponse f _ new _ = ⊥
+
+-- what is told to `fair` and these words
+abbrev pub TellsFair : {P : Type 0} → GameFacts P → BoardFacts P → Option (History P) → FairWords (List ℕ) → List ℕ → Option (History P) → Type 0
+TellsFair {P} f b old words bytes new =
+    (answer : Answer P) × FairGives f b old words answer × (new ≡ left_by old answer) × TellsAnswer f answer new bytes

@@ -1,0 +1,44 @@
+-- The line `new` with the written form of a puzzle begins a game of that puzzle.
+use Rattle.std.proofs.Common.{◌≡◌, ℕ, List, ◌∷◌, ◌++◌, codes, Option, Some, Ok, Err, refl, sym, inr}
+use Rattle.byte_text.specs.Bytes.{colon}
+use Rattle.clue_rules.specs.declared.game_id.GameId.TheVariants.{Described}
+use Rattle.clue_rules.specs.declared.params.Params.{Params}
+use Rattle.clue_rules.specs.Parameters.{IsParams, params_text}
+use Rattle.puzzle_gen.proofs.ItemLaws.{ItemLaws}
+use Rattle.play_midend.specs.Histories.{History}
+use Rattle.puzzle_cli.specs.declared.command.Command.TheVariants.{New}
+use Rattle.puzzle_cli.specs.declared.reply.refusal.Refusal.TheVariants.{Memory}
+use Rattle.puzzle_cli.specs.Commands.{IsRead}
+use Rattle.puzzle_cli.specs.GameFacts.{GameFacts}
+use Rattle.puzzle_cli.specs.NewSessions.{new_game, TextBegins}
+use Rattle.puzzle_cli.specs.SessionReplies.{ok_line}
+use Rattle.puzzle_cli.specs.Replies.{LineGives, AmpleGives}
+use Rattle.puzzle_cli.specs.RunLaws.{described_line, DescribedLinesBegin}
+use Rattle.puzzle_cli.proofs.RepliesOnce.{IdsAreReadOnce}
+use Rattle.puzzle_cli.proofs.KnownReplies.{given_once}
+
+-- each puzzle is described by its written form
+abbrev pub AreCanonical : {P : Type 0} → GameFacts P → Type 0
+AreCanonical {P} f = (p : P) → f.rules.valid p → f.describes (f.desc_of p) p
+
+module _ {P : Type 0} (f : GameFacts P) (canonical : AreCanonical f) (params : Params) (puzzle : P) (letters : IsParams f.letters params)
+    (valid : f.rules.valid puzzle) (size : params.size ≡ (f.rules.puzzle puzzle).size) where
+  id_begins : TextBegins f (params_text params ++ colon ∷ f.desc_of puzzle) (Ok (new_game params puzzle))
+  id_begins = (Ok (Described params puzzle), (letters, (f.desc_of puzzle, refl, (canonical puzzle valid, valid, sym size))), refl)
+
+  line_read : IsRead (described_line f params puzzle) (Ok (Some (New (params_text params ++ colon ∷ f.desc_of puzzle))))
+  line_read = (codes "new " ++ params_text params ++ colon ∷ f.desc_of puzzle, refl, inr refl)
+
+  begins : (old : Option (History P)) → AmpleGives f old (described_line f params puzzle) (Ok (ok_line, Some (new_game params puzzle)))
+  begins old = (Ok (Some (New (params_text params ++ colon ∷ f.desc_of puzzle))), line_read, (Ok (new_game params puzzle), id_begins, refl))
+
+  -- the line may lack memory
+  pub described_may_lack : (old : Option (History P)) → LineGives f old (described_line f params puzzle) (Err Memory)
+  described_may_lack old =
+      (Ok (Some (New (params_text params ++ colon ∷ f.desc_of puzzle))), line_read, inr ((new_game params puzzle, id_begins), refl))
+
+-- with ample memory it begins that game, and has no other answer
+pub described_lines_begin : {P : Type 0} (f : GameFacts P) → ItemLaws f.rules → IdsAreReadOnce f → AreCanonical f → DescribedLinesBegin f
+described_lines_begin f laws ids canonical old params puzzle letters valid size =
+    let ample = begins f canonical params puzzle letters valid size old in
+    record { ample = ample; others = given_once f laws ids old (Some (new_game params puzzle)) (described_line f params puzzle) ok_line ample }
