@@ -17,7 +17,10 @@ use trail_solver::Rules;
 #[derive(Drop)]
 pub(crate) enum ToldHint {
     /// A number, with the steps that show it.
-    Explained { grade: Grade, chain: Chain },
+    Explained {
+        grade: Grade,
+        chain: Chain,
+    },
     /// That the numbers contradict one another, with the steps that refute them.
     Refuted {
         grade: Grade,

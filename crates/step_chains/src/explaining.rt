@@ -160,7 +160,13 @@ pub fn explains<P: Steps>(p: &P, grid: &Grid, grade: Grade, chain: &Chain) -> bo
     if !is_open(grid, chain.goal) {
         return false;
     }
-    reaches(p, grid, grade, chain.steps.as_slice(), Aim::Number(chain.goal))
+    reaches(
+        p,
+        grid,
+        grade,
+        chain.steps.as_slice(),
+        Aim::Number(chain.goal),
+    )
 }
 
 /// Whether a chain refutes the numbers of a grid by the steps of a grade. The grid has the puzzle's size.

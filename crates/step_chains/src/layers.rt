@@ -147,8 +147,18 @@ impl Rounds {
         for cell in 0..width * width {
             if left(&self.now, cell).is_single() {
                 let reason = Reason::Peer { cell };
-                self.look_among(p, grade, &reason, squares_but(size, cell / width, usize::MAX))?;
-                self.look_among(p, grade, &reason, squares_but(size, width + cell % width, usize::MAX))?;
+                self.look_among(
+                    p,
+                    grade,
+                    &reason,
+                    squares_but(size, cell / width, usize::MAX),
+                )?;
+                self.look_among(
+                    p,
+                    grade,
+                    &reason,
+                    squares_but(size, width + cell % width, usize::MAX),
+                )?;
             }
         }
         Ok(())

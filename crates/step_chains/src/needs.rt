@@ -65,8 +65,14 @@ impl Values {
 /// What has to be struck from candidates so that they come to the aim.
 pub(crate) fn needs_of(candidates: &Candidates, aim: Aim) -> Values {
     match aim {
-        Aim::Number(Goal::OnlyValue { cell, value }) => needs_of_value(candidates, cell, single(value)),
-        Aim::Number(Goal::OnlyPlace { line, index, value }) => needs_of_place(candidates, line, index, value),
+        Aim::Number(Goal::OnlyValue { cell, value }) => needs_of_value(
+            candidates,
+            cell,
+            single(value),
+        ),
+        Aim::Number(Goal::OnlyPlace { line, index, value }) => needs_of_place(
+            candidates, line, index, value,
+        ),
         Aim::Nothing { cell } => needs_of_value(candidates, cell, NumberSet::empty()),
     }
 }
