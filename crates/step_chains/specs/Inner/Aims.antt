@@ -1,5 +1,5 @@
 -- What the steps of a chain come to: a goal, or a square that is left nothing.
-use Rattle.std.specs.Prelude.{◌≡◌, ℕ, ◌*◌, ◌<◌, List}
+use Rattle.std.specs.Prelude.{ℕ, ◌*◌, ◌<◌, List}
 use Rattle.latin_board.specs.Squares.{GridValue}
 use Rattle.trail_solver.specs.Candidates.{CandidatesValue}
 use Rattle.named_steps.specs.Left.{IsLeft}

@@ -1,6 +1,6 @@
 use Rattle.step_chains.specs.ChainValues.{steps_of}
 use Rattle.step_chains.specs.Inner.Aims.{aim_goal}
-use Rattle.step_chains.proofs.Explanations.{all_show, reached_from, shows_in}
+use Rattle.step_chains.proofs.Explanations.{all_show, shows_in}
 use Rattle.step_chains.proofs.explaining.plain_chain.Goals as goal
 
 pub tighten-requires-clause-shows : goal.tighten-requires-clause-shows

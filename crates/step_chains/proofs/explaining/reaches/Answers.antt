@@ -2,7 +2,6 @@ use Rattle.std.proofs.lemmas.Bool.{both_ways, false≢true}
 use Rattle.step_chains.specs.ChainValues.{steps_of}
 use Rattle.step_chains.specs.Inner.Aims.{aim_goal}
 use Rattle.step_chains.proofs.Explanations.{reached_shows, reached_tested, shows_all}
-use Rattle.std.proofs.Common.{refl}
 use Rattle.step_chains.proofs.explaining.reaches.Goals as goal
 
 pub returns-then-not-shows_without : goal.returns-then-not-shows_without
