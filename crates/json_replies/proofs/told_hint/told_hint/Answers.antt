@@ -11,8 +11,8 @@ returns-in-Contradiction g c =
     (λ grade view is refuted. c.laws.ensures.refuted_none p grade grid view c.size-valid.ensures.valid c.requires is refuted)
     least) c.least_refutation.ensures
 
-pub returns : goal.returns
-returns g c =
+pub returns-else-eq : goal.returns-else-eq
+returns-else-eq g c =
     let p = c.args.p.now in
     let grid = c.args.grid.now in
     IfOk-weaker c.least.result _ _ (λ told least. told_explained (g.P.Rules.puzzle p) (g.P.Deduces.strikes p) (g.P.Steps.struck_by p) grid told
