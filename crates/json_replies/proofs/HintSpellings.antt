@@ -1,5 +1,5 @@
 -- What is told of a hint has one text.
-use Rattle.std.proofs.Common.{ℕ, ◌≤◌, ◌*◌, Bool, true, false, ◌&&◌, if◌then◌else◌, nat_lt, ℤ, pos, negsuc, List, codes, Option, Some, None, refl, sym, subst, arith}
+use Rattle.std.proofs.Common.{ℕ, ◌≤◌, ◌*◌, Bool, true, false, ◌&&◌, if◌then◌else◌, nat_lt, ℤ, pos, negsuc, List, codes, Option, Some, None, refl, sym, subst, arith, inl, inr}
 use Rattle.std.specs.List.{range_with_len}
 use Rattle.number_sets.specs.Sets.{has_number}
 use Rattle.latin_board.specs.Edges.{edge_xy}
