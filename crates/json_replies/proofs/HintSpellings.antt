@@ -212,7 +212,7 @@ hint_value_fits w letter clue is_over (Explained grade chain) value (looks, text
     (goal_line_data chain.goal) (count_data (goal_value chain.goal)) (looks_data w clue is_over looks) (list_data text_data text)
     (word_fits (by_word chain.goal)) (count_fits (goal_cell w chain.goal)) (word_fits (letter grade)) (goal_line_fits chain.goal)
     (count_fits (goal_value chain.goal)) (looks_fit w clue is_over looks) (deeper 1 5 _ (texts_fit text) (omega arith)))
-hint_value_fits w letter clue is_over (Refuted grade refutation) value (looks, told, inl (few, text, short, is)) =
+hint_value_fits w letter clue is_over (Refuted grade refutation) value (looks, told, inl (few, (text, short, is))) =
     subst (Fits 6) (sym is) (hint_fits null null (string (letter grade)) (codes "contradiction") null null (looks_data w clue is_over looks)
     (list_data text_data text) (null_fits 0) (null_fits 0) (word_fits (letter grade)) (null_fits 0) (null_fits 0) (looks_fit w clue is_over looks)
     (deeper 1 5 _ (texts_fit text) (omega arith)))
