@@ -17,7 +17,7 @@ from board.picture import Look, Piece, grade, has_room, name, picture, too_small
 from board.screen import Key, Screen
 from board.menu import Menu
 from board.state import Home, State
-from board.steps import Shown
+from board.steps import Shown, sentences
 from board.table import Table
 from board.texts import BY_KEYS
 from board.typed import is_number
@@ -237,6 +237,8 @@ class FullScreen:
         if told is not None:
             self._show(told)
             self.table.message = told.text and f'{told.text} h again: more.'
+        elif self.table.refutation:
+            self.table.message += ' H: why.'
 
     def _show(self, told: Told) -> None:
         """Points at what a part of a hint speaks of."""
@@ -244,11 +246,13 @@ class FullScreen:
         self._shown = told.shown
 
     def _why(self) -> None:
-        """All steps of a hint as a page; after that the arrows walk along them on the board."""
+        """All steps of a hint as a page; after that the arrows walk along those to a number on the board."""
         lesson = self.table.lesson()
         if lesson:
             self._page('Why', lesson.whole(self.table.board))
             self._walk(0)
+        elif self.table.refutation:
+            self._page('Why', sentences(self.table.refutation.text))
 
     def _walk(self, at: int) -> None:
         lesson = self.table.lesson()

@@ -8,7 +8,7 @@ import sys
 import textwrap
 from typing import Callable, Dict, List, Optional, Tuple
 
-from board import hints, manual, speech
+from board import hints, manual, speech, step_texts
 from board.board import GAMES, Board
 from board.choices import Choice, Unknown, choice_of, remembered
 from board.file_names import file_name, question
@@ -202,6 +202,8 @@ class LineMode:
         before = self._table.board
         told = self._table.hint()
         if told is None:
+            if self._table.refutation:
+                self._table.message += " 'why' tells the steps."
             return
         if told.spoken:
             say(f"{told.spoken} 'hint' again tells more.")
@@ -213,6 +215,8 @@ class LineMode:
         lesson = self._table.lesson()
         if lesson:
             say(*(lesson.part(at, self._table.board).spoken for at in range(lesson.length())))
+        elif self._table.refutation:
+            say(*step_texts.spoken_refutation(self._table.refutation, self._table.board))
 
     def _check(self, _: str) -> None:
         self._table.check()

@@ -53,7 +53,7 @@ LINES: List[str] = [
     '  row y, column x        what is in a row or a column',
     '  clues                  the clues, or the signs',
     '  hint                   where to look; once more: the step; then the number',
-    '  why                    all steps to the next number',
+    '  why                    all steps to the next number, or to a contradiction',
     '  check, back            can these numbers be completed; undo until they can',
     '  tidy                   from now on, marks go when their number is put into',
     '                         their row or column; once more: they stay',

@@ -8,7 +8,7 @@ import time
 from typing import Dict, Optional, Protocol
 
 from board import files, hints, texts
-from board.board import Board, Reply
+from board.board import Board, Hint, Reply
 from board.lessons import Lesson, Told
 from board.program import Gone, Program, Refused, Stopped, Waiting, save_to, started_with
 from board.state import NotKept, Shelf, State
@@ -52,6 +52,8 @@ class PresentGame:
         self.grade = ''
         #: How many hints the present game had.
         self.hints = 0
+        #: The last hint, where it told why the board's numbers contradict one another.
+        self.refutation: Optional[Hint] = None
         #: Positions after numbers whose marks went with them, and those before these marks.
         self._joined: Dict[int, int] = {}
 
@@ -155,11 +157,13 @@ class PresentGame:
         return self._lesson
 
     def _new_lesson(self) -> Optional[Lesson]:
+        self.refutation = None
         reply = self.ask('hint')
         if reply is None or reply.hint is None:
             return None
         place = reply.hint.square(self.board.size)
         if place is None:
+            self.refutation = reply.hint if reply.hint.text else None
             is_full = self.board.is_full and reply.hint.kind == 'nothing'
             self.message = (texts.SOLVED if self.board.is_solved else 'The board is full.') if is_full else texts.HINTS[reply.hint.kind]
             return None

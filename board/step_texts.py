@@ -105,6 +105,14 @@ def spoken_losses(step: Step) -> str:
     return '; '.join(losses)
 
 
+def spoken_refutation(hint: Hint, board: Board) -> List[str]:
+    """The steps of a contradiction, and the square that they leave nothing. It is where the last of them rules out a number: else that step would be spare."""
+    steps = hint.steps(board.size)
+    if not steps:
+        return ['All numbers stand in the row or column of an empty square.']
+    return [*(spoken_step(step, board) for step in steps), f'So no number is left for {at(steps[-1].strikes[-1].place)}.']
+
+
 def spoken_goal(hint: Hint, place: Place, board: Board) -> str:
     """What the steps show."""
     if hint.line is not None:

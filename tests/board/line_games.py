@@ -56,6 +56,8 @@ GAMES: List[Game] = [
             Step(['hint'], ['The clue 3 left of row 0, by itself: row 0, column 2 is not 1.']),
             Step(['why'], ['So row 0, column 2 is 3: no other number is left there.']),
             Step(['check'], ['These numbers can still be completed, in one way.']),
+            Step(['0 0 3', 'hint'], ["These numbers contradict one another: undo some. 'why' tells the steps."]),
+            Step(['why'], ['The clue 3 above column 0, by itself: row 0, column 0 is not 3.', 'So no number is left for row 0, column 0.']),
         ],
         first=[BOARD],
     ),

@@ -1,5 +1,6 @@
 """The steps of a hint: they are a chain by the second implementation, none can be left out, and their sentences say what they have."""
 
+import re
 import textwrap
 from typing import Any, Dict, FrozenSet, List, Sequence
 
@@ -11,6 +12,9 @@ from tests.second_implementation.towers import TowersPuzzle, edge_place
 
 #: How many characters a line of text has at most.
 WIDTH = 100
+
+#: How many steps to a contradiction are told at most.
+MOST_STEPS = 8
 
 #: The members of a step that say something of its kind.
 OF_CLUE, OF_SQUARE, OF_LINE = {'x', 'y', 'clue'}, {'cells'}, {'line', 'cells', 'numbers'}
@@ -25,7 +29,10 @@ def expect_steps(puzzle: Puzzle, numbers: Numbers, hint: Object) -> None:
     if hint['grade'] is None:
         assert (hint['by'], hint['line'], hint['steps'], hint['text']) == (None, None, [], [])
         return
-    assert (hint['kind'], hint['by']) == ('follows', 'value' if hint['line'] is None else 'line')
+    if hint['kind'] == 'contradiction':
+        assert (hint['by'], hint['line'], hint['cell'], hint['number']) == (None, None, None, None) and len(hint['steps']) <= MOST_STEPS
+    else:
+        assert (hint['kind'], hint['by']) == ('follows', 'value' if hint['line'] is None else 'line')
     for step in hint['steps']:
         expect_members(puzzle, hint['grade'], step)
     chain = [step_of(puzzle, step) for step in hint['steps']]
@@ -34,10 +41,12 @@ def expect_steps(puzzle: Puzzle, numbers: Numbers, hint: Object) -> None:
 
 
 def expect_grade(puzzle: Puzzle, numbers: Numbers, hint: Object) -> None:
-    """It is the least that leads on. Where all steps leave a square nothing, that is a contradiction; one may be found otherwise, too."""
+    """It is the least that leads on. Where all steps leave a square nothing, that is a contradiction, and it is the least of those whose steps do, if the
+    steps are told; one may be found otherwise, too."""
     letters = letters_of(puzzle)
     if hint['kind'] == 'contradiction':
-        assert hint['grade'] is None
+        refuting = [letter for letter, grade in letters.items() if leads_on(puzzle, numbers, grade) is None]
+        assert hint['grade'] is None or hint['grade'] == refuting[0], numbers
         return
     assert leads_on(puzzle, numbers, max(letters.values())) is not None, numbers
     assert hint['grade'] == next((letter for letter, grade in letters.items() if leads_on(puzzle, numbers, grade)), None), numbers
@@ -72,12 +81,16 @@ def step_of(puzzle: Puzzle, told: Object) -> Step:
 
 
 def expect_chain(puzzle: Puzzle, numbers: Numbers, hint: Object, chain: Sequence[Step]) -> None:
-    """The steps lead to the number, and without any one of their strikes they do not."""
+    """The steps lead to the number, or leave the square nothing, and without any one of their strikes they do not."""
     view = in_view(puzzle.size, numbers)
 
     def shows(steps: Sequence[Step]) -> bool:
         left = after(puzzle, view, steps)
-        return left is not None and is_shown(puzzle, left, hint['cell'], hint['number'], hint['line'])
+        if left is None:
+            return False
+        if hint['kind'] == 'contradiction':
+            return not left[emptied(puzzle.size, hint)]
+        return is_shown(puzzle, left, hint['cell'], hint['number'], hint['line'])
 
     assert shows(chain), numbers
     for at, step in enumerate(chain):
@@ -85,6 +98,13 @@ def expect_chain(puzzle: Puzzle, numbers: Numbers, hint: Object, chain: Sequence
             less = step._replace(strikes={other: gone for other, gone in step.strikes.items() if other != cell})
             assert not shows([*chain[:at], less, *chain[at + 1:]]), f'the strike at {cell} can be left out with {numbers}'
     assert all(look_of(step) != look_of(following) for step, following in zip(chain, chain[1:]))
+
+
+def emptied(size: int, hint: Object) -> int:
+    """The square that the steps to a contradiction leave nothing, as the last sentence names it."""
+    found = [re.match(r'So r(\d)c(\d) has no number left: ', line) for line in hint['text']]
+    (row, column), = [match.groups() for match in found if match]
+    return (int(row) - 1) * size + int(column) - 1
 
 
 def look_of(step: Step) -> object:
@@ -103,7 +123,8 @@ def expect_text(puzzle: Puzzle, numbers: Numbers, hint: Object, chain: Sequence[
         assert told['text'] == cut(sentence)
         whole += cut(f'{at + 1}. {sentence}')
         left = after(puzzle, left, [step]) or left
-    assert hint['text'] == [*whole, *cut(conclusion(puzzle, view, hint))]
+    end = empty_conclusion(puzzle.size, numbers, view, emptied(puzzle.size, hint)) if hint['kind'] == 'contradiction' else conclusion(puzzle, view, hint)
+    assert hint['text'] == [*whole, *cut(end)]
 
 
 def cut(sentence: str) -> List[str]:
@@ -148,7 +169,8 @@ def why_of(puzzle: Puzzle, left: Left, step: Step) -> str:
     if reason.kind == 'set':
         return f"{line_name(size, reason.line)}: {at} take {joined(sorted(reason.numbers), 'and')} among them"
     if reason.kind == 'place':
-        return f'{line_name(size, reason.line)} has its {min(reason.numbers)} in {at}'
+        number, line = min(reason.numbers), line_name(size, reason.line)
+        return f'{line} has its {number} in {at}' if number in left[reason.cells[0]] else f'no other square of {line} can be {number}'
     return f'{at} is given' if reason.kind == 'given' else f'{at} is {min(left[reason.cells[0]])}'
 
 
@@ -181,8 +203,19 @@ def conclusion(puzzle: Puzzle, view: Left, hint: Object) -> str:
     size, cell, number, line = puzzle.size, hint['cell'], hint['number'], hint['line']
     if line is not None:
         return f'So {square(size, cell)} is {number}: no other square of {line_name(size, line)} can be {number}.'
-    stood, gone = sorted(each(size) - view[cell]), sorted(view[cell] - {number})
+    return f'So {square(size, cell)} is {number}: {where_gone(size, view[cell], view[cell] - {number})}.'
+
+
+def empty_conclusion(size: int, numbers: Numbers, view: Left, cell: int) -> str:
+    """What the steps to a contradiction come to, of a filled square or of an empty one."""
+    why = f'its {numbers[cell]} is ruled out above' if numbers[cell] else where_gone(size, view[cell], view[cell])
+    return f'So {square(size, cell)} has no number left: {why}.'
+
+
+def where_gone(size: int, view: FrozenSet[int], struck: FrozenSet[int]) -> str:
+    """Which numbers stand in the lines of a square with these in view, and which of those were struck."""
+    stood, gone = sorted(each(size) - view), sorted(struck)
     parts = [f"{joined(stood, 'and')} {'stands' if len(stood) == 1 else 'stand'} in its row or column"] if stood else []
     if gone:
         parts.append(f"{joined(gone, 'and')} {'is' if len(gone) == 1 else 'are'} ruled out above")
-    return f"So {square(size, cell)} is {number}: {', '.join(parts)}."
+    return ', '.join(parts)

@@ -1,5 +1,5 @@
 -- What is told of a hint has one text.
-use Rattle.std.proofs.Common.{ℕ, ◌≤◌, ◌*◌, Bool, true, false, ◌&&◌, if◌then◌else◌, nat_lt, ℤ, pos, negsuc, List, codes, Option, Some, None, refl, sym, subst, arith}
+use Rattle.std.proofs.Common.{ℕ, ◌≤◌, ◌*◌, Bool, true, false, ◌&&◌, if◌then◌else◌, nat_lt, ℤ, pos, negsuc, List, codes, Option, Some, None, refl, sym, subst, arith, inl, inr}
 use Rattle.std.specs.List.{range_with_len}
 use Rattle.number_sets.specs.Sets.{has_number}
 use Rattle.latin_board.specs.Edges.{edge_xy}
@@ -17,7 +17,7 @@ use Rattle.board_checks.specs.declared.hints.Hint.{Hint}
 use Rattle.board_checks.specs.declared.hints.Hint.TheVariants.{Follows, Nothing, Contradiction}
 use Rattle.step_chains.specs.declared.chain.Step.{Step}
 use Rattle.json_replies.specs.declared.told_hint.ToldHint.{ToldHint}
-use Rattle.json_replies.specs.declared.told_hint.ToldHint.TheVariants.{Explained, Deduced}
+use Rattle.json_replies.specs.declared.told_hint.ToldHint.TheVariants.{Explained, Refuted, Deduced}
 use Rattle.json_replies.specs.declared.step_value.Ends.{Ends}
 use Rattle.json_replies.specs.Counts.{count_data}
 use Rattle.json_replies.specs.Texts.{text_data, list_data}
@@ -212,4 +212,9 @@ hint_value_fits w letter clue is_over (Explained grade chain) value (looks, text
     (goal_line_data chain.goal) (count_data (goal_value chain.goal)) (looks_data w clue is_over looks) (list_data text_data text)
     (word_fits (by_word chain.goal)) (count_fits (goal_cell w chain.goal)) (word_fits (letter grade)) (goal_line_fits chain.goal)
     (count_fits (goal_value chain.goal)) (looks_fit w clue is_over looks) (deeper 1 5 _ (texts_fit text) (omega arith)))
+hint_value_fits w letter clue is_over (Refuted grade refutation) value (looks, told, inl (few, (text, short, is))) =
+    subst (Fits 6) (sym is) (hint_fits null null (string (letter grade)) (codes "contradiction") null null (looks_data w clue is_over looks)
+    (list_data text_data text) (null_fits 0) (null_fits 0) (word_fits (letter grade)) (null_fits 0) (null_fits 0) (looks_fit w clue is_over looks)
+    (deeper 1 5 _ (texts_fit text) (omega arith)))
+hint_value_fits w letter clue is_over (Refuted grade refutation) value (looks, told, inr (many, is)) = subst (Fits 6) (sym is) (plain_fits Contradiction)
 hint_value_fits w letter clue is_over (Deduced hint) value is = subst (Fits 6) (sym is) (plain_fits hint)

@@ -6,8 +6,8 @@ use Rattle.trail_solver.specs.Pairs.{IsPair}
 use Rattle.trail_solver.specs.Candidates.{CandidatesValue}
 use Rattle.trail_solver.specs.Completions.{Completes}
 use Rattle.trail_solver.specs.Puzzles.{Puzzle}
-use Rattle.board_checks.specs.declared.hints.Hint.TheVariants.{Contradiction}
-use Rattle.named_steps.specs.Chains.{StepValue, AreOfGrade, IsExplained, IsGoalOf, goal_cell, goal_value}
+use Rattle.named_steps.specs.Chains.{StepValue, AreOfGrade, IsExplained, IsGoalOf, IsView, goal_cell, goal_value}
+use Rattle.named_steps.specs.Following.{IsRefuted}
 use Rattle.named_steps.specs.Grades.{has_reason}
 use Rattle.named_steps.specs.declared.goal.Goal.{Goal}
 use Rattle.named_steps.specs.declared.goal.Goal.TheVariants.{OnlyValue, OnlyPlace}
@@ -16,9 +16,9 @@ use Rattle.named_steps.specs.declared.grade.Grade.TheVariants.{Hard}
 use Rattle.named_steps.specs.declared.reason.Reason.{Reason}
 use Rattle.named_steps.specs.declared.reason.Reason.TheVariants.{Given, Peer, Place, Bound, Stand, Clue, Sign, Set}
 use Rattle.step_chains.specs.ChainValues.{steps_of}
-use Rattle.step_chains.specs.Explanations.{IsRefutedGrid}
+use Rattle.step_chains.specs.Explanations.{IsRefutation, IsRefutedGrid}
 use Rattle.json_replies.specs.declared.told_hint.ToldHint.{ToldHint}
-use Rattle.json_replies.specs.declared.told_hint.ToldHint.TheVariants.{Explained, Deduced}
+use Rattle.json_replies.specs.declared.told_hint.ToldHint.TheVariants.{Explained, Refuted, Deduced}
 use Rattle.json_replies.specs.ToldHints.{IsLeast, IsTold}
 
 -- ---- grades
@@ -47,23 +47,29 @@ refuted_hard Struck grade g (view, of, by) = (
   record { steps = by.steps; chain = by.chain; allowed = all_hard grade by.steps by.allowed; cell = by.cell; inside = by.inside; nothing = by.nothing },
 )
 
--- ---- what is told
+-- what a chain refutes is refuted
+pub refutation_refutes : (Struck : CandidatesValue → Reason → ℕ → ℕ → Type 0) (grade : Grade) (g : GridValue) (steps : List StepValue) (cell : ℕ)
+    → IsRefutation Struck grade g steps cell → IsRefutedGrid Struck grade g
+refutation_refutes Struck grade g steps cell r = (
+  r.view,
+  r.in_view,
+  record { steps = steps; chain = r.leaves.chain; allowed = r.leaves.allowed; cell = cell; inside = r.leaves.inside; nothing = r.leaves.nothing },
+)
 
--- the numbers are contradicted
-pub told_refuted : (p : Puzzle) (Strikes : CandidatesValue → ℕ → ℕ → Type 0) (Struck : CandidatesValue → Reason → ℕ → ℕ → Type 0) (g : GridValue)
-    → ((h : GridValue) → Completes p g h → ⊥) → IsTold p Strikes Struck g (Deduced Contradiction)
-told_refuted p Strikes Struck g none = record { sound = none; reached = tt; strong = λ cell forced same. cc same }
+-- ---- what is told
 
 goal_pair : (w : ℕ) (goal : Goal) → IsGoalOf w goal → IsPair w (goal_cell w goal) (goal_value goal)
 goal_pair w (OnlyValue cell value) of = of
 goal_pair w (OnlyPlace line index value) (below, within, low, high) =
     record { inside = line_cell_inside w line index below within; low = low; high = high }
 
--- steps explain a number
+-- steps explain a number, or refute the numbers
 pub told_explained : (p : Puzzle) (Strikes : CandidatesValue → ℕ → ℕ → Type 0) (Struck : CandidatesValue → Reason → ℕ → ℕ → Type 0) (g : GridValue)
     (told : ToldHint) → ((grade : Grade) (steps : List StepValue) (goal : Goal) (h : GridValue) → IsExplained Struck grade g steps goal → Completes p g h
-    → number_at h (goal_cell g.size goal) ≡ goal_value goal) → IsLeast Struck g told → IsTold p Strikes Struck g told
-told_explained p Strikes Struck g (Explained grade chain) right least = record {
+    → number_at h (goal_cell g.size goal) ≡ goal_value goal)
+    → ((grade : Grade) (view : CandidatesValue) → IsView g view → IsRefuted Struck grade view → (h : GridValue) → Completes p g h → ⊥)
+    → IsLeast Struck g told → IsTold p Strikes Struck g told
+told_explained p Strikes Struck g (Explained grade chain) right none least = record {
   sound = record {
     pair = goal_pair g.size chain.goal (least.0).goal_of;
     empty = (least.0).empty;
@@ -72,4 +78,7 @@ told_explained p Strikes Struck g (Explained grade chain) right least = record {
   reached = least;
   strong = λ cell forced same. cc same;
 }
-told_explained p Strikes Struck g (Deduced hint) right least = absurd least
+told_explained p Strikes Struck g (Refuted grade refutation) right none least =
+    let by = refutation_refutes Struck grade g (steps_of refutation.steps.items) refutation.cell least.0 in
+    record { sound = none grade by.0 by.1 by.2; reached = least; strong = λ cell forced same. cc same }
+told_explained p Strikes Struck g (Deduced hint) right none least = absurd least

@@ -1,16 +1,11 @@
 -- The looks of a chain, told one after another.
 use Rattle.std.proofs.Common.{◌≡◌, ℕ, Bool, List, [], ◌∷◌, ◌++◌, map, sym, ap, ◌∙◌, append_assoc, append-nil}
-use Rattle.serde_json.specs.Data.{Data, array}
-use Rattle.serde_json.specs.View.{items_of}
+use Rattle.serde_json.specs.Data.{Data}
 use Rattle.named_steps.specs.declared.reason.Reason.{Reason}
 use Rattle.step_chains.specs.declared.chain.Step.{Step}
 use Rattle.step_texts.specs.Lines.{AreShort}
 use Rattle.step_texts.specs.Looks.{IsLook}
-use Rattle.json_replies.specs.Steps.{ToldLook, AreTold, step_data, looks_data}
-
--- a look as data
-abbrev pub look_data : ℕ → (ℕ → ℕ) → (ℕ → ℕ → Bool) → ToldLook → Data
-look_data w clue is_over look = step_data w clue is_over look.reason look.steps look.text
+use Rattle.json_replies.specs.Steps.{ToldLook, AreTold, step_data, look_data}
 
 -- however the rest of the steps is told, all of them are told by what was told before and that
 abbrev pub GoesOn : ℕ → (ℕ → ℕ) → (ℕ → ℕ → Bool) → List Step → List Step → List Data → Type 0
@@ -32,9 +27,8 @@ one_look_more w clue is_over steps rest look more reason text told next value pa
           ∙ ap (λ ds. ds ++ map D later) (sym grown),
     )
 
-pub all_told : (w : ℕ) (clue : ℕ → ℕ) (is_over : ℕ → ℕ → Bool) (steps rest : List Step) (told : List Data) (value : Data) → rest ≡ []
-    → value ≡ array (items_of told) → GoesOn w clue is_over steps rest told
-    → (looks : List ToldLook) × AreTold steps looks × (value ≡ looks_data w clue is_over looks)
-all_told w clue is_over steps rest told value none is before =
+pub all_told : (w : ℕ) (clue : ℕ → ℕ) (is_over : ℕ → ℕ → Bool) (steps rest : List Step) (told : List Data) → rest ≡ []
+    → GoesOn w clue is_over steps rest told → (looks : List ToldLook) × AreTold steps looks × (told ≡ map (look_data w clue is_over) looks)
+all_told w clue is_over steps rest told none before =
     let whole = before [] none in
-    (whole.0, whole.1, is ∙ ap (λ ds. array (items_of ds)) (sym (whole.2 ∙ append-nil told)))
+    (whole.0, whole.1, sym (whole.2 ∙ append-nil told))

@@ -1,5 +1,5 @@
--- A hint as data: its kind, the square and the number, and where steps explain these, by what, and the steps with their sentences.
-use Rattle.std.specs.Prelude.{◌≡◌, ℕ, Bool, List, codes, Option, Some, None}
+-- A hint as data: its kind, the square and the number, and where steps explain it, by what, and the steps with their sentences.
+use Rattle.std.specs.Prelude.{◌≡◌, ◌⊎◌, ◌<◌, ◌≤◌, ℕ, Bool, List, length, codes, Option, Some, None}
 use Rattle.serde_json.specs.Data.{Data, null, string, array, no_items, object, no_members, member}
 use Rattle.named_steps.specs.Chains.{goal_cell, goal_value, IsGoalOf}
 use Rattle.named_steps.specs.declared.goal.Goal.{Goal}
@@ -8,9 +8,10 @@ use Rattle.named_steps.specs.declared.grade.Grade.{Grade}
 use Rattle.board_checks.specs.declared.hints.Hint.{Hint}
 use Rattle.board_checks.specs.declared.hints.Hint.TheVariants.{Follows, Nothing, Contradiction}
 use Rattle.step_chains.specs.declared.chain.Chain.{Chain}
+use Rattle.step_chains.specs.declared.chain.Refutation.{Refutation}
 use Rattle.step_texts.specs.Lines.{AreShort}
 use Rattle.json_replies.specs.declared.told_hint.ToldHint.{ToldHint}
-use Rattle.json_replies.specs.declared.told_hint.ToldHint.TheVariants.{Explained, Deduced}
+use Rattle.json_replies.specs.declared.told_hint.ToldHint.TheVariants.{Explained, Refuted, Deduced}
 use Rattle.json_replies.specs.Counts.{count_data}
 use Rattle.json_replies.specs.Texts.{text_data, list_data}
 use Rattle.json_replies.specs.Steps.{ToldLook, AreTold, looks_data}
@@ -60,12 +61,22 @@ IsChainValue w letter clue is_over chain value =
     × (value ≡ hint_data (string (by_word chain.goal)) (count_data (goal_cell w chain.goal)) (string letter) (codes "follows")
     (goal_line_data chain.goal) (count_data (goal_value chain.goal)) (looks_data w clue is_over looks) (list_data text_data text))
 
+-- a refutation by a grade of this letter: up to eight looks, each with its sentence, and the sentences of all; of more nothing is told
+abbrev pub IsRefutationValue : ℕ → List ℕ → (ℕ → ℕ) → (ℕ → ℕ → Bool) → Refutation → Data → Type 0
+IsRefutationValue w letter clue is_over refutation value =
+    (looks : List ToldLook) × AreTold refutation.steps.items looks
+    × (((length looks ≤ 8) × ((text : List (List ℕ)) × AreShort text
+    × (value ≡ hint_data null null (string letter) (codes "contradiction") null null (looks_data w clue is_over looks) (list_data text_data text))))
+    ⊎ ((8 < length looks) × (value ≡ plain_data Contradiction)))
+
 -- a hint that is told
 abbrev pub IsHintValue : ℕ → (Grade → List ℕ) → (ℕ → ℕ) → (ℕ → ℕ → Bool) → ToldHint → Data → Type 0
 IsHintValue w letter clue is_over (Explained grade chain) value = IsChainValue w (letter grade) clue is_over chain value
+IsHintValue w letter clue is_over (Refuted grade refutation) value = IsRefutationValue w (letter grade) clue is_over refutation value
 IsHintValue w letter clue is_over (Deduced hint) value = value ≡ plain_data hint
 
 -- the goal of its chain, if it has one, is one of the size
 abbrev pub IsGoalTold : ℕ → ToldHint → Type 0
 IsGoalTold w (Explained grade chain) = IsGoalOf w chain.goal
+IsGoalTold w (Refuted grade refutation) = Unit {0}
 IsGoalTold w (Deduced hint) = Unit {0}

@@ -175,6 +175,10 @@ AreTold steps [] = steps ≡ []
 AreTold steps (look ∷ looks) =
     (rest : List Step) × (steps ≡ look.steps ++ rest) × IsLook look.reason look.steps rest × AreShort look.text × AreTold rest looks
 
--- looks as data, of a puzzle of a width with these clues and signs
+-- a look as data, of a puzzle of a width with these clues and signs
+abbrev pub look_data : ℕ → (ℕ → ℕ) → (ℕ → ℕ → Bool) → ToldLook → Data
+look_data w clue is_over look = step_data w clue is_over look.reason look.steps look.text
+
+-- looks as data
 abbrev pub looks_data : ℕ → (ℕ → ℕ) → (ℕ → ℕ → Bool) → List ToldLook → Data
-looks_data w clue is_over looks = list_data (λ look. step_data w clue is_over look.reason look.steps look.text) looks
+looks_data w clue is_over looks = list_data (look_data w clue is_over) looks

@@ -4,8 +4,8 @@ ghost use Rattle.std.specs.Prelude.{◌≡◌, ◌*◌, map, List, IfOk, Option}
 ghost use Rattle.serde_json.specs.View.{view};
 ghost use Rattle.named_steps.specs.Chains.{IsGoalOf};
 ghost use Rattle.step_chains.specs.declared.chain.Step.{Step};
-ghost use Rattle.json_replies.specs.Steps.{ToldLook, AreTold, looks_data};
-ghost use Rattle.json_replies.specs.HintObjects.{hint_data, plain_data, bare_data, IsChainValue, IsHintValue, by_word, goal_line_data, grade_data, IsGoalTold};
+ghost use Rattle.json_replies.specs.Steps.{ToldLook, AreTold, look_data};
+ghost use Rattle.json_replies.specs.HintObjects.{hint_data, plain_data, bare_data, IsChainValue, IsRefutationValue, IsHintValue, by_word, goal_line_data, grade_data, IsGoalTold};
 
 use crate::lists::push_value;
 use crate::step_value::step_value;
@@ -16,8 +16,11 @@ use latin_board::Grid;
 use named_steps::{Goal, Grade};
 use serde_json::{Map, Value, put};
 use std::alloc::{AllocError, Global};
-use step_chains::{Chain, Step, view_of};
-use step_texts::{StepNames, chain_lines, first_look, look_lines, strike_all};
+use step_chains::{Chain, Refutation, Step, view_of};
+use step_texts::{StepNames, chain_lines, first_look, look_lines, refutation_lines, strike_all};
+
+// How many steps of a refutation are told; of a longer one none are.
+const MOST_STEPS: usize = 8;
 
 /// A hint of a grid as an object.
 pub(crate) fn hint_value<P: StepNames>(
@@ -33,6 +36,9 @@ pub(crate) fn hint_value<P: StepNames>(
 {
     match told {
         ToldHint::Explained { grade, chain } => chain_value(alloc, p, grid, *grade, chain),
+        ToldHint::Refuted { grade, refutation } => {
+            refutation_value(alloc, p, grid, *grade, refutation)
+        }
         ToldHint::Deduced(hint) => plain_value(alloc, *hint),
     }
 }
@@ -100,7 +106,39 @@ fn chain_value<P: StepNames>(
             kind: "follows",
             line: goal_line_value(chain.goal),
             number: Value::from(chain.goal.value()),
-            steps: looks_value(alloc, p, grid, chain.steps.as_slice())?,
+            steps: Value::from(looks_list(alloc, p, grid, chain.steps.as_slice())?),
+            text: lines_value(alloc, text.as_slice())?,
+        },
+    )
+}
+
+// A contradiction that steps of a grade find; without them where there are many.
+fn refutation_value<P: StepNames>(
+    alloc: Global,
+    p: &P,
+    grid: &Grid,
+    grade: Grade,
+    refutation: &Refutation,
+) -> Result<Value, AllocError>
+    requires { grid.now.size ≡ (P.Rules.puzzle p.now).size }
+    ensures { IfOk result (λ value. IsRefutationValue (P.Rules.puzzle p.now).size (P.grade_letter grade) (P.edge_clue_of p.now)
+        (P.says_greater_of p.now) refutation.now (view value)) }
+{
+    let looks = looks_list(alloc, p, grid, refutation.steps.as_slice())?;
+    if looks.len() > MOST_STEPS {
+        return plain_value(alloc, Hint::Contradiction);
+    }
+    let text = refutation_lines(alloc, p, grid, refutation)?;
+    object_value(
+        alloc,
+        Parts {
+            by: Value::from(()),
+            cell: Value::from(()),
+            grade: Value::try_from_str(alloc, P::letter(grade))?,
+            kind: "contradiction",
+            line: Value::from(()),
+            number: Value::from(()),
+            steps: Value::from(looks),
             text: lines_value(alloc, text.as_slice())?,
         },
     )
@@ -169,15 +207,15 @@ fn goal_line_value(goal: Goal) -> Value
 }
 
 // The steps of a chain, those side by side that have one reason together.
-fn looks_value<P: StepNames>(
+fn looks_list<P: StepNames>(
     alloc: Global,
     p: &P,
     grid: &Grid,
     steps: &[Step],
-) -> Result<Value, AllocError>
+) -> Result<Vec<Value>, AllocError>
     requires { grid.now.size ≡ (P.Rules.puzzle p.now).size }
-    ensures { IfOk result (λ value. (looks : List ToldLook) × AreTold steps.now looks
-        × (view value ≡ looks_data (P.Rules.puzzle p.now).size (P.edge_clue_of p.now) (P.says_greater_of p.now) looks)) }
+    ensures { IfOk result (λ list. (looks : List ToldLook) × AreTold steps.now looks
+        × (map view list.items ≡ map (look_data (P.Rules.puzzle p.now).size (P.edge_clue_of p.now) (P.says_greater_of p.now)) looks)) }
 {
     let mut candidates = view_of(grid);
     let mut list = Vec::new(alloc);
@@ -192,7 +230,7 @@ fn looks_value<P: StepNames>(
         strike_all(&mut candidates, look);
         rest = more;
     }
-    Ok(Value::from(list))
+    Ok(list)
 }
 
 /// The letter of a grade, or null.

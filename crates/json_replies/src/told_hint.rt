@@ -1,29 +1,37 @@
-//! Which hint is told: one that named steps explain, of the least grade, or what the deductions give.
+//! Which hint is told: one that named steps explain, of the least grade, a number or a contradiction; or what the deductions give.
 ghost use Rattle.std.specs.Prelude.{◌≡◌, ◌≢◌, IfOk, MatchOption};
 ghost use Rattle.named_steps.specs.Chains.{IsExplained};
 ghost use Rattle.named_steps.specs.declared.grade.Grade.TheVariants.{Hard};
 ghost use Rattle.step_chains.specs.ChainValues.{steps_of};
-ghost use Rattle.step_chains.specs.Explanations.{IsRefutedGrid, NothingIsShown};
+ghost use Rattle.step_chains.specs.Explanations.{IsRefutation, IsRefutedGrid, NothingIsShown};
 ghost use Rattle.json_replies.specs.ToldHints.{IsTold, IsLeast};
 
 use board_checks::{Deduces, Hint, find_hint};
 use latin_board::{Grid, OutOfMemory};
 use named_steps::{Grade, Steps, laws};
 use std::alloc::Global;
-use step_chains::{Chain, Explained, explain};
+use step_chains::{Chain, Explained, Refutation, explain};
 use trail_solver::Rules;
 
 /// A hint as it is told.
 #[derive(Drop)]
 pub(crate) enum ToldHint {
     /// A number, with the steps that show it.
-    Explained { grade: Grade, chain: Chain },
+    Explained {
+        grade: Grade,
+        chain: Chain,
+    },
+    /// That the numbers contradict one another, with the steps that refute them.
+    Refuted {
+        grade: Grade,
+        refutation: Refutation,
+    },
     /// What the deductions give, without steps.
     Deduced(Hint),
 }
 
-/// The hint of a grid: by the least grade whose steps lead to a number, unless the deductions or all steps refute the numbers; and
-/// where no steps lead to one, what the deductions give. `OutOfMemory` where a growth was refused.
+/// The hint of a grid: by the least grade whose steps refute the numbers, or else, unless the deductions refute them, by the least whose
+/// steps lead to a number; and where no steps lead to one, what the deductions give. `OutOfMemory` where a growth was refused.
 pub(crate) fn told_hint<P: Deduces + Steps>(
     alloc: Global,
     p: &P,
@@ -35,13 +43,62 @@ pub(crate) fn told_hint<P: Deduces + Steps>(
     laws::<P>();
     let _valid = p.size();
     let deduced = find_hint(p, grid);
-    if deduced == Hint::Contradiction {
-        return Ok(ToldHint::Deduced(deduced));
-    }
     match explain(alloc, p, grid, Grade::Hard)? {
-        Explained::Follows(chain) => least(alloc, p, grid, chain),
+        Explained::Contradiction(refutation) => least_refutation(alloc, p, grid, refutation),
         Explained::Nothing => Ok(ToldHint::Deduced(deduced)),
-        Explained::Contradiction(_) => Ok(ToldHint::Deduced(Hint::Contradiction)),
+        Explained::Follows(chain) => {
+            if deduced == Hint::Contradiction {
+                return Ok(ToldHint::Deduced(deduced));
+            }
+            least(alloc, p, grid, chain)
+        }
+    }
+}
+
+// The refutation by the least grade, where all steps refute the grid's numbers.
+fn least_refutation<P: Steps>(
+    alloc: Global,
+    p: &P,
+    grid: &Grid,
+    hard: Refutation,
+) -> Result<ToldHint, OutOfMemory>
+    requires size { grid.now.size ≡ (P.puzzle p.now).size }
+    requires refuted { IsRefutation (P.struck_by p.now) Hard grid.now (steps_of hard.steps.items) hard.cell }
+    ensures { IfOk result (IsLeast (P.struck_by p.now) grid.now) }
+{
+    if let Some(refutation) = refutation_by(alloc, p, grid, Grade::Latin)? {
+        return Ok(ToldHint::Refuted {
+            grade: Grade::Latin,
+            refutation,
+        });
+    }
+    if let Some(refutation) = refutation_by(alloc, p, grid, Grade::Easy)? {
+        return Ok(ToldHint::Refuted {
+            grade: Grade::Easy,
+            refutation,
+        });
+    }
+    Ok(ToldHint::Refuted {
+        grade: Grade::Hard,
+        refutation: hard,
+    })
+}
+
+// A chain of the grade that refutes the grid's numbers, if there is one.
+fn refutation_by<P: Steps>(
+    alloc: Global,
+    p: &P,
+    grid: &Grid,
+    grade: Grade,
+) -> Result<Option<Refutation>, OutOfMemory>
+    requires { grid.now.size ≡ (P.puzzle p.now).size }
+    ensures { IfOk result (λ found. MatchOption found (IsRefutedGrid (P.struck_by p.now) grade grid.now → ⊥)
+        (λ r. IsRefutation (P.struck_by p.now) grade grid.now (steps_of r.steps.items) r.cell)) }
+{
+    match explain(alloc, p, grid, grade)? {
+        Explained::Contradiction(refutation) => Ok(Some(refutation)),
+        Explained::Follows(_) => Ok(None),
+        Explained::Nothing => Ok(None),
     }
 }
 

@@ -3,4 +3,5 @@ pub mod Views
 pub mod Replays
 pub mod Tight
 pub mod Goals
+pub mod Aims
 pub mod Quiet

@@ -29,5 +29,5 @@ pub struct Chain {
 #[derive(Debug, Drop)]
 pub struct Refutation {
     pub steps: Vec<Step>,
-    pub cell: u8,
+    pub cell: usize,
 }

@@ -1,13 +1,16 @@
-//! Hints that explain: a chain of steps to the next number.
-ghost use Rattle.std.specs.Prelude.{◌≡◌, ◌↔◌, ℕ, ◌*◌, ◌<◌, IsTrue, IfOk, MatchResult};
-ghost use Rattle.std.specs.Bool.{MatchBool};
-ghost use Rattle.named_steps.specs.Chains.{IsExplained, IsGoalOf, IsTight};
+//! Hints that explain: a chain of steps to the next number, or to a square that is left nothing.
+ghost use Rattle.std.specs.Prelude.{◌≡◌, ◌↔◌, ◌*◌, ◌<◌, IsTrue, IfOk, MatchOption};
+ghost use Rattle.named_steps.specs.Chains.{IsExplained, IsTight};
+ghost use Rattle.named_steps.specs.declared.goal.Goal.TheVariants.{OnlyValue};
 ghost use Rattle.step_chains.specs.ChainValues.{steps_of};
-ghost use Rattle.step_chains.specs.Explanations.{Explains, IsRefutedGrid};
-ghost use Rattle.step_chains.specs.Inner.Goals.{IsOpen, IsShownByAll, HasSome, LacksSome};
+ghost use Rattle.step_chains.specs.Explanations.{Explains, IsRefutation, IsRefutedGrid, NothingIsShown};
+ghost use Rattle.step_chains.specs.Inner.Aims.{IsAimOf, IsFirstAim, IsReached, aim_goal};
+ghost use Rattle.step_chains.specs.Inner.Goals.{IsOpen, IsShownByAll};
 
+use crate::aims::{Aim, first_empty};
 use crate::chain::{Chain, Refutation, Step};
 use crate::goals::{is_open, shown_goal};
+use crate::layers::Sought;
 use crate::next_steps::all_steps;
 use crate::replays::shows_without;
 use crate::shortest::short_chain;
@@ -25,12 +28,12 @@ pub enum Explained {
     Follows(Chain),
     /// No steps of the grade show a number of an empty square.
     Nothing,
-    /// The grade's steps leave a square nothing: some number is wrong. Where few steps do, these are told.
-    Contradiction(Option<Refutation>),
+    /// These steps leave a square nothing, and none of them can be left out: some number is wrong.
+    Contradiction(Refutation),
 }
 
-/// The next number of a grid by the steps of a grade, with the steps that show it; `OutOfMemory` where a growth was refused. The
-/// grid has the puzzle's size.
+/// The next number of a grid by the steps of a grade, with the steps that show it, or the steps that refute the grid's numbers;
+/// `OutOfMemory` where a growth was refused. The grid has the puzzle's size.
 #[inline(never)]
 pub fn explain<P: Steps>(
     alloc: Global,
@@ -41,41 +44,42 @@ pub fn explain<P: Steps>(
     requires { grid.now.size ≡ (P.puzzle p.now).size }
     ensures { IfOk result (Explains (P.struck_by p.now) grade grid.now) }
 {
-    let goal = match first_goal(p, grid, grade) {
-        Ok(goal) => goal,
-        Err(told) => return Ok(told),
-    };
-    if let Some(chain) = short_chain(alloc, p, grid, grade)? {
-        return Ok(Explained::Follows(chain));
+    match first_aim(p, grid, grade) {
+        Some(Aim::Number(goal)) => {
+            let chain = chain_to(alloc, p, grid, grade, goal)?;
+            Ok(Explained::Follows(chain))
+        }
+        Some(Aim::Nothing { cell }) => {
+            let refutation = refutation_at(alloc, p, grid, grade, cell)?;
+            Ok(Explained::Contradiction(refutation))
+        }
+        None => Ok(Explained::Nothing),
     }
-    let chain = plain_chain(alloc, p, grid, grade, goal)?;
-    Ok(Explained::Follows(chain))
 }
 
-// The first number of an empty square that all steps of the grade's together show, or what is told where there is none. What they
-// leave is in this frame alone, so that it isn't on the stack while a chain is searched.
+// The first square that all steps of the grade's together leave nothing, or else the first number of an empty square that they show,
+// if they show any. What they leave is in this frame alone, so that it isn't on the stack while a chain is searched.
 #[inline(never)]
-fn first_goal<P: Steps>(p: &P, grid: &Grid, grade: Grade) -> Result<Goal, Explained>
+fn first_aim<P: Steps>(p: &P, grid: &Grid, grade: Grade) -> Option<Aim>
     requires { grid.now.size ≡ (P.puzzle p.now).size }
-    ensures { MatchResult result
-        (λ goal. IsOpen grid.now goal × IsShownByAll (P.struck_by p.now) grade grid.now goal
-        × (IsRefutedGrid (P.struck_by p.now) grade grid.now → ⊥))
-        (Explains (P.struck_by p.now) grade grid.now) }
+    ensures { MatchOption result
+        (NothingIsShown (P.struck_by p.now) grade grid.now × (IsRefutedGrid (P.struck_by p.now) grade grid.now → ⊥))
+        (IsFirstAim (P.struck_by p.now) grade grid.now) }
 {
     let mut settled = view_of(grid);
     settle(p, grade, &mut settled);
-    if has_nothing(&settled) {
-        return Err(Explained::Contradiction(None));
+    if let Some(cell) = first_empty(&settled) {
+        return Some(Aim::Nothing { cell });
     }
     match shown_goal(&settled, grid) {
-        Some(goal) => Ok(goal),
-        None => Err(Explained::Nothing),
+        Some(goal) => Some(Aim::Number(goal)),
+        None => None,
     }
 }
 
-// The chain of all steps of the grade's, without those that the goal can be shown without. All of them together show it.
+// A chain that shows a number of an empty square, and rather a short one. All steps together show this one.
 #[inline(never)]
-fn plain_chain<P: Steps>(
+fn chain_to<P: Steps>(
     alloc: Global,
     p: &P,
     grid: &Grid,
@@ -87,22 +91,63 @@ fn plain_chain<P: Steps>(
     requires shown { IsShownByAll (P.struck_by p.now) grade grid.now goal }
     ensures { IfOk result (λ chain. IsExplained (P.struck_by p.now) grade grid.now (steps_of chain.steps.items) chain.goal) }
 {
-    let mut steps = all_steps(alloc, p, grade, &mut view_of(grid))?;
-    tighten(p, grade, &mut view_of(grid), &mut steps, goal);
+    if let Some(found) = short_chain(alloc, p, grid, grade, Sought::Number)? {
+        if let Aim::Number(shown) = found.aim {
+            if is_open(grid, shown) {
+                return Ok(Chain {
+                    steps: found.steps,
+                    goal: shown,
+                });
+            }
+        }
+    }
+    let steps = plain_chain(alloc, p, grid, grade, Aim::Number(goal))?;
     Ok(Chain { steps, goal })
 }
 
-// Whether some square is left nothing.
-fn has_nothing(candidates: &Candidates) -> bool
-    ensures { MatchBool result (LacksSome candidates.now) (HasSome candidates.now) }
+// A chain that leaves a square nothing, and rather a short one. All steps together leave this one nothing.
+#[inline(never)]
+fn refutation_at<P: Steps>(
+    alloc: Global,
+    p: &P,
+    grid: &Grid,
+    grade: Grade,
+    cell: usize,
+) -> Result<Refutation, OutOfMemory>
+    requires size { grid.now.size ≡ (P.puzzle p.now).size }
+    requires inside { cell < grid.now.size * grid.now.size }
+    requires empty { IsShownByAll (P.struck_by p.now) grade grid.now (OnlyValue cell 0) }
+    ensures { IfOk result (λ r. IsRefutation (P.struck_by p.now) grade grid.now (steps_of r.steps.items) r.cell) }
 {
-    let width = candidates.size().get() as usize;
-    for cell in 0..width * width {
-        if candidates.values(cell).is_empty() {
-            return true;
+    if let Some(found) = short_chain(alloc, p, grid, grade, Sought::Nothing)? {
+        if let Aim::Nothing { cell } = found.aim {
+            return Ok(Refutation {
+                steps: found.steps,
+                cell,
+            });
         }
     }
-    false
+    let steps = plain_chain(alloc, p, grid, grade, Aim::Nothing { cell })?;
+    Ok(Refutation { steps, cell })
+}
+
+// All steps of the grade's, without those that the aim can be come to without. All of them together come to it.
+#[inline(never)]
+fn plain_chain<P: Steps>(
+    alloc: Global,
+    p: &P,
+    grid: &Grid,
+    grade: Grade,
+    aim: Aim,
+) -> Result<Vec<Step>, OutOfMemory>
+    requires size { grid.now.size ≡ (P.puzzle p.now).size }
+    requires aim { IsAimOf grid.now.size aim }
+    requires reached { IsShownByAll (P.struck_by p.now) grade grid.now (aim_goal aim) }
+    ensures { IfOk result (λ steps. IsReached (P.struck_by p.now) grade grid.now (steps_of steps.items) (aim_goal aim)) }
+{
+    let mut steps = all_steps(alloc, p, grade, &mut view_of(grid))?;
+    tighten(p, grade, &mut view_of(grid), &mut steps, aim);
+    Ok(steps)
 }
 
 /// Whether a chain explains a number of a grid by the steps of a grade. The grid has the puzzle's size.
@@ -112,32 +157,62 @@ pub fn explains<P: Steps>(p: &P, grid: &Grid, grade: Grade, chain: &Chain) -> bo
     ensures { IsTrue result
         ↔ IsExplained (P.struck_by p.now) grade grid.now (steps_of chain.now.steps.items) chain.now.goal }
 {
-    let goal = chain.goal;
-    if !is_open(grid, goal) {
+    if !is_open(grid, chain.goal) {
         return false;
     }
-    let mut view = view_of(grid);
-    let steps = chain.steps.as_slice();
-    if !shows_without(p, grade, &mut view, steps, steps.len(), goal) {
-        return false;
-    }
-    is_tight(p, grade, &mut view, steps, goal)
+    reaches(
+        p,
+        grid,
+        grade,
+        chain.steps.as_slice(),
+        Aim::Number(chain.goal),
+    )
 }
 
-// Whether the goal isn't shown without any one of the steps.
+/// Whether a chain refutes the numbers of a grid by the steps of a grade. The grid has the puzzle's size.
+#[inline(never)]
+pub fn refutes<P: Steps>(p: &P, grid: &Grid, grade: Grade, refutation: &Refutation) -> bool
+    requires { grid.now.size ≡ (P.puzzle p.now).size }
+    ensures { IsTrue result
+        ↔ IsRefutation (P.struck_by p.now) grade grid.now (steps_of refutation.now.steps.items) refutation.now.cell }
+{
+    let aim = Aim::Nothing {
+        cell: refutation.cell,
+    };
+    let size = grid.size();
+    if !aim.is_of(size) {
+        return false;
+    }
+    reaches(p, grid, grade, refutation.steps.as_slice(), aim)
+}
+
+// Whether steps come from what is in view of the grid to an aim, and none of them can be left out.
+fn reaches<P: Steps>(p: &P, grid: &Grid, grade: Grade, steps: &[Step], aim: Aim) -> bool
+    requires size { grid.now.size ≡ (P.puzzle p.now).size }
+    requires aim { IsAimOf grid.now.size aim }
+    ensures { IsTrue result ↔ IsReached (P.struck_by p.now) grade grid.now (steps_of steps.now) (aim_goal aim) }
+{
+    let mut view = view_of(grid);
+    if !shows_without(p, grade, &mut view, steps, steps.len(), aim) {
+        return false;
+    }
+    is_tight(p, grade, &mut view, steps, aim)
+}
+
+// Whether the aim isn't come to without any one of the steps.
 fn is_tight<P: Steps>(
     p: &P,
     grade: Grade,
     candidates: &mut Candidates,
     steps: &[Step],
-    goal: Goal,
+    aim: Aim,
 ) -> bool
     requires size { candidates.old.size ≡ (P.puzzle p.now).size }
-    requires goal { IsGoalOf candidates.old.size goal }
-    ensures { IsTrue result ↔ IsTight (P.struck_by p.now) grade candidates.old (steps_of steps.now) goal }
+    requires aim { IsAimOf candidates.old.size aim }
+    ensures { IsTrue result ↔ IsTight (P.struck_by p.now) grade candidates.old (steps_of steps.now) (aim_goal aim) }
 {
     for place in 0..steps.len() {
-        if shows_without(p, grade, candidates, steps, place, goal) {
+        if shows_without(p, grade, candidates, steps, place, aim) {
             return false;
         }
     }

@@ -1,20 +1,33 @@
 //! A first chain: rounds of steps, in which the dearer kinds wait for the cheaper ones.
+ghost use Rattle.std.specs.Prelude.{◌≡◌};
 
+use crate::aims::first_empty;
 use crate::chain::Step;
 use crate::goals::shown_goal;
 use crate::needs::{Values, left, neighbours, single, squares_but, squares_from};
 use crate::next_steps::left_of;
 use crate::replays::{struck, take};
 use arrayvec::ArrayVec;
-use latin_board::{CELLS, Grid, OutOfMemory};
+use latin_board::{CELLS, Grid, OutOfMemory, line_cell};
 use named_steps::{Grade, Reason, Steps};
 use number_sets::NumberSet;
 use std::alloc::Global;
 use trail_solver::{Candidates, Mark, Rules};
 
-// Kinds of steps, the cheapest first. Rows and columns alone have no kind: what they strike in view shows a number.
+/// What rounds are to lead to.
+#[derive(Clone, Copy, Debug)]
+pub(crate) enum Sought {
+    /// A number of an empty square.
+    Number,
+    /// A square that is left nothing.
+    Nothing,
+}
+
+// Kinds of steps, the cheapest first.
 #[derive(Clone, Copy, Debug)]
 enum Kind {
+    Peer,
+    Place,
     Given,
     Bound,
     Sign,
@@ -23,7 +36,9 @@ enum Kind {
     Set,
 }
 
-const KINDS: [Kind; 6] = [
+const KINDS: [Kind; 8] = [
+    Kind::Peer,
+    Kind::Place,
     Kind::Given,
     Kind::Bound,
     Kind::Sign,
@@ -42,16 +57,18 @@ pub(crate) struct Rounds {
     start: Mark,
     gone: Values,
     pub(crate) steps: Vec<Step>,
+    sought: Sought,
 }
 
 impl Rounds {
     /// No round yet, from what is in view.
-    pub(crate) fn of(alloc: Global, view: Candidates) -> Rounds {
+    pub(crate) fn of(alloc: Global, view: Candidates, sought: Sought) -> Rounds {
         Rounds {
             start: view.mark(),
             now: view,
             gone: Values::none(),
             steps: Vec::new(alloc),
+            sought,
         }
     }
 
@@ -62,8 +79,8 @@ impl Rounds {
         }
     }
 
-    /// Steps of the grade's from what is in view of the grid, round after round, until a number of an empty square is shown or they
-    /// strike nothing more.
+    /// Steps of the grade's from what is in view of the grid, round after round, until they lead to what is sought or strike nothing
+    /// more.
     #[inline(never)]
     pub(crate) fn go_through<P: Steps>(
         &mut self,
@@ -77,7 +94,7 @@ impl Rounds {
         Ok(())
     }
 
-    // Rounds with the kinds up to one, while they strike anything and nothing is shown.
+    // Rounds with the kinds up to one, while they strike anything and what is sought isn't found.
     fn go_on<P: Steps>(
         &mut self,
         p: &P,
@@ -86,7 +103,7 @@ impl Rounds {
         last: usize,
     ) -> Result<(), OutOfMemory> {
         for _round in 0..ROUNDS {
-            if self.now.size() != grid.size() || shown_goal(&self.now, grid).is_some() {
+            if self.now.size() != grid.size() || is_found(self.sought, &self.now, grid) {
                 return Ok(());
             }
             let before = self.steps.len();
@@ -102,7 +119,7 @@ impl Rounds {
     fn round<P: Steps>(&mut self, p: &P, grade: Grade, last: usize) -> Result<(), OutOfMemory> {
         let before = self.steps.len();
         for kind in 0..KINDS.len() {
-            if kind <= last {
+            if kind <= last && is_of_use(KINDS[kind], self.sought) {
                 self.look(p, grade, KINDS[kind])?;
             }
         }
@@ -114,11 +131,76 @@ impl Rounds {
     // The steps of one kind.
     fn look<P: Steps>(&mut self, p: &P, grade: Grade, kind: Kind) -> Result<(), OutOfMemory> {
         match kind {
+            Kind::Peer => self.look_at_peers(p, grade),
+            Kind::Place => self.look_at_places(p, grade),
             Kind::Given => self.look_at_squares(p, grade),
             Kind::Sign => self.look_at_signs(p, grade),
             Kind::Set => self.look_at_lines(p, grade),
             Kind::Bound | Kind::Stand | Kind::Clue => self.look_at_clues(p, grade, kind),
         }
+    }
+
+    // The steps of the squares of which one value is left.
+    fn look_at_peers<P: Steps>(&mut self, p: &P, grade: Grade) -> Result<(), OutOfMemory> {
+        let size = self.now.size();
+        let width = size.get() as usize;
+        for cell in 0..width * width {
+            if left(&self.now, cell).is_single() {
+                let reason = Reason::Peer { cell };
+                self.look_among(
+                    p,
+                    grade,
+                    &reason,
+                    squares_but(size, cell / width, usize::MAX),
+                )?;
+                self.look_among(
+                    p,
+                    grade,
+                    &reason,
+                    squares_but(size, width + cell % width, usize::MAX),
+                )?;
+            }
+        }
+        Ok(())
+    }
+
+    // The steps of the values that have one place left in a row or column, or none.
+    fn look_at_places<P: Steps>(&mut self, p: &P, grade: Grade) -> Result<(), OutOfMemory> {
+        for line in 0..2 * self.now.size().get() {
+            let few = scarce_on(&self.now, line);
+            for value in 1..10 {
+                if few.has(value) {
+                    self.look_at_place(p, grade, line, value)?;
+                }
+            }
+        }
+        Ok(())
+    }
+
+    // The step of the last place of a value in a row or column, or where it has none, that of the line's first square.
+    fn look_at_place<P: Steps>(
+        &mut self,
+        p: &P,
+        grade: Grade,
+        line: u8,
+        value: u8,
+    ) -> Result<(), OutOfMemory> {
+        let size = self.now.size();
+        let mut last = 0;
+        for index in 0..size.get() {
+            if single(value).is_subset(left_at(&self.now, line, index)) {
+                last = index;
+            }
+        }
+        if line >= 2 * size.get() || last >= size.get() {
+            return Ok(());
+        }
+        let reason = Reason::Place {
+            line: line as usize,
+            index: last as usize,
+            value,
+        };
+        self.look_in(p, grade, &reason, line_cell(size, line, last))
     }
 
     // The steps of the givens.
@@ -283,6 +365,48 @@ impl Rounds {
         self.gone.add(cell, values);
         self.steps.push(step)?;
         Ok(())
+    }
+}
+
+// Whether the candidates show a number of an empty square, or leave a square nothing, as is sought. The sizes are equal.
+fn is_found(sought: Sought, candidates: &Candidates, grid: &Grid) -> bool
+    requires { candidates.now.size ≡ grid.now.size }
+{
+    match sought {
+        Sought::Number => shown_goal(candidates, grid).is_some(),
+        Sought::Nothing => first_empty(candidates).is_some(),
+    }
+}
+
+// Whether steps of a kind may lead on. What rows and columns alone strike shows a number at once, so on the way to one they strike
+// nothing.
+fn is_of_use(kind: Kind, sought: Sought) -> bool {
+    match (kind, sought) {
+        (Kind::Peer | Kind::Place, Sought::Number) => false,
+        _ => true,
+    }
+}
+
+// The values that have one place left in a row or column, or none.
+fn scarce_on(candidates: &Candidates, line: u8) -> NumberSet {
+    let size = candidates.size();
+    let mut once = NumberSet::empty();
+    let mut often = NumberSet::empty();
+    for index in 0..size.get() {
+        let values = left_at(candidates, line, index);
+        often = often.union(once.intersection(values));
+        once = once.union(values);
+    }
+    NumberSet::up_to(size.get()).difference(often)
+}
+
+// What is left at a place of a row or column; nothing where there is no such place.
+fn left_at(candidates: &Candidates, line: u8, index: u8) -> NumberSet {
+    let size = candidates.size();
+    if line < 2 * size.get() && index < size.get() {
+        candidates.values(line_cell(size, line, index))
+    } else {
+        NumberSet::empty()
     }
 }
 

@@ -1,19 +1,20 @@
 //! Chains of named steps: why a number follows, step by step.
 //!
 //! What is in view of a grid is a filled square's number, and of an empty one what doesn't stand in its row or column (`view_of`).
-//! From there `explain` finds steps of a grade that show a number of an empty square, of which none can be left out; or it tells
-//! that none of the grade's steps lead to one, or that they leave a square nothing. `explains` tells of any chain whether it is
-//! such. Chains take memory from the heap, and nothing else here does.
+//! From there `explain` finds steps of a grade that show a number of an empty square, or that leave a square nothing and so refute
+//! the grid's numbers, of which none can be left out; or it tells that none of the grade's steps lead to a number. `explains` and
+//! `refutes` tell of any chain whether it is such. Chains take memory from the heap, and nothing else here does.
 //!
 //! ```
 //! match explain(rt.alloc(), &puzzle, &grid, Grade::Hard)? {
 //!     Explained::Follows(chain) => assert!(rt; explains(&puzzle, &grid, Grade::Hard, &chain)),
 //!     Explained::Nothing => println!(rt; "nothing follows by these steps")?,
-//!     Explained::Contradiction(_) => println!(rt; "some number is wrong")?,
+//!     Explained::Contradiction(refutation) => assert!(rt; refutes(&puzzle, &grid, Grade::Hard, &refutation)),
 //! }
 //! ```
 #![tactic(auto)]
 
+mod aims;
 mod chain;
 mod explaining;
 mod goals;
@@ -27,5 +28,5 @@ mod tightening;
 mod view;
 
 pub use chain::{Chain, Refutation, Step};
-pub use explaining::{Explained, explain, explains};
+pub use explaining::{Explained, explain, explains, refutes};
 pub use view::view_of;

@@ -1,5 +1,6 @@
 //! Sets of values for squares: what is needed of a chain, and where reasons look.
 
+use crate::aims::Aim;
 use arrayvec::ArrayVec;
 use clue_rules::view_cell;
 use latin_board::{CELLS, Size, line_cell};
@@ -61,17 +62,24 @@ impl Values {
     }
 }
 
-/// What has to be struck from candidates so that they show the goal.
-pub(crate) fn needs_of(candidates: &Candidates, goal: Goal) -> Values {
-    match goal {
-        Goal::OnlyValue { cell, value } => needs_of_value(candidates, cell, value),
-        Goal::OnlyPlace { line, index, value } => needs_of_place(candidates, line, index, value),
+/// What has to be struck from candidates so that they come to the aim.
+pub(crate) fn needs_of(candidates: &Candidates, aim: Aim) -> Values {
+    match aim {
+        Aim::Number(Goal::OnlyValue { cell, value }) => needs_of_value(
+            candidates,
+            cell,
+            single(value),
+        ),
+        Aim::Number(Goal::OnlyPlace { line, index, value }) => needs_of_place(
+            candidates, line, index, value,
+        ),
+        Aim::Nothing { cell } => needs_of_value(candidates, cell, NumberSet::empty()),
     }
 }
 
-fn needs_of_value(candidates: &Candidates, cell: usize, value: u8) -> Values {
+fn needs_of_value(candidates: &Candidates, cell: usize, stays: NumberSet) -> Values {
     let mut needs = Values::none();
-    needs.add(cell, left(candidates, cell).difference(single(value)));
+    needs.add(cell, left(candidates, cell).difference(stays));
     needs
 }
 

@@ -5,57 +5,59 @@ ghost use Rattle.std.specs.List.{remove};
 ghost use Rattle.number_sets.specs.Sets.{has_number};
 ghost use Rattle.trail_solver.specs.Pairs.{IsPair, has_pair};
 ghost use Rattle.trail_solver.specs.Candidates.{IsEarlier};
-ghost use Rattle.named_steps.specs.Chains.{IsGoalOf, Shows};
+ghost use Rattle.named_steps.specs.Chains.{Shows};
 ghost use Rattle.named_steps.specs.Inner.Takes.{Takes};
 ghost use Rattle.step_chains.specs.ChainValues.{step_value, steps_of};
+ghost use Rattle.step_chains.specs.Inner.Aims.{IsAimOf, aim_goal};
 ghost use Rattle.step_chains.specs.Inner.Replays.{IsGradeStep, IsGradeChain, Leads};
 
+use crate::aims::Aim;
 use crate::chain::Step;
-use named_steps::{Goal, Grade, Reason, Steps, strike};
+use named_steps::{Grade, Reason, Steps, strike};
 use number_sets::NumberSet;
 use trail_solver::{Candidates, Rules};
 
-/// Whether the steps, without the one at a place if they have it, are a chain of the grade's from the candidates and show the goal.
-/// The candidates are afterwards what they were. The sizes are equal, and the goal is one of the size.
+/// Whether the steps, without the one at a place if they have it, are a chain of the grade's from the candidates and come to the aim.
+/// The candidates are afterwards what they were. The sizes are equal, and the aim is one of the size.
 pub(crate) fn shows_without<P: Steps>(
     p: &P,
     grade: Grade,
     candidates: &mut Candidates,
     steps: &[Step],
     place: usize,
-    goal: Goal,
+    aim: Aim,
 ) -> bool
     requires size { candidates.old.size ≡ (P.puzzle p.now).size }
-    requires goal { IsGoalOf candidates.old.size goal }
+    requires aim { IsAimOf candidates.old.size aim }
     ensures same { candidates.new ≡ candidates.old }
     ensures shows { IsTrue result
-        ↔ Shows (P.struck_by p.now) grade candidates.old (remove (steps_of steps.now) place) goal }
+        ↔ Shows (P.struck_by p.now) grade candidates.old (remove (steps_of steps.now) place) (aim_goal aim) }
 {
     let mark = candidates.mark();
-    let shows = leads_to(p, grade, candidates, steps, place, goal);
+    let shows = leads_to(p, grade, candidates, steps, place, aim);
     candidates.give_back(mark);
     shows
 }
 
-// Follows the steps without the one at a place, and tells whether they are a chain of the grade's and show the goal.
+// Follows the steps without the one at a place, and tells whether they are a chain of the grade's and come to the aim.
 fn leads_to<P: Steps>(
     p: &P,
     grade: Grade,
     candidates: &mut Candidates,
     steps: &[Step],
     place: usize,
-    goal: Goal,
+    aim: Aim,
 ) -> bool
     requires size { candidates.old.size ≡ (P.puzzle p.now).size }
-    requires goal { IsGoalOf candidates.old.size goal }
+    requires aim { IsAimOf candidates.old.size aim }
     ensures earlier { IsEarlier candidates.old candidates.new }
     ensures shows { IsTrue result
-        ↔ Shows (P.struck_by p.now) grade candidates.old (remove (steps_of steps.now) place) goal }
+        ↔ Shows (P.struck_by p.now) grade candidates.old (remove (steps_of steps.now) place) (aim_goal aim) }
 {
     if !follow_without(p, grade, candidates, steps, place) {
         return false;
     }
-    goal.is_shown(candidates)
+    aim.is_met(candidates)
 }
 
 // Follows the steps without the one at a place, and tells whether they are a chain of the grade's.

@@ -1,125 +1,147 @@
-//! The chain that costs least of those that the goals of a first chain need.
-ghost use Rattle.std.specs.Prelude.{◌≡◌, IfOk, IfSome};
+//! The chain that costs least of those that the aims of a first chain need.
+ghost use Rattle.std.specs.Prelude.{◌≡◌, ◌*◌, IfOk, IfSome};
 ghost use Rattle.std.specs.Bool.{OnTrue};
-ghost use Rattle.named_steps.specs.Chains.{IsExplained, IsTight, Shows};
+ghost use Rattle.named_steps.specs.Chains.{IsTight, Shows};
 ghost use Rattle.step_chains.specs.ChainValues.{steps_of};
-ghost use Rattle.step_chains.specs.Inner.Goals.{IsOpen};
+ghost use Rattle.step_chains.specs.Inner.Aims.{IsAimOf, IsReached, aim_goal};
 
-use crate::chain::{Chain, Step};
-use crate::goals::{is_open, shown_in_place, shown_in_square};
-use crate::layers::Rounds;
+use crate::aims::{Aim, Aimed};
+use crate::chain::Step;
+use crate::goals::{shown_in_place, shown_in_square};
+use crate::layers::{Rounds, Sought};
+use crate::needs::left;
 use crate::replays::shows_without;
 use crate::slices::{gathered, slice, struck_once};
 use crate::tightening::tighten;
 use crate::view::view_of;
 use latin_board::{Grid, OutOfMemory};
-use named_steps::{Goal, Grade, Reason, Steps};
+use named_steps::{Grade, Reason, Steps};
 use std::alloc::Global;
 use trail_solver::{Candidates, Rules};
 
-/// A chain that explains a number of an empty square by the steps of the grade, and rather a short one, if it is found.
+/// Steps of the grade that lead from what is in view of the grid to what is sought, and rather few, if they are found. None of them
+/// can be left out.
 #[inline(never)]
 pub(crate) fn short_chain<P: Steps>(
     alloc: Global,
     p: &P,
     grid: &Grid,
     grade: Grade,
-) -> Result<Option<Chain>, OutOfMemory>
-    requires { grid.now.size ≡ (P.puzzle p.now).size }
-    ensures { IfOk result (λ found. IfSome found
-        (λ chain. IsExplained (P.struck_by p.now) grade grid.now (steps_of chain.steps.items) chain.goal)) }
+    sought: Sought,
+) -> Result<Option<Aimed>, OutOfMemory>
+    ensures { IfOk result (λ found. IfSome found (λ a. IsAimOf grid.now.size a.aim
+        × IsReached (P.struck_by p.now) grade grid.now (steps_of a.steps.items) (aim_goal a.aim))) }
 {
-    let Some(mut chain) = least_chain(alloc, p, grid, grade)? else {
+    let Some(mut found) = least_chain(alloc, p, grid, grade, sought)? else {
         return Ok(None);
     };
-    if !is_open(grid, chain.goal)
-        || !shorten_from_view(p, grid, grade, &mut chain.steps, chain.goal)
-    {
+    if !shorten_from_view(p, grid, grade, &mut found.steps, found.aim) {
         return Ok(None);
     }
-    Ok(Some(chain))
+    Ok(Some(found))
 }
 
-// The same as `shorten` from what is in view of the grid. The goal speaks of an empty square.
+// The same as `shorten` from what is in view of the grid.
 #[inline(never)]
 fn shorten_from_view<P: Steps>(
     p: &P,
     grid: &Grid,
     grade: Grade,
     steps: &mut Vec<Step>,
-    goal: Goal,
+    aim: Aim,
 ) -> bool
-    requires { IsOpen grid.now goal }
-    ensures { OnTrue result (IsExplained (P.struck_by p.now) grade grid.now (steps_of steps.new.items) goal) }
+    ensures { OnTrue result (IsAimOf grid.now.size aim
+        × IsReached (P.struck_by p.now) grade grid.now (steps_of steps.new.items) (aim_goal aim)) }
 {
     let mut view = view_of(grid);
-    shorten(p, grade, &mut view, steps, goal)
+    shorten(p, grade, &mut view, steps, aim)
 }
 
-// Leaves out what can be left out, where the steps show the goal; and tells whether they do.
+// Leaves out what can be left out, where the steps come to the aim; and tells whether they do.
 #[inline(never)]
 fn shorten<P: Steps>(
     p: &P,
     grade: Grade,
     candidates: &mut Candidates,
     steps: &mut Vec<Step>,
-    goal: Goal,
+    aim: Aim,
 ) -> bool
     ensures same { candidates.new ≡ candidates.old }
-    ensures shows { OnTrue result (Shows (P.struck_by p.now) grade candidates.old (steps_of steps.new.items) goal) }
-    ensures tight { OnTrue result (IsTight (P.struck_by p.now) grade candidates.old (steps_of steps.new.items) goal) }
+    ensures of { OnTrue result (IsAimOf candidates.old.size aim) }
+    ensures shows { OnTrue result (Shows (P.struck_by p.now) grade candidates.old (steps_of steps.new.items) (aim_goal aim)) }
+    ensures tight { OnTrue result (IsTight (P.struck_by p.now) grade candidates.old (steps_of steps.new.items) (aim_goal aim)) }
 {
     let all = steps.len();
     let size = candidates.size();
-    if p.size() != size || !goal.is_of(size) {
+    if p.size() != size || !aim.is_of(size) {
         return false;
     }
-    if !shows_without(p, grade, candidates, steps.as_slice(), all, goal) {
+    if !shows_without(p, grade, candidates, steps.as_slice(), all, aim) {
         return false;
     }
-    tighten(p, grade, candidates, steps, goal);
+    tighten(p, grade, candidates, steps, aim);
     true
 }
 
-// The chain that costs least of those that the goals of the first rounds need.
+// The chain that costs least of those that the aims of the first rounds need.
 #[inline(never)]
 fn least_chain<P: Steps>(
     alloc: Global,
     p: &P,
     grid: &Grid,
     grade: Grade,
-) -> Result<Option<Chain>, OutOfMemory> {
-    let mut rounds = Rounds::of(alloc, view_of(grid));
+    sought: Sought,
+) -> Result<Option<Aimed>, OutOfMemory> {
+    let mut rounds = Rounds::of(alloc, view_of(grid), sought);
     rounds.go_through(p, grid, grade)?;
-    let goals = goals_of(alloc, grid, &rounds.now)?;
+    let aims = match sought {
+        Sought::Number => numbers_shown(alloc, grid, &rounds.now)?,
+        Sought::Nothing => squares_emptied(alloc, &rounds.now)?,
+    };
     rounds.give_back();
     let mut least = Least {
         grade,
         chain: None,
         cost: usize::MAX,
     };
-    for goal in goals.as_slice() {
-        least.try_goal(alloc, p, &mut rounds, *goal)?;
+    for aim in aims.as_slice() {
+        least.try_aim(alloc, p, &mut rounds, *aim)?;
     }
     Ok(least.chain)
 }
 
+// The squares that are left nothing.
+fn squares_emptied(alloc: Global, candidates: &Candidates) -> Result<Vec<Aim>, OutOfMemory> {
+    let width = candidates.size().get() as usize;
+    let mut aims = Vec::new(alloc);
+    for cell in 0..width * width {
+        if left(candidates, cell).is_empty() {
+            aims.push(Aim::Nothing { cell })?;
+        }
+    }
+    Ok(aims)
+}
+
 // The numbers of empty squares that candidates show: first the only values of squares, and then the only places of rows and columns.
 #[inline(never)]
-fn goals_of(alloc: Global, grid: &Grid, candidates: &Candidates) -> Result<Vec<Goal>, OutOfMemory> {
-    let mut goals = Vec::new(alloc);
-    list_values(grid, candidates, &mut goals)?;
+fn numbers_shown(
+    alloc: Global,
+    grid: &Grid,
+    candidates: &Candidates,
+) -> Result<Vec<Aim>, OutOfMemory> {
+    let mut aims = Vec::new(alloc);
+    list_values(grid, candidates, &mut aims)?;
     for line in 0..2 * grid.size().get() {
-        list_places(grid, candidates, line, &mut goals)?;
+        list_places(grid, candidates, line, &mut aims)?;
     }
-    Ok(goals)
+    Ok(aims)
 }
 
 // Lists the only values of squares.
 fn list_values(
     grid: &Grid,
     candidates: &Candidates,
-    goals: &mut Vec<Goal>,
+    aims: &mut Vec<Aim>,
 ) -> Result<(), OutOfMemory> {
     let width = grid.size().get() as usize;
     if candidates.size() != grid.size() {
@@ -127,7 +149,7 @@ fn list_values(
     }
     for cell in 0..width * width {
         if let Some(goal) = shown_in_square(candidates, grid, cell) {
-            goals.push(goal)?;
+            aims.push(Aim::Number(goal))?;
         }
     }
     Ok(())
@@ -138,7 +160,7 @@ fn list_places(
     grid: &Grid,
     candidates: &Candidates,
     line: u8,
-    goals: &mut Vec<Goal>,
+    aims: &mut Vec<Aim>,
 ) -> Result<(), OutOfMemory> {
     let size = grid.size();
     if candidates.size() != size || line >= 2 * size.get() {
@@ -146,7 +168,7 @@ fn list_places(
     }
     for index in 0..size.get() {
         if let Some(goal) = shown_in_place(candidates, grid, line, index) {
-            goals.push(goal)?;
+            aims.push(Aim::Number(goal))?;
         }
     }
     Ok(())
@@ -156,33 +178,33 @@ fn list_places(
 #[derive(Drop)]
 struct Least {
     grade: Grade,
-    chain: Option<Chain>,
+    chain: Option<Aimed>,
     cost: usize,
 }
 
 impl Least {
-    // Tries the chain that a goal needs.
+    // Tries the chain that an aim needs.
     #[inline(never)]
-    fn try_goal<P: Steps>(
+    fn try_aim<P: Steps>(
         &mut self,
         alloc: Global,
         p: &P,
         rounds: &mut Rounds,
-        goal: Goal,
+        aim: Aim,
     ) -> Result<(), OutOfMemory> {
         if self.cost == 0 {
             return Ok(());
         }
-        let needed = slice(alloc, p, &mut rounds.now, rounds.steps.as_slice(), goal)?;
+        let needed = slice(alloc, p, &mut rounds.now, rounds.steps.as_slice(), aim)?;
         let mut all = gathered(alloc, p, &mut rounds.now, needed.as_slice())?;
-        if !shorten(p, self.grade, &mut rounds.now, &mut all, goal) {
+        if !shorten(p, self.grade, &mut rounds.now, &mut all, aim) {
             return Ok(());
         }
         let steps = struck_once(alloc, &mut rounds.now, all.as_slice())?;
         let cost = cost_of(steps.as_slice());
         if cost < self.cost {
             self.cost = cost;
-            self.chain = Some(Chain { steps, goal });
+            self.chain = Some(Aimed { steps, aim });
         }
         Ok(())
     }

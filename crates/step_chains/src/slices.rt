@@ -1,25 +1,26 @@
-//! What a goal needs of a long chain: a slice of it, with the strikes of a reason side by side.
+//! What an aim needs of a long chain: a slice of it, with the strikes of a reason side by side.
 
+use crate::aims::Aim;
 use crate::chain::Step;
 use crate::needs::{Values, left, looked_at, needs_of};
 use crate::replays::{struck, take};
 use arrayvec::ArrayVec;
 use latin_board::OutOfMemory;
-use named_steps::{Goal, Reason, Steps, strike};
+use named_steps::{Reason, Steps, strike};
 use number_sets::NumberSet;
 use std::alloc::Global;
 use trail_solver::{Candidates, Rules};
 
-/// The steps of a chain from the candidates on which the goal stands, in their order, each with the values that are used.
+/// The steps of a chain from the candidates on which the aim stands, in their order, each with the values that are used.
 #[inline(never)]
 pub(crate) fn slice<P: Steps>(
     alloc: Global,
     p: &P,
     candidates: &mut Candidates,
     steps: &[Step],
-    goal: Goal,
+    aim: Aim,
 ) -> Result<Vec<Step>, OutOfMemory> {
-    let mut needs = needs_of(candidates, goal);
+    let mut needs = needs_of(candidates, aim);
     let mut gone = Values::none();
     for step in steps {
         gone.add(step.cell as usize, step.values);

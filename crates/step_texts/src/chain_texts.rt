@@ -1,15 +1,15 @@
-//! The text of a chain.
+//! The text of a chain, to a number or to a square that is left nothing.
 ghost use Rattle.std.specs.Prelude.{IfOk};
 ghost use Rattle.step_texts.specs.Lines.{AreShort, line_texts};
 
 use crate::looks::{first_look, strike_all};
-use crate::sentences::{say_goal, say_look};
+use crate::sentences::{say_empty, say_goal, say_look};
 use crate::step_names::StepNames;
 use crate::writing::{Line, Writing};
 use latin_board::Grid;
 use named_steps::Reason;
 use std::alloc::{AllocError, Global};
-use step_chains::{Chain, Step, view_of};
+use step_chains::{Chain, Refutation, Step, view_of};
 use trail_solver::Candidates;
 
 /// The sentence of some steps that have this reason, by the candidates before them.
@@ -40,6 +40,22 @@ pub fn chain_lines<P: StepNames>(
     let mut text = Writing::new(alloc);
     say_looks(&mut text, p, view_of(grid), chain.steps.as_slice())?;
     say_goal(&mut text, grid, chain.goal)?;
+    text.end()?;
+    Ok(text.into_lines())
+}
+
+/// A refutation of a grid in sentences: its looks, numbered from 1, and then the square that they leave nothing.
+pub fn refutation_lines<P: StepNames>(
+    alloc: Global,
+    p: &P,
+    grid: &Grid,
+    refutation: &Refutation,
+) -> Result<Vec<Line>, AllocError>
+    ensures { IfOk result (λ lines. AreShort (line_texts lines.items)) }
+{
+    let mut text = Writing::new(alloc);
+    say_looks(&mut text, p, view_of(grid), refutation.steps.as_slice())?;
+    say_empty(&mut text, grid, refutation.cell)?;
     text.end()?;
     Ok(text.into_lines())
 }

@@ -1,11 +1,11 @@
-//! The sentence of a step, and the one of what a chain shows.
+//! The sentence of a step, and the one of what a chain comes to.
 
 use crate::names::{
     Joined, edge, first_square, line, line_square, line_squares, losses, numbers, square,
 };
 use crate::step_names::StepNames;
 use crate::writing::Writing;
-use latin_board::{Grid, Size};
+use latin_board::{Grid, Size, line_cell};
 use named_steps::{Goal, Reason};
 use number_sets::NumberSet;
 use std::alloc::AllocError;
@@ -43,7 +43,7 @@ fn say_reason<P: StepNames>(
             text.say(" is ")?;
             numbers(text, left_of(candidates, cell), Joined::Or)
         }
-        Reason::Place { line, index, value } => say_place(text, size, line, index, value),
+        Reason::Place { line, index, value } => say_place(text, candidates, line, index, value),
         Reason::Bound { place } => say_bound(text, p, size, place),
         Reason::Stand { place } => {
             say_clue(text, p, size, place)?;
@@ -62,19 +62,32 @@ fn say_reason<P: StepNames>(
     }
 }
 
-// That a value has one place in a line.
+// That a value has one place in a line, or, where it isn't left there either, that it has no other.
 fn say_place(
     text: &mut Writing,
-    size: Size,
+    candidates: &Candidates,
     at: usize,
     index: usize,
     value: u8,
 ) -> Result<(), AllocError> {
-    line(text, size, at, "Row ", "Column ")?;
-    text.say(" has its ")?;
-    text.number(value as usize)?;
-    text.say(" in ")?;
-    line_square(text, size, at, index)
+    let size = candidates.size();
+    if one(value).is_subset(left_on(candidates, at, index)) {
+        line(text, size, at, "Row ", "Column ")?;
+        text.say(" has its ")?;
+        text.number(value as usize)?;
+        text.say(" in ")?;
+        line_square(text, size, at, index)
+    } else {
+        text.say("No other square of ")?;
+        say_can_be(text, size, at, value)
+    }
+}
+
+// A line, and that its squares, which are named before, can have a value.
+fn say_can_be(text: &mut Writing, size: Size, at: usize, value: u8) -> Result<(), AllocError> {
+    line(text, size, at, "row ", "column ")?;
+    text.say(" can be ")?;
+    text.number(value as usize)
 }
 
 // That some squares of a line share some values.
@@ -175,7 +188,7 @@ pub(crate) fn say_goal(text: &mut Writing, grid: &Grid, goal: Goal) -> Result<()
             square(text, size, cell)?;
             say_is(text, value)?;
             let view = view_of(grid);
-            say_gone(text, size, left_of(&view, cell), value)
+            say_gone(text, size, left_of(&view, cell), one(value))
         }
         Goal::OnlyPlace {
             line: at,
@@ -185,9 +198,7 @@ pub(crate) fn say_goal(text: &mut Writing, grid: &Grid, goal: Goal) -> Result<()
             line_square(text, size, at, index)?;
             say_is(text, value)?;
             text.say("no other square of ")?;
-            line(text, size, at, "row ", "column ")?;
-            text.say(" can be ")?;
-            text.number(value as usize)?;
+            say_can_be(text, size, at, value)?;
             text.say(".")
         }
     }
@@ -199,10 +210,31 @@ fn say_is(text: &mut Writing, value: u8) -> Result<(), AllocError> {
     text.say(": ")
 }
 
-// Where the other values have gone, of a square with these in view.
-fn say_gone(text: &mut Writing, size: Size, view: NumberSet, value: u8) -> Result<(), AllocError> {
+/// That a square of a board is left nothing, and why.
+pub(crate) fn say_empty(text: &mut Writing, grid: &Grid, cell: usize) -> Result<(), AllocError> {
+    let size = grid.size();
+    let view = left_of(&view_of(grid), cell);
+    text.say("So ")?;
+    square(text, size, cell)?;
+    text.say(" has no number left: ")?;
+    if is_filled(grid, cell) {
+        text.say("its ")?;
+        numbers(text, view, Joined::And)?;
+        text.say(" is ruled out above.")
+    } else {
+        say_gone(text, size, view, NumberSet::empty())
+    }
+}
+
+// Where the values have gone, but for those that stay, of an empty square with these in view.
+fn say_gone(
+    text: &mut Writing,
+    size: Size,
+    view: NumberSet,
+    stay: NumberSet,
+) -> Result<(), AllocError> {
     let stood = NumberSet::up_to(size.get()).difference(view);
-    let struck = view.difference(one(value));
+    let struck = view.difference(stay);
     if !stood.is_empty() {
         numbers(text, stood, Joined::And)?;
         text.say(if stood.is_single() {
@@ -238,6 +270,23 @@ fn left_of(candidates: &Candidates, cell: usize) -> NumberSet {
     } else {
         NumberSet::empty()
     }
+}
+
+// What is left at a place of a row or column; nothing at any other.
+fn left_on(candidates: &Candidates, at: usize, index: usize) -> NumberSet {
+    let size = candidates.size();
+    let width = size.get() as usize;
+    if at < 2 * width && index < width {
+        candidates.values(line_cell(size, at as u8, index as u8))
+    } else {
+        NumberSet::empty()
+    }
+}
+
+// Whether a square of the grid has a number.
+fn is_filled(grid: &Grid, cell: usize) -> bool {
+    let width = grid.size().get() as usize;
+    cell < width * width && grid.get(cell) != 0
 }
 
 // The clue at a place of the edge; 0 of any other.

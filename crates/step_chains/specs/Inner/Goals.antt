@@ -1,8 +1,7 @@
 -- Goals that candidates show in a grid.
-use Rattle.std.specs.Prelude.{◌≡◌, ℕ, ◌*◌, ◌<◌}
+use Rattle.std.specs.Prelude.{◌≡◌, ℕ}
 use Rattle.latin_board.specs.Squares.{GridValue, number_at}
 use Rattle.trail_solver.specs.Candidates.{CandidatesValue}
-use Rattle.named_steps.specs.Left.{IsLeft}
 use Rattle.named_steps.specs.Chains.{IsGoalOf, IsShown, IsView, goal_cell}
 use Rattle.named_steps.specs.Following.{IsClosure}
 use Rattle.named_steps.specs.declared.reason.Reason.{Reason}
@@ -22,11 +21,3 @@ pub record IsOpenShown (g : GridValue) (c : CandidatesValue) (goal : Goal) : Typ
 -- all that the grade leaves of what is in view shows it
 abbrev pub IsShownByAll : (CandidatesValue → Reason → ℕ → ℕ → Type 0) → Grade → GridValue → Goal → Type 0
 IsShownByAll Struck grade g goal = (view d : CandidatesValue) → IsView g view → IsClosure Struck grade view d → IsShown d goal
-
--- something is left of each square
-abbrev pub HasSome : CandidatesValue → Type 0
-HasSome c = (cell : ℕ) → cell < c.size * c.size → (value : ℕ) × IsLeft c cell value
-
--- nothing is left of some square
-abbrev pub LacksSome : CandidatesValue → Type 0
-LacksSome c = (cell : ℕ) × (cell < c.size * c.size) × ((value : ℕ) → IsLeft c cell value → ⊥)

@@ -8,7 +8,7 @@ use Rattle.step_texts.specs.Lines.{line_texts}
 use Rattle.step_texts.specs.Looks.{AllFor, BeginsOtherwise, IsLook}
 use Rattle.json_replies.specs.Steps.{step_data}
 use Rattle.json_replies.proofs.ToldLooks.{one_look_more, all_told}
-use Rattle.json_replies.proofs.hint_value.looks_value.Goals as goal
+use Rattle.json_replies.proofs.hint_value.looks_list.Goals as goal
 
 pub loop-first-preserved : goal.loop-first-preserved
 loop-first-preserved g c =
@@ -41,4 +41,4 @@ pub returns : goal.returns
 returns g c =
     let p = c.args.p.now in
     all_told (g.P.Rules.puzzle p).size (g.P.StepNames.edge_clue_of p) (g.P.StepNames.says_greater_of p) c.args.steps.now c.loop-first.rest.now
-    (map view c.loop-first.list.items) (view c.from.result) (none_left c.loop-first.rest.now (cc (c.in_default.ensures.value, c.in_default.is, c.first.ensures.value))) c.from.ensures c.loop-first.invariant
+    (map view c.loop-first.list.items) (none_left c.loop-first.rest.now (cc (c.in_default.ensures.value, c.in_default.is, c.first.ensures.value))) c.loop-first.invariant

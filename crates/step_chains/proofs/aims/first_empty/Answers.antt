@@ -1,7 +1,7 @@
 use Rattle.std.proofs.Common.{ℕ}
 use Rattle.named_steps.specs.Left.{IsLeft}
 use Rattle.step_chains.proofs.Idle.{all_next}
-use Rattle.step_chains.proofs.explaining.has_nothing.Goals as goal
+use Rattle.step_chains.proofs.aims.first_empty.Goals as goal
 
 pub loop-cell-preserved : goal.loop-cell-preserved
 loop-cell-preserved c =

@@ -1,7 +1,7 @@
 use Rattle.std.proofs.Common.{length, map}
 use Rattle.serde_json.specs.View.{view}
 use Rattle.json_replies.proofs.ToldLooks.{GoesOn}
-use Rattle.json_replies.proofs.hint_value.looks_value.Given as goal
+use Rattle.json_replies.proofs.hint_value.looks_list.Given as goal
 
 abbrev pub invariant-loop-first : goal.invariant-loop-first
 invariant-loop-first g l =

@@ -1,6 +1,6 @@
 use Rattle.std.proofs.Common.{ℕ, ◌<◌}
 use Rattle.named_steps.specs.Left.{IsLeft}
-use Rattle.step_chains.proofs.explaining.has_nothing.Given as goal
+use Rattle.step_chains.proofs.aims.first_empty.Given as goal
 
 abbrev pub invariant-loop-cell : goal.invariant-loop-cell
 invariant-loop-cell l = (j : ℕ) → j < l.cell → (value : ℕ) × IsLeft l.candidates j value
