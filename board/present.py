@@ -9,6 +9,7 @@ from typing import Dict, Optional, Protocol
 
 from board import files, hints, texts
 from board.board import Board, Reply
+from board.choices import Choice
 from board.lessons import Lesson, Told
 from board.program import Gone, Program, Refused, Stopped, Waiting, save_to, started_with
 from board.state import NotKept, Shelf, State
@@ -52,6 +53,8 @@ class PresentGame:
         self.grade = ''
         #: How many hints the present game had.
         self.hints = 0
+        #: What it was chosen by, as long as it goes on here.
+        self.chosen: Optional[Choice] = None
         #: Positions after numbers whose marks went with them, and those before these marks.
         self._joined: Dict[int, int] = {}
 
@@ -264,6 +267,7 @@ class PresentGame:
         self._program = program
         self._lesson = None
         self._joined = {}
+        self.chosen = None
         if program.first.board is None:
             raise Gone(texts.LOST if program.first.is_lost else f"it doesn't tell its board: {program.first.refused}")
         self._board = program.first.board
