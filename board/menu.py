@@ -16,7 +16,7 @@ from board.typed import is_number
 BY_ID = 'by an ID or a seed'
 
 #: What the number is to be, where none is typed.
-BY_CHANCE, TODAYS, TYPED = 'by chance', "today's", 'typed: ..'
+BY_CHANCE, TODAYS, TYPED = 'by chance', "today's", 'typed'
 
 #: A window that has fewer lines has none free between those of the menu.
 LOW = 18
@@ -118,8 +118,8 @@ class Menu:
             Row('Kind', self._kinds(), self._kind),
         ]
         if self._has_number():
-            typed = f'typed: {self._digits}' if self._digits else TYPED
-            rows.append(Row('Number', [BY_CHANCE, TODAYS, typed], typed if self._number == TYPED else self._number))
+            texts = {BY_CHANCE: BY_CHANCE, TODAYS: f'{TODAYS}: {fair.today()}', TYPED: f'{TYPED}: {self._digits or ".."}'}
+            rows.append(Row('Number', list(texts.values()), texts[self._number]))
         return rows
 
     def _pieces(self) -> List[Piece]:
@@ -149,7 +149,7 @@ class Menu:
         if self._has_number():
             if self._line == 3 and self._number == TYPED:
                 return 'Digits are the number: the same one is always the same game.'
-            return f'{fair.today()}, for everybody' if self._number == TODAYS else 'a game of its own for each number, without guessing'
+            return 'the date, for everybody' if self._number == TODAYS else 'a game of its own for each number, without guessing'
         letter = Choice(self._game, self._size, self._kind).letter
         new, all_ = games.left(self._state, self._game, self._size, letter)
         return self._state.played_trouble(self._game) or f'{all_} puzzles, {new} of them new to you'
