@@ -45,7 +45,7 @@ class Numbered(NamedTuple):
     size: int
     letter: str
     number: int
-    count: int = 1
+    many: int = 1
 
     @property
     def name(self) -> str:
@@ -65,7 +65,7 @@ NUMBERED = [
 def test_numbers(front: BoardFront, room: Room, row: Numbered) -> None:
     """The same number gives the same game, as the second implementation makes it; after the last one comes 0."""
     ended = run([front.path, '--ids', *sorted(row.words, key=lambda word: word != row.game)], room, env=front.env())
-    made = [fair(row.game, row.size, row.letter, (row.number + at) % 2**64).description() for at in range(row.count)]
+    made = [fair(row.game, row.size, row.letter, (row.number + at) % 2**64).description() for at in range(row.many)]
     assert ended.output.decode().splitlines() == [f'{row.size}d{row.letter}:{description}' for description in made]
 
 
