@@ -6,7 +6,7 @@ import random
 from typing import Dict, Iterator, List, NamedTuple, Optional, Sequence, Tuple
 
 from board import fair, games
-from board.board import GAMES
+from board.board import GAMES, Session
 from board.games import GRADES, SIZES
 from board.program import Program
 from board.speech import listed
@@ -150,6 +150,19 @@ def remembered(state: State, game: str) -> Optional[Choice]:
 def remember(state: State, choice: Choice) -> None:
     if choice.grade and choice.is_kept:
         state.choose(choice.game, f'{choice.size} {choice.grade}')
+
+
+def remember_number(state: State, choice: Choice, id: str) -> None:
+    """Which number the last fair game of this kind has, for as long as it is played."""
+    state.choose(f'{choice.game}-{NUMBER}', f'{choice.number} {id}')
+
+
+def of_session(state: State, session: Session) -> Optional[Choice]:
+    """What a game was chosen by, where it is the last fair one that was begun."""
+    text, _, id = state.chosen(f'{session.game}-{NUMBER}').partition(' ')
+    grade = GRADES[session.game].get(session.letter)
+    number = fair.seed_of(text)
+    return Choice(session.game, int(id[0]), grade, number) if id == session.id and grade and number is not None else None
 
 
 def first(state: State, game: str) -> Choice:

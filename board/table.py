@@ -45,7 +45,7 @@ class Table(PresentGame):
         except Stopped as stopped:
             raise Gone('it gave no answer') from stopped
         self._take(program, shelf)
-        self.chosen = choice
+        self._choose(choice)
         new = 'A new game; ? shows the keys.' if self.ways is texts.BY_KEYS else ''
         trouble = '' if choice.is_fair else self.state.played_trouble(game)
         self.message = ' '.join(filter(None, [self.message, told, trouble, choice.told, new]))
@@ -67,7 +67,7 @@ class Table(PresentGame):
         if not has_begun:
             return None
         choices.remember(self.state, choice)
-        self.chosen = choice
+        self._choose(choice)
         self.message = f'{self.message} {trouble}'.strip()
         return choice
 
@@ -159,6 +159,12 @@ class Table(PresentGame):
             return Program(self.path, choice.game, ['--id', id], waiting=self.waiting())
         except Refused as refused:
             raise Gone(f"it doesn't take a new game: {refused}") from refused
+
+    def _choose(self, choice: Choice) -> None:
+        """The present game has begun by that."""
+        self.chosen = choice
+        if choice.number is not None:
+            choices.remember_number(self.state, choice, self.board.session.id)
 
     def _past_damaged(self, game: str, shelf: Shelf, why: str) -> Tuple[Shelf, str]:
         """Where a new game is kept though a kept one is no save, and a sentence on that one: it is put away, or stays where it is."""

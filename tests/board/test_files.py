@@ -68,6 +68,10 @@ def test_number(front: BoardFront, room: Room) -> None:
         window.leave('xq')
     id = ''.join(line.strip() for line in first[1 : first.index('')])
     assert id == f'6de:{fair("unequal", 6, "e", int(told[1])).description()}'
+    with front.window(['unequal']) as window:
+        window.look('i', ['The ID of this puzzle', 'any key goes back'])
+        assert window.screen.text() == first, 'it goes on, and its number is known'
+        window.leave('xq')
     with front.window(['unequal', 'number', told[1]]) as window:
         window.look('i', ['The ID of this puzzle', 'any key goes back'])
         assert window.screen.text() == first, 'the same puzzle'
