@@ -56,7 +56,7 @@ class Table(PresentGame):
 
     def begin_new(self, choice: Choice) -> Optional[Choice]:
         """Begins a new game, and remembers its size and grade. Gives it with what it is played again by; nothing where none has begun."""
-        choice, trouble = choice.numbered, ''
+        asked, choice, trouble = choice, choice.numbered, ''
         if choice.is_fair:
             has_begun = self.begin_line(choice.game, choice.line)
         elif choice.id:
@@ -66,7 +66,7 @@ class Table(PresentGame):
             trouble = self.state.played_trouble(choice.game)
         if not has_begun:
             return None
-        choices.remember(self.state, choice)
+        choices.remember(self.state, asked)
         self._choose(choice)
         self.message = f'{self.message} {trouble}'.strip()
         return choice

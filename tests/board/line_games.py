@@ -127,7 +127,9 @@ GAMES: List[Game] = [
             Step(['new 6'], ['To play it again:\nnew 6 easy number ']),
             Step(['new towers 6 tricky'], ["Towers has no grade 'tricky': easy, hard, extreme or unreasonable."]),
             Step(['new hard'], ['To play it again:\nnew 6 hard number ']),
+            # A size that has no hard games gives an easy one, and hard stays what was chosen.
             Step(['new seeded 3'], ['To play it again:\nnew 3 easy number ']),
+            Step(['new 4'], ['To play it again:\nnew 4 hard number ']),
             Step(['new 7 easy, number 007'], ['Easy 7, number 7.\nTo play it again:\nnew 7 easy number 7\n']),
             Step(['id'], [FAIR]),
             Step(['new 9 extreme'], ['To play it again:\nnew 9dx:']),
