@@ -67,13 +67,16 @@ class Table(PresentGame):
         if not has_begun:
             return None
         choices.remember(self.state, asked)
-        self._choose(choice)
         self.message = f'{self.message} {trouble}'.strip()
         return choice
 
     def begin_line(self, game: str, line: str) -> bool:
         """Begins the fair game of a line of the program."""
-        return self._begin(game, partial(begun_by, self.path, game, line), texts.of_fair)
+        has_begun = self._begin(game, partial(begun_by, self.path, game, line), texts.of_fair)
+        if has_begun:
+            _, size, letter, number = line.split()
+            self._choose(Choice(game, int(size), games.GRADES[game][letter], int(number)))
+        return has_begun
 
     def open(self, game: str, file: str, of_hints: bytes = b'') -> bool:
         """Goes on with a saved game; where it is the other game's, with that. What is kept of its hints is told."""

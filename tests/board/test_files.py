@@ -83,6 +83,8 @@ def test_typed_line(front: BoardFront) -> None:
     with front.window(['towers', ID]) as window:
         window.look('1', ['1 of 9'])
         window.look(':fair 5 e 7<enter>', ['Towers 5x5   easy', '0 of '])
+        window.look('i', ['puzzles-play towers 5 easy number 7'])
+        window.look('x', ['Towers 5x5'])
         window.look('o', ['Towers 3x3, 1 of 9'])
         window.look('q:fair 3 h 7<enter>', ["The grades of such games are 'e' and 'h', 'h' from size 4 on."])
         window.look(':fair<enter>', ["'fair 5 e 20261126' begins a game"])
