@@ -19,7 +19,7 @@ NUMBER, TODAY, SEEDED = 'number', 'today', 'seeded'
 #: The size and the grade where nothing was chosen yet.
 FIRST_SIZE, FIRST_GRADE = 5, 'easy'
 
-#: So many numbers by chance are tried: of tricky Unequal of size 4 one in some hundreds has no game.
+#: So many numbers by chance are tried: of the first 3,000 of tricky Unequal of size 4 one, 1185, has no game.
 TRIES = 20
 
 #: After so many numbers in a row whose games are there already no further ones are looked for.
