@@ -19,6 +19,9 @@ FIRST_WAIT, NEXT_WAIT = 0.4, 0.1
 #: The name that the program is called by, whatever its file is called: by this one it answers in objects.
 NAME = 'puzzles-json'
 
+#: The name by which the line of a fair game is refused where its seed has none.
+NO_GAME = 'NoneFound'
+
 #: Called while the program is at work; True where nobody is to wait any more.
 Waiting = Callable[[], bool]
 
@@ -28,7 +31,7 @@ class Gone(Exception):
 
 
 class Refused(Exception):
-    """The program doesn't take the ID or the file that it was started with. The text is the name of the refusal."""
+    """The program doesn't take the ID, the file or the line by which its game was to begin. The text is the name of the refusal."""
 
 
 class Stopped(Exception):
@@ -57,7 +60,9 @@ class Program:
         self._input = self._process.stdin
         self._output = self._process.stdout.fileno()
         self._came = b''
-        #: What it tells at its start.
+        #: The line by which its game began, where one did it.
+        self.line = ''
+        #: What it tells at the start of its game.
         self.first: Reply = self._first(waiting)
 
     def ask(self, line: str, waiting: Optional[Waiting] = None) -> Reply:
@@ -155,6 +160,24 @@ def started_with(path: str, game: str, content: bytes, waiting: Optional[Waiting
     """The program with the game that is saved in this content."""
     with text_file(content) as file:
         return Program(path, game, ['--load', f'/proc/self/fd/{file.fileno()}'], [file.fileno()], waiting)
+
+
+def begun_by(path: str, game: str, lines: Sequence[str], waiting: Optional[Waiting] = None) -> Program:
+    """The program with the game of a line; of the next one where its seed has none. Raises `Refused`, `Gone` or `Stopped`."""
+    program = Program(path, game, waiting=waiting)
+    try:
+        for line in lines:
+            refused = program.ask(line, waiting).refused
+            if refused is None:
+                program.line = line
+                program.first = program.ask('board', waiting)
+                return program
+            if refused != NO_GAME:
+                break
+        raise Refused(refused)
+    except BaseException:
+        program.stop()
+        raise
 
 
 def save_to(path: str, game: str, content: bytes, target: str, waiting: Optional[Waiting] = None) -> str:
