@@ -1,0 +1,58 @@
+"""What a page fetches that is always the same: its files, and what the board on the terminal has as tables."""
+
+from __future__ import annotations
+
+import json
+from pathlib import Path
+from typing import Dict, NamedTuple
+
+from board import files, keys, manual, texts
+from board.board import GAMES
+from page.measures import all_measures
+
+WEB = Path(__file__).resolve().parent / 'web'
+
+#: What kinds of files there are.
+KINDS = {
+    '.html': 'text/html; charset=utf-8',
+    '.css': 'text/css; charset=utf-8',
+    '.js': 'text/javascript; charset=utf-8',
+    '.svg': 'image/svg+xml',
+}
+JSON = 'application/json'
+
+#: The file that is the page itself, and what the names of others begin with there.
+INDEX, BESIDE = 'index.html', b'"./'
+
+
+class File(NamedTuple):
+    content: bytes
+    kind: str
+
+
+def site() -> Dict[str, File]:
+    """All files by their names. Nothing else is ever read for a page, whatever it asks for."""
+    found = {path.name: File(path.read_bytes(), KINDS[path.suffix]) for path in WEB.iterdir() if path.suffix in KINDS}
+    return {**found, 'words': File(json.dumps(words()).encode(), JSON)}
+
+
+def words() -> Dict[str, object]:
+    """Keys, rules and lengths."""
+    # What only a terminal can do has lines of its own, and one line on it and on the end.
+    told = [line for line in manual.KEYS if not line.startswith(('T ', 'i '))]
+    return {
+        'steps': keys.STEPS,
+        'along': keys.ALONG,
+        'actions': keys.ACTIONS,
+        'keys': [*told, 'i the ID   : a command of the program'],
+        'games': GAMES,
+        'rules': manual.RULES,
+        'measures': all_measures(),
+        'most': files.MOST_BYTES,
+        'too_large': texts.of_save('TooLarge', 'towers'),
+    }
+
+
+def at(page: File, folder: str) -> File:
+    """The page with the names of its other files as they are from anywhere."""
+    return page._replace(content=page.content.replace(BESIDE, f'"{folder}'.encode()))
