@@ -8,7 +8,7 @@ from typing import Any, Callable, Dict, List, Mapping, NamedTuple, Optional, Tup
 
 from board import games, hints, picture, texts
 from board.board import GAMES
-from board.choices import SEEDED, TODAY, TODAYS_SIZE, Choice, remembered
+from board.choices import SEEDED, Choice, Unknown, choice_of, remembered
 from board.file_names import offered
 from board.lessons import Told
 from board.state import State
@@ -188,12 +188,16 @@ class House:
         return {'steps': [{**shown(part), 'text': part.text} for part in (lesson.part(at, board) for at in range(lesson.length()))]} if lesson else {}
 
     def _new(self, asked: Asked) -> Said:
+        """By the words that choose a game on the command line, too; or by an ID, or a number, which is a seed."""
         game, size, kind, id = (text_of(asked, name) for name in ('game', 'size', 'kind', 'id'))
-        if game not in GAMES or not (is_number(size) and int(size) in games.SIZES):
+        if game not in GAMES:
             raise Wrong
-        if kind not in (SEEDED, TODAY, '', *games.GRADES[game].values()):
-            raise Wrong
-        return self._begin(Choice(game, int(size), '' if id else kind, f'{size}!{id}' if id.isdecimal() else id))
+        try:
+            choice = choice_of([word for word in (size, kind) if word], self._last(game))
+        except Unknown as unknown:
+            self.table.message = str(unknown)
+            return {}
+        return self._begin(choice._replace(kind='', id=f'{choice.size}!{id}' if is_number(id) else id) if id else choice)
 
     def _id(self, asked: Asked) -> Said:
         """An ID of which it isn't told which game it is of: this one, or else the other."""
@@ -206,13 +210,18 @@ class House:
 
     def _begin(self, choice: Choice) -> Said:
         id = self.table.begin_new(choice)
-        return {'begun': id} if id and choice.is_seeded else {}
+        if id and choice.is_seeded:
+            self.table.message = f'{self.table.message} A seeded game; to play it again: New, by the ID {id}'.strip()
+        return {}
 
     def _kinds(self, _: Asked) -> Said:
         """What new games there are, and what was chosen last of each."""
-        kinds = {game: {size: kinds_of(game, size) for size in games.SIZES} for game in GAMES}
-        last = {game: remembered(self.table.state, game) or Choice(game, self.table.board.size, '') for game in GAMES}
-        return {'kinds': kinds, 'last': {game: [choice.size, choice.kind] for game, choice in last.items()}, 'today': [TODAYS_SIZE, TODAY]}
+        kinds = {game: {size: {kind: kind for kind in kinds_of(game, size)} for size in games.SIZES} for game in GAMES}
+        return {'kinds': kinds, 'last': {game: [self._last(game).size, self._last(game).kind] for game in GAMES}}
+
+    def _last(self, game: str) -> Choice:
+        """What was chosen last of a game; where nothing was, one as this."""
+        return remembered(self.table.state, game) or Choice(game, self.table.board.size, '')
 
     def _saved(self, _: Asked) -> Said:
         return {'saved': [[saved.path, self.table.told_of(saved)] for saved in self.table.saved_games('')], 'message': self.table.state.old_trouble()}

@@ -11,14 +11,12 @@ from sheet import drawing
 #: The side of a square. The page scales the picture as a whole.
 SIDE = 1000
 
-#: Between two squares of a large Unequal there is less room than on paper, in per cent of a side: so a phone has 31 points for each of its squares.
-LARGE, LESS_BETWEEN = 8, 26
+#: From this size on a phone is narrow. There is less room between two squares of Unequal then than on paper, in per cent of a side, so that a phone
+#: has 31 points for each square; and more outside of Towers, so that a finger has room for a clue.
+LARGE, LESS_BETWEEN, FINGER = 7, 26, 22
 
 #: Digits that are pencil marks are larger than on paper, in per cent of a side: on a phone less can't be read.
 MARK = 30
-
-#: Beyond what the sheets have outside of Towers, in per cent of a side: there a finger has room for a clue.
-FINGER = 22
 
 
 def measures(game: str, size: int) -> Dict[str, Any]:
@@ -26,7 +24,7 @@ def measures(game: str, size: int) -> Dict[str, Any]:
     is_towers = game == 'towers'
     return {
         'outside': drawing.OUTSIDE if is_towers else 0,
-        'finger': FINGER if is_towers else 0,
+        'finger': FINGER if is_towers and size >= LARGE else 0,
         'between': 0 if is_towers else LESS_BETWEEN if size >= LARGE else drawing.BETWEEN,
         'clue': drawing.CLUE,
         'depth': drawing.DEPTH,

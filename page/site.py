@@ -38,13 +38,11 @@ def site() -> Dict[str, File]:
 
 def words() -> Dict[str, object]:
     """Keys, rules and lengths."""
-    # What only a terminal can do has lines of its own, and one line on it and on the end.
-    told = [line for line in manual.KEYS if not line.startswith(('T ', 'i '))]
     return {
         'steps': keys.STEPS,
         'along': keys.ALONG,
         'actions': keys.ACTIONS,
-        'keys': [*told, 'i the ID   : a command of the program'],
+        'keys': manual.on_page(),
         'games': GAMES,
         'rules': manual.RULES,
         'measures': all_measures(),

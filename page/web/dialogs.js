@@ -3,8 +3,7 @@ const $ = (id) => document.getElementById(id);
 
 export const isOpen = () => document.querySelector('dialog[open]') !== null;
 export const close = () => document.querySelectorAll('dialog[open]').forEach((dialog) => dialog.close());
-
-const button = (text, data) => {
+export const button = (text, data) => {
   const node = Object.assign(document.createElement('button'), {type: 'button', textContent: text});
   Object.assign(node.dataset, data);
   return node;
@@ -12,11 +11,10 @@ const button = (text, data) => {
 
 // Whether something is to be done; or the line that was typed, where one is asked for. Nothing where the player goes back.
 export function ask(question, line = null) {
-  const dialog = $('ask'), form = dialog.querySelector('form');
+  const dialog = $('ask'), form = dialog.querySelector('form'), [yes, no] = form.querySelectorAll('button');
   $('ask-text').textContent = question;
   form.line.hidden = line === null;
   form.line.value = line || '';
-  const [yes, no] = form.querySelectorAll('button');
   [yes.textContent, no.textContent] = line === null ? ['Yes', 'No'] : ['Do it', 'Cancel'];
   dialog.returnValue = '';
   dialog.showModal();
@@ -30,10 +28,8 @@ export function page(title, lines) {
   $('page').showModal();
 }
 
-export function menu(state, view) {
-  for (const [key, isOn] of [['[data-key=M]', state.tidy], ['[data-do=same]', view.same], ['[data-do=time]', view.time]]) {
-    $('more').querySelector(key).setAttribute('aria-pressed', isOn);
-  }
+export function menu(isOn) {
+  for (const [which, value] of Object.entries(isOn)) $('more').querySelector(which).setAttribute('aria-pressed', value);
   $('more').showModal();
 }
 
@@ -44,23 +40,21 @@ export function saved(games) {
 
 const form = document.querySelector('#fresh form');
 let kinds = {}, last = {};
-const fill = (select, values, texts, value) => {
-  select.replaceChildren(...values.map((own, at) => new Option(texts[at], own)));
-  select.value = values.includes(value) ? value : values[0];
+const fill = (select, texts, value) => {
+  select.replaceChildren(...Object.entries(texts).map(([own, text]) => new Option(text, own)));
+  select.value = texts[value] ? value : Object.keys(texts)[0];
 };
-const fillKinds = (kind) => { const there = kinds[form.game.value][form.size.value]; fill(form.kind, there, there, kind); };
+const fillKinds = (kind) => fill(form.kind, kinds[form.game.value][form.size.value], kind);
 const fillSizes = (size, kind) => {
-  const sizes = Object.keys(kinds[form.game.value]);
-  fill(form.size, sizes, sizes.map((own) => `${own} by ${own}`), String(size));
+  fill(form.size, Object.fromEntries(Object.keys(kinds[form.game.value]).map((own) => [own, `${own} by ${own}`])), size);
   fillKinds(kind);
 };
 
 // The new games that there are; what was chosen last is chosen at first.
-export function fresh(told, state, games) {
+export function fresh(told, game, games) {
   ({kinds, last} = told);
-  const words = Object.keys(games);
-  fill(form.game, words, words.map((word) => games[word]), state.session.game);
-  fillSizes(...last[form.game.value]);
+  fill(form.game, games, game);
+  fillSizes(...last[game]);
   form.id.value = '';
   $('fresh').showModal();
 }
@@ -70,14 +64,14 @@ form.size.addEventListener('change', () => fillKinds(form.kind.value));
 document.addEventListener('click', (event) => { if (event.target.closest('[data-close]')) event.target.closest('dialog').close(); });
 $('ask').querySelector('form').addEventListener('submit', (event) => { event.preventDefault(); $('ask').close('yes'); });
 
-// What is wanted of these: called with a new game, today's game, a kept game, or a file.
-export function listen({begin, today, goOn, file}) {
+// What is called with a new game, a kept one, or a file.
+export function listen({begin, goOn, file}) {
   form.addEventListener('submit', (event) => {
     event.preventDefault();
     close();
     begin({game: form.game.value, size: form.size.value, kind: form.kind.value, id: form.id.value.trim()});
   });
-  $('fresh').addEventListener('click', (event) => { const game = event.target.dataset.today; if (game) { close(); today(game); } });
+  $('fresh').addEventListener('click', (event) => { const game = event.target.dataset.today; if (game) { close(); begin({game, kind: 'today'}); } });
   $('games').addEventListener('click', (event) => { const {path} = event.target.dataset; if (path) { close(); goOn(path); } });
-  $('file').addEventListener('change', () => { close(); if ($('file').files[0]) file($('file').files[0]); $('file').value = ''; });
+  $('file').addEventListener('change', () => { const [own] = $('file').files; close(); if (own) file(own); $('file').value = ''; });
 }

@@ -4,15 +4,10 @@ import {cellOf, change} from './names.js';
 import * as dialogs from './dialogs.js';
 import * as talk from './talk.js';
 
-const $ = (id) => document.getElementById(id);
+const $ = (id) => document.getElementById(id), tool = (key) => document.querySelector(`#tools [data-key=${key}]`);
 const view = {chosen: '0,0', marking: false, shown: null, same: true, time: false};
 let state = null, picture = null, words = null, chain = [], step = -1, seconds = 0, lost = '';
-
-// The address with the key that was used up gives way to the lasting one.
-history.replaceState(null, '', new URL('.', import.meta.url));
-
-const chosen = () => cellOf(view.chosen, state.board.size);
-const sum = (list) => JSON.stringify(list);
+const chosen = () => cellOf(view.chosen, state.board.size), same = (one, other) => JSON.stringify(one) === JSON.stringify(other);
 
 function show(next) {
   if (!next.board || (state && next.n < state.n)) return;
@@ -20,9 +15,9 @@ function show(next) {
   state = next;
   if (!before || before.session.id !== next.session.id || before.title !== next.title) begin();
   else if (before.n !== next.n) {
-    if (sum(before.board.numbers) !== sum(next.board.numbers)) forget();
+    if (!same(before.board.numbers, next.board.numbers)) forget();
     $('said').textContent = change(before.board, next.board, chosen());
-    if (next.says && next.says !== before.says) tell('');
+    if (next.says !== before.says) tell('');
   }
   paint();
 }
@@ -36,54 +31,45 @@ function begin() {
   $('board').replaceChildren(picture.svg);
   $('title').textContent = document.title = state.title;
   $('said').textContent = `${state.title}, ${state.grade}, ${givens.filter(Boolean).length} given, ${clues.length + signs.length} clues`;
-  $('pad').dataset.columns = size > 6 ? Math.ceil(size / 2) : size;
-  $('pad').replaceChildren(...givens.slice(0, size).map((_, at) => {
-    const node = Object.assign(document.createElement('button'), {type: 'button', textContent: at + 1});
-    node.dataset.key = at + 1;
-    return node;
-  }));
+  $('pad').style.setProperty('--columns', size > 6 ? Math.ceil(size / 2) : size);
+  $('pad').replaceChildren(...givens.slice(0, size).map((_, at) => dialogs.button(at + 1, {key: at + 1})));
   if (hadFocus && !dialogs.isOpen()) choose(view.chosen);
 }
 
 function paint() {
   picture.paint(state, view);
   const [own, empty] = state.own, clock = view.time ? `${Math.floor(seconds / 60)}:${String(seconds % 60).padStart(2, '0')}` : '';
-  $('count').textContent = [state.grade, state.status || `${own} of ${empty}`, clock].filter(Boolean).join(' · ');
-  document.querySelector('#tools [data-key=p]').setAttribute('aria-pressed', view.marking);
+  $('count').textContent = [clock, state.status || `${own} of ${empty}`, state.hints, state.grade].filter(Boolean).join(' · ');
+  tool('p').setAttribute('aria-pressed', view.marking);
   // Not `disabled`: that would drop the focus of who undoes by the button.
-  document.querySelector('#tools [data-key=u]').setAttribute('aria-disabled', state.session.position < 2);
-  document.querySelector('#tools [data-key=r]').setAttribute('aria-disabled', state.session.position >= state.session.states);
+  tool('u').setAttribute('aria-disabled', state.session.position < 2);
+  tool('r').setAttribute('aria-disabled', state.session.position >= state.session.states);
   $('chain').hidden = !chain.length;
   $('chain').querySelectorAll('button').forEach((node, at) => node.setAttribute('aria-current', at === step ? 'step' : 'false'));
   if (state.busy) $('told').textContent = 'The program is at work. Escape stops it.';
 }
 
+// The same sentence once more is said again only where it was gone in between.
 function tell(message, isBad = false) {
   const trouble = state && state.trouble ? `The game is not kept: ${state.trouble}.` : '';
-  $('told').textContent = [message || lost || (state ? state.says : ''), trouble].filter(Boolean).join(' ');
+  $('told').replaceChildren();
+  $('told').append([message || lost || (state ? state.says : ''), trouble].filter(Boolean).join(' '));
   $('told').classList.toggle('bad', isBad || Boolean(lost || trouble));
 }
 
-function forget() {
-  chain = [];
-  step = -1;
-  view.shown = null;
-}
+function forget() { chain = []; step = -1; view.shown = null; }
 
 // Asks the server, shows what there is then, and gives the answer; nothing where there is none. What isn't absolute has the number of the state
 // that it is about: when another page was faster it is refused.
 async function send(wanted, isRelative = false) {
   const answer = await talk.ask(() => (isRelative ? {...wanted, n: state.n} : wanted));
-  if (!answer) {
-    tell('The server has ended. Run puzzles-page again: the game is kept.', true);
-    return null;
-  }
-  if (wanted.do !== 'hint' && wanted.do !== 'why') view.shown = null;
+  if (!answer) return tell(talk.ENDED, true);
+  if (!['hint', 'why'].includes(wanted.do)) view.shown = null;
   show(answer);
   if (answer.ask) return await dialogs.ask(answer.ask) ? send(Object.assign(wanted, {sure: true}), isRelative) : null;
-  tell(answer.message || '', answer.isBad);
-  if (answer.lines && (answer.lines.length > 1 || sum(answer.lines).length > 60)) dialogs.page(wanted.line, answer.lines);
-  else if (answer.lines && !answer.message) tell(answer.lines[0]);
+  const {lines = [], message = ''} = answer, isPage = lines.length > 1 || lines.join('').length > 60;
+  if (isPage) dialogs.page(wanted.line, lines);
+  tell(message || (isPage ? '' : lines.join('')), answer.isBad);
   return answer;
 }
 
@@ -93,15 +79,12 @@ function choose(place) {
   paint();
 }
 
-function point(part) {
-  view.shown = part;
-  choose(part.place.join(','));
-}
-
+function point(part) { view.shown = part; choose(part.place.join(',')); }
 function walk(at) {
   step = (at + chain.length) % chain.length;
   point(chain[step]);
-  tell(`${chain[step].text} ${step + 1} of ${chain.length}.`);
+  $('said').textContent = chain[step].text;
+  tell(`Step ${step + 1} of ${chain.length}: arrows walk on.`);
   $('chain').querySelectorAll('button')[step].scrollIntoView({block: 'nearest'});
 }
 
@@ -109,91 +92,72 @@ function walk(at) {
 function move(dx, dy) {
   let [x, y] = view.chosen.split(',').map(Number);
   const {size} = state.board, isAlong = (dx && (y < 0 || y === size)) || (dy && (x < 0 || x === size));
-  for (let at = 0; at < (isAlong ? size : 1); at++) {
+  for (let far = isAlong ? size : 1; far > 0; far--) {
     x += dx; y += dy;
-    if (picture.places.has(`${x},${y}`)) return choose(`${x},${y}`);
+    if (picture.places.has(`${x},${y}`)) { choose(`${x},${y}`); return; }
   }
-  return undefined;
-}
-
-function put(number) {
-  const cell = chosen(), {numbers, givens} = state.board;
-  if (cell < 0) tell('That is a clue: d marks it as done.');
-  else if (view.marking) send({do: 'line', line: `move P${view.chosen},${number}`}, true);
-  else if (numbers[cell] !== number || givens[cell]) send({do: 'line', line: `move R${view.chosen},${number}`});
-}
-
-async function openFile(file) {
-  if (file.size > words.most) tell(words.too_large, true);
-  else await send(file);
 }
 
 const line = (text, isRelative) => send({do: 'line', line: text}, isRelative);
+const onSquare = (then) => { if (chosen() < 0) tell('That is a clue: d marks it as done.'); else then(chosen(), state.board); };
+const put = (number) => onSquare((cell, {numbers, givens}) => {
+  if (view.marking) line(`move P${view.chosen},${number}`, true);
+  else if (numbers[cell] !== number || givens[cell]) line(`move R${view.chosen},${number}`);
+});
+const openFile = (file) => { if (file.size > words.most) tell(words.too_large, true); else send(file); };
+
 const actions = {
   pencil() { view.marking = !view.marking; tell(view.marking ? 'Digits are pencil marks.' : 'Digits are numbers.'); paint(); },
-  enter() { if (chosen() < 0) actions['done mark'](); else actions.pencil(); },
+  enter() { actions[chosen() < 0 ? 'done mark' : 'pencil'](); },
   clear() {
-    const cell = chosen(), {numbers, marks} = state.board;
-    if (cell < 0) tell('That is a clue: d marks it as done.');
-    else if (numbers[cell] || marks[cell].length) line(`move R${view.chosen},0`);
-    else tell('There is nothing to clear.');
+    onSquare((cell, {numbers, marks}) => { if (numbers[cell] || marks[cell].length) line(`move R${view.chosen},0`); else tell('There is nothing to clear.'); });
   },
-  'all marks'() { line('move M'); },
-  tidy() { send({do: 'tidy'}); },
-  undo() { line('undo', true); },
-  redo() { line('redo', true); },
+  'all marks': () => line('move M'),
+  undo: () => line('undo', true),
+  redo: () => line('redo', true),
   'done mark'() { if (chosen() < 0) line(`move D${view.chosen}`, true); else tell('d marks a clue at the edge as done: go there first.'); },
-  restart() { send({do: 'restart'}); },
+  ...Object.fromEntries(['tidy', 'restart', 'check', 'back', 'solve'].map((name) => [name, () => send({do: name})])),
   async hint() {
     const answer = await send({do: 'hint'});
-    if (!answer || !answer.hint) return;
-    point(answer.hint);
-    if (answer.message) tell(`${answer.message} Hint again: more.`);
+    if (answer?.hint) point(answer.hint);
+    if (answer?.hint && answer.message) tell(`${answer.message} Hint again: more.`);
   },
   async why() {
     const answer = await send({do: 'why'});
-    if (!answer || !answer.steps) return;
+    if (!answer?.steps) return;
     chain = answer.steps;
     $('chain').firstElementChild.replaceChildren(...chain.map(({text}, at) => {
-      const item = document.createElement('li'), node = Object.assign(document.createElement('button'), {type: 'button', textContent: text});
-      node.dataset.step = at;
-      item.append(node);
+      const item = document.createElement('li');
+      item.append(dialogs.button(text, {step: at}));
       return item;
     }));
     paint();
     walk(0);
   },
-  check() { send({do: 'check'}); },
-  back() { send({do: 'back'}); },
-  solve() { send({do: 'solve'}); },
-  async new() { const told = await send({do: 'kinds'}); if (told && told.kinds) dialogs.fresh(told, state, words.games); },
-  async open() { const told = await send({do: 'saved'}); if (told && told.saved) dialogs.saved(told.saved); },
+  async new() { const answer = await send({do: 'kinds'}); if (answer?.kinds) dialogs.fresh(answer, state.session.game, words.games); },
+  async open() { const answer = await send({do: 'saved'}); if (answer?.saved) dialogs.saved(answer.saved); },
   'save as'() { Object.assign(document.createElement('a'), {href: 'save', download: ''}).click(); },
   'show ID'() { dialogs.page(`The ID of this puzzle, ${state.title}`, [state.session.id, '', 'To play it again: New, by an ID, or drop it onto this page.']); },
   help() { dialogs.page('Keys and rules', [...words.keys, '', words.games[state.session.game], ...words.rules[state.session.game]]); },
   async command() { const text = await dialogs.ask('A command of the program:', ''); if (typeof text === 'string') line(text); },
   quit() { tell('The game is kept after each change: close this page when you like.'); },
 };
-const settings = {
-  print() { print(); },
-  same() { view.same = !view.same; paint(); },
-  time() { view.time = !view.time; paint(); },
-};
+const settings = {print: () => print(), same() { view.same = !view.same; paint(); }, time() { view.time = !view.time; paint(); }};
 
 function press(key) {
-  const action = words.actions[key];
-  if (chain.length && step >= 0 && words.along[key]) walk(step + words.along[key]);
-  else if (key === 'escape') { talk.stop(); forget(); tell(''); paint(); }
-  else if (words.steps[key]) { step = -1; move(...words.steps[key]); }
+  const action = actions[words.actions[key]];
+  if (step >= 0 && words.along[key]) { walk(step + words.along[key]); return true; }
+  step = -1;
+  if (key === 'escape') { talk.stop(); forget(); tell(''); paint(); }
+  else if (words.steps[key]) move(...words.steps[key]);
   else if (/^[1-9]$/.test(key)) put(Number(key));
-  else if (actions[action]) { step = -1; actions[action](); }
+  else if (action) action();
   else return false;
   return true;
 }
 
 const KEYS = {ArrowLeft: 'left', ArrowRight: 'right', ArrowUp: 'up', ArrowDown: 'down', Enter: 'enter', Backspace: 'backspace', Delete: 'delete', Escape: 'escape'};
 const CONTROL = {z: '\x1a', y: '\x12'};
-
 // Keys count where the board has the focus, or nothing has: they must not surprise who is in a field or on a button.
 document.addEventListener('keydown', (event) => {
   const at = document.activeElement;
@@ -211,56 +175,40 @@ $('board').addEventListener('click', (event) => {
   else if (isAgain) actions.pencil();
 });
 $('board').addEventListener('contextmenu', (event) => {
-  const place = placeOf(event);
-  if (!place) return;
+  if (!placeOf(event)) return;
   event.preventDefault();
   if (event.pointerType === 'touch') return;
-  choose(place);
+  choose(placeOf(event));
   actions.enter();
 });
-
-// A button leaves the focus where it was, so that keys and clicks go together.
+// A button leaves the focus where it was, so that keys and clicks go together; and a dialog gives it to the board, and not to the button that opened it.
 document.querySelector('main').addEventListener('pointerdown', (event) => { if (event.target.closest('button')) event.preventDefault(); });
-document.querySelector('main').addEventListener('click', (event) => {
+document.querySelectorAll('dialog').forEach((dialog) => dialog.addEventListener('close', () => { if (!dialogs.isOpen()) choose(view.chosen); }));
+document.addEventListener('click', (event) => {
   const node = event.target.closest('button');
   if (!node || !state) return;
-  if (node.id === 'menu') dialogs.menu(state, view);
-  else if (node.dataset.step) walk(Number(node.dataset.step));
-  else if (node.dataset.key) press(node.dataset.key);
-});
-$('more').addEventListener('click', (event) => {
-  const {key, do: name} = event.target.dataset;
-  if (!key && !name) return;
-  dialogs.close();
+  const {key, step: at, do: setting} = node.dataset;
+  if (node.id === 'menu') dialogs.menu({'[data-key=M]': state.tidy, '[data-do=same]': view.same, '[data-do=time]': view.time});
+  if (key || setting) dialogs.close();
+  if (at) walk(Number(at));
   if (key) press(key);
-  else settings[name]();
+  if (setting) settings[setting]();
 });
-// Not back to the button that opened it, where keys would be the button's.
-document.querySelectorAll('dialog').forEach((dialog) => dialog.addEventListener('close', () => { if (!dialogs.isOpen()) choose(view.chosen); }));
-dialogs.listen({
-  begin: (wanted) => send({do: 'new', ...wanted}).then((answer) => { if (answer?.begun) tell(`${answer.message} A seeded game; to play it again: New, by the ID ${answer.begun}`); }),
-  today: (game) => send({do: 'new', game, size: '5', kind: 'today'}),
-  goOn: (path) => send({do: 'go on', path}),
-  file: openFile,
-});
-
+dialogs.listen({begin: (wanted) => send({do: 'new', ...wanted}), goOn: (path) => send({do: 'go on', path}), file: openFile});
 document.addEventListener('dragover', (event) => event.preventDefault());
 document.addEventListener('drop', (event) => {
   event.preventDefault();
-  const {files} = event.dataTransfer, text = event.dataTransfer.getData('text/plain').trim();
+  const {files} = event.dataTransfer, id = event.dataTransfer.getData('text/plain').trim();
   if (files.length) openFile(files[0]);
-  else if (text) send({do: 'ID', id: text});
+  else if (id) send({do: 'ID', id});
 });
-
 setInterval(() => {
   if (!state || document.visibilityState !== 'visible' || state.status === 'solved') return;
   seconds++;
   if (view.time) paint();
 }, 1000);
 
+// The address with the key that was used up gives way to the lasting one.
+history.replaceState(null, '', new URL('.', import.meta.url));
 words = await talk.words();
-talk.listen(show, (why) => {
-  if (why === lost) return;
-  lost = why;
-  tell('');
-});
+talk.listen(show, (why) => { if (why !== lost) { lost = why; tell(''); } });

@@ -1,5 +1,4 @@
-// The board as SVG, by the lengths of the sheets: built once for a game, then what has changed is written. It has no styles in it, so the policy
-// needs no exception.
+// The board as SVG, by the lengths of the sheets: built once for a game, then what has changed is written. Its looks are in the style sheet alone.
 import * as names from './names.js';
 
 const make = (name, attributes = {}, ...inside) => {
@@ -24,13 +23,11 @@ export class Picture {
     this.svg = make('svg', {viewBox: view, role: 'grid', 'aria-label': state.title, 'aria-rowcount': size, 'aria-colcount': size});
     this.places = new Map();
     for (let y = -1; y <= size; y++) this.addRow(y, clues);
-    this.svg.append(...this.lines());
+    if (this.isTowers) this.svg.append(...this.lines());
     this.signs = signs.map((sign) => this.svg.appendChild(make('g', {'aria-hidden': 'true'}, make('path', {d: this.wedge(sign), 'stroke-width': this.pen.wedge}))));
     this.boxes = this.svg.appendChild(make('g', {class: 'look', 'stroke-width': 1.2 * this.pen.frame}));
     this.ring = this.svg.appendChild(make('rect', {class: 'ring', rx: 60, 'stroke-width': this.part(9)}));
   }
-
-  part(percent) { return Math.trunc(this.side * percent / 100); }
 
   addRow(y, clues) {
     const row = make('g', {role: 'row'}), inside = (index) => index >= 0 && index < this.size;
@@ -47,7 +44,6 @@ export class Picture {
   }
 
   lines() {
-    if (!this.isTowers) return [];
     const [first, ...between] = this.at, last = between.pop();
     const inner = between.map((at) => `M${at} ${first}V${last}M${first} ${at}H${last}`).join('');
     return [make('path', {d: inner, class: 'inner', 'stroke-width': this.pen.inner}),
@@ -56,10 +52,9 @@ export class Picture {
 
   // Of a square, or of all the room that a clue has.
   box(x, y) {
-    const along = (index) => index < 0 ? [-this.out, this.at[0] + this.out - this.pen.frame / 2]
-      : index === this.size ? [this.at[index] + this.pen.frame / 2, this.at[0] + this.out - this.pen.frame / 2] : [this.at[index], this.side];
-    const [[left, width], [top, height]] = [along(x), along(y)];
-    return {x: left, y: top, width, height};
+    const half = this.pen.frame / 2, room = this.at[0] + this.out - half;
+    const along = (index) => (index < 0 ? [-this.out, room] : index === this.size ? [this.at[index] + half, room] : [this.at[index], this.side]);
+    return {x: along(x)[0], y: along(y)[0], width: along(x)[1], height: along(y)[1]};
   }
 
   middle(index) {
@@ -72,15 +67,6 @@ export class Picture {
     const [x, y] = this.between(greater, less), height = this.part(this.measures.height), depth = (greater < less ? -1 : 1) * this.part(this.measures.depth);
     return Math.abs(greater - less) === 1 ? `M${x + depth} ${y - height}l${-2 * depth} ${height}l${2 * depth} ${height}`
       : `M${x - height} ${y + depth}l${height} ${-2 * depth}l${height} ${2 * depth}`;
-  }
-
-  between(one, other) {
-    const {size} = this, half = (index) => (this.middle(index(one)) + this.middle(index(other))) / 2;
-    return [half((cell) => cell % size), half((cell) => Math.floor(cell / size))];
-  }
-
-  text(x, y, font, content, kind) {
-    return make('text', {x, y: y + font * this.measures.baseline / 100, 'font-size': font, class: kind, 'aria-hidden': 'true'}, content);
   }
 
   paint(state, view) {
@@ -119,10 +105,10 @@ export class Picture {
 
   inside(board, cell, x, y, isWrong) {
     const {number, mark} = this.pen, apart = this.part(this.measures.apart);
-    if (board.numbers[cell]) {
-      return [this.text(x, y, number, board.numbers[cell], 'number'), ...isWrong ? [this.text(x + this.part(34), y - this.part(26), this.part(38), '!', 'bad')] : []];
+    if (!board.numbers[cell]) {
+      return board.marks[cell].map((own) => this.text(x + ((own - 1) % 3 - 1) * apart, y + (Math.floor((own - 1) / 3) - 1) * apart, mark, own, 'mark'));
     }
-    return board.marks[cell].map((own) => this.text(x + ((own - 1) % 3 - 1) * apart, y + (Math.floor((own - 1) / 3) - 1) * apart, mark, own, 'mark'));
+    return [this.text(x, y, number, board.numbers[cell], 'number'), ...isWrong ? [this.text(x + this.part(34), y - this.part(26), this.part(38), '!', 'bad')] : []];
   }
 
   paintClue(clue, shown) {
@@ -150,5 +136,13 @@ export class Picture {
     return places.map(([x, y]) => this.wider(this.box(x, y), this.part(-12)));
   }
 
+  between(one, other) {
+    const half = (index) => (this.middle(index(one)) + this.middle(index(other))) / 2;
+    return [half((cell) => cell % this.size), half((cell) => Math.floor(cell / this.size))];
+  }
+  part(percent) { return Math.trunc(this.side * percent / 100); }
   wider({x, y, width, height}, by) { return {x: x - by, y: y - by, width: width + 2 * by, height: height + 2 * by}; }
+  text(x, y, font, content, kind) {
+    return make('text', {x, y: y + font * this.measures.baseline / 100, 'font-size': font, class: kind, 'aria-hidden': 'true'}, content);
+  }
 }
