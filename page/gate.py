@@ -17,7 +17,7 @@ import sys
 import threading
 import time
 from http.server import BaseHTTPRequestHandler, ThreadingHTTPServer
-from typing import Any, Dict, Optional, Tuple, Union
+from typing import Any, Dict, List, Optional, Tuple, Union
 
 from board.program import Gone
 from page.house import Answer, House, Said, TooLong, Wrong
@@ -235,7 +235,7 @@ class Handler(BaseHTTPRequestHandler):
 
     def _length(self) -> Optional[int]:
         """The bytes of the body; nothing where that isn't told as it should be."""
-        told = self.headers.get_all('Content-Length', [])
+        told: List[str] = self.headers.get_all('Content-Length') or []
         if 'Transfer-Encoding' in self.headers or len(told) != 1 or not (told[0].isascii() and told[0].isdigit()):
             return None
         return int(told[0][:20])

@@ -4,6 +4,7 @@ from __future__ import annotations
 
 import threading
 import time
+from functools import partial
 from typing import Any, Callable, Dict, List, Mapping, NamedTuple, Optional, Tuple
 
 from board import games, hints, picture, texts
@@ -57,11 +58,11 @@ class House:
         self._question = ''
         self._works: Dict[str, Callable[[Asked], Said]] = {
             'line': self._line,
-            'restart': lambda _: nothing(self.table.restart()),
-            'solve': lambda _: nothing(self.table.solve()),
-            'check': lambda _: nothing(self.table.check()),
-            'back': lambda _: nothing(self.table.back()),
-            'tidy': lambda _: nothing(self.table.toggle_marks()),
+            'restart': plain(self.table.restart),
+            'solve': plain(self.table.solve),
+            'check': plain(self.table.check),
+            'back': plain(self.table.back),
+            'tidy': plain(self.table.toggle_marks),
             'hint': self._hint,
             'why': self._why,
             'new': self._new,
@@ -131,7 +132,7 @@ class House:
     def open_save(self, content: bytes, is_sure: bool) -> Answer:
         """Goes on with a save."""
         with self._lock:
-            return self._done(lambda _: nothing(self.table.open_save(self.table.game, content)), {'sure': is_sure})
+            return self._done(plain(partial(self.table.open_save, self.table.game, content)), {'sure': is_sure})
 
     def save(self) -> Tuple[str, bytes]:
         """The name of a file for the present game, and the game as a save."""
@@ -237,9 +238,14 @@ class House:
         return {}
 
 
-def nothing(_: object) -> Said:
-    """There is nothing to say but the message."""
-    return {}
+def plain(work: Callable[[], object]) -> Callable[[Asked], Said]:
+    """Work that needs no words, and of which there is nothing to say but the message."""
+
+    def done(_: Asked) -> Said:
+        work()
+        return {}
+
+    return done
 
 
 def text_of(asked: Asked, name: str) -> str:

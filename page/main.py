@@ -9,6 +9,7 @@ import sys
 import threading
 from typing import List, NoReturn
 
+from board import files
 from board.board import GAMES
 from board.choices import Choice, Unknown, choice_of, remembered
 from board.main import HELP, Words, complain, program, read, tip, version
@@ -59,21 +60,16 @@ def main(words: List[str], here: str) -> int:
     if path is None:
         complain(f'{me}: the program is not built yet: run make')
         return 1
-    for number in (signal.SIGTERM, signal.SIGHUP):
-        signal.signal(number, _end)
     try:
         return serve(path, asked, browser.wants_browser(words))
-    except Gone as gone:
-        complain(f'{me}: the program has ended: {gone}')
-        return 1
     except Unknown as unknown:
         complain(f'{me}: {unknown}')
         return 2
+    except Gone as gone:
+        complain(f'{me}: the program has ended: {gone}')
     except OSError as error:
-        complain(f'{me}: {error.strerror or error}')
-        return 1
-    except KeyboardInterrupt:
-        return 0
+        complain(f'{me}: {files.why(error)}')
+    return 1
 
 
 def _end(number: int, _: object) -> NoReturn:
@@ -82,6 +78,8 @@ def _end(number: int, _: object) -> NoReturn:
 
 def serve(path: str, asked: Words, opens: bool) -> int:
     """Raises `Unknown` where there is no such game as the words say."""
+    for number in (signal.SIGTERM, signal.SIGHUP):
+        signal.signal(number, _end)
     state = State(os.environ)
     game = asked.game or state.last(GAMES) or 'towers'
     house = House(path, state)
@@ -98,6 +96,7 @@ def serve(path: str, asked: Words, opens: bool) -> int:
             tell(server, opens)
             server.serve_forever(ROUND)
     except KeyboardInterrupt:
+        # How it is ended as a rule.
         print()
     finally:
         house.leave()
