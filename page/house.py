@@ -170,7 +170,7 @@ class House:
 
     def _line(self, asked: Asked) -> Said:
         line = text_of(asked, 'line')
-        if len(line.encode('utf-8', 'surrogatepass')) > MOST_LINE:
+        if len(line.encode()) > MOST_LINE:
             raise TooLong
         if line.startswith('new '):
             return self._begin(Choice(self.table.game, self.table.board.size, id=line[4:].strip()))
@@ -251,9 +251,11 @@ def plain(work: Callable[[], object]) -> Callable[[Asked], Said]:
 def text_of(asked: Asked, name: str) -> str:
     """A text that is asked for by this name; nothing where there is none."""
     value = asked.get(name, '')
-    if not isinstance(value, str):
-        raise Wrong
-    return value
+    try:
+        # Half a letter can't be sent to the program.
+        return bytes(value, 'utf-8').decode()
+    except (TypeError, UnicodeEncodeError) as error:
+        raise Wrong from error
 
 
 def shown(told: Told) -> Said:

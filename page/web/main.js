@@ -58,7 +58,6 @@ function tell(message, isBad = false) {
 }
 
 function forget() { chain = []; step = -1; view.shown = null; }
-
 // Asks the server, shows what there is then, and gives the answer; nothing where there is none. What isn't absolute has the number of the state
 // that it is about: when another page was faster it is refused.
 async function send(wanted, isRelative = false) {

@@ -4,7 +4,6 @@ export const cellOf = (place, size) => {
   const [x, y] = place.split(',').map(Number);
   return x >= 0 && y >= 0 && x < size && y < size ? y * size + x : -1;
 };
-
 export const at = (cell, size) => `row ${Math.floor(cell / size) + 1}, column ${cell % size + 1}`;
 
 export function content(board, cell) {
