@@ -6,7 +6,7 @@ import * as talk from './talk.js';
 
 const $ = (id) => document.getElementById(id), tool = (key) => document.querySelector(`#tools [data-key=${key}]`);
 const view = {chosen: '0,0', marking: false, shown: null, same: true, time: false};
-let state = null, picture = null, words = null, chain = [], step = -1, seconds = 0, lost = '';
+let state = null, picture = null, words = null, chain = [], step = -1, seconds = 0, lost = '', clicked = '';
 const chosen = () => cellOf(view.chosen, state.board.size), same = (one, other) => JSON.stringify(one) === JSON.stringify(other);
 
 function show(next) {
@@ -27,7 +27,7 @@ function begin() {
   picture = new Picture(state, words.measures[state.session.game][size]);
   Object.assign(view, {chosen: '0,0', marking: false});
   forget();
-  seconds = 0;
+  [seconds, clicked] = [0, ''];
   $('board').replaceChildren(picture.svg);
   $('title').textContent = document.title = state.title;
   $('said').textContent = `${state.title}, ${state.grade}, ${givens.filter(Boolean).length} given, ${clues.length + signs.length} clues`;
@@ -60,8 +60,12 @@ function tell(message, isBad = false) {
 function forget() { chain = []; step = -1; view.shown = null; }
 // Asks the server, shows what there is then, and gives the answer; nothing where there is none. What isn't absolute has the number of the state
 // that it is about: when another page was faster it is refused.
-async function send(wanted, isRelative = false) {
-  const answer = await talk.ask(() => (isRelative ? {...wanted, n: state.n} : wanted));
+async function send(make, isRelative = false) {
+  let wanted = make;
+  const answer = await talk.ask(() => {
+    wanted = typeof make === 'function' ? make() : make;
+    return isRelative ? {...wanted, n: state.n} : wanted;
+  });
   if (!answer) return tell(talk.ENDED, true);
   if (!['hint', 'why'].includes(wanted.do)) view.shown = null;
   show(answer);
@@ -80,8 +84,7 @@ function choose(place) {
 
 function point(part) { view.shown = part; choose(part.place.join(',')); }
 function walk(at) {
-  step = (at + chain.length) % chain.length;
-  point(chain[step]);
+  point(chain[step = (at + chain.length) % chain.length]);
   $('said').textContent = chain[step].text;
   tell(`Step ${step + 1} of ${chain.length}: arrows walk on.`);
   $('chain').querySelectorAll('button')[step].scrollIntoView({block: 'nearest'});
@@ -91,26 +94,25 @@ function walk(at) {
 function move(dx, dy) {
   let [x, y] = view.chosen.split(',').map(Number);
   const {size} = state.board, isAlong = (dx && (y < 0 || y === size)) || (dy && (x < 0 || x === size));
-  for (let far = isAlong ? size : 1; far > 0; far--) {
-    x += dx; y += dy;
-    if (picture.places.has(`${x},${y}`)) { choose(`${x},${y}`); return; }
-  }
+  do { x += dx; y += dy; } while (isAlong && Math.max(x, y, -1 - x, -1 - y) <= size && !picture.places.has(`${x},${y}`));
+  if (picture.places.has(`${x},${y}`)) choose(`${x},${y}`);
 }
 
 const line = (text, isRelative) => send({do: 'line', line: text}, isRelative);
-const onSquare = (then) => { if (chosen() < 0) tell('That is a clue: d marks it as done.'); else then(chosen(), state.board); };
-const put = (number) => onSquare((cell, {numbers, givens}) => {
-  if (view.marking) line(`move P${view.chosen},${number}`, true);
-  else if (numbers[cell] !== number || givens[cell]) line(`move R${view.chosen},${number}`);
-});
+// What is done to a square depends on what is in it when its turn has come.
+const onSquare = (made, isRelative) => {
+  const place = view.chosen, cell = chosen();
+  if (cell < 0) tell('That is a clue: d marks it as done.');
+  else send(() => { const line = made(state.board, cell, place); return line.startsWith('move') ? {do: 'line', line} : line; }, isRelative);
+};
+const put = (number, {marking} = view) => onSquare(({numbers, givens}, cell, place) => (
+  marking ? `move P${place},${number}` : numbers[cell] !== number || givens[cell] ? `move R${place},${number}` : ''), marking);
 const openFile = (file) => { if (file.size > words.most) tell(words.too_large, true); else send(file); };
 
 const actions = {
   pencil() { view.marking = !view.marking; tell(view.marking ? 'Digits are pencil marks.' : 'Digits are numbers.'); paint(); },
   enter() { actions[chosen() < 0 ? 'done mark' : 'pencil'](); },
-  clear() {
-    onSquare((cell, {numbers, marks}) => { if (numbers[cell] || marks[cell].length) line(`move R${view.chosen},0`); else tell('There is nothing to clear.'); });
-  },
+  clear() { onSquare(({numbers, marks}, cell, place) => (numbers[cell] || marks[cell].length ? `move R${place},0` : 'There is nothing to clear.')); },
   'all marks': () => line('move M'),
   undo: () => line('undo', true),
   redo: () => line('redo', true),
@@ -166,10 +168,11 @@ document.addEventListener('keydown', (event) => {
 
 const placeOf = (event) => event.target.closest('[data-place]')?.dataset.place;
 $('board').addEventListener('click', (event) => {
-  const place = placeOf(event), isAgain = place === view.chosen;
+  const place = placeOf(event), isAgain = place === view.chosen && place === clicked;
   if (!place) return;
   step = -1;
   choose(place);
+  clicked = place;
   if (chosen() < 0) actions['done mark']();
   else if (isAgain) actions.pencil();
 });

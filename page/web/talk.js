@@ -6,10 +6,11 @@ export const ENDED = 'The server has ended. Run puzzles-page again: the game is 
 const AWAY = 'Four newer pages show this game. Come back to this one to go on here.';
 const REFUSED = {403: 'This page is no longer let in: Enter in the terminal makes a new link.', 413: 'That is too long.', 503: 'The server is busy: try that again.'};
 
-// What is asked for is made when its turn has come, so it knows what came before. A server that is gone gives no answer.
+// What is asked for is made when its turn has come, so it knows what came before; a text is an answer at once. A server that is gone gives none.
 export function ask(made) {
   queue = queue.then(async () => {
     const wanted = made(), isFile = wanted instanceof Blob;
+    if (typeof wanted === 'string') return {message: wanted};
     const got = await (isFile ? post(wanted.sure ? 'open-surely' : 'open', wanted, 'application/octet-stream') : post('do', JSON.stringify(wanted), 'application/json'));
     if (got.status === 200 || got.status === 409) return {...await got.json(), isBad: got.status === 409};
     return {message: REFUSED[got.status] || `The server refuses that (${got.status}).`, isBad: true};
