@@ -175,6 +175,12 @@ class Browser:
         assert 'exceptionDetails' not in found, found
         return found['result'].get('value')
 
+    def promised(self, script: str) -> Any:
+        """What an expression promises in the page."""
+        found = self.ask('Runtime.evaluate', expression=script, returnByValue=True, awaitPromise=True)
+        assert 'exceptionDetails' not in found, found
+        return found['result'].get('value')
+
     def ask(self, method: str, **parameters: Any) -> Mapping[str, Any]:
         """Has the window do something, by the names of Chromium's protocol."""
         return self._ask(method, self._session, parameters)

@@ -115,7 +115,8 @@ def test_status(served: Served, tried: Try) -> None:
             text = text.replace(word, value)
         return text
 
-    headers = {name: value for name, value in {**served.headers(), **tried.headers}.items() if value is not None}
+    sent: Dict[str, Optional[str]] = {**served.headers(), **tried.headers}
+    headers = {name: value for name, value in sent.items() if value is not None}
     if 'Content-Length' not in headers and tried.method != 'GET' and 'Transfer-Encoding' not in headers:
         headers['Content-Length'] = str(len(tried.body))
     got = served.ask(tried.method, filled(tried.way), {name: filled(value) for name, value in headers.items()}, tried.body)
