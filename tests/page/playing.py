@@ -56,6 +56,10 @@ class Player:
         """Waits until a square is called so."""
         self.browser.wait_for(f'document.querySelector({json.dumps(at(x, y))}).getAttribute("aria-label") === {json.dumps(name)}')
 
+    def begins(self, x: int, y: int, name: str) -> None:
+        """Waits until what a square is called begins so."""
+        self.browser.wait_for(f'document.querySelector({json.dumps(at(x, y))}).getAttribute("aria-label").startsWith({json.dumps(name)})')
+
     def is_shown(self, selector: str) -> None:
         """Waits until an element is there and has room."""
         self.browser.wait_for(f'(document.querySelector({json.dumps(selector)})?.getClientRects().length ?? 0) > 0')

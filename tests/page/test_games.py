@@ -237,7 +237,7 @@ def test_two_pages(sit: Sit, room: Room) -> None:
         player.wait_for_board()
         player.press('1')
         browser.turn_to(0)
-        player.browser.wait_for(f'document.querySelector({json.dumps(at(0, 0))}).getAttribute("aria-label").startsWith("row 1, column 1, 1")')
+        player.begins(0, 0, 'row 1, column 1, 1')
         player.press('ArrowRight', '2')
         player.is_called(1, 0, 'row 1, column 2, 2')
         browser.turn_to(other)
@@ -290,7 +290,7 @@ def test_killed_program(sit: Sit, room: Room) -> None:
     """It is told and brought back, with the game as it was kept."""
     player = sit(['towers', TOWERS])
     player.press('1')
-    player.browser.wait_for(f'document.querySelector({json.dumps(at(0, 0))}).getAttribute("aria-label").startsWith("row 1, column 1, 1")')
+    player.begins(0, 0, 'row 1, column 1, 1')
     os.kill(player.served.program(), signal.SIGKILL)
     player.press('ArrowDown', '2')
     player.told('The program had ended (signal 9); the game goes on as it was. Try that again.')

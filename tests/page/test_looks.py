@@ -20,8 +20,7 @@ from board.games import SIZES, stored
 from tests.harness import by_name
 from tests.harness.browser import Browser
 from tests.page.conftest import Sit
-from tests.page.playing import LAPTOP, PHONE, SMALL, Player, at
-from tests.page.serving import Served
+from tests.page.playing import LAPTOP, PHONE, SMALL, Player
 
 PICTURES = Path(__file__).resolve().parent / 'pictures'
 
@@ -115,8 +114,8 @@ def luminance(colour: str) -> float:
     digits = colour.lstrip('#')
     digits = ''.join(2 * digit for digit in digits) if len(digits) == 3 else digits
     parts = [int(digits[at : at + 2], 16) / 255 for at in (0, 2, 4)]
-    red, green, blue = (part / 12.92 if part <= 0.04045 else ((part + 0.055) / 1.055) ** 2.4 for part in parts)
-    return 0.2126 * red + 0.7152 * green + 0.0722 * blue
+    light: List[float] = [part / 12.92 if part <= 0.04045 else pow((part + 0.055) / 1.055, 2.4) for part in parts]
+    return sum(weight * part for weight, part in zip((0.2126, 0.7152, 0.0722), light))
 
 
 def contrast(one: float, other: float) -> float:
@@ -158,7 +157,7 @@ def test_tab(sit: Sit) -> None:
 def test_announced(sit: Sit) -> None:
     """In the shortest form."""
     player = sit(['unequal', '3:0,0L,0,0U,0,0,0U,0,0,'])
-    assert player.text('#said') == 'Unequal 3x3, , 0 given, 3 clues'.replace(', ,', ',') or 'given' in player.text('#said')
+    assert player.text('#said').endswith('0 given, 3 clues')
     for press, said in [('1', '1'), ('p', '1'), ('l', '1'), ('2', 'empty, marks 2'), ('m', '8 squares changed'), ('u', '8 squares changed')]:
         player.press(press)
         player.browser.wait_for(f'document.querySelector("#said").textContent === {json.dumps(said)}')
@@ -187,7 +186,7 @@ class Picture(NamedTuple):
 
 
 #: A window for a picture of a whole page.
-WINDOW = (1000, 620)
+WINDOW = (800, 480)
 
 
 def play(*pressed: str) -> Callable[[Player], object]:
@@ -204,7 +203,7 @@ def play(*pressed: str) -> Callable[[Player], object]:
 
 def lose(player: Player) -> None:
     player.press('1')
-    player.is_called(0, 0, 'row 1, column 1, 1')
+    player.begins(0, 0, 'row 1, column 1, 1')
     player.served.end()
     player.told('The server has ended.')
 
@@ -233,7 +232,7 @@ ALL: List[Picture] = [
     Picture('why-phone', ['unequal', '5!7'], PHONE, play('m', 'H')),
     Picture('new-game', easy('unequal', 6), WINDOW, play('n')),
     Picture('solved-zoomed', easy('towers', 6), (683, 384), solve),
-    Picture('lost', ['unequal', '4!7'], PHONE, lose),
+    Picture('lost', ['unequal', '3:0,0L,0,0U,0,0,0U,0,0,'], PHONE, lose),
     Picture('print', easy('towers', 6), (560, 620), play('m', '1'), kind='print'),
 ]
 
