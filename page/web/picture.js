@@ -104,9 +104,9 @@ export class Picture {
   }
 
   inside(board, cell, x, y, isWrong) {
-    const {number, mark} = this.pen, apart = this.part(this.measures.apart);
+    const {number, mark} = this.pen, apart = this.part(this.measures.apart), rows = Math.ceil(this.size / 3);
     if (!board.numbers[cell]) {
-      return board.marks[cell].map((own) => this.text(x + ((own - 1) % 3 - 1) * apart, y + (Math.floor((own - 1) / 3) - 1) * apart, mark, own, 'mark'));
+      return board.marks[cell].map((own) => this.text(x + ((own - 1) % 3 - 1) * apart, y + (Math.floor((own - 1) / 3) - (rows - 1) / 2) * apart, mark, own, 'mark'));
     }
     return [this.text(x, y, number, board.numbers[cell], 'number'), ...isWrong ? [this.text(x + this.part(34), y - this.part(26), this.part(38), '!', 'bad')] : []];
   }

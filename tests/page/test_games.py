@@ -49,7 +49,7 @@ WHOLE = [
 @pytest.mark.parametrize('whole', WHOLE, ids=by_name)
 def test_whole_game(sit: Sit, programs: Programs, room: Room, whole: Whole) -> None:
     """To its end, and the kept game has each move."""
-    id = stored(whole.game, whole.size, 'e')[0]
+    id = stored(whole.game, whole.size, 'x')[0]
     numbers, givens = solution(programs.objects, whole.game, id)
     player = sit([whole.game, id], whole.window)
     for (x, y), number in squares(numbers, givens):

@@ -73,9 +73,9 @@ CONTRASTS: List[Tuple[float, str, Sequence[str]]] = [
 @pytest.mark.parametrize('game', ['towers', 'unequal'])
 def test_checks(sit: Sit, game: str, window: Tuple[int, int]) -> None:
     """On the board, at all sizes, and over it in each dialog."""
-    player = sit([game, stored(game, 9, 'e')[0]], window)
+    player = sit([game, stored(game, 9, 'x')[0]], window)
     for size in SIZES:
-        player.drop(text=stored(game, size, 'e')[0])
+        player.drop(text=stored(game, size, 'x')[0])
         player.browser.wait_for(f'document.querySelector("#title").textContent.endsWith("{size}x{size}")')
         assert wrong(player) == [], size
     player.press('m', 'H')
@@ -215,25 +215,25 @@ def solve(player: Player) -> None:
     player.told('Solved!')
 
 
-def easy(game: str, size: int) -> List[str]:
-    return [game, stored(game, size, 'e')[0]]
+def puzzle(game: str, size: int) -> List[str]:
+    return [game, stored(game, size, 'x')[0]]
 
 
 DOWN, RIGHT, LEFT = 'ArrowDown', 'ArrowRight', 'ArrowLeft'
 
 ALL: List[Picture] = [
-    Picture('towers-5', easy('towers', 5), WINDOW, play('m', '1', RIGHT, '1', DOWN, 'p', '1', '2', 'p', LEFT, LEFT, 'd', RIGHT)),
-    Picture('unequal-6-dark', easy('unequal', 6), WINDOW, play(*['m', '3', RIGHT, '1', RIGHT, RIGHT, '6', DOWN, '6']), is_dark=True),
-    Picture('towers-9-phone', easy('towers', 9), PHONE, play('m', '3')),
-    Picture('unequal-9-phone-dark', easy('unequal', 9), PHONE, play('m', '3', DOWN), is_dark=True),
-    Picture('towers-4-small', easy('towers', 4), SMALL, play('4', DOWN, '4')),
+    Picture('towers-5', puzzle('towers', 5), WINDOW, play('m', '1', RIGHT, '1', DOWN, 'p', '1', '2', 'p', LEFT, LEFT, 'd', RIGHT)),
+    Picture('unequal-6-dark', puzzle('unequal', 6), WINDOW, play(*['m', '3', RIGHT, '1', RIGHT, RIGHT, '6', DOWN, '6']), is_dark=True),
+    Picture('towers-9-phone', puzzle('towers', 9), PHONE, play('m', '3')),
+    Picture('unequal-9-phone-dark', puzzle('unequal', 9), PHONE, play('m', '3', DOWN), is_dark=True),
+    Picture('towers-4-small', puzzle('towers', 4), SMALL, play('4', DOWN, '4')),
     Picture('hint-look', ['towers', '5!7'], WINDOW, play('m', 'h')),
     Picture('hint-step', ['towers', '5!7'], WINDOW, play('m', 'h', 'h')),
     Picture('why-phone', ['unequal', '5!7'], PHONE, play('m', 'H')),
-    Picture('new-game', easy('unequal', 6), WINDOW, play('n')),
-    Picture('solved-zoomed', easy('towers', 6), (683, 384), solve),
+    Picture('new-game', puzzle('unequal', 6), WINDOW, play('n')),
+    Picture('solved-zoomed', puzzle('towers', 6), (683, 384), solve),
     Picture('lost', ['unequal', '3:0,0L,0,0U,0,0,0U,0,0,'], PHONE, lose),
-    Picture('print', easy('towers', 6), (560, 620), play('m', '1'), kind='print'),
+    Picture('print', puzzle('towers', 6), (560, 700), play('m', '1'), kind='print'),
 ]
 
 #: The part of its points in which a picture may be otherwise, since fonts are.
