@@ -21,7 +21,7 @@ from typing import Any, Dict, List, Optional, Tuple, Union
 
 from board.program import Gone
 from page.house import Answer, House, Said, TooLong, Wrong
-from page.site import INDEX, JSON, File, at, site
+from page.site import INDEX, JSON, File, at, site, words
 
 #: What may be sent, by its name: its kind, which no other page can send unasked, and the bytes that it may have.
 BYTES = 'application/octet-stream'
@@ -173,6 +173,8 @@ class Handler(BaseHTTPRequestHandler):
         elif self._name() == 'save':
             name, content = server.house.save()
             self._send(File(content, BYTES), {'Content-Disposition': f'attachment; filename="{name}"'})
+        elif self._name() == 'words':
+            self._send(words())
         elif (self._name() or INDEX) in server.site:
             self._send(server.site[self._name() or INDEX])
         else:

@@ -56,6 +56,8 @@ class House:
         self._left = time.monotonic()
         self._is_sure = self._is_stopped = self._is_over = False
         self._question = ''
+        #: What there is to say of how the game began, until something is done.
+        self._first = ''
         self._works: Dict[str, Callable[[Asked], Said]] = {
             'line': self._line,
             'restart': plain(self.table.restart),
@@ -140,9 +142,15 @@ class House:
             board = self.table.board
             return offered(self.table.game, board.size, picture.grade(board)), self.table.saved
 
-    def look(self) -> None:
+    def begin(self) -> None:
+        """A game is there, and pages may come."""
+        self._first = self.table.message
+        self._look()
+
+    def _look(self) -> None:
         """The pages see what there is now."""
         told = {'busy': False, **state_of(self.table)}
+        told['says'] = told['says'] or self._first
         if told != {name: value for name, value in self._state.items() if name != 'n'}:
             self._publish(told)
 
@@ -160,11 +168,11 @@ class House:
 
     def _done(self, work: Callable[[Asked], Said], asked: Asked) -> Answer:
         self._is_sure, self._is_stopped, self._question = asked.get('sure') is True, False, ''
-        self.table.message = ''
+        self.table.message = self._first = ''
         try:
             more = work(asked)
         finally:
-            self.look()
+            self._look()
         question = {'ask': self._question} if self._question else {}
         return Answer(False, {**self._state, 'message': '' if question else self.table.message, **question, **more})
 

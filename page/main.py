@@ -91,7 +91,7 @@ def serve(path: str, asked: Words, opens: bool) -> int:
         if not house.table.has_game:
             complain(house.table.message)
             return 3
-        house.look()
+        house.begin()
         with Server(house) as server:
             tell(server, opens)
             server.serve_forever(ROUND)

@@ -3,12 +3,12 @@
 from __future__ import annotations
 
 import json
+from functools import lru_cache
 from pathlib import Path
 from typing import Dict, NamedTuple
 
 from board import files, keys, manual, texts
 from board.board import GAMES
-from page.measures import all_measures
 
 WEB = Path(__file__).resolve().parent / 'web'
 
@@ -32,13 +32,16 @@ class File(NamedTuple):
 
 def site() -> Dict[str, File]:
     """All files by their names. Nothing else is ever read for a page, whatever it asks for."""
-    found = {path.name: File(path.read_bytes(), KINDS[path.suffix]) for path in WEB.iterdir() if path.suffix in KINDS}
-    return {**found, 'words': File(json.dumps(words()).encode(), JSON)}
+    return {path.name: File(path.read_bytes(), KINDS[path.suffix]) for path in WEB.iterdir() if path.suffix in KINDS}
 
 
-def words() -> Dict[str, object]:
+@lru_cache(maxsize=None)
+def words() -> File:
     """Keys, rules and lengths."""
-    return {
+    # The link is told before these are read.
+    from page.measures import all_measures
+
+    told = {
         'steps': keys.STEPS,
         'along': keys.ALONG,
         'actions': keys.ACTIONS,
@@ -49,6 +52,7 @@ def words() -> Dict[str, object]:
         'most': files.MOST_BYTES,
         'too_large': texts.of_save('TooLarge', 'towers'),
     }
+    return File(json.dumps(told).encode(), JSON)
 
 
 def at(page: File, folder: str) -> File:

@@ -17,7 +17,7 @@ function show(next) {
   else if (before.n !== next.n) {
     if (!same(before.board.numbers, next.board.numbers)) forget();
     $('said').textContent = change(before.board, next.board, chosen());
-    if (next.says !== before.says) tell('');
+    if (next.says !== before.says || before.busy) tell('');
   }
   paint();
 }
@@ -34,6 +34,7 @@ function begin() {
   $('pad').style.setProperty('--columns', size > 6 ? Math.ceil(size / 2) : size);
   $('pad').replaceChildren(...givens.slice(0, size).map((_, at) => dialogs.button(at + 1, {key: at + 1})));
   if (hadFocus && !dialogs.isOpen()) choose(view.chosen);
+  tell('');
 }
 
 function paint() {

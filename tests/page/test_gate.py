@@ -285,6 +285,16 @@ def test_killed(room: Room, objects: str) -> None:
         assert (session['position'], session['states']) == (2, 3)
 
 
+def test_second_run(room: Room, objects: str) -> None:
+    """It keeps its game beside that of the first, and says so until something is done."""
+    with Served(room, objects, ['towers', ID]) as first, Served(room, objects, ['towers']) as second:
+        with second.stream() as stream:
+            assert 'Another window has the last game; this one is kept in towers-2.sav.' in stream.next()['says']
+            first.play('move R0,0,1')
+            assert second.play('move M')['says'] == ''
+        assert moves(kept(room)) == ['R0,0,1'] and moves(kept(room, 'towers-2')) == ['M']
+
+
 def test_ends_by_itself(room: Room, objects: str) -> None:
     """So long after the last page has gone, and not while one is there."""
     with Served(room, objects, ['towers', ID], gate={'STAY': 1.0, 'BEAT': 0.2, 'ROUND': 0.1}) as served:

@@ -270,5 +270,5 @@ def test_picture(sit: Sit, browser: Browser, picture: Picture) -> None:
         path.write_bytes(shown)
     browser.go('about:blank')
     data = [json.dumps(base64.b64encode(content).decode()) for content in (shown, path.read_bytes())]
-    assert browser.promised(COMPARE.replace('ONE', data[0]).replace('OTHER', data[1])) < MOST_OTHER
-    assert player.served.link.startswith('http://127.0.0.1:')
+    part = browser.promised(COMPARE.replace('ONE', data[0]).replace('OTHER', data[1]))
+    assert part < MOST_OTHER
