@@ -16,7 +16,7 @@
 # make test-faults a part of it: memory, reads and writes that fail in turn
 # make test-saving a part of it: how the program saves, wherever the file lies and whoever shares it
 # make test-json  a part of it: the objects that puzzles-json writes
-# make test-tools parts of it: the board, installing, the texts for users, the scripts in another place, and how they are written
+# make test-tools parts of it: the board, the page, installing, the texts for users, the scripts in another place, and how they are written
 # make test-reference what saves and seeds are answered, by a second implementation
 # make test-twins  the twins of the wrong bodies, which mean what the right bodies mean, are proved; CRATES=.. for some crates
 # make test-bodies all wrong bodies are refused and all twins proved, tried together, of which the gate tries three to six of each crate; CRATES=.. for some crates;
@@ -125,7 +125,7 @@ test-json:
 	@$(TESTS) tests/objects
 
 test-tools:
-	@$(TESTS) tests/board tests/installing tests/texts tests/scripts tests/code
+	@$(TESTS) tests/board tests/page tests/installing tests/texts tests/scripts tests/code
 
 test-reference:
 	@$(TESTS) tests/second_implementation

@@ -4,7 +4,7 @@ from __future__ import annotations
 
 import threading
 import time
-from functools import partial
+from functools import lru_cache, partial
 from typing import Any, Callable, Dict, List, Mapping, NamedTuple, Optional, Tuple
 
 from board import games, hints, picture, texts
@@ -271,6 +271,7 @@ def shown(told: Told) -> Said:
     return {'place': told.place, 'rests_on': sorted(told.shown.rests_on), 'struck': sorted(told.shown.struck)}
 
 
+@lru_cache(maxsize=None)
 def kinds_of(game: str, size: int) -> List[str]:
     """The kinds of new games of that size, beside those by a seed or an ID."""
     grades = [games.GRADES[game][letter] for letter in games.letters(game, size)]

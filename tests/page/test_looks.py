@@ -208,6 +208,11 @@ def lose(player: Player) -> None:
     player.told('The server has ended.')
 
 
+def new(player: Player) -> None:
+    player.press('n')
+    player.is_shown('#fresh')
+
+
 def solve(player: Player) -> None:
     player.press('S')
     player.is_shown('#ask')
@@ -230,7 +235,7 @@ ALL: List[Picture] = [
     Picture('hint-look', ['towers', '5!7'], WINDOW, play('m', 'h')),
     Picture('hint-step', ['towers', '5!7'], WINDOW, play('m', 'h', 'h')),
     Picture('why-phone', ['unequal', '5!7'], PHONE, play('m', 'H')),
-    Picture('new-game', puzzle('unequal', 6), WINDOW, play('n')),
+    Picture('new-game', puzzle('unequal', 6), WINDOW, new),
     Picture('solved-zoomed', puzzle('towers', 6), (683, 384), solve),
     Picture('lost', ['unequal', '3:0,0L,0,0U,0,0,0U,0,0,'], PHONE, lose),
     Picture('print', puzzle('towers', 6), (560, 700), play('m', '1'), kind='print'),
