@@ -149,7 +149,7 @@ class House:
 
     def _look(self) -> None:
         """The pages see what there is now."""
-        told = {'busy': False, **state_of(self.table)}
+        told: Said = {'busy': False, **state_of(self.table)}
         told['says'] = told['says'] or self._first
         if told != {name: value for name, value in self._state.items() if name != 'n'}:
             self._publish(told)
