@@ -22,9 +22,10 @@
 # make test-bodies all wrong bodies are refused and all twins proved, tried together, of which the gate tries three to six of each crate; CRATES=.. for some crates;
 #                 what passed before is not tried again where nothing has changed, but with ANEW=1
 # make trust      how many lines have to be read to believe the promises, by file, and whether docs/TRUST.md lists them
-# make exchange   saves and IDs against the usual programs, of Debian's package sgt-puzzles; no part of the gate
-# make bench      how long the solver, the generator, saves, checks of boards and their objects take, class by class, and the solver beside the usual
-#                 program's, where its source package is there (bench/usual/fetch); or the solver on the lines of IDS=file; no part of the gate
+# make exchange   saves, IDs and fair games against the usual programs, of Debian's package sgt-puzzles; no part of the gate
+# make bench      how long the solver, the generator, saves, checks of boards and their objects take, class by class, the solver beside the usual
+#                 program's, where its source package is there (bench/usual/fetch), and fair games beside those of sgt-puzzles, where that is there;
+#                 or the solver on the lines of IDS=file; no part of the gate
 # make hard       the solver on COUNT=22000 fresh puzzles of families that are made to be hard, by SEED=1; no part of the gate
 # make climb      looks for MINUTES=3 in each game for puzzles on which the solver is slow; no part of the gate
 # make check      CRATE=clue_rules: proves one crate, in seconds after an edit

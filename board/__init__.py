@@ -9,10 +9,11 @@ files        reads, makes and locks files: regular ones alone
 saves        what the board itself sees in a save
 program      talks to the program
 state        where games are kept, and what was chosen last
-games        the stored puzzles, and seeds worth playing
+fair         fair games: which there are, and the line for one
+games        games worth playing: fair ones, and the stored puzzles
 texts        a sentence for each refusal
 speech       a board in sentences
-choices      which new game: size, grade, seed or ID
+choices      which new game: size, grade, number or ID
 present      the present game, and what can be done with it
 table        how a game begins, and what becomes of the one before
 layout       where on a screen the squares, clues and texts are

@@ -1,26 +1,29 @@
-"""Which new game: its size, and a grade, a seed or an ID, as a player chooses it in a menu or by words."""
+"""Which new game: its size and grade, and its number or an ID, as a player chooses it in a menu or by words."""
 
 from __future__ import annotations
 
 import random
-import time
-from typing import List, NamedTuple, Optional, Sequence
+from typing import Dict, Iterator, List, NamedTuple, Optional, Sequence, Tuple
 
-from board import games
-from board.board import GAMES
-from board.games import GRADES, SEEDED_SIZES, SIZES
-from board.program import Waiting
+from board import fair, games
+from board.board import GAMES, Session
+from board.games import GRADES, SIZES
+from board.program import Program
 from board.speech import listed
 from board.state import State
 from board.typed import is_number
 
-#: Kinds that have no grade: the best of some seeds, and the seed that today's date is.
-SEEDED, TODAY = 'seeded', 'today'
+#: Before the number of a fair game; for the number that the date is; and for one by chance, as when nothing is said.
+NUMBER, TODAY, SEEDED = 'number', 'today', 'seeded'
 
-#: The size of today's puzzle, where no other one is named: so it is everybody's.
-TODAYS_SIZE = 5
+#: The size and the grade where nothing was chosen yet.
+FIRST_SIZE, FIRST_GRADE = 5, 'easy'
 
-ONLY_SMALL = 'Seeded games have the sizes 3 to 6'
+#: After so many numbers in a row whose games are there already no further ones are looked for.
+ALIKE = 1000
+
+WRONG_SIZE = 'Sizes go from 3 to 9: one digit from 3 to 9.'
+WRONG_NUMBER = f"A number goes from 0 to {fair.SEEDS - 1}: 'number 20261126'."
 
 
 class Unknown(Exception):
@@ -32,80 +35,175 @@ class Choice(NamedTuple):
 
     game: str
     size: int
-    #: A grade, `SEEDED` or `TODAY`; nothing where an ID says all, or any grade will do.
-    kind: str = ''
+    #: The name of a grade; nothing where an ID says all, or any grade will do.
+    grade: str = ''
+    #: The seed of a fair game; nothing where chance is to say.
+    number: Optional[int] = None
     id: str = ''
-
-    @property
-    def is_seeded(self) -> bool:
-        return self.kind in (SEEDED, TODAY)
+    #: Whether the next game is to be like this.
+    is_kept: bool = True
 
     @property
     def letter(self) -> str:
-        """The letter of the grade, or of the first one of which there are stored puzzles; nothing where there are none."""
+        """The letter of the grade, or of the first one of which there are games."""
         there = games.letters(self.game, self.size)
-        return next((letter for letter in there if GRADES[self.game][letter] == self.kind), ''.join(there[:1]))
+        return next((letter for letter in there if GRADES[self.game][letter] == self.grade), ''.join(there[:1]))
+
+    @property
+    def is_fair(self) -> bool:
+        return not self.id and self.letter in fair.letters(self.game, self.size)
+
+    @property
+    def numbered(self) -> Choice:
+        """The same; a fair game with the name of its grade, and with a number, by chance where it has none."""
+        if not self.is_fair:
+            return self
+        number = fair.by_chance() if self.number is None else self.number
+        return self._replace(grade=GRADES[self.game][self.letter], number=number)
+
+    @property
+    def line(self) -> str:
+        """What begins a numbered game."""
+        return fair.line(self.size, self.letter, self.number or 0)
+
+    @property
+    def words(self) -> str:
+        """The words that choose a numbered game, after the name of the game."""
+        return f'{self.size} {self.grade} {NUMBER} {self.number}'
+
+    @property
+    def told(self) -> str:
+        """A numbered game, as `Hard 9, number 20261126.`; nothing of another one."""
+        return f'{self.grade.title()} {self.size}, {NUMBER} {self.number}.' if self.number is not None else ''
+
+
+def without_number(words: Sequence[str]) -> Tuple[List[str], Optional[str]]:
+    """The words but those that name a number, and that number where there are such."""
+    at = next((at for at, word in enumerate(words) if word.lower() == NUMBER), len(words))
+    return [*words[:at], *words[at + 2 :]], ' '.join(words[at + 1 : at + 2]) if at < len(words) else None
+
+
+def unread(words: Sequence[str]) -> Optional[str]:
+    """The first word that is no size, no grade of either game, and no number."""
+    kinds = {TODAY, SEEDED, *(grade for grades in GRADES.values() for grade in grades.values())}
+    return next((word for word in without_number(words)[0] if not is_number(word) and word.lower() not in kinds), None)
 
 
 def are_words(words: Sequence[str]) -> bool:
-    """Whether these are all sizes, and grades of either game, or what stands for one."""
-    kinds = {SEEDED, TODAY, *(grade for grades in GRADES.values() for grade in grades.values())}
-    return bool(words) and all(is_number(word) or word.lower() in kinds for word in words)
+    """Whether these choose a new game."""
+    return bool(words) and unread(words) is None
 
 
 def choice_of(words: Sequence[str], last: Choice) -> Choice:
-    """What words say: a size and a grade in any order; what they don't say is as it was last. Raises `Unknown`."""
+    """What words say: a size, a grade and a number in any order; what they don't say is as it was last. Raises `Unknown`."""
+    others, text = without_number(words)
     grades = list(GRADES[last.game].values())
-    size, kind = '', ''
-    for word in (word.lower() for word in words):
+    size, grade, is_today = '', '', False
+    for word in (word.lower() for word in others):
         if word.isdecimal():
             size = word if is_number(word) else '0'
-        elif word in (*grades, SEEDED, TODAY):
-            kind = word
-        else:
+        elif word in grades:
+            grade = word
+        elif word == TODAY:
+            is_today = True
+        elif word != SEEDED:
             raise Unknown(f"{GAMES[last.game]} has no grade '{word}': {listed(grades, 'or')}.")
-    choice = Choice(last.game, int(size or (TODAYS_SIZE if kind == TODAY else last.size)), kind or last.kind)
+    if is_today:
+        todays = GRADES[last.game][fair.TODAYS_LETTER]
+        choice = Choice(last.game, int(size or fair.TODAYS_SIZE), grade or todays, fair.today(), is_kept=False)
+    else:
+        choice = Choice(last.game, int(size or last.size), grade or last.grade, number_of(text))
+    return checked(choice, is_said=bool(grade))
+
+
+def number_of(text: Optional[str]) -> Optional[int]:
+    """The number that was typed, where one was. Raises `Unknown`."""
+    number = fair.seed_of(text or '')
+    if text is not None and number is None:
+        raise Unknown(WRONG_NUMBER)
+    return number
+
+
+def checked(choice: Choice, is_said: bool) -> Choice:
+    """The choice, where there are such games; where its grade wasn't said but is the last one, and has no numbers, it is the first that has. Raises `Unknown`."""
     if choice.size not in SIZES:
-        raise Unknown('Sizes go from 3 to 9: one digit from 3 to 9.')
-    there = [GRADES[choice.game][letter] for letter in games.letters(choice.game, choice.size)]
-    if kind in grades and there and kind not in there:
+        raise Unknown(WRONG_SIZE)
+    names = GRADES[choice.game]
+    there = [names[letter] for letter in games.letters(choice.game, choice.size)]
+    if is_said and choice.grade not in there:
         raise Unknown(f'Of size {choice.size} there are puzzles of the grades {listed(there)}.')
-    return choice
+    if choice.number is None or choice.is_fair:
+        return choice
+    made = [names[letter] for letter in fair.letters(choice.game, choice.size)]
+    if is_said:
+        raise Unknown(f'Of size {choice.size} the grades {listed(made)} have numbers.')
+    return choice._replace(grade=FIRST_GRADE if FIRST_GRADE in made else made[0])
 
 
 def remembered(state: State, game: str) -> Optional[Choice]:
     """What was chosen last of a game."""
-    size, _, kind = state.chosen(game).partition(' ')
-    is_known = is_number(size) and int(size) in SIZES and kind in (SEEDED, *GRADES[game].values())
-    return Choice(game, int(size), kind) if is_known else None
+    size, _, grade = state.chosen(game).partition(' ')
+    is_known = is_number(size) and int(size) in SIZES and grade in GRADES[game].values()
+    return Choice(game, int(size), grade) if is_known else None
 
 
 def remember(state: State, choice: Choice) -> None:
-    if choice.kind and choice.kind != TODAY:
-        state.choose(choice.game, f'{choice.size} {choice.kind}')
+    if choice.grade and choice.is_kept:
+        state.choose(choice.game, f'{choice.size} {choice.grade}')
 
 
-def id_of(path: str, state: State, choice: Choice, waiting: Waiting) -> str:
-    """The ID of such a game; a stored puzzle counts as played from now on."""
-    if choice.kind == TODAY:
-        return today(choice.size)
-    if choice.kind == SEEDED:
-        return games.seeded(path, choice.game, choice.size, waiting)
-    return choice.id or games.take(state, choice.game, choice.size, choice.letter) or f'{choice.size}!7'
+def remember_number(state: State, choice: Choice, id: str) -> None:
+    """Which number the last fair game of this kind has, for as long as it is played."""
+    state.choose(f'{choice.game}-{NUMBER}', f'{choice.number} {id}')
 
 
-def today(size: int) -> str:
-    """The ID of the puzzle of that size of which today's date is the seed."""
-    return f'{size}!{time.strftime("%Y%m%d")}'
+def of_session(state: State, session: Session) -> Optional[Choice]:
+    """What a game was chosen by, where it is the last fair one that was begun."""
+    text, _, id = state.chosen(f'{session.game}-{NUMBER}').partition(' ')
+    grade = GRADES[session.game].get(session.letter)
+    number = fair.seed_of(text)
+    return Choice(session.game, int(id[0]), grade, number) if id == session.id and grade and number is not None else None
+
+
+def first(state: State, game: str) -> Choice:
+    """A game as the last one that was chosen; where none was, a small one."""
+    return remembered(state, game) or Choice(game, FIRST_SIZE, FIRST_GRADE)
 
 
 def ids(path: str, choice: Choice, count: int) -> List[str]:
-    """So many IDs of such games, each of them once, by chance. Raises `Unknown` where there are not so many."""
-    if choice.is_seeded and choice.size not in SEEDED_SIZES:
-        raise Unknown(f'{ONLY_SMALL}.')
-    if choice.kind == SEEDED:
-        return [games.seeded(path, choice.game, choice.size, lambda: False) for _ in range(count)]
-    there = [today(choice.size)] if choice.kind == TODAY else games.stored(choice.game, choice.size, choice.letter)
+    """So many IDs of such games, each of them once; from its number on where it has one, else by chance. Raises `Unknown` where there are not so many."""
+    if choice.is_fair:
+        return fair_ids(path, choice, count)
+    there = games.stored(choice.game, choice.size, choice.letter)
     if count > len(there):
         raise Unknown(f'So many there are of them: {len(there)}.')
     return random.sample(there, count)
+
+
+def fair_ids(path: str, choice: Choice, count: int) -> List[str]:
+    """Raises `Unknown`."""
+    found: Dict[str, None] = {}
+    since = 0
+    program = Program(path, choice.game)
+    try:
+        for number in numbers(choice):
+            session = program.ask(fair.line(choice.size, choice.letter, number)).session
+            before = len(found)
+            found.update({session.id: None} if session else {})
+            since = 0 if len(found) > before else since + 1
+            if len(found) == count:
+                return list(found)
+            if since == ALIKE:
+                break
+    finally:
+        program.stop()
+    raise Unknown(f'So many there are of them: {len(found)}.')
+
+
+def numbers(choice: Choice) -> Iterator[int]:
+    """Numbers from that of the choice on, or by chance; of today's game the date alone."""
+    number = choice.number
+    yield fair.by_chance() if number is None else number
+    while choice.is_kept:
+        number = None if number is None else (number + 1) % fair.SEEDS
+        yield fair.by_chance() if number is None else number

@@ -51,15 +51,19 @@ _puzzles_play() {
     local word=${COMP_WORDS[COMP_CWORD]} used kind kinds=() offered=()
     used=$(_puzzles_used)
     COMPREPLY=()
+    if [[ ${COMP_WORDS[COMP_CWORD - 1]} == number ]]; then return; fi
     case $used in
-        *' towers '*) kinds=(easy hard extreme unreasonable seeded today) ;;
-        *' unequal '*) kinds=(trivial easy tricky extreme recursive seeded today) ;;
+        *' towers '*) kinds=(easy hard extreme unreasonable) ;;
+        *' unequal '*) kinds=(trivial easy tricky extreme recursive) ;;
         *) offered+=(towers unequal) ;;
     esac
     for kind in "${kinds[@]}"; do
         if [[ $used == *" $kind "* ]]; then kinds=(); fi
     done
     offered+=("${kinds[@]}")
+    if [[ $used == *' towers '* || $used == *' unequal '* ]]; then
+        [[ $used == *' number '* || $used == *' today '* ]] || offered+=(number today)
+    fi
     [[ $used == *' --lines '* || $used == *' --ids '* ]] || offered+=(--lines --ids)
     [[ $used == *' --help '* || $used == *' -h '* ]] || offered+=(--help)
     [[ $used == *' --version '* || $used == *' -V '* ]] || offered+=(--version)

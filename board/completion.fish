@@ -38,7 +38,7 @@ complete -c puzzles-play -e
 complete -c puzzles-play -n __puzzles_no_game -a 'towers unequal' -d 'the game'
 complete -c puzzles-play -n '__fish_seen_subcommand_from towers' -a 'easy hard extreme unreasonable' -d 'the grade of a new game'
 complete -c puzzles-play -n '__fish_seen_subcommand_from unequal' -a 'trivial easy tricky extreme recursive' -d 'the grade of a new game'
-complete -c puzzles-play -n '__fish_seen_subcommand_from towers unequal' -a 'seeded today' -d 'a new game from a seed'
+complete -c puzzles-play -n '__fish_seen_subcommand_from towers unequal' -a 'number today' -d 'the number of a new game'
 complete -c puzzles-play -n '__puzzles_unused lines ids' -l lines -d 'play by lines of text'
 complete -c puzzles-play -n '__puzzles_unused lines ids' -l ids -d 'print the IDs of new games'
 complete -c puzzles-play -n '__puzzles_unused help h' -s h -l help -d 'show a help text'
@@ -55,7 +55,7 @@ complete -c puzzles-page -n '__puzzles_unused version V' -s V -l version -d 'sho
 complete -c puzzles-sheet -e
 complete -c puzzles-sheet -f
 complete -c puzzles-sheet -n __puzzles_no_game -a 'towers unequal' -d 'the game'
-complete -c puzzles-sheet -n '__puzzles_unused size' -l size -x -a '3 4 5 6' -d 'the sizes of the puzzles'
+complete -c puzzles-sheet -n '__puzzles_unused size' -l size -x -a '3 4 5 6 7 8 9' -d 'the sizes of the puzzles'
 complete -c puzzles-sheet -n '__puzzles_unused grade' -l grade -x -a 'trivial easy tricky hard' -d 'their grades'
 complete -c puzzles-sheet -n '__puzzles_unused seed' -l seed -x -d 'other puzzles for each number'
 complete -c puzzles-sheet -n '__puzzles_unused count' -l count -x -d 'how many there are'

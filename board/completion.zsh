@@ -8,7 +8,7 @@ _puzzles_game_or_file() {
 _puzzles_kind_or_file() {
     local -A grades=(towers 'easy hard extreme unreasonable' unequal 'trivial easy tricky extreme recursive')
     local game=${words[(r)towers|unequal]}
-    _alternative "kinds:size or grade:(3 4 5 6 7 8 9 ${grades[$game]} seeded today)" 'files:save file:_files'
+    _alternative "kinds:size or grade:(3 4 5 6 7 8 9 ${grades[$game]} number today)" 'files:save file:_files'
 }
 
 case $service in
@@ -29,7 +29,7 @@ case $service in
             '*:ID, size or grade, or save file:_puzzles_kind_or_file' ;;
     puzzles-sheet)
         _arguments -S \
-            '--size=[the sizes of the puzzles]:size, as 4-6:' \
+            '--size=[the sizes of the puzzles]:size, as 5-7:' \
             '--grade=[their grades]:grade:(trivial easy tricky hard)' \
             '--seed=[other puzzles for each number]:number:' \
             '--count=[how many there are]:number:' \

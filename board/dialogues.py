@@ -17,6 +17,9 @@ Background = Callable[[], List[Piece]]
 LEAVING = ('escape', '\x03', '\x07')
 MOST_LINES = 5
 
+#: How far something moves while the program is at work.
+WAY = 8
+
 SCROLLING = {'down': 1, 'j': 1, 'enter': 1, 'up': -1, 'k': -1, ' ': 0, 'page down': 0, 'page up': 0}
 
 
@@ -121,3 +124,10 @@ class Dialogues:
 
     def _ask(self, text: str) -> None:
         self._show(wrapped(text, self._screen.size[1] - 2))
+
+
+def moving(seconds: float) -> str:
+    """A bar on which something goes to and fro as time passes."""
+    at = int(seconds * 10) % (2 * WAY)
+    at = min(at, 2 * WAY - at)
+    return f'[{" " * at}={" " * (WAY - at)}]'

@@ -3,13 +3,14 @@
 from __future__ import annotations
 
 import os
+import time
 from functools import partial
 from typing import Callable, Dict, List, Optional
 
 from board import keys, manual
 from board.board import GAMES, Place
 from board.choices import Choice
-from board.dialogues import Dialogues
+from board.dialogues import Dialogues, moving
 from board.file_names import file_name, offered, question
 from board.layout import Layout, fit
 from board.lessons import Told
@@ -78,8 +79,7 @@ class FullScreen:
         return self._dialogues.confirm(question)
 
     def waiting(self, may_stop: bool) -> bool:
-        if may_stop:
-            self._dialogues.tell('The program is at work. Any key stops it.')
+        self._dialogues.tell(f'The program is at work{". Any key stops it." if may_stop else " .."}  {moving(time.monotonic())}')
         return self._screen.has_key(may_stop) and may_stop
 
     # --- the run ---
@@ -251,6 +251,9 @@ class FullScreen:
             self._quit()
         elif text in ('help', '?'):
             self._help()
+        elif text.startswith('fair '):
+            if self.table.begin_line(self.table.game, text):
+                self._at_start()
         elif text.startswith('new '):
             self._begin(Choice(self.table.game, self.table.board.size, id=text[4:].strip()))
         else:
@@ -270,13 +273,11 @@ class FullScreen:
             self._begin(choice)
 
     def _begin(self, choice: Choice) -> None:
-        if not choice.id and choice.is_seeded:
-            self._dialogues.tell('Looking for a seed ..')
-        id = self.table.begin_new(choice)
-        if id:
+        begun = self.table.begin_new(choice)
+        if begun:
             self._at_start()
-            if choice.is_seeded:
-                self.table.message = f'{self.table.message} A seeded game; to play it again: n, by an ID, {id}'.strip()
+            if begun.told:
+                self.table.message = f'{self.table.message} {begun.told} That number is always this game.'.strip()
 
     def _at_start(self) -> None:
         self._cursor = (0, 0)
@@ -319,6 +320,9 @@ class FullScreen:
     def _show_id(self) -> None:
         board = self.table.board
         lines = [board.session.id, '', 'To play it again: n, by an ID; or on the command line', '', f"puzzles-play {self.table.game} '{board.session.id}'"]
+        chosen = self.table.chosen
+        if chosen and chosen.told:
+            lines += ['', chosen.told, '', f'puzzles-play {chosen.game} {chosen.words}']
         self._page(f'The ID of this puzzle, {name(board)} {grade(board)}', lines)
 
     def _help(self) -> None:

@@ -1,4 +1,4 @@
-"""Games worth playing: the stored puzzles by size and grade, and seeds that the deductions alone solve."""
+"""Games worth playing: fair ones, which the program makes without end, and stored puzzles of the other grades."""
 
 from __future__ import annotations
 
@@ -8,9 +8,9 @@ from functools import lru_cache
 from pathlib import Path
 from typing import Dict, List, Optional, Tuple
 
-from board import files
-from board.board import GAMES, Board
-from board.program import Gone, Program, Refused, Stopped, Waiting, started_with
+from board import fair, files
+from board.board import GAMES
+from board.program import Gone, Refused, Stopped, Waiting, started_with
 from board.saves import game_in
 from board.state import Home, NotKept, SavedGame, State
 
@@ -20,12 +20,8 @@ GRADES: Dict[str, Dict[str, str]] = {
     'unequal': {'t': 'trivial', 'e': 'easy', 'k': 'tricky', 'x': 'extreme', 'r': 'recursive'},
 }
 
-#: The sizes of the grid, and those of seeded games.
-SIZES = range(3, 10)
-SEEDED_SIZES = range(3, 7)
-
-#: Of so many seeds the best is taken.
-SEEDS = 100
+#: The sizes of the grid.
+SIZES = fair.SIZES
 
 BANK = Path(__file__).resolve().parent / 'bank'
 
@@ -51,8 +47,8 @@ def stored(game: str, size: int, letter: str) -> List[str]:
 
 
 def letters(game: str, size: int) -> List[str]:
-    """The grades of which there are stored puzzles."""
-    return [letter for letter in GRADES[game] if stored(game, size, letter)]
+    """The grades of which there are fair games or stored puzzles."""
+    return [letter for letter in GRADES[game] if letter in fair.letters(game, size) or stored(game, size, letter)]
 
 
 def left(state: State, game: str, size: int, letter: str) -> Tuple[int, int]:
@@ -78,40 +74,6 @@ def take(state: State, game: str, size: int, letter: str) -> Optional[str]:
         # It may be offered again, which is no harm.
         pass
     return id
-
-
-def seeded(path: str, game: str, size: int, waiting: Waiting) -> str:
-    """Of some seeds the ID of the one with the fewest givens that the deductions alone solve; where none is, with the fewest givens."""
-    boards: List[Tuple[int, str]] = []
-    program = Program(path, game, waiting=waiting)
-    try:
-        for id in (f'{size}!{random.getrandbits(32)}' for _ in range(SEEDS)):
-            if waiting():
-                raise Stopped
-            program.ask(f'new {id}', waiting)
-            board = program.ask('board', waiting).board
-            if board:
-                boards.append((len(board.givens), id))
-        boards.sort()
-        if not boards:
-            raise Gone('no seeded game was made')
-        return next((id for _, id in boards if follows(program, id, waiting)), boards[0][1])
-    finally:
-        program.stop()
-
-
-def follows(program: Program, id: str, waiting: Waiting) -> bool:
-    """Whether hint after hint fills the board."""
-    program.ask(f'new {id}', waiting)
-    board: Optional[Board] = program.ask('board', waiting).board
-    while board is not None:
-        hint = program.ask('hint', waiting).hint
-        square = hint.square(board.size) if hint else None
-        if hint is None or square is None:
-            board = program.ask('board', waiting).board
-            return board is not None and board.is_solved
-        program.ask(f'move R{square[0]},{square[1]},{hint.number}', waiting)
-    return False
 
 
 def summary(path: str, saved: SavedGame, waiting: Waiting) -> str:

@@ -56,11 +56,14 @@ class LineMode:
         self._table = Table(path, state, BY_LINES, self)
         self._is_told = False
         self._is_over = False
+        #: Whether it was told that the program is at work, since something was typed.
+        self._has_told = False
         self._trouble = ''
         self._commands: Dict[str, Callable[[str], None]] = {
             'help': self._help,
             'rules': self._rules,
             'new': self._new,
+            'fair': self._fair,
             'save': self._save,
             'load': self._load,
             'open': self._open,
@@ -84,6 +87,9 @@ class LineMode:
         return answer in ('y', 'Y', 'yes')
 
     def waiting(self, may_stop: bool) -> bool:
+        if not self._has_told:
+            say('The program is at work: Ctrl-C stops it.')
+            self._has_told = True
         return self._prompt.is_stopped
 
     # --- the run ---
@@ -102,6 +108,7 @@ class LineMode:
             line = self._prompt.read(f'{self._table.game} {self._position()}> ')
             if line is None:
                 line = 'quit'
+            self._has_told = False
             if line:
                 self._answer(line)
                 self._say_message()
@@ -226,9 +233,10 @@ class LineMode:
     # --- games ---
 
     def _new(self, text: str) -> None:
-        """A game, a size and a grade in any order, or an ID."""
+        """A game, a size, a grade and a number in any order, or an ID."""
         board = self._table.board
-        words = text.split()
+        # `hard 9, number 7` as it is told; the commas of an ID stay.
+        words = (text if set(text) & set(':!#') else text.replace(',', ' ')).split()
         game = next((word.lower() for word in words if word.lower() in GAMES), self._table.game)
         words = [word for word in words if word.lower() not in GAMES]
         present = Choice(game, board.size, GRADES[game].get(board.session.letter, ''))
@@ -243,12 +251,17 @@ class LineMode:
         self._begin(choice)
 
     def _begin(self, choice: Choice) -> None:
-        id = self._table.begin_new(choice)
-        if id:
+        begun = self._table.begin_new(choice)
+        if begun:
             self._begun()
             if not choice.id:
-                say('To play it again:')
-                say_whole(f'new {id}')
+                say(*filter(None, [begun.told]), 'To play it again:')
+                say_whole(f'new {begun.words if begun.told else self._table.board.session.id}')
+
+    def _fair(self, text: str) -> None:
+        """A game by the words of the program's own line."""
+        if self._table.begin_line(self._table.game, f'fair {text}'):
+            self._begun()
 
     def _save(self, text: str) -> None:
         file = file_name(text)

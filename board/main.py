@@ -5,10 +5,10 @@ from __future__ import annotations
 import io
 import os
 import sys
-from typing import List, NamedTuple, Optional, Sequence
+from typing import List, NamedTuple, Optional, Sequence, Tuple
 
 from board.board import GAMES
-from board.choices import Choice, Unknown, are_words, choice_of, ids, remembered
+from board.choices import Choice, Unknown, are_words, choice_of, first, ids, unread, without_number
 from board.printable import printable
 from board.program import Gone
 from board.state import State
@@ -18,8 +18,8 @@ from board.version import ABOVE, about, told
 
 USAGE = """\
 usage: {me} [--lines] [GAME] [ID or FILE]
-       {me} [--lines] [GAME] [SIZE] [GRADE, seeded or today]
-       {me} --ids [GAME] [SIZE] [GRADE, seeded or today] [COUNT]
+       {me} [--lines] [GAME] [SIZE] [GRADE] [number N or today]
+       {me} --ids [GAME] [SIZE] [GRADE] [number N or today] [COUNT]
        {me} --help | --version
 
 GAME is towers or unequal. Without an ID or a save file the last game goes on,
@@ -29,8 +29,10 @@ where the terminal has no screen, games are played by lines of text, which
 
 A SIZE from 3 to 9 or a GRADE begins a new game: easy, hard, extreme and
 unreasonable in Towers, trivial, easy, tricky, extreme and recursive in
-Unequal; seeded makes one, and today is the one of the date, for everybody.
---ids prints the IDs of such games, one a line, and plays none.
+Unequal. Games up to hard or tricky are made, without end and without a guess:
+the same number N is always the same game, and today is the one of the date,
+for everybody; the others are stored puzzles. --ids prints the IDs of such
+games, one a line, and plays none.
 """
 
 #: Words that ask for help.
@@ -43,7 +45,7 @@ class Words(NamedTuple):
     game: Optional[str]
     #: An ID or a file.
     what: str = ''
-    #: A size, a grade, and what else says of which kind a new game is to be.
+    #: A size, a grade, and what else says which new game it is to be.
     kind: Sequence[str] = ()
     is_lines: bool = False
     #: How many IDs are to be printed, where some are.
@@ -63,6 +65,7 @@ def main(words: List[str], here: str) -> int:
     if words in (['--version'], ['-V']):
         return version(here)
     if asked is None:
+        complain(f'{me}: {fault(words)}')
         print(USAGE.format(me=me) + tip(me, words), end='', file=sys.stderr)
         return 2
     if not (asked.ids or (sys.stdin.isatty() and sys.stdout.isatty())):
@@ -89,12 +92,11 @@ def complain(text: str) -> None:
 
 def read(words: List[str]) -> Optional[Words]:
     """What the words ask for; nothing where they can't be read. An empty word is none."""
-    plain = [word for word in words if word not in ('--lines', '--ids', '')]
-    game = plain.pop(0) if plain and plain[0] in GAMES else None
+    game, plain = parted(words)
     if any(word.startswith('-') for word in plain) or {'--lines', '--ids'} <= set(words):
         return None
     if '--ids' in words:
-        count = plain.pop() if sum(map(is_number, plain)) > 1 and is_number(plain[-1]) else '1'
+        count = plain.pop() if has_count(plain) else '1'
         return Words(game, kind=plain, ids=int(count)) if int(count) > 0 and (are_words(plain) or not plain) else None
     asked = Words(game, is_lines='--lines' in words)
     if are_words(plain) and not (len(plain) == 1 and is_there(plain[0])):
@@ -104,10 +106,45 @@ def read(words: List[str]) -> Optional[Words]:
     return asked._replace(what=''.join(plain)) if is_read else None
 
 
+def parted(words: List[str]) -> Tuple[Optional[str], List[str]]:
+    """The game that is named, and the words that are neither this nor an option."""
+    plain = [word for word in words if word not in ('--lines', '--ids', '')]
+    return (plain[0], plain[1:]) if plain and plain[0] in GAMES else (None, plain)
+
+
+def has_count(plain: List[str]) -> bool:
+    """Whether the last word is how many IDs there are to be: not the size, which is the first number, nor the number of a game."""
+    others = without_number(plain)[0]
+    return sum(map(is_number, others)) > 1 and is_number(plain[-1]) and others[-1:] == plain[-1:]
+
+
+def fault(words: List[str]) -> str:
+    """Which of some words can't be read."""
+    game, plain = parted(words)
+    option = next((word for word in plain if word.startswith('-')), None)
+    if option is not None:
+        return f"there is no option '{option}'"
+    if '--lines' in words and '--ids' in words:
+        return '--ids plays no game, by lines or otherwise'
+    if is_id(plain):
+        return f"'{plain[0]}' fits both games: its game comes before it"
+    # Where an ID or a file was named the next word is one too many.
+    word = plain[1] if len(plain) > 1 and (is_id(plain[:1]) or is_there(plain[0])) else unread(plain)
+    if word is None:
+        return f"'{''.join(plain[-1:])}' is no number of IDs"
+    if '/' in word and len(plain) == 1:
+        return f"there is no file '{word}'"
+    return f"'{word}' is no size and no grade" if game or len(plain) > 1 else f"'{word}' is no game, no size, no grade and no file"
+
+
+def is_id(plain: List[str]) -> bool:
+    """Whether that is a game ID alone, which fits both games."""
+    return len(plain) == 1 and plain[0][:1].isdigit() and bool(set(plain[0]) & set(':#!'))
+
+
 def tip(me: str, words: List[str]) -> str:
-    """A line on words that can't be read, where it is plain what was meant: a game ID alone, which fits both games."""
-    what = words[-1] if len(words) == 1 else ''
-    return f"\nDid you mean {me} towers '{printable(what)}'?\n" if what[:1].isdigit() and set(what) & set(':#!') else ''
+    """A line on words that can't be read, where it is plain what was meant."""
+    return f"\nDid you mean {me} towers '{printable(words[0])}'?\n" if is_id(words) else ''
 
 
 def program(here: str) -> Optional[str]:
@@ -128,8 +165,7 @@ def play(path: str, asked: Words) -> int:
     """Raises `Unknown` where there is no such game as the words say."""
     state = State(os.environ)
     game = asked.game or state.last(GAMES) or 'towers'
-    last = remembered(state, game) or Choice(game, 5, 'easy')
-    choice = choice_of(asked.kind, last) if asked.kind or asked.ids else None
+    choice = choice_of(asked.kind, first(state, game)) if asked.kind or asked.ids else None
     if choice and asked.ids:
         print('\n'.join(ids(path, choice, asked.ids)))
         return 0

@@ -1,32 +1,47 @@
-"""The menu of new games: game, size, and a grade, a seed or an ID."""
+"""The menu of new games: game, size, grade or an ID, and the number of a game that is made."""
 
 from __future__ import annotations
 
-from typing import List, Optional
+from typing import List, NamedTuple, Optional
 
-from board import games
+from board import fair, games
 from board.board import GAMES
-from board.choices import SEEDED, Choice, remembered
+from board.choices import Choice, remembered
 from board.dialogues import LEAVING, Dialogues
 from board.picture import Piece, Style, wrapped
 from board.screen import Screen
 from board.state import State
 from board.typed import is_number
 
-BY_ID = 'ID'
+BY_ID = 'by an ID or a seed'
 
-#: How the kinds without a grade are shown.
-TEXTS = {SEEDED: 'seeded: no clue too many', BY_ID: 'by an ID or a seed'}
+#: What the number is to be, where none is typed.
+BY_CHANCE, TODAYS, TYPED = 'by chance', "today's", 'typed'
+
+#: A window that has fewer lines has none free between those of the menu.
+LOW = 18
+
+#: Where the values of a line begin.
+VALUES = 10
+
+
+class Row(NamedTuple):
+    title: str
+    values: List[str]
+    chosen: str
 
 
 class Menu:
-    """Up and down go through the three lines, left and right change what one says, Enter begins the game."""
+    """Up and down go through the lines, left and right change what one says, Enter begins the game. Digits are a size, or a number in its line."""
 
     def __init__(self, screen: Screen, state: State, present: Choice) -> None:
         """What was chosen last of the present game is chosen at first; where nothing was, a game as this."""
         self._screen = screen
         self._state = state
         self._line = 2
+        self._number = BY_CHANCE
+        #: The digits of a number that is typed.
+        self._digits = ''
         self._take(remembered(state, present.game) or present)
 
     def run(self) -> Optional[Choice]:
@@ -35,9 +50,11 @@ class Menu:
             self._screen.paint(self._pieces())
             name = self._screen.key().name
             if name in ('up', 'k', 'down', 'j'):
-                self._line = (self._line + (1 if name in ('down', 'j') else -1)) % 3
+                self._line = (self._line + (1 if name in ('down', 'j') else -1)) % len(self._rows())
             elif name in ('left', 'h', 'right', 'l', ' '):
                 self._change(-1 if name in ('left', 'h') else 1)
+            elif self._line == 3 and (is_number(name) or name in ('backspace', 'delete')):
+                self._type(name)
             elif is_number(name) and int(name) in games.SIZES:
                 self._size = int(name)
                 self._keep_kind()
@@ -49,16 +66,19 @@ class Menu:
                 return None
 
     def _take(self, choice: Choice) -> None:
-        self._game, self._size, self._kind = choice.game, choice.size, choice.kind
+        self._game, self._size, self._kind = choice.game, choice.size, choice.grade
         self._keep_kind()
 
     def _kinds(self) -> List[str]:
-        grades = [games.GRADES[self._game][letter] for letter in games.letters(self._game, self._size)]
-        return [*grades, *([SEEDED] if self._size in games.SEEDED_SIZES else []), BY_ID]
+        return [*(games.GRADES[self._game][letter] for letter in games.letters(self._game, self._size)), BY_ID]
 
     def _keep_kind(self) -> None:
         if self._kind not in self._kinds():
             self._kind = self._kinds()[0]
+        self._line = min(self._line, len(self._rows()) - 1)
+
+    def _has_number(self) -> bool:
+        return self._kind != BY_ID and Choice(self._game, self._size, self._kind).is_fair
 
     def _change(self, step: int) -> None:
         if self._line == 0:
@@ -66,40 +86,57 @@ class Menu:
             self._take(remembered(self._state, game) or Choice(game, self._size, self._kind))
         elif self._line == 1:
             self._size = (self._size - games.SIZES[0] + step) % len(games.SIZES) + games.SIZES[0]
+        elif self._line == 2:
+            self._kind = moved(self._kinds(), self._kind, step)
         else:
-            kinds = self._kinds()
-            self._kind = kinds[(kinds.index(self._kind) + step) % len(kinds)]
+            self._number = moved([BY_CHANCE, TODAYS, TYPED], self._number, step)
         self._keep_kind()
+
+    def _type(self, key: str) -> None:
+        """Digits, as far as they are a number."""
+        digits = self._digits[:-1] if not is_number(key) else key if self._digits in ('', '0') else self._digits + key
+        if not digits or fair.seed_of(digits) is not None:
+            self._digits, self._number = digits, TYPED
 
     def _choice(self) -> Optional[Choice]:
         if self._kind != BY_ID:
-            return Choice(self._game, self._size, self._kind)
+            choice = Choice(self._game, self._size, self._kind)
+            if not self._has_number() or self._number == BY_CHANCE:
+                return choice
+            if self._number == TYPED and not self._digits:
+                return None
+            return choice._replace(number=fair.today() if self._number == TODAYS else int(self._digits))
         text = Dialogues(self._screen, self._pieces).read('ID, or a number as the seed:')
         if not text:
             return None
         return Choice(self._game, self._size, id=f'{self._size}!{text}' if text.isdecimal() else text)
 
-    def _pieces(self) -> List[Piece]:
-        sizes = [str(size) for size in games.SIZES]
-        kinds = [TEXTS.get(kind, kind) for kind in self._kinds()]
+    def _rows(self) -> List[Row]:
         rows = [
-            ('Game', list(GAMES.values()), GAMES[self._game]),
-            ('Size', sizes, str(self._size)),
-            ('Kind', kinds, TEXTS.get(self._kind, self._kind)),
+            Row('Game', list(GAMES.values()), GAMES[self._game]),
+            Row('Size', [str(size) for size in games.SIZES], str(self._size)),
+            Row('Kind', self._kinds(), self._kind),
         ]
+        if self._has_number():
+            texts = {BY_CHANCE: BY_CHANCE, TODAYS: f'{TODAYS}: {fair.today()}', TYPED: f'{TYPED}: {self._digits or ".."}'}
+            rows.append(Row('Number', list(texts.values()), texts[self._number]))
+        return rows
+
+    def _pieces(self) -> List[Piece]:
+        lines, columns = self._screen.size
         pieces = [Piece(0, 1, 'A new game', Style.TITLE)]
         line = 2
-        columns = self._screen.size[1]
-        for at, (title, values, chosen) in enumerate(rows):
-            pieces.append(Piece(line, 1, ('> ' if at == self._line else '  ') + title, Style.TITLE if at == self._line else Style.PLAIN))
-            column = 9
-            for value in values:
-                text = f'[{value}]' if value == chosen else f' {value} '
+        for at, row in enumerate(self._rows()):
+            pieces.append(Piece(line, 1, ('> ' if at == self._line else '  ') + row.title, Style.TITLE if at == self._line else Style.PLAIN))
+            column = VALUES
+            for value in row.values:
+                is_chosen = value == row.chosen
+                text = f'[{value}]' if is_chosen else f' {value} '
                 if column + len(text) > columns:
-                    line, column = line + 1, 9
-                pieces.append(Piece(line, column, text, Style.GIVEN if value == chosen else Style.PLAIN, value == chosen and at == self._line))
+                    line, column = line + 1, VALUES
+                pieces.append(Piece(line, column, text, Style.GIVEN if is_chosen else Style.PLAIN, is_chosen and at == self._line))
                 column += len(text)
-            line += 2
+            line += 1 if lines < LOW else 2
         for text in [self._note(), games.bank_trouble(self._game), 'Enter begins it; the present game is put away.', 'Arrows choose, Escape or q goes back.']:
             for part in wrapped(text, columns - 2) or ['']:
                 pieces.append(Piece(line, 1, part))
@@ -109,8 +146,15 @@ class Menu:
     def _note(self) -> str:
         if self._kind == BY_ID:
             return "5:.. or 5!7, or the number after the '!'"
-        if self._kind == SEEDED:
-            return 'the best of 100 seeds, without guessing'
+        if self._has_number():
+            if self._line == 3 and self._number == TYPED:
+                return 'Digits are the number: the same one is always the same game.'
+            return 'the date, for everybody' if self._number == TODAYS else 'a game of its own for each number, without guessing'
         letter = Choice(self._game, self._size, self._kind).letter
         new, all_ = games.left(self._state, self._game, self._size, letter)
         return self._state.played_trouble(self._game) or f'{all_} puzzles, {new} of them new to you'
+
+
+def moved(values: List[str], value: str, step: int) -> str:
+    """The next value or the one before; after the last one comes the first."""
+    return values[(values.index(value) + step) % len(values)]

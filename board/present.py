@@ -9,6 +9,7 @@ from typing import Dict, Optional, Protocol
 
 from board import files, hints, texts
 from board.board import Board, Reply
+from board.choices import Choice, of_session
 from board.lessons import Lesson, Told
 from board.program import Gone, Program, Refused, Stopped, Waiting, save_to, started_with
 from board.state import NotKept, Shelf, State
@@ -52,6 +53,8 @@ class PresentGame:
         self.grade = ''
         #: How many hints the present game had.
         self.hints = 0
+        #: What it was chosen by, where that is known.
+        self.chosen: Optional[Choice] = None
         #: Positions after numbers whose marks went with them, and those before these marks.
         self._joined: Dict[int, int] = {}
 
@@ -290,6 +293,7 @@ class PresentGame:
         if program.first.board is None:
             raise Gone(texts.LOST if program.first.is_lost else f"it doesn't tell its board: {program.first.refused}")
         self._board = program.first.board
+        self.chosen = of_session(self.state, self._board.session)
         self.message = shelf.told
         self.state.take(shelf)
         self.hints = hints.count_in(of_hints, self.board.session.id)

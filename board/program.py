@@ -28,7 +28,7 @@ class Gone(Exception):
 
 
 class Refused(Exception):
-    """The program doesn't take the ID or the file that it was started with. The text is the name of the refusal."""
+    """The program doesn't take the ID, the file or the line by which its game was to begin. The text is the name of the refusal."""
 
 
 class Stopped(Exception):
@@ -57,7 +57,7 @@ class Program:
         self._input = self._process.stdin
         self._output = self._process.stdout.fileno()
         self._came = b''
-        #: What it tells at its start.
+        #: What it tells at the start of its game.
         self.first: Reply = self._first(waiting)
 
     def ask(self, line: str, waiting: Optional[Waiting] = None) -> Reply:
@@ -155,6 +155,20 @@ def started_with(path: str, game: str, content: bytes, waiting: Optional[Waiting
     """The program with the game that is saved in this content."""
     with text_file(content) as file:
         return Program(path, game, ['--load', f'/proc/self/fd/{file.fileno()}'], [file.fileno()], waiting)
+
+
+def begun_by(path: str, game: str, line: str, waiting: Optional[Waiting] = None) -> Program:
+    """The program with the game that a line begins. Raises `Refused`, `Gone` or `Stopped`."""
+    program = Program(path, game, waiting=waiting)
+    try:
+        reply = program.ask(line, waiting)
+        if reply.refused:
+            raise Refused(reply.refused)
+        program.first = program.ask('board', waiting)
+    except BaseException:
+        program.stop()
+        raise
+    return program
 
 
 def save_to(path: str, game: str, content: bytes, target: str, waiting: Optional[Waiting] = None) -> str:

@@ -11,7 +11,7 @@ from board import choices, files, games, hints, saves, texts
 from board.board import GAMES
 from board.choices import Choice
 from board.present import PresentGame
-from board.program import Gone, Program, Refused, Stopped, started_with
+from board.program import Gone, Program, Refused, Stopped, begun_by, started_with
 from board.state import Home, NotKept, SavedGame, Shelf, saves_in
 
 
@@ -40,37 +40,43 @@ class Table(PresentGame):
                     return
                 except Refused as refused:
                     shelf, told = self._past_damaged(game, shelf, texts.of_save(str(refused), game))
-            program = self._stored(game)
+            choice = choices.first(self.state, game).numbered
+            program = self._new(choice)
         except Stopped as stopped:
             raise Gone('it gave no answer') from stopped
         self._take(program, shelf)
+        self._choose(choice)
         new = 'A new game; ? shows the keys.' if self.ways is texts.BY_KEYS else ''
-        self.message = ' '.join(filter(None, [self.message, told, self.state.played_trouble(game), new]))
+        trouble = '' if choice.is_fair else self.state.played_trouble(game)
+        self.message = ' '.join(filter(None, [self.message, told, trouble, choice.told, new]))
 
     def begin(self, game: str, id: str) -> bool:
         """Begins the puzzle of an ID."""
         return self._begin(game, partial(Program, self.path, game, ['--id', id]), texts.of_id)
 
-    def begin_new(self, choice: Choice) -> str:
-        """Begins a new game, and remembers its size and kind. Gives its ID, by which it is played again; nothing where none has begun."""
-        told = ''
-        if choice.is_seeded and choice.size not in games.SEEDED_SIZES:
-            choice, told = choice._replace(kind=''), f'{choices.ONLY_SMALL}; this one is of the stored puzzles.'
-        self.message = ''
-        try:
-            id = choices.id_of(self.path, self.state, choice, self.waiting())
-        except Stopped:
-            self.message = texts.STOPPED
-            return ''
-        except Gone as gone:
-            self.message = f'The program says: {gone}.'
-            return ''
-        trouble = '' if choice.id or choice.is_seeded else self.state.played_trouble(choice.game)
-        if not self.begin(choice.game, id):
-            return ''
-        choices.remember(self.state, choice)
-        self.message = ' '.join(filter(None, [told, self.message, trouble]))
-        return id
+    def begin_new(self, choice: Choice) -> Optional[Choice]:
+        """Begins a new game, and remembers its size and grade. Gives it with what it is played again by; nothing where none has begun."""
+        asked, choice, trouble = choice, choice.numbered, ''
+        if choice.is_fair:
+            has_begun = self.begin_line(choice.game, choice.line)
+        elif choice.id:
+            has_begun = self.begin(choice.game, choice.id)
+        else:
+            has_begun = self.begin(choice.game, games.take(self.state, choice.game, choice.size, choice.letter) or '')
+            trouble = self.state.played_trouble(choice.game)
+        if not has_begun:
+            return None
+        choices.remember(self.state, asked)
+        self.message = f'{self.message} {trouble}'.strip()
+        return choice
+
+    def begin_line(self, game: str, line: str) -> bool:
+        """Begins the fair game of a line of the program."""
+        has_begun = self._begin(game, partial(begun_by, self.path, game, line), texts.of_fair)
+        if has_begun:
+            _, size, letter, number = line.split()
+            self._choose(Choice(game, int(size), games.GRADES[game][letter], int(number)))
+        return has_begun
 
     def open(self, game: str, file: str, of_hints: bytes = b'') -> bool:
         """Goes on with a saved game; where it is the other game's, with that. What is kept of its hints is told."""
@@ -151,13 +157,21 @@ class Table(PresentGame):
         self._take(program, shelf, of_hints)
         return True
 
-    def _stored(self, game: str) -> Program:
-        """A new puzzle as the last one that was chosen; at first a small one."""
-        id = choices.id_of(self.path, self.state, choices.remembered(self.state, game) or Choice(game, 5, 'easy'), self.waiting())
+    def _new(self, choice: Choice) -> Program:
+        """A new game, where none is kept."""
         try:
-            return Program(self.path, game, ['--id', id], waiting=self.waiting())
+            if choice.is_fair:
+                return begun_by(self.path, choice.game, choice.line, self.waiting())
+            id = games.take(self.state, choice.game, choice.size, choice.letter) or ''
+            return Program(self.path, choice.game, ['--id', id], waiting=self.waiting())
         except Refused as refused:
-            raise Gone(f"it doesn't take the puzzle {id}: {refused}") from refused
+            raise Gone(f"it doesn't take a new game: {refused}") from refused
+
+    def _choose(self, choice: Choice) -> None:
+        """The present game has begun by that."""
+        self.chosen = choice
+        if choice.number is not None:
+            choices.remember_number(self.state, choice, self.board.session.id)
 
     def _past_damaged(self, game: str, shelf: Shelf, why: str) -> Tuple[Shelf, str]:
         """Where a new game is kept though a kept one is no save, and a sentence on that one: it is put away, or stays where it is."""

@@ -6,6 +6,7 @@ import re
 from typing import Dict, Mapping, NamedTuple
 
 from board.board import GAMES
+from board.fair import OFFERED
 from board.games import GRADES
 from board.saves import game_in
 
@@ -53,6 +54,15 @@ IDS: Dict[str, str] = {
     'BadSeed': "A seed is a number from 0 to 18446744073709551615, without leading zeros: '5!7'.",
     'SizeTooLarge': 'Seeded games have the sizes 3 to 6.',
     'Graded': "A seeded game has no difficulty letter: '5!7'.",
+}
+
+#: The line that begins a fair game. What is offered is put in.
+FAIR: Dict[str, str] = {
+    'BadSize': 'Sizes go from 3 to 9: one digit from 3 to 9.',
+    'BadLetter': 'The grades of such games are {letters}, {last} from size 4 on.',
+    'BadSeed': 'The number of a game goes from 0 to 18446744073709551615, without leading zeros.',
+    'NoneFound': 'That number gives no such game: another one does.',
+    'BadCommand': "'fair 5 e 20261126' begins a game: its size, the letter of its grade, and its number.",
 }
 
 #: Descriptions, by the game.
@@ -123,6 +133,8 @@ def of_line(line: str, name: str, game: str, size: int, ways: Ways) -> str:
     """What there is to say where a line is refused."""
     if name == 'BadCommand' and re.match('list( |$)', line):
         return "'list 5' shows the first five solutions: a number from 1 to 100."
+    if line.startswith('fair'):
+        return of_fair(name, game)
     if name in LINES:
         return LINES[name].format(commands=ways.commands)
     if line.startswith('new'):
@@ -149,6 +161,13 @@ def of_id(name: str, game: str) -> str:
     *first, last = GRADES[game]
     found = IDS.get(name) or LINES.get(name) or DESCRIPTIONS[game].get(name) or 'The program refuses that ID: {name}.'
     return found.format(name=name, letters=f'{", ".join(first)} or {last}')
+
+
+def of_fair(name: str, game: str) -> str:
+    """What there is to say where the line of a fair game is refused."""
+    letters = [f"'{letter}'" for letter in OFFERED[game]]
+    found = FAIR.get(name) or LINES.get(name) or 'The program refuses that game: {name}.'
+    return found.format(name=name, letters=f'{", ".join(letters[:-1])} and {letters[-1]}', last=letters[-1])
 
 
 def of_foreign(content: bytes) -> str:

@@ -9,12 +9,11 @@ from typing import Any, Callable, Dict, List, Mapping, NamedTuple, Optional, Tup
 
 from board import games, hints, picture, texts
 from board.board import GAMES
-from board.choices import SEEDED, Choice, Unknown, choice_of, remembered
+from board.choices import NUMBER, Choice, Unknown, choice_of, remembered
 from board.file_names import offered
 from board.lessons import Told
 from board.state import State
 from board.table import Table
-from board.typed import is_number
 
 #: The bytes that a line may have, as the program has it.
 MOST_LINE = 1024
@@ -182,6 +181,9 @@ class House:
             raise TooLong
         if line.startswith('new '):
             return self._begin(Choice(self.table.game, self.table.board.size, id=line[4:].strip()))
+        if line.startswith('fair '):
+            self.table.begin_line(self.table.game, line)
+            return {}
         reply = self.table.play(line)
         return {'lines': reply.lines} if reply and reply.lines != ['ok'] else {}
 
@@ -197,16 +199,17 @@ class House:
         return {'steps': [{**shown(part), 'text': part.text} for part in (lesson.part(at, board) for at in range(lesson.length()))]} if lesson else {}
 
     def _new(self, asked: Asked) -> Said:
-        """By the words that choose a game on the command line, too; or by an ID, or a number, which is a seed."""
+        """By the words that choose a game on the command line, too, its number among them; or by an ID."""
         game, size, kind, id = (text_of(asked, name) for name in ('game', 'size', 'kind', 'id'))
         if game not in GAMES:
             raise Wrong
+        number = [NUMBER, id] if id.isdecimal() else []
         try:
-            choice = choice_of([word for word in (size, kind) if word], self._last(game))
+            choice = choice_of([word for word in (size, kind) if word] + number, self._last(game))
         except Unknown as unknown:
             self.table.message = str(unknown)
             return {}
-        return self._begin(choice._replace(kind='', id=f'{choice.size}!{id}' if is_number(id) else id) if id else choice)
+        return self._begin(Choice(game, choice.size, id=id) if id and not number else choice)
 
     def _id(self, asked: Asked) -> Said:
         """An ID of which it isn't told which game it is of: this one, or else the other."""
@@ -218,19 +221,19 @@ class House:
         return {}
 
     def _begin(self, choice: Choice) -> Said:
-        id = self.table.begin_new(choice)
-        if id and choice.is_seeded:
-            self.table.message = f'{self.table.message} A seeded game; to play it again: New, by the ID {id}'.strip()
+        begun = self.table.begin_new(choice)
+        if begun and begun.told:
+            self.table.message = f'{self.table.message} {begun.told} That number is always this game.'.strip()
         return {}
 
     def _kinds(self, _: Asked) -> Said:
         """What new games there are, and what was chosen last of each."""
         kinds = {game: {size: {kind: kind for kind in kinds_of(game, size)} for size in games.SIZES} for game in GAMES}
-        return {'kinds': kinds, 'last': {game: [self._last(game).size, self._last(game).kind] for game in GAMES}}
+        return {'kinds': kinds, 'last': {game: [self._last(game).size, self._last(game).grade] for game in GAMES}}
 
     def _last(self, game: str) -> Choice:
         """What was chosen last of a game; where nothing was, one as this."""
-        return remembered(self.table.state, game) or Choice(game, self.table.board.size, '')
+        return remembered(self.table.state, game) or Choice(game, self.table.board.size)
 
     def _saved(self, _: Asked) -> Said:
         return {'saved': [[saved.path, self.table.told_of(saved)] for saved in self.table.saved_games('')], 'message': self.table.state.old_trouble()}
@@ -273,14 +276,13 @@ def shown(told: Told) -> Said:
 
 @lru_cache(maxsize=None)
 def kinds_of(game: str, size: int) -> List[str]:
-    """The kinds of new games of that size, beside those by a seed or an ID."""
-    grades = [games.GRADES[game][letter] for letter in games.letters(game, size)]
-    return [*grades, *([SEEDED] if size in games.SEEDED_SIZES else [])]
+    """The grades of the new games of that size."""
+    return [games.GRADES[game][letter] for letter in games.letters(game, size)]
 
 
 def state_of(table: Table) -> Said:
     """What every page sees: the board and the session as the program tells them, and what the board on the terminal says beside them."""
-    board = table.board
+    board, chosen = table.board, table.chosen
     return {
         'title': picture.name(board),
         'grade': picture.grades(board, table.grade),
@@ -290,6 +292,7 @@ def state_of(table: Table) -> Said:
         'hints': hints.told(table.hints),
         'trouble': table.trouble,
         'tidy': table.do_marks_go,
+        'chosen': [chosen.told, f'puzzles-page {chosen.game} {chosen.words}'] if chosen and chosen.told else [],
         'session': board.session._asdict(),
         'board': board.told,
     }

@@ -11,8 +11,8 @@ from typing import List, NoReturn
 
 from board import files
 from board.board import GAMES
-from board.choices import Choice, Unknown, choice_of, remembered
-from board.main import HELP, Words, complain, program, read, tip, version
+from board.choices import Unknown, choice_of, first
+from board.main import HELP, Words, complain, fault, program, read, tip, version
 from board.program import Gone
 from board.state import State
 from page import browser
@@ -21,7 +21,7 @@ from page.house import House
 
 USAGE = """\
 usage: {me} [--no-browser] [GAME] [ID or FILE]
-       {me} [--no-browser] [GAME] [SIZE] [GRADE, seeded or today]
+       {me} [--no-browser] [GAME] [SIZE] [GRADE] [number N or today]
        {me} --help | --version
 
 Opens the board in a browser. GAME is towers or unequal. Without an ID or a
@@ -54,6 +54,7 @@ def main(words: List[str], here: str) -> int:
     plain = [word for word in words if word != NO_BROWSER]
     asked = read(plain)
     if asked is None or asked.is_lines or asked.ids:
+        complain(f'{me}: {"there are no lines of text here, and no IDs are printed" if asked else fault(plain)}')
         print(USAGE.format(me=me) + tip(me, plain), end='', file=sys.stderr)
         return 2
     path = program(here)
@@ -85,7 +86,7 @@ def serve(path: str, asked: Words, opens: bool) -> int:
     house = House(path, state)
     try:
         if asked.kind:
-            house.table.begin_new(choice_of(asked.kind, remembered(state, game) or Choice(game, 5, 'easy')))
+            house.table.begin_new(choice_of(asked.kind, first(state, game)))
         else:
             house.table.start(game, asked.what)
         if not house.table.has_game:

@@ -2,7 +2,7 @@
 
 main, words, writing        the words of the command line, what is told, where the page goes
 choice, likeness            which puzzles come onto the sheet, and whether two solutions are one, turned over
-lists, seeds                where they come from: IDs and save files, or games by grade, size and seed
+lists, seeds                where they come from: IDs and save files, or fair games by size, grade and seed
 puzzles, steps              a puzzle with its only answer, and how that goes on, as the program says
 pages, answers, listing     the page in HTML: puzzles, answers and steps
 layout                      how many puzzles a page can have, and how large their squares are

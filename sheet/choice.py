@@ -12,7 +12,7 @@ from sheet.seeds import Kind, Seeds
 #: A sheet has no more puzzles, and of a list no more lines are told that are wrong.
 MOST = 200
 
-#: After so many puzzles of seeds in a row whose solution is on the sheet the first of them that isn't there itself is taken.
+#: After so many puzzles of a kind in a row whose solution is on the sheet the first of them that isn't there itself is taken.
 ALIKE = 60
 
 #: Called with the number of puzzles that there are, as one more is there.

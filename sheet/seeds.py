@@ -1,25 +1,21 @@
-"""Puzzles by grade, size and seed: the games of seeds, from one on, of those whose grade is the one that is asked for, as the program finds it."""
+"""Puzzles by size, grade and seed: fair games, of the seeds from one on, as the program makes them."""
 
 from __future__ import annotations
 
 from typing import Dict, Iterator, List, NamedTuple, Sequence
 
+from board import fair
 from board.board import GAMES, Reply
 from board.games import GRADES
 from sheet.puzzles import Programs, Puzzle, Unfit, proved
 
-#: Seeds are below this; after the last one comes the first.
-SEEDS = 1 << 64
+#: After so many seeds in a row of which the program makes no game no more are tried.
+TRIES = 100
 
-#: After so many seeds in a row whose puzzles have another grade no more are tried.
-TRIES = 1000
-
-#: The letters of the grades by whose steps the program finds that puzzles follow.
-LETTERS = {'towers': 'eh', 'unequal': 'tek'}
-
-#: What there is to say where the program makes no puzzle of a seed, by the name of its refusal.
-REFUSED = {'SizeTooLarge': '{game} of size {size} is not made from seeds: --ids prints puzzles that there are.'}
+#: What there is to say where the program makes no games of a kind, by the name of its refusal; and refusals of a seed alone.
+REFUSED = {'BadLetter': '{game} of size {size} has no {grade} puzzles: --ids prints puzzles that there are.'}
 OTHERWISE = 'The program refuses that: {name}.'
+OF_THE_SEED = ('BadSeed', 'NoneFound')
 NONE_FOUND = 'No {grade} puzzle of {game} of size {size} was found with the {tries:,} seeds from {first} to {last}.'
 
 
@@ -34,7 +30,7 @@ class Kind(NamedTuple):
 
 def kinds(game: str, sizes: Sequence[int], letters: Sequence[str]) -> List[Kind]:
     """Rising by size, and then by grade."""
-    return [Kind(game, size, letter) for size in sorted(set(sizes)) for letter in LETTERS[game] if letter in letters]
+    return [Kind(game, size, letter) for size in sorted(set(sizes)) for letter in fair.OFFERED[game] if letter in letters]
 
 
 def shared(every: Sequence[Kind], count: int) -> List[Kind]:
@@ -43,35 +39,37 @@ def shared(every: Sequence[Kind], count: int) -> List[Kind]:
 
 
 class Seeds:
-    """The puzzles of some seeds, from the first one on. Each seed is looked at once, whichever kinds are asked for."""
+    """The puzzles of some seeds, from the first one on. Each kind has each seed once: they are not the same games."""
 
     def __init__(self, programs: Programs, first: int) -> None:
         self._programs = programs
-        self._next = first
+        self._first = first
+        #: The seed that comes next, of each kind that was begun.
+        self._next: Dict[Kind, int] = {}
 
     def check(self, every: Sequence[Kind]) -> None:
-        """Raises `Unfit` where one of the sizes is not made."""
-        for kind in every:
-            self._ask(kind, f'new {kind.size}!{self._next}')
+        """Raises `Unfit` where one of the kinds is not made: a seed that there isn't is refused last, so nothing has to be made for that."""
+        for kind in dict.fromkeys(every):
+            self._begin(kind, fair.SEEDS)
 
     def puzzles(self, kind: Kind) -> Iterator[Puzzle]:
-        """One after the other. Raises `Unfit` where none is found any more."""
-        seed, tries = self._next, 0
+        """One after the other; after the last seed comes 0. Raises `Unfit` where none is found any more."""
+        seed, tries = self._first, 0
         while tries < TRIES:
-            seed, self._next = self._next, (self._next + 1) % SEEDS
-            self._ask(kind, f'new {kind.size}!{seed}')
+            seed = self._next.get(kind, self._first)
+            self._next[kind] = (seed + 1) % fair.SEEDS
             tries += 1
-            if self._ask(kind, 'grade').grade == kind.letter:
+            if self._begin(kind, seed):
                 yield proved(self._programs, kind.game)
                 tries = 0
-        raise Unfit(NONE_FOUND.format(tries=tries, first=(seed - tries + 1) % SEEDS, last=seed, **_words(kind)))
+        raise Unfit(NONE_FOUND.format(tries=tries, first=(seed - tries + 1) % fair.SEEDS, last=seed, **_words(kind)))
 
-    def _ask(self, kind: Kind, line: str) -> Reply:
-        """The reply to a line. Raises `Unfit` where it is refused."""
-        reply = self._programs.ask(kind.game, line)
-        if reply.refused is not None:
-            raise Unfit(REFUSED.get(reply.refused, OTHERWISE).format(name=reply.refused, **_words(kind)))
-        return reply
+    def _begin(self, kind: Kind, seed: int) -> bool:
+        """Begins the game of a seed; false where that has none. Raises `Unfit` where no seed has one."""
+        reply: Reply = self._programs.ask(kind.game, fair.line(kind.size, kind.letter, seed))
+        if reply.refused in (None, *OF_THE_SEED):
+            return reply.refused is None
+        raise Unfit(REFUSED.get(str(reply.refused), OTHERWISE).format(name=reply.refused, **_words(kind)))
 
 
 def _words(kind: Kind) -> Dict[str, object]:

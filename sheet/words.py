@@ -8,10 +8,10 @@ import shlex
 from typing import Callable, List, NamedTuple, NoReturn, Optional, Sequence
 
 from board.board import GAMES
-from board.games import GRADES, SEEDED_SIZES, SIZES
+from board.fair import OFFERED, SEEDS, SIZES
+from board.games import GRADES
 from sheet.choice import MOST
 from sheet.measures import PAPERS
-from sheet.seeds import LETTERS, SEEDS
 
 USAGE = """\
 usage: {me} GAME [--size W] [--grade GRADE] [--seed N] [--count N] [FORM]
@@ -22,7 +22,7 @@ Makes a page in HTML with puzzles for print, and their answers. A browser shows
 and prints it. GAME is towers or unequal.
 
 Which puzzles:
-  --size W         3 to 6; several as 4-6 or 3,5; else 5
+  --size W         3 to 9; several as 5-7 or 3,5; else 5
   --grade GRADE    of towers easy or hard; of unequal trivial, easy or tricky;
                    several as easy,hard; else easy
   --seed N         other puzzles for each number; else 1
@@ -146,20 +146,20 @@ def _number(least: int, most: int) -> Callable[[str], int]:
 
 
 def _sizes(text: str) -> List[int]:
-    """Of `5`, `4-6`, `3,5`, or both; of a size that isn't made from seeds the program says so."""
+    """Of `5`, `5-7`, `3,5`, or both."""
     sizes: List[int] = []
     for piece in text.split(','):
         first, _, last = piece.partition('-')
         ends = [int(word) for word in (first, last or first) if NUMBER.fullmatch(word)]
         if len(ends) != 2 or not SIZES[0] <= ends[0] <= ends[1] <= SIZES[-1]:
-            raise argparse.ArgumentTypeError(f'{SEEDED_SIZES[0]} to {SEEDED_SIZES[-1]}, several as 4-6 or 3,5')
+            raise argparse.ArgumentTypeError(f'{SIZES[0]} to {SIZES[-1]}, several as 5-7 or 3,5')
         sizes += range(ends[0], ends[1] + 1)
     return sizes
 
 
 def _letters(game: str, text: str) -> List[str]:
     """Of `easy`, or `easy,hard`. Raises `Wrong`, also for grades that no steps of the program have."""
-    letters = {GRADES[game][letter]: letter for letter in LETTERS[game]}
+    letters = {GRADES[game][letter]: letter for letter in OFFERED[game]}
     for name in text.split(','):
         if name not in letters:
             made = ' or '.join(', '.join(letters).rsplit(', ', 1))

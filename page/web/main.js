@@ -139,7 +139,7 @@ const actions = {
   async new() { const answer = await send({do: 'kinds'}); if (answer?.kinds) dialogs.fresh(answer, state.session.game, words.games); },
   async open() { const answer = await send({do: 'saved'}); if (answer?.saved) dialogs.saved(answer.saved); },
   'save as'() { Object.assign(document.createElement('a'), {href: 'save', download: ''}).click(); },
-  'show ID'() { dialogs.page(`The ID of this puzzle, ${state.title}`, [state.session.id, '', 'To play it again: New, by an ID, or drop it onto this page.']); },
+  'show ID'() { dialogs.page(`The ID of this puzzle, ${state.title}`, [state.session.id, '', 'To play it again: New, by an ID, or drop it onto this page.', '', ...state.chosen]); },
   help() { dialogs.page('Keys and rules', [...words.keys, '', words.games[state.session.game], ...words.rules[state.session.game]]); },
   async command() { const text = await dialogs.ask('A command of the program:', ''); if (typeof text === 'string') line(text); },
   quit() { tell('The game is kept after each change: close this page when you like.'); },

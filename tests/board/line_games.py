@@ -6,6 +6,7 @@ from typing import List
 
 from tests.board.playing import Game, Refused, Step
 from tests.harness.game import ID, save_text
+from tests.second_implementation.fair import fair
 
 #: These words are refused, the last ones since there is no terminal.
 REFUSED = [
@@ -29,6 +30,9 @@ UNEQUAL_BOARD = """\
 1 . . .
   ^ - -
 2 . . ."""
+
+#: The game of Towers of size 7 that is easy and has the number 7.
+FAIR = f'7de:{fair("towers", 7, "e", 7).description()}'
 
 GAMES: List[Game] = [
     Game(
@@ -120,13 +124,27 @@ GAMES: List[Game] = [
         'new games',
         ['towers'],
         [
-            Step(['new 6'], ['To play it again:\nnew 6d']),
+            Step(['new 6'], ['To play it again:\nnew 6 easy number ']),
             Step(['new towers 6 tricky'], ["Towers has no grade 'tricky': easy, hard, extreme or unreasonable."]),
-            Step(['new hard'], ['To play it again:\nnew 6dh:']),
-            Step(['new seeded 3'], ['To play it again:\nnew 3!']),
-            Step(['new 9 seeded'], ['Seeded games have the sizes 3 to 6', 'To play it again:\nnew 9d']),
-            Step(['new unequal 4 trivial'], ['To play it again:\nnew 4dt:', 'unequal 1/1> ']),
+            Step(['new hard'], ['To play it again:\nnew 6 hard number ']),
+            # A size that has no hard games gives an easy one, and hard stays what was chosen.
+            Step(['new seeded 3'], ['To play it again:\nnew 3 easy number ']),
+            Step(['new 4'], ['To play it again:\nnew 4 hard number ']),
+            Step(['new 7 easy, number 007'], ['Easy 7, number 7.\nTo play it again:\nnew 7 easy number 7\n']),
+            Step(['id'], [FAIR]),
+            Step(['new 9 extreme'], ['To play it again:\nnew 9dx:']),
+            Step(['new 4 number 18446744073709551615'], ['Easy 4, number 18446744073709551615.']),
+            Step(['new 4 number 18446744073709551616'], ['A number goes from 0 to 18446744073709551615']),
+            Step(['new 4 number'], ['A number goes from 0 to 18446744073709551615']),
+            Step(['new 4 extreme number 7'], ['Of size 4 the grades easy and hard have numbers.']),
+            Step(['new unequal 4 trivial'], ['To play it again:\nnew 4 trivial number ', 'unequal 1/1> ']),
             Step(['new 2'], ['one digit from 3 to 9']),
+            Step(['new towers', 'fair 7 e 7'], ['towers 1/1> ']),
+            Step(['id'], [FAIR]),
+            Step(['fair 10 x x'], ['one digit from 3 to 9']),
+            Step(['fair 3 h x'], ["The grades of such games are 'e' and 'h', 'h' from size 4 on."]),
+            Step(['fair 4 h 07'], ['The number of a game goes from 0 to 18446744073709551615, without leading zeros.']),
+            Step(['fair 4'], ["'fair 5 e 20261126' begins a game"]),
         ],
         first=['towers 1/1> '],
     ),

@@ -172,7 +172,7 @@ def test_other_game(front: BoardFront, room: Room) -> None:
     assert known(room, path) == before, 'what was there'
     with front.window(['--lines', 'towers', ID], LOW) as window:
         os.utime(os.path.join(room.path, path), (2e9, 2e9))
-        window.look('new unequal 4<enter>', [told, 'new 4d'])
+        window.look('new unequal 4<enter>', [told, 'new 4 easy number '])
         window.leave('q<enter>')
 
 

@@ -5,22 +5,24 @@ from __future__ import annotations
 import os
 import re
 import time
-from typing import List, Tuple
+from typing import List, NamedTuple, Sequence, Tuple
 
 import pytest
 
-from board.games import stored
 from tests.board.front import BoardFront
-from tests.harness import Room, run
+from tests.harness import Room, by_name, run
+from tests.second_implementation.fair import fair
+
+TODAY = time.strftime('%Y%m%d')
 
 #: Words, and what each of the IDs that they print is, as a pattern; and how many there are.
 IDS: List[Tuple[List[str], str, int]] = [
     (['unequal', '6', 'tricky', '12'], '6dk:.*', 12),
     (['unequal', 'tricky', '6'], '6dk:.*', 1),
     (['towers', '9', 'easy', '20'], '9de:.*', 20),
-    (['towers', '3', 'seeded', '2'], '3![0-9]+', 2),
-    (['towers', '4', 'today'], '4!DATE', 1),
-    (['unequal', 'today'], '5!DATE', 1),
+    (['towers', '3', 'seeded', '2'], '3de:.*', 2),
+    (['towers', '4', 'today'], '4de:.*', 1),
+    (['towers', '8', 'unreasonable', '50'], '8du:.*', 50),
     ([], '5de:.*', 1),
 ]
 
@@ -31,43 +33,90 @@ def test_ids(front: BoardFront, room: Room, words: List[str], pattern: str, coun
     ended = run([front.path, '--ids', *words], room, env=front.env())
     ids = ended.output.decode().splitlines()
     assert (ended.status, ended.error, len(set(ids))) == (0, b'', count)
-    wanted = pattern.replace('DATE', time.strftime('%Y%m%d'))
-    assert [id for id in ids if not re.fullmatch(wanted, id)] == []
+    assert [id for id in ids if not re.fullmatch(pattern, id)] == []
     assert room.paths() == []
+
+
+class Numbered(NamedTuple):
+    """Words, and which fair games' IDs they print, from a number on."""
+
+    words: Sequence[str]
+    game: str
+    size: int
+    letter: str
+    number: int
+    many: int = 1
+
+    @property
+    def name(self) -> str:
+        return ' '.join(self.words)
+
+
+NUMBERED = [
+    Numbered(['towers', '6', 'hard', 'number', '20261126', '3'], 'towers', 6, 'h', 20261126, 3),
+    Numbered(['number', '0', 'unequal', 'trivial', '7'], 'unequal', 7, 't', 0),
+    Numbered(['unequal', '4', 'number', '18446744073709551615', '2'], 'unequal', 4, 'e', 2**64 - 1, 2),
+    Numbered(['towers', 'today'], 'towers', 5, 'e', int(TODAY)),
+    Numbered(['unequal', 'TODAY', '6', 'Tricky'], 'unequal', 6, 'k', int(TODAY)),
+]
+
+
+@pytest.mark.parametrize('row', NUMBERED, ids=by_name)
+def test_numbers(front: BoardFront, room: Room, row: Numbered) -> None:
+    """The same number gives the same game, as the second implementation makes it; after the last one comes 0."""
+    ended = run([front.path, '--ids', *sorted(row.words, key=lambda word: word != row.game)], room, env=front.env())
+    made = [fair(row.game, row.size, row.letter, (row.number + at) % 2**64).description() for at in range(row.many)]
+    assert ended.output.decode().splitlines() == [f'{row.size}d{row.letter}:{description}' for description in made]
+
+
+def test_few(front: BoardFront, room: Room) -> None:
+    """Of easy Towers of size 3 there are as many as Latin squares."""
+    ended = run([front.path, '--ids', 'towers', '3', 'easy', '12'], room, env=front.env())
+    assert len(set(ended.output.split())) == 12
+    ended = run([front.path, '--ids', 'towers', '3', 'easy', '13'], room, env=front.env())
+    assert (ended.status, ended.output, ended.error) == (2, b'', b'puzzles-play: So many there are of them: 12.\n')
 
 
 def test_words(front: BoardFront, room: Room) -> None:
     """A game begins, the one before is put away, and the next new one is of the same size and grade, of each game its own."""
     for words, shows in [
-        (['unequal', '6', 'tricky'], ['Unequal 6x6', 'tricky', '0 of ']),
-        (['towers', '4', 'Hard'], ['Towers 4x4', 'hard', '0 of ']),
+        (['unequal', '6', 'extreme'], ['Unequal 6x6', 'extreme', '0 of ']),
+        (['towers', '4', 'Hard'], ['Towers 4x4', 'hard', '0 of ', 'Hard 4, number ']),
         (['7'], ['Towers 7x7', 'hard', '0 of ']),
-        (['towers', 'today'], ['Towers 5x5', f'A seeded game; to play it again: n, by an ID, 5!{time.strftime("%Y%m%d")}']),
+        (['towers', 'today'], ['Towers 5x5', f'Easy 5, number {TODAY}. That number is always this game.']),
     ]:
         with front.window(words) as window:
             window.look('', shows)
             window.leave('q')
     with front.window([]) as window:
-        window.look('n', ['[Towers]', '[7]', '[hard]', '50 puzzles, 49 of them new to you'])
-        window.look('<up><up><right>', ['[Unequal]', '[6]', '[tricky]', '200 puzzles, 199 of them new to you'])
+        window.look('n', ['[Towers]', '[7]', '[hard]', '[by chance]'])
+        window.look('<up><up><right>', ['[Unequal]', '[6]', '[extreme]', '200 puzzles, 199 of them new to you'])
         window.look('q', ['Towers 5x5'], ['A new game'])
         window.press('q')
         window.status()
     for path in [path for path in room.paths() if path.endswith('.sav')]:
         room.remove(path)
-    with front.window(['unequal']) as window:
-        window.look('', ['Unequal 6x6', 'tricky', 'A new game; ? shows the keys.'])
+    for words, shows in [(['unequal'], ['Unequal 6x6', 'extreme']), (['towers'], ['Towers 7x7', 'hard', 'Hard 7, number '])]:
+        with front.window(words) as window:
+            window.look('', [*shows, 'A new game; ? shows the keys.'])
+            window.leave('q')
+
+
+def test_first(front: BoardFront) -> None:
+    """On a machine where nothing was played yet."""
+    with front.window([]) as window:
+        window.look('', ['Towers 5x5', 'easy', 'Easy 5, number ', 'A new game; ? shows the keys.'])
         window.leave('q')
 
 
 def test_words_in_lines(front: BoardFront, room: Room) -> None:
     with front.window(['--lines', 'unequal', '4', 'trivial']) as window:
-        window.look('', ['To play it again:', 'new 4dt:', 'unequal 1/1>'])
+        window.look('', ['To play it again:', 'new 4 trivial number ', 'unequal 1/1>'])
         window.look('id<enter>', ['4dt:'])
-        window.look('new 3<enter>', ['To play it again:', 'new 3dt:'])
-        window.look('new today<enter>', [f'new 5!{time.strftime("%Y%m%d")}'])
+        window.look('new 3<enter>', ['To play it again:', 'new 3 trivial number '])
+        window.look('new today<enter>', [f'new 5 easy number {TODAY}'])
         window.look('new 9 recursive<enter>', ['Of size 9 there are puzzles of the grades trivial, easy, tricky and extreme.'])
-        window.look('new 9<enter>', ['new 9dt:'])
+        window.look('new 8<enter>', ['new 8 trivial number '])
         window.leave('q<enter>')
     with front.window(['unequal', '9', 'hard'], (24, 120)) as window:
         window.look('', ["Unequal has no grade 'hard': trivial, easy, tricky, extreme or recursive."])
@@ -83,7 +132,6 @@ def test_a_file_first(front: BoardFront, room: Room) -> None:
     os.remove(os.path.join(room.path, '6'))
     with front.window(['towers', '6']) as window:
         window.look('', ['Towers 6x6', 'easy'])
-    assert stored('towers', 6, 'e'), 'there are such puzzles'
 
 
 def test_no_place_for_choices(front: BoardFront, room: Room) -> None:

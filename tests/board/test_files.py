@@ -4,6 +4,7 @@ from __future__ import annotations
 
 import os
 import re
+import time
 from typing import List, Set, Tuple
 
 from board import games
@@ -11,6 +12,7 @@ from board.state import OLD_GAMES, State
 from tests.board.front import BoardFront
 from tests.harness import Room
 from tests.harness.game import ID, save_text
+from tests.second_implementation.fair import fair
 
 SAVE = save_text(2)
 
@@ -34,11 +36,12 @@ def test_put_away(front: BoardFront, room: Room) -> None:
     """The present game goes to the last ten, and comes back from there."""
     with front.window(['towers', ID]) as window:
         window.look('1', ['1 of 9'])
-        window.look('n', ['A new game', '[easy]', '12 puzzles, 12 of them new to you'])
-        window.look('<enter>', ['0 of ', 'Towers 3x3   easy'])
-        window.look('n', ['12 puzzles, 11 of them new to you'])
-        window.look('<up><up><right><down>5<down><left><left><left>', ['[Unequal]', '[5]', '[seeded: no clue too many]'])
-        window.look('<left>4<enter>', ['Unequal 4x4   recursive'])
+        window.look('n', ['A new game', '[easy]', '[by chance]'])
+        window.look('<right>', ['[extreme]', '50 puzzles, 50 of them new to you'], ['by chance'])
+        window.look('<enter>', ['0 of ', 'Towers 3x3   extreme'])
+        window.look('n', ['50 puzzles, 49 of them new to you'])
+        window.look('<up><up><right><down>5<down>', ['[Unequal]', '[5]', '[extreme]'])
+        window.look('<right>4<enter>', ['Unequal 4x4   recursive'])
         window.look('o', ['Towers 3x3, 1 of 9', 'a file ..'])
         window.look('0', ['Towers 3x3', '1 of 9', 'move 1/1'])
         window.look('o', ['0 a file ..'])
@@ -46,19 +49,46 @@ def test_put_away(front: BoardFront, room: Room) -> None:
     assert room.read('state/puzzles/towers.sav') == save_text(1), 'it is the present one'
 
 
-def test_seeded(front: BoardFront, room: Room) -> None:
-    """A seeded game tells its ID, by which it is played again."""
+def test_number(front: BoardFront, room: Room) -> None:
+    """A fair game tells its number, by which it is played again: typed in the menu, or behind the name of the command."""
     with front.window(['unequal', '3!7']) as window:
-        window.look('n<left><left>', ['[seeded: no clue too many]'])
-        window.look('<enter>', ['A seeded game; to play it again: n, by an ID, 3!'])
-        told = re.search(r'3!\d+', ' '.join(window.screen.text()))
-        window.look('i', ['The ID of this puzzle', 'any key goes back'])
+        window.look('n', ['[trivial]', '[by chance]'])
+        window.look('<right>6<enter>', ['Unequal 6x6   easy', 'Easy 6, number ', 'That number is always this game.'])
+        told = re.search(r'number (\d+)\.', ' '.join(window.screen.text()))
+        assert told
+        window.look('i', ['The ID of this puzzle', f'puzzles-play unequal 6 easy number {told[1]}', 'any key goes back'])
         first = window.screen.text()
-        window.look('xn', ['[seeded: no clue too many]'])
-        window.look('<right>', ['[by an ID or a seed]'])
-        window.look(f'<enter>{told[0][2:] if told else ""}<enter>', ['Unequal 3x3', '0 of'], ['A new game'])
+        window.look('xn<down>', ['[6]', '[easy]', '> Number [by chance]'])
+        window.look('<right>', [f"[today's: {time.strftime('%Y%m%d')}]"])
+        window.look('5<backspace><backspace>', ['[typed: ..]'])
+        window.look(told[1], [f'[typed: {told[1]}]'])
+        window.look('<enter>', ['0 of'], ['A new game'])
         window.look('i', ['The ID of this puzzle', 'any key goes back'])
         assert window.screen.text() == first, 'the same puzzle'
+        window.leave('xq')
+    id = ''.join(line.strip() for line in first[1 : first.index('')])
+    assert id == f'6de:{fair("unequal", 6, "e", int(told[1])).description()}'
+    with front.window(['unequal']) as window:
+        window.look('i', ['The ID of this puzzle', 'any key goes back'])
+        assert window.screen.text() == first, 'it goes on, and its number is known'
+        window.leave('xq')
+    with front.window(['unequal', 'number', told[1]]) as window:
+        window.look('i', ['The ID of this puzzle', 'any key goes back'])
+        assert window.screen.text() == first, 'the same puzzle'
+        window.leave('xq')
+
+
+def test_typed_line(front: BoardFront) -> None:
+    """The program's own line begins a game, too, and what it refuses is told."""
+    with front.window(['towers', ID]) as window:
+        window.look('1', ['1 of 9'])
+        window.look(':fair 5 e 7<enter>', ['Towers 5x5   easy', '0 of '])
+        window.look('i', ['puzzles-play towers 5 easy number 7'])
+        window.look('x', ['Towers 5x5'])
+        window.look('o', ['Towers 3x3, 1 of 9'])
+        window.look('q:fair 3 h 7<enter>', ["The grades of such games are 'e' and 'h', 'h' from size 4 on."])
+        window.look(':fair<enter>', ["'fair 5 e 20261126' begins a game"])
+        window.leave('q')
 
 
 def test_saved(front: BoardFront, room: Room) -> None:
@@ -158,9 +188,9 @@ def test_stored(front: BoardFront, room: Room) -> None:
     state = State(front.env())
     os.makedirs(os.path.join(room.path, 'state', 'puzzles'))
     for game in games.GRADES:
-        ids = games.stored(game, 9, 'e')
-        taken: Set[str] = {str(games.take(state, game, 9, 'e')) for _ in ids}
+        ids = games.stored(game, 9, 'x')
+        taken: Set[str] = {str(games.take(state, game, 9, 'x')) for _ in ids}
         assert taken == set(ids), f'each once, {game}'
-        assert games.take(state, game, 9, 'e') in taken, 'another one'
+        assert games.take(state, game, 9, 'x') in taken, 'another one'
         counts = {size: len(games.letters(game, size)) for size in games.SIZES}
         assert all(counts.values()), counts

@@ -7,16 +7,16 @@ from typing import List
 
 import pytest
 
-from board.games import stored
 from tests.board.front import BoardFront, BoardGame, solution, whole_game
 from tests.harness import Room, by_name
 from tests.harness.game import ID
+from tests.harness.puzzles import made
 from tests.harness.terminal import Look
 
 GIVEN = '3:///////////,1c3c2'
 
-#: Stored puzzles of size 9.
-NINE = {game: stored(game, 9, 'e')[0] for game in ('towers', 'unequal')}
+#: Easy puzzles of size 9.
+NINE = {game: made(game, 9, 'e')[0] for game in ('towers', 'unequal')}
 
 #: Puzzles that are played to their end by keys alone, with the most keys that this may take.
 WHOLE = [

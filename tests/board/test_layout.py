@@ -7,11 +7,11 @@ from typing import List, NamedTuple, Optional, Tuple
 import pytest
 
 from board.board import Place
-from board.games import stored
 from board.layout import fit
 from board.picture import KEYS_ASIDE, KEYS_BELOW, Look, picture
 from board.program import Program
 from tests.harness import by_name
+from tests.harness.puzzles import made
 
 #: Two lines of 78 columns.
 MESSAGE = 'Here only one number is left: the deductions rule out all others, and a hint once more tells which one it is.'
@@ -71,7 +71,7 @@ def test_click(line: int, column: int, place: Optional[Place]) -> None:
 @pytest.mark.parametrize('window', WINDOWS, ids=by_name)
 def test_window(objects: str, window: Window) -> None:
     """The message is beside the board, or right below it, and the keys are shown whatever it says."""
-    program = Program(objects, window.game, ['--id', stored(window.game, window.size, 'e')[0]])
+    program = Program(objects, window.game, ['--id', made(window.game, window.size, 'e')[0]])
     program.stop()
     board = program.first.board
     layout = fit(window.size, window.game == 'towers', *window.window)

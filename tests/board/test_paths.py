@@ -149,11 +149,11 @@ def test_marks(front: BoardFront, room: Room) -> None:
     before = known(room, path)
     told = f'FOLDER/{path} is a named pipe: puzzles may come again that you have played.'
     with front.window(['towers', ID], LOW) as window:
-        window.look('n', ['A new game', told])
+        window.look('n<right>', ['A new game', '[extreme]', told])
         window.look('<enter>', [told, '0 of '])
         window.leave('q')
     with front.window(['--lines', 'towers', ID], LOW) as window:
-        window.look('new 4<enter>', ['new 4d', told])
+        window.look('new 4 extreme<enter>', ['new 4d', told])
         window.leave('q<enter>')
     assert known(room, path) == before, 'what was there'
     assert left_files(room) == [], 'no other file'
@@ -172,14 +172,14 @@ def test_closed_window(front: BoardFront, room: Room) -> None:
 
 
 def test_no_bank(front: BoardFront, room: Room) -> None:
-    """Then there are seeds, and the menu says why."""
+    """Then there are fair games alone, and the menu says why."""
     copied = front.of(None)
     bank = os.path.join(room.path, 'board', 'bank', 'towers.txt')
     os.remove(bank)
     os.mkfifo(bank)
     with copied.window(['towers'], LOW) as window:
         window.look('', ['Towers 5x5'])
-        window.look('n', ['[seeded: no clue too many]', f'{bank} is a named pipe.'])
+        window.look('n', ['[easy] hard  by an ID', f'{bank} is a named pipe.'])
         window.leave('qq')
 
 

@@ -8,9 +8,10 @@ from typing import List, NamedTuple, Tuple
 
 import pytest
 
-from board.games import SIZES, stored
+from board.games import SIZES
 from tests.board.front import USUAL, BoardFront
 from tests.harness import by_name
+from tests.harness.puzzles import made
 from tests.harness.screen import Screen
 
 PICTURES = Path(__file__).resolve().parent / 'pictures'
@@ -23,7 +24,7 @@ LAST = '<right>'
 
 
 class Picture(NamedTuple):
-    """A stored puzzle on a screen of so many lines and columns."""
+    """An easy puzzle on a screen of so many lines and columns."""
 
     game: str
     size: int
@@ -54,7 +55,7 @@ def text_of(screen: Screen) -> str:
 def seen(front: BoardFront, picture: Picture, wanted: str) -> str:
     """What stands on the screen at the end, as soon as that is what is wanted, or when it stays otherwise."""
     env = front.env(picture.term, picture.locale)
-    id = stored(picture.game, picture.size, 'e')[0]
+    id = made(picture.game, picture.size, 'e')[0]
     with front.window([picture.game, id], picture.screen, env) as window:
         window.wait_until(lambda screen: any('0/0' in line for line in screen.text()))
         window.press(KEYS + LAST + '?')

@@ -64,12 +64,20 @@ def test_program_killed(front: BoardFront, room: Room) -> None:
 
 
 def test_long_work(front: BoardFront, room: Room) -> None:
-    """A key stops it, and the game goes on."""
+    """Something moves meanwhile, a key stops it, and the game goes on; in lines it is said once."""
     with front.window(['towers', ID], env=between(front, room)) as window:
         window.look('1', ['1 of 9'])
         window.look('c', ['The program is at work. Any key stops it.'])
+        before = window.screen.text()
+        assert window.wait_until(lambda screen: screen.text() != before), 'nothing moves'
         window.look('x', ['Stopped; nothing has changed.', '1 of 9'])
         window.look('2', ['│     2     │', 'move 2/2'])
+        window.leave('q')
+    with front.window(['--lines', 'towers', ID], env=between(front, room)) as window:
+        window.look('check<enter>', ['The program is at work: Ctrl-C stops it.'])
+        window.look('<ctrl-c>', ['Stopped; nothing has changed.', 'towers 1/1>'])
+        assert window.shown.count('is at work') == 1
+        window.leave('q<enter>')
 
 
 def test_no_answer(front: BoardFront, room: Room) -> None:

@@ -3,7 +3,7 @@
 import os
 import re
 import shutil
-from typing import Iterable, List, Sequence
+from typing import Dict, Iterable, List, Sequence
 
 import pytest
 
@@ -49,9 +49,10 @@ class Sides:
 
     # Their side
 
-    def theirs(self, game: str, *words: str) -> Ended:
-        """The usual program."""
-        return run([f'sgt-{game}', *words], self.room, env={'PATH': PATH}, seconds=SECONDS)
+    def theirs(self, game: str, *words: str, ids: Sequence[str] = ()) -> Ended:
+        """The usual program, which reads these IDs where it isn't to make any."""
+        given = ''.join(f'{id}\n' for id in ids).encode()
+        return run([f'sgt-{game}', *words], self.room, input=given, env={'PATH': PATH}, seconds=SECONDS)
 
     def draws(self, game: str, kind: str, what: str, picture: str) -> None:
         """The usual program shows a save, or the puzzle of an ID, as a picture. It answers no status where that can't be had."""
@@ -65,6 +66,13 @@ class Sides:
         ended = self.theirs(game, *words)
         assert ended.status == 0, ended
         return ended.output.decode().splitlines()
+
+    def solves(self, game: str, ids: Sequence[str]) -> List[Dict[str, str]]:
+        """The records of the saves that the usual program makes of the puzzles of these IDs, each with its own solution, by their keys."""
+        ended = self.theirs(game, '--with-solutions', '--save', 'theirs', '--save-suffix', '.sav', ids=ids)
+        assert ended.status == 0, ended
+        saves = [(self.room.read(f'theirs{number}.sav') or b'').decode() for number in range(len(ids))]
+        return [dict(re.findall(r'^(\w+) *:\d+:(.*)$', save, re.MULTILINE)) for save in saves]
 
     # Both
 

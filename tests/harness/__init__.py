@@ -7,6 +7,7 @@ screen    the screen of that terminal
 browser   a browser without a window, and what it prints
 builds    where the repository is, and copies of programs
 game      a small game, what its saves are, and the new files that saves leave
+puzzles   larger ones, which the usual program made
 faults    the library tests/faults/faults.c, by which a chosen call of the program fails
 mounts    a file that is mounted alone, and a disk that is soon full
 users     whom a program can be run as

@@ -78,7 +78,7 @@ def expect_version(site: Site, play: str) -> None:
 
 def expect_bank(site: Site, place: str) -> None:
     with open(os.path.join(place, OURS, 'board', 'bank', 'towers.txt'), encoding='utf-8') as file:
-        assert any(line.startswith('9de') for line in file), 'its puzzles: some of Towers of size 9'
+        assert any(line.startswith('9dx') for line in file), 'its puzzles: some of Towers of size 9'
 
 
 def expect_completes(site: Site, place: str) -> None:

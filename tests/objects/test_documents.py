@@ -13,6 +13,7 @@ from tests.harness import Room, run
 from tests.harness.builds import TOP
 from tests.harness.game import HEAD, ID
 from tests.objects.agreement import Pair
+from tests.second_implementation.fair import fair
 from tests.objects.worked_lines import Worked, expect_worked, read_table
 
 CLIENTS = TOP / 'docs' / 'clients'
@@ -31,7 +32,7 @@ HINTS = [Client('hints.py', sys.executable, sys.executable), Client('hints.bash'
 README = '../README.md'
 
 #: Where each file stands.
-QUOTED = {'hints.py': 'JSON.md', 'hints.bash': 'JSON.md', 'framing.py': 'SCRIPTING.md'}
+QUOTED = {'hints.py': 'JSON.md', 'hints.bash': 'JSON.md', 'framing.py': 'SCRIPTING.md', 'fair.bash': 'SCRIPTING.md'}
 
 #: The game, the ID, and what is written of it at its end.
 PLAYED = [
@@ -82,6 +83,17 @@ def test_refused_id(pair: Pair, room: Room, client: List[str]) -> None:
     ended = run([*client, pair.objects, 'towers', '5#7'], room)
     assert ended.status != 0
     assert b'refused: ForeignSeed' in ended.error
+
+
+def test_fair(pair: Pair, room: Room) -> None:
+    """A block of seeds is a file, made once: each game as the second implementation has it."""
+    words = ['bash', str(CLIENTS / 'fair.bash'), pair.objects, 'unequal', '5', 'k']
+    room.put('unequal-5dk-4', b'kept\n')
+    for block in ('3', '4'):
+        ended = run([*words, block, '4'], room)
+        assert (ended.status, ended.said) == (0, '')
+    made = ''.join(f'5dk:{fair("unequal", 5, "k", seed).description()}\n' for seed in range(12, 16))
+    assert (room.names(), room.read('unequal-5dk-3'), room.read('unequal-5dk-4')) == (['unequal-5dk-3', 'unequal-5dk-4'], made.encode(), b'kept\n')
 
 
 @pytest.mark.parametrize('worked', WORKED, ids=lambda worked: f'{" ".join(worked.words)} > {worked.lines[0]}')

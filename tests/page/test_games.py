@@ -384,7 +384,7 @@ def test_question(sit: Sit, room: Room) -> None:
 
 
 def test_new_games(sit: Sit) -> None:
-    """By size and grade, by a seed, by an ID, and today's."""
+    """By size and grade, by a number, by an ID, and today's."""
     player = sit(['towers', TOWERS])
     player.press('n')
     player.is_shown('#fresh')
@@ -406,6 +406,17 @@ def test_new_games(sit: Sit) -> None:
     player.browser.type('3:4///////////')
     player.click('Begin')
     player.told('Each clue is nothing, or one digit')
+    player.press('n')
+    player.is_shown('#fresh')
+    choose(player, game='towers', size='5', kind='easy')
+    player.value('document.querySelector("#fresh [name=id]").focus()')
+    player.browser.type('20261126')
+    player.press('Enter')
+    player.told('Easy 5, number 20261126. That number is always this game.')
+    player.press('i')
+    player.is_shown('#page')
+    assert 'puzzles-page towers 5 easy number 20261126' in player.text('#page-text')
+    player.press('Escape')
     player.press('n')
     player.is_shown('#fresh')
     player.click('Today’s Unequal')

@@ -129,8 +129,8 @@ def test_benches(place: Place) -> None:
     ]
     for row in rows:
         expect(place, row, RT_PROGRAM=reader)
-    ended = place.run(['make', 'bench'], env={'RT_PROGRAM': reader, 'ROUNDS': '1'})
-    ended.expect('Hard puzzles, ', 'A list of a hundred solutions, ', 'unequal', 'the usual program is left out')
+    ended = place.run(['make', 'bench'], env={'RT_PROGRAM': reader, 'ROUNDS': '1', 'LIMIT': '0.1', 'PUZZLES_JSON': place.objects})
+    ended.expect('Hard puzzles, ', 'A list of a hundred solutions, ', 'unequal', 'the usual program is left out', '\nunequal 9dk       2 ')
 
 
 @pytest.mark.parametrize('row', ROUNDS, ids=by_name)

@@ -9,6 +9,7 @@ import pytest
 from tests.scripts.place import Place
 from tests.harness import by_name
 from tests.harness.game import ID
+from tests.second_implementation.fair import drawn_game
 
 #: How many puzzles of each family are made.
 EACH = 4
@@ -59,6 +60,19 @@ def test_measure(place: Place, row: Measure) -> None:
     assert ended.status == row.status, ended.said
     for pattern in row.says:
         assert re.search(pattern, ended.said, re.DOTALL)
+
+
+def test_fair(place: Place) -> None:
+    """Fair games are timed, and looked at as puzzles: what is left in each, and which draw gave it, by the second implementation. The usual program may be there or not."""
+    env = {'PUZZLES_JSON': place.objects}
+    ended = place.run(['bench/time_fair', '--count', '3', '--seconds', '0.1', 'towers', '3de'], env=env)
+    assert re.search(r'\ntowers  3de +3( +\d+\.\d\d){3}( +\d+ +\d+\.\d\d +\d+\.\d{3})?\n$', ended.said), ended.said
+    ended = place.run(['bench/judge_fair', '--count', '5', '--seconds', '0.1', '--draws', 'unequal', '4de'], env=env)
+    drawn = [drawn_game('unequal', 4, 'e', seed) for seed in range(1, 6)]
+    texts = [puzzle.description() for _, puzzle in drawn]
+    means = [sum(sum(letter in letters for letter in text) for text in texts) / 5 for letters in ('URDL', '1234')]
+    draws = [draw for draw, _ in drawn]
+    assert re.search(rf'\nunequal 4de +5 +0 +{5 - len(set(texts))} +{means[0]:.1f} +{means[1]:.1f} .*{sum(draws) / 5:.1f} +{max(draws)}\n$', ended.said), ended.said
 
 
 def test_made_puzzles(place: Place) -> None:

@@ -4,9 +4,9 @@ from __future__ import annotations
 
 from typing import Any, List, Mapping, Optional, Sequence
 
-from board import games
 from tests.harness import Ended, Folder, Room, run
 from tests.harness.builds import TOP
+from tests.harness.puzzles import made
 
 PATH = str(TOP / 'sheet' / 'puzzles-sheet')
 
@@ -32,8 +32,8 @@ class Maker:
 
 
 def stored(game: str, size: int, count: int) -> List[str]:
-    """So many of the stored puzzles of a size, from all over them."""
-    ids = [id for id in games.bank(game) if id.startswith(str(size))]
+    """So many puzzles of the usual program's of a size, from all over them."""
+    ids = made(game, size, 'tekhxur')
     return ids[:: len(ids) // count][:count]
 
 

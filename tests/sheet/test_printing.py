@@ -54,7 +54,7 @@ def sheets(paper: str) -> Iterator[Sheet]:
     yield Sheet(['--large'], [sixes()[0], sixes()[-1], *full()], 4, 1)
     yield Sheet(['--answers', 'only', '--per-page', '12'], nines(), 0, 1)
     yield Sheet(['--answers', 'only', '--steps'], nines(), 0, 1, 2)
-    yield Sheet(['--answers', 'only', '--steps', '--large'], nines()[2:6], 0, 1, 4 if is_a4 else 6)
+    yield Sheet(['--answers', 'only', '--steps', '--large'], nines()[2:6], 0, 1, 4 if is_a4 else 5)
 
 
 @pytest.mark.parametrize('paper', PAPERS)

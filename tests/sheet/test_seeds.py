@@ -1,10 +1,10 @@
-"""Games by grade, size and seed: which seeds come onto a sheet, by what a second implementation finds, and what is told where there are none."""
+"""Fair games by size, grade and seed: which ones come onto a sheet, as a second implementation makes and grades them, and what is told where there are none."""
 
 from __future__ import annotations
 
 import re
 from html import unescape
-from typing import Iterator, List, NamedTuple, Sequence
+from typing import List, NamedTuple, Sequence
 
 import pytest
 
@@ -12,7 +12,8 @@ from board.board import Board
 from board.games import GRADES
 from board.program import Program
 from board.steps import sentences
-from tests.harness import Room, by_name, run
+from tests.harness import Room, by_name
+from tests.second_implementation.fair import fair
 from tests.second_implementation.grades import LETTERS, follows
 from tests.sheet.making import Maker, content
 from tests.sheet.reading import Picture, pictures
@@ -52,14 +53,16 @@ SHEETS = [
     Sheet(['unequal', '--count', '3', '--seed', '0'], ['5 Easy'] * 3),
     Sheet(['towers', '--size', '4-6', '--count', '4'], ['4 Easy', '4 Easy', '5 Easy', '6 Easy']),
     Sheet(
-        ['towers', '--size', '4-6', '--grade', 'easy,hard', '--seed', '20261126'],
-        [f'{size} {grade}' for size in (4, 5, 6) for grade in ('Easy', 'Easy', 'Hard', 'Hard')],
+        ['towers', '--size', '5-7', '--grade', 'easy,hard', '--seed', '20261126'],
+        [f'{size} {grade}' for size in (5, 6, 7) for grade in ('Easy', 'Easy', 'Hard', 'Hard')],
     ),
     Sheet(
         ['unequal', '--size', '5,4', '--grade', 'easy,trivial', '--count', '8'],
         ['4 Trivial', '4 Trivial', '4 Easy', '4 Easy', '5 Trivial', '5 Trivial', '5 Easy', '5 Easy'],
     ),
-    Sheet(['unequal', '--size', '6', '--grade', 'tricky', '--count', '4'], ['6 Tricky'] * 4),
+    Sheet(['unequal', '--size', '7', '--grade', 'tricky', '--count', '4'], ['7 Tricky'] * 4),
+    Sheet(['towers', '--size', '3-9', '--count', '7', '--per-page', '4'], [f'{size} Easy' for size in range(3, 10)]),
+    Sheet(['unequal', '--size', '8-9', '--grade', 'trivial,tricky', '--count', '4', '--per-page', '2'], ['8 Trivial', '8 Tricky', '9 Trivial', '9 Tricky']),
 ]
 
 
@@ -71,20 +74,20 @@ def test_sheet(maker: Maker, row: Sheet) -> None:
     assert [graded(picture) for picture in pictures(page)] == row.captions
 
 
-def test_each_seed(maker: Maker, program: str, room: Room) -> None:
-    """From the first seed on none of the grade is passed over, and the IDs are those of the program."""
-    for game, size, grade, seeds in (('towers', 5, 'hard', range(1, 30)), ('unequal', 6, 'easy', range(40, 60))):
-        ended = run([program, game], room, input=''.join(f'new {size}!{seed}\nid\n' for seed in seeds).encode())
-        made = ended.output.decode().split('\n')[1::2]
-        found = [id for id, picture in zip(made, drawn(maker, game, made)) if graded(picture) == f'{size} {grade.title()}']
-        words = [game, '--size', str(size), '--grade', grade, '--seed', str(seeds[0]), '--count', str(len(found))]
-        assert len(found) > 4
-        assert ids(maker.page([*words, '--answers', 'none'])) == found
+def made(game: str, size: int, letter: str, seed: int) -> str:
+    """The ID of a fair game, as the second implementation has it, without its letter."""
+    return f'{size}:{fair(game, size, letter, seed).description()}'
 
 
-def drawn(maker: Maker, game: str, some: Sequence[str]) -> Iterator[Picture]:
-    """The puzzles of some IDs."""
-    return iter(pictures(maker.run([game, '--ids', '-', '--answers', 'none'], content(some)).output.decode()))
+EACH = [('towers', 5, 'hard', 1, 6), ('unequal', 6, 'easy', 40, 4), ('towers', 9, 'easy', 20261126, 2), ('unequal', 8, 'tricky', 2**64 - 1, 2)]
+
+
+@pytest.mark.parametrize(('game', 'size', 'grade', 'first', 'count'), EACH)
+def test_each_seed(maker: Maker, game: str, size: int, grade: str, first: int, count: int) -> None:
+    """The puzzles are those of the seeds from the first one on, one after the other; after the last seed comes 0."""
+    letter = next(letter for letter, name in GRADES[game].items() if name == grade)
+    page = maker.page([game, '--size', str(size), '--grade', grade, '--seed', str(first), '--count', str(count), '--answers', 'none'])
+    assert ids(page) == [made(game, size, letter, (first + at) % 2**64) for at in range(count)]
 
 
 def test_again(maker: Maker) -> None:
@@ -97,12 +100,6 @@ def test_again(maker: Maker) -> None:
     assert maker.page([*again.split(' --title')[0].split(), *words[-2:]]) == page
     assert not set(ids(page)) & set(ids(maker.page(['towers', '--seed', '90', '--count', '5'])))
     assert set(ids(page)) <= set(ids(maker.page(['towers', '--seed', '10', '--count', '8'])))
-
-
-def test_last_seed(maker: Maker) -> None:
-    """After it comes the first."""
-    page = maker.page(['towers', '--seed', str(2**64 - 1), '--count', '30'])
-    assert set(ids(maker.page(['towers', '--seed', '0', '--count', '9']))) < set(ids(page))
 
 
 def test_few(maker: Maker) -> None:
@@ -123,13 +120,8 @@ class Refused(NamedTuple):
 
 
 REFUSED = [
-    Refused(['towers', '--size', '7'], 'Towers of size 7 is not made from seeds: --ids prints puzzles that there are.\n'),
-    Refused(['unequal', '--size', '4-9', '--count', '200'], 'Unequal of size 7 is not made from seeds: --ids prints puzzles that there are.\n'),
-    Refused(['towers', '--size', '3', '--grade', 'hard'], 'No hard puzzle of Towers of size 3 was found with the 1,000 seeds from 1 to 1000.\n'),
-    Refused(
-        ['unequal', '--size', '3', '--grade', 'easy,tricky', '--count', '2', '--seed', '7'],
-        'No tricky puzzle of Unequal of size 3 was found with the 1,000 seeds from 10 to 1009.\n',
-    ),
+    Refused(['towers', '--size', '3', '--grade', 'hard'], 'Towers of size 3 has no hard puzzles: --ids prints puzzles that there are.\n'),
+    Refused(['unequal', '--size', '3-9', '--grade', 'easy,tricky'], 'Unequal of size 3 has no tricky puzzles: --ids prints puzzles that there are.\n'),
 ]
 
 
@@ -138,6 +130,36 @@ def test_refused(maker: Maker, room: Room, row: Refused) -> None:
     ended = maker.run([*row.words, '--output', 'page.html'])
     assert (ended.status, ended.output, ended.error.decode()) == (3, b'', row.told)
     assert room.names() == []
+
+
+#: Stands before the program, and refuses the seeds for which a condition holds.
+BEFORE = """\
+#!/usr/bin/env python3
+import json, subprocess, sys
+program = subprocess.Popen(['{program}', *sys.argv[1:]], stdin=subprocess.PIPE, stdout=subprocess.PIPE)
+for line in sys.stdin:
+    words = line.split()
+    seed = int(words[3]) if words[0] == 'fair' else 0
+    program.stdin.write((line if not ({condition}) else 'board\\n').encode())
+    program.stdin.flush()
+    reply = json.loads(program.stdout.readline())
+    print(json.dumps(dict(reply, refused='NoneFound') if {condition} else reply), flush=True)
+"""
+
+
+def before(room: Room, program: str, condition: str) -> Maker:
+    room.put('before', BEFORE.format(program=program, condition=condition).encode(), 0o755)
+    return Maker(f'{room.path}/before', room)
+
+
+def test_passed_over(room: Room, objects: str) -> None:
+    """A seed of which no draw gave a game is passed over; after a hundred in a row no more are tried."""
+    page = before(room, objects, 'seed in (2, 3, 5)').page(['towers', '--count', '4', '--answers', 'none'])
+    assert ids(page) == [made('towers', 5, 'e', seed) for seed in (1, 4, 6, 7)]
+    ended = before(room, objects, '8 < seed < 2**64').run(['towers', '--seed', '7', '--output', 'page.html'])
+    assert (ended.status, ended.output) == (3, b'')
+    assert ended.error.decode() == 'No easy puzzle of Towers of size 5 was found with the 100 seeds from 9 to 108.\n'
+    assert room.names() == ['before']
 
 
 class Graded(NamedTuple):

@@ -1,0 +1,87 @@
+"""Two generators, ours and the usual program's, and what they took of a processor."""
+
+from __future__ import annotations
+
+import json
+import os
+import subprocess
+import sys
+from typing import List, NamedTuple, Optional, Sequence
+
+from board import fair
+from timing.answering import TOP, processor_time
+
+#: Debian has the usual programs in the last folder.
+PATH = f'{os.environ.get("PATH", os.defpath)}:/usr/games'
+
+
+class Kind(NamedTuple):
+    """A class of games."""
+
+    game: str
+    size: int
+    #: The letter of the grade.
+    letter: str
+
+    @property
+    def params(self) -> str:
+        """As the usual program names it."""
+        return f'{self.size}d{self.letter}'
+
+
+def kinds(words: Sequence[str]) -> List[Kind]:
+    """All of which there are fair games, or of those those that are named, as `towers 9dh`."""
+    every = [Kind(game, size, letter) for game in fair.OFFERED for size in fair.SIZES for letter in fair.letters(game, size)]
+    return [kind for kind in every if not words or (kind.game in words and (kind.params in words or not set(words) - set(fair.OFFERED)))]
+
+
+class Made(NamedTuple):
+    #: Nothing where no game was made.
+    id: Optional[str]
+    nanoseconds: int
+
+
+class Maker:
+    """Our program, from the beginning of a `with` to its end."""
+
+    def __init__(self, game: str) -> None:
+        program = os.environ.get('PUZZLES_JSON') or str(TOP / 'programs' / 'linux-amd64' / 'puzzles-json')
+        self._process = subprocess.Popen(['puzzles-json', game], executable=program, stdin=subprocess.PIPE, stdout=subprocess.PIPE, bufsize=0)
+
+    def __enter__(self) -> Maker:
+        return self
+
+    def __exit__(self, *_: object) -> None:
+        self._process.kill()
+        self._process.communicate()
+
+    def make(self, kind: Kind, seed: int) -> Made:
+        """The fair game of a seed."""
+        stdin, stdout = self._process.stdin, self._process.stdout
+        assert stdin and stdout
+        before = processor_time(self._process.pid)
+        stdin.write(f'{fair.line(kind.size, kind.letter, seed)}\n'.encode())
+        answer = json.loads(stdout.readline() or sys.exit('the program has ended'))
+        nanoseconds = processor_time(self._process.pid) - before
+        if answer['refused'] not in (None, 'NoneFound'):
+            sys.exit(f'the program refuses a fair game: {answer["refused"]}')
+        return Made(None if answer['refused'] else answer['session']['id'], nanoseconds)
+
+
+class Usual(NamedTuple):
+    """What the usual program made at once, and the nanoseconds that all of it took."""
+
+    ids: List[str]
+    nanoseconds: int
+
+
+def usual(kind: Kind, count: int) -> Usual:
+    """Puzzles of the usual program's own generator. Without a display it makes them all the same."""
+    env = {name: value for name, value in os.environ.items() if name not in ('DISPLAY', 'WAYLAND_DISPLAY')}
+    words = [f'sgt-{kind.game}', '--generate', str(count), kind.params]
+    with subprocess.Popen(words, stdout=subprocess.PIPE, env={**env, 'PATH': PATH}) as process:
+        assert process.stdout
+        ids = process.stdout.read().decode().split()
+        _, status, used = os.wait4(process.pid, 0)
+        process.returncode = os.waitstatus_to_exitcode(status) if hasattr(os, 'waitstatus_to_exitcode') else status
+    return Usual(ids, round((used.ru_utime + used.ru_stime) * 1e9))
