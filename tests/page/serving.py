@@ -46,21 +46,31 @@ class Got(NamedTuple):
 
 
 class Served:
-    """A run of the command. Its link is used at once, as a browser does it, unless it is to be left."""
+    """A run of the command, with what else its environment has. Its link is used at once, as a browser does it, unless it is to be left."""
 
-    def __init__(self, room: Room, program: str, words: Sequence[str] = (), *, gate: Optional[Mapping[str, float]] = None, is_left: bool = False) -> None:
+    def __init__(
+        self,
+        room: Room,
+        program: str,
+        words: Sequence[str] = (),
+        *,
+        gate: Optional[Mapping[str, float]] = None,
+        is_left: bool = False,
+        more: Optional[Mapping[str, str]] = None,
+        stdin: int = subprocess.DEVNULL,
+    ) -> None:
         self.room = room
         self._came = b''
         command = [PATH] if gate is None else [sys.executable, '-B', '-c', OTHERWISE.format(top=str(TOP), here=room.path), json.dumps(gate)]
         self._process = subprocess.Popen(
-            [*command, '--no-browser', *words],
+            [*command, *words],
             cwd=room.path,
-            env=env(room, program),
-            stdin=subprocess.DEVNULL,
+            env={**env(room, program), **(more or {})},
+            stdin=stdin,
             stdout=subprocess.PIPE,
             stderr=subprocess.PIPE,
         )
-        self.link = self._first_line()
+        self.link = self.line()
         found = re.fullmatch(r'http://(127\.0\.0\.1:([0-9]+))(/\?[\w-]{20,})', self.link)
         assert found, self.link
         self.host, self.port, self.key = found[1], int(found[2]), found[3]
@@ -107,7 +117,8 @@ class Served:
         assert found
         return int(found[1]) // 1024
 
-    def _first_line(self) -> str:
+    def line(self) -> str:
+        """The next line that it prints."""
         assert self._process.stdout
         end = time.monotonic() + SECONDS
         while b'\n' not in self._came:
@@ -115,9 +126,10 @@ class Served:
             came = os.read(self._process.stdout.fileno(), 4096) if is_there else b''
             if not came:
                 said = self._process.communicate()[1] if self._process.poll() is not None else b''
-                raise AssertionError(f'no link: {self._came!r} {said.decode(errors="replace")}')
+                raise AssertionError(f'no line: {self._came!r} {said.decode(errors="replace")}')
             self._came += came
-        return self._came.partition(b'\n')[0].decode()
+        first, _, self._came = self._came.partition(b'\n')
+        return first.decode()
 
     # --- what is asked ---
 

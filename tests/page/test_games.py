@@ -13,6 +13,7 @@ from board.games import stored
 from tests.board.front import BoardFront, solution
 from tests.conftest import Programs
 from tests.harness import Room, by_name
+from tests.harness.browser import Browser
 from tests.harness.builds import TOP
 from tests.harness.game import ID, save_text
 from tests.page.conftest import Sit
@@ -298,6 +299,35 @@ def test_killed_program(sit: Sit, room: Room) -> None:
     player.is_called(0, 1, 'row 2, column 1, 2')
     assert moves(kept(room)) == ['R0,0,1', 'R0,1,2']
     player.leave()
+
+
+#: Stands for the program, and takes long over one line.
+SLOW = """\
+#!/usr/bin/env python3
+import subprocess, sys, time
+program = subprocess.Popen(['puzzles-json', *sys.argv[1:]], executable=PROGRAM, stdin=subprocess.PIPE, stdout=subprocess.PIPE, close_fds=False)
+for line in iter(sys.stdin.buffer.readline, b''):
+    time.sleep(60 if line == b'completable\\n' else 0)
+    program.stdin.write(line)
+    program.stdin.flush()
+    sys.stdout.buffer.write(program.stdout.readline())
+    sys.stdout.flush()
+"""
+
+
+def test_stopped(browser: Browser, room: Room, objects: str) -> None:
+    """What takes long is told on all pages, and Escape stops it."""
+    room.put('slow', SLOW.replace('PROGRAM', repr(objects)).encode(), 0o755)
+    with Served(room, f'{room.path}/slow', ['towers', TOWERS], is_left=True) as served:
+        player = Player(browser, served)
+        player.press('1', 'c')
+        player.told('The program is at work. Escape stops it.')
+        player.press('Escape')
+        player.told('Stopped; nothing has changed.')
+        player.press('u')
+        player.is_called(0, 0, 'row 1, column 1, empty')
+        player.leave()
+        browser.go('about:blank')
 
 
 def test_files(sit: Sit, room: Room) -> None:

@@ -4,17 +4,18 @@ from __future__ import annotations
 
 import json
 import os
+import pty
 import signal
 import socket
 import threading
 import time
-from typing import Any, Callable, Dict, Iterator, List, Mapping, NamedTuple, Optional
+from typing import Any, Callable, Dict, Iterator, List, Mapping, NamedTuple, Optional, Sequence
 
 import pytest
 
-from tests.harness import Room, by_name
+from tests.harness import Room, by_name, run
 from tests.harness.game import ID
-from tests.page.serving import Served, kept, moves
+from tests.page.serving import PATH, Served, env, kept, moves
 
 #: What each answer has, also where it is a refusal.
 POLICY = {
@@ -158,6 +159,72 @@ def test_link(room: Room, objects: str) -> None:
         assert served.folder.strip('/') not in served.link
         assert served.ask('GET', served.key, {}).status == 403
         assert served.get().content.decode().count('src="./main.js"') == 1
+
+
+def test_another_link(room: Room, objects: str) -> None:
+    """Enter in the terminal prints one, and the one before doesn't work any more."""
+    keyboard, terminal = pty.openpty()
+    try:
+        with Served(room, objects, ['towers', ID], is_left=True, stdin=terminal) as served:
+            os.write(keyboard, b'\n')
+            link = served.line()
+            assert link.startswith(f'http://{served.host}/?') and link != served.link
+            assert served.ask('GET', served.key, {}).status == 403
+            assert served.ask('GET', link.partition(served.host)[2], {}).status == 200
+    finally:
+        os.close(keyboard)
+        os.close(terminal)
+
+
+class Opened(NamedTuple):
+    """What the environment and the words have, and whether the link is opened; and what is printed beside it."""
+
+    name: str
+    is_opened: bool
+    words: Sequence[str] = ()
+    more: Mapping[str, str] = {}
+    says: str = ''
+
+
+SCREEN = {'DISPLAY': ':9'}
+
+OPENED = [
+    Opened('a screen', True, more=SCREEN),
+    Opened('a screen of the other kind', True, more={'WAYLAND_DISPLAY': 'wayland-9'}),
+    Opened('a screen, and no browser wanted', False, ['--no-browser'], SCREEN),
+    Opened('no screen', False),
+    Opened('over ssh', False, more={'SSH_CONNECTION': '1 2 3 4', 'USER': 'anna'}, says='ssh -N -L PORT:127.0.0.1:PORT anna@HOST'),
+]
+
+
+@pytest.mark.parametrize('opened', OPENED, ids=by_name)
+def test_opened(room: Room, objects: str, opened: Opened) -> None:
+    with room.make_folder('bin') as folder:
+        folder.put('xdg-open', b'#!/bin/sh\necho "$1" > opened.new && mv opened.new opened\n', 0o755)
+    more = {'PATH': f'{room.path}/bin:{os.environ.get("PATH", os.defpath)}', **opened.more}
+    with Served(room, objects, [*opened.words, 'towers', ID], is_left=True, more=more) as served:
+        if opened.says:
+            assert opened.says.replace('PORT', str(served.port)) in served.line()
+        if opened.is_opened:
+            wait_for(lambda: room.read('opened') == f'{served.link}\n'.encode())
+        else:
+            time.sleep(0.3)
+            assert room.read('opened') is None
+
+
+REFUSED = [
+    (['chess'], 2, 'usage: puzzles-page'),
+    (['--lines'], 2, 'usage: puzzles-page'),
+    (['--ids', 'towers', '5'], 2, 'usage: puzzles-page'),
+    (['towers', '2!7'], 3, 'An ID begins with the size'),
+    (['towers', 'none.sav'], 3, "There is no file 'none.sav'"),
+]
+
+
+@pytest.mark.parametrize(('words', 'status', 'says'), REFUSED)
+def test_refused(room: Room, objects: str, words: List[str], status: int, says: str) -> None:
+    ended = run([PATH, *words], room, env=env(room, objects))
+    assert ended.status == status and says in ended.error.decode() and ended.output == b''
 
 
 def test_page(served: Served) -> None:
