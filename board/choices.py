@@ -19,6 +19,9 @@ NUMBER, TODAY, SEEDED = 'number', 'today', 'seeded'
 #: The size and the grade where nothing was chosen yet.
 FIRST_SIZE, FIRST_GRADE = 5, 'easy'
 
+#: So many numbers by chance are tried: of the first 3,000 of tricky Unequal of size 4 one, 1185, has no game.
+TRIES = 20
+
 #: After so many numbers in a row whose games are there already no further ones are looked for.
 ALIKE = 1000
 
@@ -54,17 +57,10 @@ class Choice(NamedTuple):
         return not self.id and self.letter in fair.letters(self.game, self.size)
 
     @property
-    def numbered(self) -> Choice:
-        """The same; a fair game with the name of its grade, and with a number, by chance where it has none."""
-        if not self.is_fair:
-            return self
-        number = fair.by_chance() if self.number is None else self.number
-        return self._replace(grade=GRADES[self.game][self.letter], number=number)
-
-    @property
-    def line(self) -> str:
-        """What begins a numbered game."""
-        return fair.line(self.size, self.letter, self.number or 0)
+    def lines(self) -> List[str]:
+        """What begins such a fair game: a line of the program, or some by chance, of which a later one is for a number that has no game."""
+        numbers = [fair.by_chance() for _ in range(TRIES)] if self.number is None else [self.number]
+        return [fair.line(self.size, self.letter, number) for number in numbers]
 
     @property
     def words(self) -> str:
@@ -73,8 +69,8 @@ class Choice(NamedTuple):
 
     @property
     def told(self) -> str:
-        """A numbered game, as `Hard 9, number 20261126.`; nothing of another one."""
-        return f'{self.grade.title()} {self.size}, {NUMBER} {self.number}.' if self.number is not None else ''
+        """A numbered game, as `Hard 9, number 20261126.`"""
+        return f'{self.grade.title()} {self.size}, {NUMBER} {self.number}.'
 
 
 def without_number(words: Sequence[str]) -> Tuple[List[str], Optional[str]]:
@@ -150,6 +146,12 @@ def remembered(state: State, game: str) -> Optional[Choice]:
 def remember(state: State, choice: Choice) -> None:
     if choice.grade and choice.is_kept:
         state.choose(choice.game, f'{choice.size} {choice.grade}')
+
+
+def of_line(game: str, line: str) -> Choice:
+    """What the line of a fair game chooses that has begun."""
+    _, size, letter, number = line.split()
+    return Choice(game, int(size), GRADES[game][letter], int(number))
 
 
 def remember_number(state: State, choice: Choice, id: str) -> None:

@@ -252,7 +252,7 @@ class FullScreen:
         elif text in ('help', '?'):
             self._help()
         elif text.startswith('fair '):
-            if self.table.begin_line(self.table.game, text):
+            if self.table.begin_fair(self.table.game, [text]):
                 self._at_start()
         elif text.startswith('new '):
             self._begin(Choice(self.table.game, self.table.board.size, id=text[4:].strip()))
@@ -273,11 +273,10 @@ class FullScreen:
             self._begin(choice)
 
     def _begin(self, choice: Choice) -> None:
-        begun = self.table.begin_new(choice)
-        if begun:
+        if self.table.begin_new(choice):
             self._at_start()
-            if begun.told:
-                self.table.message = f'{self.table.message} {begun.told} That number is always this game.'.strip()
+            if self.table.told_number:
+                self.table.message = f'{self.table.message} {self.table.told_number} That number is always this game.'.strip()
 
     def _at_start(self) -> None:
         self._cursor = (0, 0)
@@ -321,7 +320,7 @@ class FullScreen:
         board = self.table.board
         lines = [board.session.id, '', 'To play it again: n, by an ID; or on the command line', '', f"puzzles-play {self.table.game} '{board.session.id}'"]
         chosen = self.table.chosen
-        if chosen and chosen.told:
+        if chosen:
             lines += ['', chosen.told, '', f'puzzles-play {chosen.game} {chosen.words}']
         self._page(f'The ID of this puzzle, {name(board)} {grade(board)}', lines)
 

@@ -251,16 +251,19 @@ class LineMode:
         self._begin(choice)
 
     def _begin(self, choice: Choice) -> None:
-        begun = self._table.begin_new(choice)
-        if begun:
+        if self._table.begin_new(choice):
             self._begun()
-            if not choice.id:
-                say(*filter(None, [begun.told]), 'To play it again:')
-                say_whole(f'new {begun.words if begun.told else self._table.board.session.id}')
+            chosen = self._table.chosen
+            if chosen:
+                say(chosen.told, 'To play it again:')
+                say_whole(f'new {chosen.words}')
+            elif not choice.id:
+                say('To play it again:')
+                say_whole(f'new {self._table.board.session.id}')
 
     def _fair(self, text: str) -> None:
         """A game by the words of the program's own line."""
-        if self._table.begin_line(self._table.game, f'fair {text}'):
+        if self._table.begin_fair(self._table.game, [f'fair {text}']):
             self._begun()
 
     def _save(self, text: str) -> None:

@@ -7,9 +7,9 @@ import re
 import time
 from typing import Dict, Optional, Protocol
 
-from board import files, hints, texts
+from board import choices, files, hints, texts
 from board.board import Board, Reply
-from board.choices import Choice, of_session
+from board.choices import Choice
 from board.lessons import Lesson, Told
 from board.program import Gone, Program, Refused, Stopped, Waiting, save_to, started_with
 from board.state import NotKept, Shelf, State
@@ -293,13 +293,22 @@ class PresentGame:
         if program.first.board is None:
             raise Gone(texts.LOST if program.first.is_lost else f"it doesn't tell its board: {program.first.refused}")
         self._board = program.first.board
-        self.chosen = of_session(self.state, self._board.session)
+        self.chosen = self._told_choice(program)
         self.message = shelf.told
         self.state.take(shelf)
         self.hints = hints.count_in(of_hints, self.board.session.id)
         self.state.keep_hints(self._of_hints())
         self.grade = self._told_grade()
         self._keep()
+
+    def _told_choice(self, program: Program) -> Optional[Choice]:
+        """What the game was chosen by, which is kept for the next start."""
+        session = self.board.session
+        if not program.line:
+            return choices.of_session(self.state, session)
+        choice = choices.of_line(session.game, program.line)
+        choices.remember_number(self.state, choice, session.id)
+        return choice
 
     def _told_grade(self) -> str:
         """The grade; nothing where there is none, or the program has no line that tells it."""

@@ -19,6 +19,9 @@ FIRST_WAIT, NEXT_WAIT = 0.4, 0.1
 #: The name that the program is called by, whatever its file is called: by this one it answers in objects.
 NAME = 'puzzles-json'
 
+#: The name by which the line of a fair game is refused where its seed has none.
+NO_GAME = 'NoneFound'
+
 #: Called while the program is at work; True where nobody is to wait any more.
 Waiting = Callable[[], bool]
 
@@ -57,6 +60,8 @@ class Program:
         self._input = self._process.stdin
         self._output = self._process.stdout.fileno()
         self._came = b''
+        #: The line by which its game began, where one did it.
+        self.line = ''
         #: What it tells at the start of its game.
         self.first: Reply = self._first(waiting)
 
@@ -157,18 +162,22 @@ def started_with(path: str, game: str, content: bytes, waiting: Optional[Waiting
         return Program(path, game, ['--load', f'/proc/self/fd/{file.fileno()}'], [file.fileno()], waiting)
 
 
-def begun_by(path: str, game: str, line: str, waiting: Optional[Waiting] = None) -> Program:
-    """The program with the game that a line begins. Raises `Refused`, `Gone` or `Stopped`."""
+def begun_by(path: str, game: str, lines: Sequence[str], waiting: Optional[Waiting] = None) -> Program:
+    """The program with the game of a line; of the next one where its seed has none. Raises `Refused`, `Gone` or `Stopped`."""
     program = Program(path, game, waiting=waiting)
     try:
-        reply = program.ask(line, waiting)
-        if reply.refused:
-            raise Refused(reply.refused)
-        program.first = program.ask('board', waiting)
+        for line in lines:
+            refused = program.ask(line, waiting).refused
+            if refused is None:
+                program.line = line
+                program.first = program.ask('board', waiting)
+                return program
+            if refused != NO_GAME:
+                break
+        raise Refused(refused)
     except BaseException:
         program.stop()
         raise
-    return program
 
 
 def save_to(path: str, game: str, content: bytes, target: str, waiting: Optional[Waiting] = None) -> str:

@@ -5,7 +5,7 @@ from __future__ import annotations
 import os
 import time
 from functools import partial
-from typing import Callable, List, Optional, Tuple
+from typing import Callable, List, Optional, Sequence, Tuple
 
 from board import choices, files, games, hints, saves, texts
 from board.board import GAMES
@@ -40,43 +40,42 @@ class Table(PresentGame):
                     return
                 except Refused as refused:
                     shelf, told = self._past_damaged(game, shelf, texts.of_save(str(refused), game))
-            choice = choices.first(self.state, game).numbered
+            choice = choices.first(self.state, game)
             program = self._new(choice)
         except Stopped as stopped:
             raise Gone('it gave no answer') from stopped
         self._take(program, shelf)
-        self._choose(choice)
         new = 'A new game; ? shows the keys.' if self.ways is texts.BY_KEYS else ''
         trouble = '' if choice.is_fair else self.state.played_trouble(game)
-        self.message = ' '.join(filter(None, [self.message, told, trouble, choice.told, new]))
+        self.message = ' '.join(filter(None, [self.message, told, trouble, self.told_number, new]))
 
     def begin(self, game: str, id: str) -> bool:
         """Begins the puzzle of an ID."""
         return self._begin(game, partial(Program, self.path, game, ['--id', id]), texts.of_id)
 
-    def begin_new(self, choice: Choice) -> Optional[Choice]:
-        """Begins a new game, and remembers its size and grade. Gives it with what it is played again by; nothing where none has begun."""
-        asked, choice, trouble = choice, choice.numbered, ''
+    def begin_new(self, choice: Choice) -> bool:
+        """Begins a new game, and remembers its size and grade."""
+        trouble = ''
         if choice.is_fair:
-            has_begun = self.begin_line(choice.game, choice.line)
+            has_begun = self.begin_fair(choice.game, choice.lines)
         elif choice.id:
             has_begun = self.begin(choice.game, choice.id)
         else:
             has_begun = self.begin(choice.game, games.take(self.state, choice.game, choice.size, choice.letter) or '')
             trouble = self.state.played_trouble(choice.game)
-        if not has_begun:
-            return None
-        choices.remember(self.state, asked)
-        self.message = f'{self.message} {trouble}'.strip()
-        return choice
-
-    def begin_line(self, game: str, line: str) -> bool:
-        """Begins the fair game of a line of the program."""
-        has_begun = self._begin(game, partial(begun_by, self.path, game, line), texts.of_fair)
         if has_begun:
-            _, size, letter, number = line.split()
-            self._choose(Choice(game, int(size), games.GRADES[game][letter], int(number)))
+            choices.remember(self.state, choice)
+            self.message = f'{self.message} {trouble}'.strip()
         return has_begun
+
+    def begin_fair(self, game: str, lines: Sequence[str]) -> bool:
+        """Begins the fair game of a line of the program, or of the next one where its number has none."""
+        return self._begin(game, partial(begun_by, self.path, game, lines), texts.of_fair)
+
+    @property
+    def told_number(self) -> str:
+        """The present game's size, grade and number, where that is known."""
+        return self.chosen.told if self.chosen else ''
 
     def open(self, game: str, file: str, of_hints: bytes = b'') -> bool:
         """Goes on with a saved game; where it is the other game's, with that. What is kept of its hints is told."""
@@ -161,17 +160,11 @@ class Table(PresentGame):
         """A new game, where none is kept."""
         try:
             if choice.is_fair:
-                return begun_by(self.path, choice.game, choice.line, self.waiting())
+                return begun_by(self.path, choice.game, choice.lines, self.waiting())
             id = games.take(self.state, choice.game, choice.size, choice.letter) or ''
             return Program(self.path, choice.game, ['--id', id], waiting=self.waiting())
         except Refused as refused:
             raise Gone(f"it doesn't take a new game: {refused}") from refused
-
-    def _choose(self, choice: Choice) -> None:
-        """The present game has begun by that."""
-        self.chosen = choice
-        if choice.number is not None:
-            choices.remember_number(self.state, choice, self.board.session.id)
 
     def _past_damaged(self, game: str, shelf: Shelf, why: str) -> Tuple[Shelf, str]:
         """Where a new game is kept though a kept one is no save, and a sentence on that one: it is put away, or stays where it is."""

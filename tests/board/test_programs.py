@@ -46,6 +46,24 @@ sys.exit(program.wait())
 """
 
 
+#: Stands there, too, and has no game of the number 7, nor of the first three numbers that it is asked for at a start.
+WITHOUT_GAMES = """\
+#!/usr/bin/env python3
+import json, subprocess, sys
+program = subprocess.Popen(['{program}', *sys.argv[1:]], stdin=subprocess.PIPE, stdout=subprocess.PIPE, close_fds=False)
+asked = 0
+for line in sys.stdin.buffer:
+    is_fair = line.startswith(b'fair ')
+    asked += is_fair
+    lacks = is_fair and (asked <= 3 or line.endswith(b' 7\\n'))
+    program.stdin.write(b'status\\n' if lacks else line)
+    program.stdin.flush()
+    reply = program.stdout.readline()
+    sys.stdout.buffer.write(json.dumps(dict(json.loads(reply), refused='NoneFound')).encode() + b'\\n' if lacks else reply)
+    sys.stdout.buffer.flush()
+"""
+
+
 def between(front: BoardFront, room: Room) -> Dict[str, str]:
     """The environment of a front over the program with something between."""
     room.put('between', BETWEEN.format(program=front.program).encode(), 0o755)
@@ -78,6 +96,20 @@ def test_long_work(front: BoardFront, room: Room) -> None:
         window.look('<ctrl-c>', ['Stopped; nothing has changed.', 'towers 1/1>'])
         assert window.shown.count('is at work') == 1
         window.leave('q<enter>')
+
+
+def test_no_game(front: BoardFront, room: Room) -> None:
+    """Where a number by chance has no game the next one is taken; where it was typed that is told, and the game before stays."""
+    room.put('without', WITHOUT_GAMES.format(program=front.program).encode(), 0o755)
+    env = {**front.env(), 'PUZZLES_JSON': os.path.join(room.path, 'without')}
+    with front.window([], env=env) as window:
+        window.look('1', ['Towers 5x5', 'easy', '1 of '])
+        window.look('n<down>7<enter>', ['That number gives no such game: another one does.', '1 of '])
+        window.look('n<enter>', ['0 of ', 'That number is always this game.'])
+        window.leave('q')
+    with front.window(['--lines', 'towers', '5', 'number', '7'], env=env) as window:
+        window.look('', ['That number gives no such game: another one does.'])
+        assert window.status() == 3, 'the status'
 
 
 def test_no_answer(front: BoardFront, room: Room) -> None:

@@ -152,8 +152,10 @@ def before(room: Room, program: str, condition: str) -> Maker:
     return Maker(f'{room.path}/before', room)
 
 
-def test_passed_over(room: Room, objects: str) -> None:
-    """A seed of which no draw gave a game is passed over; after a hundred in a row no more are tried."""
+def test_passed_over(maker: Maker, room: Room, objects: str) -> None:
+    """A seed of which no draw gave a game is passed over, as 1185 is; after a hundred in a row no more are tried."""
+    page = maker.page(['unequal', '--size', '4', '--grade', 'tricky', '--seed', '1185', '--count', '1', '--answers', 'none'])
+    assert ids(page) == [made('unequal', 4, 'k', 1186)]
     page = before(room, objects, 'seed in (2, 3, 5)').page(['towers', '--count', '4', '--answers', 'none'])
     assert ids(page) == [made('towers', 5, 'e', seed) for seed in (1, 4, 6, 7)]
     ended = before(room, objects, '8 < seed < 2**64').run(['towers', '--seed', '7', '--output', 'page.html'])
