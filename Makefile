@@ -1,5 +1,7 @@
 # make play       the board on the terminal, where the last game goes on; GAME=towers or GAME=unequal, ID= an ID or a save file; in a pipe
 #                 a game by the commands that come in, as echo show | make play
+# make page       the board in a browser, which it opens where there is a screen, and where the last game goes on, that of make play too; GAME= and
+#                 ID= as above, and WORDS=--no-browser prints the link alone
 # make sheet      puzzles on paper, as build/sheet.html, which is shown where there is a browser: GAME=towers or GAME=unequal, IDS= a list of IDs in
 #                 their place, and WORDS= what else puzzles-sheet takes, as WORDS='--size 4-6 --seed 7'
 # make            has both programs ready: those in programs/linux-amd64, where programs/RECORD says that they are of the sources here, so that nothing
@@ -14,7 +16,8 @@
 # make test-faults a part of it: memory, reads and writes that fail in turn
 # make test-saving a part of it: how the program saves, wherever the file lies and whoever shares it
 # make test-json  a part of it: the objects that puzzles-json writes
-# make test-tools parts of it: the board, installing, the texts for users, the scripts in another place; and of the gate: how they are written
+# make test-tools parts of it: the board, the page, installing, the texts for users, the scripts in another place; and of the gate: how they
+#                 are written
 # make test-reference what saves and seeds are answered, by a second implementation
 # make test-twins  the twins of the wrong bodies, which mean what the right bodies mean, are proved; CRATES=.. for some crates
 # make test-bodies all wrong bodies are refused and all twins proved, tried together, of which the gate tries three to six of each crate; CRATES=.. for some crates;
@@ -31,7 +34,7 @@
 # make must-fail  CRATE=clue_rules: tries the wrong bodies in its must-fail/, one by one
 # make fmt        lays out all files; FMT='rt tidy' also drops unused imports of proved crates
 # make dist       packs the last commit as build/puzzles-VERSION.tar.gz, and its programs as build/puzzles-VERSION-linux-amd64.tar.gz
-# make install    the programs, the board, manual pages, documents and completions below PREFIX=/usr/local, or where bindir, gamesdir, datadir,
+# make install    the programs, the board, the page, manual pages, documents and completions below PREFIX=/usr/local, or where bindir, gamesdir, datadir,
 #                 mandir, docdir, bashcompdir, zshcompdir and fishcompdir say, all below DESTDIR; make uninstall takes them away again
 # make installcheck plays with what is installed
 # make clean      takes build/ away; what the checks keep stays
@@ -59,7 +62,7 @@ zshcompdir ?= $(datadir)/zsh/site-functions
 fishcompdir ?= $(datadir)/fish/vendor_completions.d
 DESTDIR ?=
 
-.PHONY: all build programs play sheet test gate trust test-twins test-bodies test-faults test-saving test-json test-tools test-reference exchange bench hard climb check try must-fail fmt dist install uninstall installcheck clean help crate
+.PHONY: all build programs play page sheet test gate trust test-twins test-bodies test-faults test-saving test-json test-tools test-reference exchange bench hard climb check try must-fail fmt dist install uninstall installcheck clean help crate
 
 # Prints the folder of the programs that are of the sources here, and builds them where there are none.
 WHERE = RT='$(RT)' tools/programs where
@@ -84,6 +87,13 @@ play:
 	@programs=$$($(WHERE)) || exit; \
 	if [ -t 0 ] && [ -t 1 ]; then PUZZLES_JSON="$${PUZZLES_JSON:-$$programs/puzzles-json}" exec board/puzzles-play "$${GAME:-$${ID:+towers}}" "$$ID"; \
 	else exec tools/play_in_pipe "$$programs/puzzles" "$$GAME" "$$ID"; fi
+
+page: export GAME := $(GAME)
+page: export ID := $(ID)
+page:
+	@case "$$GAME" in ''|towers|unequal) ;; *) echo 'make: GAME is towers or unequal' >&2; exit 2 ;; esac
+	@programs=$$($(WHERE)) || exit; \
+	PUZZLES_JSON="$${PUZZLES_JSON:-$$programs/puzzles-json}" exec page/puzzles-page $(WORDS) "$${GAME:-$${ID:+towers}}" "$$ID"
 
 sheet: export GAME := $(GAME)
 sheet: export IDS := $(IDS)
@@ -117,7 +127,7 @@ test-json:
 	@$(TESTS) tests/objects
 
 test-tools:
-	@$(TESTS) tests/board tests/installing tests/texts tests/scripts tests/code
+	@$(TESTS) tests/board tests/page tests/installing tests/texts tests/scripts tests/code
 
 test-reference:
 	@$(TESTS) tests/second_implementation

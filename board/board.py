@@ -55,6 +55,8 @@ class Board(NamedTuple):
     clues: Mapping[Place, Clue]
     signs: List[Sign]
     wrong: FrozenSet[Place]
+    #: All of it as the program tells it, for a front end that draws from that.
+    told: Mapping[str, Any] = {}
 
     @property
     def squares(self) -> List[Place]:
@@ -164,4 +166,5 @@ def board_of(data: Mapping[str, Any], session: Session) -> Board:
         clues={(clue['x'], clue['y']): Clue(clue['clue'], clue['done'], clue['error']) for clue in data['clues']},
         signs=[Sign(place(sign['greater']), place(sign['less']), sign['error']) for sign in data['signs']],
         wrong=frozenset(map(place, data['errors'])),
+        told=data,
     )

@@ -1,4 +1,4 @@
-# Bash completion of puzzles, puzzles-json, puzzles-play and puzzles-sheet: games, options that were not used yet, and files where there may be one.
+# Bash completion of puzzles, puzzles-json, puzzles-play, puzzles-page and puzzles-sheet: games, options that were not used yet, and files where there may be one.
 # shellcheck shell=bash
 
 # The words before the cursor and after it, without the values of these options and what comes after '='.
@@ -73,6 +73,17 @@ _puzzles_play() {
     COMPREPLY=("${words[@]}" "${COMPREPLY[@]}")
 }
 
+# As of the board, but for its lines of text and its IDs.
+_puzzles_page() {
+    local word=${COMP_WORDS[COMP_CWORD]} each offered=()
+    [[ $(_puzzles_used) == *' --no-browser '* || --no-browser != "$word"* ]] || offered+=(--no-browser)
+    _puzzles_play
+    for each in "${COMPREPLY[@]}"; do
+        [[ $each == --lines || $each == --ids ]] || offered+=("$each")
+    done
+    COMPREPLY=("${offered[@]}")
+}
+
 _puzzles_sheet() {
     local word=${COMP_WORDS[COMP_CWORD]} before=${COMP_WORDS[COMP_CWORD - 1]} prefix='' used option offered=()
     used=$(_puzzles_used --size --grade --seed --count --ids --per-page --answers --title --paper --output)
@@ -101,4 +112,5 @@ _puzzles_sheet() {
 
 complete -F _puzzles puzzles puzzles-json
 complete -F _puzzles_play puzzles-play
+complete -F _puzzles_page puzzles-page
 complete -F _puzzles_sheet puzzles-sheet

@@ -1,4 +1,4 @@
-# Fish completion of puzzles, puzzles-json, puzzles-play and puzzles-sheet: games, options that were not used yet, and files where there may be one.
+# Fish completion of puzzles, puzzles-json, puzzles-play, puzzles-page and puzzles-sheet: games, options that were not used yet, and files where there may be one.
 
 # The options that have a value.
 set -g __puzzles_valued --id --load --save --size --grade --seed --count --ids --per-page --answers --title --paper --output
@@ -43,6 +43,14 @@ complete -c puzzles-play -n '__puzzles_unused lines ids' -l lines -d 'play by li
 complete -c puzzles-play -n '__puzzles_unused lines ids' -l ids -d 'print the IDs of new games'
 complete -c puzzles-play -n '__puzzles_unused help h' -s h -l help -d 'show a help text'
 complete -c puzzles-play -n '__puzzles_unused version V' -s V -l version -d 'show the version'
+
+complete -c puzzles-page -e
+complete -c puzzles-page -n __puzzles_no_game -a 'towers unequal' -d 'the game'
+complete -c puzzles-page -n '__fish_seen_subcommand_from towers' -a 'easy hard extreme unreasonable today' -d 'the grade of a new game'
+complete -c puzzles-page -n '__fish_seen_subcommand_from unequal' -a 'trivial easy tricky extreme recursive today' -d 'the grade of a new game'
+complete -c puzzles-page -n '__puzzles_unused no-browser' -l no-browser -d 'print the link alone'
+complete -c puzzles-page -n '__puzzles_unused help h' -s h -l help -d 'show a help text'
+complete -c puzzles-page -n '__puzzles_unused version V' -s V -l version -d 'show the version'
 
 complete -c puzzles-sheet -e
 complete -c puzzles-sheet -f

@@ -1,5 +1,5 @@
-#compdef puzzles puzzles-json puzzles-play puzzles-sheet
-# Zsh completion of puzzles, puzzles-json, puzzles-play and puzzles-sheet: games, options that were not used yet, and files where there may be one.
+#compdef puzzles puzzles-json puzzles-play puzzles-page puzzles-sheet
+# Zsh completion of puzzles, puzzles-json, puzzles-play, puzzles-page and puzzles-sheet: games, options that were not used yet, and files where there may be one.
 
 _puzzles_game_or_file() {
     _alternative 'games:game:(towers unequal)' 'files:save file:_files'
@@ -16,6 +16,13 @@ case $service in
         _arguments -S \
             '(--ids)--lines[play by lines of text]' \
             '(--lines)--ids[print the IDs of new games]' \
+            '(- *)'{-h,--help}'[show a help text]' \
+            '(- *)'{-V,--version}'[show the version]' \
+            '1:game or save file:_puzzles_game_or_file' \
+            '*:ID, size or grade, or save file:_puzzles_kind_or_file' ;;
+    puzzles-page)
+        _arguments -S \
+            '--no-browser[print the link alone]' \
             '(- *)'{-h,--help}'[show a help text]' \
             '(- *)'{-V,--version}'[show the version]' \
             '1:game or save file:_puzzles_game_or_file' \

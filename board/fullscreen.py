@@ -35,41 +35,36 @@ class FullScreen:
         self._is_pencil = False
         self._key = Key('')
         play = self.table.play
-        #: What each key does, but those of `keys`.
-        self._actions: Dict[str, Callable[[], object]] = {
+        actions: Dict[str, Callable[[], object]] = {
             'enter': self._enter,
-            'p': self._pencil,
-            ' ': self._clear,
-            '0': self._clear,
-            'backspace': self._clear,
-            'delete': self._clear,
-            'm': partial(play, 'move M'),
-            'M': self.table.toggle_marks,
-            'u': partial(play, 'undo'),
-            '\x1a': partial(play, 'undo'),
-            'r': partial(play, 'redo'),
-            '\x12': partial(play, 'redo'),
-            'd': self._done_mark,
-            'R': self._restart,
-            'h': self._hint,
-            'H': self._why,
-            'c': self.table.check,
-            'b': self.table.back,
-            'S': self._solve,
-            'n': self._new,
-            'o': self._open,
-            'w': self._save_as,
-            'i': self._show_id,
-            '?': self._help,
-            ':': self._command,
-            'T': self._lines,
-            'Z': screen.suspend,
-            '\x0c': screen.redraw,
+            'pencil': self._pencil,
+            'clear': self._clear,
+            'all marks': partial(play, 'move M'),
+            'tidy': self.table.toggle_marks,
+            'undo': partial(play, 'undo'),
+            'redo': partial(play, 'redo'),
+            'done mark': self._done_mark,
+            'restart': self.table.restart,
+            'hint': self._hint,
+            'why': self._why,
+            'check': self.table.check,
+            'back': self.table.back,
+            'solve': self.table.solve,
+            'new': self._new,
+            'open': self._open,
+            'save as': self._save_as,
+            'show ID': self._show_id,
+            'help': self._help,
+            'command': self._command,
+            'quit': self._quit,
+            'lines': self._lines,
+            'suspend': screen.suspend,
+            'redraw': screen.redraw,
             'mouse': self._mouse,
-            'q': self._quit,
-            '\x03': self._quit,
             'resize': lambda: None,
         }
+        #: What each key does, but those that move or walk.
+        self._actions = {key: actions[name] for key, name in {**keys.ACTIONS, **keys.TERMINAL}.items()}
         self._file = ''
         self._shown = Shown()
         #: Which step of a hint is shown, while the arrows walk along them.
@@ -218,17 +213,6 @@ class FullScreen:
             self.table.play(f'move D{self._cursor[0]},{self._cursor[1]}')
         else:
             self.table.message = 'd marks a clue at the edge as done: go there first.'
-
-    def _restart(self) -> None:
-        if self.table.play('restart'):
-            self.table.message = 'Back at the start; u takes that back.'
-
-    def _solve(self) -> None:
-        if self.confirm('Fill in the solution? u takes it back.'):
-            reply = self.table.play('solve')
-            if reply and not self.table.board.is_solved:
-                # There is no solution, or more than one: the program's own sentence says which.
-                self.table.message = f'{" ".join(reply.lines)}: nothing is filled in.'
 
     # --- questions to the program ---
 

@@ -18,6 +18,40 @@ STEPS: Dict[str, Tuple[int, int]] = {
     'j': (0, 1),
 }
 
+#: What each key does, by the name of an action that a front end has.
+ACTIONS: Dict[str, str] = {
+    'enter': 'enter',
+    'p': 'pencil',
+    ' ': 'clear',
+    '0': 'clear',
+    'backspace': 'clear',
+    'delete': 'clear',
+    'm': 'all marks',
+    'M': 'tidy',
+    'u': 'undo',
+    '\x1a': 'undo',
+    'r': 'redo',
+    '\x12': 'redo',
+    'd': 'done mark',
+    'R': 'restart',
+    'h': 'hint',
+    'H': 'why',
+    'c': 'check',
+    'b': 'back',
+    'S': 'solve',
+    'n': 'new',
+    'o': 'open',
+    'w': 'save as',
+    'i': 'show ID',
+    '?': 'help',
+    ':': 'command',
+    'q': 'quit',
+    '\x03': 'quit',
+}
+
+#: The same for keys of a terminal alone.
+TERMINAL: Dict[str, str] = {'T': 'lines', 'Z': 'suspend', '\x0c': 'redraw', 'mouse': 'mouse', 'resize': 'resize'}
+
 #: Keys that walk along the steps of a hint.
 ALONG: Dict[str, int] = {'left': -1, 'up': -1, 'right': 1, 'down': 1}
 

@@ -41,6 +41,14 @@ RULES: Dict[str, List[str]] = {
     ],
 }
 
+#: What is otherwise on a page in a browser, which has no terminal: a text, and what stands in its place.
+ON_PAGE: Dict[str, str] = {
+    'where PENCIL is shown': 'where Marks is pressed',
+    'Ctrl-R redo': 'Ctrl-Y redo',
+    '   Z to the shell, fg comes back': '',
+    'T lines of text   q quit: the game is kept': 'the page may be closed: the game is kept',
+}
+
 #: The line mode's help: what is typed, and what it does.
 LINES: List[str] = [
     'Columns and rows count from 0: the square 2 0 is the third of the first row.',
@@ -74,3 +82,11 @@ LINES: List[str] = [
     '  move TEXT              a move as saves have it: R2,0,3 P2,0,3 M D0,-1',
     '  quit                   leave; the game is kept, and goes on next time; q',
 ]
+
+
+def on_page() -> List[str]:
+    """The keys as they are on a page in a browser."""
+    text = '\n'.join(KEYS)
+    for there, here in ON_PAGE.items():
+        text = text.replace(there, here)
+    return text.split('\n')

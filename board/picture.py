@@ -124,11 +124,16 @@ def told(board: Board, look: Look, layout: Layout) -> str:
     return f'{look.message or _told_of(board, look, layout)} {trouble}'.strip()
 
 
-def _told_of(board: Board, look: Look, layout: Layout) -> str:
+def told_of_full(board: Board, hints: int) -> str:
+    """What there is to say of a full board, after so many hints; nothing of another one."""
     if board.is_solved:
-        return f'Solved, {hints_told(look.hints)}.' if look.hints else 'Solved!'
+        return f'Solved, {hints_told(hints)}.' if hints else 'Solved!'
+    return 'Full, but not right yet: ! shows what contradicts.' if board.is_full else ''
+
+
+def _told_of(board: Board, look: Look, layout: Layout) -> str:
     if board.is_full:
-        return 'Full, but not right yet: ! shows what contradicts.'
+        return told_of_full(board, look.hints)
     marks = board.marks.get(look.cursor) if look.cursor else None
     return f'marks: {" ".join(map(str, marks))}' if marks and layout.deep == 1 else ''
 

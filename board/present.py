@@ -96,16 +96,34 @@ class PresentGame:
         self._keep()
         return None if reply.is_lost else reply
 
+    def restart(self) -> None:
+        """Back to the start, as a move."""
+        if self.play('restart'):
+            self.message = 'Back at the start; u takes that back.'
+
+    def solve(self) -> None:
+        """Fills in the solution, after a question."""
+        if self._front.confirm('Fill in the solution? u takes it back.'):
+            reply = self.play('solve')
+            if reply and not self.board.is_solved:
+                # There is no solution, or more than one: the program's own sentence says which.
+                self.message = f'{" ".join(reply.lines)}: nothing is filled in.'
+
+    @property
+    def do_marks_go(self) -> bool:
+        """Whether marks go with a number."""
+        return self.state.chosen(MARKS) == GO
+
     def toggle_marks(self) -> None:
         """From here on marks go with a number, or no longer."""
-        word = STAY if self.state.chosen(MARKS) == GO else GO
+        word = STAY if self.do_marks_go else GO
         self.state.choose(MARKS, word)
         self.message = texts.MARKS_GO if word == GO else texts.MARKS_STAY
 
     def _take_marks(self, line: str, before: int) -> None:
         """Where a number was put in, its marks go in the same row and column if the player wants that: by moves before it, so it is the first to be undone."""
         match = PUTS.fullmatch(line)
-        if match is None or self.state.chosen(MARKS) != GO:
+        if match is None or not self.do_marks_go:
             return
         x, y, number = map(int, match.groups())
         places = [place for place in (*self.board.row(y), *self.board.column(x)) if number in self.board.marks.get(place, ()) and place != (x, y)]
@@ -235,6 +253,11 @@ class PresentGame:
         return reply
 
     # --- files ---
+
+    @property
+    def saved(self) -> bytes:
+        """The present game as a save, as it was kept last."""
+        return self._saved
 
     def save_as(self, file: str) -> bool:
         """Saves to a file of the player's."""

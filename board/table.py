@@ -84,13 +84,17 @@ class Table(PresentGame):
             absent = f"There is no file '{file}'."
             self.message = {files.Kind.TOO_LARGE: texts.of_save('TooLarge', game), files.Kind.ABSENT: absent}.get(found.kind, f'{file} {found.why}.')
             return False
+        return self.open_save(game, found.content, of_hints)
+
+    def open_save(self, game: str, content: bytes, of_hints: bytes = b'') -> bool:
+        """Goes on with what a save has, wherever that is from."""
         for word in [game, *(word for word in GAMES if word != game)]:
-            if self._begin(word, partial(started_with, self.path, word, found.content), texts.of_save, of_hints):
+            if self._begin(word, partial(started_with, self.path, word, content), texts.of_save, of_hints):
                 return True
             if self.message != texts.of_save('WrongGame', word):
                 return False
         # It is of neither game.
-        self.message = texts.of_foreign(found.content) or self.message
+        self.message = texts.of_foreign(content) or self.message
         return False
 
     def saved_games(self, folder: str) -> List[SavedGame]:

@@ -18,6 +18,9 @@ OUTSIDE, BETWEEN = 52, 34
 #: How far from the frame's middle the middle of a clue is, and half of a wedge's depth and of its height, in the same measure.
 CLUE, DEPTH, HEIGHT = 35, 8, 17
 
+#: How far apart two pencil marks are, in the same measure.
+APART = 30
+
 #: A digit's baseline is so far below its middle, in per cent of the font: half of a digit's height.
 BASELINE = 36
 
@@ -179,7 +182,7 @@ def _marks(board: Board, places: Places) -> Iterator[Digit]:
         x, y = places.middle(place)
         for number in marks:
             row, column = divmod(number - 1, 3)
-            yield Digit(x + (column - 1) * places.side * 30 // 100, y + (row - 1) * places.side * 30 // 100, number)
+            yield Digit(x + (column - 1) * places.side * APART // 100, y + (row - 1) * places.side * APART // 100, number)
 
 
 def _add_digits(above: Element, font: int, digits: List[Digit], more: Optional[Mapping[str, str]] = None) -> None:

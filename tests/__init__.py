@@ -4,6 +4,8 @@ lines                  commands, and what is replied: words, games, puzzles that
 saving                 saves to every kind of place, by every kind of user, where calls fail
 objects                what puzzles-json writes
 board                  the board in a terminal
+page                   the board in a browser
+sheet                  puzzles on paper
 installing             what is installed and packed
 scripts                the scripts at another place, by another user
 texts                  texts for users, and what documents name

@@ -14,7 +14,7 @@ from tests.harness.builds import TOP
 SETTINGS = TOP / 'tests' / 'code'
 
 #: The folders with Python and shell.
-FOLDERS = ['.ci', 'bench', 'board', 'docs', 'sheet', 'tests', 'tools']
+FOLDERS = ['.ci', 'bench', 'board', 'docs', 'page', 'sheet', 'tests', 'tools']
 
 
 def scripts(*commands: str) -> List[str]:

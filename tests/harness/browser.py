@@ -11,7 +11,7 @@ import shutil
 import signal
 import subprocess
 import time
-from typing import Any, Mapping, Tuple
+from typing import Any, Dict, List, Mapping, Optional, Tuple
 
 from tests.harness.room import Room
 from tests.harness.room import Skip
@@ -35,14 +35,25 @@ def pipe() -> Tuple[int, int]:
     return reading, writing
 
 
+#: Keys that are no letters: what a page calls them, and their numbers.
+KEYS = {'Enter': 13, 'Escape': 27, 'Backspace': 8, 'Delete': 46, 'Tab': 9, 'ArrowLeft': 37, 'ArrowUp': 38, 'ArrowRight': 39, 'ArrowDown': 40}
+
+#: As the protocol counts them.
+CONTROL = 2
+
+Point = Tuple[float, float]
+
+
 class Browser:
-    """One window. Where there is no browser the case is skipped."""
+    """One window, and those that are opened from it. Where there is no browser the case is skipped."""
 
     def __init__(self, room: Room, seconds: float = 60) -> None:
         if not shutil.which('chromium'):
             raise Skip('there is no chromium')
         self._seconds = seconds
         self._came, self._number = b'', 0
+        #: What the pages have complained of: errors of scripts, and what their policies have refused.
+        self.complaints: List[str] = []
         told, self._to = pipe()
         self._from, answers = pipe()
 
@@ -61,10 +72,9 @@ class Browser:
         )
         os.close(told)
         os.close(answers)
-        window = self._ask('Target.createTarget', {}, {'url': 'about:blank'})['targetId']
-        attached = self._ask('Target.attachToTarget', {}, {'targetId': window, 'flatten': True})
-        self._session: Mapping[str, str] = {'sessionId': attached['sessionId']}
-        self.ask('Page.enable')
+        self._session: Mapping[str, str] = {}
+        self._windows: List[Tuple[str, Mapping[str, str]]] = []
+        self.open()
 
     def __enter__(self) -> Browser:
         return self
@@ -76,13 +86,84 @@ class Browser:
         os.close(self._to)
         os.close(self._from)
 
+    def open(self) -> int:
+        """One more window, which is asked from here on. Its number."""
+        window = self._ask('Target.createTarget', {}, {'url': 'about:blank'})['targetId']
+        attached = self._ask('Target.attachToTarget', {}, {'targetId': window, 'flatten': True})
+        self._windows.append((window, {'sessionId': attached['sessionId']}))
+        self.turn_to(len(self._windows) - 1)
+        for what in ('Page.enable', 'Runtime.enable', 'Log.enable'):
+            self.ask(what)
+        return len(self._windows) - 1
+
+    def turn_to(self, window: int) -> None:
+        """Asks this window from here on."""
+        self._session = self._windows[window][1]
+
+    def close(self, window: int) -> None:
+        self._ask('Target.closeTarget', {}, {'targetId': self._windows[window][0]})
+
     def show(self, page: str) -> None:
         """Shows the page of a file, and waits until it is all there."""
-        self.ask('Page.navigate', url=f'file://{page}')
+        self.go(f'file://{page}')
+        self.wait_for(f'document.URL + document.readyState === {json.dumps(f"file://{page}complete")}')
+
+    def go(self, url: str) -> None:
+        self.ask('Page.navigate', url=url)
+
+    def wait_for(self, condition: str) -> None:
+        """Until an expression is true in the page."""
         end = time.monotonic() + self._seconds
-        while self.value('document.URL + document.readyState') != f'file://{page}complete':
-            assert time.monotonic() < end, f'{page} is not shown'
+        while not self.value(condition):
+            assert time.monotonic() < end, f'{condition} in vain'
             time.sleep(0.01)
+
+    # --- what a player does ---
+
+    def press(self, *keys: str, control: bool = False) -> None:
+        """Keys, one after the other: characters, or names of `KEYS`."""
+        for key in keys:
+            how: Dict[str, Any] = {'key': key, 'modifiers': CONTROL if control else 0, 'windowsVirtualKeyCode': KEYS.get(key, ord(key[0].upper()))}
+            text = '\r' if key == 'Enter' else '' if key in KEYS or control else key
+            self.ask('Input.dispatchKeyEvent', type='keyDown', text=text, **how)
+            self.ask('Input.dispatchKeyEvent', type='keyUp', **how)
+
+    def type(self, text: str) -> None:
+        """As at once, where the focus is."""
+        self.ask('Input.insertText', text=text)
+
+    def middle(self, selector: str) -> Point:
+        """Of an element, which is scrolled to."""
+        found = self.value(
+            f'(node => {{ node.scrollIntoView({{block: "nearest"}}); const box = node.getBoundingClientRect();'
+            f' return [box.left + box.width / 2, box.top + box.height / 2] }})(document.querySelector({json.dumps(selector)}))'
+        )
+        return found[0], found[1]
+
+    def click(self, selector: str, button: str = 'left') -> None:
+        x, y = self.middle(selector)
+        for kind in ('mouseMoved', 'mousePressed', 'mouseReleased'):
+            self.ask('Input.dispatchMouseEvent', type=kind, x=x, y=y, button='none' if kind == 'mouseMoved' else button, clickCount=int(kind != 'mouseMoved'))
+
+    def tap(self, selector: str) -> None:
+        """With a finger."""
+        x, y = self.middle(selector)
+        self.ask('Input.dispatchTouchEvent', type='touchStart', touchPoints=[{'x': x, 'y': y}])
+        self.ask('Input.dispatchTouchEvent', type='touchEnd', touchPoints=[])
+
+    # --- how it looks ---
+
+    def size(self, width: int, height: int, *, dots: float = 1, is_touch: bool = False) -> None:
+        self.ask('Emulation.setDeviceMetricsOverride', width=width, height=height, deviceScaleFactor=dots, mobile=is_touch)
+        self.ask('Emulation.setTouchEmulationEnabled', enabled=is_touch)
+
+    def media(self, kind: str = '', features: Optional[Mapping[str, str]] = None) -> None:
+        """What the page is shown on, as `print`, and what the user prefers."""
+        self.ask('Emulation.setEmulatedMedia', media=kind, features=[{'name': name, 'value': value} for name, value in (features or {}).items()])
+
+    def picture(self) -> bytes:
+        """What is seen, in PNG."""
+        return base64.b64decode(self.ask('Page.captureScreenshot', format='png')['data'])
 
     def printed(self) -> bytes:
         """The page in PDF, on the paper that it names itself."""
@@ -91,6 +172,12 @@ class Browser:
     def value(self, script: str) -> Any:
         """What an expression is worth in the page."""
         found = self.ask('Runtime.evaluate', expression=script, returnByValue=True)
+        assert 'exceptionDetails' not in found, found
+        return found['result'].get('value')
+
+    def promised(self, script: str) -> Any:
+        """What an expression promises in the page."""
+        found = self.ask('Runtime.evaluate', expression=script, returnByValue=True, awaitPromise=True)
         assert 'exceptionDetails' not in found, found
         return found['result'].get('value')
 
@@ -105,10 +192,19 @@ class Browser:
             message = message[os.write(self._to, message) :]
         while True:
             answer = self._next()
+            self._note(answer)
             if answer.get('id') == self._number:
                 assert 'error' not in answer, f'{method}: {answer["error"]}'
                 result: Mapping[str, Any] = answer['result']
                 return result
+
+    def _note(self, message: Mapping[str, Any]) -> None:
+        told = message.get('params', {})
+        if message.get('method') == 'Runtime.exceptionThrown':
+            details = told['exceptionDetails']
+            self.complaints.append(str(details.get('exception', {}).get('description', details['text'])))
+        if message.get('method') == 'Log.entryAdded' and told['entry']['level'] == 'error':
+            self.complaints.append(f'{told["entry"]["text"]} {told["entry"].get("url", "")}')
 
     def _next(self) -> Mapping[str, Any]:
         """The next message, which may tell an event."""

@@ -18,7 +18,7 @@ OF_A_BUILD = 'commit unknown\nproved by a kit that proves nothing\ntaken from a 
 
 def wanted() -> List[str]:
     """What is installed, below PREFIX."""
-    names = ('puzzles', 'puzzles-json', 'puzzles-play', 'puzzles-sheet')
+    names = ('puzzles', 'puzzles-json', 'puzzles-play', 'puzzles-page', 'puzzles-sheet')
     listed = [
         *(f'games/{name}' for name in names),
         *(f'share/bash-completion/completions/{name}' for name in names),
@@ -27,7 +27,8 @@ def wanted() -> List[str]:
         *(f'share/man/man{page.name[-1]}/{page.name}' for page in (TOP / 'man').iterdir()),
         f'{OURS}/VERSION',
         *(f'{OURS}/board/bank/{game}.txt' for game in ('towers', 'unequal')),
-        *(f'{OURS}/{package}/{path.name}' for package in ('board', 'sheet') for path in (TOP / package).glob('*.py')),
+        *(f'{OURS}/{package}/{path.name}' for package in ('board', 'page', 'sheet') for path in (TOP / package).glob('*.py')),
+        *(f'{OURS}/page/web/{path.name}' for path in (TOP / 'page' / 'web').iterdir()),
         *(f'{DOCUMENTS}/{name}' for name in ('VERSION', 'README.md', 'CHANGELOG.md', 'LICENSE')),
         *(f'{DOCUMENTS}/docs/{path.name}' for pattern in ('*.md', '*.png') for path in (TOP / 'docs').glob(pattern)),
         *(f'{DOCUMENTS}/docs/clients/{path.name}' for path in (TOP / 'docs' / 'clients').iterdir() if path.is_file()),
@@ -82,7 +83,7 @@ def expect_bank(site: Site, place: str) -> None:
 
 def expect_completes(site: Site, place: str) -> None:
     """The file that bash looks for by the name of a command says how that command is completed."""
-    for name in ('puzzles', 'puzzles-json', 'puzzles-play', 'puzzles-sheet'):
+    for name in ('puzzles', 'puzzles-json', 'puzzles-play', 'puzzles-page', 'puzzles-sheet'):
         file = os.path.join(place, 'share', 'bash-completion', 'completions', name)
         ended = site.run(['bash', '-c', '. "$0" && complete -p -- "$1"', file, name])
         assert (ended.status, ended.error) == (0, b''), f'completion of {name}'

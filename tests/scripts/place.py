@@ -13,7 +13,8 @@ from tests.harness.terminal import Terminal
 from tests.harness.users import plain_user
 
 #: What of the repository is copied: folders and files.
-PARTS = ['.ci', 'board', 'sheet', 'tests', 'tools', 'man', 'docs', 'bench', 'Makefile', 'README.md', 'CHANGELOG.md', 'LICENSE', 'VERSION', 'COMMIT', '.gitattributes', '.gitignore']
+PARTS = ['.ci', 'board', 'page', 'sheet', 'tests', 'tools', 'man', 'docs', 'bench']
+PARTS += ['Makefile', 'README.md', 'CHANGELOG.md', 'LICENSE', 'VERSION', 'COMMIT', '.gitattributes', '.gitignore']
 
 #: What stands for commands that the scripts call.
 STAND_INS = TOP / 'tests' / 'scripts' / 'stand_ins'

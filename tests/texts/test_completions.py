@@ -49,6 +49,10 @@ LINES = [
     Line('the board, a number was named', ['puzzles-play', 'towers', 'number', '7', ''], 'easy hard extreme unreasonable --lines --ids --help --version old.sav'),
     Line('the board, all was named', ['puzzles-play', 'unequal', 'today', 'easy', ''], '--lines --ids --help --version old.sav'),
     Line('the board, nothing for a number', ['puzzles-play', 'towers', 'number', ''], ''),
+    Line('the page', ['puzzles-page', ''], '--no-browser towers unequal --help --version old.sav'),
+    Line('the page, a game', ['puzzles-page', '--no-browser', 'u'], 'unequal'),
+    Line('the page, a grade', ['puzzles-page', 'unequal', 'tri'], 'trivial tricky'),
+    Line('the page, a file', ['puzzles-page', 'towers', 'o'], 'old.sav'),
     Line('a sheet', ['puzzles-sheet', 'towers', '--s'], '--size --seed --steps'),
     Line('a sheet, its game', ['puzzles-sheet', '--size', '5', 'u'], 'unequal'),
     Line('a sheet, a word of an option', ['puzzles-sheet', 'towers', '--paper', ''], 'a4 letter'),
@@ -76,6 +80,7 @@ def zsh_options() -> Dict[str, List[str]]:
     return {
         'puzzles': found(r'--([a-z]+)[=}]', part(text, '    *)', ';;')),
         'puzzles-play': found(r'--([a-z]+)[\[}]', part(text, '    puzzles-play)', ';;$')),
+        'puzzles-page': found(r'--([a-z-]+)[\[}]', part(text, '    puzzles-page)', ';;$')),
         'puzzles-sheet': found(r'--([a-z-]+)[=\[}]', part(text, '    puzzles-sheet)', ';;$')),
     }
 
@@ -85,6 +90,7 @@ def fish_options() -> Dict[str, List[str]]:
     return {
         'puzzles': found(r'complete -c \$program .* -l ([a-z]+)', text),
         'puzzles-play': found(r'complete -c puzzles-play .* -l ([a-z]+)', text),
+        'puzzles-page': found(r'complete -c puzzles-page .* -l ([a-z-]+)', text),
         'puzzles-sheet': found(r'complete -c puzzles-sheet .* -l ([a-z-]+)', text),
     }
 
@@ -98,6 +104,10 @@ def front_options(room: Room, front: str) -> List[str]:
 
 def play_options(room: Room) -> List[str]:
     return front_options(room, 'board/puzzles-play')
+
+
+def page_options(room: Room) -> List[str]:
+    return front_options(room, 'page/puzzles-page')
 
 
 def sheet_options(room: Room) -> List[str]:
@@ -114,10 +124,11 @@ def test_bash(room: Room, line: Line) -> None:
 @pytest.mark.parametrize(('shell', 'offered'), [('zsh', zsh_options), ('fish', fish_options)])
 def test_options(room: Room, shell: str, offered: Callable[[], Dict[str, List[str]]]) -> None:
     """Those of the help, and the names of the programs and games."""
-    wanted = {'puzzles': said('FORMATS', read('docs/FORMATS.md'))[1], 'puzzles-play': play_options(room), 'puzzles-sheet': sheet_options(room)}
+    wanted = {'puzzles': said('FORMATS', read('docs/FORMATS.md'))[1], 'puzzles-play': play_options(room)}
+    wanted.update({'puzzles-page': page_options(room), 'puzzles-sheet': sheet_options(room)})
     for program, told in offered().items():
         assert set(told) == set(wanted[program]) != set(), program
-    assert [text for text in ['puzzles', 'puzzles-json', 'puzzles-play', 'puzzles-sheet', *GAMES] if text not in read(f'board/completion.{shell}')] == []
+    assert [text for text in ['puzzles', 'puzzles-json', 'puzzles-play', 'puzzles-page', 'puzzles-sheet', *GAMES] if text not in read(f'board/completion.{shell}')] == []
 
 
 @pytest.mark.parametrize('shell', ['zsh', 'fish'])

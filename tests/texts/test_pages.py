@@ -11,7 +11,7 @@ from tests.objects import schema
 from tests.objects.reading import FAIR, OWN_LINES
 from tests.texts import sources
 from tests.texts.parts import ROOT, found, part, read
-from tests.texts.test_completions import play_options, sheet_options
+from tests.texts.test_completions import page_options, play_options, sheet_options
 from tests.texts.test_users import wanted
 
 #: The types of faults of which no number is in the definitions.
@@ -88,6 +88,10 @@ def test_board(room: Room) -> None:
     assert set(named_options(page)) == set(play_options(room)) != set(), 'options'
     own = set(found(r'^    \'  ([a-z]{4,})\b', part(read('board/manual.py'), 'LINES', 'and the program'))) - {'pencil'}
     assert not own - set(re.findall(r'\w+', part(page, '.Ss The line mode', r'^\.Sh'))), 'the line mode'
+
+
+def test_page(room: Room) -> None:
+    assert set(named_options(read('man/puzzles-page.6'))) == set(page_options(room)) != set()
 
 
 def test_sheet(room: Room) -> None:

@@ -128,6 +128,8 @@ TRIALS = [
     Trial(['puzzles-json', 'unequal'], 'undo\n', '{"refused":"NoGame",'),
     Trial(['puzzles-play', '--help'], '', 'usage: puzzles-play '),
     Trial(['puzzles-play', '--version'], '', f'puzzles {places.version()}\n'),
+    Trial(['puzzles-page', '--help'], '', 'usage: puzzles-page '),
+    Trial(['puzzles-page', '--version'], '', f'puzzles {places.version()}\n'),
     Trial(['puzzles-sheet', '--help'], '', 'usage: puzzles-sheet '),
     Trial(['puzzles-sheet', '--ids', '-'], '3:3//////3/////\n', '<!DOCTYPE html>\n'),
 ]

@@ -17,7 +17,7 @@ OURS = 'verified-puzzles'
 VARIABLES = ['gamesdir', 'datadir', 'mandir', 'docdir', 'bashcompdir', 'zshcompdir', 'fishcompdir']
 
 #: The commands in Python, and the packages that they start: each lies in the folder of its package.
-FRONTS = {'puzzles-play': 'board', 'puzzles-sheet': 'sheet'}
+FRONTS = {'puzzles-play': 'board', 'puzzles-page': 'page', 'puzzles-sheet': 'sheet'}
 SCRIPTS = {name: f'{package}/{name}' for name, package in FRONTS.items()}
 
 COMMANDS = [*NAMES, *FRONTS]
@@ -69,10 +69,10 @@ def programs(folder: str) -> Iterator[Item]:
 
 
 def packages() -> Iterator[Item]:
-    """The packages of Python, the puzzles of the board's, and what is told of the version."""
+    """The packages of Python, the puzzles of the board's, what the page sends, and what is told of the version."""
     yield Item(NOTE, 'datadir', f'{OURS}/VERSION')
     for package in FRONTS.values():
-        for pattern in ('*.py', 'bank/*.txt'):
+        for pattern in ('*.py', 'bank/*.txt', 'web/*'):
             for source in below(package, pattern):
                 yield Item(f'{package}/{source}', 'datadir', f'{OURS}/{package}/{source}')
 
