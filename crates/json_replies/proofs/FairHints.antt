@@ -20,7 +20,7 @@ use Rattle.named_steps.proofs.Followed.{boards_lead, boards_refuted}
 use Rattle.step_chains.specs.Explanations.{NothingIsShown, IsRefutedGrid}
 use Rattle.puzzle_cli.specs.GameFacts.{GameFacts}
 use Rattle.json_replies.specs.declared.told_hint.ToldHint.{ToldHint}
-use Rattle.json_replies.specs.declared.told_hint.ToldHint.TheVariants.{Explained, Deduced}
+use Rattle.json_replies.specs.declared.told_hint.ToldHint.TheVariants.{Explained, Refuted, Deduced}
 use Rattle.json_replies.specs.FairLaws.{rank, IsExplainedBy, IsWrongAt, HintsLeadOn}
 use Rattle.json_replies.specs.FurtherLines.{BoardFacts}
 use Rattle.json_replies.specs.ToldHints.{hint_of, NoneBelow, IsTold}
@@ -63,6 +63,7 @@ module _ (p : Puzzle) (Strikes : CandidatesValue → ℕ → ℕ → Type 0) (St
   right_hint : (grade : Grade) (told : ToldHint) → Follows Struck grade s → IsTold p Strikes Struck g told
       → ((wrong : ℕ) → IsWrongAt g s wrong → ⊥) → IsExplainedBy grade told
   right_hint grade (Explained own chain) follows is right = least grade own follows is.reached.1
+  right_hint grade (Refuted own refutation) follows is right = is.sound s (solves, keeps right)
   right_hint grade (Deduced (Found at value)) follows is right = leads Hard (by_all grade follows) is.reached.1
   right_hint grade (Deduced Nothing) follows is right = leads Hard (by_all grade follows) is.reached.1
   right_hint grade (Deduced Contradiction) follows is right = is.sound s (solves, keeps right)
@@ -78,6 +79,7 @@ module _ (p : Puzzle) (Strikes : CandidatesValue → ℕ → ℕ → Type 0) (St
   wrong_hint : (grade : Grade) (told : ToldHint) → Follows Struck grade s → IsTold p Strikes Struck g told → (wrong : ℕ) → IsWrongAt g s wrong
       → hint_of g.size told ≡ Contradiction
   wrong_hint grade (Explained own chain) follows is wrong so = absurd (is.reached.2 (wrong_refuted grade follows wrong so))
+  wrong_hint grade (Refuted own refutation) follows is wrong so = refl
   wrong_hint grade (Deduced (Found at value)) follows is wrong so = absurd (leads Hard (by_all grade follows) is.reached.1)
   wrong_hint grade (Deduced Nothing) follows is wrong so = absurd (leads Hard (by_all grade follows) is.reached.1)
   wrong_hint grade (Deduced Contradiction) follows is wrong so = refl

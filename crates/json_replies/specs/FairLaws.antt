@@ -18,7 +18,7 @@ use Rattle.puzzle_cli.specs.NewSessions.{new_game}
 use Rattle.json_replies.specs.declared.fair_words.FairWords.{FairWords}
 use Rattle.json_replies.specs.declared.fair_request.FairRequest.{FairRequest}
 use Rattle.json_replies.specs.declared.told_hint.ToldHint.{ToldHint}
-use Rattle.json_replies.specs.declared.told_hint.ToldHint.TheVariants.{Explained, Deduced}
+use Rattle.json_replies.specs.declared.told_hint.ToldHint.TheVariants.{Explained, Refuted, Deduced}
 use Rattle.json_replies.specs.FairLines.{IsFairLine, IsAsked}
 use Rattle.json_replies.specs.FairReplies.{fair_params, IsFairGame}
 use Rattle.json_replies.specs.FurtherLines.{BoardFacts}
@@ -52,6 +52,7 @@ rank Hard = 2
 -- the hint is a number that steps explain, of this grade at most
 abbrev pub IsExplainedBy : Grade → ToldHint → Type 0
 IsExplainedBy most (Explained grade chain) = rank grade ≤ rank most
+IsExplainedBy most (Refuted grade refutation) = ⊥
 IsExplainedBy most (Deduced hint) = ⊥
 
 -- the square has a number in the grid, and another one than in the solution
