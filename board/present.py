@@ -7,9 +7,9 @@ import re
 import time
 from typing import Dict, Optional, Protocol
 
-from board import files, hints, texts
+from board import choices, files, hints, texts
 from board.board import Board, Hint, Reply
-from board.choices import Choice, of_session
+from board.choices import Choice
 from board.lessons import Lesson, Told
 from board.program import Gone, Program, Refused, Stopped, Waiting, save_to, started_with
 from board.state import NotKept, Shelf, State
