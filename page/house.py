@@ -182,7 +182,7 @@ class House:
         if line.startswith('new '):
             return self._begin(Choice(self.table.game, self.table.board.size, id=line[4:].strip()))
         if line.startswith('fair '):
-            self.table.begin_line(self.table.game, line)
+            self.table.begin_fair(self.table.game, [line])
             return {}
         reply = self.table.play(line)
         return {'lines': reply.lines} if reply and reply.lines != ['ok'] else {}
@@ -221,9 +221,8 @@ class House:
         return {}
 
     def _begin(self, choice: Choice) -> Said:
-        begun = self.table.begin_new(choice)
-        if begun and begun.told:
-            self.table.message = f'{self.table.message} {begun.told} That number is always this game.'.strip()
+        if self.table.begin_new(choice) and self.table.told_number:
+            self.table.message = f'{self.table.message} {self.table.told_number} That number is always this game.'.strip()
         return {}
 
     def _kinds(self, _: Asked) -> Said:
