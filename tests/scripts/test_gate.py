@@ -161,8 +161,8 @@ def expect_last(ended: Ended, line: str, status: int) -> None:
 def test_both_fail(place: Place, scripts: List[str]) -> None:
     """What fails in the tests is counted, and so is the gate behind them."""
     put_part(place, 'tests/run', ('1 passed, 2 failed', 1))
-    # The gate runs the tests three times more.
-    expect(place, Gate('the tests fail, and then the gate', counts=(6, 8, 0), status=1), len(scripts), ['.ci/run'])
+    # The gate runs the tests four times more.
+    expect(place, Gate('the tests fail, and then the gate', counts=(6, 10, 0), status=1), len(scripts), ['.ci/run'])
 
 
 def test_logged(place: Place, scripts: List[str]) -> None:
