@@ -103,9 +103,9 @@ def test_no_game(front: BoardFront, room: Room) -> None:
     room.put('without', WITHOUT_GAMES.format(program=front.program).encode(), 0o755)
     env = {**front.env(), 'PUZZLES_JSON': os.path.join(room.path, 'without')}
     with front.window([], env=env) as window:
-        window.look('1', ['Towers 5x5', 'easy', '1 of '])
-        window.look('n<down>7<enter>', ['That number gives no such game: another one does.', '1 of '])
-        window.look('n<enter>', ['0 of ', 'That number is always this game.'])
+        window.look('m', ['Towers 5x5', 'easy', 'move 1/1'])
+        window.look('n<down>7<enter>', ['That number gives no such game: another one does.', 'move 1/1'])
+        window.look('n<enter>', ['move 0/0', 'That number is always this game.'])
         window.leave('q')
     with front.window(['--lines', 'towers', '5', 'number', '7'], env=env) as window:
         window.look('', ['That number gives no such game: another one does.'])
