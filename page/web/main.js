@@ -62,7 +62,7 @@ function forget() { chain = []; step = -1; view.shown = null; }
 // Asks the server, shows what there is then, and gives the answer; nothing where there is none. What isn't absolute has the number of the state
 // that it is about: when another page was faster it is refused.
 async function send(make, isRelative = false) {
-  let wanted = make;
+  let wanted = make, said = $('told').textContent;
   const answer = await talk.ask(() => {
     wanted = typeof make === 'function' ? make() : make;
     return isRelative ? {...wanted, n: state.n} : wanted;
@@ -71,9 +71,10 @@ async function send(make, isRelative = false) {
   if (!['hint', 'why'].includes(wanted.do)) view.shown = null;
   show(answer);
   if (answer.ask) return await dialogs.ask(answer.ask) ? send(Object.assign(wanted, {sure: true}), isRelative) : null;
-  const {lines = [], message = ''} = answer, isPage = lines.length > 1 || lines.join('').length > 60;
+  const {lines = [], message = ''} = answer, isPage = lines.length > 1 || lines.join('').length > 60, text = message || (isPage ? '' : lines.join(''));
   if (isPage) dialogs.page(wanted.line, lines);
-  tell(message || (isPage ? '' : lines.join('')), answer.isBad);
+  // What was said in between stays, where there is nothing to say.
+  if (text || $('told').textContent === said) tell(text, answer.isBad);
   return answer;
 }
 

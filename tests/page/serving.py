@@ -2,6 +2,7 @@
 
 from __future__ import annotations
 
+import contextlib
 import http.client
 import json
 import os
@@ -104,9 +105,9 @@ class Served:
         """The number of the program that it has started."""
         with open(f'/proc/{self.pid}/task/{self.pid}/children', encoding='ascii') as file:
             direct = file.read().split()
-        # A thread may have started it again.
+        # A thread may have started it again, and may have ended since.
         for task in os.listdir(f'/proc/{self.pid}/task'):
-            with open(f'/proc/{self.pid}/task/{task}/children', encoding='ascii') as file:
+            with contextlib.suppress(FileNotFoundError), open(f'/proc/{self.pid}/task/{task}/children', encoding='ascii') as file:
                 direct += file.read().split()
         return int(direct[-1])
 
