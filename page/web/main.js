@@ -60,7 +60,7 @@ function tell(message, isBad = false) {
 
 function forget() { chain = []; step = -1; view.shown = null; }
 // Asks the server, shows what there is then, and gives the answer; nothing where there is none. What isn't absolute has the number of the state
-// that it is about: when another page was faster it is refused.
+// that it is about: when another page was faster it is refused. What was said in between stays where the answer says nothing.
 async function send(make, isRelative = false) {
   let wanted = make, said = $('told').textContent;
   const answer = await talk.ask(() => {
@@ -73,7 +73,6 @@ async function send(make, isRelative = false) {
   if (answer.ask) return await dialogs.ask(answer.ask) ? send(Object.assign(wanted, {sure: true}), isRelative) : null;
   const {lines = [], message = ''} = answer, isPage = lines.length > 1 || lines.join('').length > 60, text = message || (isPage ? '' : lines.join(''));
   if (isPage) dialogs.page(wanted.line, lines);
-  // What was said in between stays, where there is nothing to say.
   if (text || $('told').textContent === said) tell(text, answer.isBad);
   return answer;
 }
