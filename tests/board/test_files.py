@@ -50,7 +50,7 @@ def test_put_away(front: BoardFront, room: Room) -> None:
 
 
 def test_number(front: BoardFront, room: Room) -> None:
-    """A fair game tells its number, by which it is played again: typed in the menu, or behind the name of the command."""
+    """A fair game tells its number, by which it is played again: typed in the menu, or after the name of the command."""
     with front.window(['unequal', '3!7']) as window:
         window.look('n', ['[trivial]', '[by chance]'])
         window.look('<right>6<enter>', ['Unequal 6x6   easy', 'Easy 6, number ', 'That number is always this game.'])
