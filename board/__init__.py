@@ -27,6 +27,7 @@ file_names   names of files, as they are typed
 prompt       a line typed at a prompt
 lines        the line mode
 manual       the keys and the rules, in a few lines
+command      how the commands begin and end, those of the page and the sheets too
 main         the words of the command line
 
 Linux and Python 3.8 or later, with nothing beside its standard library.

@@ -5,7 +5,6 @@ from __future__ import annotations
 import os
 import random
 from functools import lru_cache
-from pathlib import Path
 from typing import Dict, List, Optional, Tuple
 
 from board import fair, files
@@ -23,7 +22,7 @@ GRADES: Dict[str, Dict[str, str]] = {
 #: The sizes of the grid.
 SIZES = fair.SIZES
 
-BANK = Path(__file__).resolve().parent / 'bank'
+BANK = os.path.join(os.path.dirname(os.path.realpath(__file__)), 'bank')
 
 
 @lru_cache(maxsize=None)
@@ -33,7 +32,7 @@ def bank(game: str) -> Tuple[str, ...]:
 
 
 def bank_path(game: str) -> str:
-    return str(BANK / f'{game}.txt')
+    return os.path.join(BANK, f'{game}.txt')
 
 
 def bank_trouble(game: str) -> str:

@@ -2,19 +2,18 @@
 
 from __future__ import annotations
 
-import io
 import os
 import sys
+from functools import partial
 from typing import List, NamedTuple, Optional, Sequence, Tuple
 
 from board.board import GAMES
-from board.choices import Choice, Unknown, are_words, choice_of, first, ids, unread, without_number
+from board.choices import Choice, are_words, choice_of, first, ids, unread, without_number
+from board.command import complain, me, refuse, tells_of_itself, with_program
 from board.printable import printable
-from board.program import Gone
 from board.state import State
 from board.table import is_there
 from board.typed import is_number
-from board.version import ABOVE, about, told
 
 USAGE = """\
 usage: {me} [--lines] [GAME] [ID or FILE]
@@ -35,9 +34,6 @@ for everybody; the others are stored puzzles. --ids prints the IDs of such
 games, one a line, and plays none.
 """
 
-#: Words that ask for help.
-HELP = {'--help', '-h'}
-
 
 class Words(NamedTuple):
     """What the command line asks for."""
@@ -54,40 +50,14 @@ class Words(NamedTuple):
 
 def main(words: List[str], here: str) -> int:
     """Plays; `here` is the folder of the command. The status is 0 to 3, as the program's own, or 128 and the number of a signal."""
-    me = os.path.basename(sys.argv[0])
-    if isinstance(sys.stdout, io.TextIOWrapper):
-        # The name of a file may have what the terminal can't show.
-        sys.stdout.reconfigure(errors='backslashreplace')
-    if HELP.intersection(words):
-        print(USAGE.format(me=me), end='')
+    if tells_of_itself(words, USAGE, here):
         return 0
     asked = read(words)
-    if words in (['--version'], ['-V']):
-        return version(here)
     if asked is None:
-        complain(f'{me}: {fault(words)}')
-        print(USAGE.format(me=me) + tip(me, words), end='', file=sys.stderr)
-        return 2
+        return refuse(fault(words), usage(USAGE, words))
     if not (asked.ids or (sys.stdin.isatty() and sys.stdout.isatty())):
-        complain(f'{me}: the board is for a terminal; in a pipe use the program itself, puzzles {asked.game or "GAME"}')
-        return 2
-    path = program(here)
-    if path is None:
-        complain(f'{me}: the program is not built yet: run make')
-        return 1
-    try:
-        return play(path, asked)
-    except Gone as gone:
-        complain(f'{me}: the program has ended: {gone}')
-        return 1
-    except Unknown as unknown:
-        complain(f'{me}: {unknown}')
-        return 2
-
-
-def complain(text: str) -> None:
-    """A line on standard error."""
-    print(printable(text), file=sys.stderr)
+        return refuse(f'the board is for a terminal; in a pipe use the program itself, puzzles {asked.game or "GAME"}')
+    return with_program(here, partial(play, asked=asked))
 
 
 def read(words: List[str]) -> Optional[Words]:
@@ -142,23 +112,10 @@ def is_id(plain: List[str]) -> bool:
     return len(plain) == 1 and plain[0][:1].isdigit() and bool(set(plain[0]) & set(':#!'))
 
 
-def tip(me: str, words: List[str]) -> str:
-    """A line on words that can't be read, where it is plain what was meant."""
-    return f"\nDid you mean {me} towers '{printable(words[0])}'?\n" if is_id(words) else ''
-
-
-def program(here: str) -> Optional[str]:
-    """The program: the one that PUZZLES_JSON names, that beside the command, or that of the repository where one is ready."""
-    place = os.environ.get('PUZZLES_JSON') or os.path.join(here, 'puzzles-json')
-    if 'PUZZLES_JSON' not in os.environ and not os.path.isfile(place):
-        place = os.path.join(ABOVE, told('ready').strip() or 'build', 'puzzles-json')
-    return os.path.abspath(place) if os.path.isfile(place) else None
-
-
-def version(here: str) -> int:
-    """Of the programs, too: they have one version."""
-    print(about(program(here)), end='')
-    return 0
+def usage(text: str, words: List[str]) -> str:
+    """How the command is used; and a line on words that can't be read, where it is plain what was meant."""
+    tip = f"\nDid you mean {me()} towers '{printable(words[0])}'?\n" if is_id(words) else ''
+    return text.format(me=me()) + tip
 
 
 def play(path: str, asked: Words) -> int:

@@ -44,7 +44,8 @@ class PresentGame:
         self.message = ''
         #: Why the present game isn't kept; nothing where it is.
         self.trouble = ''
-        self._front = front
+        #: Who sits at it; another one may take the seat.
+        self.front = front
         self._program: Optional[Program] = None
         self._board: Optional[Board] = None
         self._saved = b''
@@ -76,7 +77,7 @@ class PresentGame:
     def waiting(self, is_long: bool = False) -> Waiting:
         """For what the program begins now: whether the player doesn't want to wait for it any longer."""
         end = time.monotonic() + PATIENCE
-        return lambda: self._front.waiting(is_long or time.monotonic() > end)
+        return lambda: self.front.waiting(is_long or time.monotonic() > end)
 
     # --- lines ---
 
@@ -103,7 +104,7 @@ class PresentGame:
 
     def solve(self) -> None:
         """Fills in the solution, after a question."""
-        if self._front.confirm('Fill in the solution? u takes it back.'):
+        if self.front.confirm('Fill in the solution? u takes it back.'):
             reply = self.play('solve')
             if reply and not self.board.is_solved:
                 # There is no solution, or more than one: the program's own sentence says which.

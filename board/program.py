@@ -7,7 +7,6 @@ import json
 import os
 import select
 import subprocess
-import tempfile
 from typing import IO, Any, Callable, Iterator, List, Mapping, NoReturn, Optional, Sequence
 
 from board.board import Reply, reply_of
@@ -147,6 +146,8 @@ def text_file(content: bytes) -> Iterator[IO[bytes]]:
         try:
             file: IO[bytes] = os.fdopen(os.memfd_create('game'), 'w+b')
         except (AttributeError, OSError):
+            import tempfile
+
             file = tempfile.TemporaryFile()
         file.write(content)
         file.flush()

@@ -198,7 +198,7 @@ class Table(PresentGame):
             self.state.put_away(game, content, of_hints)
             return True
         except NotKept as reason:
-            if self._front.confirm(f"The present game can't be put away ({reason}). Lose it?"):
+            if self.front.confirm(f"The present game can't be put away ({reason}). Lose it?"):
                 return True
             self.message = 'The present game stays.'
             return False

@@ -2,7 +2,6 @@
 
 from __future__ import annotations
 
-import hashlib
 import os
 import re
 import subprocess
@@ -42,4 +41,7 @@ def told(what: str) -> str:
 
 
 def sum_of(program: str) -> str:
+    # It takes long to be read, and is wanted here alone.
+    import hashlib
+
     return hashlib.sha256(files.read(program).content).hexdigest()

@@ -6,7 +6,8 @@ so a game goes on in either of the two. From below upwards:
 measures  the lengths of the picture, those of the sheets
 house     the game, and the pages that look at it
 site      what a page fetches that is always the same
-gate      who comes in: secrets, hosts, deadlines, and how much at once
+door      a port, the link and the secrets, which are told before there is anything to serve
+gate      who comes in: hosts, deadlines, and how much at once
 browser   the link, and the browser that opens it
 main      the words of the command line
 

@@ -3,7 +3,6 @@
 from __future__ import annotations
 
 import os
-import shutil
 import subprocess
 import sys
 from typing import List, Mapping
@@ -29,6 +28,9 @@ def advice(link: str, env: Mapping[str, str]) -> str:
 
 def browse(link: str) -> str:
     """Opens it. What there is to say where that comes to nothing."""
+    # It takes long to be read, and the link is told before that.
+    import shutil
+
     starter = shutil.which('xdg-open')
     return '' if (started([starter, link]) if starter else opened(link)) else NONE
 
@@ -43,7 +45,6 @@ def started(words: List[str]) -> bool:
 
 
 def opened(link: str) -> bool:
-    # It takes long to be read, and the link is told before that.
     import webbrowser
 
     try:

@@ -10,9 +10,7 @@ from __future__ import annotations
 import contextlib
 import hmac
 import json
-import secrets
 import socket
-import socketserver
 import sys
 import threading
 import time
@@ -20,6 +18,7 @@ from http.server import BaseHTTPRequestHandler, ThreadingHTTPServer
 from typing import Any, Dict, List, Optional, Tuple, Union
 
 from board.program import Gone
+from page.door import Door
 from page.house import Answer, House, Said, TooLong, Wrong
 from page.site import INDEX, JSON, File, at, site, words
 
@@ -57,44 +56,26 @@ Connection = Union[socket.socket, Tuple[bytes, socket.socket]]
 
 
 class Server(ThreadingHTTPServer):
-    """It knows the secrets, and who is late."""
+    """It serves who comes through a door, and knows who is late."""
 
     daemon_threads = True
-    request_queue_size = 64
 
-    def __init__(self, house: House) -> None:
-        super().__init__(('127.0.0.1', 0), Handler)
+    def __init__(self, house: House, door: Door) -> None:
         self.house = house
+        self.door = door
         self.site = site()
-        self.host = f'127.0.0.1:{self.server_port}'
-        self.folder, self.cookie = f'/{secrets.token_urlsafe(16)}/', f'p={secrets.token_urlsafe(16)}'
-        self._key = ''
         self._guard = threading.Lock()
         #: When each connection is late.
         self._ends: Dict[Any, float] = {}
-
-    def link(self) -> str:
-        """A new link, which works once. The one before no longer does."""
-        with self._guard:
-            self._key = secrets.token_urlsafe(16)
-            return f'http://{self.host}/?{self._key}'
-
-    def takes(self, way: str) -> bool:
-        """Whether that is the link, which is used up then."""
-        with self._guard:
-            is_it = bool(self._key) and hmac.compare_digest(way.encode('utf-8', 'replace'), f'/?{self._key}'.encode())
-            self._key = '' if is_it else self._key
-            return is_it
+        super().__init__(('127.0.0.1', door.port), Handler, bind_and_activate=False)
+        # Somebody may wait at the door already.
+        self.socket.close()
+        self.socket = door.socket
 
     def due(self, connection: Connection, seconds: float) -> None:
         """From now on it has so many seconds."""
         with self._guard:
             self._ends[connection] = time.monotonic() + seconds
-
-    def server_bind(self) -> None:
-        # Not as a server of HTTP does it, which asks for this machine's name: that takes seconds where nobody knows it.
-        socketserver.TCPServer.server_bind(self)
-        self.server_name, self.server_port = '127.0.0.1', self.socket.getsockname()[1]
 
     def process_request(self, request: Connection, client_address: Any) -> None:
         with self._guard:
@@ -160,12 +141,12 @@ class Handler(BaseHTTPRequestHandler):
         super().end_headers()
 
     def do_GET(self) -> None:
-        server = self.server
+        server, door = self.server, self.server.door
         if not self._is_here():
             self._refuse(403)
-        elif server.takes(self.path):
+        elif door.takes(self.path):
             # The page at once: after a redirect from a link on another page the cookie would not be sent.
-            self._send(at(server.site[INDEX], server.folder), {'Set-Cookie': f'{server.cookie}; Path={server.folder}; HttpOnly; SameSite=Strict'})
+            self._send(at(server.site[INDEX], door.folder), {'Set-Cookie': f'{door.cookie}; Path={door.folder}; HttpOnly; SameSite=Strict'})
         elif not self._is_ours():
             self._refuse(403, NOT_FOR_YOU)
         elif self._name() == 'events':
@@ -215,22 +196,22 @@ class Handler(BaseHTTPRequestHandler):
 
     def _is_here(self) -> bool:
         """Whether it is meant for this machine, by the one name that is used for it."""
-        return self.headers.get_all('Host') == [self.server.host]
+        return self.headers.get_all('Host') == [self.server.door.host]
 
     def _is_ours(self) -> bool:
         """Whether it is from our own page."""
         origin, site = self.headers.get('Origin'), self.headers.get('Sec-Fetch-Site', 'none')
-        if origin not in (None, f'http://{self.server.host}'):
+        if origin not in (None, f'http://{self.server.door.host}'):
             return False
         if site not in ('none', 'same-origin') and self.headers.get('Sec-Fetch-Mode') != 'navigate':
             return False
-        cookie = self.server.cookie.encode()
+        cookie = self.server.door.cookie.encode()
         cookies = ';'.join(self.headers.get_all('Cookie', [])).split(';')
         return any(hmac.compare_digest(part.strip().encode('utf-8', 'replace'), cookie) for part in cookies)
 
     def _name(self) -> str:
         """What is asked for, from the secret folder on; no name of anything where that isn't in the folder."""
-        way, folder = self.path.partition('?')[0], self.server.folder
+        way, folder = self.path.partition('?')[0], self.server.door.folder
         if not hmac.compare_digest(way[: len(folder)].encode('utf-8', 'replace'), folder.encode()):
             return '/'
         return way[len(folder) :]

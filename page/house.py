@@ -7,12 +7,11 @@ import time
 from functools import lru_cache, partial
 from typing import Any, Callable, Dict, List, Mapping, NamedTuple, Optional, Tuple
 
-from board import games, hints, picture, texts
+from board import games, hints, picture
 from board.board import GAMES
 from board.choices import NUMBER, Choice, Unknown, choice_of, remembered
 from board.file_names import offered
 from board.lessons import Told
-from board.state import State
 from board.table import Table
 
 #: The bytes that a line may have, as the program has it.
@@ -44,10 +43,10 @@ class Answer(NamedTuple):
 
 
 class House:
-    """The front end of a table for several pages."""
+    """The front end of a table for several pages, once its game has begun."""
 
-    def __init__(self, path: str, state: State) -> None:
-        self.table = Table(path, state, texts.BY_KEYS, self)
+    def __init__(self, table: Table) -> None:
+        self.table = table
         self._lock = threading.Lock()
         self._news = threading.Condition()
         self._state: Said = {'n': 0, 'busy': False}
@@ -56,7 +55,7 @@ class House:
         self._is_sure = self._is_stopped = self._is_over = False
         self._question = ''
         #: What there is to say of how the game began, until something is done.
-        self._first = ''
+        self._first = table.message
         self._works: Dict[str, Callable[[Asked], Said]] = {
             'line': self._line,
             'restart': plain(self.table.restart),
@@ -72,6 +71,8 @@ class House:
             'saved': self._saved,
             'go on': self._go_on,
         }
+        table.front = self
+        self._look()
 
     # --- the table's front end ---
 
@@ -140,11 +141,6 @@ class House:
         with self._lock:
             board = self.table.board
             return offered(self.table.game, board.size, picture.grade(board)), self.table.saved
-
-    def begin(self) -> None:
-        """A game is there, and pages may come."""
-        self._first = self.table.message
-        self._look()
 
     def _look(self) -> None:
         """The pages see what there is now."""

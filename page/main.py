@@ -2,22 +2,22 @@
 
 from __future__ import annotations
 
-import io
 import os
 import signal
 import sys
 import threading
-from typing import List, NoReturn
+from functools import partial
+from typing import List
 
-from board import files
+from board import files, texts
 from board.board import GAMES
-from board.choices import Unknown, choice_of, first
-from board.main import HELP, Words, complain, fault, program, read, tip, version
-from board.program import Gone
+from board.choices import choice_of, first
+from board.command import complain, end_by_signals, me, refuse, tells_of_itself, with_program
+from board.main import Words, fault, read, usage
 from board.state import State
+from board.table import Table
 from page import browser
-from page.gate import ROUND, Server
-from page.house import House
+from page.door import Door
 
 USAGE = """\
 usage: {me} [--no-browser] [GAME] [ID or FILE]
@@ -34,92 +34,94 @@ It prints a link, which works once, and opens it where there is a screen; with
 machine alone, until Ctrl-C, or ten minutes after the last page was closed.
 """
 
-#: How the status of a command tells that a signal has ended it.
-SIGNALLED = 128
-
 NO_BROWSER = '--no-browser'
 
 
 def main(words: List[str], here: str) -> int:
     """Serves; `here` is the folder of the command. The status is 0 to 3, as the program's own, or 128 and the number of a signal."""
-    me = os.path.basename(sys.argv[0])
-    if isinstance(sys.stdout, io.TextIOWrapper):
-        # The name of a file may have what the terminal can't show.
-        sys.stdout.reconfigure(errors='backslashreplace')
-    if HELP.intersection(words):
-        print(USAGE.format(me=me), end='')
+    if tells_of_itself(words, USAGE, here):
         return 0
-    if words in (['--version'], ['-V']):
-        return version(here)
     plain = [word for word in words if word != NO_BROWSER]
     asked = read(plain)
     if asked is None or asked.is_lines or asked.ids:
-        complain(f'{me}: {"there are no lines of text here, and no IDs are printed" if asked else fault(plain)}')
-        print(USAGE.format(me=me) + tip(me, plain), end='', file=sys.stderr)
-        return 2
-    path = program(here)
-    if path is None:
-        complain(f'{me}: the program is not built yet: run make')
-        return 1
+        why = 'there are no lines of text here, and no IDs are printed' if asked else fault(plain)
+        return refuse(why, usage(USAGE, plain))
     try:
-        return serve(path, asked, browser.wants_browser(words))
-    except Unknown as unknown:
-        complain(f'{me}: {unknown}')
-        return 2
-    except Gone as gone:
-        complain(f'{me}: the program has ended: {gone}')
+        return with_program(here, partial(serve, asked=asked, opens=browser.wants_browser(words)))
     except OSError as error:
-        complain(f'{me}: {files.why(error)}')
-    return 1
+        complain(f'{me()}: {files.why(error)}')
+        return 1
 
 
-def _end(number: int, _: object) -> NoReturn:
-    sys.exit(SIGNALLED + number)
+class Nobody:
+    """Sits at the table until pages may come."""
+
+    def confirm(self, question: str) -> bool:
+        return False
+
+    def waiting(self, may_stop: bool) -> bool:
+        return False
 
 
 def serve(path: str, asked: Words, opens: bool) -> int:
     """Raises `Unknown` where there is no such game as the words say."""
-    for number in (signal.SIGTERM, signal.SIGHUP):
-        signal.signal(number, _end)
-    state = State(os.environ)
-    game = asked.game or state.last(GAMES) or 'towers'
-    house = House(path, state)
+    end_by_signals()
+    table = Table(path, State(os.environ), texts.BY_KEYS, Nobody())
     try:
-        if asked.kind:
-            house.table.begin_new(choice_of(asked.kind, first(state, game)))
-        else:
-            house.table.start(game, asked.what)
-        if not house.table.has_game:
-            complain(house.table.message)
+        begin(table, asked)
+        if not table.has_game:
+            complain(table.message)
             return 3
-        house.begin()
-        with Server(house) as server:
-            tell(server, opens)
-            server.serve_forever(ROUND)
+        door = Door()
+        tell(door, opens)
+        keep_open(door, table)
     except KeyboardInterrupt:
         # How it is ended as a rule.
         print()
     finally:
-        house.leave()
+        table.leave()
     return 0
 
 
-def tell(server: Server, opens: bool) -> None:
+def begin(table: Table, asked: Words) -> None:
+    """The game that the words ask for; where it is refused there is none, and the table says why."""
+    game = asked.game or table.state.last(GAMES) or 'towers'
+    if asked.kind:
+        table.begin_new(choice_of(asked.kind, first(table.state, game)))
+    else:
+        table.start(game, asked.what)
+
+
+def keep_open(door: Door, table: Table) -> None:
+    """Lets pages in until the command is ended."""
+    # What this needs takes as long to be read as all before: the link is told by then, and who has come waits at the door.
+    from page.gate import ROUND, Server
+    from page.house import House
+
+    house = House(table)
+    try:
+        with Server(house, door) as server:
+            server.serve_forever(ROUND)
+    finally:
+        house.leave()
+
+
+def tell(door: Door, opens: bool) -> None:
     """The link, and who opens it."""
-    link = server.link()
+    link = door.link()
     print(link + '\n' + browser.advice(link, os.environ), end='', flush=True)
     if opens:
         print(browser.browse(link), end='', flush=True)
     if sys.stdin.isatty():
         # In the background nobody types, and who tries to read there is stopped.
         signal.signal(signal.SIGTTIN, signal.SIG_IGN)
-        threading.Thread(target=links, args=[server], daemon=True).start()
+        threading.Thread(target=links, args=[door], daemon=True).start()
 
 
-def links(server: Server) -> None:
+def links(door: Door) -> None:
     """Another link for each line that is typed."""
     try:
         for _ in sys.stdin:
-            print(server.link(), flush=True)
+            print(door.link(), flush=True)
     except OSError:
         pass

@@ -2,14 +2,13 @@
 
 from __future__ import annotations
 
-import os
 import signal
 import sys
-from typing import Iterable, List, NoReturn
+from functools import partial
+from typing import Iterable, List
 
 from board import files
-from board.main import HELP, complain, program, version
-from board.program import Gone
+from board.command import SIGNALLED, complain, end_by_signals, me, refuse, tells_of_itself, with_program
 from sheet import choice, lists, seeds, steps
 from sheet.choice import Choice, WrongLines
 from sheet.pages import Sheet
@@ -17,56 +16,35 @@ from sheet.puzzles import Programs, Unfit
 from sheet.words import USAGE, Asked, Wrong, read
 from sheet.writing import write
 
-#: How the status of a command tells that a signal has ended it.
-SIGNALLED = 128
-
 
 def main(words: List[str], here: str) -> int:
     """Makes a sheet; `here` is the folder of the command. The status is 0 to 3, as USAGE says, or 128 and the number of a signal."""
-    me = os.path.basename(sys.argv[0])
-    if HELP.intersection(words):
-        print(USAGE.format(me=me), end='')
+    if tells_of_itself(words, USAGE, here):
         return 0
-    if words in (['--version'], ['-V']):
-        return version(here)
     try:
         asked = read(words)
     except Wrong as wrong:
-        complain(f'{me}: {wrong}')
-        print(f"'{me} --help' tells all words.", file=sys.stderr)
-        return 2
-    path = program(here)
-    if path is None:
-        complain(f'{me}: the program is not built yet: run make')
-        return 1
-    for number in (signal.SIGTERM, signal.SIGHUP):
-        signal.signal(number, _end)
+        return refuse(str(wrong), f"'{me()} --help' tells all words.\n")
     try:
-        return make(path, asked)
-    except Gone as gone:
-        complain(f'{me}: the program has ended: {gone}')
+        return with_program(here, partial(make, asked=asked))
     except OSError as error:
-        complain(f'{me}: {asked.output or "standard output"}: {files.why(error)}')
+        complain(f'{me()}: {asked.output or "standard output"}: {files.why(error)}')
     except KeyboardInterrupt:
         return SIGNALLED + signal.SIGINT
     return 1
 
 
-def _end(number: int, _: object) -> NoReturn:
-    """What has been begun is taken away on the way out."""
-    sys.exit(SIGNALLED + number)
-
-
 def make(path: str, asked: Asked) -> int:
-    """Raises `Gone`, or `OSError` where the page can't be written."""
+    """Raises `Gone`, or `OSError` where the page can't be written. What has been begun is taken away where a signal ends it."""
+    end_by_signals()
     try:
         with Programs(path) as programs, Progress() as progress:
             chosen = chosen_by(programs, asked, progress)
             explained = [steps.told(programs, puzzle) for puzzle in chosen.puzzles] if asked.form.has_steps else []
     except WrongLines as wrong:
-        return refuse(wrong.told)
-    except Unfit as unfit:
-        return refuse([str(unfit)])
+        return unfit(wrong.told)
+    except Unfit as reason:
+        return unfit([str(reason)])
     sheet = Sheet(chosen.puzzles, asked, explained)
     write(asked.output, sheet.html().encode())
     for text in [*chosen.told, *sheet.told()]:
@@ -74,7 +52,7 @@ def make(path: str, asked: Asked) -> int:
     return 0
 
 
-def refuse(told: Iterable[str]) -> int:
+def unfit(told: Iterable[str]) -> int:
     """Says why nothing is written."""
     for text in told:
         complain(text)

@@ -14,10 +14,12 @@ for name in ('board', 'faults', 'harness', 'objects', 'page', 'sheet'):
 
 from building.ready import NotReady, ready
 from building.record import BUILT
+from tests.harness.browser import Browser
 from tests.harness.builds import TOP, copy
 from tests.harness.faults import FaultLibrary
 from tests.harness.mounts import own_mounts
 from tests.harness.room import Room
+from tests.harness.turns import InTurn, turn
 
 
 class Programs(NamedTuple):
@@ -30,6 +32,14 @@ class Programs(NamedTuple):
 def pytest_addoption(parser: pytest.Parser) -> None:
     for name, what in (('puzzles', 'the program'), ('puzzles-json', 'the one that writes objects'), ('calls', 'that of crates/trial_runs')):
         parser.addoption(f'--{name}', metavar='PATH', help=f'{what}, if not the one that is ready')
+
+
+def pytest_collection_modifyitems(items: List[pytest.Item]) -> None:
+    items.sort(key=lambda item: turn(item.nodeid))
+
+
+def pytest_xdist_make_scheduler(config: pytest.Config, log: Any) -> InTurn:
+    return InTurn(config, log)
 
 
 def pytest_configure(config: pytest.Config) -> None:
@@ -104,6 +114,13 @@ def stream(request: pytest.FixtureRequest, room: Room) -> Iterator[Dict[str, Any
         }
         yield kinds[request.param]
         os.close(writing)
+
+
+@pytest.fixture(scope='session')
+def browser() -> Iterator[Browser]:
+    """One for all cases of a process."""
+    with Room() as made, Browser(made) as browser:
+        yield browser
 
 
 @pytest.fixture(scope='session')

@@ -6,7 +6,7 @@ import json
 import os
 import subprocess
 import sys
-from typing import List, NamedTuple, Optional, Sequence
+from typing import Any, Dict, List, NamedTuple, Optional, Sequence
 
 from board import fair
 from timing.answering import TOP, processor_time
@@ -46,7 +46,7 @@ class Maker:
 
     def __init__(self, game: str) -> None:
         program = os.environ.get('PUZZLES_JSON') or str(TOP / 'programs' / 'linux-amd64' / 'puzzles-json')
-        self._process = subprocess.Popen(['puzzles-json', game], executable=program, stdin=subprocess.PIPE, stdout=subprocess.PIPE, bufsize=0)
+        self._process = subprocess.Popen(['puzzles-json', game], executable=program, stdin=subprocess.PIPE, stdout=subprocess.PIPE)
 
     def __enter__(self) -> Maker:
         return self
@@ -55,14 +55,28 @@ class Maker:
         self._process.kill()
         self._process.communicate()
 
-    def make(self, kind: Kind, seed: int) -> Made:
-        """The fair game of a seed."""
+    def answer(self, line: str) -> bytes:
+        """The object that answers a line, as it is written."""
         stdin, stdout = self._process.stdin, self._process.stdout
         assert stdin and stdout
-        before = processor_time(self._process.pid)
-        stdin.write(f'{fair.line(kind.size, kind.letter, seed)}\n'.encode())
-        answer = json.loads(stdout.readline() or sys.exit('the program has ended'))
-        nanoseconds = processor_time(self._process.pid) - before
+        stdin.write(f'{line}\n'.encode())
+        stdin.flush()
+        return stdout.readline() or sys.exit('the program has ended')
+
+    def ask(self, line: str) -> Dict[str, Any]:
+        """The object that answers a line."""
+        answer: Dict[str, Any] = json.loads(self.answer(line))
+        return answer
+
+    def processor_time(self) -> int:
+        """The nanoseconds of a processor that it has taken."""
+        return processor_time(self._process.pid)
+
+    def make(self, kind: Kind, seed: int) -> Made:
+        """The fair game of a seed."""
+        before = self.processor_time()
+        answer = self.ask(fair.line(kind.size, kind.letter, seed))
+        nanoseconds = self.processor_time() - before
         if answer['refused'] not in (None, 'NoneFound'):
             sys.exit(f'the program refuses a fair game: {answer["refused"]}')
         return Made(None if answer['refused'] else answer['session']['id'], nanoseconds)

@@ -197,6 +197,16 @@ document.addEventListener('click', (event) => {
   if (key) press(key);
   if (setting) settings[setting]();
 });
+// A finger counts as it is lifted, and not by the click that comes of it: with that a browser shows the button pressed, and takes no answer meanwhile.
+let lifted = null;
+document.addEventListener('pointerup', ({pointerType, target, clientX, clientY}) => {
+  const node = target.closest('#side button');
+  lifted = pointerType === 'touch' && node?.contains(document.elementFromPoint(clientX, clientY)) ? node : null;
+});
+document.addEventListener('touchend', (event) => {
+  if (lifted && event.cancelable) { event.preventDefault(); lifted.click(); }
+  lifted = null;
+}, {passive: false});
 dialogs.listen({begin: (wanted) => send({do: 'new', ...wanted}), goOn: (path) => send({do: 'go on', path}), file: openFile});
 document.addEventListener('dragover', (event) => event.preventDefault());
 document.addEventListener('drop', (event) => {

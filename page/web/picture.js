@@ -8,6 +8,8 @@ const make = (name, attributes = {}, ...inside) => {
   return node;
 };
 const set = (node, key, value) => { if (node.getAttribute(key) !== String(value)) node.setAttribute(key, value); };
+// What is in a node beside its first child is made anew where it is to be seen otherwise than before.
+const renew = (node, seen, inside) => { if (node.dataset.seen !== seen) { node.dataset.seen = seen; node.replaceChildren(node.firstChild, ...inside()); } };
 const has = (places, x, y) => places.some(([column, row]) => column === x && row === y);
 
 export class Picture {
@@ -25,7 +27,7 @@ export class Picture {
     for (let y = -1; y <= size; y++) this.addRow(y, clues);
     if (this.isTowers) this.svg.append(...this.lines());
     this.signs = signs.map((sign) => this.svg.appendChild(make('g', {'aria-hidden': 'true'}, make('path', {d: this.wedge(sign), 'stroke-width': this.pen.wedge}))));
-    this.boxes = this.svg.appendChild(make('g', {class: 'look', 'stroke-width': 1.2 * this.pen.frame}));
+    this.boxes = this.svg.appendChild(make('g', {class: 'look', 'stroke-width': 1.2 * this.pen.frame}, make('g')));
     this.ring = this.svg.appendChild(make('rect', {class: 'ring', rx: 60, 'stroke-width': this.part(9)}));
   }
 
@@ -76,7 +78,7 @@ export class Picture {
     for (const clue of board.clues) this.paintClue(clue, view.shown);
     board.signs.forEach((sign, at) => this.paintSign(sign, this.signs[at]));
     const boxes = view.shown && !view.shown.struck.length ? view.shown.rests_on : [];
-    this.boxes.replaceChildren(...this.around(boxes).map((box) => make('rect', {...box, rx: 60})));
+    renew(this.boxes, JSON.stringify(boxes), () => this.around(boxes).map((box) => make('rect', {...box, rx: 60})));
     for (const [key, value] of Object.entries(this.wider(this.box(cx, cy), 0))) set(this.ring, key, value);
     set(this.ring, 'class', `ring${view.marking ? ' marking' : ''}`);
     for (const [place, node] of this.places) { set(node, 'tabindex', place === view.chosen ? 0 : -1); set(node, 'aria-selected', place === view.chosen); }
@@ -90,10 +92,8 @@ export class Picture {
     set(node, 'aria-label', `${names.at(cell, this.size)}, ${names.content(board, cell)}${names.signs(board, cell)}`);
     set(node, 'aria-readonly', Boolean(board.givens[cell]));
     set(node, 'aria-invalid', isWrong);
-    const seen = [board.numbers[cell], board.marks[cell], isWrong, rests, struck].join('|');
-    if (node.dataset.seen === seen) return;
-    node.dataset.seen = seen;
-    node.replaceChildren(node.firstChild, ...this.corners(this.at[x], this.at[y], rests, struck), ...this.inside(board, cell, this.middle(x), this.middle(y), isWrong));
+    renew(node, [board.numbers[cell], board.marks[cell], isWrong, rests, struck].join('|'), () => (
+      [...this.corners(this.at[x], this.at[y], rests, struck), ...this.inside(board, cell, this.middle(x), this.middle(y), isWrong)]));
   }
 
   // What a step says of a square, by a form and not by the colour alone: a corner where it rests on it, a bar where it rules numbers out.
@@ -116,14 +116,15 @@ export class Picture {
     const rests = shown && shown.struck.length > 0 && has(shown.rests_on, clue.x, clue.y);
     set(node, 'class', `clue${clue.done ? ' done' : ''}${clue.error ? ' wrong' : ''}${rests ? ' rests' : ''}`);
     set(node, 'aria-label', names.clue(clue, this.size));
-    node.replaceChildren(node.firstChild, ...this.corners(box.x, box.y, rests, false), this.text(x, y, this.pen.clue, `${clue.error ? '!' : ''}${clue.clue}`, ''),
-      ...clue.done ? [make('path', {d: `M${x - long} ${y + long}L${x + long} ${y - long}`, class: 'strike', 'stroke-width': this.part(4)})] : []);
+    renew(node, [clue.done, clue.error, rests].join('|'), () => [...this.corners(box.x, box.y, rests, false),
+      this.text(x, y, this.pen.clue, `${clue.error ? '!' : ''}${clue.clue}`, ''),
+      ...clue.done ? [make('path', {d: `M${x - long} ${y + long}L${x + long} ${y - long}`, class: 'strike', 'stroke-width': this.part(4)})] : []]);
   }
 
   paintSign(sign, node) {
     const [x, y] = this.between(sign.greater, sign.less), away = this.part(34), isAcross = Math.abs(sign.greater - sign.less) === 1;
     set(node.firstChild, 'class', `wedge${sign.error ? ' wrong' : ''}`);
-    node.replaceChildren(node.firstChild, ...sign.error ? [this.text(x + (isAcross ? 0 : away), y - (isAcross ? away : 0), this.part(34), '!', 'bad')] : []);
+    renew(node, String(sign.error), () => (sign.error ? [this.text(x + (isAcross ? 0 : away), y - (isAcross ? away : 0), this.part(34), '!', 'bad')] : []));
   }
 
   // One box where the places fill it, else one around each.

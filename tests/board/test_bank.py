@@ -2,10 +2,12 @@
 
 from __future__ import annotations
 
+from pathlib import Path
+
 import pytest
 
 from board import fair
-from board.games import BANK, GRADES, SIZES, letters, stored
+from board.games import GRADES, SIZES, bank_path, letters, stored
 from tests.harness import Room, run
 
 #: One run takes so many.
@@ -14,7 +16,7 @@ PIECE = 200
 
 @pytest.mark.parametrize('game', list(GRADES))
 def test_bank(program: str, room: Room, game: str) -> None:
-    ids = (BANK / f'{game}.txt').read_text(encoding='ascii').splitlines()
+    ids = Path(bank_path(game)).read_text(encoding='ascii').splitlines()
     for first in range(0, len(ids), PIECE):
         piece = ids[first : first + PIECE]
         text = ''.join(f'new {id}\nlist 2\n' for id in piece)

@@ -64,17 +64,17 @@ def test_number(front: BoardFront, room: Room) -> None:
         window.look(told[1], [f'[typed: {told[1]}]'])
         window.look('<enter>', ['0 of'], ['A new game'])
         window.look('i', ['The ID of this puzzle', 'any key goes back'])
-        assert window.screen.text() == first, 'the same puzzle'
+        assert window.reads(first), 'the same puzzle'
         window.leave('xq')
     id = ''.join(line.strip() for line in first[1 : first.index('')])
     assert id == f'6de:{fair("unequal", 6, "e", int(told[1])).description()}'
     with front.window(['unequal']) as window:
         window.look('i', ['The ID of this puzzle', 'any key goes back'])
-        assert window.screen.text() == first, 'it goes on, and its number is known'
+        assert window.reads(first), 'it goes on, and its number is known'
         window.leave('xq')
     with front.window(['unequal', 'number', told[1]]) as window:
         window.look('i', ['The ID of this puzzle', 'any key goes back'])
-        assert window.screen.text() == first, 'the same puzzle'
+        assert window.reads(first), 'the same puzzle'
         window.leave('xq')
 
 

@@ -276,9 +276,9 @@ def test_question(front: BoardFront) -> None:
     """It stands right below a board that is small in its window."""
     with front.window(['towers', ID], (60, 200)) as window:
         window.look('S', ['y/N'])
-        assert window.screen.text()[27] == ' Fill in the solution? u takes it back. y/N'
+        assert window.reads([' Fill in the solution? u takes it back. y/N'], 27)
         window.look('x:', hides=['y/N'])
-        assert window.screen.text()[27] == ' :'
+        assert window.reads([' :'], 27)
 
 
 @pytest.mark.parametrize(('game', 'id', 'most'), WHOLE)

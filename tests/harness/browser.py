@@ -145,13 +145,20 @@ class Browser:
         for kind in ('mouseMoved', 'mousePressed', 'mouseReleased'):
             self.ask('Input.dispatchMouseEvent', type=kind, x=x, y=y, button='none' if kind == 'mouseMoved' else button, clickCount=int(kind != 'mouseMoved'))
 
-    def tap(self, selector: str) -> None:
-        """With a finger."""
-        x, y = self.middle(selector)
-        self.ask('Input.dispatchTouchEvent', type='touchStart', touchPoints=[{'x': x, 'y': y}])
+    def tap(self, selector: str, to: str = '') -> None:
+        """With a finger, which may go on to another element before it is lifted."""
+        ends = [self.middle(one) for one in (selector, to) if one]
+        for kind, (x, y) in zip(('touchStart', 'touchMove'), ends):
+            self.ask('Input.dispatchTouchEvent', type=kind, touchPoints=[{'x': x, 'y': y}])
         self.ask('Input.dispatchTouchEvent', type='touchEnd', touchPoints=[])
 
     # --- how it looks ---
+
+    def plain(self) -> None:
+        """As it is at first."""
+        self.ask('Emulation.clearDeviceMetricsOverride')
+        self.ask('Emulation.setTouchEmulationEnabled', enabled=False)
+        self.media()
 
     def size(self, width: int, height: int, *, dots: float = 1, is_touch: bool = False) -> None:
         self.ask('Emulation.setDeviceMetricsOverride', width=width, height=height, deviceScaleFactor=dots, mobile=is_touch)

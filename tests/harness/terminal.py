@@ -152,6 +152,10 @@ class Terminal:
                 return holds(self.screen)
         return True
 
+    def reads(self, text: List[str], start: int = 0) -> bool:
+        """Whether the lines of the screen from one on come to be these in time."""
+        return self.wait_until(lambda screen: screen.text()[start : start + len(text)] == text)
+
     def wait_for(self, prompt: Pattern[str], start: int = 0) -> str:
         """What is shown from a place on, up to a prompt ahead of the cursor, or to the end of the program."""
 

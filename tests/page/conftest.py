@@ -1,4 +1,4 @@
-"""A browser for all cases of a process, and a player at a game."""
+"""A player at a game."""
 
 from __future__ import annotations
 
@@ -13,12 +13,6 @@ from tests.page.playing import LAPTOP, Player
 from tests.page.serving import Served
 
 Sit = Callable[..., Player]
-
-
-@pytest.fixture(scope='session')
-def browser() -> Iterator[Browser]:
-    with Room() as room, Browser(room) as made:
-        yield made
 
 
 @pytest.fixture

@@ -13,6 +13,14 @@ from tests.page.serving import Served
 LAPTOP, PHONE, SMALL = (1366, 768), (360, 740), (320, 568)
 
 
+#: Until the page has its answers, since what is asked behind them has its turn, and has painted what comes of them.
+SETTLED = """(async () => {
+  const {ask} = await import(new URL('talk.js', document.querySelector('script').src))
+  await ask(() => '')
+  await new Promise(done => requestAnimationFrame(() => setTimeout(done)))
+})()"""
+
+
 class Player:
     """At one page of a server. Nothing may be complained of in it."""
 
@@ -63,6 +71,10 @@ class Player:
     def is_shown(self, selector: str) -> None:
         """Waits until an element is there and has room."""
         self.browser.wait_for(f'(document.querySelector({json.dumps(selector)})?.getClientRects().length ?? 0) > 0')
+
+    def settles(self) -> None:
+        """Waits until what was done so far is done, and seen."""
+        self.browser.promised(SETTLED)
 
     # --- what is done ---
 

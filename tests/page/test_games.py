@@ -140,6 +140,26 @@ def test_mouse(sit: Sit) -> None:
     player.leave()
 
 
+def test_finger(sit: Sit, room: Room) -> None:
+    """A button counts once, as the finger is lifted, and not where that is beside it; and so do all other ones."""
+    player = sit(['towers', TOWERS], PHONE)
+    player.browser.tap('#pad [data-key="3"]', '#pad [data-key="2"]')
+    player.browser.tap('#pad [data-key="2"]', '#board')
+    player.browser.tap('#pad [data-key="1"]')
+    player.is_called(0, 0, 'row 1, column 1, 1')
+    player.browser.tap('#tools [data-key=p]')
+    player.told('Digits are pencil marks.')
+    player.browser.tap(at(1, 0))
+    player.browser.tap('#pad [data-key="3"]')
+    player.is_called(1, 0, 'row 1, column 2, empty, marks 3')
+    player.browser.tap('#menu')
+    player.is_shown('#more')
+    player.browser.tap('#more [data-key=i]')
+    player.is_shown('#page')
+    assert moves(kept(room)) == ['R0,0,1', 'P1,0,3']
+    player.leave()
+
+
 def test_wrong(sit: Sit) -> None:
     """What contradicts is red and has a sign, a clue too; undo takes it back. Equal numbers are shown, where that isn't switched off."""
     player = sit(['towers', TOWERS])

@@ -195,8 +195,7 @@ def play(*pressed: str) -> Callable[[Player], object]:
     def act(player: Player) -> None:
         for key in pressed:
             player.press(key)
-            player.browser.wait_for('document.querySelector("#told") !== null')
-            player.browser.promised('new Promise(done => setTimeout(done, 60))')
+            player.settles()
 
     return act
 
@@ -268,7 +267,7 @@ def test_picture(sit: Sit, browser: Browser, picture: Picture) -> None:
     player = sit(picture.words, picture.window)
     browser.media(picture.kind, DARK if picture.is_dark else {})
     picture.act(player)
-    browser.promised('new Promise(done => setTimeout(done, 300))')
+    player.settles()
     shown = browser.picture()
     path = PICTURES / f'{picture.name}.png'
     if os.environ.get('PICTURES') == 'new':

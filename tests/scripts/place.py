@@ -2,7 +2,8 @@
 
 import os
 import shutil
-from typing import Dict, Mapping, Optional, Sequence
+import subprocess
+from typing import Dict, Iterator, Mapping, Optional, Sequence
 
 import pytest
 
@@ -22,13 +23,24 @@ STAND_INS = TOP / 'tests' / 'scripts' / 'stand_ins'
 
 class Place:
     """The copy, with crates that are empty, and a folder for TMPDIR into which nobody else may go. It lies in a folder `a b` of a room, so that there is a
-    blank in each path."""
+    blank in each path. With another place it begins as that one is."""
 
-    def __init__(self, room: Room, program: str, objects: str) -> None:
+    def __init__(self, room: Room, program: str, objects: str, like: Optional['Place'] = None) -> None:
         self.user = plain_user()
         self.program = program
         self.objects = objects
-        self.path = os.path.join(room.path, 'a b', 'checkout')
+        above = os.path.join(room.path, 'a b')
+        self.path = os.path.join(above, 'checkout')
+        self.rt = os.path.join(self.path, '../kit/bin/rt')
+        self._temporary = os.path.join(above, 'for a while')
+        if like:
+            # With the same owners and dates.
+            subprocess.run(['cp', '-a', os.path.dirname(like.path), above], check=True)
+        else:
+            self._fill()
+            self.give()
+
+    def _fill(self) -> None:
         os.makedirs(self.path)
         for name in PARTS:
             source, target = TOP / name, os.path.join(self.path, name)
@@ -36,14 +48,12 @@ class Place:
                 shutil.copytree(source, target, ignore=shutil.ignore_patterns('__pycache__'))
             else:
                 shutil.copy2(source, target)
-        self.rt = self.stand_in('rt', '../kit/bin/rt')
+        self.stand_in('rt', '../kit/bin/rt')
         self.put('../kit/KIT-ID', b'a kit that proves nothing\n', 0o644)
         self.put('crates.txt', (TOP / 'crates.txt').read_bytes(), 0o644)
         for crate in (TOP / 'crates').iterdir():
             self.put(f'crates/{crate.name}/src/lib.rt', b'', 0o644)
-        self._temporary = os.path.join(os.path.dirname(self.path), 'for a while')
         os.mkdir(self._temporary, 0o700)
-        self.give()
 
     def put(self, path: str, content: bytes, mode: int = 0o755) -> str:
         """Makes a file of the copy, or gives it this content, and gives its whole path."""
@@ -90,6 +100,13 @@ class Place:
             return b''
 
 
+@pytest.fixture(scope='session')
+def first_place(programs: Programs) -> Iterator[Place]:
+    """Nothing is done in it: others are copied from it."""
+    with Room() as room:
+        yield Place(room, *programs)
+
+
 @pytest.fixture
-def place(room: Room, programs: Programs) -> Place:
-    return Place(room, *programs)
+def place(room: Room, first_place: Place) -> Place:
+    return Place(room, first_place.program, first_place.objects, first_place)

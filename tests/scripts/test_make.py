@@ -3,14 +3,14 @@
 import os
 import re
 import shutil
-from typing import NamedTuple, Sequence
+from typing import Iterator, NamedTuple, Sequence
 
 import pytest
 
 from tests.scripts.place import Place
 from tests.scripts.small import remove
 from tests.board.playing import PROMPT
-from tests.harness import by_name
+from tests.harness import Ended, Room, by_name
 from tests.harness.game import ID, PICTURE, save_text
 
 
@@ -50,6 +50,12 @@ ROUNDS = [
     Make('installcheck: nothing is there', ['make', 'installcheck', 'DESTDIR=/nowhere'], 2, ['bin/puzzles is not there', 'does not play']),
     Make('dist: no commit is there', ['make', 'dist'], 2, ['dist: ']),
     Make('make play, in a pipe', ['make', 'play', f'ID={ID}'], says=[SHOWN], input=b'show\n'),
+    Make('make page, a refused ID', ['make', 'page', 'GAME=unequal', 'ID=2!7'], 2, ['An ID begins with the size']),
+    Make('make sheet, of seeds', ['make', 'sheet'], says=['build/sheet.html is there']),
+]
+
+#: Where the programs are built already.
+OF_BUILT = [
     Make('make play, no ID in a pipe', ['make', 'play'], says=['+ '], input=b'show\n'),
     Make('make play, no input', ['make', 'play'], says=['+ ', 'to play on']),
     Make('make play, no input and an ID', ['make', 'play', f'ID={ID}'], says=[SHOWN, 'to play on']),
@@ -63,17 +69,15 @@ ROUNDS = [
     Make('make play, an ID with an apostrophe', ['make', 'play', "ID=it's"], 2, ['refused: BadSize']),
     Make('make page, a game that is not there', ['make', 'page', 'GAME=chess'], 2, ['GAME is towers or unequal']),
     Make('make page, an ID with an apostrophe', ['make', 'page', "ID=it's"], 2, ["There is no file 'it's'"]),
-    Make('make page, a refused ID', ['make', 'page', 'GAME=unequal', 'ID=2!7'], 2, ['An ID begins with the size']),
-    Make('make sheet, of seeds', ['make', 'sheet'], says=['build/sheet.html is there']),
     Make('make sheet, of a save', ['make', 'sheet', 'IDS=../a.sav', 'WORDS=--large'], says=['build/sheet.html is there']),
     Make('make sheet, a list that is not there', ['make', 'sheet', "IDS=it's"], 2, ["it's can't be read"]),
     Make('make play, from elsewhere', ['make', '-C', '..', 'play', f'ID={ID}'], says=['3:3'], input=b'id\n', cwd='man'),
 ]
 
 
-def expect(place: Place, row: Make, **env: str) -> None:
+def expect(place: Place, row: Make, **env: str) -> Ended:
     """Runs the command. The named words are what else the environment has."""
-    place.run(row.words, cwd=row.cwd, input=row.input, env=env).expect(*row.says, status=row.status)
+    return place.run(row.words, cwd=row.cwd, input=row.input, env=env).expect(*row.says, status=row.status)
 
 
 def test_builds(place: Place) -> None:
@@ -135,9 +139,25 @@ def test_benches(place: Place) -> None:
 
 @pytest.mark.parametrize('row', ROUNDS, ids=by_name)
 def test_make(place: Place, row: Make) -> None:
+    expect(place, row)
+
+
+@pytest.fixture(scope='module')
+def first_built(first_place: Place) -> Iterator[Place]:
+    """Others are copied from it."""
+    with Room() as room:
+        built = Place(room, first_place.program, first_place.objects, first_place)
+        built.run(['make']).expect('12 functions proved')
+        yield built
+
+
+@pytest.mark.parametrize('row', OF_BUILT, ids=by_name)
+def test_built(room: Room, first_built: Place, row: Make) -> None:
+    place = Place(room, first_built.program, first_built.objects, first_built)
     place.put('../a.sav', save_text(1), 0o644)
     place.put('../b.sav', UNEQUAL_SAVE, 0o644)
-    expect(place, row)
+    ended = expect(place, row)
+    assert 'functions proved' not in ended.said
 
 
 def test_in_a_terminal(place: Place) -> None:
@@ -145,8 +165,8 @@ def test_in_a_terminal(place: Place) -> None:
 
 
 def last_line(place: Place, *words: str) -> str:
-    """What the tests say at their end, as they are in the copy."""
-    return place.run(['../tests/run', *words], cwd='man').output.decode().splitlines()[-1]
+    """What the tests say at their end, as they are in the copy; one after the other, since all processors have work."""
+    return place.run(['../tests/run', *words, '-n0'], cwd='man').output.decode().splitlines()[-1]
 
 
 def test_tests_elsewhere(place: Place) -> None:

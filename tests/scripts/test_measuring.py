@@ -75,6 +75,15 @@ def test_fair(place: Place) -> None:
     assert re.search(rf'\nunequal 4de +5 +0 +{5 - len(set(texts))} +{means[0]:.1f} +{means[1]:.1f} .*{sum(draws) / 5:.1f} +{max(draws)}\n$', ended.said), ended.said
 
 
+def test_hints(place: Place) -> None:
+    """Hints are timed, one for each number that a game lacks at its start."""
+    ended = place.run(['bench/time_hints', '--count', '3', '--grade', 'unequal', '4de'], env={'PUZZLES_JSON': place.objects})
+    texts = [puzzle.description() for _, puzzle in (drawn_game('unequal', 4, 'e', seed) for seed in range(1, 4))]
+    givens = sum(sum(letter in '1234' for letter in text) for text in texts)
+    times = r'( +\d+){3}\n'
+    assert re.search(rf'\nunequal 4de  hint +{3 * 16 - givens}{times}unequal 4de  at start +3{times}unequal 4de  grade +3{times}$', ended.said), ended.said
+
+
 def test_made_puzzles(place: Place) -> None:
     """Each puzzle of a maker is one of the size that stands in front, in canonical form, by the program that is proved."""
     count = str(EACH * len(made(place, '', 'bench/make_families')))

@@ -32,16 +32,19 @@ def letters_of(puzzle: Puzzle) -> Dict[str, int]:
 def latin_reasons(puzzle: Puzzle, left: Left) -> Iterator[Reason]:
     """Those that strike. What is in view has the givens."""
     size = puzzle.size
-    for cell, numbers in enumerate(left):
-        if len(numbers) == 1:
-            yield Reason('peer', cells=(cell,))
     for line in range(2 * size):
         squares = cells_of(size, line)
-        for number in each(size):
+        once, again, single = NONE, NONE, NONE
+        for numbers in [left[cell] for cell in squares]:
+            again |= once & numbers
+            once |= numbers
+            single |= numbers if len(numbers) == 1 else NONE
+        if not single.isdisjoint(again):
+            yield from (Reason('peer', cells=(cell,)) for cell in squares if len(left[cell]) == 1 and left[cell] <= again)
+        for number in each(size) - again - single:
             # A number without a square has any of them left alone.
-            cells = [cell for cell in squares if number in left[cell]] or squares[:1]
-            if len(cells) == 1 and left[cells[0]] != {number}:
-                yield Reason('place', line=line, cells=tuple(cells), numbers=frozenset([number]))
+            alone = next((cell for cell in squares if number in left[cell]), squares[0])
+            yield Reason('place', line=line, cells=(alone,), numbers=frozenset([number]))
 
 
 def clue_reasons(puzzle: Puzzle, kind: str) -> Iterator[Reason]:

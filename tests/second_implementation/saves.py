@@ -34,10 +34,10 @@ class Record:
 
 def next_record(text: bytes, start: int) -> Optional[Record]:
     """The first record from a place on, or nothing where only line ends are left."""
-    if LINE_ENDS.match(text, start):
-        return None
     head = RECORD_HEAD.match(text, start)
     if not head:
+        if LINE_ENDS.match(text, start):
+            return None
         raise Refused('Malformed')
     end = head.end() + int(head.group(2))
     if end > len(text):

@@ -39,8 +39,10 @@ def in_fillings(clue: int, may: Tuple[FrozenSet[int], ...]) -> Tuple[FrozenSet[i
 
     def fills(at: int, used: int, shown: int) -> bool:
         """Whether the squares from a place on can be filled, where the bits of the used numbers are set; and what they have then is found."""
+        if not shown <= clue <= shown + len(may) - at:
+            return False
         if at == len(may):
-            return shown == clue
+            return True
         state = (at, used, shown)
         if state not in known:
             ways = [height for height in may[at] if not used >> height & 1 and fills(at + 1, used | 1 << height, shown + (1 << height > used))]

@@ -57,11 +57,10 @@ def sheets(paper: str) -> Iterator[Sheet]:
     yield Sheet(['--answers', 'only', '--steps', '--large'], nines()[2:6], 0, 1, 4 if is_a4 else 5)
 
 
-@pytest.mark.parametrize('paper', PAPERS)
-def test_pages(maker: Maker, room: Room, paper: str) -> None:
-    with Browser(room) as browser:
-        for sheet in sheets(paper):
-            expect_sheet(browser, room, maker, sheet, paper)
+@pytest.mark.parametrize('size', PAPERS)
+def test_pages(paper: Browser, maker: Maker, room: Room, size: str) -> None:
+    for sheet in sheets(size):
+        expect_sheet(paper, room, maker, sheet, size)
 
 
 def expect_sheet(browser: Browser, room: Room, maker: Maker, sheet: Sheet, paper: str) -> None:
@@ -104,14 +103,13 @@ LOOK = """[
 ]"""
 
 
-def test_hostile(maker: Maker, room: Room) -> None:
+def test_hostile(paper: Browser, maker: Maker, room: Room) -> None:
     """Titles and captions are text, whatever stands in them; and what is measured is seen where it is wrong."""
-    with Browser(room) as browser:
-        for text in HOSTILE:
-            page = maker.page(['--ids', '-', f'--title={text}', '--per-page', '12'], content([f'{sixes()[0]} {text}', *sixes()[1:5]]))
-            shown(browser, room, page)
-            title = ' '.join(text.split())
-            assert browser.value(LOOK) == ['undefined', 0, 0, title, [title], 1]
-            assert not any(map(any, browser.value(MEASURE))), text[:40]
-        shown(browser, room, re.sub('line-height:2', 'line-height:4', page))
-        assert any(map(any, browser.value(MEASURE)))
+    for text in HOSTILE:
+        page = maker.page(['--ids', '-', f'--title={text}', '--per-page', '12'], content([f'{sixes()[0]} {text}', *sixes()[1:5]]))
+        shown(paper, room, page)
+        title = ' '.join(text.split())
+        assert paper.value(LOOK) == ['undefined', 0, 0, title, [title], 1]
+        assert not any(map(any, paper.value(MEASURE))), text[:40]
+    shown(paper, room, re.sub('line-height:2', 'line-height:4', page))
+    assert any(map(any, paper.value(MEASURE)))

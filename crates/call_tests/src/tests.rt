@@ -9,6 +9,7 @@ mod faults;
 mod game_ids;
 mod games;
 mod narrowing;
+mod refutations;
 mod rows;
 mod runs;
 mod saves;

@@ -10,7 +10,7 @@ use board_checks::{Deduces, Hint, find_hint};
 use latin_board::{Grid, OutOfMemory};
 use named_steps::{Grade, Steps, laws};
 use std::alloc::Global;
-use step_chains::{Chain, Explained, Refutation, explain};
+use step_chains::{Chain, Explained, Refutation, explain, is_refuted};
 use trail_solver::Rules;
 
 /// A hint as it is told.
@@ -42,46 +42,51 @@ pub(crate) fn told_hint<P: Deduces + Steps>(
 {
     laws::<P>();
     let _valid = p.size();
-    let deduced = find_hint(p, grid);
-    match explain(alloc, p, grid, Grade::Hard)? {
-        Explained::Contradiction(refutation) => least_refutation(alloc, p, grid, refutation),
-        Explained::Nothing => Ok(ToldHint::Deduced(deduced)),
-        Explained::Follows(chain) => {
-            if deduced == Hint::Contradiction {
-                return Ok(ToldHint::Deduced(deduced));
-            }
-            least(alloc, p, grid, chain)
-        }
+    if let Some(told) = least_refutation(alloc, p, grid)? {
+        return Ok(told);
     }
+    let deduced = find_hint(p, grid);
+    if deduced == Hint::Contradiction {
+        return Ok(ToldHint::Deduced(deduced));
+    }
+    if let Some(told) = least(alloc, p, grid)? {
+        return Ok(told);
+    }
+    Ok(ToldHint::Deduced(deduced))
 }
 
-// The refutation by the least grade, where all steps refute the grid's numbers.
+// The refutation by the least grade, where steps refute the grid's numbers. Most grids' numbers no steps refute, so this is asked first.
 fn least_refutation<P: Steps>(
     alloc: Global,
     p: &P,
     grid: &Grid,
-    hard: Refutation,
-) -> Result<ToldHint, OutOfMemory>
-    requires size { grid.now.size ≡ (P.puzzle p.now).size }
-    requires refuted { IsRefutation (P.struck_by p.now) Hard grid.now (steps_of hard.steps.items) hard.cell }
-    ensures { IfOk result (IsLeast (P.struck_by p.now) grid.now) }
+) -> Result<Option<ToldHint>, OutOfMemory>
+    requires { grid.now.size ≡ (P.puzzle p.now).size }
+    ensures { IfOk result (λ found. MatchOption found (IsRefutedGrid (P.struck_by p.now) Hard grid.now → ⊥)
+        (IsLeast (P.struck_by p.now) grid.now)) }
 {
+    if !is_refuted(p, grid, Grade::Hard) {
+        return Ok(None);
+    }
     if let Some(refutation) = refutation_by(alloc, p, grid, Grade::Latin)? {
-        return Ok(ToldHint::Refuted {
+        return Ok(Some(ToldHint::Refuted {
             grade: Grade::Latin,
             refutation,
-        });
+        }));
     }
     if let Some(refutation) = refutation_by(alloc, p, grid, Grade::Easy)? {
-        return Ok(ToldHint::Refuted {
+        return Ok(Some(ToldHint::Refuted {
             grade: Grade::Easy,
             refutation,
-        });
+        }));
     }
-    Ok(ToldHint::Refuted {
-        grade: Grade::Hard,
-        refutation: hard,
-    })
+    match refutation_by(alloc, p, grid, Grade::Hard)? {
+        Some(refutation) => Ok(Some(ToldHint::Refuted {
+            grade: Grade::Hard,
+            refutation,
+        })),
+        None => Ok(None),
+    }
 }
 
 // A chain of the grade that refutes the grid's numbers, if there is one.
@@ -102,29 +107,32 @@ fn refutation_by<P: Steps>(
     }
 }
 
-// What is explained by the least grade, where all steps explain a number and don't refute the grid's.
-fn least<P: Steps>(alloc: Global, p: &P, grid: &Grid, hard: Chain) -> Result<ToldHint, OutOfMemory>
+// What is explained by the least grade, where steps lead to a number, and don't refute the grid's.
+fn least<P: Steps>(alloc: Global, p: &P, grid: &Grid) -> Result<Option<ToldHint>, OutOfMemory>
     requires size { grid.now.size ≡ (P.puzzle p.now).size }
     requires holds { IsRefutedGrid (P.struck_by p.now) Hard grid.now → ⊥ }
-    requires explained { IsExplained (P.struck_by p.now) Hard grid.now (steps_of hard.steps.items) hard.goal }
-    ensures { IfOk result (IsLeast (P.struck_by p.now) grid.now) }
+    ensures { IfOk result (λ found. MatchOption found (NothingIsShown (P.struck_by p.now) Hard grid.now)
+        (IsLeast (P.struck_by p.now) grid.now)) }
 {
     if let Some(chain) = chain_by(alloc, p, grid, Grade::Latin)? {
-        return Ok(ToldHint::Explained {
+        return Ok(Some(ToldHint::Explained {
             grade: Grade::Latin,
             chain,
-        });
+        }));
     }
     if let Some(chain) = chain_by(alloc, p, grid, Grade::Easy)? {
-        return Ok(ToldHint::Explained {
+        return Ok(Some(ToldHint::Explained {
             grade: Grade::Easy,
             chain,
-        });
+        }));
     }
-    Ok(ToldHint::Explained {
-        grade: Grade::Hard,
-        chain: hard,
-    })
+    match chain_by(alloc, p, grid, Grade::Hard)? {
+        Some(chain) => Ok(Some(ToldHint::Explained {
+            grade: Grade::Hard,
+            chain,
+        })),
+        None => Ok(None),
+    }
 }
 
 // A chain of the grade that explains a number, if there is one, where all steps don't refute the grid's numbers.

@@ -35,6 +35,7 @@ given_struck p w at cell all one result given v here inside is some members sing
           (not_from_false (has_number one v) (single v ∙ ne_eqb v given (λ e. h.1.apart (e ∙ there)))),
     )
 
+-- what is in no filling by the clue that stands there is what the clue strikes
 pub clue_struck : (p : TowersValue) (w : ℕ) (May : ℕ → ℕ → Type 0) (place clue cell result v : ℕ) → w ≡ p.size → place < 4 * w
     → clue ≡ clue_of p place → clue ≢ 0 → (has_number result v ≡ true) ↔ (IsPair w cell v × IsUnfilled w May place clue cell v)
     → (has_number result v ≡ true) ↔ (IsPair w cell v × IsByClue p May place cell v)

@@ -7,12 +7,12 @@ use Rattle.clue_rules.specs.Towers.{TowersValue, clue_of}
 use Rattle.clue_rules.specs.Views.{view_cell}
 use Rattle.named_steps.specs.Left.{IsLeft}
 use Rattle.named_steps.specs.Fillings.{Anything, Standing, IsUnfilled}
-use Rattle.named_steps.specs.Reasons.{IsByClue, IsTowersStruckBy}
+use Rattle.named_steps.specs.Reasons.{IsByClue, IsTowersStruckBy, AreStruckFrom}
 use Rattle.named_steps.specs.Grades.{has_reason}
 use Rattle.named_steps.specs.Laws.Less.{clue_less, towers_less}
 use Rattle.named_steps.specs.Passes.{Passes, AreCluesSettled}
 use Rattle.named_steps.specs.Inner.Takes.{Takes}
-use Rattle.named_steps.specs.Inner.Rows.{May, AreUnfilledRow, IsViewQuiet, look_grade, look_reason}
+use Rattle.named_steps.specs.Inner.Rows.{May, IsViewQuiet, look_grade, look_reason}
 use Rattle.named_steps.proofs.Takes.{passes_taken, passes_map, passes_none, takes_map}
 use Rattle.named_steps.specs.declared.clue_strikes.Look.{Look}
 use Rattle.named_steps.specs.declared.clue_strikes.Look.TheVariants.{Alone, Stands, Marks}
@@ -21,7 +21,8 @@ use Rattle.named_steps.specs.declared.reason.Reason.TheVariants.{Given, Peer, Pl
 use Rattle.named_steps.specs.declared.grade.Grade.TheVariants.{Latin, Easy, Hard}
 
 -- the values that are in no filling, square by square
-pub view_taken : (May : ℕ → ℕ → Type 0) (place clue : ℕ) (row : List ℕ) (a b : CandidatesValue) → AreUnfilledRow a.size May place clue a.size row
+pub view_taken : (May : ℕ → ℕ → Type 0) (place clue : ℕ) (row : List ℕ) (a b : CandidatesValue)
+    → AreStruckFrom a.size (IsUnfilled a.size May place clue) place a.size row
     → Takes (λ cell v. (k : ℕ) × (k < a.size) × (cell ≡ view_cell a.size place k) × (has_number (slice_index row k) v ≡ true)) a b
     → Takes (λ cell v. IsUnfilled a.size May place clue cell v) a b
 view_taken May place clue row a b r t =

@@ -1,11 +1,13 @@
 -- What each reason strikes from candidates.
-use Rattle.std.specs.Prelude.{◌≡◌, ◌≢◌, ℕ, ◌*◌, ◌<◌, ◌≤◌, ◌⊎◌, true, false, count_ones}
+use Rattle.std.specs.Prelude.{◌≡◌, ◌≢◌, ◌↔◌, ℕ, ◌*◌, ◌<◌, ◌≤◌, ◌⊎◌, true, false, List, length, slice_index, count_ones}
 use Rattle.number_sets.specs.Sets.{has_number}
 use Rattle.latin_board.specs.Lines.{line_cell, ArePeers}
+use Rattle.trail_solver.specs.Pairs.{IsPair}
 use Rattle.trail_solver.specs.Candidates.{CandidatesValue}
 use Rattle.trail_solver.specs.Puzzles.{Puzzle}
 use Rattle.clue_rules.specs.Towers.{TowersValue, clue_of, towers_puzzle}
 use Rattle.clue_rules.specs.Unequal.{UnequalValue, IsGreater, unequal_puzzle}
+use Rattle.clue_rules.specs.Views.{view_cell}
 use Rattle.named_steps.specs.Left.{IsLeft, HasNoOther}
 use Rattle.named_steps.specs.Fillings.{Anything, Standing, IsUnfilled}
 use Rattle.named_steps.specs.declared.reason.Reason.{Reason}
@@ -93,3 +95,11 @@ IsUnequalStruckBy v c (Stand place) cell value = ⊥
 IsUnequalStruckBy v c (Clue place) cell value = ⊥
 IsUnequalStruckBy v c (Sign from to) cell value = IsBySign v c from to cell value
 IsUnequalStruckBy v c (Set line squares values) cell value = IsBySet v.size c line squares values cell value
+
+-- ---- many squares at once
+
+-- the first n sets are of the values that are struck in each of the first n squares from a place at the edge
+pub record AreStruckFrom (w : ℕ) (Struck : ℕ → ℕ → Type 0) (place n : ℕ) (row : List ℕ) : Type 0 where
+  pub count : length row ≡ 9
+  pub each : (k v : ℕ) → k < n → (has_number (slice_index row k) v ≡ true)
+      ↔ (IsPair w (view_cell w place k) v × Struck (view_cell w place k) v)

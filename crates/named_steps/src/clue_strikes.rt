@@ -4,7 +4,8 @@ ghost use Rattle.number_sets.specs.Sets.{has_number};
 ghost use Rattle.trail_solver.specs.Pairs.{IsPair};
 ghost use Rattle.clue_rules.specs.Views.{view_cell};
 ghost use Rattle.named_steps.specs.Fillings.{IsUnfilled};
-ghost use Rattle.named_steps.specs.Inner.Rows.{May, IsMaySet, AreMaySets, AreUnfilledRow};
+ghost use Rattle.named_steps.specs.Inner.Rows.{May, IsMaySet, AreMaySets};
+ghost use Rattle.named_steps.specs.Reasons.{AreStruckFrom};
 ghost use Rattle.named_steps.specs.Inner.Takes.{Takes};
 
 use crate::striking::strike;
@@ -71,11 +72,17 @@ fn strike_row(candidates: &mut Candidates, place: u8, row: &[NumberSet; 9])
     }
 }
 
-// What the clue at a place rules out in each square from there.
-fn unfilled_row(candidates: &Candidates, look: Look, place: u8, clue: u8) -> [NumberSet; 9]
+/// The values of the size that the clue at a place rules out in each square from there.
+pub(crate) fn unfilled_row(
+    candidates: &Candidates,
+    look: Look,
+    place: u8,
+    clue: u8,
+) -> [NumberSet; 9]
     requires place { place < 4 * candidates.now.size }
     requires clue { clue ≤ candidates.now.size }
-    ensures { AreUnfilledRow candidates.now.size (May look candidates.now) place clue candidates.now.size result }
+    ensures { AreStruckFrom candidates.now.size (IsUnfilled candidates.now.size (May look candidates.now) place clue) place
+        candidates.now.size result }
 {
     let width = candidates.size().get();
     let all = NumberSet::up_to(width);

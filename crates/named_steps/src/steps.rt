@@ -1,5 +1,5 @@
 //! What the steps of a game owe.
-ghost use Rattle.std.specs.Prelude.{◌≡◌, ◌≢◌, ◌↔◌, ℕ, ◌+◌, ◌*◌, ◌<◌, Bool, true};
+ghost use Rattle.std.specs.Prelude.{◌≡◌, ◌≢◌, ◌↔◌, ℕ, ◌+◌, ◌*◌, ◌<◌, Bool, true, IfSome};
 ghost use Rattle.number_sets.specs.Sets.{has_number};
 ghost use Rattle.latin_board.specs.Squares.{GridValue, number_at};
 ghost use Rattle.trail_solver.specs.Pairs.{IsPair};
@@ -7,7 +7,7 @@ ghost use Rattle.trail_solver.specs.Candidates.{CandidatesValue, IsWithin};
 ghost use Rattle.trail_solver.specs.Puzzles.{Solves};
 ghost use Rattle.named_steps.specs.Left.{IsFewer};
 ghost use Rattle.named_steps.specs.Grades.{IsPlaced, is_of_clues, is_of_lines};
-ghost use Rattle.named_steps.specs.Reasons.{IsByGiven, IsByLine};
+ghost use Rattle.named_steps.specs.Reasons.{IsByGiven, IsByLine, AreStruckFrom};
 ghost use Rattle.named_steps.specs.Passes.{Passes, AreCluesSettled};
 ghost use Rattle.named_steps.specs.declared.reason.Reason.{Reason};
 ghost use Rattle.named_steps.specs.declared.reason.Reason.TheVariants.{Given};
@@ -28,6 +28,19 @@ pub trait Steps: Rules {
         requires inside { cell < candidates.now.size * candidates.now.size }
         ensures { (v : ℕ) → (has_number result v ≡ true)
             ↔ (IsPair candidates.now.size cell v × struck_by self.now candidates.now reason cell v) };
+
+    /// The values that a reason strikes in each of the squares from a place at the edge, where the game finds them all at once; the
+    /// sizes are equal, and the place is one of the grid's.
+    fn strikes_from(
+        &self,
+        candidates: &Candidates,
+        reason: Reason,
+        place: usize,
+    ) -> Option<[NumberSet; 9]>
+        requires size { candidates.now.size ≡ (Self.Rules.puzzle self.now).size }
+        requires place { place < 4 * candidates.now.size }
+        ensures { IfSome result (AreStruckFrom candidates.now.size (struck_by self.now candidates.now reason) place
+            candidates.now.size) };
 
     /// Goes through the clues or signs once, and takes away what they strike by a grade's reasons; the sizes are equal.
     fn strike_by_clues(&self, grade: Grade, candidates: &mut Candidates)

@@ -1,13 +1,13 @@
 //! The steps of Towers.
-ghost use Rattle.std.specs.Prelude.{◌≡◌, ◌↔◌, ℕ, ◌*◌, ◌<◌, ◌≤◌, true};
+ghost use Rattle.std.specs.Prelude.{◌≡◌, ◌↔◌, ℕ, ◌*◌, ◌<◌, ◌≤◌, true, IfSome};
 ghost use Rattle.number_sets.specs.Sets.{has_number};
 ghost use Rattle.trail_solver.specs.Pairs.{IsPair};
 ghost use Rattle.clue_rules.specs.Towers.{clue_of};
-ghost use Rattle.named_steps.specs.Reasons.{IsByClue, IsTowersStruckBy};
+ghost use Rattle.named_steps.specs.Reasons.{IsByClue, IsTowersStruckBy, AreStruckFrom};
 ghost use Rattle.named_steps.specs.Passes.{Passes};
 ghost use Rattle.named_steps.specs.Inner.Rows.{May, IsViewQuiet, look_grade};
 
-use crate::clue_strikes::{Look, by_clue, strike_view};
+use crate::clue_strikes::{Look, by_clue, strike_view, unfilled_row};
 use crate::grade::Grade;
 use crate::reason::Reason;
 use crate::steps::Steps;
@@ -42,6 +42,20 @@ impl Steps for Towers {
                 squares,
                 values,
             } => by_any_set(candidates, line, squares, values, cell),
+        }
+    }
+
+    fn strikes_from(
+        &self,
+        candidates: &Candidates,
+        reason: Reason,
+        place: usize,
+    ) -> Option<[NumberSet; 9]> {
+        match reason {
+            Reason::Bound { place: at } => row_of_clue(self, candidates, Look::Alone, at, place),
+            Reason::Stand { place: at } => row_of_clue(self, candidates, Look::Stands, at, place),
+            Reason::Clue { place: at } => row_of_clue(self, candidates, Look::Marks, at, place),
+            _ => None,
         }
     }
 
@@ -104,4 +118,38 @@ fn by_any_clue(
         return NumberSet::empty();
     }
     by_clue(candidates, look, place as u8, clue, cell)
+}
+
+// What a clue strikes in each of the squares from a place, where it is the clue's own.
+fn row_of_clue(
+    p: &Towers,
+    candidates: &Candidates,
+    look: Look,
+    at: usize,
+    place: usize,
+) -> Option<[NumberSet; 9]>
+    requires size { candidates.now.size ≡ p.now.size }
+    requires place { place < 4 * candidates.now.size }
+    ensures { IfSome result (AreStruckFrom candidates.now.size (IsByClue p.now (May look candidates.now) at) place
+        candidates.now.size) }
+{
+    if at != place {
+        return None;
+    }
+    Some(clue_row(p, candidates, look, place))
+}
+
+// What a clue strikes in each of the squares from its place.
+fn clue_row(p: &Towers, candidates: &Candidates, look: Look, place: usize) -> [NumberSet; 9]
+    requires size { candidates.now.size ≡ p.now.size }
+    requires place { place < 4 * candidates.now.size }
+    ensures { AreStruckFrom candidates.now.size (IsByClue p.now (May look candidates.now) place) place
+        candidates.now.size result }
+{
+    let _size = candidates.size();
+    let clue = p.clue(place as u8);
+    if clue == 0 {
+        return [NumberSet::empty(); 9];
+    }
+    unfilled_row(candidates, look, place as u8, clue)
 }

@@ -48,6 +48,18 @@ impl Steps for Unequal {
         }
     }
 
+    fn strikes_from(
+        &self,
+        candidates: &Candidates,
+        reason: Reason,
+        place: usize,
+    ) -> Option<[NumberSet; 9]> {
+        let _size = candidates.size();
+        let _reason = reason;
+        let _place = place;
+        None
+    }
+
     fn strike_by_clues(&self, grade: Grade, candidates: &mut Candidates) {
         let _valid = self.size();
         match grade {

@@ -1,4 +1,5 @@
 //! Chains: steps one after another, and what they show.
+ghost use Rattle.std.specs.Prelude.{◌≡◌, ◌↔◌, IsTrue};
 
 use named_steps::{Goal, Reason};
 use number_sets::NumberSet;
@@ -13,7 +14,9 @@ pub struct Step {
 
 impl Step {
     /// Whether another step has the same reason. Steps one after another that have it are one look at a line, a sign or a clue.
-    pub fn is_same_look(&self, other: &Step) -> bool {
+    pub(crate) fn is_same_look(&self, other: &Step) -> bool
+        ensures { IsTrue result ↔ (self.now.reason ≡ other.now.reason) }
+    {
         self.reason == other.reason
     }
 }

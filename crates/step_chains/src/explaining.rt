@@ -150,6 +150,20 @@ fn plain_chain<P: Steps>(
     Ok(steps)
 }
 
+/// Whether steps of a grade refute the numbers of a grid. The grid has the puzzle's size.
+#[inline(never)]
+pub fn is_refuted<P: Steps>(p: &P, grid: &Grid, grade: Grade) -> bool
+    requires { grid.now.size ≡ (P.puzzle p.now).size }
+    ensures { IsTrue result ↔ IsRefutedGrid (P.struck_by p.now) grade grid.now }
+{
+    let mut settled = view_of(grid);
+    settle(p, grade, &mut settled);
+    match first_empty(&settled) {
+        Some(_) => true,
+        None => false,
+    }
+}
+
 /// Whether a chain explains a number of a grid by the steps of a grade. The grid has the puzzle's size.
 #[inline(never)]
 pub fn explains<P: Steps>(p: &P, grid: &Grid, grade: Grade, chain: &Chain) -> bool

@@ -5,8 +5,8 @@ use crate::aims::first_empty;
 use crate::chain::Step;
 use crate::goals::shown_goal;
 use crate::needs::{Values, left, neighbours, single, squares_but, squares_from};
-use crate::next_steps::left_of;
 use crate::replays::{struck, take};
+use crate::seen::{Seen, row_of, sharing, standing, union_of};
 use arrayvec::ArrayVec;
 use latin_board::{CELLS, Grid, OutOfMemory, line_cell};
 use named_steps::{Grade, Reason, Steps};
@@ -58,6 +58,9 @@ pub(crate) struct Rounds {
     gone: Values,
     pub(crate) steps: Vec<Step>,
     sought: Sought,
+    stands: Seen,
+    clues: Seen,
+    groups: Seen,
 }
 
 impl Rounds {
@@ -69,6 +72,9 @@ impl Rounds {
             gone: Values::none(),
             steps: Vec::new(alloc),
             sought,
+            stands: Seen::nothing(),
+            clues: Seen::nothing(),
+            groups: Seen::nothing(),
         }
     }
 
@@ -119,7 +125,10 @@ impl Rounds {
     fn round<P: Steps>(&mut self, p: &P, grade: Grade, last: usize) -> Result<(), OutOfMemory> {
         let before = self.steps.len();
         for kind in 0..KINDS.len() {
-            if kind <= last && is_of_use(KINDS[kind], self.sought) {
+            if kind <= last
+                && is_of_use(KINDS[kind], self.sought)
+                && (kind == last || !is_done(KINDS[kind]))
+            {
                 self.look(p, grade, KINDS[kind])?;
             }
         }
@@ -248,82 +257,110 @@ impl Rounds {
         Ok(())
     }
 
-    // The steps of the clues at the edge. All clues together show in which squares there are any.
+    // The steps of the clues at the edge.
     fn look_at_clues<P: Steps>(
         &mut self,
         p: &P,
         grade: Grade,
         kind: Kind,
     ) -> Result<(), OutOfMemory> {
-        let size = self.now.size();
-        let lost = self.lost_by_clues(p, kind);
-        for place in 0..4 * size.get() as usize {
-            let reason = match kind {
-                Kind::Bound => Reason::Bound { place },
-                Kind::Stand => Reason::Stand { place },
-                _ => Reason::Clue { place },
-            };
-            for cell in squares_from(size, place) {
-                if !lost.of(cell as usize).is_empty() {
-                    self.look_in(p, grade, &reason, cell as usize)?;
-                }
+        for place in 0..4 * self.now.size().get() as usize {
+            if self.is_new_from(kind, place) {
+                self.look_from(p, grade, kind, place)?;
             }
         }
         Ok(())
     }
 
-    // What the squares lose by all clues together.
-    fn lost_by_clues<P: Steps>(&mut self, p: &P, kind: Kind) -> Values {
-        if p.size() != self.now.size() {
-            return Values::none();
+    // Whether the squares from a place aren't what they were when a kind of steps last looked at them.
+    fn is_new_from(&mut self, kind: Kind, place: usize) -> bool {
+        let row = row_of(&self.now, &squares_from(self.now.size(), place));
+        match kind {
+            Kind::Stand => self.stands.is_new(place, &standing(&row)),
+            Kind::Clue => self.clues.is_new(place, &row),
+            _ => true,
         }
-        let mark = self.now.mark();
-        let grade = if matches!(kind, Kind::Clue) {
-            Grade::Hard
-        } else {
-            Grade::Easy
+    }
+
+    // The steps of one clue.
+    fn look_from<P: Steps>(
+        &mut self,
+        p: &P,
+        grade: Grade,
+        kind: Kind,
+        place: usize,
+    ) -> Result<(), OutOfMemory> {
+        let size = self.now.size();
+        if p.size() != size || place >= 4 * size.get() as usize {
+            return Ok(());
+        }
+        let reason = match kind {
+            Kind::Bound => Reason::Bound { place },
+            Kind::Stand => Reason::Stand { place },
+            _ => Reason::Clue { place },
         };
-        let mut lost = Values::all_left(&self.now);
-        p.strike_by_clues(grade, &mut self.now);
-        lost.remove_left(&self.now);
-        if mark.len() <= self.now.trail_len() {
-            self.now.give_back(mark);
+        let Some(row) = p.strikes_from(&self.now, reason, place) else {
+            return Ok(());
+        };
+        let cells = squares_from(size, place);
+        for k in 0..cells.len() {
+            if k < 9 {
+                self.list(grade, &reason, cells[k] as usize, row[k])?;
+            }
         }
-        lost
+        Ok(())
     }
 
     // The steps of groups of squares.
     fn look_at_lines<P: Steps>(&mut self, p: &P, grade: Grade) -> Result<(), OutOfMemory> {
         let size = self.now.size();
-        for line in 0..2 * size.get() {
-            self.look_at_groups(p, grade, line)?;
+        for line in 0..2 * size.get() as usize {
+            let row = row_of(&self.now, &squares_but(size, line, usize::MAX));
+            if self.groups.is_new(line, &row) {
+                self.look_at_groups(p, grade, line, &row)?;
+            }
         }
         Ok(())
     }
 
-    // Those of one row or column.
+    // Those of one row or column. A square that shares no value with another is in no group that strikes anything.
     fn look_at_groups<P: Steps>(
         &mut self,
         p: &P,
         grade: Grade,
-        line: u8,
+        line: usize,
+        row: &[NumberSet; 9],
     ) -> Result<(), OutOfMemory> {
         let size = self.now.size();
-        let groups = NumberSet::up_to(size.get()).lowered().bits();
-        for group in 0..groups {
+        let among = sharing(row);
+        for group in 1..NumberSet::up_to(size.get()).lowered().bits() {
             let squares = NumberSet::from_bits(group);
-            let values = left_on(&self.now, line, squares);
-            if values.len() == squares.len() {
-                let line = line as usize;
-                let reason = Reason::Set {
-                    line,
-                    squares,
-                    values,
-                };
-                self.look_among(p, grade, &reason, squares_but(size, line, usize::MAX))?;
+            if squares.is_subset(among) {
+                self.look_at_group(p, grade, line, squares, union_of(row, squares))?;
             }
         }
         Ok(())
+    }
+
+    // That of some squares of a row or column of which these values are left.
+    fn look_at_group<P: Steps>(
+        &mut self,
+        p: &P,
+        grade: Grade,
+        line: usize,
+        squares: NumberSet,
+        values: NumberSet,
+    ) -> Result<(), OutOfMemory> {
+        if values.len() != squares.len() {
+            return Ok(());
+        }
+        let reason = Reason::Set {
+            line,
+            squares,
+            values,
+        };
+        let cells = squares_but(self.now.size(), line, usize::MAX);
+        self.look_among(p, grade, &reason, cells)
     }
 
     // What a reason strikes in some squares.
@@ -351,10 +388,22 @@ impl Rounds {
         if cell >= CELLS || !grade.has(*reason) {
             return Ok(());
         }
-        let values = struck(p, &self.now, reason, cell)
+        let values = struck(p, &self.now, reason, cell);
+        self.list(grade, reason, cell, values)
+    }
+
+    // Lists as a step what is left by now of the values that a reason strikes in a square.
+    fn list(
+        &mut self,
+        grade: Grade,
+        reason: &Reason,
+        cell: usize,
+        struck: NumberSet,
+    ) -> Result<(), OutOfMemory> {
+        let values = struck
             .intersection(left(&self.now, cell))
             .difference(self.gone.of(cell));
-        if values.is_empty() {
+        if values.is_empty() || cell >= CELLS || !grade.has(*reason) {
             return Ok(());
         }
         let step = Step {
@@ -387,6 +436,11 @@ fn is_of_use(kind: Kind, sought: Sought) -> bool {
     }
 }
 
+// Whether the steps of a kind look at no candidates, so that there are none of them after their first round.
+fn is_done(kind: Kind) -> bool {
+    matches!(kind, Kind::Given | Kind::Bound)
+}
+
 // The values that have one place left in a row or column, or none.
 fn scarce_on(candidates: &Candidates, line: u8) -> NumberSet {
     let size = candidates.size();
@@ -414,14 +468,5 @@ fn left_at(candidates: &Candidates, line: u8, index: u8) -> NumberSet {
 fn catch_up(candidates: &mut Candidates, steps: &[Step], from: usize) {
     for place in from..steps.len() {
         take(candidates, &steps[place]);
-    }
-}
-
-// What is left of some squares of a row or column; nothing where there is no such line.
-fn left_on(candidates: &Candidates, line: u8, squares: NumberSet) -> NumberSet {
-    if line < 2 * candidates.size().get() {
-        left_of(candidates, line, squares)
-    } else {
-        NumberSet::empty()
     }
 }

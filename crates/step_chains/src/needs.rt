@@ -22,22 +22,6 @@ impl Values {
         }
     }
 
-    /// What is left of each square.
-    pub(crate) fn all_left(candidates: &Candidates) -> Values {
-        let mut values = Values::none();
-        for cell in 0..CELLS {
-            values.add(cell, left(candidates, cell));
-        }
-        values
-    }
-
-    /// Without what is left of each square.
-    pub(crate) fn remove_left(&mut self, candidates: &Candidates) {
-        for cell in 0..CELLS {
-            self.remove(cell, left(candidates, cell));
-        }
-    }
-
     /// The values of a square; none where there is no such square.
     pub(crate) fn of(&self, cell: usize) -> NumberSet {
         if cell < CELLS {

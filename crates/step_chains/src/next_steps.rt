@@ -289,8 +289,8 @@ fn step_by_group<P: Steps>(
     step_by(p, grade, candidates, &reason)
 }
 
-/// The values that are left of some squares of a row or column.
-pub(crate) fn left_of(candidates: &Candidates, line: u8, squares: NumberSet) -> NumberSet
+// The values that are left of some squares of a row or column.
+fn left_of(candidates: &Candidates, line: u8, squares: NumberSet) -> NumberSet
     requires { line < 2 * candidates.now.size }
     ensures { (v : ℕ) → (has_number result v ≡ true) ↔ ((k : ℕ) × (k < candidates.now.size)
         × ((has_number squares k ≡ true) × IsLeft candidates.now (line_cell candidates.now.size line k) v)) }

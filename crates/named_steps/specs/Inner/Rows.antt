@@ -6,7 +6,7 @@ use Rattle.trail_solver.specs.Candidates.{CandidatesValue, may_be}
 use Rattle.clue_rules.specs.Views.{view_cell}
 use Rattle.named_steps.specs.Left.{IsLeft}
 use Rattle.clue_rules.specs.Towers.{TowersValue}
-use Rattle.named_steps.specs.Fillings.{Anything, Standing, IsUnfilled}
+use Rattle.named_steps.specs.Fillings.{Anything, Standing}
 use Rattle.named_steps.specs.Reasons.{IsByClue}
 use Rattle.named_steps.specs.declared.reason.Reason.{Reason}
 use Rattle.named_steps.specs.declared.reason.Reason.TheVariants.{Bound, Stand, Clue}
@@ -29,12 +29,6 @@ IsMaySet w May cell set = (v : ℕ) → (has_number set v ≡ true) ↔ (IsPair 
 pub record AreMaySets (w : ℕ) (May : ℕ → ℕ → Type 0) (place n : ℕ) (sets : List ℕ) : Type 0 where
   pub count : length sets ≡ 9
   pub each : (k : ℕ) → k < n → IsMaySet w May (view_cell w place k) (slice_index sets k)
-
--- the first n sets are of the values that are in no filling in each of the first n squares from a place
-pub record AreUnfilledRow (w : ℕ) (May : ℕ → ℕ → Type 0) (place clue n : ℕ) (row : List ℕ) : Type 0 where
-  pub count : length row ≡ 9
-  pub each : (k v : ℕ) → k < n → (has_number (slice_index row k) v ≡ true)
-      ↔ (IsPair w (view_cell w place k) v × IsUnfilled w May place clue (view_cell w place k) v)
 
 -- the reason by which a clue is looked at so
 abbrev pub look_reason : Look → ℕ → Reason
