@@ -1,7 +1,8 @@
 """Lines at random: moves good and bad, calls, views, IDs good and bad, long lines, bytes that are no UTF-8. Both programs answer them alike, and
 what else is told agrees with a second implementation."""
 
-from typing import Dict, List
+from functools import lru_cache
+from typing import Dict, List, Tuple
 
 import pytest
 from hypothesis import HealthCheck, given, seed, settings
@@ -39,9 +40,9 @@ ODD: List[bytes] = [
     b'move D-0,1', b'quit ',
 ]
 
-#: Lines for fair games, some of which are refused.
+#: Lines for fair games, some of which are refused: seeds of which the second implementation has every game soon.
 FAIR: Dict[str, List[str]] = {
-    game: [f'{size} {letter} {seed}' for size in (3, 4) for letter in letters for seed in (0, 7, 20261126)] for game, letters in LETTERS.items()
+    game: [f'{size} {letter} {seed}' for size in (3, 4) for letter in letters for seed in (1, 9, 20261126)] for game, letters in LETTERS.items()
 }
 BAD_FAIR = [
     '2 e 7', '10 e 7', '03 e 7', 'e e 7', '3 h 7', '3 k 7', '4 x 7', '4 E 7', '4 ee 7', '9 e 07', '9 e -1', '9 e 18446744073709551616', '0 0 x',
@@ -58,6 +59,7 @@ CAREFUL = [b'playing 1/1\n', b'\nok\n', b'"', b'\\', b'\\n', b'\x00', b'\x1f', b
 PARTS, EACH = 20, 50
 
 
+@lru_cache(maxsize=None)
 def stored(game: str) -> List[str]:
     """Puzzles of all sizes that are soon solved."""
     letters = 'de' if game == 'towers' else 'te'
@@ -66,28 +68,36 @@ def stored(game: str) -> List[str]:
     return [id for id in found if id[1:2] == ':' or id[2:3] in letters]
 
 
-#: Most are good at some size.
+def number_move(words: Tuple[bytes, int, int, int]) -> bytes:
+    return b'move %s%d,%d,%d' % words
+
+
+def clue_move(place: Tuple[int, int]) -> bytes:
+    return b'move D%d,%d' % place
+
+
+#: Most are good at some size. What strategies are mapped by has a name here: hypothesis would read the source of each lambda each time.
 NUMBER = st.sampled_from([0, 0, 1, 1, 2, 2, 3, *range(10)])
-THREE = st.tuples(NUMBER, NUMBER, NUMBER)
-NUMBERS = st.sampled_from([b'R', b'R', b'P']).flatmap(lambda kind: THREE.map(lambda xyn: b'move ' + kind + b'%d,%d,%d' % xyn))
+NUMBERS = st.tuples(st.sampled_from([b'R', b'R', b'P']), NUMBER, NUMBER, NUMBER).map(number_move)
 MOVE = st.one_of(
     NUMBERS,
     NUMBERS,
     NUMBERS,
     st.just(b'move M'),
     st.sampled_from([b'move S123231312', b'move S132213321', b'move S123312231', b'move S1234341241232341', b'move S1']),
-    st.tuples(st.sampled_from([-1, 0, 3, 4]), NUMBER).map(lambda xy: b'move D%d,%d' % xy),
-    st.tuples(NUMBER, st.sampled_from([-1, 0, 3, 4])).map(lambda xy: b'move D%d,%d' % xy),
+    st.tuples(st.sampled_from([-1, 0, 3, 4]), NUMBER).map(clue_move),
+    st.tuples(NUMBER, st.sampled_from([-1, 0, 3, 4])).map(clue_move),
 )
 CALL = st.sampled_from([b'undo', b'undo', b'redo', b'redo', b'restart', b'solve', b'save', *BOARD, b'completable', b'hint', b'grade', *(b'list %d' % most for most in range(7))])
 BYTES = st.lists(st.one_of(st.sampled_from(CAREFUL), st.binary(min_size=1, max_size=1)), max_size=12).map(b''.join)
 
 
+@lru_cache(maxsize=None)
 def lines(game: str) -> st.SearchStrategy[bytes]:
-    new = st.sampled_from([*SMALL[game], *BAD_IDS]).map(lambda id: b'new ' + id.encode('latin-1'))
-    fair = st.sampled_from([*FAIR[game], *BAD_FAIR]).map(lambda words: b'fair ' + words.encode('latin-1'))
+    new = st.sampled_from([b'new ' + id.encode('latin-1') for id in [*SMALL[game], *BAD_IDS]])
+    fair = st.sampled_from([b'fair ' + words.encode('latin-1') for words in [*FAIR[game], *BAD_FAIR]])
     line = st.one_of(MOVE, MOVE, MOVE, CALL, CALL, new, fair, st.sampled_from(ODD))
-    one_in_twenty = st.integers(0, 19).map(lambda number: b'\r' * (number == 0))
+    one_in_twenty = st.sampled_from([b'\r', *[b''] * 19])
     return st.tuples(line, one_in_twenty).map(b''.join)
 
 
